@@ -17,7 +17,11 @@ Stores p bytes q d =
 
 abbrev pub SentLayout : Type 0
 SentLayout = (cs xs hs : List ℕ) → length cs ≡ count_by is_cluster (user (length xs)) → length hs ≡ 28
-    → laid (prepended (record { front = alone true; entries = stored_first 56 true cs (user (length xs)) xs; cells = [] }) hs) ≡ laid_on cs (sent (length xs))
+    → laid (prepended (record {
+      front = alone true;
+      entries = stored_first 56 true cs (user (length xs)) xs;
+      cells = [];
+    }) hs) ≡ laid_on cs (sent (length xs))
 
 headed_front : (v : ChainView) (n : ℕ) → v.front ≡ alone true → (prepended_front v n).header ≡ true
 headed_front v n e = go (has_front v n)
@@ -32,10 +36,18 @@ headed_front v n e = go (has_front v n)
 pub sent_len : (xs hs ys : List ℕ) → length hs ≡ 28 → ys ≡ hs ++ xs → length ys ≡ 28 + length xs
 sent_len xs hs ys len is = omega (arith, len, ap (λ (zs : List ℕ). length zs) is, length-append hs xs)
 
-pub datagram_made : {p q r : PoolView} {d d' : ℕ} (bytes hs : List ℕ) → SentLayout → Stores p bytes q d → string (chain_of q d) ≡ bytes → length hs ≡ 28 → length bytes ≤ 65507
-    → Makes (without q d) r d' (prepended_front (chain_of q d) (length hs)) (prepended (chain_of q d) hs) → string (chain_of r d') ≡ hs ++ string (chain_of q d) → IsDatagram (chain_of r d')
+pub datagram_made : {p q r : PoolView} {d d' : ℕ} (bytes hs : List ℕ) → SentLayout → Stores p bytes q d
+    → string (chain_of q d) ≡ bytes → length hs ≡ 28 → length bytes ≤ 65507
+    → Makes (without q d) r d' (prepended_front (chain_of q d) (length hs)) (prepended (chain_of q d) hs)
+    → string (chain_of r d') ≡ hs ++ string (chain_of q d) → IsDatagram (chain_of r d')
 datagram_made {p} {q} {r} {d} {d'} bytes hs law s is len most m string_is =
     datagram_sent (chain_of r d') s.0 (length bytes)
     (ap (λ f. f.header) m.front ∙ headed_front (chain_of q d) (length hs) s.3.front)
-    (ap laid m.entries ∙ ap laid (λ i. prepended (record { front = s.3.front i; entries = s.3.entries i; cells = [] }) hs) ∙ law s.0 bytes hs s.2 len)
-    (omega (arith, most, sent_len bytes hs (string (chain_of r d')) len (string_is ∙ ap (λ (xs : List ℕ). hs ++ xs) is)))
+    (ap laid m.entries ∙ ap laid (λ i. prepended (record { front = s.3.front i; entries = s.3.entries i; cells = [] })
+    hs) ∙ law s.0 bytes hs s.2 len)
+    (omega (
+      arith,
+      most,
+      sent_len bytes hs (string (chain_of r d')) len
+          (string_is ∙ ap (λ (xs : List ℕ). hs ++ xs) is),
+    ))

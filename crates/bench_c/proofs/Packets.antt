@@ -12,7 +12,8 @@ pub record HasRoom (v : ChainView) : Type 0 where
   pub most : length (string v) ≤ 65535
 
 -- bytes written over others are as many
-over : (xs head : List ℕ) → 28 ≤ length xs → length head ≤ 8 → length (take 20 xs ++ (head ++ drop (20 + length head) xs)) ≡ length xs
+over : (xs head : List ℕ) → 28 ≤ length xs → length head ≤ 8
+    → length (take 20 xs ++ (head ++ drop (20 + length head) xs)) ≡ length xs
 over xs head long few = omega (
   arith,
   length-append (take 20 xs) (head ++ drop (20 + length head) xs),
@@ -24,7 +25,8 @@ over xs head long few = omega (
 pub room_kept : (src dst sport dport : ℕ) (v : ChainView) → HasRoom v → HasRoom (built src dst sport dport v)
 room_kept src dst sport dport v room = go v.entries room.plain room.headers room.most
   where
-    go : (es : List Entry) → (slice_index_or es 0 no_entry).cluster ≡ None → 28 ≤ length (slice_index_or es 0 no_entry).bytes → length (flat_bytes es) ≤ 65535
+    go : (es : List Entry) → (slice_index_or es 0 no_entry).cluster ≡ None
+        → 28 ≤ length (slice_index_or es 0 no_entry).bytes → length (flat_bytes es) ≤ 65535
         → HasRoom (built src dst sport dport (record v { entries = es }))
     go [] plain long most = absurd (omega (arith, long))
     go (e ∷ es) plain long most =

@@ -15,8 +15,13 @@ came p q n v r is adds =
     let same = same_adds (held_all p r.datagrams) adds is.table.owned in
     record {
       ready = ready_same p q r same is;
-      owned = subst (λ (xs : List ℕ). IsOwned q (n ∷ xs)) (sym (held_all_same p q r.datagrams same)) (owned_after (then_adds (moves_none p (held_all p r.datagrams)) adds) is.table.owned);
+      owned =
+          subst (λ (xs : List ℕ). IsOwned q (n ∷ xs)) (sym (held_all_same p q r.datagrams same))
+          (owned_after (then_adds (moves_none p (held_all p r.datagrams)) adds) is.table.owned);
     }
 
-pub freed : (p q : PoolView) (n : ℕ) (r : TableView) → IsReady p r → IsOwned p (n ∷ held_all p r.datagrams) → q ≡ without p n → IsReady q r
-freed p q n r is owned gone = ready_same p q r (same_without p q n (held_all p r.datagrams) (apart_first p n (held_all p r.datagrams) owned) gone) is
+pub freed : (p q : PoolView) (n : ℕ) (r : TableView) → IsReady p r → IsOwned p (n ∷ held_all p r.datagrams)
+    → q ≡ without p n → IsReady q r
+freed p q n r is owned gone =
+    ready_same p q r (same_without p q n (held_all p r.datagrams) (apart_first p n (held_all p r.datagrams) owned) gone)
+    is

@@ -17,24 +17,33 @@ module _ (large n : ℕ) (low : large ≤ 56) (many : 208 ≤ n) (few : n ≤ 20
   rooms = one_cluster large n low many few
 
   pub has : (p : PoolView) → held_mbufs p < p.mbufs → 0 < free_clusters p → Has p (rooms_for large n)
-  has p mbuf cluster = (omega (arith, mbuf, ap (λ (rs : List Room). length rs) rooms), omega (arith, cluster, ap (count_by is_cluster) rooms))
+  has p mbuf cluster = (
+    omega (arith, mbuf, ap (λ (rs : List Room). length rs) rooms),
+    omega (arith, cluster, ap (count_by is_cluster) rooms),
+  )
 
   pub lacks : (p : PoolView) → (held_mbufs p ≡ p.mbufs) ⊎ (free_clusters p ≡ 0) → Lacks p (rooms_for large n)
   lacks p (inl e) = inl (omega (arith, e, ap (λ (rs : List Room). length rs) rooms))
   lacks p (inr e) = inr (omega (arith, e, ap (count_by is_cluster) rooms))
 
-pub filled_one : (p q : PoolView) (d k large : ℕ) (ends : Bool) (bytes : List ℕ) → large ≤ 56 → 208 ≤ length bytes → length bytes ≤ 2048 - large → k < p.clusters → references p k ≡ 0
+pub filled_one : (p q : PoolView) (d k large : ℕ) (ends : Bool) (bytes : List ℕ) → large ≤ 56 → 208 ≤ length bytes
+    → length bytes ≤ 2048 - large → k < p.clusters → references p k ≡ 0
     → Adds p q d (one_mbuf true (record { bytes = bytes; start = large; cluster = Some k }) d)
-    → (cs : List ℕ) × AreFree p cs × (length cs ≡ count_by is_cluster (rooms_for large (length bytes))) × Makes p q d (alone true) (stored_first large ends cs (rooms_for large (length bytes)) bytes)
+    → (cs : List ℕ) × AreFree p cs × (length cs ≡ count_by is_cluster (rooms_for large (length bytes)))
+    × Makes p q d (alone true) (stored_first large ends cs (rooms_for large (length bytes)) bytes)
 filled_one p q d k large ends bytes low many few exists none adds =
     let n : ℕ = length bytes in
     let rooms : rooms_for large n ≡ Cluster n ∷ [] = one_cluster large n low many few in
     let m = makes_new adds in
     let all : take n bytes ≡ bytes = take_all n bytes (omega arith) in
-    let entries : record { bytes = bytes; start = large; cluster = Some k } ∷ [] ≡ stored_first large ends (k ∷ []) (rooms_for large n) bytes =
-    (λ i. record { bytes = sym all i; start = large; cluster = Some k } ∷ []) ∙ ap (λ (rs : List Room). stored_first large ends (k ∷ []) rs bytes) (sym rooms) in (
+    let entries : record { bytes = bytes; start = large; cluster = Some k } ∷ []
+    ≡ stored_first large ends (k ∷ []) (rooms_for large n) bytes =
+    (λ i. record { bytes = sym all i; start = large; cluster = Some k } ∷ [])
+    ∙ ap (λ (rs : List Room). stored_first large ends (k ∷ []) rs bytes) (sym rooms) in (
       k ∷ [],
-      free_more p [] true (Some k) (none_free p) (λ c e. subst (λ (j : ℕ). (j < p.clusters) × (references p j ≡ 0) × (times j [] ≡ 0)) (same_Some k c e) (exists, none, refl)),
+      free_more p [] true (Some k) (none_free p)
+          (λ c e. subst (λ (j : ℕ). (j < p.clusters) × (references p j ≡ 0) × (times j [] ≡ 0)) (same_Some k c e)
+          (exists, none, refl)),
       sym (ap (count_by is_cluster) rooms),
       record { adds = m.adds; front = m.front; entries = m.entries ∙ entries },
     )

@@ -17,26 +17,34 @@ abbrev view : List Entry → ChainView
 view es = record { front = alone true; entries = es; cells = [] }
 
 -- more than 72 bytes: an mbuf of their own
-apart : (hs : List ℕ) (es : List Entry) → length hs ≡ 28 → leading_space (view es) 0 < 28 → laid (prepended (view es) hs) ≡ record { size = 28; cluster = None } ∷ laid es
+apart : (hs : List ℕ) (es : List Entry) → length hs ≡ 28 → leading_space (view es) 0 < 28
+    → laid (prepended (view es) hs) ≡ record { size = 28; cluster = None } ∷ laid es
 apart hs es len small =
-    let test : nat_le (length hs) (leading_space (view es) 0) ≡ false = lt-leb (length hs) (leading_space (view es) 0) (omega (arith, len, small)) in
-    ap laid (cond-false {A = List Entry} _ _ _ test) ∙ ap (λ (n : ℕ). let x : flat.Entry = record { size = n; cluster = None } in x ∷ laid es) len
+    let test : nat_le (length hs) (leading_space (view es) 0) ≡ false =
+    lt-leb (length hs) (leading_space (view es) 0) (omega (arith, len, small)) in
+    ap laid (cond-false {A = List Entry} _ _ _ test)
+    ∙ ap (λ (n : ℕ). let x : flat.Entry = record { size = n; cluster = None } in x ∷ laid es) len
 
 within : (hs : List ℕ) (e : Entry) (es : List Entry) → length hs ≡ 28 → 28 ≤ leading_space (view (e ∷ es)) 0
     → laid (prepended (view (e ∷ es)) hs) ≡ record { size = 28 + length e.bytes; cluster = e.cluster } ∷ laid es
 within hs e es len large =
-    let test : nat_le (length hs) (leading_space (view (e ∷ es)) 0) ≡ true = le-leb (length hs) (leading_space (view (e ∷ es)) 0) (omega (arith, len, large)) in
+    let test : nat_le (length hs) (leading_space (view (e ∷ es)) 0) ≡ true =
+    le-leb (length hs) (leading_space (view (e ∷ es)) 0) (omega (arith, len, large)) in
     let size : length (hs ++ e.bytes) ≡ 28 + length e.bytes = omega (arith, len, length-append hs e.bytes) in
-    ap laid (cond-true {A = List Entry} _ _ _ test) ∙ ap (λ (n : ℕ). let x : flat.Entry = record { size = n; cluster = e.cluster } in x ∷ laid es) size
+    ap laid (cond-true {A = List Entry} _ _ _ test)
+    ∙ ap (λ (n : ℕ). let x : flat.Entry = record { size = n; cluster = e.cluster } in x ∷ laid es) size
 
 -- the room in front of the first bytes
-room_small : (cs : List ℕ) (n : ℕ) (rooms : List Room) (xs : List ℕ) → 72 < n → n ≤ 100 → leading_space (view (stored_first 56 true cs (Plain n ∷ rooms) xs)) 0 < 28
+room_small : (cs : List ℕ) (n : ℕ) (rooms : List Room) (xs : List ℕ) → 72 < n → n ≤ 100
+    → leading_space (view (stored_first 56 true cs (Plain n ∷ rooms) xs)) 0 < 28
 room_small cs n rooms xs low high = omega arith
 
-room_large : (cs : List ℕ) (n : ℕ) (rooms : List Room) (xs : List ℕ) → n ≤ 72 → 28 ≤ leading_space (view (stored_first 56 true cs (Plain n ∷ rooms) xs)) 0
+room_large : (cs : List ℕ) (n : ℕ) (rooms : List Room) (xs : List ℕ) → n ≤ 72
+    → 28 ≤ leading_space (view (stored_first 56 true cs (Plain n ∷ rooms) xs)) 0
 room_large cs n rooms xs low = omega arith
 
-room_cluster : (cs : List ℕ) (n : ℕ) (rooms : List Room) (xs : List ℕ) → leading_space (view (stored_first 56 true cs (Cluster n ∷ rooms) xs)) 0 < 28
+room_cluster : (cs : List ℕ) (n : ℕ) (rooms : List Room) (xs : List ℕ)
+    → leading_space (view (stored_first 56 true cs (Cluster n ∷ rooms) xs)) 0 < 28
 room_cluster [] n rooms xs = omega arith
 room_cluster (c ∷ cs) n rooms xs = omega arith
 
@@ -46,13 +54,18 @@ user_small n h =
     let least : min n 100 ≡ n = omega arith in
     let room : next_room (2048 - 56) 100 n ≡ Plain n = cond-false {A = Room} _ _ _ test ∙ ap Plain least in
     let none : n - n ≡ 0 = omega arith in
-    rooms_begin 56 n (omega arith) ∙ (λ j. room j ∷ rest_rooms (n - size_of (room j))) ∙ ap (λ (k : ℕ). Plain n ∷ rest_rooms k) none ∙ ap (λ (rs : List Room). Plain n ∷ rs) rest_none
+    rooms_begin 56 n (omega arith) ∙ (λ j. room j ∷ rest_rooms (n - size_of (room j)))
+    ∙ ap (λ (k : ℕ). Plain n ∷ rest_rooms k) none ∙ ap (λ (rs : List Room). Plain n ∷ rs) rest_none
 
 user_front : (cs xs : List ℕ) (n : ℕ) → 72 < n → leading_space (view (stored_first 56 true cs (user n) xs)) 0 < 28
 user_front cs xs n h =
-    subst (λ (rooms : List Room). leading_space (view (stored_first 56 true cs rooms xs)) 0 < 28) (sym (rooms_begin 56 n (omega arith))) (go (nat_le 208 n) (rest_rooms (n - size_of (next_room (2048 - 56) 100 n))))
+    subst (λ (rooms : List Room). leading_space (view (stored_first 56 true cs rooms xs)) 0 < 28)
+    (sym (rooms_begin 56 n (omega arith)))
+    (go (nat_le 208 n) (rest_rooms (n - size_of (next_room (2048 - 56) 100 n))))
   where
-    go : (b : Bool) (rooms : List Room) → leading_space (view (stored_first 56 true cs (cond b (Cluster (min n (2048 - 56))) (Plain (min n 100)) ∷ rooms) xs)) 0 < 28
+    go : (b : Bool) (rooms : List Room)
+        → leading_space (view (stored_first 56 true cs (cond b (Cluster (min n (2048 - 56))) (Plain (min n 100)) ∷ rooms)
+        xs)) 0 < 28
     go true rooms = room_cluster cs (min n (2048 - 56)) rooms xs
     go false rooms = room_small cs (min n 100) rooms xs (omega arith) (omega arith)
 
@@ -62,18 +75,23 @@ pub sent_laid : (cs xs hs : List ℕ) → length cs ≡ count_by is_cluster (use
 unfolding laid_on
 sent_laid cs xs hs e len = go (cases_lt 72 (length xs))
   where
-    go : (72 < length xs) ⊎ (length xs ≤ 72) → laid (prepended (view (stored_first 56 true cs (user (length xs)) xs)) hs) ≡ laid_on cs (sent (length xs))
+    go : (72 < length xs) ⊎ (length xs ≤ 72)
+        → laid (prepended (view (stored_first 56 true cs (user (length xs)) xs)) hs) ≡ laid_on cs (sent (length xs))
     go (inl h) =
-        let sent' : sent (length xs) ≡ Plain 28 ∷ user (length xs) = cond-false {A = List Room} _ _ _ (lt-leb (length xs) 72 h) in
+        let sent' : sent (length xs) ≡ Plain 28 ∷ user (length xs) =
+        cond-false {A = List Room} _ _ _ (lt-leb (length xs) 72 h) in
         apart hs (stored_first 56 true cs (user (length xs)) xs) len (user_front cs xs (length xs) h)
-        ∙ ap (λ (es : List flat.Entry). let x : flat.Entry = record { size = 28; cluster = None } in x ∷ es) (user_laid cs xs e)
+        ∙ ap (λ (es : List flat.Entry). let x : flat.Entry = record { size = 28; cluster = None } in x ∷ es)
+        (user_laid cs xs e)
         ∙ ap (laid_on cs) (sym sent')
     go (inr h) =
         let n : ℕ = length xs in
         let sent' : sent n ≡ Plain (28 + n) ∷ [] = cond-true {A = List Room} _ _ _ (le-leb n 72 h) in
         let rooms : user n ≡ Plain n ∷ [] = user_small n h in
-        let size : 28 + length (take n xs) ≡ 28 + n = ap (λ (ys : List ℕ). 28 + length ys) (take_all n xs (omega arith)) in
+        let size : 28 + length (take n xs) ≡ 28 + n =
+        ap (λ (ys : List ℕ). 28 + length ys) (take_all n xs (omega arith)) in
         ap (λ (rs : List Room). laid (prepended (view (stored_first 56 true cs rs xs)) hs)) rooms
-        ∙ within hs (record { bytes = take n xs; start = first_start true n; cluster = None }) [] len (room_large cs n [] xs h)
+        ∙ within hs (record { bytes = take n xs; start = first_start true n; cluster = None }) [] len
+        (room_large cs n [] xs h)
         ∙ ap (λ (k : ℕ). let x : flat.Entry = record { size = k; cluster = None } in x ∷ []) size
         ∙ ap (laid_on cs) (sym sent')

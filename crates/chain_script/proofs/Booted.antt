@@ -11,7 +11,8 @@ none_numbered : (n : ℕ) → numbers (replicate n None) ≡ []
 none_numbered zero = refl
 none_numbered (suc n) = none_numbered n
 
-pub booted_fits : (p : PoolView) (slots : List (Option ℕ)) → p.chains ≡ finmap.empty {R = nat_cmp} → slots ≡ replicate 64 None → Fits p slots
+pub booted_fits : (p : PoolView) (slots : List (Option ℕ)) → p.chains ≡ finmap.empty {R = nat_cmp}
+    → slots ≡ replicate 64 None → Fits p slots
 booted_fits p slots none all = λ k.
     ap (λ (ss : List (Option ℕ)). Rattle.mbuf_chain.specs.Owners.times k (numbers ss)) all
     ∙ ap (Rattle.mbuf_chain.specs.Owners.times k) (none_numbered 64)

@@ -9,20 +9,29 @@ use Rattle.chain_script.specs.Inside.Slots.{slot_of}
 
 -- slot i, and those after it
 pub noted_next : (p : PoolView) (seen : List ℕ) (slots : List (Option ℕ)) (i : ℕ) → i < length slots
-    → noted_slots seen (drop i (map (slot_of p) slots)) ≡ noted_slots (noted_all seen (entries_in (slot_of p (get_or slots i None)))) (drop (i + 1) (map (slot_of p) slots))
+    → noted_slots seen (drop i (map (slot_of p) slots))
+    ≡ noted_slots (noted_all seen (entries_in (slot_of p (get_or slots i None))))
+    (drop (i + 1) (map (slot_of p) slots))
 noted_next p seen [] i within = absurd (omega (arith, within))
 noted_next p seen (slot ∷ slots) zero within = refl
 noted_next p seen (slot ∷ slots) (suc i) within = search (arith, noted_next p seen slots i (omega (arith, within)))
 
-pub noted_held : (p : PoolView) (seen : List ℕ) (slots : List (Option ℕ)) (i c : ℕ) → i < length slots → get_or slots i None ≡ Some c
-    → noted_slots seen (drop i (map (slot_of p) slots)) ≡ noted_slots (noted_all seen (chain_of p c).entries) (drop (i + 1) (map (slot_of p) slots))
+pub noted_held : (p : PoolView) (seen : List ℕ) (slots : List (Option ℕ)) (i c : ℕ) → i < length slots
+    → get_or slots i None ≡ Some c
+    → noted_slots seen (drop i (map (slot_of p) slots))
+    ≡ noted_slots (noted_all seen (chain_of p c).entries) (drop (i + 1) (map (slot_of p) slots))
 noted_held p seen slots i c within is =
-    noted_next p seen slots i within ∙ ap (λ (o : Option ℕ). noted_slots (noted_all seen (entries_in (slot_of p o))) (drop (i + 1) (map (slot_of p) slots))) is
+    noted_next p seen slots i within
+    ∙ ap (λ (o : Option ℕ). noted_slots (noted_all seen (entries_in (slot_of p o)))
+    (drop (i + 1) (map (slot_of p) slots))) is
 
-pub noted_none : (p : PoolView) (seen : List ℕ) (slots : List (Option ℕ)) (i : ℕ) → i < length slots → get_or slots i None ≡ None
+pub noted_none : (p : PoolView) (seen : List ℕ) (slots : List (Option ℕ)) (i : ℕ) → i < length slots
+    → get_or slots i None ≡ None
     → noted_slots seen (drop i (map (slot_of p) slots)) ≡ noted_slots seen (drop (i + 1) (map (slot_of p) slots))
 noted_none p seen slots i within is =
-    noted_next p seen slots i within ∙ ap (λ (o : Option ℕ). noted_slots (noted_all seen (entries_in (slot_of p o))) (drop (i + 1) (map (slot_of p) slots))) is
+    noted_next p seen slots i within
+    ∙ ap (λ (o : Option ℕ). noted_slots (noted_all seen (entries_in (slot_of p o)))
+    (drop (i + 1) (map (slot_of p) slots))) is
 
 -- what holds of a drawing holds of it as an option, which is none if there is no drawing
 pub drawn_kept : {A E : Type 0} (F : A → Type 0) (r : Result A E) → IfOk r F → IfSome (result_ok r) F

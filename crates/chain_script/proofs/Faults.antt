@@ -18,16 +18,22 @@ refused : (b : Machine) (r : Request) (fault : Reply) → fault_of b r ≡ Some 
 refused b r fault e = subst (λ (o : Option Reply). DoesUnless o b r fault b) (sym e) (refl, refl)
 
 pub wrong_chain : (b : Machine) (r : Request) → has_slots b r ≡ false → Step b r Wrong_chain b
-wrong_chain b r s = refused b r Wrong_chain (λ j. first_of (s j) (is_in_range b r) (hits_shared b r) (is_too_long r) (is_too_short b r) (lacks_buffers b r))
+wrong_chain b r s =
+    refused b r Wrong_chain (λ j. first_of (s j) (is_in_range b r) (hits_shared b r) (is_too_long r) (is_too_short b r)
+    (lacks_buffers b r))
 
-pub shared : (b : Machine) (r : Request) → has_slots b r ≡ true → is_in_range b r ≡ true → hits_shared b r ≡ true → Step b r Shared b
-shared b r s g h = refused b r Shared (λ j. first_of (s j) (g j) (h j) (is_too_long r) (is_too_short b r) (lacks_buffers b r))
+pub shared : (b : Machine) (r : Request) → has_slots b r ≡ true → is_in_range b r ≡ true → hits_shared b r ≡ true
+    → Step b r Shared b
+shared b r s g h =
+    refused b r Shared (λ j. first_of (s j) (g j) (h j) (is_too_long r) (is_too_short b r) (lacks_buffers b r))
 
-pub no_buffers : (b : Machine) (r : Request) → has_slots b r ≡ true → is_in_range b r ≡ true → hits_shared b r ≡ false → is_too_long r ≡ false → is_too_short b r ≡ false
+pub no_buffers : (b : Machine) (r : Request) → has_slots b r ≡ true → is_in_range b r ≡ true → hits_shared b r ≡ false
+    → is_too_long r ≡ false → is_too_short b r ≡ false
     → lacks_buffers b r ≡ true → Step b r No_buffers b
 no_buffers b r s g h l t k = refused b r No_buffers (λ j. first_of (s j) (g j) (h j) (l j) (t j) (k j))
 
-pub done : (b : Machine) (r : Request) (reply : Reply) (new : Machine) → has_slots b r ≡ true → is_in_range b r ≡ true → hits_shared b r ≡ false → is_too_long r ≡ false
+pub done : (b : Machine) (r : Request) (reply : Reply) (new : Machine) → has_slots b r ≡ true → is_in_range b r ≡ true
+    → hits_shared b r ≡ false → is_too_long r ≡ false
     → is_too_short b r ≡ false → lacks_buffers b r ≡ false → Does b r reply new → Step b r reply new
 done b r reply new s g h l t k does =
     let none : fault_of b r ≡ None = (λ j. first_of (s j) (g j) (h j) (l j) (t j) (k j)) in

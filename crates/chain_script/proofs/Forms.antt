@@ -54,30 +54,37 @@ place-keyword (Show slot) name e = ap place e
 place-keyword (Free slot) name e = ap place e
 place-keyword Ask_usage name e = ap place e
 
-pub User-only : (args : List (List ℕ)) → ((slot : ℕ) (bytes : List ℕ) → HasWords (User slot bytes) args → ⊥) → (r : Request) → IsForm (codes "user") args r → ⊥
+pub User-only : (args : List (List ℕ)) → ((slot : ℕ) (bytes : List ℕ) → HasWords (User slot bytes) args → ⊥)
+    → (r : Request) → IsForm (codes "user") args r → ⊥
 unfolding place
 User-only args none (User slot bytes) h = none slot bytes h.1
 User-only args none r h = absurd (let e : index r ≡ 0 = place-keyword r (codes "user") h.0 in omega arith)
 
-pub Wire-only : (args : List (List ℕ)) → ((slot : ℕ) (bytes : List ℕ) → HasWords (Wire slot bytes) args → ⊥) → (r : Request) → IsForm (codes "wire") args r → ⊥
+pub Wire-only : (args : List (List ℕ)) → ((slot : ℕ) (bytes : List ℕ) → HasWords (Wire slot bytes) args → ⊥)
+    → (r : Request) → IsForm (codes "wire") args r → ⊥
 unfolding place
 Wire-only args none (Wire slot bytes) h = none slot bytes h.1
 Wire-only args none r h = absurd (let e : index r ≡ 1 = place-keyword r (codes "wire") h.0 in omega arith)
 
-pub Prepend-only : (args : List (List ℕ)) → ((slot : ℕ) (bytes : List ℕ) → HasWords (Prepend slot bytes) args → ⊥) → (r : Request) → IsForm (codes "prepend") args r → ⊥
+pub Prepend-only : (args : List (List ℕ)) → ((slot : ℕ) (bytes : List ℕ) → HasWords (Prepend slot bytes) args → ⊥)
+    → (r : Request) → IsForm (codes "prepend") args r → ⊥
 unfolding place
 Prepend-only args none (Prepend slot bytes) h = none slot bytes h.1
 Prepend-only args none r h = absurd (let e : index r ≡ 3 = place-keyword r (codes "prepend") h.0 in omega arith)
 
-pub Write_over-only : (args : List (List ℕ)) → ((slot off : ℕ) (bytes : List ℕ) → HasWords (Write_over slot off bytes) args → ⊥) → (r : Request) → IsForm (codes "copyback") args r → ⊥
+pub Write_over-only : (args : List (List ℕ))
+    → ((slot off : ℕ) (bytes : List ℕ) → HasWords (Write_over slot off bytes) args → ⊥) → (r : Request)
+    → IsForm (codes "copyback") args r → ⊥
 unfolding place
 Write_over-only args none (Write_over slot off bytes) h = none slot off bytes h.1
 Write_over-only args none r h = absurd (let e : index r ≡ 8 = place-keyword r (codes "copyback") h.0 in omega arith)
 
 -- ---- whole lines
 -- a form that begins with its keyword is the line's
-pub call_form : (line name kw : List ℕ) (args : List (List ℕ)) (room : List ℕ) (r : Option Call) → length line ≤ 131200 → words line ≡ name ∷ args → name ≡ kw
-    → ReadsForm kw args room r → MatchOption r ((request : Request) → IsRequest line request → ⊥) (λ call. IsRequest line (request_of call room))
+pub call_form : (line name kw : List ℕ) (args : List (List ℕ)) (room : List ℕ) (r : Option Call) → length line ≤ 131200
+    → words line ≡ name ∷ args → name ≡ kw
+    → ReadsForm kw args room r → MatchOption r ((request : Request) → IsRequest line request → ⊥)
+    (λ call. IsRequest line (request_of call room))
 call_form line name kw args room (Some call) short cut same form = record {
   short = short;
   args = args;
@@ -89,6 +96,7 @@ call_form line name kw args room None short cut same form = λ request h.
     let rest : h.args ≡ args = cc (sym h.words_are ∙ cut) in
     form request (begins, subst (λ (t : List (List ℕ)). HasWords request t) rest h.arguments)
 
-pub form_fits : (kw : List ℕ) (args : List (List ℕ)) (room : List ℕ) (r : Option Call) → ReadsForm kw args room r → IfSome r (λ call. IsCall call)
+pub form_fits : (kw : List ℕ) (args : List (List ℕ)) (room : List ℕ) (r : Option Call) → ReadsForm kw args room r
+    → IfSome r (λ call. IsCall call)
 form_fits kw args room (Some call) form = form.1
 form_fits kw args room None form = tt

@@ -14,8 +14,10 @@ use Rattle.chain_script.proofs.Faults.{wrong_chain, done}
 use Rattle.chain_script.proofs.Held.{is_there, is_empty, entries_are, length_is}
 
 -- what the pool tells of itself is what the slots show of it
-pub usage_is : (p : PoolView) (slots : List (Option ℕ)) (u : Usage) → Fits p slots → u.mbufs ≡ p.mbufs → u.free_mbufs + held_mbufs p ≡ p.mbufs
-    → u.clusters ≡ p.clusters → u.free_clusters ≡ free_clusters p → u.references ≡ sum (counts p) → u.greatest_count ≡ fold max 0 (counts p)
+pub usage_is : (p : PoolView) (slots : List (Option ℕ)) (u : Usage) → Fits p slots → u.mbufs ≡ p.mbufs
+    → u.free_mbufs + held_mbufs p ≡ p.mbufs
+    → u.clusters ≡ p.clusters → u.free_clusters ≡ free_clusters p → u.references ≡ sum (counts p)
+    → u.greatest_count ≡ fold max 0 (counts p)
     → record {
       free_mbufs = u.free_mbufs;
       mbufs = u.mbufs;
@@ -28,10 +30,18 @@ usage_is p slots u fits mbufs free clusters free_too refs most =
     let left : u.free_mbufs ≡ (usage_of (machine_of p slots)).free_mbufs = omega (arith, held_is p slots fits, free) in
     let each : counts p ≡ Rattle.chain_script.specs.Machines.counts (machine_of p slots) =
     (λ j. map (λ c. sym (count_is p slots c fits) j) (range_with_len 0 p.clusters)) in
-    let same : u.free_clusters ≡ (usage_of (machine_of p slots)).free_clusters = free_too ∙ sym (free_is p slots fits) in
+    let same : u.free_clusters ≡ (usage_of (machine_of p slots)).free_clusters =
+    free_too ∙ sym (free_is p slots fits) in
     let all : u.references ≡ (usage_of (machine_of p slots)).refs = refs ∙ ap sum each in
     let top : u.greatest_count ≡ (usage_of (machine_of p slots)).most = most ∙ ap (fold max 0) each in
-    (λ j. record { free_mbufs = left j; mbufs = mbufs j; free_clusters = same j; clusters = clusters j; refs = all j; most = top j })
+    (λ j. record {
+      free_mbufs = left j;
+      mbufs = mbufs j;
+      free_clusters = same j;
+      clusters = clusters j;
+      refs = all j;
+      most = top j;
+    })
 
 -- a chain has no more mbufs than a pool can have
 pub few_mbufs : (p : PoolView) (c : ℕ) → IsLive p c → IsBounded p → length (chain_of p c).entries ≤ 65535
@@ -39,10 +49,15 @@ few_mbufs p c live b = omega (arith, held-without p (without p c) c live refl, b
 
 -- ---- the steps
 pub show_done : (p : PoolView) (slots : List (Option ℕ)) (i c : ℕ) → Fits p slots → get_or slots i None ≡ Some c
-    → Step (machine_of p slots) (Show i) (Laid (length (string (chain_of p c))) (shapes_of (references p) (chain_of p c).entries)) (machine_of p slots)
+    → Step (machine_of p slots) (Show i)
+    (Laid (length (string (chain_of p c))) (shapes_of (references p) (chain_of p c).entries)) (machine_of p slots)
 show_done p slots i c fits is =
-    done (machine_of p slots) (Show i) _ _ (is_there p slots i c is) refl refl refl refl refl
-    ((λ j. Laid (sym (length_is p slots i c is) j) (shapes_of (λ n. sym (count_is p slots n fits) j) (sym (entries_are p slots i c is) j))), refl)
+    done (machine_of p slots) (Show i) _ _ (is_there p slots i c is) refl refl refl refl refl (
+      (λ j. Laid (sym (length_is p slots i c is) j)
+          (shapes_of (λ n. sym (count_is p slots n fits) j) (sym (entries_are p slots i c is) j))),
+      refl,
+    )
 
-pub show_empty : (p : PoolView) (slots : List (Option ℕ)) (i : ℕ) → get_or slots i None ≡ None → Step (machine_of p slots) (Show i) Wrong_chain (machine_of p slots)
+pub show_empty : (p : PoolView) (slots : List (Option ℕ)) (i : ℕ) → get_or slots i None ≡ None
+    → Step (machine_of p slots) (Show i) Wrong_chain (machine_of p slots)
 show_empty p slots i is = wrong_chain (machine_of p slots) (Show i) (is_empty p slots i is)

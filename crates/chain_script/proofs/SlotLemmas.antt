@@ -20,18 +20,27 @@ times_slots k (None ∷ slots) = omega (arith, times_slots k slots, sum_by-cons 
 times_slots k (Some c ∷ slots) = omega (arith, times_slots k slots, sum_by-cons (times_in k) (Some c) slots)
 
 pub times-set : (k : ℕ) (slots : List (Option ℕ)) (i : ℕ) (slot : Option ℕ) → i < length slots
-    → times k (numbers (set slots i slot)) + times_in k (get_or slots i None) ≡ times k (numbers slots) + times_in k slot
+    → times k (numbers (set slots i slot)) + times_in k (get_or slots i None)
+    ≡ times k (numbers slots) + times_in k slot
 times-set k slots i slot within =
-    omega (arith, times_slots k slots, times_slots k (set slots i slot), sum_by-set (times_in k) slots i slot None within)
+    omega (
+      arith,
+      times_slots k slots,
+      times_slots k (set slots i slot),
+      sum_by-set (times_in k) slots i slot None within,
+    )
 
 -- ---- what slots show
-pub slots_same : (p q : PoolView) (slots : List (Option ℕ)) → ((k : ℕ) → 0 < times k (numbers slots) → finmap.get q.chains k ≡ finmap.get p.chains k)
+pub slots_same : (p q : PoolView) (slots : List (Option ℕ))
+    → ((k : ℕ) → 0 < times k (numbers slots) → finmap.get q.chains k ≡ finmap.get p.chains k)
     → map (slot_of q) slots ≡ map (slot_of p) slots
 slots_same p q [] same = refl
 slots_same p q (None ∷ slots) same = ap (λ (ss : List (Option Slot)). None ∷ ss) (slots_same p q slots same)
 slots_same p q (Some c ∷ slots) same =
-    let here : chain_of q c ≡ chain_of p c = ap (λ (o : Option ChainView). unwrap_or o no_chain) (same c (omega (arith, times_same c (numbers slots)))) in
-    let rest : map (slot_of q) slots ≡ map (slot_of p) slots = slots_same p q slots (λ k h. same k (omega (arith, h))) in
+    let here : chain_of q c ≡ chain_of p c =
+    ap (λ (o : Option ChainView). unwrap_or o no_chain) (same c (omega (arith, times_same c (numbers slots)))) in
+    let rest : map (slot_of q) slots ≡ map (slot_of p) slots =
+    slots_same p q slots (λ k h. same k (omega (arith, h))) in
     (λ j. Some (record { header = (here j).front.header; entries = (here j).entries }) ∷ rest j)
 
 set-set : {A : Type 0} (xs : List A) (i : ℕ) (x y : A) → set (set xs i x) i y ≡ set xs i y
@@ -40,43 +49,56 @@ set-set (z ∷ xs) zero x y = refl
 set-set (z ∷ xs) (suc i) x y = ap (λ (ys : List _). z ∷ ys) (set-set xs i x y)
 
 -- ---- a chain of one slot, and the others
-pub hand : (p : PoolView) (slots : List (Option ℕ)) (i c : ℕ) → Fits p slots → i < length slots → get_or slots i None ≡ Some c
+pub hand : (p : PoolView) (slots : List (Option ℕ)) (i c : ℕ) → Fits p slots → i < length slots
+    → get_or slots i None ≡ Some c
     → (k : ℕ) → times k (c ∷ numbers (set slots i None)) ≡ live_at p k
 hand p slots i c fits within is = λ k. omega (arith, times-set k slots i None within, ap (times_in k) is, fits k)
 
-pub live_slot : (p : PoolView) (slots : List (Option ℕ)) (i c : ℕ) → Fits p slots → i < length slots → get_or slots i None ≡ Some c → IsLive p c
-live_slot p slots i c fits within is = live_from p c (omega (arith, hand p slots i c fits within is c, times_same c (numbers (set slots i None))))
+pub live_slot : (p : PoolView) (slots : List (Option ℕ)) (i c : ℕ) → Fits p slots → i < length slots
+    → get_or slots i None ≡ Some c → IsLive p c
+live_slot p slots i c fits within is =
+    live_from p c (omega (arith, hand p slots i c fits within is c, times_same c (numbers (set slots i None))))
 
 -- what the slots show that a step doesn't touch
-others : (p q : PoolView) (rest : List (Option ℕ)) (us vs : List ℕ) → ((k : ℕ) → times k us + times k (numbers rest) ≡ live_at p k) → Moves p us q vs
+others : (p q : PoolView) (rest : List (Option ℕ)) (us vs : List ℕ)
+    → ((k : ℕ) → times k us + times k (numbers rest) ≡ live_at p k) → Moves p us q vs
     → map (slot_of q) rest ≡ map (slot_of p) rest
 others p q rest us vs all m =
-    slots_same p q rest (λ k some. m.others k (live_from p k (omega (arith, all k, some))) (omega (arith, all k, some, live_at_most p k)))
+    slots_same p q rest (λ k some. m.others k (live_from p k (omega (arith, all k, some)))
+    (omega (arith, all k, some, live_at_most p k)))
 
 abbrev shown : PoolView → ℕ → Option Slot
 shown q d = slot_of q (Some d)
 
 -- ---- the steps
 -- a new chain in an empty slot
-pub made_fits : (p q : PoolView) (slots : List (Option ℕ)) (i d : ℕ) → Fits p slots → i < length slots → get_or slots i None ≡ None → Moves p [] q (d ∷ [])
+pub made_fits : (p q : PoolView) (slots : List (Option ℕ)) (i d : ℕ) → Fits p slots → i < length slots
+    → get_or slots i None ≡ None → Moves p [] q (d ∷ [])
     → Fits q (set slots i (Some d))
-made_fits p q slots i d fits within is m = λ k. omega (arith, times-set k slots i (Some d) within, ap (times_in k) is, fits k, m.owned k)
+made_fits p q slots i d fits within is m =
+    λ k. omega (arith, times-set k slots i (Some d) within, ap (times_in k) is, fits k, m.owned k)
 
 pub made : (p q : PoolView) (slots : List (Option ℕ)) (i d : ℕ) → Fits p slots → Moves p [] q (d ∷ [])
-    → machine_of q (set slots i (Some d)) ≡ put (machine_of p slots) i (chain_of q d).front.header (chain_of q d).entries
+    → machine_of q (set slots i (Some d))
+    ≡ put (machine_of p slots) i (chain_of q d).front.header (chain_of q d).entries
 made p q slots i d fits m =
-    let rest : map (slot_of q) slots ≡ map (slot_of p) slots = others p q slots [] (d ∷ []) (λ k. omega (arith, fits k)) m in
+    let rest : map (slot_of q) slots ≡ map (slot_of p) slots =
+    others p q slots [] (d ∷ []) (λ k. omega (arith, fits k)) m in
     let all : map (slot_of q) (set slots i (Some d)) ≡ set (map (slot_of p) slots) i (shown q d) =
     map-set (slot_of q) slots i (Some d) ∙ ap (λ (ss : List (Option Slot)). set ss i (shown q d)) rest in
     (λ j. record { mbufs = m.mbufs j; clusters = m.clusters j; slots = all j })
 
 -- a chain that was changed, perhaps under another number
-pub changed_fits : (p q : PoolView) (slots : List (Option ℕ)) (i c d : ℕ) → Fits p slots → i < length slots → get_or slots i None ≡ Some c → Moves p (c ∷ []) q (d ∷ [])
+pub changed_fits : (p q : PoolView) (slots : List (Option ℕ)) (i c d : ℕ) → Fits p slots → i < length slots
+    → get_or slots i None ≡ Some c → Moves p (c ∷ []) q (d ∷ [])
     → Fits q (set slots i (Some d))
-changed_fits p q slots i c d fits within is m = λ k. omega (arith, times-set k slots i (Some d) within, ap (times_in k) is, fits k, m.owned k)
+changed_fits p q slots i c d fits within is m =
+    λ k. omega (arith, times-set k slots i (Some d) within, ap (times_in k) is, fits k, m.owned k)
 
-pub changed : (p q : PoolView) (slots : List (Option ℕ)) (i c d : ℕ) → Fits p slots → i < length slots → get_or slots i None ≡ Some c → Moves p (c ∷ []) q (d ∷ [])
-    → machine_of q (set slots i (Some d)) ≡ put (machine_of p slots) i (chain_of q d).front.header (chain_of q d).entries
+pub changed : (p q : PoolView) (slots : List (Option ℕ)) (i c d : ℕ) → Fits p slots → i < length slots
+    → get_or slots i None ≡ Some c → Moves p (c ∷ []) q (d ∷ [])
+    → machine_of q (set slots i (Some d))
+    ≡ put (machine_of p slots) i (chain_of q d).front.header (chain_of q d).entries
 changed p q slots i c d fits within is m =
     let rest : map (slot_of q) (set slots i None) ≡ map (slot_of p) (set slots i None) =
     others p q (set slots i None) (c ∷ []) (d ∷ []) (λ k. omega (arith, hand p slots i c fits within is k)) m in
@@ -92,23 +114,28 @@ pub same_slot : (slots : List (Option ℕ)) (i c : ℕ) → get_or slots i None 
 same_slot slots i c is = ap (set slots i) (sym is) ∙ set-get_or slots i None
 
 -- a chain that was freed
-pub freed_fits : (p q : PoolView) (slots : List (Option ℕ)) (i c : ℕ) → Fits p slots → i < length slots → get_or slots i None ≡ Some c → Moves p (c ∷ []) q []
+pub freed_fits : (p q : PoolView) (slots : List (Option ℕ)) (i c : ℕ) → Fits p slots → i < length slots
+    → get_or slots i None ≡ Some c → Moves p (c ∷ []) q []
     → Fits q (set slots i None)
 freed_fits p q slots i c fits within is m = λ k. omega (arith, hand p slots i c fits within is k, m.owned k)
 
-pub freed : (p q : PoolView) (slots : List (Option ℕ)) (i c : ℕ) → Fits p slots → i < length slots → get_or slots i None ≡ Some c → Moves p (c ∷ []) q []
+pub freed : (p q : PoolView) (slots : List (Option ℕ)) (i c : ℕ) → Fits p slots → i < length slots
+    → get_or slots i None ≡ Some c → Moves p (c ∷ []) q []
     → machine_of q (set slots i None) ≡ emptied (machine_of p slots) i
 freed p q slots i c fits within is m =
     let rest : map (slot_of q) (set slots i None) ≡ map (slot_of p) (set slots i None) =
     others p q (set slots i None) (c ∷ []) [] (λ k. omega (arith, hand p slots i c fits within is k)) m in
-    let all : map (slot_of q) (set slots i None) ≡ set (map (slot_of p) slots) i None = rest ∙ map-set (slot_of p) slots i None in
+    let all : map (slot_of q) (set slots i None) ≡ set (map (slot_of p) slots) i None =
+    rest ∙ map-set (slot_of p) slots i None in
     (λ j. record { mbufs = m.mbufs j; clusters = m.clusters j; slots = all j })
 
 -- two chains joined: that of slot i stays, and slot j is empty
-apart_slots : (slots : List (Option ℕ)) (i j c : ℕ) → i ≢ j → get_or slots i None ≡ Some c → get_or (set slots j None) i None ≡ Some c
+apart_slots : (slots : List (Option ℕ)) (i j c : ℕ) → i ≢ j → get_or slots i None ≡ Some c
+    → get_or (set slots j None) i None ≡ Some c
 apart_slots slots i j c ne is = get_or-set_other slots j i None None ne ∙ is
 
-pub pair : (p : PoolView) (slots : List (Option ℕ)) (i j c d : ℕ) → Fits p slots → i < length slots → j < length slots → i ≢ j
+pub pair : (p : PoolView) (slots : List (Option ℕ)) (i j c d : ℕ) → Fits p slots → i < length slots → j < length slots
+    → i ≢ j
     → get_or slots i None ≡ Some c → get_or slots j None ≡ Some d
     → (k : ℕ) → times k (c ∷ d ∷ []) + times k (numbers (set (set slots j None) i None)) ≡ live_at p k
 pair p slots i j c d fits wi wj ne first second = λ k.
@@ -119,25 +146,38 @@ pair p slots i j c d fits wi wj ne first second = λ k.
       ap (times_in k) (apart_slots slots i j c ne first),
     )
 
-pub apart_chains : (p : PoolView) (slots : List (Option ℕ)) (i j c d : ℕ) → Fits p slots → i < length slots → j < length slots → i ≢ j
+pub apart_chains : (p : PoolView) (slots : List (Option ℕ)) (i j c d : ℕ) → Fits p slots → i < length slots
+    → j < length slots → i ≢ j
     → get_or slots i None ≡ Some c → get_or slots j None ≡ Some d → c ≢ d
 apart_chains p slots i j c d fits wi wj ne first second = λ same.
-    absurd (omega (arith, pair p slots i j c d fits wi wj ne first second d, times_same d [], times_same d (d ∷ []), live_at_most p d, ap (λ (n : ℕ). times d (n ∷ d ∷ [])) same))
+    absurd (omega (
+      arith,
+      pair p slots i j c d fits wi wj ne first second d,
+      times_same d [],
+      times_same d (d ∷ []),
+      live_at_most p d,
+      ap (λ (n : ℕ). times d (n ∷ d ∷ [])) same,
+    ))
 
-pub joined_fits : (p q : PoolView) (slots : List (Option ℕ)) (i j c d : ℕ) → Fits p slots → i < length slots → j < length slots → i ≢ j
-    → get_or slots i None ≡ Some c → get_or slots j None ≡ Some d → Moves p (c ∷ d ∷ []) q (c ∷ []) → Fits q (set slots j None)
+pub joined_fits : (p q : PoolView) (slots : List (Option ℕ)) (i j c d : ℕ) → Fits p slots → i < length slots
+    → j < length slots → i ≢ j
+    → get_or slots i None ≡ Some c → get_or slots j None ≡ Some d → Moves p (c ∷ d ∷ []) q (c ∷ [])
+    → Fits q (set slots j None)
 joined_fits p q slots i j c d fits wi wj ne first second m = λ k.
     omega (arith, hand p slots j d fits wj second k, m.owned k)
 
-pub joined : (p q : PoolView) (slots : List (Option ℕ)) (i j c d : ℕ) → Fits p slots → i < length slots → j < length slots → i ≢ j
+pub joined : (p q : PoolView) (slots : List (Option ℕ)) (i j c d : ℕ) → Fits p slots → i < length slots
+    → j < length slots → i ≢ j
     → get_or slots i None ≡ Some c → get_or slots j None ≡ Some d → Moves p (c ∷ d ∷ []) q (c ∷ [])
-    → machine_of q (set slots j None) ≡ put (emptied (machine_of p slots) j) i (chain_of q c).front.header (chain_of q c).entries
+    → machine_of q (set slots j None)
+    ≡ put (emptied (machine_of p slots) j) i (chain_of q c).front.header (chain_of q c).entries
 joined p q slots i j c d fits wi wj ne first second m =
     let left : List (Option ℕ) = set slots j None in
     let rest : map (slot_of q) (set left i None) ≡ map (slot_of p) (set left i None) =
     others p q (set left i None) (c ∷ d ∷ []) (c ∷ []) (pair p slots i j c d fits wi wj ne first second) m in
     let all : map (slot_of q) left ≡ set (set (map (slot_of p) slots) j None) i (shown q c) =
-    ap (map (slot_of q)) (sym (same_slot left i c (apart_slots slots i j c ne first)) ∙ sym (set-set left i None (Some c)))
+    ap (map (slot_of q)) (sym (same_slot left i c (apart_slots slots i j c ne first))
+    ∙ sym (set-set left i None (Some c)))
     ∙ map-set (slot_of q) (set left i None) i (Some c)
     ∙ ap (λ (ss : List (Option Slot)). set ss i (shown q c)) (rest ∙ map-set (slot_of p) left i None)
     ∙ set-set (map (slot_of p) left) i None (shown q c)
@@ -145,15 +185,19 @@ joined p q slots i j c d fits wi wj ne first second m =
     (λ j'. record { mbufs = m.mbufs j'; clusters = m.clusters j'; slots = all j' })
 
 -- a chain cut in two: slot i keeps the front, and the empty slot j gets the back
-pub parted_fits : (p q : PoolView) (slots : List (Option ℕ)) (i j c d : ℕ) → Fits p slots → i < length slots → j < length slots
-    → get_or slots i None ≡ Some c → get_or slots j None ≡ None → Moves p (c ∷ []) q (c ∷ d ∷ []) → Fits q (set slots j (Some d))
+pub parted_fits : (p q : PoolView) (slots : List (Option ℕ)) (i j c d : ℕ) → Fits p slots → i < length slots
+    → j < length slots
+    → get_or slots i None ≡ Some c → get_or slots j None ≡ None → Moves p (c ∷ []) q (c ∷ d ∷ [])
+    → Fits q (set slots j (Some d))
 parted_fits p q slots i j c d fits wi wj first second m = λ k.
     omega (arith, times-set k slots j (Some d) wj, ap (times_in k) second, fits k, m.owned k)
 
-pub parted : (p q : PoolView) (slots : List (Option ℕ)) (i j c d : ℕ) → Fits p slots → i < length slots → j < length slots
+pub parted : (p q : PoolView) (slots : List (Option ℕ)) (i j c d : ℕ) → Fits p slots → i < length slots
+    → j < length slots
     → get_or slots i None ≡ Some c → get_or slots j None ≡ None → Moves p (c ∷ []) q (c ∷ d ∷ [])
     → machine_of q (set slots j (Some d))
-    ≡ put (put (machine_of p slots) i (chain_of q c).front.header (chain_of q c).entries) j (chain_of q d).front.header (chain_of q d).entries
+    ≡ put (put (machine_of p slots) i (chain_of q c).front.header (chain_of q c).entries) j (chain_of q d).front.header
+    (chain_of q d).entries
 parted p q slots i j c d fits wi wj first second m =
     let rest : map (slot_of q) (set slots i None) ≡ map (slot_of p) (set slots i None) =
     others p q (set slots i None) (c ∷ []) (c ∷ d ∷ []) (λ k. omega (arith, hand p slots i c fits wi first k)) m in
@@ -167,17 +211,20 @@ parted p q slots i j c d fits wi wj first second m =
     (λ j'. record { mbufs = m.mbufs j'; clusters = m.clusters j'; slots = all j' })
 
 -- the chain of a slot, however what it is without one is called
-pub slot_is : (slots : List (Option ℕ)) (i : ℕ) (other : Option ℕ) (slot : Option ℕ) → i < length slots → get_or slots i other ≡ slot → get_or slots i None ≡ slot
+pub slot_is : (slots : List (Option ℕ)) (i : ℕ) (other : Option ℕ) (slot : Option ℕ) → i < length slots
+    → get_or slots i other ≡ slot → get_or slots i None ≡ slot
 slot_is slots i other slot within is = get_or_default slots i None other within ∙ is
 
 -- ---- slots that are all empty
-pub none_left : (slots : List (Option ℕ)) → ((k : ℕ) → k < length slots → get_or slots k None ≡ None) → numbers slots ≡ []
+pub none_left : (slots : List (Option ℕ)) → ((k : ℕ) → k < length slots → get_or slots k None ≡ None)
+    → numbers slots ≡ []
 none_left [] empty = refl
 none_left (slot ∷ slots) empty =
     ap (λ (s : Option ℕ). number_in s (numbers slots)) (empty 0 (omega arith))
     ∙ none_left slots (λ k lt. empty (suc k) (omega arith))
 
-pub all_none : (slots : List (Option ℕ)) (n : ℕ) → length slots ≡ n → ((k : ℕ) → k < n → get_or slots k None ≡ None) → slots ≡ replicate n None
+pub all_none : (slots : List (Option ℕ)) (n : ℕ) → length slots ≡ n → ((k : ℕ) → k < n → get_or slots k None ≡ None)
+    → slots ≡ replicate n None
 all_none [] zero long empty = refl
 all_none [] (suc n) long empty = absurd (omega arith)
 all_none (slot ∷ slots) zero long empty = absurd (omega arith)
@@ -185,5 +232,6 @@ all_none (slot ∷ slots) (suc n) long empty =
     (λ j. empty 0 (omega arith) j ∷ all_none slots n (omega arith) (λ k lt. empty (suc k) (omega arith)) j)
 
 -- ---- a list of which every place was written
-pub take-written : {A : Type 0} (n : ℕ) (new old : List A) → length new ≡ n → take n (new ++ drop (length new) old) ≡ new
+pub take-written : {A : Type 0} (n : ℕ) (new old : List A) → length new ≡ n
+    → take n (new ++ drop (length new) old) ≡ new
 take-written n new old len = grind (arith, common_steps)

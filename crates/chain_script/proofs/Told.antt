@@ -41,9 +41,11 @@ bytes b i = ap (λ (o : Option (List ℕ)). unwrap_or o []) (at_string b i) ∙ 
 long : (b : Machine) (i : ℕ) → length (bytes_at (strings_of b) i) ≡ length_at b i
 long b i = ap (λ (xs : List ℕ). length xs) (bytes b i)
 
-strings-put : (b : Machine) (i : ℕ) (header : Bool) (es : List Entry) (xs : List ℕ) → flat_bytes es ≡ xs → strings_of (put b i header es) ≡ set (strings_of b) i (Some xs)
+strings-put : (b : Machine) (i : ℕ) (header : Bool) (es : List Entry) (xs : List ℕ) → flat_bytes es ≡ xs
+    → strings_of (put b i header es) ≡ set (strings_of b) i (Some xs)
 strings-put b i header es xs e =
-    map-set string_in b.slots i (Some (record { header = header; entries = es })) ∙ ap (λ (ys : List ℕ). set (strings_of b) i (Some ys)) e
+    map-set string_in b.slots i (Some (record { header = header; entries = es }))
+    ∙ ap (λ (ys : List ℕ). set (strings_of b) i (Some ys)) e
 
 strings-emptied : (b : Machine) (i : ℕ) → strings_of (emptied b i) ≡ set (strings_of b) i None
 strings-emptied b i = map-set string_in b.slots i None
@@ -68,7 +70,8 @@ same_range : (b : Machine) (r : Request) → is_in_strings (strings_of b) r ≡ 
 same_range b (User slot bytes) = refl
 same_range b (Wire slot bytes) = refl
 same_range b (Copy to slot extent) = ap (is_range extent) (long b slot)
-same_range b (Prepend slot xs) = ap (λ (n : ℕ). nat_lt 0 (length xs) && (nat_le (length xs) MHLEN && nat_le (length xs + n) 65535)) (long b slot)
+same_range b (Prepend slot xs) =
+    ap (λ (n : ℕ). nat_lt 0 (length xs) && (nat_le (length xs) MHLEN && nat_le (length xs + n) 65535)) (long b slot)
 same_range b (Pull_up slot n) = refl
 same_range b (Adjust slot n) = refl
 same_range b (Split to slot at) = ap (nat_lt at) (long b slot)
@@ -111,7 +114,8 @@ apart b (Free slot) h = absurd (false≢true h)
 apart b Ask_usage h = absurd (false≢true h)
 
 -- ---- what is done
-extent_are : (extent : Extent) (header : Bool) (es : List Entry) → flat_bytes (extent_copied extent header es) ≡ extent_bytes extent (flat_bytes es)
+extent_are : (extent : Extent) (header : Bool) (es : List Entry)
+    → flat_bytes (extent_copied extent header es) ≡ extent_bytes extent (flat_bytes es)
 extent_are All header es = copied_all_bytes (room_low header) es
 extent_are (Part off len) header es = copied_bytes (copy_header header off) es off len
 
@@ -123,43 +127,73 @@ some_is (Some xs) h = refl
 kept : (ss : List (Option (List ℕ))) (i : ℕ) → has_string ss i ≡ true → set ss i (Some (bytes_at ss i)) ≡ ss
 kept ss i h = ap (set ss i) (some_is (get_or ss i None) h) ∙ set-get_or ss i None
 
-told : (b new : Machine) (r : Request) (reply : Reply) → has_slots b r ≡ true → Does b r reply new → TellsDone (strings_of b) r reply × (strings_of new ≡ strings_after (strings_of b) r)
+told : (b new : Machine) (r : Request) (reply : Reply) → has_slots b r ≡ true → Does b r reply new
+    → TellsDone (strings_of b) r reply × (strings_of new ≡ strings_after (strings_of b) r)
 told b new (User slot xs) reply s h = (h.0, ap strings_of h.4 ∙ strings-put b slot true _ xs (user_bytes h.1 xs h.3))
 told b new (Wire slot xs) reply s h = (h.0, ap strings_of h.4 ∙ strings-put b slot true _ xs (wire_bytes h.1 xs h.3))
-told b new (Copy to slot extent) reply s h =
-    (h.0, ap strings_of h.1 ∙ strings-put b to _ _ _ (extent_are extent (header_at b slot) (entries_at b slot) ∙ ap (extent_bytes extent) (sym (bytes b slot))))
-told b new (Prepend slot xs) reply s h =
-    (h.0, ap strings_of h.1 ∙ strings-put b slot _ _ _ (prepended_bytes (view_at b slot) xs ∙ ap (λ (ys : List ℕ). xs ++ ys) (sym (bytes b slot))))
+told b new (Copy to slot extent) reply s h = (
+  h.0,
+  ap strings_of h.1 ∙ strings-put b to _ _ _
+      (extent_are extent (header_at b slot) (entries_at b slot) ∙ ap (extent_bytes extent) (sym (bytes b slot))),
+)
+told b new (Prepend slot xs) reply s h = (
+  h.0,
+  ap strings_of h.1 ∙ strings-put b slot _ _ _
+      (prepended_bytes (view_at b slot) xs ∙ ap (λ (ys : List ℕ). xs ++ ys) (sym (bytes b slot))),
+)
 told b new (Pull_up slot n) reply s h = (
   h.0,
-  ap strings_of h.1 ∙ strings-put b slot _ _ _ (pulled_up_bytes (view_at b slot) n ∙ sym (bytes b slot)) ∙ kept (strings_of b) slot (held b slot ∙ s),
+  ap strings_of h.1 ∙ strings-put b slot _ _ _ (pulled_up_bytes (view_at b slot) n ∙ sym (bytes b slot))
+      ∙ kept (strings_of b) slot (held b slot ∙ s),
 )
-told b new (Adjust slot n) reply s h =
-    (h.0, ap strings_of h.1 ∙ strings-put b slot _ _ _ (adjusted_are n (entries_at b slot) ∙ ap (Rattle.chain_ops.specs.Trims.adjusted_bytes n) (sym (bytes b slot))))
+told b new (Adjust slot n) reply s h = (
+  h.0,
+  ap strings_of h.1 ∙ strings-put b slot _ _ _
+      (adjusted_are n (entries_at b slot) ∙ ap (Rattle.chain_ops.specs.Trims.adjusted_bytes n) (sym (bytes b slot))),
+)
 told b new (Split to slot at) reply s h = (
   h.0,
   ap strings_of h.1
-      ∙ strings-put (put b slot (header_at b slot) (split_front (entries_at b slot) at)) to _ _ _ (split_back_bytes (header_at b slot) (entries_at b slot) at ∙ ap (drop at) (sym (bytes b slot)))
+      ∙ strings-put (put b slot (header_at b slot) (split_front (entries_at b slot) at)) to _ _ _
+      (split_back_bytes (header_at b slot) (entries_at b slot) at ∙ ap (drop at) (sym (bytes b slot)))
       ∙ ap (λ (ss : List (Option (List ℕ))). set ss to (Some (drop at (bytes_at (strings_of b) slot))))
-      (strings-put b slot (header_at b slot) _ _ (split_front_bytes (entries_at b slot) at ∙ ap (take at) (sym (bytes b slot)))),
+      (strings-put b slot (header_at b slot) _ _
+      (split_front_bytes (entries_at b slot) at ∙ ap (take at) (sym (bytes b slot)))),
 )
 told b new (Join slot other) reply s h = (
   h.0,
   ap strings_of h.1
-      ∙ strings-put (emptied b other) slot _ _ _ (cat_bytes (entries_at b slot) (entries_at b other) ∙ (λ j. sym (bytes b slot) j ++ sym (bytes b other) j))
-      ∙ ap (λ (ss : List (Option (List ℕ))). set ss slot (Some (bytes_at (strings_of b) slot ++ bytes_at (strings_of b) other))) (strings-emptied b other),
+      ∙ strings-put (emptied b other) slot _ _ _
+      (cat_bytes (entries_at b slot) (entries_at b other) ∙ (λ j. sym (bytes b slot) j ++ sym (bytes b other) j))
+      ∙ ap (λ (ss : List (Option (List ℕ))). set ss slot
+      (Some (bytes_at (strings_of b) slot ++ bytes_at (strings_of b) other))) (strings-emptied b other),
 )
-told b new (Write_over slot off xs) reply s h =
-    (h.0, ap strings_of h.1 ∙ strings-put b slot _ _ _ (copied_back_bytes (entries_at b slot) off xs ∙ ap (λ (ys : List ℕ). Rattle.chain_ops.specs.Writes.written_bytes ys off xs) (sym (bytes b slot))))
-told b new (Read_out slot off len) reply s h = (h.0 ∙ ap (λ (ys : List ℕ). Rattle.chain_script.specs.Steps.Held (take len (drop off ys))) (sym (bytes b slot)), ap strings_of h.1)
-told b new (Show slot) reply s h =
-    ((shapes_of (count b) (entries_at b slot), h.0 ∙ ap (λ (n : ℕ). Rattle.chain_script.specs.Steps.Laid n (shapes_of (count b) (entries_at b slot))) (sym (long b slot))), ap strings_of h.1)
+told b new (Write_over slot off xs) reply s h = (
+  h.0,
+  ap strings_of h.1 ∙ strings-put b slot _ _ _
+      (copied_back_bytes (entries_at b slot) off xs
+      ∙ ap (λ (ys : List ℕ). Rattle.chain_ops.specs.Writes.written_bytes ys off xs) (sym (bytes b slot))),
+)
+told b new (Read_out slot off len) reply s h = (
+  h.0 ∙ ap (λ (ys : List ℕ). Rattle.chain_script.specs.Steps.Held (take len (drop off ys))) (sym (bytes b slot)),
+  ap strings_of h.1,
+)
+told b new (Show slot) reply s h = (
+  (
+    shapes_of (count b) (entries_at b slot),
+    h.0
+        ∙ ap (λ (n : ℕ). Rattle.chain_script.specs.Steps.Laid n (shapes_of (count b) (entries_at b slot)))
+        (sym (long b slot)),
+  ),
+  ap strings_of h.1,
+)
 told b new (Free slot) reply s h = (h.0, ap strings_of h.1 ∙ strings-emptied b slot)
 told b new Ask_usage reply s h = ((usage_of b, h.0), ap strings_of h.1)
 
 -- ---- the tests in their order, by strings and by the machine
 abbrev by_strings : Bool → Bool → Bool → Bool → Option Reply
-by_strings slots range long short = first_true ((not slots, Wrong_chain) ∷ (not range, Wrong_range) ∷ (long, Too_long) ∷ (short, Too_short) ∷ [])
+by_strings slots range long short =
+    first_true ((not slots, Wrong_chain) ∷ (not range, Wrong_range) ∷ (long, Too_long) ∷ (short, Too_short) ∷ [])
 
 abbrev by_machine : Bool → Bool → Bool → Bool → Bool → Bool → Option Reply
 by_machine slots range shared long short lacks = first_true (
@@ -172,8 +206,10 @@ by_machine slots range shared long short lacks = first_true (
     ∷ [])
 
 step_by : (b new : Machine) (r : Request) (reply : Reply) (s g h l t k : Bool) → (h ≡ true → (l ≡ false) × (t ≡ false))
-    → (s ≡ true → Does b r reply new → TellsDone (strings_of b) r reply × (strings_of new ≡ strings_after (strings_of b) r))
-    → DoesUnless (by_machine s g h l t k) b r reply new → TellsUnless (by_strings s g l t) (strings_of b) r reply (strings_of new)
+    → (s ≡ true → Does b r reply new
+    → TellsDone (strings_of b) r reply × (strings_of new ≡ strings_after (strings_of b) r))
+    → DoesUnless (by_machine s g h l t k) b r reply new
+    → TellsUnless (by_strings s g l t) (strings_of b) r reply (strings_of new)
 step_by b new r reply false g h l t k e d u = (u.0, ap strings_of u.1)
 step_by b new r reply true false h l t k e d u = (u.0, ap strings_of u.1)
 step_by b new r reply true true true true t k e d u = absurd (false≢true (sym (e refl).0))
@@ -184,15 +220,19 @@ step_by b new r reply true true false false true k e d u = (u.0, ap strings_of u
 step_by b new r reply true true false false false true e d u = inl (inl u.0, ap strings_of u.1)
 step_by b new r reply true true false false false false e d u = inr (d refl u)
 
-pub string_step : (b new : Machine) (r : Request) (reply : Reply) → Step b r reply new → StringStep (strings_of b) r reply (strings_of new)
+pub string_step : (b new : Machine) (r : Request) (reply : Reply) → Step b r reply new
+    → StringStep (strings_of b) r reply (strings_of new)
 string_step b new r reply h =
-    let same : string_fault (strings_of b) r ≡ by_strings (has_slots b r) (is_in_range b r) (is_too_long r) (is_too_short b r) =
+    let same : string_fault (strings_of b) r
+    ≡ by_strings (has_slots b r) (is_in_range b r) (is_too_long r) (is_too_short b r) =
     (λ j. by_strings (same_slots b r j) (same_range b r j) (is_too_long r) (same_short b r j)) in
     subst (λ (o : Option Reply). TellsUnless o (strings_of b) r reply (strings_of new)) (sym same)
-    (step_by b new r reply (has_slots b r) (is_in_range b r) (hits_shared b r) (is_too_long r) (is_too_short b r) (lacks_buffers b r) (apart b r) (told b new r reply) h)
+    (step_by b new r reply (has_slots b r) (is_in_range b r) (hits_shared b r) (is_too_long r) (is_too_short b r)
+    (lacks_buffers b r) (apart b r) (told b new r reply) h)
 
 -- ---- lines
-string_says : (old new : Machine) (line text : List ℕ) → Says old line text new → StringSays (strings_of old) line text (strings_of new)
+string_says : (old new : Machine) (line text : List ℕ) → Says old line text new
+    → StringSays (strings_of old) line text (strings_of new)
 string_says old new line text (Some reply, a, e) = (Some reply, (a.0, a.1, string_step old new a.0 reply a.2), e)
 string_says old new line text (None, a, e) = (None, (a.0, ap strings_of a.1), e)
 

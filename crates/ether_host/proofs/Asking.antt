@@ -24,7 +24,8 @@ errno_in : Result SocketName Errno → Errno
 errno_in (Ok n) = BadDescriptor
 errno_in (Err e) = e
 
-pub asked_ok : (h : Host) (fd : ℕ) (name : SocketName) → socket_name fd h.machine ≡ Ok name → last_error fd h ≡ told h name
+pub asked_ok : (h : Host) (fd : ℕ) (name : SocketName) → socket_name fd h.machine ≡ Ok name
+    → last_error fd h ≡ told h name
 unfolding name_in
 asked_ok h fd name = go (socket_at fd h.machine)
   where
@@ -32,7 +33,8 @@ asked_ok h fd name = go (socket_at fd h.machine)
     go None e = absurd (false≢true (ap is_ok e))
     go (Some me) e = ap (told h) (ap (λ (r : Result SocketName Errno). name_in r name) e)
 
-pub asked_err : (h : Host) (fd : ℕ) (errno : Errno) → socket_name fd h.machine ≡ Err errno → last_error fd h ≡ (Err errno, h)
+pub asked_err : (h : Host) (fd : ℕ) (errno : Errno) → socket_name fd h.machine ≡ Err errno
+    → last_error fd h ≡ (Err errno, h)
 unfolding errno_in
 asked_err h fd errno = go (socket_at fd h.machine)
   where

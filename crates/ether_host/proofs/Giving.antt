@@ -14,11 +14,13 @@ use Rattle.ether_host.specs.Buffers.{held_in}
 use Rattle.ether_host.specs.declared.buffer.PacketBuffer.{PacketBuffer}
 use Rattle.ether_host.proofs.Tables.{held_at}
 
-pub held_given : (s : LinkState) (ps : List PacketBuffer) (at : ℕ) (mac : Mac) (p : PacketBuffer) → s.held ≡ map held_in ps → first_ready s.neighbours s.held ≡ Some (at, mac) → at < length ps → p ≡ get_or ps at p
+pub held_given : (s : LinkState) (ps : List PacketBuffer) (at : ℕ) (mac : Mac) (p : PacketBuffer)
+    → s.held ≡ map held_in ps → first_ready s.neighbours s.held ≡ Some (at, mac) → at < length ps → p ≡ get_or ps at p
     → gives_held s ≡ (Some (frame mac s.link.mac 0x0800 (held_in p).packet), record s { held = remove s.held at })
 held_given s ps at mac p same found within is =
     ap (λ (o : Option (ℕ × Mac)). sends_at o s) found
-    ∙ ap (λ (h : Option Held). sends_held at mac h s) (ap (λ (hs : List Held). slice_get hs at) same ∙ held_at ps at p within is)
+    ∙ ap (λ (h : Option Held). sends_held at mac h s)
+    (ap (λ (hs : List Held). slice_get hs at) same ∙ held_at ps at p within is)
 
 -- ---- packets that the stack gives
 
@@ -38,31 +40,45 @@ took s t p h = go s.output refl h
   where
     go : (items : List Item) → s.output ≡ items → Transmits items s (Given (Some p)) t → Took s t p
     go [] e h = absurd (none-some p (sym (ap packet_of h.0)))
-    go (item ∷ later) e h = record { item = item; later = later; output = e; bytes = same_Some item.bytes p (sym (ap packet_of h.0)); left = h.1 }
+    go (item ∷ later) e h =
+        record {
+          item = item;
+          later = later;
+          output = e;
+          bytes = same_Some item.bytes p (sym (ap packet_of h.0));
+          left = h.1;
+        }
 
-or_went : (g : Gives) (later : List Item) (rest : Drained) (f : List ℕ) → Some f ≡ g.0 → or_drains g later rest ≡ record { frame = Some f; output = later; link = g.1 }
+or_went : (g : Gives) (later : List Item) (rest : Drained) (f : List ℕ) → Some f ≡ g.0
+    → or_drains g later rest ≡ record { frame = Some f; output = later; link = g.1 }
 or_went (None, s) later rest f e = absurd (none-some f (sym e))
-or_went (Some x, s) later rest f e = ap (λ (y : List ℕ). record { frame = Some y; output = later; link = s }) (same_Some x f (sym e))
+or_went (Some x, s) later rest f e =
+    ap (λ (y : List ℕ). record { frame = Some y; output = later; link = s }) (same_Some x f (sym e))
 
 or_stayed : (g : Gives) (later : List Item) (rest : Drained) → None ≡ g.0 → or_drains g later rest ≡ rest
 or_stayed (None, s) later rest e = refl
 or_stayed (Some x, s) later rest e = absurd (none-some x e)
 
-module _ (d : Drained) (s t : State) (p : List ℕ) (l l' : LinkState) (so_far : d ≡ drained s.output l) (step : Transmits s.output s (Given (Some p)) t) (link : l' ≡ (sends p l).1) where
+module _ (d : Drained) (s t : State) (p : List ℕ) (l l' : LinkState) (so_far : d ≡ drained s.output l)
+    (step : Transmits s.output s (Given (Some p)) t) (link : l' ≡ (sends p l).1) where
   one : d ≡ or_drains (sends p l) t.output (drained t.output (sends p l).1)
   one =
       let w = took s t p step in
       so_far ∙ ap (λ items. drained items l) w.output
       ∙ ap (λ (q : List ℕ). or_drains (sends q l) w.later (drained w.later (sends q l).1)) w.bytes
-      ∙ ap (λ (items : List Item). or_drains (sends p l) items (drained items (sends p l).1)) (sym (ap (λ (x : State). x.output) w.left))
+      ∙ ap (λ (items : List Item). or_drains (sends p l) items (drained items (sends p l).1))
+      (sym (ap (λ (x : State). x.output) w.left))
 
   pub went : (f : List ℕ) → Some f ≡ (sends p l).0 → d ≡ record { frame = Some f; output = t.output; link = l' }
-  went f e = one ∙ or_went (sends p l) t.output _ f e ∙ ap (λ (x : LinkState). record { frame = Some f; output = t.output; link = x }) (sym link)
+  went f e =
+      one ∙ or_went (sends p l) t.output _ f e
+      ∙ ap (λ (x : LinkState). record { frame = Some f; output = t.output; link = x }) (sym link)
 
   pub stayed : None ≡ (sends p l).0 → d ≡ drained t.output l'
   stayed e = one ∙ or_stayed (sends p l) t.output _ e ∙ ap (λ (x : LinkState). drained t.output x) (sym link)
 
-pub same_rest : (s t : State) (p : List ℕ) → Transmits s.output s (Given (Some p)) t → (items : List Item) → with_output s items ≡ with_output t items
+pub same_rest : (s t : State) (p : List ℕ) → Transmits s.output s (Given (Some p)) t → (items : List Item)
+    → with_output s items ≡ with_output t items
 same_rest s t p step items = let w = took s t p step in ap (λ (x : State). with_output x items) (sym w.left)
 
 pub ended : (s t : State) → Transmits s.output s (Given None) t → (t ≡ s) × (s.output ≡ [])

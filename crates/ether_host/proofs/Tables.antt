@@ -10,11 +10,13 @@ few_pass : (xs : List Neighbour) → length (filter stays (map aged xs)) ≤ len
 few_pass [] = omega arith
 few_pass (x ∷ xs) = go (stays (aged x)) (few_pass xs)
   where
-    go : (b : Bool) → length (filter stays (map aged xs)) ≤ length xs → length (cond b (aged x ∷ filter stays (map aged xs)) (filter stays (map aged xs))) ≤ length (x ∷ xs)
+    go : (b : Bool) → length (filter stays (map aged xs)) ≤ length xs
+        → length (cond b (aged x ∷ filter stays (map aged xs)) (filter stays (map aged xs))) ≤ length (x ∷ xs)
     go true h = omega arith
     go false h = omega arith
 
-pub few_stay : (ns : List Neighbour) (i : ℕ) (kept : List Neighbour) → kept ≡ filter stays (map aged (take i ns)) → length kept ≤ i
+pub few_stay : (ns : List Neighbour) (i : ℕ) (kept : List Neighbour) → kept ≡ filter stays (map aged (take i ns))
+    → length kept ≤ i
 few_stay ns i kept e =
     let few : length (filter stays (map aged (take i ns))) ≤ length (take i ns) = few_pass (take i ns) in
     let same : length kept ≡ length (filter stays (map aged (take i ns))) = ap length e in
@@ -22,16 +24,19 @@ few_stay ns i kept e =
     omega arith
 
 -- packets that are kept, as they're seen
-pub held_filter : (ns : List Neighbour) (ps : List PacketBuffer) → map held_in (filter (has_hope_in ns) ps) ≡ filter (has_hope ns) (map held_in ps)
+pub held_filter : (ns : List Neighbour) (ps : List PacketBuffer)
+    → map held_in (filter (has_hope_in ns) ps) ≡ filter (has_hope ns) (map held_in ps)
 held_filter ns [] = refl
 held_filter ns (p ∷ ps) = go (is_some (place_of p.hop ns)) (held_filter ns ps)
   where
     go : (b : Bool) → map held_in (filter (has_hope_in ns) ps) ≡ filter (has_hope ns) (map held_in ps)
-        → map held_in (cond b (p ∷ filter (has_hope_in ns) ps) (filter (has_hope_in ns) ps)) ≡ cond b (held_in p ∷ filter (has_hope ns) (map held_in ps)) (filter (has_hope ns) (map held_in ps))
+        → map held_in (cond b (p ∷ filter (has_hope_in ns) ps) (filter (has_hope_in ns) ps))
+        ≡ cond b (held_in p ∷ filter (has_hope ns) (map held_in ps)) (filter (has_hope ns) (map held_in ps))
     go true h = ap (λ xs. held_in p ∷ xs) h
     go false h = h
 
-pub held_at : (ps : List PacketBuffer) (i : ℕ) (p : PacketBuffer) → i < length ps → p ≡ get_or ps i p → slice_get (map held_in ps) i ≡ Some (held_in p)
+pub held_at : (ps : List PacketBuffer) (i : ℕ) (p : PacketBuffer) → i < length ps → p ≡ get_or ps i p
+    → slice_get (map held_in ps) i ≡ Some (held_in p)
 held_at [] i p h e = absurd (omega arith)
 held_at (q ∷ ps) zero p h e = ap (λ (x : PacketBuffer). Some (held_in x)) (sym e)
 held_at (q ∷ ps) (suc i) p h e = held_at ps i p (omega arith) e
@@ -48,16 +53,20 @@ held_remove (p ∷ ps) (suc i) = ap (λ xs. held_in p ∷ xs) (held_remove ps i)
 abbrev pub kept_from : List Neighbour → List PacketBuffer → ℕ → List PacketBuffer
 kept_from ns ps i = take i ps ++ filter (has_hope_in ns) (drop i ps)
 
-pub kept_on : (ns : List Neighbour) (ps : List PacketBuffer) (i : ℕ) (p : PacketBuffer) → i < length ps → p ≡ get_or ps i p → has_hope_in ns p ≡ true → kept_from ns ps i ≡ kept_from ns ps (i + 1)
+pub kept_on : (ns : List Neighbour) (ps : List PacketBuffer) (i : ℕ) (p : PacketBuffer) → i < length ps
+    → p ≡ get_or ps i p → has_hope_in ns p ≡ true → kept_from ns ps i ≡ kept_from ns ps (i + 1)
 kept_on ns [] i p h e t = absurd (omega arith)
-kept_on ns (q ∷ ps) zero p h e t = ap (λ b. cond b (q ∷ filter (has_hope_in ns) ps) (filter (has_hope_in ns) ps)) (ap (has_hope_in ns) (sym e) ∙ t)
+kept_on ns (q ∷ ps) zero p h e t =
+    ap (λ b. cond b (q ∷ filter (has_hope_in ns) ps) (filter (has_hope_in ns) ps)) (ap (has_hope_in ns) (sym e) ∙ t)
 kept_on ns (q ∷ ps) (suc i) p h e t =
     let m : suc (i + 1) ≡ suc i + 1 = omega arith in
     ap (λ xs. q ∷ xs) (kept_on ns ps i p (omega arith) e t) ∙ ap (kept_from ns (q ∷ ps)) m
 
-pub kept_off : (ns : List Neighbour) (ps : List PacketBuffer) (i : ℕ) (p : PacketBuffer) → i < length ps → p ≡ get_or ps i p → has_hope_in ns p ≡ false → kept_from ns ps i ≡ kept_from ns (remove ps i) i
+pub kept_off : (ns : List Neighbour) (ps : List PacketBuffer) (i : ℕ) (p : PacketBuffer) → i < length ps
+    → p ≡ get_or ps i p → has_hope_in ns p ≡ false → kept_from ns ps i ≡ kept_from ns (remove ps i) i
 kept_off ns [] i p h e t = absurd (omega arith)
-kept_off ns (q ∷ ps) zero p h e t = ap (λ b. cond b (q ∷ filter (has_hope_in ns) ps) (filter (has_hope_in ns) ps)) (ap (has_hope_in ns) (sym e) ∙ t)
+kept_off ns (q ∷ ps) zero p h e t =
+    ap (λ b. cond b (q ∷ filter (has_hope_in ns) ps) (filter (has_hope_in ns) ps)) (ap (has_hope_in ns) (sym e) ∙ t)
 kept_off ns (q ∷ ps) (suc i) p h e t = ap (λ xs. q ∷ xs) (kept_off ns ps i p (omega arith) e t)
 
 pub kept_all : (ns : List Neighbour) (ps : List PacketBuffer) (i : ℕ) → length ps ≤ i → kept_from ns ps i ≡ ps

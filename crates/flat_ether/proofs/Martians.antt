@@ -45,11 +45,13 @@ by_cond : (b : Bool) (s t u : LinkState) → tally t ≡ tally s → tally u ≡
 by_cond true s t u e f = e
 by_cond false s t u e f = f
 
-by_gives : (b : Bool) (s : LinkState) (g h : Gives) → tally g.1 ≡ tally s → tally h.1 ≡ tally s → tally (cond b g h).1 ≡ tally s
+by_gives : (b : Bool) (s : LinkState) (g h : Gives) → tally g.1 ≡ tally s → tally h.1 ≡ tally s
+    → tally (cond b g h).1 ≡ tally s
 by_gives true s g h e f = e
 by_gives false s g h e f = f
 
-by_host : (b : Bool) (s : LinkState) (g h : Option (List ℕ) × Host) → tally g.1.link ≡ tally s → tally h.1.link ≡ tally s → tally (cond b g h).1.link ≡ tally s
+by_host : (b : Bool) (s : LinkState) (g h : Option (List ℕ) × Host) → tally g.1.link ≡ tally s
+    → tally h.1.link ≡ tally s → tally (cond b g h).1.link ≡ tally s
 by_host true s g h e f = e
 by_host false s g h e f = f
 
@@ -58,7 +60,8 @@ by_host false s g h e f = f
 answers_same : (a : Answer) (came : List ℕ) (s : LinkState) → tally (answers_with a came s) ≡ tally s
 answers_same Silence came s = refl
 answers_same Echo came s = by_cond (is_some s.answer) s _ _ refl refl
-answers_same Unreachable came s = by_cond (is_some s.answer) s _ _ refl (by_cond (nat_lt 0 s.unreachables) s _ _ refl refl)
+answers_same Unreachable came s =
+    by_cond (is_some s.answer) s _ _ refl (by_cond (nat_lt 0 s.unreachables) s _ _ refl refl)
 
 notes_same : (b : Bool) (came : List ℕ) (s : LinkState) → tally (notes b came s) ≡ tally s
 notes_same b came s = by_cond b s _ _ (go (error_in s.config came)) refl
@@ -76,7 +79,8 @@ learns_same a s = by_cond (is_learned s a) s _ _ refl refl
 hears_same : (b : List ℕ) (s : LinkState) → tally (hears_arp b s) ≡ tally s
 hears_same b s =
     by_cond (is_sound_arp s.link b) s _ _
-    (by_cond (is_conflict s (arp_of b)) s _ _ (owes_same (arp_of b) (finds_conflict s)) (owes_same (arp_of b) (learns (arp_of b) s) ∙ learns_same (arp_of b) s))
+    (by_cond (is_conflict s (arp_of b)) s _ _ (owes_same (arp_of b) (finds_conflict s))
+    (owes_same (arp_of b) (learns (arp_of b) s) ∙ learns_same (arp_of b) s))
     refl
 
 -- ---- what goes
@@ -86,7 +90,8 @@ asks_same hop s = by_cond (is_some (place_of hop s.neighbours)) s _ _ refl refl
 
 holds_same : (hop : ℕ) (packet : List ℕ) (s : LinkState) → tally (holds hop packet s) ≡ tally s
 holds_same hop packet s =
-    by_cond (nat_lt ETHER_MTU (length packet)) s _ _ refl (by_cond (nat_lt (length s.held) HELD_PACKETS) s s (drops_first s) refl refl)
+    by_cond (nat_lt ETHER_MTU (length packet)) s _ _ refl
+    (by_cond (nat_lt (length s.held) HELD_PACKETS) s s (drops_first s) refl refl)
 
 sends_same : (packet : List ℕ) (s : LinkState) → tally (sends packet s).1 ≡ tally s
 sends_same packet s = go (route_of s packet)
@@ -140,7 +145,8 @@ answer_same s = go s.answer
     go None = refl
     go (Some packet) = sends_same packet (record s { answer = None })
 
-then_same : (g : Gives) (next : LinkState → Gives) (s : LinkState) → tally g.1 ≡ tally s → ((t : LinkState) → tally (next t).1 ≡ tally t)
+then_same : (g : Gives) (next : LinkState → Gives) (s : LinkState) → tally g.1 ≡ tally s
+    → ((t : LinkState) → tally (next t).1 ≡ tally t)
     → tally (or_then g next).1 ≡ tally s
 then_same g next s e same = by_gives (is_some g.0) s g (next g.1) e (same g.1 ∙ e)
 
@@ -150,26 +156,30 @@ own_same s =
     let asked : Gives = or_then replied gives_request in
     let sent : Gives = or_then asked gives_held in
     then_same sent gives_answer s
-    (then_same asked gives_held s (then_same replied gives_request s (then_same (gives_claim s) gives_reply s (claim_same s) reply_same) request_same) held_same)
+    (then_same asked gives_held s (then_same replied gives_request s
+    (then_same (gives_claim s) gives_reply s (claim_same s) reply_same) request_same) held_same)
     answer_same
 
 drained_same : (items : List Item) (s : LinkState) → tally (drained items s).link ≡ tally s
 drained_same [] s = refl
 drained_same (item ∷ later) s = go (sends item.bytes s) (sends_same item.bytes s) (λ t. drained_same later t)
   where
-    go : (g : Gives) → tally g.1 ≡ tally s → ((t : LinkState) → tally (drained later t).link ≡ tally t) → tally (or_drains g later (drained later g.1)).link ≡ tally s
+    go : (g : Gives) → tally g.1 ≡ tally s → ((t : LinkState) → tally (drained later t).link ≡ tally t)
+        → tally (or_drains g later (drained later g.1)).link ≡ tally s
     go (None, t) e rest = rest t ∙ e
     go (Some f, t) e rest = e
 
 gives_drained_same : (h : Host) (s : LinkState) → tally (gives_drained h s).1.link ≡ tally s
 gives_drained_same h s =
     let d : Drained = drained h.machine.output s in
-    by_host (is_some d.frame) s _ _ (drained_same h.machine.output s) (own_same d.link ∙ drained_same h.machine.output s)
+    by_host (is_some d.frame) s _ _ (drained_same h.machine.output s)
+    (own_same d.link ∙ drained_same h.machine.output s)
 
 gives_same : (h : Host) → tally (gives h).1.link ≡ tally h.link
 gives_same h =
     by_host (is_claimed h.link.claim) h.link (gives_claimed h) (gives_probe h)
-    (by_host (is_some (gives_own h.link).0) h.link _ _ (own_same h.link) (gives_drained_same h (gives_own h.link).1 ∙ own_same h.link))
+    (by_host (is_some (gives_own h.link).0) h.link _ _ (own_same h.link)
+    (gives_drained_same h (gives_own h.link).1 ∙ own_same h.link))
     (claim_same h.link)
 
 -- ---- a question for an error
@@ -201,39 +211,51 @@ module _ (c : Config) (l : Link) where
   same_counts : (k : ℕ) (old new : Host) → Counts k old → tally new.link ≡ tally old.link → Counts (k + 0) new
   same_counts k old new is e = e ∙ is ∙ ap (λ (n : ℕ). (c, l, more_by n 0)) (omega (arith))
 
-  heard_counts : (k : ℕ) (f : List ℕ) (old new : Host) (kind : FrameKind) → Counts k old → HearsKind kind f old new → Counts (k + martian_if kind) new
+  heard_counts : (k : ℕ) (f : List ℕ) (old new : Host) (kind : FrameKind) → Counts k old → HearsKind kind f old new
+      → Counts (k + martian_if kind) new
   heard_counts k f old new Packet is h =
       same_counts k old new is (ap tally h.link ∙ by_cond (is_to_us old.link f) old.link _ _
-      (notes_same (counted_more IpNoproto old.machine new.machine) (body_of f) _ ∙ answers_same (answer_to old.link.config (body_of f) old.machine new.machine) (body_of f) old.link)
+      (notes_same (counted_more IpNoproto old.machine new.machine) (body_of f) _
+      ∙ answers_same (answer_to old.link.config (body_of f) old.machine new.machine) (body_of f) old.link)
       refl)
   heard_counts k f old new Martian is h =
-      ap (λ (x : Host). tally x.link) h ∙ ap (λ (x : Tally). (x.0, x.1, more_by 1 x.2)) is ∙ ap (λ (n : ℕ). (c, l, n)) (one_more k 1)
-  heard_counts k f old new Of_arp is h = same_counts k old new is (ap (λ (x : Host). tally x.link) h ∙ hears_same (body_of f) old.link)
+      ap (λ (x : Host). tally x.link) h ∙ ap (λ (x : Tally). (x.0, x.1, more_by 1 x.2)) is
+      ∙ ap (λ (n : ℕ). (c, l, n)) (one_more k 1)
+  heard_counts k f old new Of_arp is h =
+      same_counts k old new is (ap (λ (x : Host). tally x.link) h ∙ hears_same (body_of f) old.link)
   heard_counts k f old new Other is h = same_counts k old new is (ap (λ (x : Host). tally x.link) h)
 
-  act_counts : (k : ℕ) (old new : Host) (act : Act) → Counts k old → IsAct old act new → Counts (k + martian_in c l.mac act) new
+  act_counts : (k : ℕ) (old new : Host) (act : Act) → Counts k old → IsAct old act new
+      → Counts (k + martian_in c l.mac act) new
   act_counts k old new (Comes_in f) is h =
-      heard_counts k f old new (kind_of c l.mac f) is (subst (λ (x : Tally). HearsKind (kind_of x.0 x.1.mac f) f old new) is h.2)
+      heard_counts k f old new (kind_of c l.mac f) is
+      (subst (λ (x : Tally). HearsKind (kind_of x.0 x.1.mac f) f old new) is h.2)
   act_counts k old new (Goes_out f) is h =
-      same_counts k old new is (subst (λ (x : Option (List ℕ) × Host). tally x.1.link ≡ tally old.link) (sym h) (gives_same old))
+      same_counts k old new is (subst (λ (x : Option (List ℕ) × Host). tally x.1.link ≡ tally old.link) (sym h)
+      (gives_same old))
   act_counts k old new Clock is h = same_counts k old new is (ap tally h.link)
   act_counts k old new (Calls turn) is h = same_counts k old new is (ap tally h.link)
   act_counts k old new (Asks_error fd fault) is h =
-      same_counts k old new is (subst (λ (x : Result (Option NetFault) Errno × Host). tally x.1.link ≡ tally old.link) (sym h) (asked_same (socket_at fd old.machine) old))
+      same_counts k old new is (subst (λ (x : Result (Option NetFault) Errno × Host). tally x.1.link ≡ tally old.link)
+      (sym h) (asked_same (socket_at fd old.machine) old))
 
-  acts_count : (k : ℕ) (old new : Host) (acts : List Act) → Counts k old → AreActs old acts new → Counts (k + martians_in c l.mac acts) new
+  acts_count : (k : ℕ) (old new : Host) (acts : List Act) → Counts k old → AreActs old acts new
+      → Counts (k + martians_in c l.mac acts) new
   acts_count k old new [] is done = same_counts k old new is (ap (λ (h : Host). tally h.link) done)
   acts_count k old new (act ∷ acts) is (mid, first, later) =
       acts_count (k + martian_in c l.mac act) mid new acts (act_counts k old mid act is first) later
       ∙ ap (λ (n : ℕ). (c, l, more_by n 0)) (omega (arith))
 
-  pub martians_are_counted : (acts : List Act) (new : Host) → AreActs (host_up c l) acts new → new.link.tallies.martians ≡ more_by (martians_in c l.mac acts) 0
+  pub martians_are_counted : (acts : List Act) (new : Host) → AreActs (host_up c l) acts new
+      → new.link.tallies.martians ≡ more_by (martians_in c l.mac acts) 0
   martians_are_counted acts new done =
-      ap (λ (x : Tally). x.2) (acts_count 0 (host_up c l) new acts refl done) ∙ ap (λ (n : ℕ). more_by n 0) (omega (arith))
+      ap (λ (x : Tally). x.2) (acts_count 0 (host_up c l) new acts refl done)
+      ∙ ap (λ (n : ℕ). more_by n 0) (omega (arith))
 
 -- ---- none of them comes to the machine
 
-pub no_martian : (c : Config) (mac : Mac) (f : List ℕ) → All (λ packet. is_martian c packet ≡ false) (packets_in c mac (Comes_in f))
+pub no_martian : (c : Config) (mac : Mac) (f : List ℕ)
+    → All (λ packet. is_martian c packet ≡ false) (packets_in c mac (Comes_in f))
 no_martian c mac f = All-from_recursion _ (packet_if (kind_of c mac f) f) (heard (is_heard mac f))
   where
     Free : FrameKind → Type 0
@@ -252,6 +274,7 @@ no_martian c mac f = All-from_recursion _ (packet_if (kind_of c mac f) f) (heard
     typed false = of_other (u16_at 12 f == ETHER_TYPE_ARP)
 
     heard : (b : Bool)
-        → Free (cond b (cond (u16_at 12 f == ETHER_TYPE_IP) (packet_kind c (body_of f)) (cond (u16_at 12 f == ETHER_TYPE_ARP) Of_arp Other)) Other)
+        → Free (cond b (cond (u16_at 12 f == ETHER_TYPE_IP) (packet_kind c (body_of f))
+        (cond (u16_at 12 f == ETHER_TYPE_ARP) Of_arp Other)) Other)
     heard true = typed (u16_at 12 f == ETHER_TYPE_IP)
     heard false = tt

@@ -38,18 +38,21 @@ module _ (c : Config) (l : Link) where
     link = good.link;
     neighbours = each-weaker (λ n is. record { told = is.told; near = is.near }) s.neighbours good.neighbours;
     distinct = good.distinct;
-    held = each-weaker (λ h is. record { made = Sent.more_made c l F G G' h.packet is.made; route = is.route }) s.held good.held;
+    held =
+        each-weaker (λ h is. record { made = Sent.more_made c l F G G' h.packet is.made; route = is.route }) s.held
+        good.held;
     answer = λ p e. Sent.more_made c l F G G' p (good.answer p e);
   }
 
   -- What an act makes of a machine and its link, after these frames came and these packets were given: `then'` are the
   -- frames that came then.
-  record Makes (F G then' : List (List ℕ)) (old new : State) (link : LinkState) (packets out : List (List ℕ)) : Type 0 where
-    turns : List Turn
-    leads : Leads exact_ledger old turns new
-    in' : filter_map packet_in turns ≡ packets
-    good : Good then' (G ++ filter_map packet_out turns) link
-    sent : Each (IsSent c l F (G ++ filter_map packet_out turns)) out
+  record Makes (F G then' : List (List ℕ)) (old new : State) (link : LinkState) (packets out : List (List ℕ)) : Type 0
+    where
+      turns : List Turn
+      leads : Leads exact_ledger old turns new
+      in' : filter_map packet_in turns ≡ packets
+      good : Good then' (G ++ filter_map packet_out turns) link
+      sent : Each (IsSent c l F (G ++ filter_map packet_out turns)) out
 
   -- nothing was given
   same : (F G : List (List ℕ)) (s : LinkState) → Good F G s → Good F (G ++ []) s
@@ -60,30 +63,42 @@ module _ (c : Config) (l : Link) where
 
   -- ---- what goes
 
-  sent_list : (F G : List (List ℕ)) (f : Option (List ℕ)) → ((x : List ℕ) → f ≡ Some x → IsSent c l F G x) → Each (IsSent c l F G) (option_to_list f)
+  sent_list : (F G : List (List ℕ)) (f : Option (List ℕ)) → ((x : List ℕ) → f ≡ Some x → IsSent c l F G x)
+      → Each (IsSent c l F G) (option_to_list f)
   sent_list F G None is = tt
   sent_list F G (Some f) is = (is f refl, tt)
 
   contains_last : (G : List (List ℕ)) (p : List ℕ) (more : List (List ℕ)) → Contains (G ++ p ∷ more) p
-  contains_last G p more = Contains-append_right G (p ∷ more) p (All-head (Contains (p ∷ more)) p more (All-contains_itself (p ∷ more)))
+  contains_last G p more =
+      Contains-append_right G (p ∷ more) p (All-head (Contains (p ∷ more)) p more (All-contains_itself (p ∷ more)))
 
   drains : (items : List Item) (F G : List (List ℕ)) (s : State) (link : LinkState) → s.output ≡ items → Good F G link
-      → Makes F G F s (with_output s (drained items link).output) (drained items link).link [] (option_to_list (drained items link).frame)
+      → Makes F G F s (with_output s (drained items link).output) (drained items link).link []
+      (option_to_list (drained items link).frame)
   drains [] F G s link e good = quiet F G s _ link (same_output s [] e) good
-  drains (item ∷ later) F G s link e good = go (sends item.bytes link) given (λ t g. drains later F (G ++ item.bytes ∷ []) (with_output s later) t refl g)
+  drains (item ∷ later) F G s link e good =
+      go (sends item.bytes link) given (λ t g. drains later F (G ++ item.bytes ∷ []) (with_output s later) t refl g)
     where
       given : Sent.IsGiven c l F (G ++ item.bytes ∷ []) (sends item.bytes link)
-      given = Sent.sends_given c l F (G ++ item.bytes ∷ []) item.bytes link (more_good F G (item.bytes ∷ []) link good) (inl (contains_last G item.bytes []))
+      given =
+          Sent.sends_given c l F (G ++ item.bytes ∷ []) item.bytes link (more_good F G (item.bytes ∷ []) link good)
+          (inl (contains_last G item.bytes []))
 
       turn : Turn
       turn = record { event = Transmit; reply = Given (Some item.bytes) }
 
       go : (g : Gives) → Sent.IsGiven c l F (G ++ item.bytes ∷ []) g
-          → ((t : LinkState) → Good F (G ++ item.bytes ∷ []) t → Makes F (G ++ item.bytes ∷ []) F (with_output s later) (with_output s (drained later t).output) (drained later t).link [] (option_to_list (drained later t).frame))
-          → Makes F G F s (with_output s (or_drains g later (drained later g.1)).output) (or_drains g later (drained later g.1)).link [] (option_to_list (or_drains g later (drained later g.1)).frame)
+          → ((t : LinkState) → Good F (G ++ item.bytes ∷ []) t
+          → Makes F (G ++ item.bytes ∷ []) F (with_output s later) (with_output s (drained later t).output)
+          (drained later t).link [] (option_to_list (drained later t).frame))
+          → Makes F G F s (with_output s (or_drains g later (drained later g.1)).output)
+          (or_drains g later (drained later g.1)).link []
+          (option_to_list (or_drains g later (drained later g.1)).frame)
       go (None, t) is rest =
           let r = rest t is.good in
-          let more : (G ++ item.bytes ∷ []) ++ filter_map packet_out r.turns ≡ G ++ item.bytes ∷ filter_map packet_out r.turns = append_assoc G (item.bytes ∷ []) (filter_map packet_out r.turns) in
+          let more : (G ++ item.bytes ∷ []) ++ filter_map packet_out r.turns
+          ≡ G ++ item.bytes ∷ filter_map packet_out r.turns =
+          append_assoc G (item.bytes ∷ []) (filter_map packet_out r.turns) in
           record {
             turns = turn ∷ r.turns;
             leads = (tt, with_output s later, transmits s item later e, r.leads);
@@ -100,7 +115,8 @@ module _ (c : Config) (l : Link) where
       }
 
   -- frames of the link's own
-  own_makes : (F G : List (List ℕ)) (s : State) (g : Gives) → Sent.IsGiven c l F G g → Makes F G F s s g.1 [] (option_to_list g.0)
+  own_makes : (F G : List (List ℕ)) (s : State) (g : Gives) → Sent.IsGiven c l F G g
+      → Makes F G F s s g.1 [] (option_to_list g.0)
   own_makes F G s g own = record {
     turns = [];
     leads = refl;
@@ -111,16 +127,20 @@ module _ (c : Config) (l : Link) where
 
   abbrev after_by : Host → Drained → Bool → Option (List ℕ) × Host
   after_by h d b =
-      cond b (d.frame, record { machine = with_output h.machine d.output; link = d.link }) ((gives_own d.link).0, record { machine = with_output h.machine d.output; link = (gives_own d.link).1 })
+      cond b (d.frame, record { machine = with_output h.machine d.output; link = d.link })
+      ((gives_own d.link).0, record { machine = with_output h.machine d.output; link = (gives_own d.link).1 })
 
-  after_makes : (F G : List (List ℕ)) (h : Host) (d : Drained) → Makes F G F h.machine (with_output h.machine d.output) d.link [] (option_to_list d.frame)
-      → Makes F G F h.machine (gives_after h d).1.machine (gives_after h d).1.link [] (option_to_list (gives_after h d).0)
+  after_makes : (F G : List (List ℕ)) (h : Host) (d : Drained)
+      → Makes F G F h.machine (with_output h.machine d.output) d.link [] (option_to_list d.frame)
+      → Makes F G F h.machine (gives_after h d).1.machine (gives_after h d).1.link []
+      (option_to_list (gives_after h d).0)
   after_makes F G h d m = go (is_some d.frame)
     where
       own : Sent.IsGiven c l F (G ++ filter_map packet_out m.turns) (gives_own d.link)
       own = Sent.own_given c l F (G ++ filter_map packet_out m.turns) d.link m.good
 
-      go : (b : Bool) → Makes F G F h.machine (after_by h d b).1.machine (after_by h d b).1.link [] (option_to_list (after_by h d b).0)
+      go : (b : Bool) → Makes F G F h.machine (after_by h d b).1.machine (after_by h d b).1.link []
+          (option_to_list (after_by h d b).0)
       go true = m
       go false = record {
         turns = m.turns;
@@ -131,37 +151,50 @@ module _ (c : Config) (l : Link) where
       }
 
   abbrev gives_by : Host → Bool → Option (List ℕ) × Host
-  gives_by h b = cond b ((gives_own h.link).0, record h { link = (gives_own h.link).1 }) (gives_drained h (gives_own h.link).1)
+  gives_by h b =
+      cond b ((gives_own h.link).0, record h { link = (gives_own h.link).1 }) (gives_drained h (gives_own h.link).1)
 
-  claimed_makes : (F G : List (List ℕ)) (h : Host) → Good F G h.link → Makes F G F h.machine (gives_claimed h).1.machine (gives_claimed h).1.link [] (option_to_list (gives_claimed h).0)
+  claimed_makes : (F G : List (List ℕ)) (h : Host) → Good F G h.link
+      → Makes F G F h.machine (gives_claimed h).1.machine (gives_claimed h).1.link []
+      (option_to_list (gives_claimed h).0)
   claimed_makes F G h good = go (is_some (gives_own h.link).0)
     where
       own : Sent.IsGiven c l F G (gives_own h.link)
       own = Sent.own_given c l F G h.link good
 
-      go : (b : Bool) → Makes F G F h.machine (gives_by h b).1.machine (gives_by h b).1.link [] (option_to_list (gives_by h b).0)
+      go : (b : Bool) → Makes F G F h.machine (gives_by h b).1.machine (gives_by h b).1.link []
+          (option_to_list (gives_by h b).0)
       go true = own_makes F G h.machine (gives_own h.link) own
-      go false = after_makes F G h (drained h.machine.output (gives_own h.link).1) (drains h.machine.output F G h.machine (gives_own h.link).1 refl own.good)
+      go false =
+          after_makes F G h (drained h.machine.output (gives_own h.link).1)
+          (drains h.machine.output F G h.machine (gives_own h.link).1 refl own.good)
 
-  gives_makes : (F G : List (List ℕ)) (h : Host) → Good F G h.link → Makes F G F h.machine (gives h).1.machine (gives h).1.link [] (option_to_list (gives h).0)
+  gives_makes : (F G : List (List ℕ)) (h : Host) → Good F G h.link
+      → Makes F G F h.machine (gives h).1.machine (gives h).1.link [] (option_to_list (gives h).0)
   gives_makes F G h good = go (is_claimed h.link.claim)
     where
-      go : (b : Bool) → Makes F G F h.machine (cond b (gives_claimed h) (gives_probe h)).1.machine (cond b (gives_claimed h) (gives_probe h)).1.link [] (option_to_list (cond b (gives_claimed h) (gives_probe h)).0)
+      go : (b : Bool) → Makes F G F h.machine (cond b (gives_claimed h) (gives_probe h)).1.machine
+          (cond b (gives_claimed h) (gives_probe h)).1.link []
+          (option_to_list (cond b (gives_claimed h) (gives_probe h)).0)
       go true = claimed_makes F G h good
       go false = own_makes F G h.machine (gives_claim h.link) (Sent.claim_given c l F G h.link good)
 
   -- ---- each act
 
-  calls_good : (F G : List (List ℕ)) (old new : Host) (turn : Turn) → Good F G old.link → CallsMachine turn old new → Good F (G ++ filter_map packet_out (turn ∷ [])) new.link
+  calls_good : (F G : List (List ℕ)) (old new : Host) (turn : Turn) → Good F G old.link → CallsMachine turn old new
+      → Good F (G ++ filter_map packet_out (turn ∷ [])) new.link
   calls_good F G old new turn good is =
-      subst (Good F (G ++ filter_map packet_out (turn ∷ []))) (sym is.link) (more_good F G (filter_map packet_out (turn ∷ [])) old.link good)
+      subst (Good F (G ++ filter_map packet_out (turn ∷ []))) (sym is.link)
+      (more_good F G (filter_map packet_out (turn ∷ [])) old.link good)
 
   act_makes : (F G : List (List ℕ)) (old new : Host) (act : Act) → Good F G old.link → IsAct old act new
       → Makes F G (frames_then act F) old.machine new.machine new.link (packets_in c l.mac act) (frame_out act)
-  act_makes F G old new (Comes_in f) good is = go (kind_of old.link.config old.link.link.mac f) (kind_of c l.mac f) kinds refl is.2
+  act_makes F G old new (Comes_in f) good is =
+      go (kind_of old.link.config old.link.link.mac f) (kind_of c l.mac f) kinds refl is.2
     where
       kinds : kind_of old.link.config old.link.link.mac f ≡ kind_of c l.mac f
-      kinds = ap (λ (x : Config). kind_of x old.link.link.mac f) good.config ∙ ap (λ (x : Link). kind_of c x.mac f) good.link
+      kinds =
+          ap (λ (x : Config). kind_of x old.link.link.mac f) good.config ∙ ap (λ (x : Link). kind_of c x.mac f) good.link
 
       here : Contains (f ∷ F) f
       here = contains_last [] f F
@@ -169,11 +202,19 @@ module _ (c : Config) (l : Link) where
       wider : arp_if (kind_of c l.mac f) f ≡ None → Good (f ∷ F) (G ++ []) old.link
       wider e = same (f ∷ F) G old.link (Sent.quiet_good c l F G f old.link good e)
 
-      taken : Good (f ∷ F) (G ++ []) old.link → (b : Bool) → Good (f ∷ F) (G ++ []) (cond b (notes (counted_more IpNoproto old.machine new.machine) (body_of f) (answers_with (answer_to old.link.config (body_of f) old.machine new.machine) (body_of f) old.link)) old.link)
-      taken wide true = Sent.notes_good c l (f ∷ F) (G ++ []) (counted_more IpNoproto old.machine new.machine) (body_of f) _ (Sent.answers_good c l (f ∷ F) (G ++ []) f (answer_to old.link.config (body_of f) old.machine new.machine) old.link wide here)
+      taken : Good (f ∷ F) (G ++ []) old.link → (b : Bool)
+          → Good (f ∷ F) (G ++ []) (cond b
+          (notes (counted_more IpNoproto old.machine new.machine) (body_of f)
+          (answers_with (answer_to old.link.config (body_of f) old.machine new.machine) (body_of f)
+          old.link)) old.link)
+      taken wide true =
+          Sent.notes_good c l (f ∷ F) (G ++ []) (counted_more IpNoproto old.machine new.machine) (body_of f) _
+          (Sent.answers_good c l (f ∷ F) (G ++ []) f (answer_to old.link.config (body_of f) old.machine new.machine)
+          old.link wide here)
       taken wide false = wide
 
-      still : (link : LinkState) → new ≡ record old { link = link } → Good (f ∷ F) (G ++ []) link → Makes F G (f ∷ F) old.machine new.machine new.link [] []
+      still : (link : LinkState) → new ≡ record old { link = link } → Good (f ∷ F) (G ++ []) link
+          → Makes F G (f ∷ F) old.machine new.machine new.link [] []
       still link e g = record {
         turns = [];
         leads = ap (λ (h : Host). h.machine) e;
@@ -182,22 +223,33 @@ module _ (c : Config) (l : Link) where
         sent = tt;
       }
 
-      go : (s t : FrameKind) → s ≡ t → kind_of c l.mac f ≡ t → HearsKind s f old new → Makes F G (f ∷ F) old.machine new.machine new.link (packet_if t f) []
-      go s t e k h = subst (λ (x : FrameKind). Makes F G (f ∷ F) old.machine new.machine new.link (packet_if x f) []) e (by s (k ∙ sym e) h)
+      go : (s t : FrameKind) → s ≡ t → kind_of c l.mac f ≡ t → HearsKind s f old new
+          → Makes F G (f ∷ F) old.machine new.machine new.link (packet_if t f) []
+      go s t e k h =
+          subst (λ (x : FrameKind). Makes F G (f ∷ F) old.machine new.machine new.link (packet_if x f) []) e
+          (by s (k ∙ sym e) h)
         where
-          by : (s : FrameKind) → kind_of c l.mac f ≡ s → HearsKind s f old new → Makes F G (f ∷ F) old.machine new.machine new.link (packet_if s f) []
+          by : (s : FrameKind) → kind_of c l.mac f ≡ s → HearsKind s f old new
+              → Makes F G (f ∷ F) old.machine new.machine new.link (packet_if s f) []
           by Packet k h = record {
             turns = record { event = Comes (body_of f); reply = Done } ∷ [];
             leads = ((bytes_of_body f is.0, short_body f is.1), new.machine, h.machine, refl);
             in' = refl;
-            good = subst (Good (f ∷ F) (G ++ [])) (sym h.link) (taken (wider (ap (λ (x : FrameKind). arp_if x f) k)) (is_to_us old.link f));
+            good =
+                subst (Good (f ∷ F) (G ++ [])) (sym h.link)
+                (taken (wider (ap (λ (x : FrameKind). arp_if x f) k)) (is_to_us old.link f));
             sent = tt;
           }
-          by Martian k h = still _ h (Sent.refuses_good c l (f ∷ F) (G ++ []) old.link (wider (ap (λ (x : FrameKind). arp_if x f) k)))
-          by Arp k h = still _ h (same (f ∷ F) G _ (Sent.hears_good c l F G f (ap (λ (x : FrameKind). arp_if x f) k) old.link good))
-          by Other k h = still _ h (Sent.ignores_good c l (f ∷ F) (G ++ []) old.link (wider (ap (λ (x : FrameKind). arp_if x f) k)))
+          by Martian k h =
+              still _ h (Sent.refuses_good c l (f ∷ F) (G ++ []) old.link (wider (ap (λ (x : FrameKind). arp_if x f) k)))
+          by Arp k h =
+              still _ h (same (f ∷ F) G _ (Sent.hears_good c l F G f (ap (λ (x : FrameKind). arp_if x f) k) old.link
+              good))
+          by Other k h =
+              still _ h (Sent.ignores_good c l (f ∷ F) (G ++ []) old.link (wider (ap (λ (x : FrameKind). arp_if x f) k)))
   act_makes F G old new (Goes_out f) good is =
-      subst (λ (x : Option (List ℕ) × Host). Makes F G F old.machine x.1.machine x.1.link [] (option_to_list x.0)) (sym is) (gives_makes F G old good)
+      subst (λ (x : Option (List ℕ) × Host). Makes F G F old.machine x.1.machine x.1.link [] (option_to_list x.0))
+      (sym is) (gives_makes F G old good)
   act_makes F G old new Clock good is = record {
     turns = record { event = Tick; reply = Done } ∷ [];
     leads = (tt, new.machine, is.machine, refl);
@@ -213,9 +265,11 @@ module _ (c : Config) (l : Link) where
     sent = tt;
   }
   act_makes F G old new (Asks_error fd fault) good is =
-      subst (λ (x : Result (Option NetFault) Errno × Host). Makes F G F old.machine x.1.machine x.1.link [] []) (sym is) (go (socket_at fd old.machine))
+      subst (λ (x : Result (Option NetFault) Errno × Host). Makes F G F old.machine x.1.machine x.1.link [] []) (sym is)
+      (go (socket_at fd old.machine))
     where
-      go : (me : Option Socket) → Makes F G F old.machine (error_of_socket me old).1.machine (error_of_socket me old).1.link [] []
+      go : (me : Option Socket) → Makes F G F old.machine (error_of_socket me old).1.machine
+          (error_of_socket me old).1.link [] []
       go None = quiet F G old.machine old.machine old.link refl good
       go (Some me) = quiet F G old.machine old.machine _ refl (Sent.takes_good c l F G me.port me.peer old.link good)
 
@@ -233,7 +287,8 @@ module _ (c : Config) (l : Link) where
     good : Good (all_then acts F) (G ++ filter_map packet_out turns) link
     sent : AreSent c l (G ++ filter_map packet_out turns) F acts
 
-  acts_make : (F G : List (List ℕ)) (old new : Host) (acts : List Act) → Good F G old.link → AreActs old acts new → MakesAll F G old.machine new.machine new.link acts
+  acts_make : (F G : List (List ℕ)) (old new : Host) (acts : List Act) → Good F G old.link → AreActs old acts new
+      → MakesAll F G old.machine new.machine new.link acts
   acts_make F G old new [] good done = record {
     turns = [];
     leads = ap (λ (h : Host). h.machine) done;
@@ -244,22 +299,37 @@ module _ (c : Config) (l : Link) where
   acts_make F G old new (act ∷ acts) good (mid, is, later) =
       let a = act_makes F G old mid act good is in
       let b = acts_make (frames_then act F) (G ++ filter_map packet_out a.turns) mid new acts a.good later in
-      let out : (G ++ filter_map packet_out a.turns) ++ filter_map packet_out b.turns ≡ G ++ filter_map packet_out (a.turns ++ b.turns) =
-      append_assoc G (filter_map packet_out a.turns) (filter_map packet_out b.turns) ∙ ap (λ xs. G ++ xs) (sym (filter_map-append packet_out a.turns b.turns)) in
-      let sent : Each (IsSent c l F ((G ++ filter_map packet_out a.turns) ++ filter_map packet_out b.turns)) (frame_out act) =
-      each-weaker (λ f given. Sent.more_sent c l F (G ++ filter_map packet_out a.turns) (filter_map packet_out b.turns) f given) (frame_out act) a.sent in
+      let out : (G ++ filter_map packet_out a.turns) ++ filter_map packet_out b.turns
+      ≡ G ++ filter_map packet_out (a.turns ++ b.turns) =
+      append_assoc G (filter_map packet_out a.turns) (filter_map packet_out b.turns)
+      ∙ ap (λ xs. G ++ xs) (sym (filter_map-append packet_out a.turns b.turns)) in
+      let sent : Each (IsSent c l F ((G ++ filter_map packet_out a.turns) ++ filter_map packet_out b.turns))
+      (frame_out act) =
+      each-weaker (λ f given. Sent.more_sent c l F (G ++ filter_map packet_out a.turns) (filter_map packet_out b.turns)
+      f given) (frame_out act) a.sent in
       record {
         turns = a.turns ++ b.turns;
         leads = then_leads old.machine mid.machine new.machine a.turns b.turns a.leads b.leads;
-        in' = filter_map-append packet_in a.turns b.turns ∙ ap (λ xs. xs ++ filter_map packet_in b.turns) a.in' ∙ ap (λ xs. packets_in c l.mac act ++ xs) b.in';
+        in' =
+            filter_map-append packet_in a.turns b.turns ∙ ap (λ xs. xs ++ filter_map packet_in b.turns) a.in'
+            ∙ ap (λ xs. packets_in c l.mac act ++ xs) b.in';
         good = subst (λ H. Good (all_then acts (frames_then act F)) H new.link) out b.good;
         sent = subst (λ H. AreSent c l H F (act ∷ acts)) out (All-from_recursion _ (frame_out act) sent, b.sent);
       }
 
   up_good : Good [] [] (host_up c l).link
-  up_good = record { config = refl; link = refl; neighbours = tt; distinct = tt; held = tt; answer = λ p e. absurd (none-some p e) }
+  up_good =
+      record {
+        config = refl;
+        link = refl;
+        neighbours = tt;
+        distinct = tt;
+        held = tt;
+        answer = λ p e. absurd (none-some p e);
+      }
 
-  abbrev made_by : (acts : List Act) (new : Host) → MakesAll [] [] (host_up c l).machine new.machine new.link acts → MakesTurns c l acts new
+  abbrev made_by : (acts : List Act) (new : Host) → MakesAll [] [] (host_up c l).machine new.machine new.link acts
+      → MakesTurns c l acts new
   made_by acts new m = record { turns = m.turns; leads = m.leads; came = m.in'; went = m.sent }
 
   pub makes_turns : (acts : List Act) (new : Host) → AreActs (host_up c l) acts new → MakesTurns c l acts new
@@ -267,7 +337,8 @@ module _ (c : Config) (l : Link) where
 
   -- ---- a call among other acts
 
-  acts_split : (old new : Host) (xs ys : List Act) → AreActs old (xs ++ ys) new → (mid : Host) × AreActs old xs mid × AreActs mid ys new
+  acts_split : (old new : Host) (xs ys : List Act) → AreActs old (xs ++ ys) new
+      → (mid : Host) × AreActs old xs mid × AreActs mid ys new
   acts_split old new [] ys h = (old, refl, h)
   acts_split old new (x ∷ xs) ys (next, is, rest) =
       let r = acts_split next new xs ys rest in
@@ -275,16 +346,21 @@ module _ (c : Config) (l : Link) where
 
   packets_append : (xs ys : List Act) → packets_to c l.mac (xs ++ ys) ≡ packets_to c l.mac xs ++ packets_to c l.mac ys
   packets_append [] ys = refl
-  packets_append (x ∷ xs) ys = ap (λ ps. packets_in c l.mac x ++ ps) (packets_append xs ys) ∙ sym (append_assoc (packets_in c l.mac x) (packets_to c l.mac xs) (packets_to c l.mac ys))
+  packets_append (x ∷ xs) ys =
+      ap (λ ps. packets_in c l.mac x ++ ps) (packets_append xs ys)
+      ∙ sym (append_assoc (packets_in c l.mac x) (packets_to c l.mac xs) (packets_to c l.mac ys))
 
-  sent_append : (G F : List (List ℕ)) (xs ys : List Act) → AreSent c l G F xs → AreSent c l G (all_then xs F) ys → AreSent c l G F (xs ++ ys)
+  sent_append : (G F : List (List ℕ)) (xs ys : List Act) → AreSent c l G F xs → AreSent c l G (all_then xs F) ys
+      → AreSent c l G F (xs ++ ys)
   sent_append G F [] ys h k = k
   sent_append G F (x ∷ xs) ys h k = (h.0, sent_append G (frames_then x F) xs ys h.1 k)
 
   more_all : (G G' F : List (List ℕ)) (acts : List Act) → AreSent c l G F acts → AreSent c l (G ++ G') F acts
   more_all G G' F [] h = tt
   more_all G G' F (act ∷ acts) h = (
-    All-from_recursion _ (frame_out act) (each-weaker (λ f is. Sent.more_sent c l F G G' f is) (frame_out act) (recursion_from_All (IsSent c l F G) (frame_out act) h.0)),
+    All-from_recursion _ (frame_out act)
+        (each-weaker (λ f is. Sent.more_sent c l F G G' f is) (frame_out act)
+        (recursion_from_All (IsSent c l F G) (frame_out act) h.0)),
     more_all G G' (frames_then act F) acts h.1,
   )
 
@@ -296,16 +372,21 @@ module _ (c : Config) (l : Link) where
     pub all : MakesTurns c l (before ++ Calls turn ∷ after) new
     pub turns_are : all.turns ≡ first.turns ++ turn ∷ rest
 
-  pub split : (before after : List Act) (turn : Turn) (new : Host) → AreActs (host_up c l) (before ++ Calls turn ∷ after) new → IsSplit before after turn new
+  pub split : (before after : List Act) (turn : Turn) (new : Host)
+      → AreActs (host_up c l) (before ++ Calls turn ∷ after) new → IsSplit before after turn new
   split before after turn new acts = go (acts_split (host_up c l) new before (Calls turn ∷ after) acts)
     where
-      go : (mid : Host) × AreActs (host_up c l) before mid × AreActs mid (Calls turn ∷ after) new → IsSplit before after turn new
+      go : (mid : Host) × AreActs (host_up c l) before mid × AreActs mid (Calls turn ∷ after) new
+          → IsSplit before after turn new
       go (mid, early, (next, is, late)) =
           let a = acts_make [] [] (host_up c l) mid before up_good early in
           let out : List (List ℕ) = filter_map packet_out a.turns in
           let call : List (List ℕ) = filter_map packet_out (turn ∷ []) in
-          let b = acts_make (all_then before []) (out ++ call) next new after (calls_good (all_then before []) out mid next turn a.good is) late in
-          let given : (out ++ call) ++ filter_map packet_out b.turns ≡ filter_map packet_out (a.turns ++ turn ∷ b.turns) =
+          let b =
+          acts_make (all_then before []) (out ++ call) next new after
+          (calls_good (all_then before []) out mid next turn a.good is) late in
+          let given : (out ++ call) ++ filter_map packet_out b.turns
+          ≡ filter_map packet_out (a.turns ++ turn ∷ b.turns) =
           append_assoc out call (filter_map packet_out b.turns)
           ∙ ap (λ xs. out ++ xs) (sym (filter_map-append packet_out (turn ∷ []) b.turns))
           ∙ sym (filter_map-append packet_out a.turns (turn ∷ b.turns)) in
@@ -317,13 +398,18 @@ module _ (c : Config) (l : Link) where
             rest = b.turns;
             all = record {
               turns = a.turns ++ turn ∷ b.turns;
-              leads = then_leads (host_up c l).machine mid.machine new.machine a.turns (turn ∷ b.turns) a.leads (is.event, next.machine, is.machine, b.leads);
+              leads =
+                  then_leads (host_up c l).machine mid.machine new.machine a.turns (turn ∷ b.turns) a.leads
+                  (is.event, next.machine, is.machine, b.leads);
               came = filter_map-append packet_in a.turns (turn ∷ b.turns)
                   ∙ ap (λ xs. xs ++ filter_map packet_in (turn ∷ b.turns)) a.in'
-                  ∙ ap (λ xs. packets_to c l.mac before ++ xs) (filter_map-append packet_in (turn ∷ []) b.turns ∙ ap (λ xs. filter_map packet_in (turn ∷ []) ++ xs) b.in')
+                  ∙ ap (λ xs. packets_to c l.mac before ++ xs)
+                  (filter_map-append packet_in (turn ∷ []) b.turns
+                  ∙ ap (λ xs. filter_map packet_in (turn ∷ []) ++ xs) b.in')
                   ∙ sym (packets_append before (Calls turn ∷ after));
               went = subst (λ H. AreSent c l H [] (before ++ Calls turn ∷ after)) given
-                  (sent_append ((out ++ call) ++ filter_map packet_out b.turns) [] before (Calls turn ∷ after) early_sent (All-from_recursion _ [] tt, b.sent));
+                  (sent_append ((out ++ call) ++ filter_map packet_out b.turns) [] before (Calls turn ∷ after)
+                  early_sent (All-from_recursion _ [] tt, b.sent));
             };
             turns_are = refl;
           }

@@ -52,7 +52,14 @@ module _ (c : Config) (l : Link) (F G G' : List (List ℕ)) where
 
   pub more_sent : (f : List ℕ) → IsSent c l F G f → IsSent c l F (G ++ G') f
   more_sent f (inl h) = inl h
-  more_sent f (inr h) = inr (record { packet = h.packet; mac = h.mac; frame_is = h.frame_is; made = more_made h.packet h.made; route = h.route })
+  more_sent f (inr h) =
+      inr (record {
+        packet = h.packet;
+        mac = h.mac;
+        frame_is = h.frame_is;
+        made = more_made h.packet h.made;
+        route = h.route;
+      })
 
 -- one frame more
 module _ (c : Config) (F G : List (List ℕ)) (f : List ℕ) where
@@ -90,16 +97,21 @@ module _ (c : Config) (l : Link) (F G : List (List ℕ)) where
 
   -- ---- the table
 
-  put_good : (n : Neighbour) (ns : List Neighbour) → IsKnown n → AreDistinct ns → Each IsKnown ns → Each IsKnown (put n ns)
+  put_good : (n : Neighbour) (ns : List Neighbour) → IsKnown n → AreDistinct ns → Each IsKnown ns
+      → Each IsKnown (put n ns)
   put_good n ns is d h = put_each IsKnown n ns is d (each-weaker (λ m known other. known) ns h)
 
-  known_mac : (hop : ℕ) (mac : Mac) (ns : List Neighbour) → Each IsKnown ns → mac_of hop ns ≡ Some mac → last_told c l hop F ≡ Some mac
+  known_mac : (hop : ℕ) (mac : Mac) (ns : List Neighbour) → Each IsKnown ns → mac_of hop ns ≡ Some mac
+      → last_told c l hop F ≡ Some mac
   known_mac hop mac ns h e = go (place_of hop ns) refl e
     where
-      there : (at : ℕ) (o : Option Neighbour) → place_of hop ns ≡ Some at → slice_get ns at ≡ o → mac_in o ≡ Some mac → last_told c l hop F ≡ Some mac
+      there : (at : ℕ) (o : Option Neighbour) → place_of hop ns ≡ Some at → slice_get ns at ≡ o → mac_in o ≡ Some mac
+          → last_told c l hop F ≡ Some mac
       there at None p g is = absurd (none-some mac is)
       there at (Some n) p g is =
-          let passes : has_ip hop n ≡ true = subst (λ (x : Neighbour). has_ip hop x ≡ true) (get_or_of_get ns at n g) (position-Some (has_ip hop) ns at n p).1 in
+          let passes : has_ip hop n ≡ true =
+          subst (λ (x : Neighbour). has_ip hop x ≡ true) (get_or_of_get ns at n g)
+          (position-Some (has_ip hop) ns at n p).1 in
           let known : IsKnown n = each-get IsKnown ns at n h g in
           subst (λ ip. last_told c l ip F ≡ Some mac) (eqb-true n.ip hop passes) (known.told mac is)
 
@@ -110,9 +122,12 @@ module _ (c : Config) (l : Link) (F G : List (List ℕ)) where
   -- ---- packets that go
 
   route_is : (s : LinkState) (packet : List ℕ) (w : Route) → IsGood s → route_of s packet ≡ w → route_to c l packet ≡ w
-  route_is s packet w good e = ap (λ (x : Config). route_to x l packet) (sym good.config) ∙ ap (λ (x : Link). route_to s.config x packet) (sym good.link) ∙ e
+  route_is s packet w good e =
+      ap (λ (x : Config). route_to x l packet) (sym good.config)
+      ∙ ap (λ (x : Link). route_to s.config x packet) (sym good.link) ∙ e
 
-  carried : (s : LinkState) (packet : List ℕ) (mac : Mac) → IsGood s → IsMade c F G packet → IsRoute c l F packet mac → (f : List ℕ)
+  carried : (s : LinkState) (packet : List ℕ) (mac : Mac) → IsGood s → IsMade c F G packet → IsRoute c l F packet mac
+      → (f : List ℕ)
       → Some (frame mac s.link.mac 0x0800 packet) ≡ Some f → IsSent c l F G f
   carried s packet mac good made route f e = inr (record {
     packet = packet;
@@ -122,45 +137,100 @@ module _ (c : Config) (l : Link) (F G : List (List ℕ)) where
     route = route;
   })
 
-  holds_good : (hop : ℕ) (packet : List ℕ) (s : LinkState) → IsGood s → IsWaiting (record { hop = hop; packet = packet }) → IsGood (holds hop packet s)
+  holds_good : (hop : ℕ) (packet : List ℕ) (s : LinkState) → IsGood s
+      → IsWaiting (record { hop = hop; packet = packet }) → IsGood (holds hop packet s)
   holds_good hop packet s good is =
-      by_test IsGood (nat_lt 1500 (length packet)) (finds_long s) (takes_place hop packet (cond (nat_lt (length s.held) 8) s (drops_first s)))
-      (record { config = good.config; link = good.link; neighbours = good.neighbours; distinct = good.distinct; held = good.held; answer = good.answer })
+      by_test IsGood (nat_lt 1500 (length packet)) (finds_long s)
+      (takes_place hop packet (cond (nat_lt (length s.held) 8) s (drops_first s)))
+      (record {
+        config = good.config;
+        link = good.link;
+        neighbours = good.neighbours;
+        distinct = good.distinct;
+        held = good.held;
+        answer = good.answer;
+      })
       (takes (cond (nat_lt (length s.held) 8) s (drops_first s)) room)
     where
       room : IsGood (cond (nat_lt (length s.held) 8) s (drops_first s))
       room = by_test IsGood (nat_lt (length s.held) 8) s (drops_first s) good
-          (record { config = good.config; link = good.link; neighbours = good.neighbours; distinct = good.distinct; held = each-drop IsWaiting 1 s.held good.held; answer = good.answer })
+          (record {
+            config = good.config;
+            link = good.link;
+            neighbours = good.neighbours;
+            distinct = good.distinct;
+            held = each-drop IsWaiting 1 s.held good.held;
+            answer = good.answer;
+          })
 
       takes : (t : LinkState) → IsGood t → IsGood (takes_place hop packet t)
-      takes t g = record { config = g.config; link = g.link; neighbours = g.neighbours; distinct = g.distinct; held = each-append IsWaiting t.held (record { hop = hop; packet = packet } ∷ []) g.held (is, tt); answer = g.answer }
+      takes t g =
+          record {
+            config = g.config;
+            link = g.link;
+            neighbours = g.neighbours;
+            distinct = g.distinct;
+            held =
+                each-append IsWaiting t.held (record { hop = hop; packet = packet } ∷ []) g.held (is, tt);
+            answer =
+                g.answer;
+          }
 
   no_mac_known : (ip : ℕ) → IsKnown (unknown ip)
   no_mac_known ip = record { told = λ mac e. absurd (none-some mac e); near = λ mac e. absurd (none-some mac e) }
 
   asks_good : (hop : ℕ) (s : LinkState) → IsGood s → IsGood (asks hop s)
   asks_good hop s good =
-      by_test IsGood (is_some (place_of hop s.neighbours)) s (record s { neighbours = put (unknown hop) s.neighbours }) good
-      (record { config = good.config; link = good.link; neighbours = put_good (unknown hop) s.neighbours (no_mac_known hop) good.distinct good.neighbours; distinct = put_distinct (unknown hop) s.neighbours good.distinct; held = good.held; answer = good.answer })
+      by_test IsGood (is_some (place_of hop s.neighbours)) s (record s { neighbours = put (unknown hop) s.neighbours })
+      good
+      (record {
+        config = good.config;
+        link = good.link;
+        neighbours =
+            put_good (unknown hop) s.neighbours (no_mac_known hop) good.distinct good.neighbours;
+        distinct =
+            put_distinct (unknown hop) s.neighbours good.distinct;
+        held = good.held;
+        answer = good.answer;
+      })
 
   pub sends_given : (packet : List ℕ) (s : LinkState) → IsGood s → IsMade c F G packet → IsGiven (sends packet s)
   sends_given packet s good made = by (route_of s packet) refl
     where
-      to : (hop : ℕ) (mac : Option Mac) → route_of s packet ≡ Hop hop → mac_of hop s.neighbours ≡ mac → IsGiven (to_hop hop packet s mac)
-      to hop None w e = nothing _ (asks_good hop (holds hop packet s) (holds_good hop packet s good (record { made = made; route = route_is s packet (Hop hop) good w })))
+      to : (hop : ℕ) (mac : Option Mac) → route_of s packet ≡ Hop hop → mac_of hop s.neighbours ≡ mac
+          → IsGiven (to_hop hop packet s mac)
+      to hop None w e =
+          nothing _ (asks_good hop (holds hop packet s)
+          (holds_good hop packet s good (record { made = made; route = route_is s packet (Hop hop) good w })))
       to hop (Some mac) w e = record {
         good = good;
-        sent = carried s packet mac good made (inr (hop, route_is s packet (Hop hop) good w, known_mac hop mac s.neighbours good.neighbours e));
+        sent =
+            carried s packet mac good made
+            (inr (hop, route_is s packet (Hop hop) good w, known_mac hop mac s.neighbours good.neighbours e));
       }
 
       by : (w : Route) → route_of s packet ≡ w → IsGiven (by_route packet s w)
-      by All e = record { good = good; sent = carried s packet ether_broadcast good made (inl (route_is s packet All good e, refl)) }
+      by All e =
+          record {
+            good = good;
+            sent = carried s packet ether_broadcast good made
+                (inl (route_is s packet All good e, refl));
+          }
       by (Hop hop) e = to hop (mac_of hop s.neighbours) e refl
-      by NoRoute e = nothing _ (record { config = good.config; link = good.link; neighbours = good.neighbours; distinct = good.distinct; held = good.held; answer = good.answer })
+      by NoRoute e =
+          nothing _ (record {
+            config = good.config;
+            link = good.link;
+            neighbours = good.neighbours;
+            distinct = good.distinct;
+            held = good.held;
+            answer = good.answer;
+          })
 
   -- ---- the link's own frames
 
-  arp_sent : (s : LinkState) (op sender : ℕ) (to target_mac : Mac) (target : ℕ) → IsGood s → (sender ≡ s.config.addr) ⊎ (sender ≡ 0) → (f : List ℕ)
+  arp_sent : (s : LinkState) (op sender : ℕ) (to target_mac : Mac) (target : ℕ) → IsGood s
+      → (sender ≡ s.config.addr) ⊎ (sender ≡ 0) → (f : List ℕ)
       → Some (frame to s.link.mac 0x0806 (arp_bytes op s.link.mac sender target_mac target)) ≡ Some f → IsSent c l F G f
   arp_sent s op sender to target_mac target good from f e = inl (record {
     op = op;
@@ -169,7 +239,9 @@ module _ (c : Config) (l : Link) (F G : List (List ℕ)) where
     to = to;
     target_mac = target_mac;
     target = target;
-    frame_is = sym (same_Some _ f e) ∙ ap (λ (x : Link). frame to x.mac 0x0806 (arp_bytes op x.mac sender target_mac target)) good.link;
+    frame_is =
+        sym (same_Some _ f e) ∙ ap (λ (x : Link). frame to x.mac 0x0806 (arp_bytes op x.mac sender target_mac target))
+        good.link;
   })
     where
       go : (sender ≡ s.config.addr) ⊎ (sender ≡ 0) → (sender ≡ c.addr) ⊎ (sender ≡ 0)
@@ -180,12 +252,21 @@ module _ (c : Config) (l : Link) (F G : List (List ℕ)) where
   claim_given s good = go (claim_due s.claim)
     where
       sent : IsGood (record s { claim = claim_sent s.claim })
-      sent = record { config = good.config; link = good.link; neighbours = good.neighbours; distinct = good.distinct; held = good.held; answer = good.answer }
+      sent =
+          record {
+            config = good.config;
+            link = good.link;
+            neighbours = good.neighbours;
+            distinct = good.distinct;
+            held = good.held;
+            answer = good.answer;
+          }
 
       go : (due : ClaimFrame) → IsGiven (claim_frame due s)
       go Nothing = nothing s good
       go Probe = record { good = sent; sent = arp_sent s 1 0 ether_broadcast no_mac s.config.addr good (inr refl) }
-      go Announcement = record { good = sent; sent = arp_sent s 1 s.config.addr ether_broadcast no_mac s.config.addr good (inl refl) }
+      go Announcement =
+          record { good = sent; sent = arp_sent s 1 s.config.addr ether_broadcast no_mac s.config.addr good (inl refl) }
 
   reply_given : (s : LinkState) → IsGood s → IsGiven (gives_reply s)
   reply_given s good = go s.replies
@@ -193,7 +274,15 @@ module _ (c : Config) (l : Link) (F G : List (List ℕ)) where
       go : (replies : List PendingReply) → IsGiven (replies_to replies s)
       go [] = nothing s good
       go (o ∷ later) = record {
-        good = record { config = good.config; link = good.link; neighbours = good.neighbours; distinct = good.distinct; held = good.held; answer = good.answer };
+        good =
+            record {
+              config = good.config;
+              link = good.link;
+              neighbours = good.neighbours;
+              distinct = good.distinct;
+              held = good.held;
+              answer = good.answer;
+            };
         sent = arp_sent s 2 s.config.addr o.mac o.mac o.ip good (inl refl);
       }
 
@@ -208,7 +297,9 @@ module _ (c : Config) (l : Link) (F G : List (List ℕ)) where
             good = record {
               config = good.config;
               link = good.link;
-              neighbours = each_again IsKnown (λ m is. record { told = is.told; near = is.near }) s.neighbours at (unknown 0) good.neighbours;
+              neighbours =
+                  each_again IsKnown (λ m is. record { told = is.told; near = is.near }) s.neighbours at (unknown 0)
+                  good.neighbours;
               distinct = distinct_again s.neighbours at (unknown 0) good.distinct;
               held = good.held;
               answer = good.answer;
@@ -222,11 +313,14 @@ module _ (c : Config) (l : Link) (F G : List (List ℕ)) where
     at : slice_get hs found.0 ≡ Some h
     told : last_told c l h.hop F ≡ Some found.1
 
-  found_ready : (ns : List Neighbour) (hs : List Held) (found : ℕ × Mac) → Each IsKnown ns → first_ready ns hs ≡ Some found → IsFound hs found
+  found_ready : (ns : List Neighbour) (hs : List Held) (found : ℕ × Mac) → Each IsKnown ns
+      → first_ready ns hs ≡ Some found → IsFound hs found
   found_ready ns [] found known e = absurd (none-some found e)
-  found_ready ns (h ∷ hs) found known e = go (λ next f. found_ready ns hs next known f) (mac_of h.hop ns) (first_ready ns hs) refl refl e
+  found_ready ns (h ∷ hs) found known e =
+      go (λ next f. found_ready ns hs next known f) (mac_of h.hop ns) (first_ready ns hs) refl refl e
     where
-      go : ((next : ℕ × Mac) → first_ready ns hs ≡ Some next → IsFound hs next) → (o : Option Mac) (later : Option (ℕ × Mac)) → mac_of h.hop ns ≡ o → first_ready ns hs ≡ later
+      go : ((next : ℕ × Mac) → first_ready ns hs ≡ Some next → IsFound hs next)
+          → (o : Option Mac) (later : Option (ℕ × Mac)) → mac_of h.hop ns ≡ o → first_ready ns hs ≡ later
           → ready_or o later ≡ Some found → IsFound (h ∷ hs) found
       go rest (Some mac) later m f is =
           let same : (0, mac) ≡ found = same_Some (0, mac) found is in
@@ -235,36 +329,59 @@ module _ (c : Config) (l : Link) (F G : List (List ℕ)) where
       go rest None (Some next) m f is =
           let n = rest next f in
           let same : (next.0 + 1, next.1) ≡ found = same_Some (next.0 + 1, next.1) found is in
-          subst (IsFound (h ∷ hs)) same (record { h = n.h; at = ap (slice_get (h ∷ hs)) (add-one next.0) ∙ n.at; told = n.told })
+          subst (IsFound (h ∷ hs)) same (record
+          { h = n.h; at = ap (slice_get (h ∷ hs)) (add-one next.0) ∙ n.at; told = n.told })
 
   held_given : (s : LinkState) → IsGood s → IsGiven (gives_held s)
   held_given s good = go (first_ready s.neighbours s.held) refl
     where
-      of : (at : ℕ) (mac : Mac) (h h' : Option Held) → slice_get s.held at ≡ h → IsFound s.held (at, mac) → IsGiven (sends_held at mac h s)
+      of : (at : ℕ) (mac : Mac) (h h' : Option Held) → slice_get s.held at ≡ h → IsFound s.held (at, mac)
+          → IsGiven (sends_held at mac h s)
       of at mac None h' e is = nothing s good
       of at mac (Some h) h' e is =
           let same : is.h ≡ h = same_Some is.h h (sym is.at ∙ e) in
           let waits : IsWaiting h = each-get IsWaiting s.held at h good.held e in
           record {
-            good = record { config = good.config; link = good.link; neighbours = good.neighbours; distinct = good.distinct; held = each-remove IsWaiting s.held at good.held; answer = good.answer };
-            sent = carried s h.packet mac good waits.made (inr (h.hop, waits.route, subst (λ (x : Held). last_told c l x.hop F ≡ Some mac) same is.told));
+            good =
+                record {
+                  config = good.config;
+                  link = good.link;
+                  neighbours = good.neighbours;
+                  distinct = good.distinct;
+                  held = each-remove IsWaiting s.held at good.held;
+                  answer = good.answer;
+                };
+            sent =
+                carried s h.packet mac good waits.made
+                (inr (h.hop, waits.route, subst (λ (x : Held). last_told c l x.hop F ≡ Some mac) same is.told));
           }
 
       go : (found : Option (ℕ × Mac)) → first_ready s.neighbours s.held ≡ found → IsGiven (sends_at found s)
       go None e = nothing s good
-      go (Some found) e = of found.0 found.1 (slice_get s.held found.0) None refl (found_ready s.neighbours s.held found good.neighbours e)
+      go (Some found) e =
+          of found.0 found.1 (slice_get s.held found.0) None refl
+          (found_ready s.neighbours s.held found good.neighbours e)
 
   answer_given : (s : LinkState) → IsGood s → IsGiven (gives_answer s)
   answer_given s good = go s.answer refl
     where
       free : IsGood (record s { answer = None })
-      free = record { config = good.config; link = good.link; neighbours = good.neighbours; distinct = good.distinct; held = good.held; answer = λ p e. absurd (none-some p e) }
+      free =
+          record {
+            config = good.config;
+            link = good.link;
+            neighbours = good.neighbours;
+            distinct = good.distinct;
+            held = good.held;
+            answer = λ p e. absurd (none-some p e);
+          }
 
       go : (answer : Option (List ℕ)) → s.answer ≡ answer → IsGiven (sends_answer answer s)
       go None e = nothing s good
       go (Some packet) e = sends_given packet (record s { answer = None }) free (good.answer packet e)
 
-  or_given : (g : Gives) (next : LinkState → Gives) → IsGiven g → ((s : LinkState) → IsGood s → IsGiven (next s)) → IsGiven (or_then g next)
+  or_given : (g : Gives) (next : LinkState → Gives) → IsGiven g → ((s : LinkState) → IsGood s → IsGiven (next s))
+      → IsGiven (or_then g next)
   or_given g next first second = go (is_some g.0)
     where
       go : (b : Bool) → IsGiven (cond b g (next g.1))
@@ -276,12 +393,15 @@ module _ (c : Config) (l : Link) (F G : List (List ℕ)) where
       let first : Gives = or_then (gives_claim s) gives_reply in
       let second : Gives = or_then first gives_request in
       let third : Gives = or_then second gives_held in
-      or_given third gives_answer (or_given second gives_held (or_given first gives_request (or_given (gives_claim s) gives_reply (claim_given s good) reply_given) request_given) held_given) answer_given
+      or_given third gives_answer (or_given second gives_held
+      (or_given first gives_request (or_given (gives_claim s) gives_reply (claim_given s good) reply_given)
+      request_given) held_given) answer_given
 
   -- ---- what comes, and the clock
 
   -- a change of what no packet and no address depends on
-  same_good : (s t : LinkState) → IsGood s → t.config ≡ s.config → t.link ≡ s.link → t.neighbours ≡ s.neighbours → t.held ≡ s.held → t.answer ≡ s.answer → IsGood t
+  same_good : (s t : LinkState) → IsGood s → t.config ≡ s.config → t.link ≡ s.link → t.neighbours ≡ s.neighbours
+      → t.held ≡ s.held → t.answer ≡ s.answer → IsGood t
   same_good s t good a b n h w = record {
     config = a ∙ good.config;
     link = b ∙ good.link;
@@ -306,11 +426,14 @@ module _ (c : Config) (l : Link) (F G : List (List ℕ)) where
   owes_good : (a : Arp) (s : LinkState) → IsGood s → IsGood (owes a s)
   owes_good a s good = go (is_asked s a)
     where
-      inner : (b : Bool) → IsGood (cond b (record s { replies = s.replies ++ record { mac = a.mac; ip = a.ip } ∷ [] }) (record s { tallies = record s.tallies { replies_dropped = more_by 1 s.tallies.replies_dropped } }))
+      inner : (b : Bool) → IsGood (cond b (record s { replies = s.replies ++ record { mac = a.mac; ip = a.ip } ∷ [] })
+          (record s { tallies = record s.tallies { replies_dropped = more_by 1 s.tallies.replies_dropped } }))
       inner true = same_good s _ good refl refl refl refl refl
       inner false = same_good s _ good refl refl refl refl refl
 
-      go : (b : Bool) → IsGood (cond b (cond (nat_lt (length s.replies) 8) (record s { replies = s.replies ++ record { mac = a.mac; ip = a.ip } ∷ [] }) (record s { tallies = record s.tallies { replies_dropped = more_by 1 s.tallies.replies_dropped } })) s)
+      go : (b : Bool) → IsGood (cond b
+          (cond (nat_lt (length s.replies) 8) (record s { replies = s.replies ++ record { mac = a.mac; ip = a.ip } ∷ [] })
+          (record s { tallies = record s.tallies { replies_dropped = more_by 1 s.tallies.replies_dropped } })) s)
       go true = inner (nat_lt (length s.replies) 8)
       go false = good
 
@@ -326,7 +449,8 @@ module _ (c : Config) (l : Link) (F G : List (List ℕ)) where
   takes_at_good None s good = good
   takes_at_good (Some at) s good = same_good s _ good refl refl refl refl refl
 
-  pub takes_good : (port : Option ℕ) (peer : Option Addr) (s : LinkState) → IsGood s → IsGood (takes_error port peer s).1
+  pub takes_good : (port : Option ℕ) (peer : Option Addr) (s : LinkState) → IsGood s
+      → IsGood (takes_error port peer s).1
   takes_good None peer s good = good
   takes_good (Some port) None s good = good
   takes_good (Some port) (Some peer) s good = takes_at_good (error_at port peer s.errors) s good
@@ -335,32 +459,56 @@ module _ (c : Config) (l : Link) (F G : List (List ℕ)) where
   ticks_good s good = record {
     config = good.config;
     link = good.link;
-    neighbours = each-filter IsKnown stays (map aged s.neighbours) (each-map IsKnown aged (λ n is. record { told = is.told; near = is.near }) s.neighbours good.neighbours);
+    neighbours =
+        each-filter IsKnown stays (map aged s.neighbours)
+        (each-map IsKnown aged (λ n is. record { told = is.told; near = is.near }) s.neighbours good.neighbours);
     distinct = distinct_stays s.neighbours good.distinct;
     held = each-filter IsWaiting (has_hope (filter stays (map aged s.neighbours))) s.held good.held;
     answer = good.answer;
   }
 
-  pub answers_good : (f : List ℕ) (a : Answer) (s : LinkState) → IsGood s → Contains F f → IsGood (answers_with a (body_of f) s)
+  pub answers_good : (f : List ℕ) (a : Answer) (s : LinkState) → IsGood s → Contains F f
+      → IsGood (answers_with a (body_of f) s)
   answers_good f Silence s good came = good
   answers_good f Echo s good came = go (is_some s.answer)
     where
       made : IsMade c F G (echo_reply s.config (body_of f))
       made = inr (f, came, inl (ap (λ (x : Config). echo_reply x (body_of f)) good.config))
 
-      go : (b : Bool) → IsGood (cond b (finds_no_place s) (counts_echo (puts_answer (echo_reply s.config (body_of f)) s)))
+      go : (b : Bool) → IsGood (cond b (finds_no_place s)
+          (counts_echo (puts_answer (echo_reply s.config (body_of f)) s)))
       go true = same_good s _ good refl refl refl refl refl
-      go false = record { config = good.config; link = good.link; neighbours = good.neighbours; distinct = good.distinct; held = good.held; answer = λ p e. subst (IsMade c F G) (same_Some _ p e) made }
+      go false =
+          record {
+            config = good.config;
+            link = good.link;
+            neighbours = good.neighbours;
+            distinct = good.distinct;
+            held = good.held;
+            answer = λ p e. subst (IsMade c F G) (same_Some _ p e) made;
+          }
   answers_good f Unreachable s good came = go (is_some s.answer) (nat_lt 0 s.unreachables)
     where
       made : IsMade c F G (port_unreachable s.config (body_of f))
       made = inr (f, came, inr (ap (λ (x : Config). port_unreachable x (body_of f)) good.config))
 
       told : LinkState
-      told = counts_unreachable (puts_answer (port_unreachable s.config (body_of f)) (record s { unreachables = s.unreachables - 1 }))
+      told =
+          counts_unreachable (puts_answer (port_unreachable s.config (body_of f))
+          (record s { unreachables = s.unreachables - 1 }))
 
-      inner : (b : Bool) → IsGood (cond b (counts_unreachable (puts_answer (port_unreachable s.config (body_of f)) (record s { unreachables = s.unreachables - 1 }))) (limits s))
-      inner true = record { config = good.config; link = good.link; neighbours = good.neighbours; distinct = good.distinct; held = good.held; answer = λ p e. subst (IsMade c F G) (same_Some _ p e) made }
+      inner : (b : Bool) → IsGood (cond b
+          (counts_unreachable (puts_answer (port_unreachable s.config (body_of f))
+          (record s { unreachables = s.unreachables - 1 }))) (limits s))
+      inner true =
+          record {
+            config = good.config;
+            link = good.link;
+            neighbours = good.neighbours;
+            distinct = good.distinct;
+            held = good.held;
+            answer = λ p e. subst (IsMade c F G) (same_Some _ p e) made;
+          }
       inner false = same_good s _ good refl refl refl refl refl
 
       go : (b d : Bool) → IsGood (cond b (finds_no_place s) (tells_unreachable (body_of f) s))
@@ -389,27 +537,37 @@ module _ (c : Config) (l : Link) (F G : List (List ℕ)) (f : List ℕ) where
   here = All-head (Contains (f ∷ F)) f F (All-contains_itself (f ∷ F))
 
   -- what is known stays so of those of whom the frame says nothing
-  later_good : (s t : LinkState) → Good F s → t.config ≡ s.config → t.link ≡ s.link → t.held ≡ s.held → t.answer ≡ s.answer
+  later_good : (s t : LinkState) → Good F s → t.config ≡ s.config → t.link ≡ s.link → t.held ≡ s.held
+      → t.answer ≡ s.answer
       → Each (IsKnown c l (f ∷ F) G) t.neighbours → AreDistinct t.neighbours → Good (f ∷ F) t
   later_good s t good a b h w known distinct = record {
     config = a ∙ good.config;
     link = b ∙ good.link;
     neighbours = known;
     distinct = distinct;
-    held = subst (Each (IsWaiting c l (f ∷ F) G)) (sym h) (each-weaker (λ x is. record { made = later_made c F G f x.packet is.made; route = is.route }) s.held good.held);
+    held =
+        subst (Each (IsWaiting c l (f ∷ F) G)) (sym h)
+        (each-weaker (λ x is. record { made = later_made c F G f x.packet is.made; route = is.route }) s.held
+        good.held);
     answer = λ p e. later_made c F G f p (good.answer p (sym w ∙ e));
   }
 
-  known_later : (n : Neighbour) → ((mac : Mac) → n.mac ≡ Some mac → Told n.ip ≡ last_told c l n.ip F) → IsKnown c l F G n → IsKnown c l (f ∷ F) G n
+  known_later : (n : Neighbour) → ((mac : Mac) → n.mac ≡ Some mac → Told n.ip ≡ last_told c l n.ip F)
+      → IsKnown c l F G n → IsKnown c l (f ∷ F) G n
   known_later n same is = record { told = λ mac e. same mac e ∙ is.told mac e; near = is.near }
 
-  all_later : (s : LinkState) → Good F s → ((n : Neighbour) → (mac : Mac) → n.mac ≡ Some mac → is_neighbour c l n.ip ≡ true → Told n.ip ≡ last_told c l n.ip F) → Good (f ∷ F) s
+  all_later : (s : LinkState) → Good F s
+      → ((n : Neighbour) → (mac : Mac) → n.mac ≡ Some mac → is_neighbour c l n.ip ≡ true
+      → Told n.ip ≡ last_told c l n.ip F) → Good (f ∷ F) s
   all_later s good same =
-      later_good s s good refl refl refl refl (each-weaker (λ n is. known_later n (λ mac e. same n mac e (is.near mac e)) is) s.neighbours good.neighbours) good.distinct
+      later_good s s good refl refl refl refl
+      (each-weaker (λ n is. known_later n (λ mac e. same n mac e (is.near mac e)) is) s.neighbours good.neighbours)
+      good.distinct
 
   -- a frame that is no ARP packet for the host
   pub quiet_good : (s : LinkState) → Good F s → arp_if (kind_of c l.mac f) f ≡ None → Good (f ∷ F) s
-  quiet_good s good e = all_later s good (λ n mac is near. ap (λ (b : Option (List ℕ)). told_in l n.ip b (last_told c l n.ip F)) e)
+  quiet_good s good e =
+      all_later s good (λ n mac is near. ap (λ (b : Option (List ℕ)). told_in l n.ip b (last_told c l n.ip F)) e)
 
   module _ (kind : arp_if (kind_of c l.mac f) f ≡ Some (body_of f)) where
     abbrev a : Arp
@@ -421,27 +579,35 @@ module _ (c : Config) (l : Link) (F G : List (List ℕ)) (f : List ℕ) where
         ∙ ap (λ x. cond x (Some (arp_of (body_of f)).mac) (last_told c l ip F)) e
 
     unsound_good : (s : LinkState) → Good F s → is_sound_arp l (body_of f) ≡ false → Good (f ∷ F) s
-    unsound_good s good e = all_later s good (λ n mac is near. told_here n.ip false (ap (λ x. x && ((arp_of (body_of f)).ip == n.ip)) e))
+    unsound_good s good e =
+        all_later s good (λ n mac is near. told_here n.ip false (ap (λ x. x && ((arp_of (body_of f)).ip == n.ip)) e))
 
     other_told : (ip : ℕ) → ip ≢ a.ip → Told ip ≡ last_told c l ip F
     other_told ip other = go (is_sound_arp l (body_of f)) refl
       where
         go : (x : Bool) → is_sound_arp l (body_of f) ≡ x → Told ip ≡ last_told c l ip F
-        go true e = told_here ip false (ap (λ x. x && ((arp_of (body_of f)).ip == ip)) e ∙ ne_eqb _ _ (λ same. other (sym same)))
+        go true e =
+            told_here ip false (ap (λ x. x && ((arp_of (body_of f)).ip == ip)) e ∙ ne_eqb _ _ (λ same. other (sym same)))
         go false e = told_here ip false (ap (λ x. x && ((arp_of (body_of f)).ip == ip)) e)
 
-    others_good : (s : LinkState) → Good F s → ((n : Neighbour) → is_neighbour c l n.ip ≡ true → n.ip ≢ a.ip) → Good (f ∷ F) s
+    others_good : (s : LinkState) → Good F s → ((n : Neighbour) → is_neighbour c l n.ip ≡ true → n.ip ≢ a.ip)
+        → Good (f ∷ F) s
     others_good s good other = all_later s good (λ n mac is near. other_told n.ip (other n near))
 
     learns_good : (s : LinkState) → Good F s → is_sound_arp l (body_of f) ≡ true → Good (f ∷ F) (learns a s)
-    learns_good s good sound = go (is_neighbour s.config s.link a.ip) (is_some (place_of a.ip s.neighbours)) (a.target == s.config.addr) refl refl
+    learns_good s good sound =
+        go (is_neighbour s.config s.link a.ip) (is_some (place_of a.ip s.neighbours)) (a.target == s.config.addr) refl
+        refl
       where
         near_is : is_neighbour s.config s.link a.ip ≡ is_neighbour c l a.ip
-        near_is = ap (λ (x : Config). is_neighbour x s.link a.ip) good.config ∙ ap (λ (x : Link). is_neighbour c x a.ip) good.link
+        near_is =
+            ap (λ (x : Config). is_neighbour x s.link a.ip) good.config
+            ∙ ap (λ (x : Link). is_neighbour c x a.ip) good.link
 
         known : is_neighbour c l a.ip ≡ true → IsKnown c l (f ∷ F) G (heard a)
         known near = record {
-          told = λ mac e. told_here a.ip true (ap (λ x. x && ((arp_of (body_of f)).ip == a.ip)) sound ∙ eq-eqb _ _ refl) ∙ e;
+          told =
+              λ mac e. told_here a.ip true (ap (λ x. x && ((arp_of (body_of f)).ip == a.ip)) sound ∙ eq-eqb _ _ refl) ∙ e;
           near = λ mac e. near;
         }
 
@@ -449,21 +615,25 @@ module _ (c : Config) (l : Link) (F G : List (List ℕ)) (f : List ℕ) where
         puts near =
             later_good s _ good refl refl refl refl
             (put_each (IsKnown c l (f ∷ F) G) (heard a) s.neighbours (known near) good.distinct
-            (each-weaker (λ n is other. known_later n (λ mac e. other_told n.ip other) is) s.neighbours good.neighbours))
+            (each-weaker (λ n is other. known_later n (λ mac e. other_told n.ip other) is) s.neighbours
+            good.neighbours))
             (put_distinct (heard a) s.neighbours good.distinct)
 
         stays_new : place_of a.ip s.neighbours ≡ None → Good (f ∷ F) s
         stays_new e =
             later_good s s good refl refl refl refl
-            (each-both (λ n other is. known_later n (λ mac x. other_told n.ip other) is) s.neighbours (new_ip a.ip s.neighbours e) good.neighbours) good.distinct
+            (each-both (λ n other is. known_later n (λ mac x. other_told n.ip other) is) s.neighbours
+            (new_ip a.ip s.neighbours e) good.neighbours) good.distinct
 
         unplaced : (at : Option ℕ) → is_some at ≡ false → at ≡ None
         unplaced None e = refl
         unplaced (Some at) e = absurd (false≢true (sym e))
 
-        go : (near place target : Bool) → is_neighbour s.config s.link a.ip ≡ near → is_some (place_of a.ip s.neighbours) ≡ place
+        go : (near place target : Bool) → is_neighbour s.config s.link a.ip ≡ near
+            → is_some (place_of a.ip s.neighbours) ≡ place
             → Good (f ∷ F) (cond (near && (place || target)) (record s { neighbours = put (heard a) s.neighbours }) s)
-        go false place target n p = others_good s good (λ m near same. false≢true (sym n ∙ near_is ∙ ap (is_neighbour c l) (sym same) ∙ near))
+        go false place target n p =
+            others_good s good (λ m near same. false≢true (sym n ∙ near_is ∙ ap (is_neighbour c l) (sym same) ∙ near))
         go true true target n p = puts (sym near_is ∙ n)
         go true false true n p = puts (sym near_is ∙ n)
         go true false false n p = stays_new (unplaced (place_of a.ip s.neighbours) p)
@@ -472,7 +642,8 @@ module _ (c : Config) (l : Link) (F G : List (List ℕ)) (f : List ℕ) where
     conflict_others : (s : LinkState) → Good F s → is_conflict s a ≡ true → Good (f ∷ F) s
     conflict_others s good e = go (a.ip == s.config.addr) refl (is_rival s a) refl e
       where
-        go : (own : Bool) → (a.ip == s.config.addr) ≡ own → (rival : Bool) → is_rival s a ≡ rival → (own || rival) ≡ true → Good (f ∷ F) s
+        go : (own : Bool) → (a.ip == s.config.addr) ≡ own → (rival : Bool) → is_rival s a ≡ rival
+            → (own || rival) ≡ true → Good (f ∷ F) s
         go true own rival r e =
             let same : a.ip ≡ c.addr = eqb-true _ _ own ∙ ap (λ (x : Config). x.addr) good.config in
             others_good s good (λ n near is. (neighbour_other c l n.ip near).0 (is ∙ same))
@@ -490,11 +661,15 @@ module _ (c : Config) (l : Link) (F G : List (List ℕ)) (f : List ℕ) where
         sound_is = ap (λ (x : Link). is_sound_arp x (body_of f)) (sym good.link)
 
         inner : is_sound_arp l (body_of f) ≡ true → (b : Bool) → is_conflict s (arp_of (body_of f)) ≡ b
-            → Good (f ∷ F) (cond b (owes (arp_of (body_of f)) (finds_conflict s)) (owes (arp_of (body_of f)) (learns (arp_of (body_of f)) s)))
-        inner sound true e = owes_good c l (f ∷ F) G a (finds_conflict s) (conflict_good c l (f ∷ F) G s (conflict_others s good e))
+            → Good (f ∷ F) (cond b (owes (arp_of (body_of f)) (finds_conflict s))
+            (owes (arp_of (body_of f)) (learns (arp_of (body_of f)) s)))
+        inner sound true e =
+            owes_good c l (f ∷ F) G a (finds_conflict s) (conflict_good c l (f ∷ F) G s (conflict_others s good e))
         inner sound false e = owes_good c l (f ∷ F) G a (learns a s) (learns_good s good sound)
 
         go : (b : Bool) → is_sound_arp s.link (body_of f) ≡ b
-            → Good (f ∷ F) (cond b (cond (is_conflict s (arp_of (body_of f))) (owes (arp_of (body_of f)) (finds_conflict s)) (owes (arp_of (body_of f)) (learns (arp_of (body_of f)) s))) (finds_bad s))
+            → Good (f ∷ F) (cond b (cond (is_conflict s (arp_of (body_of f)))
+            (owes (arp_of (body_of f)) (finds_conflict s))
+            (owes (arp_of (body_of f)) (learns (arp_of (body_of f)) s))) (finds_bad s))
         go true e = inner (sound_is ∙ e) (is_conflict s (arp_of (body_of f))) refl
         go false e = finds_bad_good c l (f ∷ F) G s (unsound_good s good (sound_is ∙ e))

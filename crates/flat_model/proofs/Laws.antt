@@ -2,7 +2,19 @@
 -- of their own are in src/theorems.rt.
 
 -- ---- facts by cases, and facts of each element of a list
-pub use Rattle.flat_model.proofs.Lists.Each.{by_choice, by_case, none_passed, each-map, each-map_to, each-append, each-filter, each-find, each-both, each-weaker, each-take}
+pub use Rattle.flat_model.proofs.Lists.Each.{
+  by_choice,
+  by_case,
+  none_passed,
+  each-map,
+  each-map_to,
+  each-append,
+  each-filter,
+  each-find,
+  each-both,
+  each-weaker,
+  each-take,
+}
 -- ---- lists and weights: what is added up, and how often a cluster stands in it
 pub use Rattle.flat_model.proofs.Lists.Totals.{count_cons, count-append}
 pub use Rattle.flat_model.proofs.Amounts.Weights.{nothing-both, both-nothing, both-assoc, all_of-append, times-both}
@@ -21,9 +33,26 @@ pub use Rattle.flat_model.proofs.Machine.KeptSteps.{boot_is_consistent, step_is_
 -- ---- one socket changed among others
 pub use Rattle.flat_model.proofs.Machine.Sockets.{find-changed}
 -- ---- the parts of a cut, and how long a datagram is
-pub use Rattle.flat_model.proofs.Fragments.Grid.{chunk_some, chunks_enough, chunks_needed, grid, length-grid, get_or-grid, cuts_short, cuts_long}
+pub use Rattle.flat_model.proofs.Fragments.Grid.{
+  chunk_some,
+  chunks_enough,
+  chunks_needed,
+  grid,
+  length-grid,
+  get_or-grid,
+  cuts_short,
+  cuts_long,
+}
 pub use Rattle.flat_model.proofs.Packets.Sizes.{length-udp}
 -- ---- the bytes of a whole map, by their offsets
 pub use Rattle.flat_model.proofs.Fragments.Maps.{IsMapOf, whole_bytes}
 -- ---- the folded sum depends on the sum's remainder by 65,535, and on whether it is 0
-pub use Rattle.flat_model.proofs.Packets.Folds.{fold16-below, fold16-small, fold16-shift, fold16-high, fold16-halves, fold16-add_first, fold16-add_second}
+pub use Rattle.flat_model.proofs.Packets.Folds.{
+  fold16-below,
+  fold16-small,
+  fold16-shift,
+  fold16-high,
+  fold16-halves,
+  fold16-add_first,
+  fold16-add_second,
+}

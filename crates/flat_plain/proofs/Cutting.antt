@@ -13,11 +13,13 @@ pub cut_short : (n mtu : ℕ) → 20 + n ≤ mtu → Cuts.cuts n mtu ≡ record 
 unfolding Cuts.cuts
 cut_short n mtu h = cond-true (nat_le (20 + n) mtu) _ _ (le-leb (20 + n) mtu h)
 
-pub cut_long : (n mtu : ℕ) → mtu < 20 + n → Cuts.cuts n mtu ≡ map (Cuts.part n ((mtu - 20) / 8 * 8)) (range_with_len 0 (Cuts.chunks n ((mtu - 20) / 8 * 8)))
+pub cut_long : (n mtu : ℕ) → mtu < 20 + n
+    → Cuts.cuts n mtu ≡ map (Cuts.part n ((mtu - 20) / 8 * 8)) (range_with_len 0 (Cuts.chunks n ((mtu - 20) / 8 * 8)))
 unfolding Cuts.cuts
 cut_long n mtu h = cond-false (nat_le (20 + n) mtu) _ _ (lt-leb (20 + n) mtu h)
 
-pub cut_step : (old new : List Part) (p : Part) (n c i : ℕ) → map part_of old ≡ map (Cuts.part n c) (range_with_len 0 i) → new ≡ old ++ p ∷ [] → part_of p ≡ Cuts.part n c i
+pub cut_step : (old new : List Part) (p : Part) (n c i : ℕ) → map part_of old ≡ map (Cuts.part n c) (range_with_len 0 i)
+    → new ≡ old ++ p ∷ [] → part_of p ≡ Cuts.part n c i
     → map part_of new ≡ map (Cuts.part n c) (range_with_len 0 (i + 1))
 cut_step old new p n c i so pushed is =
     ap (map part_of) pushed

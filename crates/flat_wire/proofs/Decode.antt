@@ -25,7 +25,8 @@ more_read : (more : Bool) (k : ℕ) → k < 8192 → nat_lt 0 ((flag more 8192 +
 more_read true k h = lt-ltb _ _ (omega arith)
 more_read false k h = le-ltb _ _ (omega arith)
 
-offset_read : (more : Bool) (offset : ℕ) → offset % 8 ≡ 0 → offset < 65536 → (flag more 8192 + offset / 8) % 8192 * 8 ≡ offset
+offset_read : (more : Bool) (offset : ℕ) → offset % 8 ≡ 0 → offset < 65536
+    → (flag more 8192 + offset / 8) % 8192 * 8 ≡ offset
 offset_read true offset steps h = omega arith
 offset_read false offset steps h = omega arith
 
@@ -46,11 +47,21 @@ head_read h t is =
     let offset = ap (λ v. v % 8192 * 8) field ∙ offset_read h.more h.offset is.steps is.offset in
     let source = four h.source in
     let destination = four h.destination in
-    λ i. record { id = id i; more = more i; offset = offset i; protocol = h.protocol; source = source i; destination = destination i }
+    λ i. record {
+      id = id i;
+      more = more i;
+      offset = offset i;
+      protocol = h.protocol;
+      source = source i;
+      destination = destination i;
+    }
 
 -- the header of a packet
 header : Head → List ℕ → List ℕ
-header h t = front_bytes h (length t) ++ two_bytes (checksum (front_bytes h (length t) ++ 0 ∷ 0 ∷ address_bytes h.source h.destination)) ++ address_bytes h.source h.destination
+header h t =
+    front_bytes h (length t) ++ two_bytes
+    (checksum (front_bytes h (length t) ++ 0 ∷ 0 ∷ address_bytes h.source h.destination))
+    ++ address_bytes h.source h.destination
 
 pub carried_read : (h : Head) (t : List ℕ) → drop 20 (take (total_of (packet h t)) (packet h t)) ≡ t
 unfolding packet header
@@ -74,4 +85,5 @@ module _ (source destination port to : ℕ) (s : List ℕ) where
   unfolding udp
   bytes_read =
       ap (λ n. drop 8 (take n (udp source destination port to s))) (two (8 + length s))
-      ∙ ap (drop 8) (take_all (8 + length s) (udp source destination port to s) (omega (arith, length-udp source destination port to s)))
+      ∙ ap (drop 8) (take_all (8 + length s) (udp source destination port to s)
+      (omega (arith, length-udp source destination port to s)))

@@ -48,25 +48,51 @@ module _ (M : Ledger) (c : Config) (out : List Item) (next count : ℕ) (boots :
 
   pub closed : IsClosed M (IsKept c out next count)
   closed = record {
-    ended = λ why s k. record { config = k.config; output = k.output; id = k.id; sends = counted-localout why s.counters ∙ k.sends; sockets = k.sockets };
+    ended =
+        λ why s k. record {
+          config = k.config;
+          output = k.output;
+          id = k.id;
+          sends = counted-localout why s.counters ∙ k.sends;
+          sockets = k.sockets;
+        };
     dropped = λ s k. record { config = k.config; output = k.output; id = k.id; sends = k.sends; sockets = k.sockets };
-    queued = λ fd d s k. record { config = k.config; output = k.output; id = k.id; sends = k.sends; sockets = each-map IsSound _ (λ socket g. go fd d socket g (socket.fd == fd)) s.sockets k.sockets };
-    begins = λ key s k. record { config = k.config; output = k.output; id = k.id; sends = k.sends; sockets = k.sockets };
-    sets = λ key bytes s k. record { config = k.config; output = k.output; id = k.id; sends = k.sends; sockets = k.sockets };
-    finishes = λ key s k. record { config = k.config; output = k.output; id = k.id; sends = k.sends; sockets = k.sockets };
+    queued =
+        λ fd d s k. record {
+          config = k.config;
+          output = k.output;
+          id = k.id;
+          sends = k.sends;
+          sockets = each-map IsSound _ (λ socket g. go fd d socket g (socket.fd == fd)) s.sockets k.sockets;
+        };
+    begins =
+        λ key s k. record { config = k.config; output = k.output; id = k.id; sends = k.sends; sockets = k.sockets };
+    sets =
+        λ key bytes s k. record { config = k.config; output = k.output; id = k.id; sends = k.sends; sockets = k.sockets };
+    finishes =
+        λ key s k. record { config = k.config; output = k.output; id = k.id; sends = k.sends; sockets = k.sockets };
     fragment = λ s k. record { config = k.config; output = k.output; id = k.id; sends = k.sends; sockets = k.sockets };
     packet = λ s k. record { config = k.config; output = k.output; id = k.id; sends = k.sends; sockets = k.sockets };
   }
     where
-      go : (fd : ℕ) (d : Datagram) (socket : Socket) → IsSound socket → (b : Bool) → IsSound (cond b (Arrival.queued d socket) socket)
+      go : (fd : ℕ) (d : Datagram) (socket : Socket) → IsSound socket → (b : Bool)
+          → IsSound (cond b (Arrival.queued d socket) socket)
       go fd d socket g true = record { local = g.local; port = g.port; peer = g.peer }
       go fd d socket g false = g
 
   pub refused : (old new : State) (errno : Errno) (reply : Reply) → K old → Refuses errno old reply new → K new
   refused old new errno reply k h = subst K (sym h.1) k
 
-  pub changes : (fd : ℕ) (change : Socket → Socket) (s : State) → K s → ((socket : Socket) → IsSound socket → IsSound (change socket)) → K (change_socket fd change s)
-  changes fd change s k sound = record { config = k.config; output = k.output; id = k.id; sends = k.sends; sockets = each-map IsSound _ (λ socket g. go socket g (socket.fd == fd)) s.sockets k.sockets }
+  pub changes : (fd : ℕ) (change : Socket → Socket) (s : State) → K s
+      → ((socket : Socket) → IsSound socket → IsSound (change socket)) → K (change_socket fd change s)
+  changes fd change s k sound =
+      record {
+        config = k.config;
+        output = k.output;
+        id = k.id;
+        sends = k.sends;
+        sockets = each-map IsSound _ (λ socket g. go socket g (socket.fd == fd)) s.sockets k.sockets;
+      }
     where
       go : (socket : Socket) → IsSound socket → (b : Bool) → IsSound (cond b (change socket) socket)
       go socket g true = sound socket g
@@ -79,17 +105,25 @@ module _ (M : Ledger) (c : Config) (out : List Item) (next count : ℕ) (boots :
   port_small None k = omega arith
   port_small (Some last) k = omega arith
 
-  pub gets : (old new : State) (local asked : Option ℕ) (port : ℕ) → K old → ((p : ℕ) → asked ≡ Some p → p < 65536) → GetsPort old local asked port new → K new × (port < 65536)
+  pub gets : (old new : State) (local asked : Option ℕ) (port : ℕ) → K old → ((p : ℕ) → asked ≡ Some p → p < 65536)
+      → GetsPort old local asked port new → K new × (port < 65536)
   gets old new local (Some q) port k small h = (subst K (sym h.1) k, subst (λ p. p < 65536) (sym h.0) (small q refl))
   gets old new local None port k small h = (
-    subst K (sym h.1) (record { config = k.config; output = k.output; id = k.id; sends = k.sends; sockets = k.sockets }),
+    subst K (sym h.1) (record {
+      config = k.config;
+      output = k.output;
+      id = k.id;
+      sends = k.sends;
+      sockets = k.sockets;
+    }),
     subst (λ p. p < 65536) (sym h.0.here) (port_small old.last_port h.0.turns),
   )
 
   pub host_small : (ip : ℕ) → ip < 224 * 2 ^ 24 → ip < 4294967296
   host_small ip h = omega arith
 
-  pub source_small : (cc : Config) (me : Socket) (to : ℕ) → cc ≡ c → ((ip : ℕ) → me.local ≡ Some ip → ip < 4294967296) → source_for cc me to < 4294967296
+  pub source_small : (cc : Config) (me : Socket) (to : ℕ) → cc ≡ c → ((ip : ℕ) → me.local ≡ Some ip → ip < 4294967296)
+      → source_for cc me to < 4294967296
   source_small cc me to e local = go me.local refl
     where
       addr : cc.addr < 4294967296
@@ -104,7 +138,12 @@ module _ (M : Ledger) (c : Config) (out : List Item) (next count : ℕ) (boots :
       go None h = default (to == loopback)
 
   pub target_read : (cc : Config) (a : Addr) → cc ≡ c → IsAddr a → IsTarget (read_addr cc a)
-  target_read cc a e is = record { ip = ip (a.ip == 0) (a.ip == limited_broadcast); known = known (a.ip == 0) (a.ip == limited_broadcast) refl; port = omega (arith, is.port) }
+  target_read cc a e is =
+      record {
+        ip = ip (a.ip == 0) (a.ip == limited_broadcast);
+        known = known (a.ip == 0) (a.ip == limited_broadcast) refl;
+        port = omega (arith, is.port);
+      }
     where
       addr : cc.addr < 224 * 2 ^ 24
       addr = let at : cc.addr ≡ c.addr = ap (λ (x : Config). x.addr) e in omega (arith, boots.addr.high)
@@ -128,10 +167,25 @@ module _ (M : Ledger) (c : Config) (out : List Item) (next count : ℕ) (boots :
 
   pub opens : (old new : State) (reply : Reply) → K old → Calls.Opens 64 old reply new → K new
   opens old new reply k h = by_choice h
-      (λ e (fd, least, answer, is). subst K (sym is) (record { config = k.config; output = k.output; id = k.id; sends = k.sends; sockets = (record { local = λ ip e. absurd (none-some ip e); port = λ ip e. absurd (none-some ip e); peer = λ a e. absurd (none-some a e) }, k.sockets) }))
+      (λ e (fd, least, answer, is). subst K (sym is)
+      (record {
+        config = k.config;
+        output = k.output;
+        id = k.id;
+        sends = k.sends;
+        sockets = (
+          record {
+            local = λ ip e. absurd (none-some ip e);
+            port = λ ip e. absurd (none-some ip e);
+            peer = λ a e. absurd (none-some a e);
+          },
+          k.sockets,
+        );
+      }))
       (λ e r. refused old new _ reply k r)
 
-  pub binds : (fd : ℕ) (a : Addr) (me : Socket) (old new : State) (reply : Reply) → K old → IsAddr a → Calls.Binds fd a me old reply new → K new
+  pub binds : (fd : ℕ) (a : Addr) (me : Socket) (old new : State) (reply : Reply) → K old → IsAddr a
+      → Calls.Binds fd a me old reply new → K new
   binds fd a me old new reply k is h = by_case h
       (λ e (port, chosen, g, answer, n).
       let got = gets old chosen _ _ port k (λ p e. zero_small a.port p 65536 (omega (arith, is.port)) e) g in
@@ -142,12 +196,15 @@ module _ (M : Ledger) (c : Config) (out : List Item) (next count : ℕ) (boots :
       })))
       (λ errno e r. refused old new errno reply k r)
 
-  pub connects : (fd : ℕ) (a : Addr) (me : Socket) (old new : State) (reply : Reply) → K old → IsAddr a → IsSound me → Calls.Connects fd a me old reply new → K new
+  pub connects : (fd : ℕ) (a : Addr) (me : Socket) (old new : State) (reply : Reply) → K old → IsAddr a → IsSound me
+      → Calls.Connects fd a me old reply new → K new
   connects fd a me before new reply k is sound h = by_case h
       (λ e (port, chosen, g, answer, n).
       let got = gets old chosen _ _ port let_go me_is.port g in
       subst K (sym n) (changes fd _ chosen got.0 (λ socket s. record {
-        local = λ ip e. subst (λ q. q < 4294967296) (same_Some _ ip e) (source_small old.config (disconnected me) (read_addr before.config a).ip k.config me_is.local);
+        local =
+            λ ip e. subst (λ q. q < 4294967296) (same_Some _ ip e)
+            (source_small old.config (disconnected me) (read_addr before.config a).ip k.config me_is.local);
         port = λ p e. subst (λ q. q < 65536) (same_Some port p e) got.1;
         peer = λ b e. subst IsTarget (same_Some _ b e) (target_read before.config a k.config is);
       })))
@@ -156,8 +213,10 @@ module _ (M : Ledger) (c : Config) (out : List Item) (next count : ℕ) (boots :
       old : State
       old = change_socket fd disconnected before
 
-      apart : (socket : Socket) → IsSound socket → (b : Bool) → IsSound (cond b (record socket { local = None; peer = None }) socket)
-      apart socket s true = record { local = λ ip e. absurd (none-some ip e); port = s.port; peer = λ b e. absurd (none-some b e) }
+      apart : (socket : Socket) → IsSound socket → (b : Bool)
+          → IsSound (cond b (record socket { local = None; peer = None }) socket)
+      apart socket s true =
+          record { local = λ ip e. absurd (none-some ip e); port = s.port; peer = λ b e. absurd (none-some b e) }
       apart socket s false = s
 
       let_go : K old
@@ -166,11 +225,14 @@ module _ (M : Ledger) (c : Config) (out : List Item) (next count : ℕ) (boots :
       me_is : IsSound (disconnected me)
       me_is = apart me sound (is_some me.peer)
 
-  pub receives : (fd most : ℕ) (queue : List Datagram) (old new : State) (reply : Reply) → K old → Calls.Receives fd most queue old reply new → K new
+  pub receives : (fd most : ℕ) (queue : List Datagram) (old new : State) (reply : Reply) → K old
+      → Calls.Receives fd most queue old reply new → K new
   receives fd most [] old new reply k h = refused old new _ reply k h
-  receives fd most (d ∷ later) old new reply k h = subst K (sym h.1) (changes fd _ old k (λ socket s. record { local = s.local; port = s.port; peer = s.peer }))
+  receives fd most (d ∷ later) old new reply k h =
+      subst K (sym h.1) (changes fd _ old k (λ socket s. record { local = s.local; port = s.port; peer = s.peer }))
 
-  pub sets : (fd : ℕ) (option : Opt) (on : Bool) (old new : State) (reply : Reply) → K old → Calls.SetsOption fd option on old reply new → K new
+  pub sets : (fd : ℕ) (option : Opt) (on : Bool) (old new : State) (reply : Reply) → K old
+      → Calls.SetsOption fd option on old reply new → K new
   sets fd option on old new reply k h = subst K (sym h.1) (changes fd _ old k (go option))
     where
       go : (option : Opt) (socket : Socket) → IsSound socket → IsSound (set_option option on socket)
@@ -178,11 +240,20 @@ module _ (M : Ledger) (c : Config) (out : List Item) (next count : ℕ) (boots :
       go ReusePort socket s = record { local = s.local; port = s.port; peer = s.peer }
 
   pub closes : (fd : ℕ) (old new : State) (reply : Reply) → K old → Calls.Closes fd old reply new → K new
-  closes fd old new reply k h = subst K (sym h.1) (record { config = k.config; output = k.output; id = k.id; sends = k.sends; sockets = each-filter IsSound (λ socket. not (socket.fd == fd)) old.sockets k.sockets })
+  closes fd old new reply k h =
+      subst K (sym h.1) (record {
+        config = k.config;
+        output = k.output;
+        id = k.id;
+        sends = k.sends;
+        sockets = each-filter IsSound (λ socket. not (socket.fd == fd)) old.sockets k.sockets;
+      })
 
   pub comes_in : (packet : List ℕ) (old new : State) → K old → ComesIn M packet old new → K new
   comes_in packet old new k (answer, mid, a, h) =
       let at : K mid = kept_has_buffers M (IsKept c out next count) closed old mid nothing _ answer k a in
       by_choice h
-      (λ e (clusters, taken, arrives). kept_arrives M (IsKept c out next count) closed (Arrival.By_wire (length packet)) nothing (record { bytes = packet; weight = weight_of (laid_on clusters (wire (length packet))) }) mid new at arrives)
+      (λ e (clusters, taken, arrives). kept_arrives M (IsKept c out next count) closed (Arrival.By_wire (length packet))
+      nothing (record { bytes = packet; weight = weight_of (laid_on clusters (wire (length packet))) }) mid new at
+      arrives)
       (λ e r. subst K (sym r) (closed.ended _ mid at))

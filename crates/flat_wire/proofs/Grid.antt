@@ -29,7 +29,12 @@ cuts_grid n mtu some low = go (cases_lt mtu (20 + n))
 
     go : (mtu < 20 + n) ⊎ (20 + n ≤ mtu) → (c : ℕ) × (0 < c) × (cuts n mtu ≡ grid n c)
     go (inl h) = (chunk mtu, omega (arith, chunk_some mtu low), cuts_long n mtu h)
-    go (inr h) = (n, some, cuts_short n mtu h ∙ sym (ap (λ k. map (part n n) (range_with_len 0 k)) one_chunk ∙ ap (λ p. p ∷ []) one_part))
+    go (inr h) = (
+      n,
+      some,
+      cuts_short n mtu h ∙ sym
+          (ap (λ k. map (part n n) (range_with_len 0 k)) one_chunk ∙ ap (λ p. p ∷ []) one_part),
+    )
 
 -- where a part of the grid stands
 pub index_of : (n c : ℕ) (p : Part) → 0 < c → Contains (grid n c) p → (i : ℕ) × (i < chunks n c) × (p ≡ part n c i)
@@ -47,11 +52,14 @@ part_steps n mtu p low is = go (cases_lt mtu (20 + n))
 
     go : (mtu < 20 + n) ⊎ (20 + n ≤ mtu) → p.offset % 8 ≡ 0
     go (inl h) =
-        let at = index_of n (chunk mtu) p (omega (arith, chunk_some mtu low)) (subst (λ (ps : List Part). Contains ps p) (cuts_long n mtu h) is) in
+        let at =
+        index_of n (chunk mtu) p (omega (arith, chunk_some mtu low))
+        (subst (λ (ps : List Part). Contains ps p) (cuts_long n mtu h) is) in
         let same : p.offset ≡ at.0 * chunk mtu = ap (λ (q : Part). q.offset) at.2 in
         omega arith
     go (inr h) =
-        let c : Contains (record { offset = 0; size = n; more = false } ∷ []) p = subst (λ (ps : List Part). Contains ps p) (cuts_short n mtu h) is in
+        let c : Contains (record { offset = 0; size = n; more = false } ∷ []) p =
+        subst (λ (ps : List Part). Contains ps p) (cuts_short n mtu h) is in
         only _ c.0 c.1 c.2 refl
 
 pub part_inside : (n mtu : ℕ) (p : Part) → 0 < n → 28 ≤ mtu → Contains (cuts n mtu) p → p.offset < n

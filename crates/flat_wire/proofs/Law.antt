@@ -20,15 +20,20 @@ use Rattle.flat_wire.proofs.SecondSteps as Steps
 use Rattle.flat_wire.proofs.Told as Told
 use Rattle.flat_wire.proofs.Told.{Among}
 
-module _ (L M : Ledger) (first second : Config) (sent came : List Turn) (s t : State) (w : AreWired L M first second sent came s t) where
+module _ (L M : Ledger) (first second : Config) (sent came : List Turn) (s t : State)
+    (w : AreWired L M first second sent came s t) where
   told : Told.IsTold L first w.first_boots sent s
-  told = Told.told_run L first w.first_boots [] (boot first) sent s (Told.told_boot L first w.first_boots) refl w.first_runs
+  told =
+      Told.told_run L first w.first_boots [] (boot first) sent s (Told.told_boot L first w.first_boots) refl
+      w.first_runs
 
   -- the log is short enough for its identifications to differ
   few : length told.log < 65536
-  few = let count : value_of IpLocalout s.counters ≡ min (length told.log) (2 ^ 64 - 1) = told.count in let small : value_of IpLocalout s.counters < 2 ^ 16 = w.few in omega arith
+  few = let count : value_of IpLocalout s.counters ≡ min (length told.log) (2 ^ 64 - 1) = told.count in
+      let small : value_of IpLocalout s.counters < 2 ^ 16 = w.few in omega arith
 
-  number_of : (log : List Sending) (x : Sending) → Told.Numbered L first w.first_boots log → Among log x → (j : ℕ) × (j < length log) × (x.id ≡ (first.first_id + j) % 65536)
+  number_of : (log : List Sending) (x : Sending) → Told.Numbered L first w.first_boots log → Among log x
+      → (j : ℕ) × (j < length log) × (x.id ≡ (first.first_id + j) % 65536)
   number_of [] x n a = absurd a
   number_of (y ∷ older) x n (inl e) = (length older, omega arith, ap (λ (z : Sending). z.id) (sym e) ∙ n.0)
   number_of (y ∷ older) x n (inr a) = let r = number_of older x n.1 a in (r.0, omega (arith, r.1), r.2)
@@ -36,15 +41,18 @@ module _ (L M : Ledger) (first second : Config) (sent came : List Turn) (s t : S
   differ : (f j n : ℕ) → j < n → n < 65536 → (f + j) % 65536 ≡ (f + n) % 65536 → ⊥
   differ f j n h l e = omega arith
 
-  unique : (log : List Sending) → length log < 65536 → Told.Numbered L first w.first_boots log → (x y : Sending) → Among log x → Among log y → x.id ≡ y.id → x ≡ y
+  unique : (log : List Sending) → length log < 65536 → Told.Numbered L first w.first_boots log → (x y : Sending)
+      → Among log x → Among log y → x.id ≡ y.id → x ≡ y
   unique [] l n x y a b e = absurd a
   unique (z ∷ older) l n x y (inl a) (inl b) e = sym a ∙ b
   unique (z ∷ older) l n x y (inl a) (inr b) e =
       let r = number_of older y n.1 b in
-      absurd (differ first.first_id r.0 (length older) r.1 (omega arith) (sym r.2 ∙ sym e ∙ ap (λ (q : Sending). q.id) (sym a) ∙ n.0))
+      absurd (differ first.first_id r.0 (length older) r.1 (omega arith)
+      (sym r.2 ∙ sym e ∙ ap (λ (q : Sending). q.id) (sym a) ∙ n.0))
   unique (z ∷ older) l n x y (inr a) (inl b) e =
       let r = number_of older x n.1 a in
-      absurd (differ first.first_id r.0 (length older) r.1 (omega arith) (sym r.2 ∙ e ∙ ap (λ (q : Sending). q.id) (sym b) ∙ n.0))
+      absurd (differ first.first_id r.0 (length older) r.1 (omega arith)
+      (sym r.2 ∙ e ∙ ap (λ (q : Sending). q.id) (sym b) ∙ n.0))
   unique (z ∷ older) l n x y (inr a) (inr b) e = unique older (omega arith) n.1 x y a b e
 
   -- what was given out
@@ -66,10 +74,22 @@ module _ (L M : Ledger) (first second : Config) (sent came : List Turn) (s t : S
     answered = λ x p is e. is.answered e;
   }
 
-  given : (packet : List ℕ) → (ComesFrom first.addr packet → Contains (filter_map packet_out sent) packet) → Second.IsGoodPacket first.addr second.addr second.bcast first.mtu IsPart Answered M packet
+  given : (packet : List ℕ) → (ComesFrom first.addr packet → Contains (filter_map packet_out sent) packet)
+      → Second.IsGoodPacket first.addr second.addr second.bcast first.mtu IsPart Answered M packet
   given packet is from =
-      let g = All-contains (Told.IsGiven L first w.first_boots told.log sent s) (filter_map packet_out sent) packet (All-from_recursion _ (filter_map packet_out sent) told.gave) (is from) in
-      (g.sending, g.part, record { logged = g.logged; sendable = g.sendable; is_part = g.is_part; answered = g.answered }, g.is)
+      let g =
+      All-contains (Told.IsGiven L first w.first_boots told.log sent s) (filter_map packet_out sent) packet
+      (All-from_recursion _ (filter_map packet_out sent) told.gave) (is from) in (
+        g.sending,
+        g.part,
+        record {
+          logged = g.logged;
+          sendable = g.sendable;
+          is_part = g.is_part;
+          answered = g.answered;
+        },
+        g.is,
+      )
 
   not_loopback : loopback ≢ first.addr
   not_loopback e = w.first_boots.addr.no_loopback (ap (λ n. n / 2 ^ 24) (sym e))
@@ -81,9 +101,12 @@ module _ (L M : Ledger) (first second : Config) (sent came : List Turn) (s t : S
   FromFirst packet = ComesFrom first.addr packet → Contains (filter_map packet_out sent) packet
 
   abbrev IsGoodEvent : Event → Type 0
-  IsGoodEvent = Steps.IsGoodEvent first.addr second.addr second.bcast first.mtu IsPart Answered M log low (λ e. w.not_addr (sym e)) (λ e. w.not_bcast (sym e)) not_loopback
+  IsGoodEvent =
+      Steps.IsGoodEvent first.addr second.addr second.bcast first.mtu IsPart Answered M log low
+      (λ e. w.not_addr (sym e)) (λ e. w.not_bcast (sym e)) not_loopback
 
-  one_event : (event : Event) (rest : List (List ℕ)) → Each FromFirst (cons_option (came_in event) rest) → IsGoodEvent event × Each FromFirst rest
+  one_event : (event : Event) (rest : List (List ℕ)) → Each FromFirst (cons_option (came_in event) rest)
+      → IsGoodEvent event × Each FromFirst rest
   one_event (Comes packet) rest h = (given packet h.0, h.1)
   one_event Open rest h = (tt, h)
   one_event (Bind fd a) rest h = (tt, h)
@@ -97,12 +120,16 @@ module _ (L M : Ledger) (first second : Config) (sent came : List Turn) (s t : S
   one_event Ask_counters rest h = (tt, h)
   one_event Ask_usage rest h = (tt, h)
 
-  events : (turns : List Turn) → Each FromFirst (filter_map packet_in turns) → Each (λ turn. IsGoodEvent turn.event) turns
+  events : (turns : List Turn) → Each FromFirst (filter_map packet_in turns)
+      → Each (λ turn. IsGoodEvent turn.event) turns
   events [] h = tt
   events (turn ∷ turns) h = let o = one_event turn.event (filter_map packet_in turns) h in (o.0, events turns o.1)
 
-  good : Steps.Good first.addr second.addr second.bcast first.mtu IsPart Answered M log low (λ e. w.not_addr (sym e)) (λ e. w.not_bcast (sym e)) not_loopback t
-  good = Steps.runs first.addr second.addr second.bcast first.mtu IsPart Answered M log low (λ e. w.not_addr (sym e)) (λ e. w.not_bcast (sym e)) not_loopback
+  good : Steps.Good first.addr second.addr second.bcast first.mtu IsPart Answered M log low (λ e. w.not_addr (sym e))
+      (λ e. w.not_bcast (sym e)) not_loopback t
+  good =
+      Steps.runs first.addr second.addr second.bcast first.mtu IsPart Answered M log low (λ e. w.not_addr (sym e))
+      (λ e. w.not_bcast (sym e)) not_loopback
       (boot second) t came ((λ _. None), record { addr = refl; bcast = refl; sockets = tt; unfinished = tt })
       (events came (recursion_from_All FromFirst (filter_map packet_in came) w.wire)) w.second_runs
 
@@ -112,16 +139,23 @@ module _ (L M : Ledger) (first second : Config) (sent came : List Turn) (s t : S
   abbrev IsGoodDatagram : Option ℕ → Datagram → Type 0
   IsGoodDatagram = Second.IsGoodDatagram first.addr second.addr second.bcast first.mtu IsPart Answered M
 
-  pub law : (socket : Socket) (d : Datagram) → Contains t.sockets socket → Contains socket.queue d → d.sender.ip ≡ first.addr →
-      (to : Addr) × IsAnswered L first sent s d.sender.port to d.item.bytes × (socket.port ≡ Some to.port) × ((to.ip ≡ second.addr) ⊎ (to.ip ≡ second.bcast))
+  pub law : (socket : Socket) (d : Datagram) → Contains t.sockets socket → Contains socket.queue d
+      → d.sender.ip ≡ first.addr →
+      (to : Addr) × IsAnswered L first sent s d.sender.port to d.item.bytes × (socket.port ≡ Some to.port)
+      × ((to.ip ≡ second.addr) ⊎ (to.ip ≡ second.bcast))
   unfolding Answered
   law socket d in_sockets in_queue from =
       let ports : ℕ → Option ℕ = good.0 in
-      let socket_good : IsGoodSocket ports socket = All-contains (IsGoodSocket ports) t.sockets socket (All-from_recursion (IsGoodSocket ports) t.sockets good.1.sockets) in_sockets in
-      let datagram_good : IsGoodDatagram socket.port d = All-contains (IsGoodDatagram socket.port) socket.queue d (All-from_recursion (IsGoodDatagram socket.port) socket.queue socket_good.queue) in_queue in
+      let socket_good : IsGoodSocket ports socket =
+      All-contains (IsGoodSocket ports) t.sockets socket
+      (All-from_recursion (IsGoodSocket ports) t.sockets good.1.sockets) in_sockets in
+      let datagram_good : IsGoodDatagram socket.port d =
+      All-contains (IsGoodDatagram socket.port) socket.queue d
+      (All-from_recursion (IsGoodDatagram socket.port) socket.queue socket_good.queue) in_queue in
       let is = datagram_good.sent from in (
         is.sending.to,
-        subst (λ port. IsAnswered L first sent s port is.sending.to d.item.bytes) is.sender (subst (λ bytes. IsAnswered L first sent s is.sending.port is.sending.to bytes) is.bytes is.answered),
+        subst (λ port. IsAnswered L first sent s port is.sending.to d.item.bytes) is.sender
+            (subst (λ bytes. IsAnswered L first sent s is.sending.port is.sending.to bytes) is.bytes is.answered),
         is.receiver,
         is.here,
       )

@@ -25,17 +25,21 @@ same_multiple c i j some e = go (cases_order i j)
   where
     go : (i ≡ j) ⊎ ((i < j) ⊎ (j < i)) → i ≡ j
     go (inl e) = e
-    go (inr (inl l)) = let m : (i + 1) * c ≤ j * c = mul-le-mul_right {m = i + 1} {n = j} c (omega arith) in absurd (omega arith)
-    go (inr (inr l)) = let m : (j + 1) * c ≤ i * c = mul-le-mul_right {m = j + 1} {n = i} c (omega arith) in absurd (omega arith)
+    go (inr (inl l)) = let m : (i + 1) * c ≤ j * c = mul-le-mul_right {m = i + 1} {n = j} c (omega arith) in
+        absurd (omega arith)
+    go (inr (inr l)) = let m : (j + 1) * c ≤ i * c = mul-le-mul_right {m = j + 1} {n = i} c (omega arith) in
+        absurd (omega arith)
 
-laid_made : (s : List ℕ) (c : ℕ) → 0 < c → (fragments : List Fragment) → All (λ f. (i : ℕ) × IsCut s c f i) fragments → IsMade s c (laid fragments) (Index c fragments)
+laid_made : (s : List ℕ) (c : ℕ) → 0 < c → (fragments : List Fragment) → All (λ f. (i : ℕ) × IsCut s c f i) fragments
+    → IsMade s c (laid fragments) (Index c fragments)
 laid_made s c some [] each = record {
   held = λ offset h e. absurd (none-some h e);
   there = λ i offset d place. absurd d;
 }
 laid_made s c some (f ∷ fragments) each =
     let first : (i : ℕ) × IsCut s c f i = All-head (λ f. (i : ℕ) × IsCut s c f i) f fragments each in
-    let made : IsMade s c (laid fragments) (Index c fragments) = laid_made s c some fragments (All-tail (λ f. (i : ℕ) × IsCut s c f i) f fragments each) in
+    let made : IsMade s c (laid fragments) (Index c fragments) =
+    laid_made s c some fragments (All-tail (λ f. (i : ℕ) × IsCut s c f i) f fragments each) in
     let step = laying_step s c (laid fragments) (Index c fragments) made f first.0 first.1 in
     record {
       held = λ offset h e. let m = step.held offset h e in (m.0, to m.0 first.0 first.1.offset m.1, m.2);
@@ -53,9 +57,11 @@ laid_made s c some (f ∷ fragments) each =
 any_from_index : (c i : ℕ) (fragments : List Fragment) → Index c fragments i → Any (λ f. f.offset ≡ i * c) fragments
 any_from_index c i [] d = absurd d
 any_from_index c i (f ∷ fragments) (inl e) = (0, f, omega arith, refl, e)
-any_from_index c i (f ∷ fragments) (inr d) = let later = any_from_index c i fragments d in (suc later.0, later.1, omega (arith, later.2), later.3, later.4)
+any_from_index c i (f ∷ fragments) (inr d) = let later = any_from_index c i fragments d in
+    (suc later.0, later.1, omega (arith, later.2), later.3, later.4)
 
-index_from_any : (c i : ℕ) (fragments : List Fragment) → (k : ℕ) (x : Fragment) → k < length fragments → slice_index_or fragments k x ≡ x → x.offset ≡ i * c → Index c fragments i
+index_from_any : (c i : ℕ) (fragments : List Fragment) → (k : ℕ) (x : Fragment) → k < length fragments
+    → slice_index_or fragments k x ≡ x → x.offset ≡ i * c → Index c fragments i
 index_from_any c i [] k x l e at = absurd (omega arith)
 index_from_any c i (f ∷ fragments) zero x l e at = inl (ap (λ (g : Fragment). g.offset) e ∙ at)
 index_from_any c i (f ∷ fragments) (suc k) x l e at = inr (index_from_any c i fragments k x (omega arith) e at)
@@ -77,21 +83,26 @@ index_at n c offset some h =
         absurd (omega arith)
 
 -- the law on a grid
-module _ (s : List ℕ) (c : ℕ) (some : 0 < c) (any : 0 < length s) (fragments : List Fragment) (made : IsMade s c (laid fragments) (Index c fragments)) where
-  pub bytes_laid : (i offset : ℕ) → Index c fragments i → IsIn (length s) c i offset → option_map (λ (h : Held). h.byte) (laid fragments offset) ≡ Some (slice_index s offset)
+module _ (s : List ℕ) (c : ℕ) (some : 0 < c) (any : 0 < length s) (fragments : List Fragment)
+    (made : IsMade s c (laid fragments) (Index c fragments)) where
+  pub bytes_laid : (i offset : ℕ) → Index c fragments i → IsIn (length s) c i offset
+      → option_map (λ (h : Held). h.byte) (laid fragments offset) ≡ Some (slice_index s offset)
   bytes_laid i offset d place = go (laid fragments offset) refl (made.there i offset d place)
     where
-      go : (x : Option Held) → laid fragments offset ≡ x → IsSome x → option_map (λ (h : Held). h.byte) x ≡ Some (slice_index s offset)
+      go : (x : Option Held) → laid fragments offset ≡ x → IsSome x
+          → option_map (λ (h : Held). h.byte) x ≡ Some (slice_index s offset)
       go None e p = absurd (no p)
         where
           no : false ≡ true → ⊥
           no p = cc
       go (Some h) e p = ap Some (made.held offset h e).2.byte
 
-  some_is : (offset : ℕ) → IsSome (laid fragments offset) → (i : ℕ) × (h : Held) × (laid fragments offset ≡ Some h) × Index c fragments i × IsOf s c offset h i
+  some_is : (offset : ℕ) → IsSome (laid fragments offset)
+      → (i : ℕ) × (h : Held) × (laid fragments offset ≡ Some h) × Index c fragments i × IsOf s c offset h i
   some_is offset = go (laid fragments offset) refl
     where
-      go : (x : Option Held) → laid fragments offset ≡ x → IsSome x → (i : ℕ) × (h : Held) × (laid fragments offset ≡ Some h) × Index c fragments i × IsOf s c offset h i
+      go : (x : Option Held) → laid fragments offset ≡ x → IsSome x
+          → (i : ℕ) × (h : Held) × (laid fragments offset ≡ Some h) × Index c fragments i × IsOf s c offset h i
       go None e p = absurd (no p)
         where
           no : false ≡ true → ⊥
@@ -103,11 +114,14 @@ module _ (s : List ℕ) (c : ℕ) (some : 0 < c) (any : 0 < length s) (fragments
       let at = some_is (m - 1) (whole.filled (m - 1) (omega (arith, whole.some))) in
       let closed : at.1.piece.more ≡ false = last_is (laid fragments (m - 1)) at.1 at.2 whole.last in
       let past : length s ≤ (at.0 + 1) * c = ltb-false _ _ (sym at.4.more ∙ closed) in
-      let end_some : IsSome (laid fragments (length s - 1)) = made.there at.0 (length s - 1) at.3 (record { low = omega (arith, at.4.inside); high = omega (arith, at.4.inside) }) in
+      let end_some : IsSome (laid fragments (length s - 1)) =
+      made.there at.0 (length s - 1) at.3
+      (record { low = omega (arith, at.4.inside); high = omega (arith, at.4.inside) }) in
       let under : length s - 1 < m = whole.ended (length s - 1) end_some in
       omega (arith, at.4.place.high, at.4.inside, whole.some)
     where
-      last_is : (x : Option Held) (h : Held) → x ≡ Some h → IfSome x (λ held. held.piece.more ≡ false) → h.piece.more ≡ false
+      last_is : (x : Option Held) (h : Held) → x ≡ Some h → IfSome x (λ held. held.piece.more ≡ false)
+          → h.piece.more ≡ false
       last_is None h e p = absurd (none-some h e)
       last_is (Some g) h e p = ap (λ (y : Held). y.piece.more) (sym (same_Some g h e)) ∙ p
 
@@ -132,25 +146,37 @@ module _ (s : List ℕ) (c : ℕ) (some : 0 < c) (any : 0 < length s) (fragments
           let m = made.held (length s - 1) h e in
           m.2.more ∙ le-ltb _ _ (omega (arith, m.2.place.high, m.2.inside))
 
-pub overlay_order_lem : (s : List ℕ) (mtu : ℕ) (fragments : List Fragment) → 0 < length s → 28 ≤ mtu → All (IsFragmentOf s mtu) fragments → OverlayOrder s mtu fragments
+pub overlay_order_lem : (s : List ℕ) (mtu : ℕ) (fragments : List Fragment) → 0 < length s → 28 ≤ mtu
+    → All (IsFragmentOf s mtu) fragments → OverlayOrder s mtu fragments
 overlay_order_lem s mtu fragments any low each =
     let g = cuts_grid (length s) mtu any low in
     let c : ℕ = g.0 in
-    let made : IsMade s c (laid fragments) (Index c fragments) = laid_made s c g.1 fragments (λ k d l. cut_of c g.1 g.2 (slice_index_or fragments k d) (each k d l)) in
+    let made : IsMade s c (laid fragments) (Index c fragments) =
+    laid_made s c g.1 fragments (λ k d l. cut_of c g.1 g.2 (slice_index_or fragments k d) (each k d l)) in
     record {
       bytes = λ p offset is on low high.
           let at = index_of (length s) c p g.1 (subst (λ (ps : List Part). Contains ps p) g.2 is) in
-          bytes_laid s c g.1 any fragments made at.0 offset (laid_index c p at.0 at.2 on) (place_of c p at.0 offset at.2 low high);
+          bytes_laid s c g.1 any fragments made at.0 offset (laid_index c p at.0 at.2 on)
+          (place_of c p at.0 offset at.2 low high);
       elsewhere = λ offset p.
           let at = some_is s c g.1 any fragments made offset p in
-          let l : at.0 < chunks (length s) c = index_below c at.0 g.1 at.4.inside in
-          (part (length s) c at.0, subst (λ (ps : List Part). Contains ps (part (length s) c at.0)) (sym g.2) (in_grid c at.0 l), any_from_index c at.0 fragments at.3, at.4.place.low, at.4.place.high);
+          let l : at.0 < chunks (length s) c = index_below c at.0 g.1 at.4.inside in (
+            part (length s) c at.0,
+            subst (λ (ps : List Part). Contains ps (part (length s) c at.0)) (sym g.2)
+                (in_grid c at.0 l),
+            any_from_index c at.0 fragments at.3,
+            at.4.place.low,
+            at.4.place.high,
+          );
       whole = (
         λ w p is.
             let at = index_of (length s) c p g.1 (subst (λ (ps : List Part). Contains ps p) g.2 is) in
-            subst (λ (q : Part). IsLaid fragments q) (sym at.2) (any_from_index c at.0 fragments (each_laid s c g.1 any fragments made w at.0 at.1)),
+            subst (λ (q : Part). IsLaid fragments q) (sym at.2)
+            (any_from_index c at.0 fragments (each_laid s c g.1 any fragments made w at.0 at.1)),
         λ all. whole_from s c g.1 any fragments made (λ i l.
-            let on : IsLaid fragments (part (length s) c i) = all (part (length s) c i) (subst (λ (ps : List Part). Contains ps (part (length s) c i)) (sym g.2) (in_grid c i l)) in
+            let on : IsLaid fragments (part (length s) c i) =
+            all (part (length s) c i) (subst (λ (ps : List Part). Contains ps (part (length s) c i)) (sym g.2)
+            (in_grid c i l)) in
             index_from_any c i fragments on.0 on.1 on.2 on.3 on.4),
       );
       length = ends_at_length s c g.1 any fragments made;
@@ -159,7 +185,8 @@ overlay_order_lem s mtu fragments any low each =
     laid_index : (c : ℕ) (p : Part) (i : ℕ) → p ≡ part (length s) c i → IsLaid fragments p → Index c fragments i
     laid_index c p i e on = index_from_any c i fragments on.0 on.1 on.2 on.3 (on.4 ∙ ap (λ (q : Part). q.offset) e)
 
-    place_of : (c : ℕ) (p : Part) (i offset : ℕ) → p ≡ part (length s) c i → p.offset ≤ offset → offset < p.offset + p.size → IsIn (length s) c i offset
+    place_of : (c : ℕ) (p : Part) (i offset : ℕ) → p ≡ part (length s) c i → p.offset ≤ offset
+        → offset < p.offset + p.size → IsIn (length s) c i offset
     place_of c p i offset e low high =
         let at : p.offset ≡ i * c = ap (λ (q : Part). q.offset) e in
         let size : p.size ≡ min c (length s - i * c) = ap (λ (q : Part). q.size) e in
@@ -171,9 +198,11 @@ overlay_order_lem s mtu fragments any low each =
     index_below : (c i : ℕ) → 0 < c → i * c < length s → i < chunks (length s) c
     index_below c i some h =
         let at = index_at (length s) c (i * c) some h in
-        subst (λ k. k < chunks (length s) c) (same_index (length s) c at.0 i (i * c) at.2 (record { low = omega arith; high = omega arith })) at.1
+        subst (λ k. k < chunks (length s) c)
+        (same_index (length s) c at.0 i (i * c) at.2 (record { low = omega arith; high = omega arith })) at.1
 
-    cut_of : (c : ℕ) → 0 < c → cuts (length s) mtu ≡ grid (length s) c → (f : Fragment) → IsFragmentOf s mtu f → (i : ℕ) × IsCut s c f i
+    cut_of : (c : ℕ) → 0 < c → cuts (length s) mtu ≡ grid (length s) c → (f : Fragment) → IsFragmentOf s mtu f
+        → (i : ℕ) × IsCut s c f i
     cut_of c some e f is =
         let at = index_of (length s) c is.part some (subst (λ (ps : List Part). Contains ps is.part) e is.is_part) in (
           at.0,

@@ -17,7 +17,8 @@ use Rattle.flat_wire.proofs.Grid.{cuts_grid}
 abbrev pub all_bytes : List Item → List (List ℕ)
 all_bytes xs = map (λ (item : Item). item.bytes) xs
 
-pub bytes_of_packets : (entries : List Entry) (f : Part → List ℕ) (parts : List Part) → all_bytes (items entries f parts) ≡ map f parts
+pub bytes_of_packets : (entries : List Entry) (f : Part → List ℕ) (parts : List Part)
+    → all_bytes (items entries f parts) ≡ map f parts
 bytes_of_packets entries f [] = refl
 bytes_of_packets entries f (p ∷ later) = ap (λ rest. f p ∷ rest) (go later)
   where
@@ -32,9 +33,11 @@ pub record IsSplit (parts : List Part) : Type 0 where
   pub are : parts ≡ front ++ last ∷ []
   pub more : Each (λ p. p.more ≡ true) front
 
-front_more : (n c i k : ℕ) → ((j : ℕ) → j < i + k → (j + 1) * c < n) → Each (λ p. p.more ≡ true) (map (part n c) (range_with_len i k))
+front_more : (n c i k : ℕ) → ((j : ℕ) → j < i + k → (j + 1) * c < n)
+    → Each (λ p. p.more ≡ true) (map (part n c) (range_with_len i k))
 front_more n c i zero h = tt
-front_more n c i (suc k) h = (lt-ltb ((i + 1) * c) n (h i (omega arith)), front_more n c (i + 1) k (λ j l. h j (omega arith)))
+front_more n c i (suc k) h =
+    (lt-ltb ((i + 1) * c) n (h i (omega arith)), front_more n c (i + 1) k (λ j l. h j (omega arith)))
 
 pub cuts_split : (n mtu : ℕ) → 0 < n → 28 ≤ mtu → IsSplit (cuts n mtu)
 cuts_split n mtu some low =
@@ -45,7 +48,9 @@ cuts_split n mtu some low =
     record {
       front = map (part n c) (range_with_len 0 (chunks n c - 1));
       last = part n c (chunks n c - 1);
-      are = g.2 ∙ ap (λ k. map (part n c) (range_with_len 0 k)) (sym count) ∙ map-range_with_len_more (part n c) 0 (chunks n c - 1) (chunks n c - 1) (omega arith);
+      are =
+          g.2 ∙ ap (λ k. map (part n c) (range_with_len 0 k)) (sym count)
+          ∙ map-range_with_len_more (part n c) 0 (chunks n c - 1) (chunks n c - 1) (omega arith);
       more = front_more n c 0 (chunks n c - 1) (λ j l. chunks_needed n c (j + 1) g.1 (omega arith));
     }
   where
@@ -54,21 +59,35 @@ cuts_split n mtu some low =
     go c (suc k) e h l = omega arith
 
 -- What is queued then: of a send that overflows never the last packet.
-pub each_queued : (Q : List ℕ → Type 0) (old : List (List ℕ)) (f : Part → List ℕ) (parts : List Part) → Each Q old → IsSplit parts
-    → ((p : Part) → Contains parts p → ((p.more ≡ true) ⊎ (length old + length parts ≤ OUTPUT_QUEUE_PACKETS)) → Q (f p)) → Each Q (take OUTPUT_QUEUE_PACKETS (old ++ map f parts))
+pub each_queued : (Q : List ℕ → Type 0) (old : List (List ℕ)) (f : Part → List ℕ) (parts : List Part) → Each Q old
+    → IsSplit parts
+    → ((p : Part) → Contains parts p → ((p.more ≡ true) ⊎ (length old + length parts ≤ OUTPUT_QUEUE_PACKETS)) → Q (f p))
+    → Each Q (take OUTPUT_QUEUE_PACKETS (old ++ map f parts))
 each_queued Q old f parts queued split good = go (cases_lt OUTPUT_QUEUE_PACKETS (length old + length parts))
   where
     itself : Each (Contains parts) parts
     itself = recursion_from_All (Contains parts) parts (All-contains_itself parts)
 
-    go : (OUTPUT_QUEUE_PACKETS < length old + length parts) ⊎ (length old + length parts ≤ OUTPUT_QUEUE_PACKETS) → Each Q (take OUTPUT_QUEUE_PACKETS (old ++ map f parts))
-    go (inr h) = each-take Q OUTPUT_QUEUE_PACKETS _ (each-append Q old (map f parts) queued (each-map_to Q f (λ p is. good p is (inr h)) parts itself))
+    go : (OUTPUT_QUEUE_PACKETS < length old + length parts) ⊎ (length old + length parts ≤ OUTPUT_QUEUE_PACKETS)
+        → Each Q (take OUTPUT_QUEUE_PACKETS (old ++ map f parts))
+    go (inr h) =
+        each-take Q OUTPUT_QUEUE_PACKETS _
+        (each-append Q old (map f parts) queued (each-map_to Q f (λ p is. good p is (inr h)) parts itself))
     go (inl h) =
-        let size : length parts ≡ length split.front + 1 = ap length split.are ∙ length-append split.front (split.last ∷ []) in
+        let size : length parts ≡ length split.front + 1 =
+        ap length split.are ∙ length-append split.front (split.last ∷ []) in
         let shape : old ++ map f parts ≡ (old ++ map f split.front) ++ f split.last ∷ [] =
-        ap (λ ps. old ++ map f ps) split.are ∙ ap (λ ys. old ++ ys) (map-append f split.front (split.last ∷ [])) ∙ sym (append_assoc old (map f split.front) (f split.last ∷ [])) in
-        let long : OUTPUT_QUEUE_PACKETS ≤ length (old ++ map f split.front) = omega (arith, length-append old (map f split.front), length-map split.front f) in
-        let in_front : Each (Contains split.front) split.front = recursion_from_All (Contains split.front) split.front (All-contains_itself split.front) in
-        let front_good : Each (λ p. Q (f p)) split.front = each-both (λ p is more. good p (subst (λ ps. Contains ps p) (sym split.are) (Contains-append_left split.front (split.last ∷ []) p is)) (inl more)) split.front in_front split.more in
-        subst (Each Q) (sym (ap (take OUTPUT_QUEUE_PACKETS) shape ∙ take-append-le OUTPUT_QUEUE_PACKETS (old ++ map f split.front) (f split.last ∷ []) long))
-        (each-take Q OUTPUT_QUEUE_PACKETS _ (each-append Q old (map f split.front) queued (each-map_to Q f (λ p h. h) split.front front_good)))
+        ap (λ ps. old ++ map f ps) split.are ∙ ap (λ ys. old ++ ys) (map-append f split.front (split.last ∷ []))
+        ∙ sym (append_assoc old (map f split.front) (f split.last ∷ [])) in
+        let long : OUTPUT_QUEUE_PACKETS ≤ length (old ++ map f split.front) =
+        omega (arith, length-append old (map f split.front), length-map split.front f) in
+        let in_front : Each (Contains split.front) split.front =
+        recursion_from_All (Contains split.front) split.front (All-contains_itself split.front) in
+        let front_good : Each (λ p. Q (f p)) split.front =
+        each-both (λ p is more. good p
+        (subst (λ ps. Contains ps p) (sym split.are) (Contains-append_left split.front (split.last ∷ []) p is))
+        (inl more)) split.front in_front split.more in
+        subst (Each Q) (sym (ap (take OUTPUT_QUEUE_PACKETS) shape
+        ∙ take-append-le OUTPUT_QUEUE_PACKETS (old ++ map f split.front) (f split.last ∷ []) long))
+        (each-take Q OUTPUT_QUEUE_PACKETS _
+        (each-append Q old (map f split.front) queued (each-map_to Q f (λ p h. h) split.front front_good)))

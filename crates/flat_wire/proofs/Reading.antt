@@ -19,7 +19,8 @@ use Rattle.flat_wire.proofs.Maps.{IsStretch}
 use Rattle.flat_wire.proofs.Stretch.{part_is_stretch}
 use Rattle.flat_wire.proofs.Decode.{IsHead, head_read, carried_read}
 
-module _ (mtu : ℕ) (low : 28 ≤ mtu) (x : Sending) (p : Part) (is : IsSendable mtu x) (in_cuts : Contains (cuts (length (datagram x)) mtu) p) where
+module _ (mtu : ℕ) (low : 28 ≤ mtu) (x : Sending) (p : Part) (is : IsSendable mtu x)
+    (in_cuts : Contains (cuts (length (datagram x)) mtu) p) where
   size_of_datagram : length (datagram x) ≡ 8 + length x.bytes
   size_of_datagram = length-udp x.source x.to.ip x.port x.to.port x.bytes
 
@@ -27,10 +28,20 @@ module _ (mtu : ℕ) (low : 28 ≤ mtu) (x : Sending) (p : Part) (is : IsSendabl
   is_head = record {
     id = is.id;
     steps = part_steps (length (datagram x)) mtu p low in_cuts;
-    offset = let inside : p.offset < length (datagram x) = part_inside (length (datagram x)) mtu p (omega (arith, size_of_datagram)) low in_cuts in omega (arith, size_of_datagram, is.short);
+    offset =
+        let inside : p.offset < length (datagram x) =
+        part_inside (length (datagram x)) mtu p (omega (arith, size_of_datagram)) low in_cuts in
+        omega (arith, size_of_datagram, is.short);
     source = is.source;
     destination = is.ip;
-    total = omega (arith, length-take p.size (drop p.offset (datagram x)), length-drop p.offset (datagram x), size_of_datagram, is.short);
+    total =
+        omega (
+          arith,
+          length-take p.size (drop p.offset (datagram x)),
+          length-drop p.offset (datagram x),
+          size_of_datagram,
+          is.short,
+        );
   }
 
   pub read_head : head_of (packet_for x p) ≡ head_for x p
@@ -42,14 +53,18 @@ module _ (mtu : ℕ) (low : 28 ≤ mtu) (x : Sending) (p : Part) (is : IsSendabl
   -- a part that is no fragment is the whole
   pub read_whole : p.offset ≡ 0 → p.more ≡ false → bytes_of (datagram x) p ≡ datagram x
   read_whole first last =
-      let f : Fragment = record { offset = p.offset; bytes = bytes_of (datagram x) p; more = p.more; weight = nothing } in
-      let s : IsStretch (datagram x) f = part_is_stretch (datagram x) mtu p f (omega (arith, size_of_datagram)) low in_cuts refl refl refl in
+      let f : Fragment =
+      record { offset = p.offset; bytes = bytes_of (datagram x) p; more = p.more; weight = nothing } in
+      let s : IsStretch (datagram x) f =
+      part_is_stretch (datagram x) mtu p f (omega (arith, size_of_datagram)) low in_cuts refl refl refl in
       let all : fragment_end f ≡ length (datagram x) = s.last last in
       ap (λ k. take p.size (drop k (datagram x))) first
-      ∙ take_all p.size (datagram x) (omega (arith, length-take p.size (drop p.offset (datagram x)), length-drop p.offset (datagram x)))
+      ∙ take_all p.size (datagram x)
+      (omega (arith, length-take p.size (drop p.offset (datagram x)), length-drop p.offset (datagram x)))
 
 -- what is for us and came by the wire is for one of our two addresses
-pub here_is : (c : Config) (ip : ℕ) → (is_ours c ip || (ip == limited_broadcast)) ≡ true → ip ≢ loopback → ip ≢ limited_broadcast → (ip ≡ c.addr) ⊎ (ip ≡ c.bcast)
+pub here_is : (c : Config) (ip : ℕ) → (is_ours c ip || (ip == limited_broadcast)) ≡ true → ip ≢ loopback
+    → ip ≢ limited_broadcast → (ip ≡ c.addr) ⊎ (ip ≡ c.bcast)
 here_is c ip e not_loopback not_limited_broadcast = outer (or_cases (is_ours c ip) _ e)
   where
     inner : ((ip == c.addr) ≡ true) ⊎ ((ip == c.bcast) ≡ true) → (ip ≡ c.addr) ⊎ (ip ≡ c.bcast)

@@ -22,10 +22,12 @@ all-front : {X : Type 0} (P : X → Type 0) (xs ys : List X) → All P (xs ++ ys
 all-front P xs ys h = All-from_recursion P xs (each-front P xs ys (recursion_from_All P (xs ++ ys) h))
 
 found_is_there : {X : Type 0} (p : X → Bool) (xs : List X) (x : X) → find p xs ≡ Some x → Contains xs x
-found_is_there p xs x e = (each-find (Contains xs) p xs x (recursion_from_All (Contains xs) xs (All-contains_itself xs)) e).0
+found_is_there p xs x e =
+    (each-find (Contains xs) p xs x (recursion_from_All (Contains xs) xs (All-contains_itself xs)) e).0
 
 -- a run of turns goes through the state between two of them
-leads_parts : (L : Ledger) (old new : State) (before rest : List Turn) → Leads L old (before ++ rest) new → (mid : State) × Leads L old before mid × Leads L mid rest new
+leads_parts : (L : Ledger) (old new : State) (before rest : List Turn) → Leads L old (before ++ rest) new
+    → (mid : State) × Leads L old before mid × Leads L mid rest new
 leads_parts L old new [] rest l = (old, refl, l)
 leads_parts L old new (turn ∷ before) rest l =
     let later = leads_parts L l.1 new before rest l.3 in
@@ -53,18 +55,22 @@ record Waited (fd most : ℕ) (old : State) (sender : Addr) (bytes : List ℕ) :
   sender_is : sender ≡ datagram.sender
   bytes_are : bytes ≡ take most datagram.item.bytes
 
-waited : (L : Ledger) (fd most : ℕ) (old new : State) (sender : Addr) (bytes : List ℕ) → StepBy L old (Receive fd most) (Received sender bytes) new → Waited fd most old sender bytes
+waited : (L : Ledger) (fd most : ℕ) (old new : State) (sender : Addr) (bytes : List ℕ)
+    → StepBy L old (Receive fd most) (Received sender bytes) new → Waited fd most old sender bytes
 waited L fd most old new sender bytes step = by_case step
     (λ none r. absurd (subst IsReceived r.0 tt))
     (λ me found r. of_queue me found me.queue refl r)
   where
-    of_queue : (me : Socket) → socket_at fd old ≡ Some me → (queue : List Datagram) → me.queue ≡ queue → Receives fd most queue old (Received sender bytes) new → Waited fd most old sender bytes
+    of_queue : (me : Socket) → socket_at fd old ≡ Some me → (queue : List Datagram) → me.queue ≡ queue
+        → Receives fd most queue old (Received sender bytes) new → Waited fd most old sender bytes
     of_queue me found [] is r = absurd (subst IsReceived r.0 tt)
     of_queue me found (d ∷ later) is r = record {
       me = me;
       datagram = d;
       found = found;
-      in_queue = subst (λ queue. Contains queue d) (sym is) (All-head (Contains (d ∷ later)) d later (All-contains_itself (d ∷ later)));
+      in_queue =
+          subst (λ queue. Contains queue d) (sym is)
+          (All-head (Contains (d ∷ later)) d later (All-contains_itself (d ∷ later)));
       sender_is = ap sender_of r.0;
       bytes_are = ap bytes_of r.0;
     }
@@ -83,16 +89,21 @@ received_law_lem L M first second sent before after s t fd most sender bytes w f
       not_addr = w.not_addr;
       not_bcast = w.not_bcast;
       few = w.few;
-      wire = all-front (λ packet. ComesFrom first.addr packet → Contains (filter_map packet_out sent) packet) (filter_map packet_in before) (filter_map packet_in (turn ∷ after))
-          (subst (All (λ packet. ComesFrom first.addr packet → Contains (filter_map packet_out sent) packet)) (filter_map-append packet_in before (turn ∷ after)) w.wire);
+      wire =
+          all-front (λ packet. ComesFrom first.addr packet → Contains (filter_map packet_out sent) packet)
+          (filter_map packet_in before) (filter_map packet_in (turn ∷ after))
+          (subst (All (λ packet. ComesFrom first.addr packet → Contains (filter_map packet_out sent) packet))
+          (filter_map-append packet_in before (turn ∷ after)) w.wire);
     } in
     let law = wire_law_lem L M first second sent before s old wired was.me was.datagram
-    (found_is_there (λ (socket : Socket). socket.fd == fd) old.sockets was.me was.found) was.in_queue (ap (λ (a : Addr). a.ip) (sym was.sender_is) ∙ from) in
+    (found_is_there (λ (socket : Socket). socket.fd == fd) old.sockets was.me was.found) was.in_queue
+    (ap (λ (a : Addr). a.ip) (sym was.sender_is) ∙ from) in
     record {
       whole = was.datagram.item.bytes;
       bytes_are = was.bytes_are;
       to = law.0;
-      answered = subst (λ (a : Addr). IsAnswered L first sent s a.port law.0 was.datagram.item.bytes) (sym was.sender_is) law.1;
+      answered =
+          subst (λ (a : Addr). IsAnswered L first sent s a.port law.0 was.datagram.item.bytes) (sym was.sender_is) law.1;
       here = law.3;
       then' = old;
       leads = parts.1;

@@ -91,7 +91,8 @@ module _ (S A B mtu : ℕ) (P : Sending → Part → Type 0) (Answered : Sending
 
   module _ (ports : ℕ → Option ℕ) where
     -- the counters are no part of it
-    pub same_but_counters : (old new : State) → IsGood ports old → new.config ≡ old.config → new.sockets ≡ old.sockets → new.unfinished ≡ old.unfinished → IsGood ports new
+    pub same_but_counters : (old new : State) → IsGood ports old → new.config ≡ old.config → new.sockets ≡ old.sockets
+        → new.unfinished ≡ old.unfinished → IsGood ports new
     same_but_counters old new good c s u = record {
       addr = ap (λ (x : Config). x.addr) c ∙ good.addr;
       bcast = ap (λ (x : Config). x.bcast) c ∙ good.bcast;
@@ -102,7 +103,8 @@ module _ (S A B mtu : ℕ) (P : Sending → Part → Type 0) (Answered : Sending
     good_reclaimed : (s : State) → IsGood ports s → IsGood ports (reclaimed s)
     good_reclaimed s good = record { addr = good.addr; bcast = good.bcast; sockets = good.sockets; unfinished = tt }
 
-    pub good_has_buffers : (old new : State) (held : Weight) (n : Need) (yes : Bool) → IsGood ports old → HasBuffers M old held n yes new → IsGood ports new
+    pub good_has_buffers : (old new : State) (held : Weight) (n : Need) (yes : Bool) → IsGood ports old
+        → HasBuffers M old held n yes new → IsGood ports new
     good_has_buffers old new held n true good (inl a) = subst (IsGood ports) (sym a.1) good
     good_has_buffers old new held n true good (inr a) = subst (IsGood ports) (sym a.1) (good_reclaimed old good)
     good_has_buffers old new held n false good a = subst (IsGood ports) (sym a.1) (good_reclaimed old good)
@@ -111,13 +113,15 @@ module _ (S A B mtu : ℕ) (P : Sending → Part → Type 0) (Answered : Sending
     good_ends s good new why e = subst (IsGood ports) (sym e) (same_but_counters s (ends why s) good refl refl refl)
 
     good_tests : (old new : State) (held : Weight) (n : ℕ) (Then : State → Type 0) → IsGood ports old
-        → ((mid : State) → IsGood ports mid → Then mid → IsGood ports new) → Arrival.Tests M old held n new Then → IsGood ports new
+        → ((mid : State) → IsGood ports mid → Then mid → IsGood ports new) → Arrival.Tests M old held n new Then
+        → IsGood ports new
     good_tests old new held n Then good goes t =
         let at : IsGood ports t.mid = good_has_buffers old t.mid held (need_mbufs n) t.answer good t.has_buffers in
         by_choice t.goes_on (λ e h. goes t.mid at h) (λ e h. good_ends t.mid at new NoBufs h)
 
     -- a datagram comes into the queue of the sockets with a descriptor
-    good_queued : (s : State) (fd : ℕ) (d : Datagram) → IsGood ports s → IsGoodDatagram (ports fd) d → IsGood ports (change_socket fd (Arrival.queued d) s)
+    good_queued : (s : State) (fd : ℕ) (d : Datagram) → IsGood ports s → IsGoodDatagram (ports fd) d
+        → IsGood ports (change_socket fd (Arrival.queued d) s)
     good_queued s fd d good is = record {
       addr = good.addr;
       bcast = good.bcast;
@@ -125,27 +129,39 @@ module _ (S A B mtu : ℕ) (P : Sending → Part → Type 0) (Answered : Sending
       unfinished = good.unfinished;
     }
       where
-        go : (socket : Socket) → IsGoodSocket ports socket → (b : Bool) → (socket.fd == fd) ≡ b → IsGoodSocket ports (cond b (Arrival.queued d socket) socket)
+        go : (socket : Socket) → IsGoodSocket ports socket → (b : Bool) → (socket.fd == fd) ≡ b
+            → IsGoodSocket ports (cond b (Arrival.queued d socket) socket)
         go socket g false e = g
         go socket g true e =
             let at : socket.port ≡ ports fd = g.port ∙ ap ports (eqb-true socket.fd fd e) in
-            record { port = g.port; queue = each-append (IsGoodDatagram socket.port) socket.queue (d ∷ []) g.queue (subst (λ q. IsGoodDatagram q d) (sym at) is, tt); local = g.local }
+            record {
+              port = g.port;
+              queue = each-append (IsGoodDatagram socket.port) socket.queue (d ∷ []) g.queue
+                  (subst (λ q. IsGoodDatagram q d) (sym at) is, tt);
+              local = g.local;
+            }
 
     good_appends : (held : Weight) (sender : Addr) (item : Item) (to : Socket) (old new : State) → IsGood ports old
         → ((w : Weight) → IsGoodDatagram (ports to.fd) (record { sender = sender; item = record item { weight = w } }))
         → Arrival.Appends M held sender item to old new → IsGood ports new
     good_appends held sender item to old new good is h =
         by_choice h
-        (λ e t. good_tests old new (held ⊕ item.weight) 1 _ good (λ mid at e. subst (IsGood ports) (sym e) (good_queued mid to.fd _ at (is (mbuf ⊕ item.weight)))) t)
+        (λ e t. good_tests old new (held ⊕ item.weight) 1 _ good
+        (λ mid at e. subst (IsGood ports) (sym e) (good_queued mid to.fd _ at (is (mbuf ⊕ item.weight)))) t)
         (λ e t. good_ends old good new UdpFullSocket t)
 
-    good_delivers : (held : Weight) (sender : Addr) (item : Item) (tos : List Socket) (old new : State) → IsGood ports old
-        → Each (λ to. (w : Weight) → IsGoodDatagram (ports to.fd) (record { sender = sender; item = record item { weight = w } })) tos
+    good_delivers : (held : Weight) (sender : Addr) (item : Item) (tos : List Socket) (old new : State)
+        → IsGood ports old
+        → Each (λ to. (w : Weight) → IsGoodDatagram (ports to.fd)
+        (record { sender = sender; item = record item { weight = w } })) tos
         → Arrival.Delivers M held sender item tos old new → IsGood ports new
     good_delivers held sender item [] old new good is h = absurd h
-    good_delivers held sender item (last ∷ []) old new good is h = good_appends held sender item last old new good is.0 h
+    good_delivers held sender item (last ∷ []) old new good is h =
+        good_appends held sender item last old new good is.0 h
     good_delivers held sender item (to ∷ next ∷ more) old new good is (after, tests, later) =
-        let at : IsGood ports after = good_tests old after (held ⊕ item.weight) item.weight.mbufs _ good (λ mid g a. good_appends (held ⊕ item.weight) sender item to mid after g is.0 a) tests in
+        let at : IsGood ports after =
+        good_tests old after (held ⊕ item.weight) item.weight.mbufs _ good
+        (λ mid g a. good_appends (held ⊕ item.weight) sender item to mid after g is.0 a) tests in
         good_delivers held sender item (next ∷ more) after new at is.1 later
 
     -- ---- who hears a datagram
@@ -161,21 +177,25 @@ module _ (S A B mtu : ℕ) (P : Sending → Part → Type 0) (Answered : Sending
         no e = cc
     same_port (Some q) port e = ap Some (eqb-true q port e)
 
-    hears : (q : LookupKey) (port : ℕ) → q.port ≡ Some port → (to : Socket) → IsGoodSocket ports to → matches q to ≡ true → Hears port to
+    hears : (q : LookupKey) (port : ℕ) → q.port ≡ Some port → (to : Socket) → IsGoodSocket ports to
+        → matches q to ≡ true → Hears port to
     hears q port at to g m =
         let first = and_parts _ _ m in
         let second = and_parts (are_same to.port q.port) _ first.0 in
         sym g.port ∙ same_port to.port port (subst (λ p. are_same to.port p ≡ true) at second.0)
 
-    each_matching : (q : LookupKey) (port : ℕ) → q.port ≡ Some port → (sockets : List Socket) → Each (IsGoodSocket ports) sockets → Each (Hears port) (filter (matches q) sockets)
+    each_matching : (q : LookupKey) (port : ℕ) → q.port ≡ Some port → (sockets : List Socket)
+        → Each (IsGoodSocket ports) sockets → Each (Hears port) (filter (matches q) sockets)
     each_matching q port at [] g = tt
     each_matching q port at (to ∷ sockets) g = go (matches q to) refl (each_matching q port at sockets g.1)
       where
-        go : (b : Bool) → matches q to ≡ b → Each (Hears port) (filter (matches q) sockets) → Each (Hears port) (cond b (to ∷ filter (matches q) sockets) (filter (matches q) sockets))
+        go : (b : Bool) → matches q to ≡ b → Each (Hears port) (filter (matches q) sockets)
+            → Each (Hears port) (cond b (to ∷ filter (matches q) sockets) (filter (matches q) sockets))
         go true e rest = (hears q port at to g.0 e, rest)
         go false e rest = rest
 
-    each-up_to_first : (R : Socket → Type 0) (p : Socket → Bool) (xs : List Socket) → Each R xs → Each R (up_to_first p xs)
+    each-up_to_first : (R : Socket → Type 0) (p : Socket → Bool) (xs : List Socket) → Each R xs
+        → Each R (up_to_first p xs)
     each-up_to_first R p [] h = tt
     each-up_to_first R p (x ∷ xs) h = go (p x) (each-up_to_first R p xs h.1)
       where
@@ -183,21 +203,27 @@ module _ (S A B mtu : ℕ) (P : Sending → Part → Type 0) (Answered : Sending
         go true rest = (h.0, tt)
         go false rest = (h.0, rest)
 
-    youngest_hears : (q : LookupKey) (port : ℕ) → q.port ≡ Some port → (k : ℕ) (sockets : List Socket) (to : Socket) → Each (IsGoodSocket ports) sockets → youngest k q sockets ≡ Some to → Hears port to
+    youngest_hears : (q : LookupKey) (port : ℕ) → q.port ≡ Some port → (k : ℕ) (sockets : List Socket) (to : Socket)
+        → Each (IsGoodSocket ports) sockets → youngest k q sockets ≡ Some to → Hears port to
     youngest_hears q port at k sockets to g e =
-        let found = each-find (IsGoodSocket ports) (λ socket. matches q socket && (wildcards q socket == k)) sockets to g e in
+        let found =
+        each-find (IsGoodSocket ports) (λ socket. matches q socket && (wildcards q socket == k)) sockets to g e in
         hears q port at to found.0 (and_parts (matches q to) _ found.1).0
 
-    each_best : (q : LookupKey) (port : ℕ) → q.port ≡ Some port → (sockets : List Socket) → Each (IsGoodSocket ports) sockets → Each (Hears port) (option_to_list (best q sockets))
-    each_best q port at sockets g = go (youngest 0 q sockets) (youngest 1 q sockets) (youngest 2 q sockets) refl refl refl
+    each_best : (q : LookupKey) (port : ℕ) → q.port ≡ Some port → (sockets : List Socket)
+        → Each (IsGoodSocket ports) sockets → Each (Hears port) (option_to_list (best q sockets))
+    each_best q port at sockets g =
+        go (youngest 0 q sockets) (youngest 1 q sockets) (youngest 2 q sockets) refl refl refl
       where
-        go : (x y z : Option Socket) → youngest 0 q sockets ≡ x → youngest 1 q sockets ≡ y → youngest 2 q sockets ≡ z → Each (Hears port) (option_to_list (option_or x (option_or y z)))
+        go : (x y z : Option Socket) → youngest 0 q sockets ≡ x → youngest 1 q sockets ≡ y → youngest 2 q sockets ≡ z
+            → Each (Hears port) (option_to_list (option_or x (option_or y z)))
         go (Some to) y z ex ey ez = (youngest_hears q port at 0 sockets to g ex, tt)
         go None (Some to) z ex ey ez = (youngest_hears q port at 1 sockets to g ey, tt)
         go None None (Some to) ex ey ez = (youngest_hears q port at 2 sockets to g ez, tt)
         go None None None ex ey ez = tt
 
-    each_hearer : (s : State) (destination : ℕ) (q : LookupKey) (port : ℕ) → q.port ≡ Some port → IsGood ports s → Each (Hears port) (Arrival.hearers s destination q)
+    each_hearer : (s : State) (destination : ℕ) (q : LookupKey) (port : ℕ) → q.port ≡ Some port → IsGood ports s
+        → Each (Hears port) (Arrival.hearers s destination q)
     each_hearer s destination q port at good = go (Arrival.is_broadcast s.config destination)
       where
         go : (b : Bool) → Each (Hears port) (cond b (receivers q s.sockets) (option_to_list (best q s.sockets)))
@@ -214,26 +240,42 @@ module _ (S A B mtu : ℕ) (P : Sending → Part → Type 0) (Answered : Sending
       pub goes_to : sending.to.ip ≡ destination
       pub here : IsHere destination
 
-    good_goes : (held : Weight) (sender : Addr) (item : Item) (destination port : ℕ) (tos : List Socket) (old new : State) → IsGood ports old → Each (Hears port) tos
+    good_goes : (held : Weight) (sender : Addr) (item : Item) (destination port : ℕ) (tos : List Socket)
+        (old new : State) → IsGood ports old → Each (Hears port) tos
         → ((w : Weight) → IsGoodDatagram (Some port) (record { sender = sender; item = record item { weight = w } }))
         → Arrival.GoesTo M held sender item destination tos old new → IsGood ports new
     good_goes held sender item destination port [] old new good hear is h = good_ends old good new _ h
-    good_goes held sender item destination port (to ∷ more) old new good hear is h = good_delivers held sender item (to ∷ more) old new good (each (to ∷ more) hear) h
+    good_goes held sender item destination port (to ∷ more) old new good hear is h =
+        good_delivers held sender item (to ∷ more) old new good (each (to ∷ more) hear) h
       where
-        each : (xs : List Socket) → Each (Hears port) xs → Each (λ x. (w : Weight) → IsGoodDatagram (ports x.fd) (record { sender = sender; item = record item { weight = w } })) xs
+        each : (xs : List Socket) → Each (Hears port) xs
+            → Each (λ x. (w : Weight) → IsGoodDatagram (ports x.fd)
+            (record { sender = sender; item = record item { weight = w } })) xs
         each [] h = tt
-        each (x ∷ xs) h = (λ w. subst (λ p. IsGoodDatagram p (record { sender = sender; item = record item { weight = w } })) (sym h.0) (is w), each xs h.1)
+        each (x ∷ xs) h = (
+          λ w. subst (λ p. IsGoodDatagram p (record { sender = sender; item = record item { weight = w } })) (sym h.0)
+              (is w),
+          each xs h.1,
+        )
 
-    pub good_whole : (held : Weight) (source destination protocol : ℕ) (item : Item) (old new : State) → IsGood ports old → (source ≡ S → protocol ≡ 17 → IsWholeOf destination item.bytes)
+    pub good_whole : (held : Weight) (source destination protocol : ℕ) (item : Item) (old new : State)
+        → IsGood ports old → (source ≡ S → protocol ≡ 17 → IsWholeOf destination item.bytes)
         → Arrival.WholeArrives M held source destination protocol item old new → IsGood ports new
     good_whole held source destination protocol item old new good is h =
         by_choice h
         (λ t c. by_case c
-        (λ e g. good_goes held _ _ destination (u16_at 2 item.bytes) _ old new good (each_hearer old destination _ (u16_at 2 item.bytes) refl good) (λ w. record { sent = λ at. sent w (is at (eqb-true protocol 17 t)) }) g)
+        (λ e g. good_goes held _ _ destination (u16_at 2 item.bytes) _ old new good
+        (each_hearer old destination _ (u16_at 2 item.bytes) refl good)
+        (λ w. record { sent = λ at. sent w (is at (eqb-true protocol 17 t)) }) g)
         (λ why e g. good_ends old good new why g))
         (λ e g. good_ends old good new _ g)
       where
-        sent : (w : Weight) → IsWholeOf destination item.bytes → IsSent (Some (u16_at 2 item.bytes)) (record { sender = record { ip = source; port = u16_at 0 item.bytes }; item = record { bytes = udp_bytes item.bytes; weight = w } })
+        sent : (w : Weight) → IsWholeOf destination item.bytes
+            → IsSent (Some (u16_at 2 item.bytes))
+            (record {
+              sender = record { ip = source; port = u16_at 0 item.bytes };
+              item = record { bytes = udp_bytes item.bytes; weight = w };
+            })
         sent w o =
             let x : Sending = o.sending in
             record {
@@ -271,9 +313,13 @@ module _ (S A B mtu : ℕ) (P : Sending → Part → Type 0) (Answered : Sending
     good_at : (k : Key) (s : State) (u : Unfinished) → IsGood ports s → unfinished_at k s ≡ Some u → IsGoodKey k u.bytes
     good_at k s u good e =
         let found = each-find IsGoodUnfinished (is_key k) s.unfinished u good.unfinished e in
-        record { of = λ from udp x p given id. found.0.of (key_source k u found.1 ∙ from) (key_protocol k u found.1 ∙ udp) x p given (id ∙ sym (key_id k u found.1)) }
+        record {
+          of = λ from udp x p given id. found.0.of (key_source k u found.1 ∙ from)
+              (key_protocol k u found.1 ∙ udp) x p given (id ∙ sym (key_id k u found.1));
+        }
 
-    good_set : (k : Key) (bytes : Map) (s : State) → IsGood ports s → IsGoodKey k bytes → IsGood ports (set_bytes k bytes s)
+    good_set : (k : Key) (bytes : Map) (s : State) → IsGood ports s → IsGoodKey k bytes
+        → IsGood ports (set_bytes k bytes s)
     good_set k bytes s good is = record {
       addr = good.addr;
       bcast = good.bcast;
@@ -281,9 +327,14 @@ module _ (S A B mtu : ℕ) (P : Sending → Part → Type 0) (Answered : Sending
       unfinished = each-map IsGoodUnfinished _ (λ u g. go u g (is_key k u) refl) s.unfinished good.unfinished;
     }
       where
-        go : (u : Unfinished) → IsGoodUnfinished u → (b : Bool) → is_key k u ≡ b → IsGoodUnfinished (cond b (record u { bytes = bytes }) u)
+        go : (u : Unfinished) → IsGoodUnfinished u → (b : Bool) → is_key k u ≡ b
+            → IsGoodUnfinished (cond b (record u { bytes = bytes }) u)
         go u g false e = g
-        go u g true e = record { of = λ from udp x p given id. is.of (sym (key_source k u e) ∙ from) (sym (key_protocol k u e) ∙ udp) x p given (id ∙ key_id k u e) }
+        go u g true e =
+            record {
+              of = λ from udp x p given id. is.of (sym (key_source k u e) ∙ from) (sym (key_protocol k u e) ∙ udp)
+                  x p given (id ∙ key_id k u e);
+            }
 
     good_end : (k : Key) (s : State) → IsGood ports s → IsGood ports (Arrival.counts_reassembled (end_unfinished k s))
     good_end k s good = record {
@@ -320,16 +371,26 @@ module _ (S A B mtu : ℕ) (P : Sending → Part → Type 0) (Answered : Sending
           (omega (arith, length-udp o.sending.source o.sending.to.ip o.sending.port o.sending.to.port o.sending.bytes))
           low (log.part o.sending o.part o.given) o.offset o.bytes o.more
 
-      good_overlay : (k : Key) (f : Fragment) (bytes : Map) → IsGoodKey k bytes → (k.source ≡ S → k.protocol ≡ 17 → IsPartOf k f) → IsGoodKey k (overlay bytes f)
-      good_overlay k f bytes good is = record { of = λ from udp x p given id. go x (good.of from udp x p given id) (is from udp) (log.unique (is from udp).sending x (is from udp).part p (is from udp).given given ((is from udp).id ∙ sym id)) }
+      good_overlay : (k : Key) (f : Fragment) (bytes : Map) → IsGoodKey k bytes
+          → (k.source ≡ S → k.protocol ≡ 17 → IsPartOf k f) → IsGoodKey k (overlay bytes f)
+      good_overlay k f bytes good is =
+          record {
+            of = λ from udp x p given id. go x (good.of from udp x p given id) (is from udp)
+                (log.unique (is from udp).sending x (is from udp).part p (is from udp).given given
+                ((is from udp).id ∙ sym id));
+          }
         where
           go : (x : Sending) → IsGoodMap x bytes → (o : IsPartOf k f) → o.sending ≡ x → IsGoodMap x (overlay bytes f)
           go x g o same = record {
-            map = overlay_is_map bytes f (datagram x) g.map (subst (λ y. IsStretch (datagram y) f) same (stretch k f o));
-            closed = overlay_closed bytes f (Answered x) g.closed (λ e. subst Answered same (log.answered o.sending o.part o.given (sym o.more ∙ e)));
+            map =
+                overlay_is_map bytes f (datagram x) g.map (subst (λ y. IsStretch (datagram y) f) same (stretch k f o));
+            closed =
+                overlay_closed bytes f (Answered x) g.closed
+                (λ e. subst Answered same (log.answered o.sending o.part o.given (sym o.more ∙ e)));
           }
 
-      good_lays : (held : Weight) (k : Key) (f : Fragment) (u : Unfinished) (old new : State) → IsGood ports old → IsGoodKey k u.bytes → (k.source ≡ S → k.protocol ≡ 17 → IsPartOf k f)
+      good_lays : (held : Weight) (k : Key) (f : Fragment) (u : Unfinished) (old new : State) → IsGood ports old
+          → IsGoodKey k u.bytes → (k.source ≡ S → k.protocol ≡ 17 → IsPartOf k f)
           → Arrival.Lays M held k f u old new → IsGood ports new
       good_lays held k f u old new good at is h =
           by_choice h
@@ -339,7 +400,8 @@ module _ (S A B mtu : ℕ) (P : Sending → Part → Type 0) (Answered : Sending
           laid : IsGoodKey k (overlay u.bytes f)
           laid = good_overlay k f u.bytes at is
 
-          whole : (n : ℕ) → IsWhole (overlay u.bytes f) n → k.source ≡ S → k.protocol ≡ 17 → IsWholeOf k.destination (bytes_below (overlay u.bytes f) n)
+          whole : (n : ℕ) → IsWhole (overlay u.bytes f) n → k.source ≡ S → k.protocol ≡ 17
+              → IsWholeOf k.destination (bytes_below (overlay u.bytes f) n)
           whole n w from udp =
               let o : IsPartOf k f = is from udp in
               let g : IsGoodMap o.sending (overlay u.bytes f) = laid.of from udp o.sending o.part o.given o.id in
@@ -352,31 +414,42 @@ module _ (S A B mtu : ℕ) (P : Sending → Part → Type 0) (Answered : Sending
               }
 
           go : Arrival.Settles M held k (overlay u.bytes f) old new → IsGood ports new
-          go (inl (n, w, joined, j, arrives)) = good_whole held k.source k.destination k.protocol _ _ new (good_end k old good) (whole n w) arrives
+          go (inl (n, w, joined, j, arrives)) =
+              good_whole held k.source k.destination k.protocol _ _ new (good_end k old good) (whole n w) arrives
           go (inr (unwhole, e)) = subst (IsGood ports) (sym e) (good_set k (overlay u.bytes f) old good laid)
 
-      good_joins : (held : Weight) (k : Key) (f : Fragment) (old new : State) → IsGood ports old → (k.source ≡ S → k.protocol ≡ 17 → IsPartOf k f) → Arrival.Joins M held k f old new → IsGood ports new
+      good_joins : (held : Weight) (k : Key) (f : Fragment) (old new : State) → IsGood ports old
+          → (k.source ≡ S → k.protocol ≡ 17 → IsPartOf k f) → Arrival.Joins M held k f old new → IsGood ports new
       good_joins held k f old new good is h =
           by_case h
-          (λ e t. good_tests old new (held ⊕ f.weight) 1 _ good (λ mid at r. let begins : IsGood ports (begin_unfinished k mid) = good_begin k mid at in good_lays held k f (begun k) (begin_unfinished k mid) new begins (good_begun k) is r) t)
+          (λ e t. good_tests old new (held ⊕ f.weight) 1 _ good
+          (λ mid at r. let begins : IsGood ports (begin_unfinished k mid) = good_begin k mid at in
+          good_lays held k f (begun k) (begin_unfinished k mid) new begins (good_begun k) is r) t)
           (λ u e l. good_lays held k f u old new good (good_at k old u good e) is l)
 
-      good_pulls : (origin : Origin) (held w : Weight) (total : ℕ) (old new : State) (Then : Weight → State → Type 0) → IsGood ports old
-          → ((w : Weight) (mid : State) → IsGood ports mid → Then w mid → IsGood ports new) → Arrival.PullsUp M origin held w total old new Then → IsGood ports new
+      good_pulls : (origin : Origin) (held w : Weight) (total : ℕ) (old new : State) (Then : Weight → State → Type 0)
+          → IsGood ports old
+          → ((w : Weight) (mid : State) → IsGood ports mid → Then w mid → IsGood ports new)
+          → Arrival.PullsUp M origin held w total old new Then → IsGood ports new
       good_pulls Looped held w total old new Then good goes h = goes w old good h
       good_pulls (By_wire received) held w total old new Then good goes h =
-          by_choice h (λ e t. good_tests old new (held ⊕ w) 1 _ good (λ mid at r. goes _ mid at r) t) (λ e r. goes w old good r)
+          by_choice h (λ e t. good_tests old new (held ⊕ w) 1 _ good (λ mid at r. goes _ mid at r) t)
+          (λ e r. goes w old good r)
 
       good_fragment : (origin : Origin) (held : Weight) (head : Head) (item : Item) (old new : State) → IsGood ports old
-          → ((w : Weight) → head.source ≡ S → head.protocol ≡ 17 → IsPartOf (Arrival.key_of head) (record { offset = head.offset; bytes = item.bytes; more = head.more; weight = w }))
+          → ((w : Weight) → head.source ≡ S → head.protocol ≡ 17
+          → IsPartOf (Arrival.key_of head)
+          (record { offset = head.offset; bytes = item.bytes; more = head.more; weight = w }))
           → Arrival.FragmentArrives M origin held head item old new → IsGood ports new
       good_fragment origin held head item old new good is h =
           by_choice h
           (λ e g. good_ends old good new _ g)
-          (λ e p. good_pulls origin held item.weight _ (Arrival.counts_fragment old) new _ (same_but_counters old (Arrival.counts_fragment old) good refl refl refl)
+          (λ e p. good_pulls origin held item.weight _ (Arrival.counts_fragment old) new _
+          (same_but_counters old (Arrival.counts_fragment old) good refl refl refl)
           (λ w mid at j. good_joins held _ _ mid new at (is w) j) p)
 
-      good_here : (old : State) (ip : ℕ) → IsGood ports old → Arrival.is_for_us old.config ip ≡ true → ip ≢ loopback → ip ≢ limited_broadcast → IsHere ip
+      good_here : (old : State) (ip : ℕ) → IsGood ports old → Arrival.is_for_us old.config ip ≡ true → ip ≢ loopback
+          → ip ≢ limited_broadcast → IsHere ip
       good_here old ip good ours a b = go (here_is old.config ip ours a b)
         where
           go : (ip ≡ old.config.addr) ⊎ (ip ≡ old.config.bcast) → IsHere ip
@@ -384,7 +457,8 @@ module _ (S A B mtu : ℕ) (P : Sending → Part → Type 0) (Answered : Sending
           go (inr e) = inr (e ∙ good.bcast)
 
       -- what is read in such a packet
-      module _ (item : Item) (old : State) (good : IsGood ports old) (x : Sending) (p : Part) (given : P x p) (bytes_are : item.bytes ≡ packet_for x p)
+      module _ (item : Item) (old : State) (good : IsGood ports old) (x : Sending) (p : Part) (given : P x p)
+          (bytes_are : item.bytes ≡ packet_for x p)
           (ours : Arrival.is_for_us old.config (head_of item.bytes).destination ≡ true) where
         sendable : IsSendable mtu x
         sendable = log.sendable x p given
@@ -393,7 +467,9 @@ module _ (S A B mtu : ℕ) (P : Sending → Part → Type 0) (Answered : Sending
         head_is = ap head_of bytes_are ∙ read_head mtu low x p sendable (log.part x p given)
 
         carried_is : (Arrival.carried item).bytes ≡ bytes_of (datagram x) p
-        carried_is = ap (λ bytes. drop 20 (take (total_of bytes) bytes)) bytes_are ∙ read_carried mtu low x p sendable (log.part x p given)
+        carried_is =
+            ap (λ bytes. drop 20 (take (total_of bytes) bytes)) bytes_are
+            ∙ read_carried mtu low x p sendable (log.part x p given)
 
         to_is : x.to.ip ≡ (head_of item.bytes).destination
         to_is = sym (ap (λ (h : Head). h.destination) head_is)
@@ -402,7 +478,13 @@ module _ (S A B mtu : ℕ) (P : Sending → Part → Type 0) (Answered : Sending
         here = good_here old (head_of item.bytes).destination good ours
             (λ e. sendable.not_loopback (to_is ∙ e)) (λ e. sendable.not_limited_broadcast (to_is ∙ e))
 
-        part_read : (w : Weight) → IsPartOf (Arrival.key_of (head_of item.bytes)) (record { offset = (head_of item.bytes).offset; bytes = (Arrival.carried item).bytes; more = (head_of item.bytes).more; weight = w })
+        part_read : (w : Weight) → IsPartOf (Arrival.key_of (head_of item.bytes))
+            (record {
+              offset = (head_of item.bytes).offset;
+              bytes = (Arrival.carried item).bytes;
+              more = (head_of item.bytes).more;
+              weight = w;
+            })
         part_read w = record {
           sending = x;
           part = p;
@@ -415,7 +497,8 @@ module _ (S A B mtu : ℕ) (P : Sending → Part → Type 0) (Answered : Sending
           more = ap (λ (h : Head). h.more) head_is;
         }
 
-        whole_read : Arrival.is_fragment (head_of item.bytes) ≡ false → IsWholeOf (head_of item.bytes).destination (Arrival.carried item).bytes
+        whole_read : Arrival.is_fragment (head_of item.bytes) ≡ false
+            → IsWholeOf (head_of item.bytes).destination (Arrival.carried item).bytes
         whole_read e =
             let parts = or_parts _ _ e in
             let more : p.more ≡ false = sym (ap (λ (h : Head). h.more) head_is) ∙ parts.0 in
@@ -429,25 +512,32 @@ module _ (S A B mtu : ℕ) (P : Sending → Part → Type 0) (Answered : Sending
               here = here;
             }
 
-      good_passes : (origin : Origin) (held : Weight) (item : Item) (old new : State) → IsGood ports old → 20 ≤ length item.bytes → IsGoodPacket item.bytes → Arrival.Passes M origin held item old new → IsGood ports new
+      good_passes : (origin : Origin) (held : Weight) (item : Item) (old new : State) → IsGood ports old
+          → 20 ≤ length item.bytes → IsGoodPacket item.bytes → Arrival.Passes M origin held item old new
+          → IsGood ports new
       good_passes origin held item old new good whole is h =
           by_choice h
           (λ ours c. by_choice c
-          (λ e f. good_fragment origin held (head_of item.bytes) (Arrival.carried item) old new good (λ w from udp. let o = is (named from udp) in part_read item old good o.0 o.1 o.2 o.3 ours w) f)
-          (λ e w. good_whole held _ _ _ (Arrival.carried item) old new good (λ from udp. let o = is (named from udp) in whole_read item old good o.0 o.1 o.2 o.3 ours e) w))
+          (λ e f. good_fragment origin held (head_of item.bytes) (Arrival.carried item) old new good
+          (λ w from udp. let o = is (named from udp) in part_read item old good o.0 o.1 o.2 o.3 ours w) f)
+          (λ e w. good_whole held _ _ _ (Arrival.carried item) old new good
+          (λ from udp. let o = is (named from udp) in whole_read item old good o.0 o.1 o.2 o.3 ours e) w))
           (λ e g. good_ends old good new _ g)
         where
           named : (head_of item.bytes).source ≡ S → (head_of item.bytes).protocol ≡ 17 → ComesFrom S item.bytes
           named from udp = record { long = omega arith; source = from; udp = udp }
 
-      pub good_arrives : (origin : Origin) (held : Weight) (item : Item) (old new : State) → IsGood ports old → IsGoodPacket item.bytes → Arrival.Arrives M origin held item old new → IsGood ports new
+      pub good_arrives : (origin : Origin) (held : Weight) (item : Item) (old new : State) → IsGood ports old
+          → IsGoodPacket item.bytes → Arrival.Arrives M origin held item old new → IsGood ports new
       good_arrives origin held item old new good is h =
-          let counted : IsGood ports (Arrival.counts_packet old) = same_but_counters old (Arrival.counts_packet old) good refl refl refl in
+          let counted : IsGood ports (Arrival.counts_packet old) =
+          same_but_counters old (Arrival.counts_packet old) good refl refl refl in
           by_case h
           (λ e p. good_passes origin held item (Arrival.counts_packet old) new counted (header_long item.bytes e) is p)
           (λ why e g. good_ends (Arrival.counts_packet old) counted new why g)
 
-      pub good_all_arrive : (items : List Item) (old new : State) → IsGood ports old → Each (λ item. IsGoodPacket item.bytes) items → Arrival.AllArrive M items old new → IsGood ports new
+      pub good_all_arrive : (items : List Item) (old new : State) → IsGood ports old
+          → Each (λ item. IsGoodPacket item.bytes) items → Arrival.AllArrive M items old new → IsGood ports new
       good_all_arrive [] old new good is e = subst (IsGood ports) (sym e) good
       good_all_arrive (item ∷ items) old new good is (mid, a, later) =
           good_all_arrive items mid new (good_arrives Looped _ item old mid good is.0 a) is.1 later

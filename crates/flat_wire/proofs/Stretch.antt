@@ -10,7 +10,8 @@ use Rattle.flat_wire.proofs.Grid.{cuts_grid, index_of}
 use Rattle.flat_wire.proofs.Laying.{IsCut, end_of, fragment_end_is, brought_byte}
 use Rattle.flat_wire.proofs.Maps.{IsStretch}
 
-pub part_is_stretch : (t : List ℕ) (mtu : ℕ) (p : Part) (f : Fragment) → 0 < length t → 28 ≤ mtu → Contains (cuts (length t) mtu) p
+pub part_is_stretch : (t : List ℕ) (mtu : ℕ) (p : Part) (f : Fragment) → 0 < length t → 28 ≤ mtu
+    → Contains (cuts (length t) mtu) p
     → f.offset ≡ p.offset → f.bytes ≡ bytes_of t p → f.more ≡ p.more → IsStretch t f
 part_is_stretch t mtu p f some low is offset bytes more =
     let g = cuts_grid (length t) mtu some low in
@@ -29,6 +30,7 @@ part_is_stretch t mtu p f some low is offset bytes more =
         record {
           some = omega (arith, cut.inside, cut.offset);
           fits = omega (arith, cut.inside);
-          bytes = λ o low high. brought_byte t c f i o cut (record { low = omega (arith, cut.offset); high = omega arith });
+          bytes =
+              λ o low high. brought_byte t c f i o cut (record { low = omega (arith, cut.offset); high = omega arith });
           last = λ e. let past : length t ≤ (i + 1) * c = ltb-false _ _ (sym cut.more ∙ e) in omega (arith, cut.inside);
         }

@@ -48,7 +48,13 @@ module _ (L : Ledger) (fd port : ℕ) where
   port_closed = record {
     ended = λ why s h. h;
     dropped = λ s h. h;
-    queued = λ k d s h. (_, find-changed fd k (Arrival.queued d) s.sockets h.0 (λ x. refl) h.1, at k d h.0 (h.0.fd == k) ∙ h.2);
+    queued =
+        λ k d s h. (
+          _,
+          find-changed fd k (Arrival.queued d) s.sockets h.0 (λ x. refl) h.1,
+          at k d h.0 (h.0.fd == k)
+              ∙ h.2,
+        );
     begins = λ k s h. h;
     sets = λ k bytes s h. h;
     finishes = λ k s h. h;
@@ -60,7 +66,8 @@ module _ (L : Ledger) (fd port : ℕ) where
       at k d me true = refl
       at k d me false = refl
 
-  pub port_kept : (items : List Item) (old new : State) → HasPort fd port old → Arrival.AllArrive L items old new → HasPort fd port new
+  pub port_kept : (items : List Item) (old new : State) → HasPort fd port old → Arrival.AllArrive L items old new
+      → HasPort fd port new
   port_kept = kept_all L (HasPort fd port) port_closed
 
 -- ---- the log
@@ -93,14 +100,19 @@ module _ (L : Ledger) (c : Config) (boots : IsConfig c) where
     pub gave : Each (IsGiven log turns s) (filter_map packet_out turns)
 
   -- one more turn
-  later_answered : (turns : List Turn) (turn : Turn) (old new : State) → IsEvent turn.event → StepBy L old turn.event turn.reply new
-      → (port : ℕ) (to : Addr) (bytes : List ℕ) → IsAnswered L c turns old port to bytes → IsAnswered L c (turns ++ turn ∷ []) new port to bytes
+  later_answered : (turns : List Turn) (turn : Turn) (old new : State) → IsEvent turn.event
+      → StepBy L old turn.event turn.reply new
+      → (port : ℕ) (to : Addr) (bytes : List ℕ) → IsAnswered L c turns old port to bytes
+      → IsAnswered L c (turns ++ turn ∷ []) new port to bytes
   later_answered turns turn old new range step port to bytes a = record {
     before = a.before;
     after = a.after ++ turn ∷ [];
     fd = a.fd;
     address = a.address;
-    turns_are = ap (λ ts. ts ++ turn ∷ []) a.turns_are ∙ append_assoc a.before (record { event = Send a.fd a.address bytes; reply = Sent (length bytes) } ∷ a.after) (turn ∷ []);
+    turns_are =
+        ap (λ ts. ts ++ turn ∷ []) a.turns_are
+        ∙ append_assoc a.before (record { event = Send a.fd a.address bytes; reply = Sent (length bytes) } ∷ a.after)
+        (turn ∷ []);
     old = a.old;
     new = a.new;
     leads = a.leads;
@@ -114,50 +126,73 @@ module _ (L : Ledger) (c : Config) (boots : IsConfig c) where
     from_port = a.from_port;
   }
 
-  later_given : (log more : List Sending) (turns : List Turn) (turn : Turn) (old new : State) → IsEvent turn.event → StepBy L old turn.event turn.reply new
-      → (bytes : List ℕ) → ((x : Sending) → Among log x → Among more x) → IsGiven log turns old bytes → IsGiven more (turns ++ turn ∷ []) new bytes
+  later_given : (log more : List Sending) (turns : List Turn) (turn : Turn) (old new : State) → IsEvent turn.event
+      → StepBy L old turn.event turn.reply new
+      → (bytes : List ℕ) → ((x : Sending) → Among log x → Among more x) → IsGiven log turns old bytes
+      → IsGiven more (turns ++ turn ∷ []) new bytes
   later_given log more turns turn old new range step bytes up g = record {
     sending = g.sending;
     part = g.part;
     logged = up g.sending g.logged;
     sendable = g.sendable;
     is_part = g.is_part;
-    answered = λ e. later_answered turns turn old new range step g.sending.port g.sending.to g.sending.bytes (g.answered e);
+    answered =
+        λ e. later_answered turns turn old new range step g.sending.port g.sending.to g.sending.bytes (g.answered e);
     is = g.is;
   }
 
   -- a turn that changes neither queue nor log
-  quiet : (turns : List Turn) (turn : Turn) (old new : State) → IsTold turns old → IsEvent turn.event → StepBy L old turn.event turn.reply new → IsKept c old.output old.next_id (value_of IpLocalout old.counters) new → packet_out turn ≡ None → IsTold (turns ++ turn ∷ []) new
+  quiet : (turns : List Turn) (turn : Turn) (old new : State) → IsTold turns old → IsEvent turn.event
+      → StepBy L old turn.event turn.reply new → IsKept c old.output old.next_id (value_of IpLocalout old.counters) new
+      → packet_out turn ≡ None → IsTold (turns ++ turn ∷ []) new
   quiet turns turn old new told range step k none = record {
     log = told.log;
     kept = record { config = k.config; output = refl; id = refl; sends = refl; sockets = k.sockets };
     count = k.sends ∙ told.count;
     next = k.id ∙ told.next;
     numbered = told.numbered;
-    output = subst (λ xs. Each (IsGiven told.log (turns ++ turn ∷ []) new) (all_bytes xs)) (sym k.output) (each-weaker (λ b g. later_given told.log told.log turns turn old new range step b (λ x h. h) g) (all_bytes old.output) told.output);
-    gave = subst (Each (IsGiven told.log (turns ++ turn ∷ []) new)) (sym (filter_map-append packet_out turns (turn ∷ []) ∙ ap (λ o. filter_map packet_out turns ++ cons_option o []) none ∙ append-nil (filter_map packet_out turns)))
-        (each-weaker (λ b g. later_given told.log told.log turns turn old new range step b (λ x h. h) g) (filter_map packet_out turns) told.gave);
+    output =
+        subst (λ xs. Each (IsGiven told.log (turns ++ turn ∷ []) new) (all_bytes xs)) (sym k.output)
+        (each-weaker (λ b g. later_given told.log told.log turns turn old new range step b (λ x h. h) g)
+        (all_bytes old.output) told.output);
+    gave =
+        subst (Each (IsGiven told.log (turns ++ turn ∷ []) new))
+        (sym (filter_map-append packet_out turns (turn ∷ [])
+        ∙ ap (λ o. filter_map packet_out turns ++ cons_option o []) none ∙ append-nil (filter_map packet_out turns)))
+        (each-weaker (λ b g. later_given told.log told.log turns turn old new range step b (λ x h. h) g)
+        (filter_map packet_out turns) told.gave);
   }
 
   -- ---- a send
 
-  fits_all : (s : State) (packets : List Item) (n : ℕ) (reply : Reply) → length (s.output ++ packets) ≤ OUTPUT_QUEUE_PACKETS
+  fits_all : (s : State) (packets : List Item) (n : ℕ) (reply : Reply)
+      → length (s.output ++ packets) ≤ OUTPUT_QUEUE_PACKETS
       → reply ≡ cond (overflows s packets) (Event.Refused (NoBufs Queue)) (Sent n) → reply ≡ Sent n
-  fits_all s packets n reply h e = e ∙ cond-false (overflows s packets) _ _ (le-ltb OUTPUT_QUEUE_PACKETS (length (s.output ++ packets)) h)
+  fits_all s packets n reply h e =
+      e ∙ cond-false (overflows s packets) _ _ (le-ltb OUTPUT_QUEUE_PACKETS (length (s.output ++ packets)) h)
 
-  gets_sockets : (old new : State) (local asked : Option ℕ) (port : ℕ) → GetsPort old local asked port new → new.sockets ≡ old.sockets
+  gets_sockets : (old new : State) (local asked : Option ℕ) (port : ℕ) → GetsPort old local asked port new
+      → new.sockets ≡ old.sockets
   gets_sockets old new local (Some q) port g = ap (λ (s : State). s.sockets) g.1
   gets_sockets old new local None port g = ap (λ (s : State). s.sockets) g.1
 
   -- a send that went on, from a state with the sockets of the one before
-  module _ (turns : List Turn) (fd : ℕ) (to : Option Addr) (me : Socket) (bytes : List ℕ) (before old new : State) (reply : Reply)
+  module _ (turns : List Turn) (fd : ℕ) (to : Option Addr) (me : Socket) (bytes : List ℕ) (before old new : State)
+      (reply : Reply)
       (told : IsTold turns before) (leads : Leads L (boot c) turns before) (at : socket_at fd before ≡ Some me)
       (range : IsEvent (Send fd to bytes)) (step : StepBy L before (Send fd to bytes) reply new)
-      (k : IsKept c before.output before.next_id (value_of IpLocalout before.counters) old) (same : old.sockets ≡ before.sockets)
+      (k : IsKept c before.output before.next_id (value_of IpLocalout before.counters) old)
+      (same : old.sockets ≡ before.sockets)
       (sound : IsSound me) (aim : IsTarget (target before me to)) (short : length bytes ≤ 9216) where
     module _ (port : ℕ) (named : State) (clusters : List ℕ) (g : GetsPort old me.local me.port port named) where
       x : Sending
-      x = record { id = old.next_id; source = source_for old.config me (target before me to).ip; to = target before me to; port = port; bytes = bytes }
+      x = record {
+        id = old.next_id;
+        source = source_for old.config me (target before me to).ip;
+        to = target before me to;
+        port = port;
+        bytes = bytes;
+      }
 
       out : List Item
       out = packets named.config clusters x
@@ -169,27 +204,46 @@ module _ (L : Ledger) (c : Config) (boots : IsConfig c) where
       left = spent fd port (parts_of named.config x) named
 
       got : IsKept c before.output before.next_id (value_of IpLocalout before.counters) named × (port < 65536)
-      got = First.gets L c before.output before.next_id (value_of IpLocalout before.counters) boots old named me.local me.port port k sound.port g
+      got =
+          First.gets L c before.output before.next_id (value_of IpLocalout before.counters) boots old named me.local
+          me.port port k sound.port g
 
       abbrev Next : State → Type 0
-      Next = IsKept c (take OUTPUT_QUEUE_PACKETS (before.output ++ link)) ((before.next_id + 1) % 65536) (more_by 1 (value_of IpLocalout before.counters))
+      Next =
+          IsKept c (take OUTPUT_QUEUE_PACKETS (before.output ++ link)) ((before.next_id + 1) % 65536)
+          (more_by 1 (value_of IpLocalout before.counters))
 
-      counts_dropped : (b : Bool) (s : State) → value_of IpLocalout (cond b (counts_more OutDropped 1 s.counters) s.counters) ≡ value_of IpLocalout s.counters
+      counts_dropped : (b : Bool) (s : State)
+          → value_of IpLocalout (cond b (counts_more OutDropped 1 s.counters) s.counters) ≡ value_of IpLocalout s.counters
       counts_dropped true s = refl
       counts_dropped false s = refl
 
-      counts_cut : (b : Bool) (s : State) → value_of IpLocalout (let sent : Counters = counts_more IpLocalout 1 s.counters in cond b (counts_more IpFragmented 1 sent) sent) ≡ more_by 1 (value_of IpLocalout s.counters)
+      counts_cut : (b : Bool) (s : State)
+          → value_of IpLocalout (let sent : Counters = counts_more IpLocalout 1 s.counters in
+          cond b (counts_more IpFragmented 1 sent) sent) ≡ more_by 1 (value_of IpLocalout s.counters)
       counts_cut true s = refl
       counts_cut false s = refl
 
       put : (socket : Socket) → IsSound socket → IsSound (record socket { port = Some port })
-      put socket s = record { local = s.local; port = λ p e. subst (λ q. q < 65536) (same_Some port p e) got.1; peer = s.peer }
+      put socket s =
+          record { local = s.local; port = λ p e. subst (λ q. q < 65536) (same_Some port p e) got.1; peer = s.peer }
 
-      left_is : IsKept c before.output ((before.next_id + 1) % 65536) (more_by 1 (value_of IpLocalout before.counters)) left
+      left_is : IsKept c before.output ((before.next_id + 1) % 65536) (more_by 1 (value_of IpLocalout before.counters))
+          left
       unfolding left
-      left_is = First.changes L c before.output ((before.next_id + 1) % 65536) (more_by 1 (value_of IpLocalout before.counters)) boots fd (λ socket. record socket { port = Some port })
+      left_is =
+          First.changes L c before.output ((before.next_id + 1) % 65536) (more_by 1 (value_of IpLocalout before.counters))
+          boots fd (λ socket. record socket { port = Some port })
           (counts_send (parts_of named.config x) named)
-          (record { config = got.0.config; output = got.0.output; id = ap (λ n. (n + 1) % 65536) got.0.id; sends = counts_cut (nat_lt 1 (length (parts_of named.config x))) named ∙ ap (more_by 1) got.0.sends; sockets = got.0.sockets })
+          (record {
+            config = got.0.config;
+            output = got.0.output;
+            id = ap (λ n. (n + 1) % 65536) got.0.id;
+            sends =
+                counts_cut (nat_lt 1 (length (parts_of named.config x))) named ∙ ap (more_by 1) got.0.sends;
+            sockets =
+                got.0.sockets;
+          })
           put
 
       queued_is : Next (enqueued link left)
@@ -205,8 +259,12 @@ module _ (L : Ledger) (c : Config) (boots : IsConfig c) where
       has_port : HasPort fd port (enqueued link left)
       unfolding left
       has_port =
-          let here : socket_at fd named ≡ Some me = ap (find (λ socket. socket.fd == fd)) (gets_sockets old named me.local me.port port g ∙ same) ∙ at in
-          (_, find-changed fd fd (λ socket. record socket { port = Some port }) named.sockets me (λ s. refl) here, named_port (me.fd == fd) (fd_is before.sockets at))
+          let here : socket_at fd named ≡ Some me =
+          ap (find (λ socket. socket.fd == fd)) (gets_sockets old named me.local me.port port g ∙ same) ∙ at in (
+            _,
+            find-changed fd fd (λ socket. record socket { port = Some port }) named.sockets me (λ s. refl) here,
+            named_port (me.fd == fd) (fd_is before.sockets at),
+          )
         where
           fd_is : (sockets : List Socket) → find (λ socket. socket.fd == fd) sockets ≡ Some me → (me.fd == fd) ≡ true
           fd_is sockets e = (each-find (λ _. ⊤) (λ (socket : Socket). socket.fd == fd) sockets me (all sockets) e).1
@@ -222,19 +280,27 @@ module _ (L : Ledger) (c : Config) (boots : IsConfig c) where
               never : false ≡ true → ⊥
               never e = cc
 
-      leaves : Send.Leaves L fd (packets named.config clusters x) x named reply new → IsTold (turns ++ record { event = Send fd to bytes; reply = reply } ∷ []) new
+      leaves : Send.Leaves L fd (packets named.config clusters x) x named reply new
+          → IsTold (turns ++ record { event = Send fd to bytes; reply = reply } ∷ []) new
       unfolding out link left x
       leaves h = record {
         log = x ∷ told.log;
         kept = record { config = after.config; output = refl; id = refl; sends = refl; sockets = after.sockets };
-        count = after.sends ∙ (let count : value_of IpLocalout before.counters ≡ min (length told.log) (2 ^ 64 - 1) = told.count in omega arith);
-        next = after.id ∙ (let next : before.next_id ≡ (c.first_id + length told.log) % 65536 = told.next in omega arith);
+        count =
+            after.sends ∙ (let count : value_of IpLocalout before.counters
+            ≡ min (length told.log) (2 ^ 64 - 1) = told.count in omega arith);
+        next =
+            after.id ∙ (let next : before.next_id ≡ (c.first_id + length told.log) % 65536 = told.next in omega arith);
         numbered = (k.id ∙ told.next, told.numbered);
         output = subst (λ xs. Each Given (all_bytes xs)) (sym after.output)
-            (subst (Each Given) (take-map (λ (item : Item). item.bytes) OUTPUT_QUEUE_PACKETS (before.output ++ link_out))
-            (subst (λ bs. Each Given (take OUTPUT_QUEUE_PACKETS bs)) (sym (map-append (λ (item : Item). item.bytes) before.output link_out))
+            (subst (Each Given) (take-map (λ (item : Item). item.bytes) OUTPUT_QUEUE_PACKETS
+            (before.output ++ link_out))
+            (subst (λ bs. Each Given (take OUTPUT_QUEUE_PACKETS bs))
+            (sym (map-append (λ (item : Item). item.bytes) before.output link_out))
             (on_link (is_looped named.config x.to.ip) refl)));
-        gave = subst (Each Given) (sym (filter_map-append packet_out turns (turn ∷ []) ∙ append-nil (filter_map packet_out turns))) (each-weaker up (filter_map packet_out turns) told.gave);
+        gave =
+            subst (Each Given) (sym (filter_map-append packet_out turns (turn ∷ [])
+            ∙ append-nil (filter_map packet_out turns))) (each-weaker up (filter_map packet_out turns) told.gave);
       }
         where
           turn : Turn
@@ -256,26 +322,41 @@ module _ (L : Ledger) (c : Config) (boots : IsConfig c) where
           held = each-weaker up (all_bytes before.output) told.output
 
           length_parts : length (packets named.config clusters x) ≡ length parts
-          length_parts = sym (length-map (packets named.config clusters x) (λ (item : Item). item.bytes)) ∙ ap length (bytes_of_packets (laid_on clusters (sent (length bytes))) (packet_for x) parts) ∙ length-map parts (packet_for x)
+          length_parts =
+              sym (length-map (packets named.config clusters x) (λ (item : Item). item.bytes))
+              ∙ ap length (bytes_of_packets (laid_on clusters (sent (length bytes))) (packet_for x) parts)
+              ∙ length-map parts (packet_for x)
 
           sendable : is_looped named.config x.to.ip ≡ false → IsSendable c.mtu x
           sendable e = record {
             id = let next : old.next_id ≡ (c.first_id + length told.log) % 65536 = k.id ∙ told.next in omega arith;
-            source = First.source_small L c before.output before.next_id (value_of IpLocalout before.counters) boots old.config me x.to.ip k.config sound.local;
+            source =
+                First.source_small L c before.output before.next_id (value_of IpLocalout before.counters) boots old.config
+                me x.to.ip k.config sound.local;
             ip = aim.ip;
             to_port = aim.port;
             port = got.1;
             short = short;
-            not_loopback = λ h. eqb-false x.to.ip loopback (or_parts (x.to.ip == named.config.addr) (x.to.ip == loopback) e).1 h;
+            not_loopback =
+                λ h. eqb-false x.to.ip loopback (or_parts (x.to.ip == named.config.addr) (x.to.ip == loopback) e).1 h;
             not_limited_broadcast = aim.known;
           }
 
-          answered : length before.output + length parts ≤ OUTPUT_QUEUE_PACKETS → is_looped named.config x.to.ip ≡ false → IsAnswered L c (turns ++ turn ∷ []) new port (target before me to) bytes
+          answered : length before.output + length parts ≤ OUTPUT_QUEUE_PACKETS → is_looped named.config x.to.ip ≡ false
+              → IsAnswered L c (turns ++ turn ∷ []) new port (target before me to) bytes
           answered fit e =
               let size : length (left.output ++ link_out) ≤ OUTPUT_QUEUE_PACKETS =
-              omega (arith, length-append left.output link_out, ap length left_is.output, ap length (ap (λ b. cond b [] (packets named.config clusters x)) e), length_parts) in
+              omega (
+                arith,
+                length-append left.output link_out,
+                ap length left_is.output,
+                ap length (ap (λ b. cond b [] (packets named.config clusters x)) e),
+                length_parts,
+              ) in
               let is_sent : reply ≡ Sent (length bytes) = fits_all left link_out (length bytes) reply size h.1 in
-              let port_then : HasPort fd port new = port_kept L fd port (to_self named.config x.to.ip (packets named.config clusters x)) (enqueued link_out left) new has_port h.0 in
+              let port_then : HasPort fd port new =
+              port_kept L fd port (to_self named.config x.to.ip (packets named.config clusters x))
+              (enqueued link_out left) new has_port h.0 in
               record {
                 before = turns;
                 after = [];
@@ -296,15 +377,24 @@ module _ (L : Ledger) (c : Config) (boots : IsConfig c) where
               }
 
           mtu_is : is_looped named.config x.to.ip ≡ false → parts ≡ cuts (length (datagram x)) c.mtu
-          mtu_is e = ap (λ b. cuts (length (datagram x)) (cond b 1536 named.config.mtu)) e ∙ ap (λ (cc : Config). cuts (length (datagram x)) cc.mtu) got.0.config
+          mtu_is e =
+              ap (λ b. cuts (length (datagram x)) (cond b 1536 named.config.mtu)) e
+              ∙ ap (λ (cc : Config). cuts (length (datagram x)) cc.mtu) got.0.config
 
-          on_link : (b : Bool) → is_looped named.config x.to.ip ≡ b → Each Given (take OUTPUT_QUEUE_PACKETS (all_bytes before.output ++ all_bytes link_out))
-          on_link true e = rw e (each-take Given OUTPUT_QUEUE_PACKETS (all_bytes before.output ++ []) (each-append Given (all_bytes before.output) [] held tt))
+          on_link : (b : Bool) → is_looped named.config x.to.ip ≡ b
+              → Each Given (take OUTPUT_QUEUE_PACKETS (all_bytes before.output ++ all_bytes link_out))
+          on_link true e =
+              rw e (each-take Given OUTPUT_QUEUE_PACKETS (all_bytes before.output ++ [])
+              (each-append Given (all_bytes before.output) [] held tt))
           on_link false e =
-              let is_out : all_bytes link_out ≡ map (packet_for x) parts = ap (λ b. all_bytes (cond b [] (packets named.config clusters x))) e ∙ bytes_of_packets (laid_on clusters (sent (length bytes))) (packet_for x) parts in
+              let is_out : all_bytes link_out ≡ map (packet_for x) parts =
+              ap (λ b. all_bytes (cond b [] (packets named.config clusters x))) e
+              ∙ bytes_of_packets (laid_on clusters (sent (length bytes))) (packet_for x) parts in
               let some : 0 < length (datagram x) = omega (arith, length-udp x.source x.to.ip port x.to.port bytes) in
               subst (λ bs. Each Given (take OUTPUT_QUEUE_PACKETS (all_bytes before.output ++ bs))) (sym is_out)
-              (each_queued Given (all_bytes before.output) (packet_for x) parts held (subst IsSplit (sym (mtu_is e)) (cuts_split (length (datagram x)) c.mtu some (omega (arith, boots.least_mtu))))
+              (each_queued Given (all_bytes before.output) (packet_for x) parts held
+              (subst IsSplit (sym (mtu_is e))
+              (cuts_split (length (datagram x)) c.mtu some (omega (arith, boots.least_mtu))))
               (λ p is ends. record {
                 sending = x;
                 part = p;
@@ -315,19 +405,29 @@ module _ (L : Ledger) (c : Config) (boots : IsConfig c) where
                 is = refl;
               }))
             where
-              answered_at : (p : Part) → (p.more ≡ true) ⊎ (length (all_bytes before.output) + length parts ≤ OUTPUT_QUEUE_PACKETS) → p.more ≡ false → is_looped named.config x.to.ip ≡ false → IsAnswered L c (turns ++ turn ∷ []) new port (target before me to) bytes
+              answered_at : (p : Part) → (p.more ≡ true)
+                  ⊎ (length (all_bytes before.output) + length parts ≤ OUTPUT_QUEUE_PACKETS) → p.more ≡ false
+                  → is_looped named.config x.to.ip ≡ false
+                  → IsAnswered L c (turns ++ turn ∷ []) new port (target before me to) bytes
               answered_at p (inl more) last e = absurd (both (sym more ∙ last))
                 where
                   both : true ≡ false → ⊥
                   both e = cc
-              answered_at p (inr fit) last e = answered (omega (arith, length-map before.output (λ (item : Item). item.bytes))) e
+              answered_at p (inr fit) last e =
+                  answered (omega (arith, length-map before.output (λ (item : Item). item.bytes))) e
 
-          after : IsKept c (take OUTPUT_QUEUE_PACKETS (before.output ++ to_link named.config x.to.ip (packets named.config clusters x))) ((before.next_id + 1) % 65536) (more_by 1 (value_of IpLocalout before.counters)) new
-          after = kept_all L Next (First.closed L c (take OUTPUT_QUEUE_PACKETS (before.output ++ link)) ((before.next_id + 1) % 65536) (more_by 1 (value_of IpLocalout before.counters)) boots) (to_self named.config x.to.ip (packets named.config clusters x)) (enqueued link left) new queued_is h.0
+          after : IsKept c (take OUTPUT_QUEUE_PACKETS
+              (before.output ++ to_link named.config x.to.ip (packets named.config clusters x))) ((before.next_id + 1) %
+              65536) (more_by 1 (value_of IpLocalout before.counters)) new
+          after =
+              kept_all L Next (First.closed L c (take OUTPUT_QUEUE_PACKETS (before.output ++ link))
+              ((before.next_id + 1) % 65536) (more_by 1 (value_of IpLocalout before.counters)) boots) (to_self
+              named.config x.to.ip (packets named.config clusters x)) (enqueued link left) new queued_is h.0
 
   -- ---- every step
 
-  target_is : (s : State) (me : Socket) (to : Option Addr) → s.config ≡ c → IsSound me → (to_is : (a : Addr) → to ≡ Some a → IsAddr a) → IsTarget (target s me to)
+  target_is : (s : State) (me : Socket) (to : Option Addr) → s.config ≡ c → IsSound me
+      → (to_is : (a : Addr) → to ≡ Some a → IsAddr a) → IsTarget (target s me to)
   target_is s me (Some a) e sound to_is = First.target_read L c s.output 0 0 boots s.config a e (to_is a refl)
   target_is s me None e sound to_is = go me.peer refl
     where
@@ -339,35 +439,48 @@ module _ (L : Ledger) (c : Config) (boots : IsConfig c) where
   some_addr None h a e = absurd (none-some a e)
   some_addr (Some b) h a e = subst IsAddr (same_Some b a e) h
 
-  has_buffers_sockets : (old new : State) (held : Weight) (n : Need) (answer : Bool) → HasBuffers L old held n answer new → new.sockets ≡ old.sockets
+  has_buffers_sockets : (old new : State) (held : Weight) (n : Need) (answer : Bool)
+      → HasBuffers L old held n answer new → new.sockets ≡ old.sockets
   has_buffers_sockets old new held n true (inl h) = ap (λ (s : State). s.sockets) h.1
   has_buffers_sockets old new held n true (inr h) = ap (λ (s : State). s.sockets) h.1
   has_buffers_sockets old new held n false h = ap (λ (s : State). s.sockets) h.1
 
-  module _ (turns : List Turn) (old new : State) (reply : Reply) (told : IsTold turns old) (leads : Leads L (boot c) turns old) where
+  module _ (turns : List Turn) (old new : State) (reply : Reply) (told : IsTold turns old)
+      (leads : Leads L (boot c) turns old) where
     abbrev Now : State → Type 0
     Now = IsKept c old.output old.next_id (value_of IpLocalout old.counters)
 
-    silent : (event : Event) → IsEvent event → StepBy L old event reply new → Now new → packet_out (record { event = event; reply = reply }) ≡ None → IsTold (turns ++ record { event = event; reply = reply } ∷ []) new
+    silent : (event : Event) → IsEvent event → StepBy L old event reply new → Now new
+        → packet_out (record { event = event; reply = reply }) ≡ None
+        → IsTold (turns ++ record { event = event; reply = reply } ∷ []) new
     silent event range step k e = quiet turns (record { event = event; reply = reply }) old new told range step k e
 
     refuses : (errno : Errno) → Refuses errno old reply new → Now new
     refuses errno h = subst Now (sym h.1) told.kept
 
-    on_fd : (fd : ℕ) (Call : Socket → Type 0) → OnSocket fd old reply new Call → ((me : Socket) → socket_at fd old ≡ Some me → Call me → Now new) → Now new
+    on_fd : (fd : ℕ) (Call : Socket → Type 0) → OnSocket fd old reply new Call
+        → ((me : Socket) → socket_at fd old ≡ Some me → Call me → Now new) → Now new
     on_fd fd Call h goes = by_case h (λ e r. refuses _ r) goes
 
-    transmits : StepBy L old Transmit reply new → (output : List Item) → old.output ≡ output → Transmits output old reply new → IsTold (turns ++ record { event = Transmit; reply = reply } ∷ []) new
+    transmits : StepBy L old Transmit reply new → (output : List Item) → old.output ≡ output
+        → Transmits output old reply new → IsTold (turns ++ record { event = Transmit; reply = reply } ∷ []) new
     transmits step [] e h = silent Transmit tt step (subst Now (sym h.1) told.kept) (ap (given Transmit) h.0)
     transmits step (item ∷ later) e h = record {
       log = told.log;
-      kept = subst (λ s. IsKept c s.output s.next_id (value_of IpLocalout s.counters) s) (sym h.1) (record { config = told.kept.config; output = refl; id = refl; sends = refl; sockets = told.kept.sockets });
+      kept =
+          subst (λ s. IsKept c s.output s.next_id (value_of IpLocalout s.counters) s) (sym h.1)
+          (record { config = told.kept.config; output = refl; id = refl; sends = refl; sockets = told.kept.sockets });
       count = ap (λ (s : State). (value_of IpLocalout s.counters)) h.1 ∙ told.count;
       next = ap (λ (s : State). s.next_id) h.1 ∙ told.next;
       numbered = told.numbered;
-      output = subst (λ (s : State). Each (IsGiven told.log (turns ++ turn ∷ []) new) (all_bytes s.output)) (sym h.1) held.1;
-      gave = subst (Each (IsGiven told.log (turns ++ turn ∷ []) new)) (sym (filter_map-append packet_out turns (turn ∷ []) ∙ ap (λ r. filter_map packet_out turns ++ cons_option (given Transmit r) []) h.0))
-          (each-append (IsGiven told.log (turns ++ turn ∷ []) new) (filter_map packet_out turns) (item.bytes ∷ []) (each-weaker up (filter_map packet_out turns) told.gave) (held.0, tt));
+      output =
+          subst (λ (s : State). Each (IsGiven told.log (turns ++ turn ∷ []) new) (all_bytes s.output)) (sym h.1) held.1;
+      gave =
+          subst (Each (IsGiven told.log (turns ++ turn ∷ []) new))
+          (sym (filter_map-append packet_out turns (turn ∷ [])
+          ∙ ap (λ r. filter_map packet_out turns ++ cons_option (given Transmit r) []) h.0))
+          (each-append (IsGiven told.log (turns ++ turn ∷ []) new) (filter_map packet_out turns) (item.bytes ∷ [])
+          (each-weaker up (filter_map packet_out turns) told.gave) (held.0, tt));
     }
       where
         turn : Turn
@@ -377,9 +490,13 @@ module _ (L : Ledger) (c : Config) (boots : IsConfig c) where
         up b g = later_given told.log told.log turns turn old new tt step b (λ x i. i) g
 
         held : Each (IsGiven told.log (turns ++ turn ∷ []) new) (all_bytes (item ∷ later))
-        held = each-weaker up (all_bytes (item ∷ later)) (subst (λ xs. Each (IsGiven told.log turns old) (all_bytes xs)) e told.output)
+        held =
+            each-weaker up (all_bytes (item ∷ later))
+            (subst (λ xs. Each (IsGiven told.log turns old) (all_bytes xs)) e told.output)
 
-    sends : (fd : ℕ) (to : Option Addr) (bytes : List ℕ) → IsEvent (Send fd to bytes) → StepBy L old (Send fd to bytes) reply new → IsTold (turns ++ record { event = Send fd to bytes; reply = reply } ∷ []) new
+    sends : (fd : ℕ) (to : Option Addr) (bytes : List ℕ) → IsEvent (Send fd to bytes)
+        → StepBy L old (Send fd to bytes) reply new
+        → IsTold (turns ++ record { event = Send fd to bytes; reply = reply } ∷ []) new
     unfolding x
     sends fd to bytes is step = by_case step
         (λ e r. silent (Send fd to bytes) is step (refuses _ r) refl)
@@ -387,35 +504,71 @@ module _ (L : Ledger) (c : Config) (boots : IsConfig c) where
         (λ e (answer, mid, a, rest).
         let passed = none_passed (send_faults old me to (length bytes)) e in
         let short : length bytes ≤ 9216 = ltb-false _ _ passed.1.0 in
-        let k : Now mid = kept_has_buffers L Now (First.closed L c old.output old.next_id (value_of IpLocalout old.counters) boots) old mid nothing _ answer told.kept a in
-        let sound : IsSound me = First.found L c old.output old.next_id (value_of IpLocalout old.counters) boots fd old me told.kept at in
+        let k : Now mid =
+        kept_has_buffers L Now (First.closed L c old.output old.next_id (value_of IpLocalout old.counters) boots) old
+        mid nothing _ answer told.kept a in
+        let sound : IsSound me =
+        First.found L c old.output old.next_id (value_of IpLocalout old.counters) boots fd old me told.kept at in
         let aim : IsTarget (target old me to) = target_is old me to told.kept.config sound (some_addr to is.0) in
         let same : mid.sockets ≡ old.sockets = has_buffers_sockets old mid nothing _ answer a in
         by_choice rest
-        (λ e (port, named, clusters, g, taken, left). leaves turns fd to me bytes old mid new reply told leads at is step k same sound aim short port named clusters g left)
+        (λ e (port, named, clusters, g, taken, left). leaves turns fd to me bytes old mid new reply told leads at is
+        step k same sound aim short port named clusters g left)
         (λ e r. silent (Send fd to bytes) is step (subst Now (sym r.1) k) refl))
         (λ errno e r. silent (Send fd to bytes) is step (refuses errno r) refl))
 
-    pub told_step : (event : Event) → IsEvent event → StepBy L old event reply new → IsTold (turns ++ record { event = event; reply = reply } ∷ []) new
-    told_step Open is h = silent Open is h (First.opens L c old.output old.next_id (value_of IpLocalout old.counters) boots old new reply told.kept h) refl
-    told_step (Bind fd a) is h = silent (Bind fd a) is h (on_fd fd _ h (λ me at r. First.binds L c old.output old.next_id (value_of IpLocalout old.counters) boots fd a me old new reply told.kept is r)) refl
-    told_step (Connect fd a) is h = silent (Connect fd a) is h (on_fd fd _ h (λ me at r. First.connects L c old.output old.next_id (value_of IpLocalout old.counters) boots fd a me old new reply told.kept is
-        (First.found L c old.output old.next_id (value_of IpLocalout old.counters) boots fd old me told.kept at) r)) refl
+    pub told_step : (event : Event) → IsEvent event → StepBy L old event reply new
+        → IsTold (turns ++ record { event = event; reply = reply } ∷ []) new
+    told_step Open is h =
+        silent Open is h (First.opens L c old.output old.next_id (value_of IpLocalout old.counters) boots old new reply
+        told.kept h) refl
+    told_step (Bind fd a) is h =
+        silent (Bind fd a) is h (on_fd fd _ h
+        (λ me at r. First.binds L c old.output old.next_id (value_of IpLocalout old.counters) boots fd a me old new
+        reply told.kept is r)) refl
+    told_step (Connect fd a) is h =
+        silent (Connect fd a) is h (on_fd fd _ h
+        (λ me at r. First.connects L c old.output old.next_id (value_of IpLocalout old.counters) boots fd a me old new
+        reply told.kept is
+        (First.found L c old.output old.next_id (value_of IpLocalout old.counters) boots fd old me told.kept at)
+        r)) refl
     told_step (Send fd to bytes) is h = sends fd to bytes is h
-    told_step (Receive fd most) is h = silent (Receive fd most) is h (on_fd fd _ h (λ me at r. First.receives L c old.output old.next_id (value_of IpLocalout old.counters) boots fd most me.queue old new reply told.kept r)) refl
-    told_step (Close fd) is h = silent (Close fd) is h (on_fd fd _ h (λ me at r. First.closes L c old.output old.next_id (value_of IpLocalout old.counters) boots fd old new reply told.kept r)) refl
-    told_step (Set_option fd option on) is h = silent (Set_option fd option on) is h (on_fd fd _ h (λ me at r. First.sets L c old.output old.next_id (value_of IpLocalout old.counters) boots fd option on old new reply told.kept r)) refl
-    told_step (Comes packet) is h = silent (Comes packet) is h (First.comes_in L c old.output old.next_id (value_of IpLocalout old.counters) boots packet old new told.kept h.1) refl
+    told_step (Receive fd most) is h =
+        silent (Receive fd most) is h (on_fd fd _ h
+        (λ me at r. First.receives L c old.output old.next_id (value_of IpLocalout old.counters) boots fd most me.queue
+        old new reply told.kept r)) refl
+    told_step (Close fd) is h =
+        silent (Close fd) is h (on_fd fd _ h
+        (λ me at r. First.closes L c old.output old.next_id (value_of IpLocalout old.counters) boots fd old new reply
+        told.kept r)) refl
+    told_step (Set_option fd option on) is h =
+        silent (Set_option fd option on) is h
+        (on_fd fd _ h (λ me at r. First.sets L c old.output old.next_id (value_of IpLocalout old.counters) boots fd
+        option on old new reply told.kept r)) refl
+    told_step (Comes packet) is h =
+        silent (Comes packet) is h (First.comes_in L c old.output old.next_id (value_of IpLocalout old.counters) boots
+        packet old new told.kept h.1) refl
     told_step Transmit is h = transmits h old.output refl h
-    told_step Tick is h = silent Tick is h (subst Now (sym h.1) (record { config = told.kept.config; output = refl; id = refl; sends = refl; sockets = told.kept.sockets })) refl
+    told_step Tick is h =
+        silent Tick is h (subst Now (sym h.1)
+        (record {
+          config = told.kept.config;
+          output = refl;
+          id = refl;
+          sends = refl;
+          sockets = told.kept.sockets;
+        })) refl
     told_step Ask_counters is h = silent Ask_counters is h (subst Now (sym h.1) told.kept) refl
     told_step Ask_usage is h = silent Ask_usage is h (subst Now (sym h.3) told.kept) refl
 
-  pub told_run : (before : List Turn) (s : State) (turns : List Turn) (new : State) → IsTold before s → Leads L (boot c) before s → Leads L s turns new → IsTold (before ++ turns) new
-  told_run before s [] new told leads e = subst (λ ts. IsTold ts new) (sym (append-nil before)) (subst (IsTold before) (sym e) told)
+  pub told_run : (before : List Turn) (s : State) (turns : List Turn) (new : State) → IsTold before s
+      → Leads L (boot c) before s → Leads L s turns new → IsTold (before ++ turns) new
+  told_run before s [] new told leads e =
+      subst (λ ts. IsTold ts new) (sym (append-nil before)) (subst (IsTold before) (sym e) told)
   told_run before s (turn ∷ turns) new told leads (is, mid, step, later) =
       subst (λ ts. IsTold ts new) (append_assoc before (turn ∷ []) turns)
-      (told_run (before ++ turn ∷ []) mid turns new (told_step before s mid turn.reply told leads turn.event is step) (one_more_turn L (boot c) s mid before turn leads is step) later)
+      (told_run (before ++ turn ∷ []) mid turns new (told_step before s mid turn.reply told leads turn.event is step)
+      (one_more_turn L (boot c) s mid before turn leads is step) later)
 
   pub told_boot : IsTold [] (boot c)
   told_boot = record {

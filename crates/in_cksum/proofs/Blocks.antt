@@ -38,7 +38,8 @@ halves_sum (suc n) (a ∷ b ∷ c ∷ d ∷ s) long small =
     let rest : halves n (number_l 256 s) ≡ swapped_sum s = halves_sum n s (omega arith) small.1.1.1.1 in
     omega (arith, halves_step n x, ap (halves n) later, rest, first)
 
-pub block_sum : (s : List ℕ) → length s ≡ 32 → ((k : ℕ) → Fits w8 (get_or s k 0)) → sum_l (lows 8 (number_l 256 (take 32 s))) + sum_l (highs 8 (number_l 256 (take 32 s))) ≡ swapped_sum s
+pub block_sum : (s : List ℕ) → length s ≡ 32 → ((k : ℕ) → Fits w8 (get_or s k 0))
+    → sum_l (lows 8 (number_l 256 (take 32 s))) + sum_l (highs 8 (number_l 256 (take 32 s))) ≡ swapped_sum s
 unfolding halves
 block_sum s long fits =
     let room : 32 ≤ length s = omega arith in

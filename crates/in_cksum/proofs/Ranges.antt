@@ -39,14 +39,17 @@ piece_taken piece rest skip k want inside is =
     ∙ ap (λ (n : ℕ). take n p ++ take (want - k) rest) k'
 
 -- a range that lies in the first mbuf
-pub first_range : (off len : ℕ) (v : ChainView) → off + len ≤ length (entry_of v 0).bytes → take (off + len - off) (drop off (entry_of v 0).bytes) ≡ take len (drop off (string v))
+pub first_range : (off len : ℕ) (v : ChainView) → off + len ≤ length (entry_of v 0).bytes
+    → take (off + len - off) (drop off (entry_of v 0).bytes) ≡ take len (drop off (string v))
 first_range off len v inside =
     let count : off + len - off ≡ len = omega arith in
     ap (λ (n : ℕ). take n (drop off (entry_of v 0).bytes)) count ∙ go v.entries inside
   where
-    go : (es : List Entry) → off + len ≤ length (slice_index_or es 0 no_entry).bytes → take len (drop off (slice_index_or es 0 no_entry).bytes) ≡ take len (drop off (flat_bytes es))
+    go : (es : List Entry) → off + len ≤ length (slice_index_or es 0 no_entry).bytes
+        → take len (drop off (slice_index_or es 0 no_entry).bytes) ≡ take len (drop off (flat_bytes es))
     go [] within = refl
     go (e ∷ es) within =
         let p : List ℕ = drop off e.bytes in
         let long : len ≤ length p = omega (arith, length-drop off e.bytes) in
-        sym (ap (take len) (drop-append-le off e.bytes (flat_bytes es) (omega arith)) ∙ take-append-le len p (flat_bytes es) long)
+        sym (ap (take len) (drop-append-le off e.bytes (flat_bytes es) (omega arith))
+        ∙ take-append-le len p (flat_bytes es) long)

@@ -9,17 +9,20 @@ use Rattle.in_cksum.specs.Inside.{CountsAs, IsAdded, IsLeft, swapped_sum}
 -- ---- 8 and 4 bytes
 
 pub eight_added : (sum r : ℕ) (s : List ℕ) → 8 ≤ length s → ((k : ℕ) → Fits w8 (get_or s k 0))
-    → r ≡ from_le_bytes w64 (slice_index_or s 0 0 ∷ slice_index_or s 1 0 ∷ slice_index_or s 2 0 ∷ slice_index_or s 3 0 ∷ slice_index_or s 4 0 ∷ slice_index_or s 5 0 ∷ slice_index_or s 6 0 ∷ slice_index_or s 7 0 ∷ [])
+    → r ≡ from_le_bytes w64 (slice_index_or s 0 0 ∷ slice_index_or s 1 0 ∷ slice_index_or s 2 0 ∷ slice_index_or s 3 0
+    ∷ slice_index_or s 4 0 ∷ slice_index_or s 5 0 ∷ slice_index_or s 6 0 ∷ slice_index_or s 7 0 ∷ [])
     → IsAdded sum s (sum + bit_and r 4294967295 + r / 4294967296) (take (length s - 8) (drop 8 s))
 eight_added sum r (a ∷ b ∷ c ∷ d ∷ e ∷ f ∷ g ∷ h ∷ s) long fits is =
     let ba : a < 256 = (fits 0).fits in
     let bb : b < 256 = (fits 1).fits in
     let bc : c < 256 = (fits 2).fits in
     let bd : d < 256 = (fits 3).fits in
-    let whole : r ≡ a + 256 * b + 65536 * (c + 256 * d) + 4294967296 * (e + 256 * f + 65536 * (g + 256 * h)) = omega arith in
+    let whole : r ≡ a + 256 * b + 65536 * (c + 256 * d) + 4294967296 * (e + 256 * f + 65536 * (g + 256 * h)) =
+    omega arith in
     let low : bit_and r 4294967295 ≡ a + 256 * b + 65536 * (c + 256 * d) = omega (arith, and_mask r 32) in
     let high : r / 4294967296 ≡ e + 256 * f + 65536 * (g + 256 * h) = omega arith in
-    let rest : take (length (a ∷ b ∷ c ∷ d ∷ e ∷ f ∷ g ∷ h ∷ s) - 8) s ≡ s = take_all (length (a ∷ b ∷ c ∷ d ∷ e ∷ f ∷ g ∷ h ∷ s) - 8) s (omega arith) in
+    let rest : take (length (a ∷ b ∷ c ∷ d ∷ e ∷ f ∷ g ∷ h ∷ s) - 8) s ≡ s =
+    take_all (length (a ∷ b ∷ c ∷ d ∷ e ∷ f ∷ g ∷ h ∷ s) - 8) s (omega arith) in
     record {
       once = a + 256 * b + (e + 256 * f);
       often = c + 256 * d + (g + 256 * h);
@@ -35,11 +38,14 @@ eight_added sum r (a ∷ b ∷ c ∷ d ∷ e ∷ []) long fits is = absurd (omeg
 eight_added sum r (a ∷ b ∷ c ∷ d ∷ e ∷ f ∷ []) long fits is = absurd (omega arith)
 eight_added sum r (a ∷ b ∷ c ∷ d ∷ e ∷ f ∷ g ∷ []) long fits is = absurd (omega arith)
 
-pub four_added : (sum r : ℕ) (s : List ℕ) → 4 ≤ length s → r ≡ from_le_bytes w32 (slice_index_or s 0 0 ∷ slice_index_or s 1 0 ∷ slice_index_or s 2 0 ∷ slice_index_or s 3 0 ∷ [])
+pub four_added : (sum r : ℕ) (s : List ℕ) → 4 ≤ length s
+    → r ≡ from_le_bytes w32 (slice_index_or s 0 0 ∷ slice_index_or s 1 0 ∷ slice_index_or s 2 0 ∷ slice_index_or s 3 0
+    ∷ [])
     → IsAdded sum s (sum + r) (take (length s - 4) (drop 4 s))
 four_added sum r (a ∷ b ∷ c ∷ d ∷ s) long is =
     let whole : r ≡ a + 256 * b + 65536 * (c + 256 * d) = omega arith in
-    let rest : take (length (a ∷ b ∷ c ∷ d ∷ s) - 4) s ≡ s = take_all (length (a ∷ b ∷ c ∷ d ∷ s) - 4) s (omega arith) in
+    let rest : take (length (a ∷ b ∷ c ∷ d ∷ s) - 4) s ≡ s =
+    take_all (length (a ∷ b ∷ c ∷ d ∷ s) - 4) s (omega arith) in
     record { once = a + 256 * b; often = c + 256 * d; new_is = omega arith; taken = omega (arith, ap swapped_sum rest) }
 four_added sum r [] long is = absurd (omega arith)
 four_added sum r (a ∷ []) long is = absurd (omega arith)
@@ -52,7 +58,8 @@ left_below : (n k : ℕ) (s t : List ℕ) → n ≤ k → length s < k + n → I
 left_below n k s t least most (inl few) = omega arith
 left_below n k s t least most (inr fewer) = omega arith
 
-pub left_last : (b0 b1 b2 b3 b4 : List ℕ) → length b0 < 32 → IsLeft 8 b0 b1 → IsLeft 8 b1 b2 → IsLeft 8 b2 b3 → IsLeft 4 b3 b4 → length b4 < 4
+pub left_last : (b0 b1 b2 b3 b4 : List ℕ) → length b0 < 32 → IsLeft 8 b0 b1 → IsLeft 8 b1 b2 → IsLeft 8 b2 b3
+    → IsLeft 4 b3 b4 → length b4 < 4
 left_last b0 b1 b2 b3 b4 most l1 l2 l3 l4 =
     let m1 : length b1 < 24 = left_below 8 24 b0 b1 (omega arith) (omega arith) l1 in
     let m2 : length b2 < 16 = left_below 8 16 b1 b2 (omega arith) (omega arith) l2 in
@@ -68,13 +75,16 @@ last_one [] v least few = absurd (omega arith)
 last_one (a ∷ []) v least few = omega arith
 last_one (a ∷ b ∷ s) v least few = absurd (omega arith)
 
-pub last_two : (s : List ℕ) (v r : ℕ) → 2 ≤ length s → length s < 3 → r ≡ from_le_bytes w16 (slice_index_or s 0 0 ∷ slice_index_or s 1 0 ∷ []) → v + r ≡ v + swapped_sum s
+pub last_two : (s : List ℕ) (v r : ℕ) → 2 ≤ length s → length s < 3
+    → r ≡ from_le_bytes w16 (slice_index_or s 0 0 ∷ slice_index_or s 1 0 ∷ []) → v + r ≡ v + swapped_sum s
 last_two [] v r least few is = absurd (omega arith)
 last_two (a ∷ []) v r least few is = absurd (omega arith)
 last_two (a ∷ b ∷ []) v r least few is = omega arith
 last_two (a ∷ b ∷ c ∷ s) v r least few is = absurd (omega arith)
 
-pub last_three : (s : List ℕ) (v r : ℕ) → 3 ≤ length s → length s < 4 → r ≡ from_le_bytes w16 (slice_index_or s 0 0 ∷ slice_index_or s 1 0 ∷ []) → v + r + slice_index_or s 2 0 ≡ v + swapped_sum s
+pub last_three : (s : List ℕ) (v r : ℕ) → 3 ≤ length s → length s < 4
+    → r ≡ from_le_bytes w16 (slice_index_or s 0 0 ∷ slice_index_or s 1 0 ∷ [])
+    → v + r + slice_index_or s 2 0 ≡ v + swapped_sum s
 last_three [] v r least few is = absurd (omega arith)
 last_three (a ∷ []) v r least few is = absurd (omega arith)
 last_three (a ∷ b ∷ []) v r least few is = absurd (omega arith)
@@ -83,7 +93,8 @@ last_three (a ∷ b ∷ c ∷ d ∷ s) v r least few is = absurd (omega arith)
 
 -- ---- all of it
 
-pub rest_counts : (s1 s2 s3 s4 v : ℕ) (b0 b1 b2 b3 b4 : List ℕ) → IsAdded 0 b0 s1 b1 → IsAdded s1 b1 s2 b2 → IsAdded s2 b2 s3 b3 → IsAdded s3 b3 s4 b4 → v ≡ s4 + swapped_sum b4 → CountsAs v (swapped_sum b0)
+pub rest_counts : (s1 s2 s3 s4 v : ℕ) (b0 b1 b2 b3 b4 : List ℕ) → IsAdded 0 b0 s1 b1 → IsAdded s1 b1 s2 b2
+    → IsAdded s2 b2 s3 b3 → IsAdded s3 b3 s4 b4 → v ≡ s4 + swapped_sum b4 → CountsAs v (swapped_sum b0)
 rest_counts s1 s2 s3 s4 v b0 b1 b2 b3 b4 a1 a2 a3 a4 is = record {
   once = a1.once + a2.once + a3.once + a4.once + swapped_sum b4;
   often = a1.often + a2.often + a3.often + a4.often;
@@ -95,7 +106,13 @@ pub counts_below : (value total : ℕ) → CountsAs value total → value ≤ 65
 counts_below value total c = omega (arith, c.value_is, c.total_is)
 
 pub counts_more : (value total n whole : ℕ) → n + total ≡ whole → CountsAs value total → CountsAs (n + value) whole
-counts_more value total n whole is c = record { once = n + c.once; often = c.often; value_is = omega (arith, c.value_is); total_is = omega (arith, c.total_is) }
+counts_more value total n whole is c =
+    record {
+      once = n + c.once;
+      often = c.often;
+      value_is = omega (arith, c.value_is);
+      total_is = omega (arith, c.total_is);
+    }
 
 pub counts_folded : (value total n : ℕ) → CountsAs value total → fold16 (n + value) ≡ fold16 (n + total)
 counts_folded value total n c =

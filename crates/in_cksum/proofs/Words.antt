@@ -44,7 +44,8 @@ swap-fold16 n =
     let below : m < 65536 = fold16-below n in
     let parts : 256 * m ≡ 65536 * (m / 256) + 256 * (m % 256) = omega arith in
     let swapped : m / 256 + 256 * (m % 256) ≡ swap_bytes w16 m = omega arith in
-    sym (sym (fold16-shift n) ∙ ap fold16 parts ∙ fold16-high (m / 256) (256 * (m % 256)) ∙ fold16-small (m / 256 + 256 * (m % 256)) (omega arith) ∙ swapped)
+    sym (sym (fold16-shift n) ∙ ap fold16 parts ∙ fold16-high (m / 256) (256 * (m % 256))
+    ∙ fold16-small (m / 256 + 256 * (m % 256)) (omega arith) ∙ swapped)
 
 pub swap-swapped_sum : (s : List ℕ) → swap_bytes w16 (fold16 (swapped_sum s)) ≡ folded_sum s
 swap-swapped_sum s = swap-fold16 (swapped_sum s) ∙ shift-swapped_sum s
@@ -75,14 +76,18 @@ word_sum-append_odd (a ∷ b ∷ s) t odd = omega (arith, word_sum-append_odd s 
 pub swapped_sum_bound : (s : List ℕ) → ((k : ℕ) → Fits w8 (get_or s k 0)) → swapped_sum s ≤ 65280 * length s
 swapped_sum_bound [] fits = omega arith
 swapped_sum_bound (a ∷ []) fits = omega (arith, (fits 0).fits)
-swapped_sum_bound (a ∷ b ∷ s) fits = omega (arith, (fits 0).fits, (fits 1).fits, swapped_sum_bound s (λ k. fits (suc (suc k))))
+swapped_sum_bound (a ∷ b ∷ s) fits =
+    omega (arith, (fits 0).fits, (fits 1).fits, swapped_sum_bound s (λ k. fits (suc (suc k))))
 
 -- a cut after an even number of bytes
-pub swapped_sum_cut : (s t whole : List ℕ) → whole ≡ s ++ t → length s % 2 ≡ 0 → swapped_sum s + swapped_sum t ≡ swapped_sum whole
+pub swapped_sum_cut : (s t whole : List ℕ) → whole ≡ s ++ t → length s % 2 ≡ 0
+    → swapped_sum s + swapped_sum t ≡ swapped_sum whole
 swapped_sum_cut s t whole cut even = sym (ap swapped_sum cut ∙ swapped_sum-append_even s t even)
 
 -- one part more, of which the folded sum alone is kept
-pub swapped_part_added : (total : ℕ) (part after rest : List ℕ) → swapped_sum part + swapped_sum after ≡ swapped_sum rest → fold16 (fold16 (total + swapped_sum part) + swapped_sum after) ≡ fold16 (total + swapped_sum rest)
+pub swapped_part_added : (total : ℕ) (part after rest : List ℕ)
+    → swapped_sum part + swapped_sum after ≡ swapped_sum rest
+    → fold16 (fold16 (total + swapped_sum part) + swapped_sum after) ≡ fold16 (total + swapped_sum rest)
 swapped_part_added total part after rest cut =
     let whole : total + swapped_sum part + swapped_sum after ≡ total + swapped_sum rest = omega arith in
     fold16-add_first (total + swapped_sum part) (swapped_sum after) ∙ ap fold16 whole
@@ -112,31 +117,38 @@ odd-add m n =
 -- sums of which each may be folded first
 same_sums : (a b c d : ℕ) → fold16 a ≡ fold16 c → fold16 b ≡ fold16 d → fold16 (a + b) ≡ fold16 (c + d)
 same_sums a b c d e f =
-    sym (fold16-add_second a b) ∙ sym (fold16-add_first a (fold16 b)) ∙ (λ j. fold16 (e j + f j)) ∙ fold16-add_first c (fold16 d) ∙ fold16-add_second c d
+    sym (fold16-add_second a b) ∙ sym (fold16-add_first a (fold16 b)) ∙ (λ j. fold16 (e j + f j))
+    ∙ fold16-add_first c (fold16 d) ∙ fold16-add_second c d
 
 -- a sum in the order of memory, shifted by 8 bits
 shifted_back : (s : List ℕ) (raw : ℕ) → fold16 raw ≡ fold16 (swapped_sum s) → fold16 (256 * raw) ≡ fold16 (word_sum s)
-shifted_back s raw is = sym (fold16-shift raw) ∙ ap (λ n. fold16 (256 * n)) is ∙ fold16-shift (swapped_sum s) ∙ shift-swapped_sum s
+shifted_back s raw is =
+    sym (fold16-shift raw) ∙ ap (λ n. fold16 (256 * n)) is ∙ fold16-shift (swapped_sum s) ∙ shift-swapped_sum s
 
 folded_sum-append : (s t : List ℕ) (sum raw : ℕ) → fold16 sum ≡ folded_sum s → fold16 raw ≡ fold16 (swapped_sum t)
     → fold16 (sum + cond (nat_eq (length s % 2) 1) raw (256 * raw)) ≡ folded_sum (s ++ t)
 folded_sum-append s t sum raw sum_is raw_is =
     elim (parity (length s)) [
-      | inl even ↦ rw even (same_sums sum (256 * raw) (word_sum s) (word_sum t) sum_is (shifted_back t raw raw_is) ∙ sym (ap fold16 (word_sum-append_even s t even)))
-      | inr odd ↦ rw odd (same_sums sum raw (word_sum s) (swapped_sum t) sum_is raw_is ∙ sym (ap fold16 (word_sum-append_odd s t odd)))
+      | inl even ↦ rw even (same_sums sum (256 * raw) (word_sum s) (word_sum t) sum_is (shifted_back t raw raw_is)
+          ∙ sym (ap fold16 (word_sum-append_even s t even)))
+      | inr odd ↦ rw odd (same_sums sum raw (word_sum s) (swapped_sum t) sum_is raw_is
+          ∙ sym (ap fold16 (word_sum-append_odd s t odd)))
     ]
 
 abbrev pair : ℕ → Bool → Partial
 pair n b = record { total = n; is_odd = b }
 
 -- one piece more
-pub sum_of-append : (s t : List ℕ) (sum raw new : ℕ) (odd : Bool) → record { total = fold16 sum; is_odd = odd } ≡ sum_of s → fold16 raw ≡ fold16 (swapped_sum t)
+pub sum_of-append : (s t : List ℕ) (sum raw new : ℕ) (odd : Bool)
+    → record { total = fold16 sum; is_odd = odd } ≡ sum_of s → fold16 raw ≡ fold16 (swapped_sum t)
     → fold16 new ≡ fold16 (sum + cond odd raw (256 * raw))
     → record { total = fold16 new; is_odd = not (beq odd (nat_eq (length t % 2) 1)) } ≡ sum_of (s ++ t)
 sum_of-append s t sum raw new odd known raw_is new_is =
     let parity_is : odd ≡ nat_eq (length s % 2) 1 = ap (λ (p : Partial). p.is_odd) known in
     let folded : fold16 new ≡ folded_sum (s ++ t) =
-    new_is ∙ ap (λ b. fold16 (sum + cond b raw (256 * raw))) parity_is ∙ folded_sum-append s t sum raw (ap (λ (p : Partial). p.total) known) raw_is in
+    new_is ∙ ap (λ b. fold16 (sum + cond b raw (256 * raw))) parity_is
+    ∙ folded_sum-append s t sum raw (ap (λ (p : Partial). p.total) known) raw_is in
     let is_odd : not (beq odd (nat_eq (length t % 2) 1)) ≡ nat_eq (length (s ++ t) % 2) 1 =
-    ap (λ b. not (beq b (nat_eq (length t % 2) 1))) parity_is ∙ odd-add (length s) (length t) ∙ sym (ap (λ n. nat_eq (n % 2) 1) (length-append s t)) in
+    ap (λ b. not (beq b (nat_eq (length t % 2) 1))) parity_is ∙ odd-add (length s) (length t)
+    ∙ sym (ap (λ n. nat_eq (n % 2) 1) (length-append s t)) in
     ap₂ pair folded is_odd

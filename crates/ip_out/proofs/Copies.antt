@@ -38,7 +38,8 @@ pub length_copied : (room : ℕ) (es : List Entry) → length (copied_all room e
 length_copied room [] = refl
 length_copied room (e ∷ es) = ap suc (length_copied 20 es)
 
-first_copied : (room : ℕ) (es : List Entry) → ((slice_index_or (copied_all room es) 0 no_entry).cluster ≡ (slice_index_or es 0 no_entry).cluster)
+first_copied : (room : ℕ) (es : List Entry)
+    → ((slice_index_or (copied_all room es) 0 no_entry).cluster ≡ (slice_index_or es 0 no_entry).cluster)
     × (length (slice_index_or (copied_all room es) 0 no_entry).bytes ≡ length (slice_index_or es 0 no_entry).bytes)
 first_copied room [] = (refl, refl)
 first_copied room (e ∷ es) = (refl, ap (λ (xs : List ℕ). length xs) (whole e.bytes))
@@ -55,7 +56,9 @@ pub record IsCopied (p q : PoolView) (c d : ℕ) (h : IpHead) (mtu : ℕ) : Type
   pub held : held_mbufs q ≡ held_mbufs p + length (chain_of p c).entries
   pub moves : Moves p (c ∷ []) q (d ∷ c ∷ [])
 
-pub copied : {p q : PoolView} (c d room : ℕ) (header : Bool) (h : IpHead) (mtu : ℕ) → Makes p q d (alone header) (copied_all room (chain_of p c).entries) → header ≡ true → IsLive p c → IsDatagram (chain_of p c) → IsCopied p q c d h mtu
+pub copied : {p q : PoolView} (c d room : ℕ) (header : Bool) (h : IpHead) (mtu : ℕ)
+    → Makes p q d (alone header) (copied_all room (chain_of p c).entries) → header ≡ true → IsLive p c
+    → IsDatagram (chain_of p c) → IsCopied p q c d h mtu
 copied {p} {q} c d room header h mtu m headed live dg =
     let es : List Entry = (chain_of p c).entries in
     let w : ChainView = chain_of q d in
@@ -70,18 +73,27 @@ copied {p} {q} c d room header h mtu m headed live dg =
       datagram = record {
         headed = ap (λ f. f.header) m.front ∙ headed;
         plain = ap (λ (fs : List Entry). (slice_index_or fs 0 no_entry).cluster) m.entries ∙ first.0 ∙ dg.plain;
-        room = omega (arith, ap (λ (fs : List Entry). length (slice_index_or fs 0 no_entry).bytes) m.entries, first.1, dg.room);
+        room =
+            omega (
+              arith,
+              ap (λ (fs : List Entry). length (slice_index_or fs 0 no_entry).bytes) m.entries,
+              first.1,
+              dg.room,
+            );
         bytes = subst HaveBytes (sym m.entries) (have_bytes room es dg.bytes);
         most = omega (arith, ap (λ (xs : List ℕ). length xs) bytes, dg.most);
       };
       same_packets = λ i. items (laid_is i) (part_bytes h (drop 20 (bytes i))) (cuts (length (bytes i) - 20) mtu);
-      same_need = λ i. sum_by (λ (x : Part). 1 + length (entries_met (laid_is i) (20 + x.offset) (20 + x.offset + x.size))) (drop 1 (cuts (length (bytes i) - 20) mtu));
+      same_need =
+          λ i. sum_by (λ (x : Part). 1 + length (entries_met (laid_is i) (20 + x.offset) (20 + x.offset + x.size)))
+          (drop 1 (cuts (length (bytes i) - 20) mtu));
       held = omega (arith, makes_held m, length_copied room es);
       moves = moves_beside (c ∷ []) (d ∷ c ∷ []) (c ∷ []) (moves_adds m.adds) (λ k. omega arith) (λ k. omega arith);
     }
 
 -- ---- the other chain while one becomes packets
-pub kept_other : {p q : PoolView} {xs ys : List ℕ} (k : ℕ) → Moves p xs q ys → IsLive p k → times k xs ≡ 0 → (chain_of q k ≡ chain_of p k) × IsLive q k
+pub kept_other : {p q : PoolView} {xs ys : List ℕ} (k : ℕ) → Moves p xs q ys → IsLive p k → times k xs ≡ 0
+    → (chain_of q k ≡ chain_of p k) × IsLive q k
 kept_other {p} {q} k m live none =
     let e : finmap.get q.chains k ≡ finmap.get p.chains k = m.others k live none in
     let shown : chain_of q k ≡ chain_of p k = ap (λ (o : Option ChainView). unwrap_or o no_chain) e in
@@ -98,7 +110,8 @@ pub record IsFirst (q r : PoolView) (c d : ℕ) (t : TrainView) : Type 0 where
   pub owned : IsOwned r (numbers r t ++ d ∷ [])
   pub moves : Moves q (d ∷ c ∷ []) r (numbers r t ++ d ∷ [])
 
-pub first_sent : {q r : PoolView} (c d : ℕ) (t : TrainView) → Moves q (c ∷ []) r (numbers r t) → IsLive q d → c ≢ d → IsHeld r t → IsFirst q r c d t
+pub first_sent : {q r : PoolView} (c d : ℕ) (t : TrainView) → Moves q (c ∷ []) r (numbers r t) → IsLive q d → c ≢ d
+    → IsHeld r t → IsFirst q r c d t
 first_sent {q} {r} c d t m live ne held =
     let none = not_among c d ne in
     let kept = kept_other d m live none in
@@ -109,7 +122,9 @@ first_sent {q} {r} c d t m live ne held =
       live = kept.1;
       apart = apart;
       owned = λ k. omega (arith, more k, times-append k (numbers r t) (d ∷ []));
-      moves = moves_beside (d ∷ c ∷ []) (numbers r t ++ d ∷ []) (d ∷ []) m (λ k. omega arith) (λ k. omega (arith, times-append k (numbers r t) (d ∷ [])));
+      moves =
+          moves_beside (d ∷ c ∷ []) (numbers r t ++ d ∷ []) (d ∷ []) m (λ k. omega arith)
+          (λ k. omega (arith, times-append k (numbers r t) (d ∷ [])));
     }
 
 -- and then d became a train too
@@ -119,11 +134,13 @@ pub record IsSecond (p s : PoolView) (r : PoolView) (c : ℕ) (t u : TrainView) 
   pub same_packets : packets s t ≡ packets r t
   pub moves : Moves p (c ∷ []) s (numbers s t ++ numbers s u)
 
-pub second_sent : {p q r s : PoolView} (c d : ℕ) (t u : TrainView) → Moves p (c ∷ []) q (d ∷ c ∷ []) → IsFirst q r c d t → Moves r (d ∷ []) s (numbers s u) → IsHeld r t → IsSecond p s r c t u
+pub second_sent : {p q r s : PoolView} (c d : ℕ) (t u : TrainView) → Moves p (c ∷ []) q (d ∷ c ∷ []) → IsFirst q r c d t
+    → Moves r (d ∷ []) s (numbers s u) → IsHeld r t → IsSecond p s r c t u
 second_sent {p} {q} {r} {s} c d t u one f m held =
     let b : Beside r s t = beside_moves t m f.owned held in
     let last : Moves r (numbers r t ++ d ∷ []) s (numbers s t ++ numbers s u) =
-    moves_beside (numbers r t ++ d ∷ []) (numbers s t ++ numbers s u) (numbers r t) m (λ k. times-append k (numbers r t) (d ∷ []))
+    moves_beside (numbers r t ++ d ∷ []) (numbers s t ++ numbers s u) (numbers r t) m
+    (λ k. times-append k (numbers r t) (d ∷ []))
     (λ k. omega (arith, times-append k (numbers s t) (numbers s u), ap (times k) b.numbers)) in
     record {
       held = b.held;
@@ -134,21 +151,31 @@ second_sent {p} {q} {r} {s} c d t u one f m held =
 
 -- ---- refusals
 -- the copy is freed, and then the train
-pub then_freed : {r s z : PoolView} (d : ℕ) (t : TrainView) → s ≡ without r d → IsLive r d → IsHeld r t → times d (numbers r t) ≡ 0 → Moves s (numbers s t) z [] → Moves r (numbers r t ++ d ∷ []) z []
+pub then_freed : {r s z : PoolView} (d : ℕ) (t : TrainView) → s ≡ without r d → IsLive r d → IsHeld r t
+    → times d (numbers r t) ≡ 0 → Moves s (numbers s t) z [] → Moves r (numbers r t ++ d ∷ []) z []
 then_freed {r} {s} {z} d t is live held apart freed =
     let gone = aside_gone d t is live held apart in
-    moves_trans (moves_reordered (numbers r t ++ d ∷ []) (numbers s t) gone.1 (λ k. omega (arith, times-append k (numbers r t) (d ∷ []))) (λ k. refl)) freed
+    moves_trans (moves_reordered (numbers r t ++ d ∷ []) (numbers s t) gone.1
+    (λ k. omega (arith, times-append k (numbers r t) (d ∷ []))) (λ k. refl)) freed
 
 -- where nothing is left of a chain, it is gone, and nothing else
 pub gone_whole : {p s : PoolView} (c : ℕ) → Moves p (c ∷ []) s [] → IsLive p c → s ≡ without p c
 gone_whole {p} {s} c m live =
-    let whole : p ≡ with_chain p c (chain_of p c) = λ i. record { mbufs = p.mbufs; clusters = p.clusters; chains = sym (insert_same p.chains c (chain_of p c) live) i } in
+    let whole : p ≡ with_chain p c (chain_of p c) =
+    λ i. record {
+      mbufs = p.mbufs;
+      clusters = p.clusters;
+      chains = sym (insert_same p.chains c (chain_of p c) live) i;
+    } in
     moves_nothing (moves_trans (moves_adds (adds_in_place p p c (chain_of p c) whole)) m)
 
 -- ---- how many packets
-pub is_cut : (p : PoolView) (t : TrainView) (v : ChainView) (h : IpHead) (mtu : ℕ) → IsHeld p t → packets p t ≡ packets_of v h mtu → nat_lt 1 t.len ≡ nat_lt 1 (length (parts_of v mtu))
+pub is_cut : (p : PoolView) (t : TrainView) (v : ChainView) (h : IpHead) (mtu : ℕ) → IsHeld p t
+    → packets p t ≡ packets_of v h mtu → nat_lt 1 t.len ≡ nat_lt 1 (length (parts_of v mtu))
 is_cut p t v h mtu held is =
     let n : t.len ≡ length (parts_of v mtu) =
-    sym (length-queued_packets p t held) ∙ sym (length-map (queued_packets p t) (λ (queued_packet : QueuedPacket). item_of queued_packet.entries)) ∙ ap (λ (xs : List Item). length xs) is
+    sym (length-queued_packets p t held)
+    ∙ sym (length-map (queued_packets p t) (λ (queued_packet : QueuedPacket). item_of queued_packet.entries))
+    ∙ ap (λ (xs : List Item). length xs) is
     ∙ items_length (laid v.entries) (part_bytes h (drop 20 (string v))) (parts_of v mtu) in
     ap (nat_lt 1) n

@@ -21,8 +21,10 @@ filled_some : (k large small left : ℕ) → 0 < large → 0 < small → HaveRoo
 unfolding filled
 filled_some zero large small left l s = tt
 filled_some (suc k) large small zero l s = tt
-filled_some (suc k) large small (suc less) l s =
-    (next_some large small (suc less) l s (omega arith), filled_some k 2048 108 (suc less - size_of (next_room large small (suc less))) (omega arith) (omega arith))
+filled_some (suc k) large small (suc less) l s = (
+  next_some large small (suc less) l s (omega arith),
+  filled_some k 2048 108 (suc less - size_of (next_room large small (suc less))) (omega arith) (omega arith),
+)
 
 laid_on_some : (cs : List ℕ) (rooms : List Room) → HaveRoom rooms → HaveSize (laid_on cs rooms)
 unfolding laid_on
@@ -37,7 +39,8 @@ entries_some : (es : List Entry) → HaveSize (laid es) → HaveBytes es
 entries_some [] h = tt
 entries_some (e ∷ es) h = (h.0, entries_some es h.1)
 
-plain_first : (cs : List ℕ) (n : ℕ) (rooms : List Room) → laid_on cs (Plain n ∷ rooms) ≡ record { size = n; cluster = None } ∷ laid_on cs rooms
+plain_first : (cs : List ℕ) (n : ℕ) (rooms : List Room)
+    → laid_on cs (Plain n ∷ rooms) ≡ record { size = n; cluster = None } ∷ laid_on cs rooms
 unfolding laid_on
 plain_first [] n rooms = refl
 plain_first (c ∷ cs) n rooms = refl
@@ -48,13 +51,18 @@ no_flat = record { size = 0; cluster = None }
 first_of : (es : List Entry) (x : flat.Entry) (xs : List flat.Entry) → laid es ≡ x ∷ xs
     → ((slice_index_or es 0 no_entry).cluster ≡ x.cluster) × (length (slice_index_or es 0 no_entry).bytes ≡ x.size)
 first_of [] x xs h = absurd (omega (arith, ap (λ (ys : List flat.Entry). length ys) h))
-first_of (e ∷ es) x xs h = (ap (λ (ys : List flat.Entry). (slice_index_or ys 0 no_flat).cluster) h, ap (λ (ys : List flat.Entry). (slice_index_or ys 0 no_flat).size) h)
+first_of (e ∷ es) x xs h = (
+  ap (λ (ys : List flat.Entry). (slice_index_or ys 0 no_flat).cluster) h,
+  ap (λ (ys : List flat.Entry). (slice_index_or ys 0 no_flat).size) h,
+)
 
-of_rooms : (v : ChainView) (cs : List ℕ) (n m : ℕ) (rooms : List Room) → v.front.header ≡ true → laid v.entries ≡ laid_on cs (sent n) → sent n ≡ Plain m ∷ rooms → HaveRoom (Plain m ∷ rooms) → 20 ≤ m
+of_rooms : (v : ChainView) (cs : List ℕ) (n m : ℕ) (rooms : List Room) → v.front.header ≡ true
+    → laid v.entries ≡ laid_on cs (sent n) → sent n ≡ Plain m ∷ rooms → HaveRoom (Plain m ∷ rooms) → 20 ≤ m
     → length (string v) ≤ 65535 → IsDatagram v
 of_rooms v cs n m rooms headed is e some room most =
     let whole : laid v.entries ≡ laid_on cs (Plain m ∷ rooms) = is ∙ ap (laid_on cs) e in
-    let first = first_of v.entries (record { size = m; cluster = None }) (laid_on cs rooms) (whole ∙ plain_first cs m rooms) in
+    let first =
+    first_of v.entries (record { size = m; cluster = None }) (laid_on cs rooms) (whole ∙ plain_first cs m rooms) in
     record {
       headed = headed;
       plain = first.0;
@@ -63,9 +71,12 @@ of_rooms v cs n m rooms headed is e some room most =
       most = most;
     }
 
-pub datagram_sent : (v : ChainView) (cs : List ℕ) (n : ℕ) → v.front.header ≡ true → laid v.entries ≡ laid_on cs (sent n) → length (string v) ≤ 65535 → IsDatagram v
+pub datagram_sent : (v : ChainView) (cs : List ℕ) (n : ℕ) → v.front.header ≡ true → laid v.entries ≡ laid_on cs (sent n)
+    → length (string v) ≤ 65535 → IsDatagram v
 datagram_sent v cs n headed is most = go (cases_lt 72 n)
   where
     go : (72 < n) ⊎ (n ≤ 72) → IsDatagram v
-    go (inl long) = of_rooms v cs n 28 (filled n 1992 100 n) headed is (sent_long n long) (omega arith, filled_some n 1992 100 n (omega arith) (omega arith)) (omega arith) most
+    go (inl long) =
+        of_rooms v cs n 28 (filled n 1992 100 n) headed is (sent_long n long)
+        (omega arith, filled_some n 1992 100 n (omega arith) (omega arith)) (omega arith) most
     go (inr short) = of_rooms v cs n (28 + n) [] headed is (sent_short n short) (omega arith, tt) (omega arith) most

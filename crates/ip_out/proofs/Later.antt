@@ -20,29 +20,39 @@ unfolding head_bytes
 length_head h = refl
 
 -- a new mbuf in which a header was put
-pub headed : (p q r : PoolView) (d : ℕ) (at : Place) (h : IpHead) (xs : List ℕ) → Adds p q d (one_mbuf true (empty_entry 28 None) d) → at.index ≡ 0
-    → r ≡ with_entry_in q d at (with_back (entry_in q d at) xs) → xs ≡ head_bytes h → Adds p r d (one_mbuf true (head_entry h) d)
+pub headed : (p q r : PoolView) (d : ℕ) (at : Place) (h : IpHead) (xs : List ℕ)
+    → Adds p q d (one_mbuf true (empty_entry 28 None) d) → at.index ≡ 0
+    → r ≡ with_entry_in q d at (with_back (entry_in q d at) xs) → xs ≡ head_bytes h
+    → Adds p r d (one_mbuf true (head_entry h) d)
 headed p q r d at h xs a zero put is =
     filled p q r d at.index true (empty_entry 28 None) (head_entry h) a zero
-    (put ∙ ap (λ (e : Entry). with_chain q d (with_entry (chain_of q d) at.index (with_back e xs))) (new_entry p q d at.index true (empty_entry 28 None) a zero)
-    ∙ ap (λ (ys : List ℕ). with_chain q d (with_entry (chain_of q d) at.index (record { bytes = ys; start = 28; cluster = None }))) is)
+    (put ∙ ap (λ (e : Entry). with_chain q d (with_entry (chain_of q d) at.index (with_back e xs)))
+    (new_entry p q d at.index true (empty_entry 28 None) a zero)
+    ∙ ap (λ (ys : List ℕ). with_chain q d
+    (with_entry (chain_of q d) at.index (record { bytes = ys; start = 28; cluster = None }))) is)
 
 no_header : (header : Bool) (off : ℕ) → 0 < off → copy_header header off ≡ false
 no_header true off some = ne_eqb off 0 (λ z. absurd (omega arith))
 no_header false off some = refl
 
 -- the copies of a chain c of p, beside a new chain of r
-pub copies_same : (p r : PoolView) (c d off len : ℕ) (h : IpHead) → Adds p r d (one_mbuf true (head_entry h) d) → IsLive p c → 0 < off
-    → copied (copy_header (chain_of r c).front.header off) (chain_of r c).entries off len ≡ copied false (chain_of p c).entries off len
+pub copies_same : (p r : PoolView) (c d off len : ℕ) (h : IpHead) → Adds p r d (one_mbuf true (head_entry h) d)
+    → IsLive p c → 0 < off
+    → copied (copy_header (chain_of r c).front.header off) (chain_of r c).entries off len
+    ≡ copied false (chain_of p c).entries off len
 copies_same p r c d off len h a live some =
     let kept : chain_of r c ≡ chain_of p c = makes_kept c (makes_new a) live in
-    ap (λ (t : Bool). copied t (chain_of r c).entries off len) (no_header (chain_of r c).front.header off some) ∙ ap (λ (v : ChainView). copied false v.entries off len) kept
+    ap (λ (t : Bool). copied t (chain_of r c).entries off len) (no_header (chain_of r c).front.header off some)
+    ∙ ap (λ (v : ChainView). copied false v.entries off len) kept
 
-copy_was : (p r s : PoolView) (c d b off len : ℕ) (h : IpHead) → Adds p r d (one_mbuf true (head_entry h) d) → IsLive p c → 0 < off
-    → Makes r s b (alone (copy_header (chain_of r c).front.header off)) (copied (copy_header (chain_of r c).front.header off) (chain_of r c).entries off len)
+copy_was : (p r s : PoolView) (c d b off len : ℕ) (h : IpHead) → Adds p r d (one_mbuf true (head_entry h) d)
+    → IsLive p c → 0 < off
+    → Makes r s b (alone (copy_header (chain_of r c).front.header off))
+    (copied (copy_header (chain_of r c).front.header off) (chain_of r c).entries off len)
     → Makes r s b (alone false) (copied false (chain_of p c).entries off len)
 copy_was p r s c d b off len h a live some m =
-    makes_as r (alone false) (copied false (chain_of p c).entries off len) m refl (ap alone (no_header (chain_of r c).front.header off some)) (copies_same p r c d off len h a live some)
+    makes_as r (alone false) (copied false (chain_of p c).entries off len) m refl
+    (ap alone (no_header (chain_of r c).front.header off some)) (copies_same p r c d off len h a live some)
 
 length_range : (off len : ℕ) (xs : List ℕ) → off + len ≤ length xs → length (take len (drop off xs)) ≡ len
 length_range off len xs h = omega (arith, length-take len (drop off xs), length-drop off xs)
@@ -56,8 +66,11 @@ pub record IsReady (p r s : PoolView) (c d b off size : ℕ) (h : IpHead) : Type
   pub apart : d ≢ b
   pub len : size ≡ length (string (chain_of s b))
 
-pub ready : {p r s : PoolView} (c : ℕ) {d b : ℕ} (off len : ℕ) (h : IpHead) → Adds p r d (one_mbuf true (head_entry h) d) → IsLive p c → 0 < off → off + len ≤ length (string (chain_of p c))
-    → Makes r s b (alone (copy_header (chain_of r c).front.header off)) (copied (copy_header (chain_of r c).front.header off) (chain_of r c).entries off len) → IsReady p r s c d b off len h
+pub ready : {p r s : PoolView} (c : ℕ) {d b : ℕ} (off len : ℕ) (h : IpHead)
+    → Adds p r d (one_mbuf true (head_entry h) d) → IsLive p c → 0 < off → off + len ≤ length (string (chain_of p c))
+    → Makes r s b (alone (copy_header (chain_of r c).front.header off))
+    (copied (copy_header (chain_of r c).front.header off) (chain_of r c).entries off len)
+    → IsReady p r s c d b off len h
 ready {p} {r} {s} c {d} {b} off len h a live some within made =
     let m = copy_was p r s c d b off len h a live some made in
     let one : IsLive r d = live_adds a in
@@ -67,14 +80,21 @@ ready {p} {r} {s} c {d} {b} off len h a live some within made =
       front = live_beside r s b (chain_of s b) m.adds d one;
       back = live_adds m.adds;
       apart = apart r s b (chain_of s b) m.adds d one;
-      len = sym (ap (λ (es : List Entry). length (flat_bytes es)) m.entries ∙ ap (λ (xs : List ℕ). length xs) (copied_bytes false (chain_of p c).entries off len) ∙ length_range off len (string (chain_of p c)) within);
+      len =
+          sym (ap (λ (es : List Entry). length (flat_bytes es)) m.entries
+          ∙ ap (λ (xs : List ℕ). length xs) (copied_bytes false (chain_of p c).entries off len)
+          ∙ length_range off len (string (chain_of p c)) within);
     }
 
 -- and when they are linked
-pub linked : (p r s t : PoolView) (c d b off len : ℕ) (h : IpHead) → Adds p r d (one_mbuf true (head_entry h) d) → IsReady p r s c d b off len h
-    → t ≡ with_chain (without s b) d (joined (chain_of s d) (chain_of s b)) → Makes p t d (alone true) (head_entry h ∷ copied false (chain_of p c).entries off len)
+pub linked : (p r s t : PoolView) (c d b off len : ℕ) (h : IpHead) → Adds p r d (one_mbuf true (head_entry h) d)
+    → IsReady p r s c d b off len h
+    → t ≡ with_chain (without s b) d (joined (chain_of s d) (chain_of s b))
+    → Makes p t d (alone true) (head_entry h ∷ copied false (chain_of p c).entries off len)
 linked p r s t c d b off len h a y is =
     let one = makes_new a in
-    let step : t ≡ with_chain r d (joined (chain_of r d) (chain_of s b)) = linked_new r s t d b (chain_of s b) (live_adds a) y.copy.adds is in
+    let step : t ≡ with_chain r d (joined (chain_of r d) (chain_of s b)) =
+    linked_new r s t d b (chain_of s b) (live_adds a) y.copy.adds is in
     let made = makes_then t (joined (chain_of r d) (chain_of s b)) one step in
-    makes_as p (alone true) (head_entry h ∷ copied false (chain_of p c).entries off len) made refl one.front (λ i. one.entries i ++ y.copy.entries i)
+    makes_as p (alone true) (head_entry h ∷ copied false (chain_of p c).entries off len) made refl one.front
+    (λ i. one.entries i ++ y.copy.entries i)

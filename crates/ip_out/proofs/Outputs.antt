@@ -52,7 +52,8 @@ cut_none n mtu short h = record {
   inside = λ i some lt. absurd (omega arith);
 }
   where
-    one_part : {o s : ℕ} {m : Bool} → 0 ≡ o → n ≡ s → false ≡ m → same_parts (record { offset = 0; size = n; more = false } ∷ []) (record { offset = o; size = s; more = m } ∷ [])
+    one_part : {o s : ℕ} {m : Bool} → 0 ≡ o → n ≡ s → false ≡ m
+        → same_parts (record { offset = 0; size = n; more = false } ∷ []) (record { offset = o; size = s; more = m } ∷ [])
     one_part eo es em = λ i. record { offset = eo i; size = es i; more = em i } ∷ []
 
 pub cut_some : (n mtu c : ℕ) → 68 ≤ mtu → mtu ≤ 65535 → mtu < 20 + n → c ≡ chunk mtu → IsCut n mtu c ((n + (c - 1)) / c)
@@ -66,7 +67,8 @@ cut_some n mtu c least top h e =
       | inr ge ↦ omega (arith, ge.1)
     ] in
     let all : cuts n mtu ≡ map (part n c) (range_with_len 0 k) =
-    cond-false {A = List Part} (nat_le (20 + n) mtu) _ _ (lt-leb (20 + n) mtu h) ∙ ap (λ (j : ℕ). map (part n j) (range_with_len 0 ((n + (j - 1)) / j))) (sym e) in
+    cond-false {A = List Part} (nat_le (20 + n) mtu) _ _ (lt-leb (20 + n) mtu h)
+    ∙ ap (λ (j : ℕ). map (part n j) (range_with_len 0 ((n + (j - 1)) / j))) (sym e) in
     record {
       some = some;
       least = omega (arith, big);
@@ -91,13 +93,15 @@ drop_both (suc a) b [] = drop_nil (suc a + b) ∙ sym (drop_nil b)
     drop_nil : (k : ℕ) → drop {A = ℕ} k [] ≡ []
     drop_nil zero = refl
     drop_nil (suc k) = refl
-drop_both (suc a) b (x ∷ xs) = let e : suc a + b ≡ suc (a + b) = omega arith in ap (λ (k : ℕ). drop k (x ∷ xs)) e ∙ drop_both a b xs
+drop_both (suc a) b (x ∷ xs) = let e : suc a + b ≡ suc (a + b) = omega arith in
+    ap (λ (k : ℕ). drop k (x ∷ xs)) e ∙ drop_both a b xs
 
 pub length-laid : (es : List Entry) → length (laid es) ≡ length es
 length-laid [] = refl
 length-laid (e ∷ es) = ap suc (length-laid es)
 
-bag-laid : (es : List Entry) → filter_map (λ (x : flat.Entry). x.cluster) (laid es) ≡ filter_map (λ (e : Entry). e.cluster) es
+bag-laid : (es : List Entry) → filter_map (λ (x : flat.Entry). x.cluster) (laid es)
+    ≡ filter_map (λ (e : Entry). e.cluster) es
 bag-laid [] = refl
 bag-laid (e ∷ es) = ap (cons_option e.cluster) (bag-laid es)
 
@@ -107,19 +111,25 @@ weight-laid es = λ i. record { mbufs = length-laid es i; bag = bag-laid es i }
 
 -- the copy of a range weighs what the entries weigh that share a byte with it: the law of chain_ops
 abbrev pub CopyWeighs : Type 0
-CopyWeighs = (header : Bool) (es : List Entry) (off len : ℕ) → HaveBytes es → 0 < len → weight_of (laid (copied header es off len)) ≡ weight_of (entries_met (laid es) off (off + len))
+CopyWeighs =
+    (header : Bool) (es : List Entry) (off len : ℕ) → HaveBytes es → 0 < len
+    → weight_of (laid (copied header es off len)) ≡ weight_of (entries_met (laid es) off (off + len))
 
-pub later_is : CopyWeighs → (v : ChainView) (h : IpHead) (p : Part) → HaveBytes v.entries → 0 < p.size → item_of (head_entry (head_for h p) ∷ copied false v.entries (20 + p.offset) p.size) ≡ later_item v h p
+pub later_is : CopyWeighs → (v : ChainView) (h : IpHead) (p : Part) → HaveBytes v.entries → 0 < p.size
+    → item_of (head_entry (head_for h p) ∷ copied false v.entries (20 + p.offset) p.size) ≡ later_item v h p
 later_is law v h p some pos =
     let es : List Entry = copied false v.entries (20 + p.offset) p.size in
     let bytes : flat_bytes es ≡ take p.size (drop p.offset (drop 20 (string v))) =
     copied_bytes false v.entries (20 + p.offset) p.size ∙ ap (take p.size) (drop_both 20 p.offset (string v)) in
-    let w : ledger.weight_of es ≡ weight_of (entries_met (laid v.entries) (20 + p.offset) (20 + p.offset + p.size)) = sym (weight-laid es) ∙ law false v.entries (20 + p.offset) p.size some pos in
+    let w : ledger.weight_of es ≡ weight_of (entries_met (laid v.entries) (20 + p.offset) (20 + p.offset + p.size)) =
+    sym (weight-laid es) ∙ law false v.entries (20 + p.offset) p.size some pos in
     let one : ledger.weight_of (head_entry (head_for h p) ∷ es) ≡ mbuf ⊕ ledger.weight_of es =
-    (let m : suc (length es) ≡ 1 + length es = omega arith in λ i. record { mbufs = m i; bag = (ledger.weight_of es).bag }) in
+    (let m : suc (length es) ≡ 1 + length es = omega arith in
+    λ i. record { mbufs = m i; bag = (ledger.weight_of es).bag }) in
     λ i. record { bytes = head_bytes (head_for h p) ++ bytes i; weight = (one ∙ ap (λ (x : Weight). mbuf ⊕ x) w) i }
 
-pub need_copied : CopyWeighs → (v : ChainView) (p : Part) → HaveBytes v.entries → 0 < p.size → 1 + length (copied false v.entries (20 + p.offset) p.size) ≡ part_need v p
+pub need_copied : CopyWeighs → (v : ChainView) (p : Part) → HaveBytes v.entries → 0 < p.size
+    → 1 + length (copied false v.entries (20 + p.offset) p.size) ≡ part_need v p
 need_copied law v p some pos =
     omega (
       arith,
@@ -128,58 +138,89 @@ need_copied law v p some pos =
     )
 
 -- ---- what is beside the new packets
-pub kept_moves : {p q : PoolView} {ys : List ℕ} (c : ℕ) → Moves p [] q ys → IsLive p c → (chain_of q c ≡ chain_of p c) × IsLive q c
+pub kept_moves : {p q : PoolView} {ys : List ℕ} (c : ℕ) → Moves p [] q ys → IsLive p c
+    → (chain_of q c ≡ chain_of p c) × IsLive q c
 kept_moves {p} {q} c m live =
     let e : finmap.get q.chains c ≡ finmap.get p.chains c = m.others c live refl in
     let shown : chain_of q c ≡ chain_of p c = ap (λ (o : Option ChainView). unwrap_or o no_chain) e in
     (shown, e ∙ live ∙ ap {B = Option ChainView} Some (sym shown))
 
-pub weigh_numbers : (q : PoolView) (xs : List ℕ) → sum_by (λ (k : ℕ). mbufs_of (chain_of q k)) xs ≡ sum_by (λ (it : Item). it.weight.mbufs) (map (λ (queued_packet : QueuedPacket). item_of queued_packet.entries) (map (queued_packet_of q) xs))
+pub weigh_numbers : (q : PoolView) (xs : List ℕ)
+    → sum_by (λ (k : ℕ). mbufs_of (chain_of q k)) xs
+    ≡ sum_by (λ (it : Item). it.weight.mbufs)
+    (map (λ (queued_packet : QueuedPacket). item_of queued_packet.entries) (map (queued_packet_of q) xs))
 weigh_numbers q [] = refl
 weigh_numbers q (x ∷ xs) =
     omega (
       arith,
       weigh_numbers q xs,
       sum_by-cons (λ (k : ℕ). mbufs_of (chain_of q k)) x xs,
-      sum_by-cons (λ (it : Item). it.weight.mbufs) (item_of (chain_of q x).entries) (map (λ (queued_packet : QueuedPacket). item_of queued_packet.entries) (map (queued_packet_of q) xs)),
+      sum_by-cons (λ (it : Item). it.weight.mbufs) (item_of (chain_of q x).entries)
+          (map (λ (queued_packet : QueuedPacket). item_of queued_packet.entries) (map (queued_packet_of q) xs)),
     )
 
-pub weigh_parts : (v : ChainView) (h : IpHead) (ps : List Part) → sum_by (λ (it : Item). it.weight.mbufs) (map (later_item v h) ps) ≡ sum_by (part_need v) ps
+pub weigh_parts : (v : ChainView) (h : IpHead) (ps : List Part)
+    → sum_by (λ (it : Item). it.weight.mbufs) (map (later_item v h) ps) ≡ sum_by (part_need v) ps
 weigh_parts v h [] = refl
-weigh_parts v h (p ∷ ps) = omega (arith, weigh_parts v h ps, sum_by-cons (λ (it : Item). it.weight.mbufs) (later_item v h p) (map (later_item v h) ps), sum_by-cons (part_need v) p ps)
+weigh_parts v h (p ∷ ps) =
+    omega (
+      arith,
+      weigh_parts v h ps,
+      sum_by-cons (λ (it : Item). it.weight.mbufs) (later_item v h p) (map (later_item v h) ps),
+      sum_by-cons (part_need v) p ps,
+    )
 
-pub held_later : {p q : PoolView} {t : TrainView} {v : ChainView} {h : IpHead} {ps : List Part} → IsLater p q t v h ps → held_mbufs q ≡ held_mbufs p + sum_by (part_need v) ps
+pub held_later : {p q : PoolView} {t : TrainView} {v : ChainView} {h : IpHead} {ps : List Part} → IsLater p q t v h ps
+    → held_mbufs q ≡ held_mbufs p + sum_by (part_need v) ps
 held_later {p} {q} {t} {v} {h} {ps} l =
-    omega (arith, held_moves l.moves (λ k. omega arith), weigh_numbers q (numbers q t), ap (sum_by (λ (it : Item). it.weight.mbufs)) l.items, weigh_parts v h ps)
+    omega (
+      arith,
+      held_moves l.moves (λ k. omega arith),
+      weigh_numbers q (numbers q t),
+      ap (sum_by (λ (it : Item). it.weight.mbufs)) l.items,
+      weigh_parts v h ps,
+    )
 
 -- ---- the train grows
-pub plain_more : (cs : List QueuedPacket) (c : QueuedPacket) → AreBegunPlain cs → (slice_index_or c.entries 0 no_entry).cluster ≡ None → AreBegunPlain (cs ++ c ∷ [])
+pub plain_more : (cs : List QueuedPacket) (c : QueuedPacket) → AreBegunPlain cs
+    → (slice_index_or c.entries 0 no_entry).cluster ≡ None → AreBegunPlain (cs ++ c ∷ [])
 plain_more [] c all one = (one, tt)
 plain_more (x ∷ cs) c all one = (all.0, plain_more cs c all.1 one)
 
-pub later_more : {p q r s : PoolView} {t u : TrainView} {v : ChainView} {h : IpHead} {ps qs : List Part} {d : ℕ} {es : List Entry} (x : Part) → IsLater p q t v h ps → Makes q r d (alone true) es
+pub later_more : {p q r s : PoolView} {t u : TrainView} {v : ChainView} {h : IpHead} {ps qs : List Part} {d : ℕ}
+    {es : List Entry} (x : Part) → IsLater p q t v h ps → Makes q r d (alone true) es
     → (slice_index_or es 0 no_entry).cluster ≡ None → item_of es ≡ later_item v h x → qs ≡ ps ++ x ∷ []
-    → queued_packets s u ≡ insert (queued_packets r t) t.len (record { number = d; entries = (chain_of r d).entries; tag = 0 }) → IsHeld s u → Moves r (d ∷ numbers r t) s (numbers s u) → IsLater p s u v h qs
+    → queued_packets s u ≡ insert (queued_packets r t) t.len
+    (record { number = d; entries = (chain_of r d).entries; tag = 0 }) → IsHeld s u
+    → Moves r (d ∷ numbers r t) s (numbers s u) → IsLater p s u v h qs
 later_more {p} {q} {r} {s} {t} {u} {v} {h} {ps} {qs} {d} {es} x l m first is more in_queued_packets held moves =
     let beside = beside_adds t m.adds l.held in
     let f : QueuedPacket → Item = λ queued_packet. item_of queued_packet.entries in
     let c : QueuedPacket = record { number = d; entries = (chain_of r d).entries; tag = 0 } in
     let at : t.len ≡ length (queued_packets r t) = sym (length-queued_packets r t beside.held) in
     let queued_packets_are : queued_packets s u ≡ queued_packets q t ++ c ∷ [] =
-    in_queued_packets ∙ ap (λ (k : ℕ). insert (queued_packets r t) k c) at ∙ insert_end (queued_packets r t) c ∙ ap (λ (xs : List QueuedPacket). xs ++ c ∷ []) beside.queued_packets in
+    in_queued_packets ∙ ap (λ (k : ℕ). insert (queued_packets r t) k c) at ∙ insert_end (queued_packets r t) c
+    ∙ ap (λ (xs : List QueuedPacket). xs ++ c ∷ []) beside.queued_packets in
     let item : f c ≡ later_item v h x = ap item_of m.entries ∙ is in
     record {
       held = held;
       moves = moves_trans l.moves (moves_trans (moves_new t m.adds l.held) moves);
-      items = ap (map f) queued_packets_are ∙ map-append f (queued_packets q t) (c ∷ []) ∙ (λ i. l.items i ++ item i ∷ []) ∙ sym (map-append (later_item v h) ps (x ∷ [])) ∙ ap (map (later_item v h)) (sym more);
-      plain = subst AreBegunPlain (sym queued_packets_are) (plain_more (queued_packets q t) c l.plain (ap (λ (fs : List Entry). (slice_index_or fs 0 no_entry).cluster) m.entries ∙ first));
+      items =
+          ap (map f) queued_packets_are ∙ map-append f (queued_packets q t) (c ∷ []) ∙ (λ i. l.items i ++ item i ∷ [])
+          ∙ sym (map-append (later_item v h) ps (x ∷ [])) ∙ ap (map (later_item v h)) (sym more);
+      plain =
+          subst AreBegunPlain (sym queued_packets_are)
+          (plain_more (queued_packets q t) c l.plain
+          (ap (λ (fs : List Entry). (slice_index_or fs 0 no_entry).cluster) m.entries ∙ first));
     }
 
 pub parts_more : (n c i : ℕ) → 0 < i → parts_to n c (i + 1) ≡ parts_to n c i ++ part n c i ∷ []
-parts_more n c i some = let e : i + 1 - 1 ≡ i - 1 + 1 = omega arith in ap (λ (k : ℕ). map (part n c) (range_with_len 1 k)) e ∙ map-range_with_len_more (part n c) 1 (i - 1) i (omega arith)
+parts_more n c i some = let e : i + 1 - 1 ≡ i - 1 + 1 = omega arith in
+    ap (λ (k : ℕ). map (part n c) (range_with_len 1 k)) e ∙ map-range_with_len_more (part n c) 1 (i - 1) i (omega arith)
 
 -- a part's need is among those of all
-pub need_among : (v : ChainView) (n c i k : ℕ) → 0 < i → i < k → sum_by (part_need v) (parts_to n c i) + part_need v (part n c i) ≤ sum_by (part_need v) (parts_to n c k)
+pub need_among : (v : ChainView) (n c i k : ℕ) → 0 < i → i < k
+    → sum_by (part_need v) (parts_to n c i) + part_need v (part n c i) ≤ sum_by (part_need v) (parts_to n c k)
 need_among v n c i k some lt =
     let more = sum_by-map-range_with_len_more (part_need v) (part n c) 1 (i - 1) i (omega arith) in
     let prefix = take-map-range_with_len (part n c) 1 (k - 1) (i - 1 + 1) (omega arith) in
@@ -196,10 +237,12 @@ offset_unit (suc i) c h =
     omega (arith, offset_unit i c h, more)
 
 -- ---- how many packets
-pub items_length : (es : List flat.Entry) (f : Part → List ℕ) (ps : List Part) → length {A = Item} (items es f ps) ≡ length ps
+pub items_length : (es : List flat.Entry) (f : Part → List ℕ) (ps : List Part)
+    → length {A = Item} (items es f ps) ≡ length ps
 items_length es f [] = refl
 items_length es f (p ∷ ps) = ap suc (go ps)
   where
-    go : (qs : List Part) → length {A = Item} (map (λ (q : Part). record { bytes = f q; weight = later_weight es q }) qs) ≡ length qs
+    go : (qs : List Part) → length {A = Item}
+        (map (λ (q : Part). record { bytes = f q; weight = later_weight es q }) qs) ≡ length qs
     go [] = refl
     go (q ∷ qs) = ap suc (go qs)

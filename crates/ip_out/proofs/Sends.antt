@@ -29,60 +29,81 @@ pub record IsAside (p q : PoolView) (c : ℕ) (ys : List ℕ) (t : TrainView) : 
   pub owned : IsOwned q (numbers q t ++ ys)
   pub moves : Moves p (c ∷ numbers p t) q (numbers q t ++ ys)
 
-pub aside : {p q : PoolView} {ys : List ℕ} (c : ℕ) (t : TrainView) → Moves p (c ∷ []) q ys → IsLive p c → IsHeld p t → times c (numbers p t) ≡ 0 → IsAside p q c ys t
+pub aside : {p q : PoolView} {ys : List ℕ} (c : ℕ) (t : TrainView) → Moves p (c ∷ []) q ys → IsLive p c → IsHeld p t
+    → times c (numbers p t) ≡ 0 → IsAside p q c ys t
 aside {p} {q} {ys} c t m live held apart =
-    let before : (k : ℕ) → times k (numbers p t ++ c ∷ []) ≡ times k (c ∷ numbers p t) = λ k. omega (arith, times-append k (numbers p t) (c ∷ [])) in
-    let owned : IsOwned p (numbers p t ++ c ∷ []) = λ k. omega (arith, before k, owned_more p c (numbers p t) held.owned live apart k) in
+    let before : (k : ℕ) → times k (numbers p t ++ c ∷ []) ≡ times k (c ∷ numbers p t) =
+    λ k. omega (arith, times-append k (numbers p t) (c ∷ [])) in
+    let owned : IsOwned p (numbers p t ++ c ∷ []) =
+    λ k. omega (arith, before k, owned_more p c (numbers p t) held.owned live apart k) in
     let b : Beside p q t = beside_moves t m owned held in
     let after : IsOwned q (numbers p t ++ ys) = owned_beside (numbers p t) m owned in
-    let same : (k : ℕ) → times k (numbers q t ++ ys) ≡ times k (numbers p t ++ ys) = λ k. ap (λ (xs : List ℕ). times k (xs ++ ys)) b.numbers in
+    let same : (k : ℕ) → times k (numbers q t ++ ys) ≡ times k (numbers p t ++ ys) =
+    λ k. ap (λ (xs : List ℕ). times k (xs ++ ys)) b.numbers in
     record {
       held = b.held;
       same_numbers = b.numbers;
       same_queued = b.queued_packets;
       same_packets = ap (map (λ (queued_packet : QueuedPacket). item_of queued_packet.entries)) b.queued_packets;
       owned = λ k. omega (arith, same k, after k);
-      moves = moves_beside (c ∷ numbers p t) (numbers q t ++ ys) (numbers p t) m (λ k. omega arith) (λ k. same k ∙ times-append k (numbers p t) ys);
+      moves =
+          moves_beside (c ∷ numbers p t) (numbers q t ++ ys) (numbers p t) m (λ k. omega arith)
+          (λ k. same k ∙ times-append k (numbers p t) ys);
     }
 
 -- the chain is gone, and the train is what is left
-pub aside_gone : {p q : PoolView} (c : ℕ) (t : TrainView) → q ≡ without p c → IsLive p c → IsHeld p t → times c (numbers p t) ≡ 0
+pub aside_gone : {p q : PoolView} (c : ℕ) (t : TrainView) → q ≡ without p c → IsLive p c → IsHeld p t
+    → times c (numbers p t) ≡ 0
     → IsHeld q t × Moves p (c ∷ numbers p t) q (numbers q t)
 aside_gone {p} {q} c t is live held apart =
     let a = aside c t (moves_without p q c live is) live held apart in
     (a.held, subst (Moves p (c ∷ numbers p t) q) (append-nil (numbers q t)) a.moves)
 
 -- all found room
-pub all_fit : (items : List Item) → nat_lt OUTPUT_QUEUE_PACKETS (length items) ≡ false → take OUTPUT_QUEUE_PACKETS items ≡ items
+pub all_fit : (items : List Item) → nat_lt OUTPUT_QUEUE_PACKETS (length items) ≡ false
+    → take OUTPUT_QUEUE_PACKETS items ≡ items
 all_fit items h = take_all OUTPUT_QUEUE_PACKETS items (ltb-false OUTPUT_QUEUE_PACKETS (length items) h)
 
 -- ---- a datagram that isn't cut
 -- it has one part
-pub one_part : (v : ChainView) (k mtu : ℕ) → IsDatagram v → k ≡ length (string v) → k ≤ mtu → parts_of v mtu ≡ part (length (string v) - 20) 65528 0 ∷ []
+pub one_part : (v : ChainView) (k mtu : ℕ) → IsDatagram v → k ≡ length (string v) → k ≤ mtu
+    → parts_of v mtu ≡ part (length (string v) - 20) 65528 0 ∷ []
 one_part v k mtu d is fits =
     let long : 20 ≤ length (string v) = string_long v.entries d.room in
     (cut_none (length (string v) - 20) mtu (omega (arith, d.most)) (omega (arith, is, fits, long))).parts
 
 -- and one packet
-pub one_packet : (v : ChainView) (h : IpHead) (k mtu : ℕ) → IsDatagram v → k ≡ length (string v) → k ≤ mtu → length (packets_of v h mtu) ≡ 1
+pub one_packet : (v : ChainView) (h : IpHead) (k mtu : ℕ) → IsDatagram v → k ≡ length (string v) → k ≤ mtu
+    → length (packets_of v h mtu) ≡ 1
 one_packet v h k mtu d is fits =
-    items_length (laid v.entries) (part_bytes h (drop 20 (string v))) (parts_of v mtu) ∙ ap (λ (ps : List Part). length ps) (one_part v k mtu d is fits)
+    items_length (laid v.entries) (part_bytes h (drop 20 (string v))) (parts_of v mtu)
+    ∙ ap (λ (ps : List Part). length ps) (one_part v k mtu d is fits)
 
 -- a queue takes that packet, or is full
 pub record TakesOne (p q : PoolView) (t u : TrainView) (lost : Bool) (ys : List Item) : Type 0 where
   pub items : packets q u ≡ take OUTPUT_QUEUE_PACKETS (packets p t ++ ys)
   pub is_lost : lost ≡ nat_lt OUTPUT_QUEUE_PACKETS (length (packets p t ++ ys))
 
-pub no_room : (p q : PoolView) (t : TrainView) (ys : List Item) → IsQueue p t → OUTPUT_QUEUE_PACKETS ≤ t.len → length ys ≡ 1 → packets q t ≡ packets p t → TakesOne p q t t true ys
+pub no_room : (p q : PoolView) (t : TrainView) (ys : List Item) → IsQueue p t → OUTPUT_QUEUE_PACKETS ≤ t.len
+    → length ys ≡ 1 → packets q t ≡ packets p t → TakesOne p q t t true ys
 no_room p q t ys is full one same = record {
-  items = same ∙ sym (taken_50 (packets p t) ys (omega (arith, packets_len p t is.held, is.room)) (inr (omega (arith, packets_len p t is.held, is.room, full))));
-  is_lost = sym (lt-ltb OUTPUT_QUEUE_PACKETS (length (packets p t ++ ys)) (omega (arith, length-append (packets p t) ys, packets_len p t is.held, full, one)));
+  items =
+      same ∙ sym (taken_50 (packets p t) ys (omega (arith, packets_len p t is.held, is.room))
+      (inr (omega (arith, packets_len p t is.held, is.room, full))));
+  is_lost =
+      sym (lt-ltb OUTPUT_QUEUE_PACKETS (length (packets p t ++ ys))
+      (omega (arith, length-append (packets p t) ys, packets_len p t is.held, full, one)));
 }
 
-pub room : (p q : PoolView) (t u : TrainView) (ys : List Item) → IsQueue p t → t.len < OUTPUT_QUEUE_PACKETS → length ys ≡ 1 → packets q u ≡ packets p t ++ ys → TakesOne p q t u false ys
+pub room : (p q : PoolView) (t u : TrainView) (ys : List Item) → IsQueue p t → t.len < OUTPUT_QUEUE_PACKETS
+    → length ys ≡ 1 → packets q u ≡ packets p t ++ ys → TakesOne p q t u false ys
 room p q t u ys is few one more =
-    let fits : length (packets p t ++ ys) ≤ OUTPUT_QUEUE_PACKETS = omega (arith, length-append (packets p t) ys, packets_len p t is.held, few, one) in
-    record { items = more ∙ sym (take_all OUTPUT_QUEUE_PACKETS (packets p t ++ ys) fits); is_lost = sym (le-ltb OUTPUT_QUEUE_PACKETS (length (packets p t ++ ys)) fits) }
+    let fits : length (packets p t ++ ys) ≤ OUTPUT_QUEUE_PACKETS =
+    omega (arith, length-append (packets p t) ys, packets_len p t is.held, few, one) in
+    record {
+      items = more ∙ sym (take_all OUTPUT_QUEUE_PACKETS (packets p t ++ ys) fits);
+      is_lost = sym (le-ltb OUTPUT_QUEUE_PACKETS (length (packets p t ++ ys)) fits);
+    }
 
 -- ---- the packets of a datagram, the queue, and what comes back
 pub record IsSentOut (p q r : PoolView) (c : ℕ) (o looped : TrainView) (o' : TrainView) : Type 0 where
@@ -92,7 +113,8 @@ pub record IsSentOut (p q r : PoolView) (c : ℕ) (o looped : TrainView) (o' : T
   pub moves : Moves p (c ∷ numbers p o) r (numbers r looped ++ numbers r o')
 
 -- those for the link stand beside the queue
-pub link_owned : {p q : PoolView} {c : ℕ} (o link looped : TrainView) → IsAside p q c (numbers q link ++ numbers q looped) o → IsOwned q (numbers q o ++ numbers q link)
+pub link_owned : {p q : PoolView} {c : ℕ} (o link looped : TrainView)
+    → IsAside p q c (numbers q link ++ numbers q looped) o → IsOwned q (numbers q o ++ numbers q link)
 link_owned {p} {q} o link looped a = λ k. omega (
   arith,
   a.owned k,
@@ -101,21 +123,27 @@ link_owned {p} {q} o link looped a = λ k. omega (
   times-append k (numbers q link) (numbers q looped),
 )
 
-pub sent_out : {p q r : PoolView} {c : ℕ} (o link looped o' : TrainView) → IsAside p q c (numbers q link ++ numbers q looped) o → IsHeld q looped → Moves q (numbers q o ++ numbers q link) r (numbers r o') → IsSentOut p q r c o looped o'
+pub sent_out : {p q r : PoolView} {c : ℕ} (o link looped o' : TrainView)
+    → IsAside p q c (numbers q link ++ numbers q looped) o → IsHeld q looped
+    → Moves q (numbers q o ++ numbers q link) r (numbers r o') → IsSentOut p q r c o looped o'
 sent_out {p} {q} {r} {c} o link looped o' a held m =
-    let sums : (k : ℕ) → times k (numbers q o ++ (numbers q link ++ numbers q looped)) ≡ times k (numbers q looped) + times k (numbers q o ++ numbers q link) =
+    let sums : (k : ℕ) → times k (numbers q o ++ (numbers q link ++ numbers q looped))
+    ≡ times k (numbers q looped) + times k (numbers q o ++ numbers q link) =
     λ k. omega (
       arith,
       times-append k (numbers q o) (numbers q link ++ numbers q looped),
       times-append k (numbers q o) (numbers q link),
       times-append k (numbers q link) (numbers q looped),
     ) in
-    let owned : IsOwned q (numbers q looped ++ (numbers q o ++ numbers q link)) = λ k. omega (arith, a.owned k, sums k, times-append k (numbers q looped) (numbers q o ++ numbers q link)) in
+    let owned : IsOwned q (numbers q looped ++ (numbers q o ++ numbers q link)) =
+    λ k. omega (arith, a.owned k, sums k, times-append k (numbers q looped) (numbers q o ++ numbers q link)) in
     let b : Beside q r looped = beside_moves looped m owned held in
     record {
       held = b.held;
       same_packets = ap (map (λ (queued_packet : QueuedPacket). item_of queued_packet.entries)) b.queued_packets;
       same_queued = b.queued_packets;
-      moves = moves_trans a.moves (moves_beside (numbers q o ++ (numbers q link ++ numbers q looped)) (numbers r looped ++ numbers r o') (numbers q looped) m sums
+      moves =
+          moves_trans a.moves (moves_beside (numbers q o ++ (numbers q link ++ numbers q looped))
+          (numbers r looped ++ numbers r o') (numbers q looped) m sums
           (λ k. omega (arith, ap (times k) b.numbers, times-append k (numbers r looped) (numbers r o'))));
     }

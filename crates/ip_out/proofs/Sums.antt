@@ -6,10 +6,13 @@ use Rattle.ip_out.specs.declared.head.IpHead.{IpHead}
 use Rattle.ip_out.specs.Headings.{blank_bytes, flags_of}
 
 -- the high halves of the addresses count as if they stood at the low end
-pub head_folded : (h : IpHead) (f w : ℕ) → f ≡ flags_of h → w ≡ 256 * 69 + h.tos + (h.total + h.id + f) + (256 * h.ttl + h.proto) + (h.src + h.dst) → fold16 w ≡ folded_sum (blank_bytes h)
+pub head_folded : (h : IpHead) (f w : ℕ) → f ≡ flags_of h
+    → w ≡ 256 * 69 + h.tos + (h.total + h.id + f) + (256 * h.ttl + h.proto) + (h.src + h.dst)
+    → fold16 w ≡ folded_sum (blank_bytes h)
 head_folded h f w flags is =
     let high : ℕ = h.src / 65536 + h.dst / 65536 in
-    let low : ℕ = 256 * 69 + h.tos + (h.total + h.id + flags_of h) + (256 * h.ttl + h.proto) + (h.src % 65536 + h.dst % 65536) in
+    let low : ℕ =
+    256 * 69 + h.tos + (h.total + h.id + flags_of h) + (256 * h.ttl + h.proto) + (h.src % 65536 + h.dst % 65536) in
     let parts : w ≡ 65536 * high + low = omega (arith, is, flags) in
     let back : high + low ≡ word_sum (blank_bytes h) = omega arith in
     ap fold16 parts ∙ fold16-high high low ∙ ap fold16 back

@@ -39,19 +39,34 @@ use Rattle.ip_reass.specs.declared.datagram.Datagram.{Datagram}
 use Rattle.ip_reass.proofs.Places.{found_passes}
 
 -- ---- the accounts after a step: those of what is in hand and of the table
-pub accounts : (p q : PoolView) (xs ys : List ℕ) (rest : State) (held a b : Weight) (ds es : List Datagram) (c d : Counters) → IsAccounted p (machine p ds c rest) (held ⊕ a) → Moves p (xs ++ held_all p ds) q (ys ++ held_all q es)
-    → IsOwned p (xs ++ held_all p ds) → IsTable p ds → IsTable q es → SameWeight (weight_owned p xs) a → SameWeight (weight_owned q ys) b → IsAccounted q (machine q es d rest) (held ⊕ b)
+pub accounts : (p q : PoolView) (xs ys : List ℕ) (rest : State) (held a b : Weight) (ds es : List Datagram)
+    (c d : Counters) → IsAccounted p (machine p ds c rest) (held ⊕ a)
+    → Moves p (xs ++ held_all p ds) q (ys ++ held_all q es)
+    → IsOwned p (xs ++ held_all p ds) → IsTable p ds → IsTable q es → SameWeight (weight_owned p xs) a
+    → SameWeight (weight_owned q ys) b → IsAccounted q (machine q es d rest) (held ⊕ b)
 accounts p q xs ys rest held a b ds es c d acc m owns is after wa wb =
     let sockets : Weight = all_of (λ (socket : Socket). all_of (λ x. x.item.weight) socket.queue) rest.sockets in
     let output : Weight = all_of (λ (item : Item). item.weight) rest.output in
     let up : Weight = all_of (λ (u : Unfinished). mbuf ⊕ weight_of_pieces u.bytes) (unfinished p ds) in
     let uq : Weight = all_of (λ (u : Unfinished). mbuf ⊕ weight_of_pieces u.bytes) (unfinished q es) in
-    let before : weight_owned p (xs ++ held_all p ds) ≡ weight_owned p xs ⊕ weight_owned p (held_all p ds) = all_of-append (weight_at p) xs (held_all p ds) in
-    let then_is : weight_owned q (ys ++ held_all q es) ≡ weight_owned q ys ⊕ weight_owned q (held_all q es) = all_of-append (weight_at q) ys (held_all q es) in
+    let before : weight_owned p (xs ++ held_all p ds) ≡ weight_owned p xs ⊕ weight_owned p (held_all p ds) =
+    all_of-append (weight_at p) xs (held_all p ds) in
+    let then_is : weight_owned q (ys ++ held_all q es) ≡ weight_owned q ys ⊕ weight_owned q (held_all q es) =
+    all_of-append (weight_at q) ys (held_all q es) in
     let tp = table_weighs p ds is.each in
     let tq = table_weighs q es after.each in
-    let shifts : Shifts (machine p ds c rest) (held ⊕ a) (weight_owned p (xs ++ held_all p ds)) (machine q es d rest) (held ⊕ b) (weight_owned q (ys ++ held_all q es)) = record {
-      mbufs = omega (arith, ap (λ (w : Weight). w.mbufs) before, ap (λ (w : Weight). w.mbufs) then_is, tp.mbufs, tq.mbufs, wa.mbufs, wb.mbufs);
+    let shifts : Shifts (machine p ds c rest) (held ⊕ a) (weight_owned p (xs ++ held_all p ds)) (machine q es d rest)
+    (held ⊕ b) (weight_owned q (ys ++ held_all q es)) = record {
+      mbufs =
+          omega (
+            arith,
+            ap (λ (w : Weight). w.mbufs) before,
+            ap (λ (w : Weight). w.mbufs) then_is,
+            tp.mbufs,
+            tq.mbufs,
+            wa.mbufs,
+            wb.mbufs,
+          );
       bag = λ k. omega (
         arith,
         ap (λ (w : Weight). times k w.bag) before,
@@ -89,13 +104,19 @@ pub record Trimmed (q : PoolView) (es : List Datagram) (n : ℕ) (r : PoolView) 
   pub owned : IsOwned r (n ∷ held_all r es)
   pub moves : Moves q (n ∷ held_all q es) r (n ∷ held_all r es)
 
-pub trimmed_off : (q r : PoolView) (es : List Datagram) (n : ℕ) → IsTable q es → IsOwned q (n ∷ held_all q es) → r ≡ with_chain q n (record (chain_of q n) { entries = without_first 20 (chain_of q n).entries }) → Trimmed q es n r
+pub trimmed_off : (q r : PoolView) (es : List Datagram) (n : ℕ) → IsTable q es → IsOwned q (n ∷ held_all q es)
+    → r ≡ with_chain q n (record (chain_of q n) { entries = without_first 20 (chain_of q n).entries })
+    → Trimmed q es n r
 trimmed_off q r es n is owns gone =
     let v : ChainView = record (chain_of q n) { entries = without_first 20 (chain_of q n).entries } in
-    let same : SameAt q r (held_all q es) = same_with q r n (record (chain_of q n) { entries = without_first 20 (chain_of q n).entries }) (held_all q es) (apart_first q n (held_all q es) owns) gone in
+    let same : SameAt q r (held_all q es) =
+    same_with q r n (record (chain_of q n) { entries = without_first 20 (chain_of q n).entries }) (held_all q es)
+    (apart_first q n (held_all q es) owns) gone in
     let all : held_all r es ≡ held_all q es = held_all_same q r es same in
     let m : Moves q (n ∷ held_all q es) r (n ∷ held_all r es) =
-    moves_beside (n ∷ held_all q es) (n ∷ held_all r es) (held_all q es) (moves_with q r n (record (chain_of q n) { entries = without_first 20 (chain_of q n).entries }) (live_first q n (held_all q es) owns) gone) (λ k. omega arith) (λ k. omega (arith, ap (owners.times k) all)) in
+    moves_beside (n ∷ held_all q es) (n ∷ held_all r es) (held_all q es)
+    (moves_with q r n (record (chain_of q n) { entries = without_first 20 (chain_of q n).entries })
+    (live_first q n (held_all q es) owns) gone) (λ k. omega arith) (λ k. omega (arith, ap (owners.times k) all)) in
     record {
       table = table_same q r es same is;
       shows = unfinished_same q r es same;
@@ -107,7 +128,8 @@ trimmed_off q r es n is owns gone =
 
 -- ---- the bytes of the fragment that joins
 pub carried_bytes : (v : ChainView) → flat_bytes (carried_entries v) ≡ drop 20 (string v)
-carried_bytes v = without_first_bytes 20 (pulled_entries v) ∙ ap (drop 20) (pulled_bytes (is_some (entry_of v 0).cluster))
+carried_bytes v =
+    without_first_bytes 20 (pulled_entries v) ∙ ap (drop 20) (pulled_bytes (is_some (entry_of v 0).cluster))
   where
     pulled_bytes : (b : Bool) → flat_bytes (cond b (ops.pulled_up v 20) v.entries) ≡ string v
     pulled_bytes true = pulled_up_bytes v 20
@@ -116,50 +138,72 @@ carried_bytes v = without_first_bytes 20 (pulled_entries v) ∙ ap (drop 20) (pu
 -- ---- the three ends
 module _ (held : Weight) (old new : State) (h : IpHead) (v : ChainView) where
   -- none can be so
-  pub arrives_bad : is_bad_fragment (flat_head h) (h.total - 20) ≡ true → new ≡ ends BadFragment old → ChainArrives held h v old new
+  pub arrives_bad : is_bad_fragment (flat_head h) (h.total - 20) ≡ true → new ≡ ends BadFragment old
+      → ChainArrives held h v old new
   arrives_bad bad is = record { yes = λ e. is; no = λ e. absurd (false≢true (sym e ∙ bad)) }
 
   -- a first mbuf that is a cluster
   pub arrives_cluster : is_bad_fragment (flat_head h) (h.total - 20) ≡ false → is_some (entry_of v 0).cluster ≡ true
-      → Tests exact_ledger (counts_fragment old) (held ⊕ weight_of v.entries) 1 new (λ mid. Joins exact_ledger held (key_in h) (fragment_of (fragment_carried v h)) mid new) → ChainArrives held h v old new
+      → Tests exact_ledger (counts_fragment old) (held ⊕ weight_of v.entries) 1 new
+      (λ mid. Joins exact_ledger held (key_in h) (fragment_of (fragment_carried v h)) mid new)
+      → ChainArrives held h v old new
   arrives_cluster good cluster tests = record {
     yes = λ e. absurd (false≢true (sym good ∙ e));
     no = λ e. record { yes = λ is. tests; no = λ is. absurd (false≢true (sym is ∙ cluster)) };
   }
 
   -- a plain first mbuf
-  pub arrives_plain : is_bad_fragment (flat_head h) (h.total - 20) ≡ false → is_some (entry_of v 0).cluster ≡ false → Joins exact_ledger held (key_in h) (fragment_of (fragment_carried v h)) (counts_fragment old) new → ChainArrives held h v old new
+  pub arrives_plain : is_bad_fragment (flat_head h) (h.total - 20) ≡ false → is_some (entry_of v 0).cluster ≡ false
+      → Joins exact_ledger held (key_in h) (fragment_of (fragment_carried v h)) (counts_fragment old) new
+      → ChainArrives held h v old new
   arrives_plain good plain joins = record {
     yes = λ e. absurd (false≢true (sym good ∙ e));
     no = λ e. record { yes = λ is. absurd (false≢true (sym plain ∙ is)); no = λ is. joins };
   }
 
 -- a test for the header's mbuf, and where it passed, that the fragment joins
-pub tests_of : (rest : State) (held : Weight) (new : State) (k : Key) (f : Fragment) (w : Weight) (p q : PoolView) (ds es : List Datagram) (c d : Counters) (answer : Bool) → IsPulled p ds c w answer q es d rest held
-    → (answer ≡ true → Joins exact_ledger held k f (machine q es d rest) new) → (answer ≡ false → new ≡ machine q es d rest) → Tests exact_ledger (machine p ds c rest) (held ⊕ w) 1 new (λ mid. Joins exact_ledger held k f mid new)
+pub tests_of : (rest : State) (held : Weight) (new : State) (k : Key) (f : Fragment) (w : Weight) (p q : PoolView)
+    (ds es : List Datagram) (c d : Counters) (answer : Bool) → IsPulled p ds c w answer q es d rest held
+    → (answer ≡ true → Joins exact_ledger held k f (machine q es d rest) new)
+    → (answer ≡ false → new ≡ machine q es d rest)
+    → Tests exact_ledger (machine p ds c rest) (held ⊕ w) 1 new (λ mid. Joins exact_ledger held k f mid new)
 tests_of rest held new k f w p q ds es c d true t joins ended = record {
   answer = true;
   mid = machine q es t.mid rest;
   has_buffers = t.has_buffers;
-  goes_on = record { yes = λ e. subst (λ (x : Counters). Joins exact_ledger held k f (machine q es x rest) new) t.counts (joins refl); no = λ e. absurd (false≢true (sym e)) };
+  goes_on =
+      record {
+        yes = λ e. subst (λ (x : Counters). Joins exact_ledger held k f (machine q es x rest) new) t.counts
+            (joins refl);
+        no = λ e. absurd (false≢true (sym e));
+      };
 }
 tests_of rest held new k f w p q ds es c d false t joins ended = record {
   answer = false;
   mid = machine q es t.mid rest;
   has_buffers = t.has_buffers;
-  goes_on = record { yes = λ e. absurd (false≢true e); no = λ e. ended refl ∙ ap (λ (x : Counters). machine q es x rest) t.counts };
+  goes_on =
+      record {
+        yes = λ e. absurd (false≢true e);
+        no = λ e. ended refl ∙ ap (λ (x : Counters). machine q es x rest) t.counts;
+      };
 }
 
 -- ---- a look-up by key
-pub none_by_key : (p : PoolView) (k : Key) (ds : List Datagram) → find (λ (d : Datagram). is_key k (unfinished_of p d)) ds ≡ None → find (is_key k) (unfinished p ds) ≡ None
+pub none_by_key : (p : PoolView) (k : Key) (ds : List Datagram)
+    → find (λ (d : Datagram). is_key k (unfinished_of p d)) ds ≡ None → find (is_key k) (unfinished p ds) ≡ None
 none_by_key p k [] e = refl
 none_by_key p k (d ∷ ds) e = go (is_key k (unfinished_of p d)) refl (none_by_key p k ds)
   where
-    go : (b : Bool) → is_key k (unfinished_of p d) ≡ b → (find (λ (x : Datagram). is_key k (unfinished_of p x)) ds ≡ None → find (is_key k) (unfinished p ds) ≡ None) → find (is_key k) (unfinished p (d ∷ ds)) ≡ None
+    go : (b : Bool) → is_key k (unfinished_of p d) ≡ b
+        → (find (λ (x : Datagram). is_key k (unfinished_of p x)) ds ≡ None → find (is_key k) (unfinished p ds) ≡ None)
+        → find (is_key k) (unfinished p (d ∷ ds)) ≡ None
     go true is ih = absurd (none-some d (sym e ∙ cond-true _ _ _ is))
     go false is ih = cond-false _ _ _ is ∙ ih (sym (cond-false _ _ _ is) ∙ e)
 
-pub some_by_key : (p : PoolView) (k : Key) (ds : List Datagram) (x : Datagram) → find (λ (d : Datagram). is_key k (unfinished_of p d)) ds ≡ Some x → find (is_key k) (unfinished p ds) ≡ Some (unfinished_of p x)
+pub some_by_key : (p : PoolView) (k : Key) (ds : List Datagram) (x : Datagram)
+    → find (λ (d : Datagram). is_key k (unfinished_of p d)) ds ≡ Some x
+    → find (is_key k) (unfinished p ds) ≡ Some (unfinished_of p x)
 some_by_key p k [] x e = absurd (none-some x e)
 some_by_key p k (d ∷ ds) x e = go (is_key k (unfinished_of p d)) refl (some_by_key p k ds x)
   where
@@ -167,20 +211,32 @@ some_by_key p k (d ∷ ds) x e = go (is_key k (unfinished_of p d)) refl (some_by
     or_x None = x
     or_x (Some y) = y
 
-    go : (b : Bool) → is_key k (unfinished_of p d) ≡ b → (find (λ (y : Datagram). is_key k (unfinished_of p y)) ds ≡ Some x → find (is_key k) (unfinished p ds) ≡ Some (unfinished_of p x)) → find (is_key k) (unfinished p (d ∷ ds)) ≡ Some (unfinished_of p x)
-    go true is ih = cond-true _ _ _ is ∙ ap (λ (y : Datagram). Some (unfinished_of p y)) (ap or_x (sym (cond-true _ _ _ is) ∙ e))
+    go : (b : Bool) → is_key k (unfinished_of p d) ≡ b
+        → (find (λ (y : Datagram). is_key k (unfinished_of p y)) ds ≡ Some x
+        → find (is_key k) (unfinished p ds)
+        ≡ Some (unfinished_of p x)) → find (is_key k) (unfinished p (d ∷ ds)) ≡ Some (unfinished_of p x)
+    go true is ih =
+        cond-true _ _ _ is ∙ ap (λ (y : Datagram). Some (unfinished_of p y)) (ap or_x (sym (cond-true _ _ _ is) ∙ e))
     go false is ih = cond-false _ _ _ is ∙ ih (sym (cond-false _ _ _ is) ∙ e)
 
 -- ---- a fragment joins the others with its key
-pub joins_none : (rest : State) (held : Weight) (new : State) (k : Key) (f : Fragment) (p : PoolView) (ds : List Datagram) (c : Counters) → find (is_key k) (unfinished p ds) ≡ None
-    → Tests exact_ledger (machine p ds c rest) (held ⊕ f.weight) 1 new (λ mid. Lays exact_ledger held k f (begun k) (begin_unfinished k mid) new) → Joins exact_ledger held k f (machine p ds c rest) new
-joins_none rest held new k f p ds c none tests = record { none = λ e. tests; some = λ x e. absurd (none-some x (sym none ∙ e)) }
+pub joins_none : (rest : State) (held : Weight) (new : State) (k : Key) (f : Fragment) (p : PoolView)
+    (ds : List Datagram) (c : Counters) → find (is_key k) (unfinished p ds) ≡ None
+    → Tests exact_ledger (machine p ds c rest) (held ⊕ f.weight) 1 new
+    (λ mid. Lays exact_ledger held k f (begun k) (begin_unfinished k mid) new)
+    → Joins exact_ledger held k f (machine p ds c rest) new
+joins_none rest held new k f p ds c none tests =
+    record { none = λ e. tests; some = λ x e. absurd (none-some x (sym none ∙ e)) }
 
-pub joins_some : (rest : State) (held : Weight) (new : State) (k : Key) (f : Fragment) (p : PoolView) (ds : List Datagram) (c : Counters) (d : Datagram) → find (is_key k) (unfinished p ds) ≡ Some (unfinished_of p d)
-    → Lays exact_ledger held k f (unfinished_of p d) (machine p ds c rest) new → Joins exact_ledger held k f (machine p ds c rest) new
+pub joins_some : (rest : State) (held : Weight) (new : State) (k : Key) (f : Fragment) (p : PoolView)
+    (ds : List Datagram) (c : Counters) (d : Datagram) → find (is_key k) (unfinished p ds) ≡ Some (unfinished_of p d)
+    → Lays exact_ledger held k f (unfinished_of p d) (machine p ds c rest) new
+    → Joins exact_ledger held k f (machine p ds c rest) new
 joins_some rest held new k f p ds c d found lays = record {
   none = λ e. absurd (none-some (unfinished_of p d) (sym e ∙ found));
-  some = λ x e. subst (λ (u : Unfinished). Lays exact_ledger held k f u (machine p ds c rest) new) (ap or_d (sym found ∙ e)) lays;
+  some =
+      λ x e. subst (λ (u : Unfinished). Lays exact_ledger held k f u (machine p ds c rest) new)
+      (ap or_d (sym found ∙ e)) lays;
 }
   where
     or_d : Option Unfinished → Unfinished
@@ -193,58 +249,89 @@ slice_at (d ∷ ds) zero l = refl
 slice_at (d ∷ ds) (suc i) l = slice_at ds i (omega arith)
 
 -- **its key was found at a place**
-pub joins_found : (rest : State) (held : Weight) (new : State) (k k' : Key) (f : Fragment) (p : PoolView) (slice items ds : List Datagram) (c : Counters) (i : ℕ) → slice ≡ items → items ≡ ds → k' ≡ k → i < length slice → find (has_key k') slice ≡ slice_get slice i
-    → AreDistinct p ds → (is_key k (unfinished_of p (datagram_at items i)) ≡ true → count_by (is_key k) (unfinished p items) ≤ 1 → Lays exact_ledger held k f (unfinished_of p (datagram_at items i)) (machine p items c rest) new) → Joins exact_ledger held k f (machine p ds c rest) new
+pub joins_found : (rest : State) (held : Weight) (new : State) (k k' : Key) (f : Fragment) (p : PoolView)
+    (slice items ds : List Datagram) (c : Counters) (i : ℕ) → slice ≡ items → items ≡ ds → k' ≡ k → i < length slice
+    → find (has_key k') slice ≡ slice_get slice i
+    → AreDistinct p ds → (is_key k (unfinished_of p (datagram_at items i)) ≡ true
+    → count_by (is_key k) (unfinished p items) ≤ 1
+    → Lays exact_ledger held k f (unfinished_of p (datagram_at items i)) (machine p items c rest)
+    new) → Joins exact_ledger held k f (machine p ds c rest) new
 joins_found rest held new k k' f p slice items ds c i a b e l found distinct step =
     let same : slice ≡ ds = a ∙ b in
-    let at : find (has_key k) ds ≡ slice_get ds i = subst (λ (zs : List Datagram). find (has_key k) zs ≡ slice_get zs i) same (subst (λ (j : Key). find (has_key j) slice ≡ slice_get slice i) e found) in
+    let at : find (has_key k) ds ≡ slice_get ds i =
+    subst (λ (zs : List Datagram). find (has_key k) zs ≡ slice_get zs i) same
+    (subst (λ (j : Key). find (has_key j) slice ≡ slice_get slice i) e found) in
     let within : i < length ds = omega (arith, ap (λ (zs : List Datagram). length zs) same) in
-    let key : find (is_key k) (unfinished p ds) ≡ Some (unfinished_of p (datagram_at ds i)) = some_by_key p k ds (datagram_at ds i) (at ∙ slice_at ds i within) in
-    let here : is_key k (unfinished_of p (datagram_at ds i)) ≡ true = found_passes (is_key k) (unfinished p ds) (unfinished_of p (datagram_at ds i)) key in
-    let step' : is_key k (unfinished_of p (datagram_at ds i)) ≡ true → count_by (is_key k) (unfinished p ds) ≤ 1 → Lays exact_ledger held k f (unfinished_of p (datagram_at ds i)) (machine p ds c rest) new =
-    subst (λ (zs : List Datagram). is_key k (unfinished_of p (datagram_at zs i)) ≡ true → count_by (is_key k) (unfinished p zs) ≤ 1 → Lays exact_ledger held k f (unfinished_of p (datagram_at zs i)) (machine p zs c rest) new) b step in
+    let key : find (is_key k) (unfinished p ds) ≡ Some (unfinished_of p (datagram_at ds i)) =
+    some_by_key p k ds (datagram_at ds i) (at ∙ slice_at ds i within) in
+    let here : is_key k (unfinished_of p (datagram_at ds i)) ≡ true =
+    found_passes (is_key k) (unfinished p ds) (unfinished_of p (datagram_at ds i)) key in
+    let step' : is_key k (unfinished_of p (datagram_at ds i)) ≡ true → count_by (is_key k) (unfinished p ds) ≤ 1
+    → Lays exact_ledger held k f (unfinished_of p (datagram_at ds i)) (machine p ds c rest) new =
+    subst (λ (zs : List Datagram). is_key k (unfinished_of p (datagram_at zs i)) ≡ true
+    → count_by (is_key k) (unfinished p zs) ≤ 1
+    → Lays exact_ledger held k f (unfinished_of p (datagram_at zs i)) (machine p zs c rest) new) b step in
     joins_some rest held new k f p ds c (datagram_at ds i) key (step' here (distinct k))
 
 -- it is held under no datagram
-pub none_found_in : (p : PoolView) (k k' : Key) (slice ds : List Datagram) → slice ≡ ds → k' ≡ k → find (has_key k') slice ≡ None → find (is_key k) (unfinished p ds) ≡ None
-none_found_in p k k' slice ds same e none = none_by_key p k ds (subst (λ (zs : List Datagram). find (has_key k) zs ≡ None) same (subst (λ (j : Key). find (has_key j) slice ≡ None) e none))
+pub none_found_in : (p : PoolView) (k k' : Key) (slice ds : List Datagram) → slice ≡ ds → k' ≡ k
+    → find (has_key k') slice ≡ None → find (is_key k) (unfinished p ds) ≡ None
+none_found_in p k k' slice ds same e none =
+    none_by_key p k ds (subst (λ (zs : List Datagram). find (has_key k) zs ≡ None) same
+    (subst (λ (j : Key). find (has_key j) slice ≡ None) e none))
 
 -- ---- the header's mbuf
-pub pulled_lacking : (rest : State) (held w : Weight) (p q r : PoolView) (ds es : List Datagram) (c mid d : Counters) (answer : Bool) → answer ≡ false → HasBuffers exact_ledger (machine p ds c rest) (held ⊕ w) (need_mbufs 1) answer (machine q es mid rest)
+pub pulled_lacking : (rest : State) (held w : Weight) (p q r : PoolView) (ds es : List Datagram) (c mid d : Counters)
+    (answer : Bool) → answer ≡ false
+    → HasBuffers exact_ledger (machine p ds c rest) (held ⊕ w) (need_mbufs 1) answer (machine q es mid rest)
     → unfinished r es ≡ unfinished q es → d ≡ counted NoBufs mid → IsPulled p ds c w false r es d rest held
 pulled_lacking rest held w p q r ds es c mid d answer refused af shows counts = record {
   mid = mid;
-  has_buffers = subst (λ (us : List Unfinished). HasBuffers exact_ledger (machine p ds c rest) (held ⊕ w) (need_mbufs 1) false (record rest { unfinished = us; counters = mid })) (sym shows)
-      (subst (λ (b : Bool). HasBuffers exact_ledger (machine p ds c rest) (held ⊕ w) (need_mbufs 1) b (machine q es mid rest)) refused af);
+  has_buffers =
+      subst (λ (us : List Unfinished). HasBuffers exact_ledger (machine p ds c rest) (held ⊕ w) (need_mbufs 1) false
+      (record rest { unfinished = us; counters = mid })) (sym shows)
+      (subst (λ (b : Bool). HasBuffers exact_ledger (machine p ds c rest) (held ⊕ w) (need_mbufs 1) b
+      (machine q es mid rest)) refused af);
   counts = counts;
 }
 
-pub pulled_done : (rest : State) (held w : Weight) (p q r : PoolView) (ds es : List Datagram) (c mid : Counters) (answer : Bool) → answer ≡ true → HasBuffers exact_ledger (machine p ds c rest) (held ⊕ w) (need_mbufs 1) answer (machine q es mid rest)
+pub pulled_done : (rest : State) (held w : Weight) (p q r : PoolView) (ds es : List Datagram) (c mid : Counters)
+    (answer : Bool) → answer ≡ true
+    → HasBuffers exact_ledger (machine p ds c rest) (held ⊕ w) (need_mbufs 1) answer (machine q es mid rest)
     → unfinished r es ≡ unfinished q es → IsPulled p ds c w true r es mid rest held
 pulled_done rest held w p q r ds es c mid answer agrees af shows = record {
   mid = mid;
-  has_buffers = subst (λ (us : List Unfinished). HasBuffers exact_ledger (machine p ds c rest) (held ⊕ w) (need_mbufs 1) true (record rest { unfinished = us; counters = mid })) (sym shows)
-      (subst (λ (b : Bool). HasBuffers exact_ledger (machine p ds c rest) (held ⊕ w) (need_mbufs 1) b (machine q es mid rest)) agrees af);
+  has_buffers =
+      subst (λ (us : List Unfinished). HasBuffers exact_ledger (machine p ds c rest) (held ⊕ w) (need_mbufs 1) true
+      (record rest { unfinished = us; counters = mid })) (sym shows)
+      (subst (λ (b : Bool). HasBuffers exact_ledger (machine p ds c rest) (held ⊕ w) (need_mbufs 1) b
+      (machine q es mid rest)) agrees af);
   counts = refl;
 }
 
 -- the table beside a chain that was pulled up
-pub record Pulled (p : PoolView) (ds : List Datagram) (c : ℕ) (q r : PoolView) (es : List Datagram) (d : ℕ) : Type 0 where
-  pub table : IsTable r es
-  pub shows : unfinished r es ≡ unfinished q es
-  pub rows : queues r es ≡ queues q es
-  pub moves : Moves p (c ∷ held_all p ds) r (d ∷ held_all r es)
+pub record Pulled (p : PoolView) (ds : List Datagram) (c : ℕ) (q r : PoolView) (es : List Datagram) (d : ℕ) : Type 0
+  where
+    pub table : IsTable r es
+    pub shows : unfinished r es ≡ unfinished q es
+    pub rows : queues r es ≡ queues q es
+    pub moves : Moves p (c ∷ held_all p ds) r (d ∷ held_all r es)
 
-pub pulled : (p q r : PoolView) (ds es : List Datagram) (c d : ℕ) (f : Front) (entries : List Entry) → Stays p ds c q es → IsTable q es → Makes (without q c) r d f entries → Pulled p ds c q r es d
+pub pulled : (p q r : PoolView) (ds es : List Datagram) (c d : ℕ) (f : Front) (entries : List Entry) → Stays p ds c q es
+    → IsTable q es → Makes (without q c) r d f entries → Pulled p ds c q r es d
 pulled p q r ds es c d f entries st is made =
-    let step : Moves q (c ∷ []) r (d ∷ []) = moves_trans (moves_without q (without q c) c st.live refl) (moves_adds made.adds) in
-    let same : SameAt q r (held_all q es) = same_beside (held_all q es) step is.owned (λ k l. omega (arith, st.owned k, live_at_most q k)) in
+    let step : Moves q (c ∷ []) r (d ∷ []) =
+    moves_trans (moves_without q (without q c) c st.live refl) (moves_adds made.adds) in
+    let same : SameAt q r (held_all q es) =
+    same_beside (held_all q es) step is.owned (λ k l. omega (arith, st.owned k, live_at_most q k)) in
     let all : held_all r es ≡ held_all q es = held_all_same q r es same in
     record {
       table = table_same q r es same is;
       shows = unfinished_same q r es same;
       rows = queues_same q r es same;
-      moves = moves_trans st.moves (moves_beside (c ∷ held_all q es) (d ∷ held_all r es) (held_all q es) step (λ k. omega arith) (λ k. omega (arith, ap (owners.times k) all)));
+      moves =
+          moves_trans st.moves (moves_beside (c ∷ held_all q es) (d ∷ held_all r es) (held_all q es) step
+          (λ k. omega arith) (λ k. omega (arith, ap (owners.times k) all)));
     }
 
 -- ---- a fragment that can be
@@ -256,45 +343,73 @@ pub good_small : (h : IpHead) (n : ℕ) → is_bad_fragment (flat_head h) n ≡ 
 good_small h n e = ltb-false _ _ (or_parts _ _ e).1
 
 -- **a fragment whose header stands in a plain mbuf now**
-module _ (rest : State) (held : Weight) (new : State) (h : IpHead) (p q r : PoolView) (ds es : List Datagram) (c c1 d : Counters) (n n' : ℕ) (good : is_bad_fragment (flat_head h) (h.total - 20) ≡ false) (counts : c1 ≡ counts_more IpFragments 1 c)
-    (entries : (chain_of q n').entries ≡ pulled_entries (chain_of p n)) (t : Trimmed q es n' r) (joins : Joins exact_ledger held (key_in h) (fragment_of (arrived r n' h.offset h.more)) (machine r es d rest) new) where
+module _ (rest : State) (held : Weight) (new : State) (h : IpHead) (p q r : PoolView) (ds es : List Datagram)
+    (c c1 d : Counters) (n n' : ℕ) (good : is_bad_fragment (flat_head h) (h.total - 20) ≡ false)
+    (counts : c1 ≡ counts_more IpFragments 1 c)
+    (entries : (chain_of q n').entries ≡ pulled_entries (chain_of p n)) (t : Trimmed q es n' r)
+    (joins : Joins exact_ledger held (key_in h) (fragment_of (arrived r n' h.offset h.more)) (machine r es d rest)
+    new) where
   carried_now : fragment_of (arrived r n' h.offset h.more) ≡ fragment_of (fragment_carried (chain_of p n) h)
-  carried_now = ap (λ (xs : List Entry). fragment_of (record { offset = h.offset; more = h.more; entries = xs })) (ap (λ (v : ChainView). v.entries) t.chain ∙ ap (without_first 20) entries)
+  carried_now =
+      ap (λ (xs : List Entry). fragment_of (record { offset = h.offset; more = h.more; entries = xs }))
+      (ap (λ (v : ChainView). v.entries) t.chain ∙ ap (without_first 20) entries)
 
   -- what joins, from the state that the test of its header leaves
-  joins_then : (s : State) → machine r es d rest ≡ s → Joins exact_ledger held (key_in h) (fragment_of (fragment_carried (chain_of p n) h)) s new
-  joins_then s now = subst (λ (x : State). Joins exact_ledger held (key_in h) (fragment_of (fragment_carried (chain_of p n) h)) x new) now (subst (λ (x : Fragment). Joins exact_ledger held (key_in h) x (machine r es d rest) new) carried_now joins)
+  joins_then : (s : State) → machine r es d rest ≡ s
+      → Joins exact_ledger held (key_in h) (fragment_of (fragment_carried (chain_of p n) h)) s new
+  joins_then s now =
+      subst (λ (x : State). Joins exact_ledger held (key_in h) (fragment_of (fragment_carried (chain_of p n) h)) x new)
+      now (subst (λ (x : Fragment). Joins exact_ledger held (key_in h) x (machine r es d rest) new) carried_now joins)
 
-  pub some_plain : is_some (entry_of (chain_of p n) 0).cluster ≡ false → q ≡ p → es ≡ ds → d ≡ c1 → ChainArrives held h (chain_of p n) (machine p ds c rest) new
+  pub some_plain : is_some (entry_of (chain_of p n) 0).cluster ≡ false → q ≡ p → es ≡ ds → d ≡ c1
+      → ChainArrives held h (chain_of p n) (machine p ds c rest) new
   some_plain plain q_is es_is d_is =
       let shows : unfinished r es ≡ unfinished p ds = t.shows ∙ (λ j. unfinished (q_is j) (es_is j)) in
-      let now : machine r es d rest ≡ counts_fragment (machine p ds c rest) = λ j. record rest { unfinished = shows j; counters = (d_is ∙ counts) j } in
-      arrives_plain held (machine p ds c rest) new h (chain_of p n) good plain (joins_then (counts_fragment (machine p ds c rest)) now)
+      let now : machine r es d rest ≡ counts_fragment (machine p ds c rest) =
+      λ j. record rest { unfinished = shows j; counters = (d_is ∙ counts) j } in
+      arrives_plain held (machine p ds c rest) new h (chain_of p n) good plain
+      (joins_then (counts_fragment (machine p ds c rest)) now)
 
-  pub some_cluster : is_some (entry_of (chain_of p n) 0).cluster ≡ true → IsPulled p ds c1 (weight_at p n) true q es d rest held → ChainArrives held h (chain_of p n) (machine p ds c rest) new
+  pub some_cluster : is_some (entry_of (chain_of p n) 0).cluster ≡ true
+      → IsPulled p ds c1 (weight_at p n) true q es d rest held
+      → ChainArrives held h (chain_of p n) (machine p ds c rest) new
   some_cluster cluster tested =
       let now : machine r es d rest ≡ machine q es d rest = λ j. record rest { unfinished = t.shows j; counters = d } in
-      let was : machine p ds c1 rest ≡ counts_fragment (machine p ds c rest) = ap (λ (x : Counters). machine p ds x rest) counts in
+      let was : machine p ds c1 rest ≡ counts_fragment (machine p ds c rest) =
+      ap (λ (x : Counters). machine p ds x rest) counts in
       arrives_cluster held (machine p ds c rest) new h (chain_of p n) good cluster
-      (subst (λ (s : State). Tests exact_ledger s (held ⊕ weight_at p n) 1 new (λ mid. Joins exact_ledger held (key_in h) (fragment_of (fragment_carried (chain_of p n) h)) mid new)) was
-      (tests_of rest held new (key_in h) (fragment_of (fragment_carried (chain_of p n) h)) (weight_at p n) p q ds es c1 d true tested (λ e. joins_then (machine q es d rest) now) (λ e. absurd (false≢true (sym e)))))
+      (subst (λ (s : State). Tests exact_ledger s (held ⊕ weight_at p n) 1 new
+      (λ mid. Joins exact_ledger held (key_in h) (fragment_of (fragment_carried (chain_of p n) h)) mid new)) was
+      (tests_of rest held new (key_in h) (fragment_of (fragment_carried (chain_of p n) h)) (weight_at p n) p q ds es c1
+      d true tested (λ e. joins_then (machine q es d rest) now) (λ e. absurd (false≢true (sym e)))))
 
 -- **no mbuf was had for its header**
-pub none_cluster : (rest : State) (held : Weight) (new : State) (h : IpHead) (p q : PoolView) (ds es : List Datagram) (c c1 d : Counters) (n : ℕ) (answer : Bool) → is_bad_fragment (flat_head h) (h.total - 20) ≡ false → c1 ≡ counts_more IpFragments 1 c
-    → is_some (entry_of (chain_of p n) 0).cluster ≡ true → IsPulled p ds c1 (weight_at p n) answer q es d rest held → answer ≡ false → new ≡ machine q es d rest → ChainArrives held h (chain_of p n) (machine p ds c rest) new
+pub none_cluster : (rest : State) (held : Weight) (new : State) (h : IpHead) (p q : PoolView) (ds es : List Datagram)
+    (c c1 d : Counters) (n : ℕ) (answer : Bool) → is_bad_fragment (flat_head h) (h.total - 20) ≡ false
+    → c1 ≡ counts_more IpFragments 1 c
+    → is_some (entry_of (chain_of p n) 0).cluster ≡ true → IsPulled p ds c1 (weight_at p n) answer q es d rest held
+    → answer ≡ false → new ≡ machine q es d rest → ChainArrives held h (chain_of p n) (machine p ds c rest) new
 none_cluster rest held new h p q ds es c c1 d n answer good counts cluster tested refused is =
-    let was : machine p ds c1 rest ≡ counts_fragment (machine p ds c rest) = ap (λ (x : Counters). machine p ds x rest) counts in
+    let was : machine p ds c1 rest ≡ counts_fragment (machine p ds c rest) =
+    ap (λ (x : Counters). machine p ds x rest) counts in
     arrives_cluster held (machine p ds c rest) new h (chain_of p n) good cluster
-    (subst (λ (s : State). Tests exact_ledger s (held ⊕ weight_at p n) 1 new (λ mid. Joins exact_ledger held (key_in h) (fragment_of (fragment_carried (chain_of p n) h)) mid new)) was
-    (tests_of rest held new (key_in h) (fragment_of (fragment_carried (chain_of p n) h)) (weight_at p n) p q ds es c1 d answer tested (λ e. absurd (false≢true (sym refused ∙ e))) (λ e. is)))
+    (subst (λ (s : State). Tests exact_ledger s (held ⊕ weight_at p n) 1 new
+    (λ mid. Joins exact_ledger held (key_in h) (fragment_of (fragment_carried (chain_of p n) h)) mid new)) was
+    (tests_of rest held new (key_in h) (fragment_of (fragment_carried (chain_of p n) h)) (weight_at p n) p q ds es c1 d
+    answer tested (λ e. absurd (false≢true (sym refused ∙ e))) (λ e. is)))
 
 -- the length of what is carried
-pub carried_size : (p : PoolView) (n len : ℕ) → length (string (chain_of p n)) ≡ 20 + len → length (flat_bytes (carried_entries (chain_of p n))) ≡ len
-carried_size p n len long = omega (arith, long, length-drop 20 (string (chain_of p n)), ap length (carried_bytes (chain_of p n)))
+pub carried_size : (p : PoolView) (n len : ℕ) → length (string (chain_of p n)) ≡ 20 + len
+    → length (flat_bytes (carried_entries (chain_of p n))) ≡ len
+carried_size p n len long =
+    omega (arith, long, length-drop 20 (string (chain_of p n)), ap length (carried_bytes (chain_of p n)))
 
-pub carried_len : (p r : PoolView) (n n' len : ℕ) → length (string (chain_of p n)) ≡ 20 + len → (chain_of r n').entries ≡ carried_entries (chain_of p n) → length (string (chain_of r n')) ≡ len
+pub carried_len : (p r : PoolView) (n n' len : ℕ) → length (string (chain_of p n)) ≡ 20 + len
+    → (chain_of r n').entries ≡ carried_entries (chain_of p n) → length (string (chain_of r n')) ≡ len
 carried_len p r n n' len long e = omega (arith, carried_size p n len long, ap length (ap flat_bytes e))
 
 -- the same weight beside other counters
-pub accounted_counters : (p : PoolView) (ds : List Datagram) (c d : Counters) (rest : State) (held : Weight) → IsAccounted p (machine p ds c rest) held → IsAccounted p (machine p ds d rest) held
-accounted_counters p ds c d rest held a = record { mbufs = a.mbufs; clusters = a.clusters; total = a.total; references = a.references }
+pub accounted_counters : (p : PoolView) (ds : List Datagram) (c d : Counters) (rest : State) (held : Weight)
+    → IsAccounted p (machine p ds c rest) held → IsAccounted p (machine p ds d rest) held
+accounted_counters p ds c d rest held a =
+    record { mbufs = a.mbufs; clusters = a.clusters; total = a.total; references = a.references }

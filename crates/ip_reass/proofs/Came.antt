@@ -35,32 +35,43 @@ moved_none x [] n z = refl
 moved_none x (e ∷ es) n z = cond-true _ _ _ (eq-eqb n 0 z)
 
 -- the first mbuf is a cluster that is emptied
-moved_whole : (x e : Entry) (es : List Entry) (n : ℕ) → 0 < n → length e.bytes ≡ n → moved n x (e ∷ es) ≡ with_back x e.bytes ∷ es
+moved_whole : (x e : Entry) (es : List Entry) (n : ℕ) → 0 < n → length e.bytes ≡ n
+    → moved n x (e ∷ es) ≡ with_back x e.bytes ∷ es
 moved_whole x e es n some same =
-    cond-false _ _ _ (ne_eqb n 0 (λ z. absurd (omega arith))) ∙ (cond-true _ _ _ (le-leb (length e.bytes) n (omega arith)) ∙ moved_none (with_back x e.bytes) es (n - length e.bytes) (omega arith))
+    cond-false _ _ _ (ne_eqb n 0 (λ z. absurd (omega arith)))
+    ∙ (cond-true _ _ _ (le-leb (length e.bytes) n (omega arith))
+    ∙ moved_none (with_back x e.bytes) es (n - length e.bytes) (omega arith))
 
 -- or keeps some bytes
-pub moved_part : (x e : Entry) (es : List Entry) (n : ℕ) → 0 < n → n < length e.bytes → moved n x (e ∷ es) ≡ with_back x (take n e.bytes) ∷ narrowed e n (length e.bytes - n) ∷ es
+pub moved_part : (x e : Entry) (es : List Entry) (n : ℕ) → 0 < n → n < length e.bytes
+    → moved n x (e ∷ es) ≡ with_back x (take n e.bytes) ∷ narrowed e n (length e.bytes - n) ∷ es
 moved_part x e es n some less =
     cond-false _ _ _ (ne_eqb n 0 (λ z. absurd (omega arith))) ∙ cond-false _ _ _ (lt-leb (length e.bytes) n less)
 
-pulled_weighs : (e x : Entry) (es : List Entry) (k n total : ℕ) → e.cluster ≡ Some k → x.cluster ≡ None → length e.bytes ≤ total → n ≡ min 40 total → 0 < n → (total ≤ length e.bytes) ⊎ (40 < length e.bytes)
+pulled_weighs : (e x : Entry) (es : List Entry) (k n total : ℕ) → e.cluster ≡ Some k → x.cluster ≡ None
+    → length e.bytes ≤ total → n ≡ min 40 total → 0 < n → (total ≤ length e.bytes) ⊎ (40 < length e.bytes)
     → weight_of (moved n x (e ∷ es)) ≡ flat.pulled_up total (weight_of (e ∷ es))
 pulled_weighs e x es k n total is none long n_is some holds = elim (cases_lt 40 total) [
   | inl more ↦
       let less : n < length e.bytes = elim holds [ inl a ↦ omega arith | inr a ↦ omega arith ] in
-      let mbufs : length (with_back x (take n e.bytes) ∷ narrowed e n (length e.bytes - n) ∷ es) ≡ length (e ∷ es) + 1 = omega arith in
-      let bag : bag_of (with_back x (take n e.bytes) ∷ narrowed e n (length e.bytes - n) ∷ es) ≡ bag_of (e ∷ es) = ap (λ (o : Option ℕ). cons_option o (cons_option e.cluster (bag_of es))) none in
-      ap weight_of (moved_part x e es n some less) ∙ ((λ i. record { mbufs = mbufs i; bag = bag i }) ∙ sym (cond-true _ _ _ (lt-ltb 40 total more)))
+      let mbufs : length (with_back x (take n e.bytes) ∷ narrowed e n (length e.bytes - n) ∷ es) ≡ length (e ∷ es) + 1 =
+      omega arith in
+      let bag : bag_of (with_back x (take n e.bytes) ∷ narrowed e n (length e.bytes - n) ∷ es) ≡ bag_of (e ∷ es) =
+      ap (λ (o : Option ℕ). cons_option o (cons_option e.cluster (bag_of es))) none in
+      ap weight_of (moved_part x e es n some less)
+      ∙ ((λ i. record { mbufs = mbufs i; bag = bag i }) ∙ sym (cond-true _ _ _ (lt-ltb 40 total more)))
   | inr fewer ↦
       let same : length e.bytes ≡ n = elim holds [ inl a ↦ omega arith | inr a ↦ absurd (omega arith) ] in
       let bag : bag_of (with_back x e.bytes ∷ es) ≡ drop 1 (bag_of (e ∷ es)) =
-      ap (λ (o : Option ℕ). cons_option o (bag_of es)) none ∙ ap (λ (o : Option ℕ). drop 1 (cons_option o (bag_of es))) (sym is) in
-      ap weight_of (moved_whole x e es n some same) ∙ ((λ i. record { mbufs = suc (length es); bag = bag i }) ∙ sym (cond-false _ _ _ (le-ltb 40 total fewer)))
+      ap (λ (o : Option ℕ). cons_option o (bag_of es)) none
+      ∙ ap (λ (o : Option ℕ). drop 1 (cons_option o (bag_of es))) (sym is) in
+      ap weight_of (moved_whole x e es n some same)
+      ∙ ((λ i. record { mbufs = suc (length es); bag = bag i }) ∙ sym (cond-false _ _ _ (le-ltb 40 total fewer)))
 ]
 
 -- **a packet whose first mbuf is a cluster weighs what the flat machine says once its header is pulled up**
-pub pulled_is : (v : ChainView) → is_some (entry_of v 0).cluster ≡ true → 20 ≤ length (string v) → (length (string v) ≤ length (entry_of v 0).bytes) ⊎ (40 < length (entry_of v 0).bytes)
+pub pulled_is : (v : ChainView) → is_some (entry_of v 0).cluster ≡ true → 20 ≤ length (string v)
+    → (length (string v) ≤ length (entry_of v 0).bytes) ⊎ (40 < length (entry_of v 0).bytes)
     → weight_of (ops.pulled_up v 20) ≡ flat.pulled_up (length (string v)) (weight_of v.entries)
 pulled_is v is some holds = ap weight_of plain ∙ go v.entries is some holds
   where
@@ -71,23 +82,30 @@ pulled_is v is some holds = ap weight_of plain ∙ go v.entries is some holds
     cluster_of None e = absurd (false≢true e)
     cluster_of (Some k) e = (k, refl)
 
-    go : (es : List Entry) → is_some (get_or es 0 no_entry).cluster ≡ true → 20 ≤ length (flat_bytes es) → (length (flat_bytes es) ≤ length (get_or es 0 no_entry).bytes) ⊎ (40 < length (get_or es 0 no_entry).bytes)
-        → weight_of (moved (pulled_len 20 es) (empty_entry (room_low v.front.header) None) es) ≡ flat.pulled_up (length (flat_bytes es)) (weight_of es)
+    go : (es : List Entry) → is_some (get_or es 0 no_entry).cluster ≡ true → 20 ≤ length (flat_bytes es)
+        → (length (flat_bytes es) ≤ length (get_or es 0 no_entry).bytes) ⊎ (40 < length (get_or es 0 no_entry).bytes)
+        → weight_of (moved (pulled_len 20 es) (empty_entry (room_low v.front.header) None) es)
+        ≡ flat.pulled_up (length (flat_bytes es)) (weight_of es)
     go [] e l h = absurd (false≢true e)
     go (e ∷ es) is l h =
         let k = cluster_of e.cluster is in
-        pulled_weighs e (empty_entry (room_low v.front.header) None) es k.0 (pulled_len 20 (e ∷ es)) (length (flat_bytes (e ∷ es))) k.1 refl (omega (arith, length-append e.bytes (flat_bytes es))) (omega arith) (omega arith) h
+        pulled_weighs e (empty_entry (room_low v.front.header) None) es k.0 (pulled_len 20 (e ∷ es))
+        (length (flat_bytes (e ∷ es))) k.1 refl (omega (arith, length-append e.bytes (flat_bytes es))) (omega arith)
+        (omega arith) h
 
 -- ---- the fragment that joins
-carried_is : (v : ChainView) (h : IpHead) (es : List Entry) (w : Weight) → es ≡ carried_entries v → weight_of (pulled_entries v) ≡ w
-    → fragment_of (record { offset = h.offset; more = h.more; entries = es }) ≡ record { offset = h.offset; bytes = drop 20 (string v); more = h.more; weight = w }
+carried_is : (v : ChainView) (h : IpHead) (es : List Entry) (w : Weight) → es ≡ carried_entries v
+    → weight_of (pulled_entries v) ≡ w
+    → fragment_of (record { offset = h.offset; more = h.more; entries = es })
+    ≡ record { offset = h.offset; bytes = drop 20 (string v); more = h.more; weight = w }
 carried_is v h es w e is =
     let bytes : flat_bytes es ≡ drop 20 (string v) = ap flat_bytes e ∙ carried_bytes v in
     let weight : weight_of es ≡ w = ap weight_of e ∙ (weight_trimmed 20 (pulled_entries v) ∙ is) in
     λ i. record { offset = h.offset; bytes = bytes i; more = h.more; weight = weight i }
 
 -- what came by the wire in a cluster holds enough of the packet
-pub holds_of : (origin : Origin) (v : ChainView) → CameBy origin v → is_some (entry_of v 0).cluster ≡ true → (length (string v) ≤ length (entry_of v 0).bytes) ⊎ (40 < length (entry_of v 0).bytes)
+pub holds_of : (origin : Origin) (v : ChainView) → CameBy origin v → is_some (entry_of v 0).cluster ≡ true
+    → (length (string v) ≤ length (entry_of v 0).bytes) ⊎ (40 < length (entry_of v 0).bytes)
 holds_of Looped v came cluster = absurd (false≢true (sym (ap is_some came) ∙ cluster))
 holds_of (By_wire received) v came cluster = came.holds
 
@@ -98,8 +116,11 @@ abbrev with_weight : IpHead → ChainView → Weight → Fragment
 with_weight h v w = record { offset = h.offset; bytes = drop 20 (string v); more = h.more; weight = w }
 
 -- **a packet whose chain shows its origin arrives as the flat machine says of that origin**
-pub view_arrives : (held : Weight) (origin : Origin) (h : IpHead) (v : ChainView) (old new : State) → CameBy origin v → length (string v) ≡ h.total → 20 ≤ h.total
-    → ChainArrives held h v old new → FragmentArrives exact_ledger origin held (flat_head h) (record { bytes = drop 20 (string v); weight = weight_of v.entries }) old new
+pub view_arrives : (held : Weight) (origin : Origin) (h : IpHead) (v : ChainView) (old new : State) → CameBy origin v
+    → length (string v) ≡ h.total → 20 ≤ h.total
+    → ChainArrives held h v old new
+    → FragmentArrives exact_ledger origin held (flat_head h)
+    (record { bytes = drop 20 (string v); weight = weight_of v.entries }) old new
 view_arrives held origin h v old new came total least step = record {
   yes = λ bad. step.yes (ap (is_bad_fragment (flat_head h)) (sym size) ∙ bad);
   no = λ good. pulls origin came (step.no (ap (is_bad_fragment (flat_head h)) (sym size) ∙ good));
@@ -108,23 +129,38 @@ view_arrives held origin h v old new came total least step = record {
     size : length (drop 20 (string v)) ≡ h.total - 20
     size = omega (arith, length-drop 20 (string v))
 
-    plain : is_some (entry_of v 0).cluster ≡ false → Joins exact_ledger held (key_in h) (fragment_of (fragment_carried v h)) (counts_fragment old) new → Joins exact_ledger held (key_in h) (with_weight h v (weight_of v.entries)) (counts_fragment old) new
-    plain is joins = subst (λ (f : Fragment). Joins exact_ledger held (key_in h) f (counts_fragment old) new) (carried_is v h (carried_entries v) (weight_of v.entries) refl (ap weight_of (cond-false _ _ _ is))) joins
+    plain : is_some (entry_of v 0).cluster ≡ false
+        → Joins exact_ledger held (key_in h) (fragment_of (fragment_carried v h)) (counts_fragment old) new
+        → Joins exact_ledger held (key_in h) (with_weight h v (weight_of v.entries)) (counts_fragment old) new
+    plain is joins =
+        subst (λ (f : Fragment). Joins exact_ledger held (key_in h) f (counts_fragment old) new)
+        (carried_is v h (carried_entries v) (weight_of v.entries) refl (ap weight_of (cond-false _ _ _ is))) joins
 
     whole_size : length (string v) ≡ 20 + length (drop 20 (string v))
     whole_size = omega (arith, size)
 
     in_cluster : (received : ℕ) → CameBy (By_wire received) v → is_some (entry_of v 0).cluster ≡ true
-        → Tests exact_ledger (counts_fragment old) (held ⊕ weight_of v.entries) 1 new (λ mid. Joins exact_ledger held (key_in h) (fragment_of (fragment_carried v h)) mid new)
-        → Tests exact_ledger (counts_fragment old) (held ⊕ weight_of v.entries) 1 new (λ mid. Joins exact_ledger held (key_in h) (with_weight h v (flat.pulled_up (20 + length (drop 20 (string v))) (weight_of v.entries))) mid new)
+        → Tests exact_ledger (counts_fragment old) (held ⊕ weight_of v.entries) 1 new
+        (λ mid. Joins exact_ledger held (key_in h) (fragment_of (fragment_carried v h)) mid new)
+        → Tests exact_ledger (counts_fragment old) (held ⊕ weight_of v.entries) 1 new
+        (λ mid. Joins exact_ledger held (key_in h)
+        (with_weight h v (flat.pulled_up (20 + length (drop 20 (string v))) (weight_of v.entries))) mid new)
     in_cluster received came cluster tests =
-        let weight : weight_of (pulled_entries v) ≡ flat.pulled_up (20 + length (drop 20 (string v))) (weight_of v.entries) =
-        ap weight_of (cond-true _ _ _ cluster) ∙ (pulled_is v cluster (omega (arith, total, least)) (holds_of (By_wire received) v came cluster) ∙ ap (λ (m : ℕ). flat.pulled_up m (weight_of v.entries)) whole_size) in
-        subst (λ (f : Fragment). Tests exact_ledger (counts_fragment old) (held ⊕ weight_of v.entries) 1 new (λ mid. Joins exact_ledger held (key_in h) f mid new))
-        (carried_is v h (carried_entries v) (flat.pulled_up (20 + length (drop 20 (string v))) (weight_of v.entries)) refl weight) tests
+        let weight : weight_of (pulled_entries v)
+        ≡ flat.pulled_up (20 + length (drop 20 (string v))) (weight_of v.entries) =
+        ap weight_of (cond-true _ _ _ cluster)
+        ∙ (pulled_is v cluster (omega (arith, total, least)) (holds_of (By_wire received) v came cluster)
+        ∙ ap (λ (m : ℕ). flat.pulled_up m (weight_of v.entries)) whole_size) in
+        subst (λ (f : Fragment). Tests exact_ledger (counts_fragment old) (held ⊕ weight_of v.entries) 1 new
+        (λ mid. Joins exact_ledger held (key_in h) f mid new))
+        (carried_is v h (carried_entries v) (flat.pulled_up (20 + length (drop 20 (string v))) (weight_of v.entries))
+        refl weight) tests
 
-    pulls : (o : Origin) → CameBy o v → PullsUpHeader v held (counts_fragment old) new (λ mid. Joins exact_ledger held (key_in h) (fragment_of (fragment_carried v h)) mid new)
-        → PullsUp exact_ledger o held (weight_of v.entries) (20 + length (drop 20 (string v))) (counts_fragment old) new (λ w mid. Joins exact_ledger held (key_in h) (with_weight h v w) mid new)
+    pulls : (o : Origin) → CameBy o v
+        → PullsUpHeader v held (counts_fragment old) new
+        (λ mid. Joins exact_ledger held (key_in h) (fragment_of (fragment_carried v h)) mid new)
+        → PullsUp exact_ledger o held (weight_of v.entries) (20 + length (drop 20 (string v))) (counts_fragment old) new
+        (λ w mid. Joins exact_ledger held (key_in h) (with_weight h v w) mid new)
     pulls Looped o_came s = plain (ap is_some o_came) (s.no (ap is_some o_came))
     pulls (By_wire received) o_came s = record {
       yes = λ large. in_cluster received o_came (o_came.cluster ∙ large) (s.yes (o_came.cluster ∙ large));
@@ -132,29 +168,39 @@ view_arrives held origin h v old new came total least step = record {
     }
 
 -- the same of a chain of a pool
-pub fragment_arrives : (held : Weight) (origin : Origin) (h : IpHead) (p : PoolView) (n : ℕ) (old new : State) → CameBy origin (chain_of p n) → length (string (chain_of p n)) ≡ h.total → 20 ≤ h.total
-    → ChainArrives held h (chain_of p n) old new → FragmentArrives exact_ledger origin held (flat_head h) (carried_at p n) old new
-fragment_arrives held origin h p n old new came total least step = view_arrives held origin h (chain_of p n) old new came total least step
+pub fragment_arrives : (held : Weight) (origin : Origin) (h : IpHead) (p : PoolView) (n : ℕ) (old new : State)
+    → CameBy origin (chain_of p n) → length (string (chain_of p n)) ≡ h.total → 20 ≤ h.total
+    → ChainArrives held h (chain_of p n) old new
+    → FragmentArrives exact_ledger origin held (flat_head h) (carried_at p n) old new
+fragment_arrives held origin h p n old new came total least step =
+    view_arrives held origin h (chain_of p n) old new came total least step
 
 -- **and one that is laid at once, as the flat machine says of a packet in that cluster, or in two mbufs**
 abbrev pub stored_weight : Bool → ℕ → Weight
 stored_weight is_large k = cond is_large (record { mbufs = 1; bag = k ∷ [] }) (record { mbufs = 2; bag = [] })
 
-pub stored_arrives : (held : Weight) (h : IpHead) (packet : List ℕ) (k : ℕ) (old new : State) → 100 < length packet → h.total ≡ length packet
+pub stored_arrives : (held : Weight) (h : IpHead) (packet : List ℕ) (k : ℕ) (old new : State) → 100 < length packet
+    → h.total ≡ length packet
     → ChainArrives held h (at_once.as_stored packet k) old new
-    → FragmentArrives exact_ledger (By_wire (length packet)) held (flat_head h) (record { bytes = drop 20 packet; weight = stored_weight (nat_le 208 (length packet)) k }) old new
+    → FragmentArrives exact_ledger (By_wire (length packet)) held (flat_head h)
+    (record { bytes = drop 20 packet; weight = stored_weight (nat_le 208 (length packet)) k }) old new
 stored_arrives held h packet k old new many total step = go (nat_le 208 (length packet)) refl step
   where
     two : string (at_once.in_mbufs packet) ≡ packet
     two = ap (λ (xs : List ℕ). take 100 packet ++ xs) (append-nil (drop 100 packet)) ∙ take-append-drop 100 packet
 
     go : (b : Bool) → nat_le 208 (length packet) ≡ b → ChainArrives held h (at_once.stored_by b packet k) old new
-        → FragmentArrives exact_ledger (By_wire (length packet)) held (flat_head h) (record { bytes = drop 20 packet; weight = stored_weight b k }) old new
+        → FragmentArrives exact_ledger (By_wire (length packet)) held (flat_head h)
+        (record { bytes = drop 20 packet; weight = stored_weight b k }) old new
     go true large comes =
-        subst (λ (xs : List ℕ). FragmentArrives exact_ledger (By_wire (length packet)) held (flat_head h) (record { bytes = drop 20 xs; weight = record { mbufs = 1; bag = k ∷ [] } }) old new) (append-nil packet)
-        (view_arrives held (By_wire (length packet)) h (at_once.in_cluster packet k) old new (record { cluster = sym large; holds = inl (omega (arith, length-append packet [])) })
+        subst (λ (xs : List ℕ). FragmentArrives exact_ledger (By_wire (length packet)) held (flat_head h)
+        (record { bytes = drop 20 xs; weight = record { mbufs = 1; bag = k ∷ [] } }) old new) (append-nil packet)
+        (view_arrives held (By_wire (length packet)) h (at_once.in_cluster packet k) old new
+        (record { cluster = sym large; holds = inl (omega (arith, length-append packet [])) })
         (omega (arith, length-append packet [])) (omega arith) comes)
     go false small comes =
-        subst (λ (xs : List ℕ). FragmentArrives exact_ledger (By_wire (length packet)) held (flat_head h) (record { bytes = drop 20 xs; weight = record { mbufs = 2; bag = [] } }) old new) two
-        (view_arrives held (By_wire (length packet)) h (at_once.in_mbufs packet) old new (record { cluster = sym small; holds = inr (omega (arith, length-take 100 packet)) })
+        subst (λ (xs : List ℕ). FragmentArrives exact_ledger (By_wire (length packet)) held (flat_head h)
+        (record { bytes = drop 20 xs; weight = record { mbufs = 2; bag = [] } }) old new) two
+        (view_arrives held (By_wire (length packet)) h (at_once.in_mbufs packet) old new
+        (record { cluster = sym small; holds = inr (omega (arith, length-take 100 packet)) })
         (omega (arith, ap (λ (xs : List ℕ). length xs) two, total)) (omega arith) comes)

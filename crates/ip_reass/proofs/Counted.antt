@@ -18,35 +18,49 @@ held_is p t = ap bytes_held (fragments_are p t)
 pub fragments_as : (p q : PoolView) (t u : TrainView) → queued q u ≡ queued p t → fragments q u ≡ fragments p t
 fragments_as p q t u e = fragments_are q u ∙ (ap (map fragment_of) e ∙ sym (fragments_are p t))
 
-pub held_as : (p q : PoolView) (t u : TrainView) → queued q u ≡ queued p t → bytes_held (fragments q u) ≡ bytes_held (fragments p t)
+pub held_as : (p q : PoolView) (t u : TrainView) → queued q u ≡ queued p t
+    → bytes_held (fragments q u) ≡ bytes_held (fragments p t)
 held_as p q t u e = held_is q u ∙ (ap queue_held e ∙ sym (held_is p t))
 
 -- one is taken out
-queue_removed : (qs : List QueuedFragment) (i : ℕ) → i < length qs → queue_held (remove qs i) + length (flat_bytes (queued_at qs i).entries) ≡ queue_held qs
+queue_removed : (qs : List QueuedFragment) (i : ℕ) → i < length qs
+    → queue_held (remove qs i) + length (flat_bytes (queued_at qs i).entries) ≡ queue_held qs
 queue_removed [] i l = absurd (omega arith)
 queue_removed (q ∷ qs) zero l = omega arith
 queue_removed (q ∷ qs) (suc i) l = omega (arith, queue_removed qs i (omega arith))
 
-pub held_removed : (p q : PoolView) (t u : TrainView) (i : ℕ) → i < length (queued p t) → queued q u ≡ remove (queued p t) i
+pub held_removed : (p q : PoolView) (t u : TrainView) (i : ℕ) → i < length (queued p t)
+    → queued q u ≡ remove (queued p t) i
     → bytes_held (fragments q u) + length (flat_bytes (queued_at (queued p t) i).entries) ≡ bytes_held (fragments p t)
 held_removed p q t u i l e = omega (arith, held_is p t, held_is q u, ap queue_held e, queue_removed (queued p t) i l)
 
 -- one loses its first n bytes
-queue_cut : (n : ℕ) (qs : List QueuedFragment) (i : ℕ) → i < length qs → n ≤ length (flat_bytes (queued_at qs i).entries) → queue_held (set qs i (cut n (queued_at qs i))) + n ≡ queue_held qs
+queue_cut : (n : ℕ) (qs : List QueuedFragment) (i : ℕ) → i < length qs
+    → n ≤ length (flat_bytes (queued_at qs i).entries)
+    → queue_held (set qs i (cut n (queued_at qs i))) + n ≡ queue_held qs
 queue_cut n [] i l m = absurd (omega arith)
-queue_cut n (q ∷ qs) zero l m = omega (arith, ap (λ (xs : List ℕ). length xs) (without_first_bytes n q.entries), length-drop n (flat_bytes q.entries))
+queue_cut n (q ∷ qs) zero l m =
+    omega (
+      arith,
+      ap (λ (xs : List ℕ). length xs) (without_first_bytes n q.entries),
+      length-drop n (flat_bytes q.entries),
+    )
 queue_cut n (q ∷ qs) (suc i) l m = omega (arith, queue_cut n qs i (omega arith) m)
 
-pub held_cut : (p q : PoolView) (t u : TrainView) (n i : ℕ) → i < length (queued p t) → n ≤ length (flat_bytes (queued_at (queued p t) i).entries) → queued q u ≡ set (queued p t) i (cut n (queued_at (queued p t) i))
+pub held_cut : (p q : PoolView) (t u : TrainView) (n i : ℕ) → i < length (queued p t)
+    → n ≤ length (flat_bytes (queued_at (queued p t) i).entries)
+    → queued q u ≡ set (queued p t) i (cut n (queued_at (queued p t) i))
     → bytes_held (fragments q u) + n ≡ bytes_held (fragments p t)
 held_cut p q t u n i l m e = omega (arith, held_is p t, held_is q u, ap queue_held e, queue_cut n (queued p t) i l m)
 
 -- one is put in
-queue_between : (xs ys : List QueuedFragment) (q : QueuedFragment) → queue_held (xs ++ q ∷ ys) ≡ queue_held (xs ++ ys) + length (flat_bytes q.entries)
+queue_between : (xs ys : List QueuedFragment) (q : QueuedFragment)
+    → queue_held (xs ++ q ∷ ys) ≡ queue_held (xs ++ ys) + length (flat_bytes q.entries)
 queue_between [] ys q = omega arith
 queue_between (x ∷ xs) ys q = omega (arith, queue_between xs ys q)
 
-pub held_between : (p q : PoolView) (t u : TrainView) (n : ℕ) (xs ys : List QueuedFragment) (f : QueuedFragment) → queued p t ≡ xs ++ ys → queued q u ≡ xs ++ cut n f ∷ ys
+pub held_between : (p q : PoolView) (t u : TrainView) (n : ℕ) (xs ys : List QueuedFragment) (f : QueuedFragment)
+    → queued p t ≡ xs ++ ys → queued q u ≡ xs ++ cut n f ∷ ys
     → bytes_held (fragments q u) ≡ bytes_held (fragments p t) + (length (flat_bytes f.entries) - n)
 held_between p q t u n xs ys f e g =
     omega (
@@ -61,9 +75,15 @@ held_between p q t u n xs ys f e g =
     )
 
 -- one is put after the others
-pub held_after : (p q : PoolView) (t u : TrainView) (i : ℕ) (f : QueuedFragment) → IsHeld p t → queued q u ≡ take i (queued p t) ++ cut 0 f ∷ cut_to (queued_end f) (drop i (queued p t)) → i ≡ t.len
+pub held_after : (p q : PoolView) (t u : TrainView) (i : ℕ) (f : QueuedFragment) → IsHeld p t
+    → queued q u ≡ take i (queued p t) ++ cut 0 f ∷ cut_to (queued_end f) (drop i (queued p t)) → i ≡ t.len
     → bytes_held (fragments q u) ≡ bytes_held (fragments p t) + length (flat_bytes f.entries)
 held_after p q t u i f held e is =
     let none : drop i (queued p t) ≡ [] = drop_all i (queued p t) (omega (arith, length-queued p t held)) in
-    let all : queued p t ≡ take i (queued p t) ++ [] = sym (take-append-drop i (queued p t)) ∙ ap (λ (ys : List QueuedFragment). take i (queued p t) ++ ys) none in
-    omega (arith, held_between p q t u 0 (take i (queued p t)) [] f all (e ∙ ap (λ (ys : List QueuedFragment). take i (queued p t) ++ cut 0 f ∷ cut_to (queued_end f) ys) none))
+    let all : queued p t ≡ take i (queued p t) ++ [] =
+    sym (take-append-drop i (queued p t)) ∙ ap (λ (ys : List QueuedFragment). take i (queued p t) ++ ys) none in
+    omega (
+      arith,
+      held_between p q t u 0 (take i (queued p t)) [] f all
+          (e ∙ ap (λ (ys : List QueuedFragment). take i (queued p t) ++ cut 0 f ∷ cut_to (queued_end f) ys) none),
+    )

@@ -18,9 +18,16 @@ pub none_distinct : (p : PoolView) → AreDistinct p []
 none_distinct p = λ k. omega arith
 
 -- the queues have the keys of the datagrams
-keys_are : (p : PoolView) (k : Key) (ds : List Datagram) → count_by (goes_by k) (queues p ds) ≡ count_by (is_key k) (unfinished p ds)
+keys_are : (p : PoolView) (k : Key) (ds : List Datagram)
+    → count_by (goes_by k) (queues p ds) ≡ count_by (is_key k) (unfinished p ds)
 keys_are p k [] = refl
-keys_are p k (d ∷ ds) = omega (arith, keys_are p k ds, count_cons (goes_by k) (queue_of p d) (queues p ds), count_cons (is_key k) (unfinished_of p d) (unfinished p ds))
+keys_are p k (d ∷ ds) =
+    omega (
+      arith,
+      keys_are p k ds,
+      count_cons (goes_by k) (queue_of p d) (queues p ds),
+      count_cons (is_key k) (unfinished_of p d) (unfinished p ds),
+    )
 
 one_of : (b : Bool) → b ≡ true → cond {A = ℕ} b 1 0 ≡ 1
 one_of b e = ap {B = ℕ} (λ x. cond x 1 0) e
@@ -35,16 +42,32 @@ module _ (k : Key) (f : QueuedFragment) where
   -- it is laid in a queue that is there, or in a new one, where none has the key
   laid_count : (j : Key) (qs : List KeyedQueue)
       → (count_by (goes_by j) (laid_under k f qs) ≡ count_by (goes_by j) qs)
-      ⊎ ((count_by (goes_by k) qs ≡ 0) × (count_by (goes_by j) (laid_under k f qs) ≡ count_by (goes_by j) qs + cond {A = ℕ} (goes_by j begins) 1 0))
+      ⊎ ((count_by (goes_by k) qs ≡ 0)
+      × (count_by (goes_by j) (laid_under k f qs) ≡ count_by (goes_by j) qs + cond {A = ℕ} (goes_by j begins) 1 0))
   laid_count j [] = inr (refl, omega (arith, count_cons (goes_by j) begins []))
   laid_count j (q ∷ qs) = elim (cases_Bool (goes_by k q)) [
-    | inl is ↦ inl (omega (arith, ap (count_by (goes_by j)) (cond-true _ (with_laid f q ∷ qs) (q ∷ laid_under k f qs) is), count_cons (goes_by j) (with_laid f q) qs, count_cons (goes_by j) q qs))
+    | inl is ↦ inl (omega (
+      arith,
+      ap (count_by (goes_by j))
+          (cond-true _ (with_laid f q ∷ qs) (q ∷ laid_under k f qs) is),
+      count_cons (goes_by j) (with_laid f q) qs,
+      count_cons (goes_by j) q qs,
+    ))
     | inr is ↦
         let other = ap (count_by (goes_by j)) (cond-false _ (with_laid f q ∷ qs) (q ∷ laid_under k f qs) is) in
         let here : cond {A = ℕ} (goes_by k q) 1 0 ≡ 0 = ap {B = ℕ} (λ b. cond b 1 0) is in
         elim (laid_count j qs) [
-          | inl e ↦ inl (omega (arith, other, e, count_cons (goes_by j) q (laid_under k f qs), count_cons (goes_by j) q qs))
-          | inr e ↦ inr (omega (arith, e.0, here, count_cons (goes_by k) q qs), omega (arith, other, e.1, count_cons (goes_by j) q (laid_under k f qs), count_cons (goes_by j) q qs))
+          | inl e ↦ inl (omega (
+            arith,
+            other,
+            e,
+            count_cons (goes_by j) q (laid_under k f qs),
+            count_cons (goes_by j) q qs,
+          ))
+          | inr e ↦ inr (
+            omega (arith, e.0, here, count_cons (goes_by k) q qs),
+            omega (arith, other, e.1, count_cons (goes_by j) q (laid_under k f qs), count_cons (goes_by j) q qs),
+          )
         ]
   ]
 
@@ -64,18 +87,32 @@ module _ (k : Key) (f : QueuedFragment) where
   without_fewer : (j : Key) (qs : List KeyedQueue) → count_by (goes_by j) (without_key k qs) ≤ count_by (goes_by j) qs
   without_fewer j [] = omega arith
   without_fewer j (q ∷ qs) = elim (cases_Bool (goes_by k q)) [
-    | inl is ↦ omega (arith, ap (count_by (goes_by j)) (cond-true _ qs (q ∷ without_key k qs) is), count_cons (goes_by j) q qs)
-    | inr is ↦ omega (arith, ap (count_by (goes_by j)) (cond-false _ qs (q ∷ without_key k qs) is), without_fewer j qs, count_cons (goes_by j) q (without_key k qs), count_cons (goes_by j) q qs)
+    | inl is ↦ omega (
+      arith,
+      ap (count_by (goes_by j)) (cond-true _ qs (q ∷ without_key k qs) is),
+      count_cons (goes_by j) q qs,
+    )
+    | inr is ↦ omega (
+      arith,
+      ap (count_by (goes_by j)) (cond-false _ qs (q ∷ without_key k qs) is),
+      without_fewer j qs,
+      count_cons (goes_by j) q (without_key k qs),
+      count_cons (goes_by j) q qs,
+    )
   ]
 
-  left_once : (qs now : List KeyedQueue) (q : PoolView) (result : Arrival) → Leaves k f qs q result now → HoldOnce qs → HoldOnce now
+  left_once : (qs now : List KeyedQueue) (q : PoolView) (result : Arrival) → Leaves k f qs q result now → HoldOnce qs
+      → HoldOnce now
   left_once qs now q Kept left once j = omega (arith, ap (count_by (goes_by j)) left, laid_once qs once j)
-  left_once qs now q (Whole c h) left once j = omega (arith, ap (count_by (goes_by j)) left.1, without_fewer j qs, once j)
+  left_once qs now q (Whole c h) left once j =
+      omega (arith, ap (count_by (goes_by j)) left.1, without_fewer j qs, once j)
   left_once qs now q (Dropped why) left once j = omega (arith, ap (count_by (goes_by j)) left, once j)
 
 -- **no key is held twice after an arrival**
-pub distinct_after : (p q : PoolView) (ds es : List Datagram) (k : Key) (f : QueuedFragment) (result : Arrival) → HasLayout p ds k f result q es → AreDistinct p ds → AreDistinct q es
-distinct_after p q ds es k f result l distinct = λ j. omega (arith, keys_are q j es, left_once k f l.waited (queues q es) q result l.leaves waited j)
+pub distinct_after : (p q : PoolView) (ds es : List Datagram) (k : Key) (f : QueuedFragment) (result : Arrival)
+    → HasLayout p ds k f result q es → AreDistinct p ds → AreDistinct q es
+distinct_after p q ds es k f result l distinct =
+    λ j. omega (arith, keys_are q j es, left_once k f l.waited (queues q es) q result l.leaves waited j)
   where
     waited : HoldOnce l.waited
     waited = elim l.before [

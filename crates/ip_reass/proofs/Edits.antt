@@ -28,7 +28,8 @@ module _ {X : Type 0} where
   map-remove f (x ∷ xs) zero = refl
   map-remove f (x ∷ xs) (suc i) = ap (λ zs. f x ∷ zs) (map-remove f xs i)
 
-  pub map-insert : {Y : Type 0} (f : X → Y) (xs : List X) (i : ℕ) (y : X) → map f (insert xs i y) ≡ insert (map f xs) i (f y)
+  pub map-insert : {Y : Type 0} (f : X → Y) (xs : List X) (i : ℕ) (y : X)
+      → map f (insert xs i y) ≡ insert (map f xs) i (f y)
   map-insert f xs zero y = refl
   map-insert f [] (suc i) y = refl
   map-insert f (x ∷ xs) (suc i) y = ap (λ zs. f x ∷ zs) (map-insert f xs i y)
@@ -38,7 +39,8 @@ trimmed_mbufs : (n : ℕ) (es : List Entry) → length (without_first n es) ≡ 
 trimmed_mbufs n [] = refl
 trimmed_mbufs n (e ∷ es) = ap suc (trimmed_mbufs (n - length e.bytes) es)
 
-trimmed_bag : (n : ℕ) (es : List Entry) → filter_map (λ (e : Entry). e.cluster) (without_first n es) ≡ filter_map (λ (e : Entry). e.cluster) es
+trimmed_bag : (n : ℕ) (es : List Entry)
+    → filter_map (λ (e : Entry). e.cluster) (without_first n es) ≡ filter_map (λ (e : Entry). e.cluster) es
 trimmed_bag n [] = refl
 trimmed_bag n (e ∷ es) = ap (cons_option e.cluster) (trimmed_bag (n - length e.bytes) es)
 

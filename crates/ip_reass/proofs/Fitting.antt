@@ -11,25 +11,29 @@ use Rattle.chain_ops.specs.Weights.{IsFit, AreFit}
 use Rattle.ip_reass.specs.Fragments.{queued_of, queued}
 use Rattle.ip_reass.specs.Inside.Walks.{AllFit, AllSome}
 
-low_of : (o : Option ℕ) (header first : Bool) (start : ℕ) → cond (is_some o) 0 (cond header (cond first 28 20) 20) ≤ start → cond (is_some o) 0 20 ≤ start
+low_of : (o : Option ℕ) (header first : Bool) (start : ℕ)
+    → cond (is_some o) 0 (cond header (cond first 28 20) 20) ≤ start → cond (is_some o) 0 20 ≤ start
 low_of (Some c) header first start l = l
 low_of None true true start l = omega arith
 low_of None true false start l = l
 low_of None false first start l = l
 
 entry_fits : (p : PoolView) (v : ChainView) (i : ℕ) → Fits p v i → IsFit (entry_of v i)
-entry_fits p v i f = record { low = low_of (entry_of v i).cluster v.front.header (eqb i 0) (entry_of v i).start f.low; high = f.high }
+entry_fits p v i f =
+    record { low = low_of (entry_of v i).cluster v.front.header (eqb i 0) (entry_of v i).start f.low; high = f.high }
 
 chain_fits : (p : PoolView) (c : ℕ) → IsBounded p → IsLive p c → AreFit (chain_of p c).entries
 chain_fits p c b live = recursion_from_All IsFit (chain_of p c).entries (λ i d l.
-    subst IsFit (get_or_default (chain_of p c).entries i no_entry d l) (entry_fits p (chain_of p c) i (b.fits c i live l)))
+    subst IsFit (get_or_default (chain_of p c).entries i no_entry d l)
+    (entry_fits p (chain_of p c) i (b.fits c i live l)))
 
 pub all_fit : (p : PoolView) (t : TrainView) → IsBounded p → IsHeld p t → AllFit (queued p t)
 all_fit p t b h = go (numbers p t) (λ k l. live_owned p (numbers p t) k h.owned l)
   where
     go : (xs : List ℕ) → ((k : ℕ) → 0 < times k xs → IsLive p k) → AllFit (map queued_of (map (queued_packet_of p) xs))
     go [] live = tt
-    go (x ∷ xs) live = (chain_fits p x b (live x (omega (arith, times_same x xs))), go xs (λ k l. live k (omega (arith, l))))
+    go (x ∷ xs) live =
+        (chain_fits p x b (live x (omega (arith, times_same x xs))), go xs (λ k l. live k (omega (arith, l))))
 
 pub all_some : (p : PoolView) (t : TrainView) → IsBounded p → IsHeld p t → AllSome (queued p t)
 all_some p t b h = go (numbers p t) (λ k l. live_owned p (numbers p t) k h.owned l)

@@ -22,7 +22,8 @@ queues_some p (d ∷ ds) a f = (omega (arith, f.0, length-queued p d.fragments a
 
 datagrams_some : (p : PoolView) (ds : List Datagram) → AllUnfinished p ds → HoldSome (queues p ds) → HaveFragments ds
 datagrams_some p [] a h = tt
-datagrams_some p (d ∷ ds) a h = (omega (arith, h.0, length-queued p d.fragments a.0.queue.held), datagrams_some p ds a.1 h.1)
+datagrams_some p (d ∷ ds) a h =
+    (omega (arith, h.0, length-queued p d.fragments a.0.queue.held), datagrams_some p ds a.1 h.1)
 
 -- a fragment is laid
 either_some : (b : Bool) (x y : QueuedFragment) (xs ys : List QueuedFragment) → 0 < length (cond b (x ∷ xs) (y ∷ ys))
@@ -31,7 +32,9 @@ either_some false x y xs ys = omega arith
 
 laid_some : (f : QueuedFragment) (qs : List QueuedFragment) → 0 < length (laid f qs)
 laid_some f [] = omega arith
-laid_some f (q ∷ qs) = either_some (nat_le q.offset f.offset) q (cut (0 - f.offset) f) (laid_after (queued_end q) f qs) (cut_to (queued_end f) (q ∷ qs))
+laid_some f (q ∷ qs) =
+    either_some (nat_le q.offset f.offset) q (cut (0 - f.offset) f) (laid_after (queued_end q) f qs)
+    (cut_to (queued_end f) (q ∷ qs))
 
 either_hold : (b : Bool) (qs rs : List KeyedQueue) → HoldSome qs → HoldSome rs → HoldSome (cond b qs rs)
 either_hold true qs rs g h = g
@@ -40,20 +43,25 @@ either_hold false qs rs g h = h
 module _ (k : Key) (f : QueuedFragment) where
   laid_hold : (qs : List KeyedQueue) → HoldSome qs → HoldSome (laid_under k f qs)
   laid_hold [] h = (laid_some f [], tt)
-  laid_hold (q ∷ qs) h = either_hold (goes_by k q) (with_laid f q ∷ qs) (q ∷ laid_under k f qs) (laid_some f q.fragments, h.1) (h.0, laid_hold qs h.1)
+  laid_hold (q ∷ qs) h =
+      either_hold (goes_by k q) (with_laid f q ∷ qs) (q ∷ laid_under k f qs) (laid_some f q.fragments, h.1)
+      (h.0, laid_hold qs h.1)
 
   without_hold : (qs : List KeyedQueue) → HoldSome qs → HoldSome (without_key k qs)
   without_hold [] h = tt
   without_hold (q ∷ qs) h = either_hold (goes_by k q) qs (q ∷ without_key k qs) h.1 (h.0, without_hold qs h.1)
 
-  left_hold : (qs now : List KeyedQueue) (q : PoolView) (result : Arrival) → Leaves k f qs q result now → HoldSome qs → HoldSome now
+  left_hold : (qs now : List KeyedQueue) (q : PoolView) (result : Arrival) → Leaves k f qs q result now → HoldSome qs
+      → HoldSome now
   left_hold qs now q Kept left h = subst HoldSome (sym left) (laid_hold qs h)
   left_hold qs now q (Whole c head) left h = subst HoldSome (sym left.1) (without_hold qs h)
   left_hold qs now q (Dropped why) left h = subst HoldSome (sym left) h
 
 -- **each datagram has a fragment after an arrival**
-pub fragments_after : (p q : PoolView) (ds es : List Datagram) (k : Key) (f : QueuedFragment) (result : Arrival) → HasLayout p ds k f result q es → IsTable p ds → HaveFragments ds → IsTable q es → HaveFragments es
-fragments_after p q ds es k f result l is some now = datagrams_some q es now.each (left_hold k f l.waited (queues q es) q result l.leaves waited)
+pub fragments_after : (p q : PoolView) (ds es : List Datagram) (k : Key) (f : QueuedFragment) (result : Arrival)
+    → HasLayout p ds k f result q es → IsTable p ds → HaveFragments ds → IsTable q es → HaveFragments es
+fragments_after p q ds es k f result l is some now =
+    datagrams_some q es now.each (left_hold k f l.waited (queues q es) q result l.leaves waited)
   where
     waited : HoldSome l.waited
     waited = elim l.before [
@@ -68,7 +76,9 @@ either_have false ds es g h = h
 
 aged_some : (ds : List Datagram) → HaveFragments ds → HaveFragments (aged ds)
 aged_some [] h = tt
-aged_some (d ∷ ds) h = either_have (nat_lt 1 d.ticks) (record d { ticks = d.ticks - 1 } ∷ aged ds) (aged ds) (h.0, aged_some ds h.1) (aged_some ds h.1)
+aged_some (d ∷ ds) h =
+    either_have (nat_lt 1 d.ticks) (record d { ticks = d.ticks - 1 } ∷ aged ds) (aged ds) (h.0, aged_some ds h.1)
+    (aged_some ds h.1)
 
 -- **and after a tick**
 pub aged_fragments : (old new : List Datagram) → new ≡ aged old → HaveFragments old → HaveFragments new

@@ -33,7 +33,8 @@ use Rattle.ip_reass.proofs.Whole.{bytes_are}
 use Rattle.ip_reass.specs.Inside.Weighs.{weight_is}
 
 -- ---- the lists
-pub joined_next : (es : List Entry) (qs : List QueuedFragment) → 0 < length qs → joined_after es qs ≡ joined_after (cat es (queued_at qs 0).entries) (remove qs 0)
+pub joined_next : (es : List Entry) (qs : List QueuedFragment) → 0 < length qs
+    → joined_after es qs ≡ joined_after (cat es (queued_at qs 0).entries) (remove qs 0)
 joined_next es [] l = absurd (omega arith)
 joined_next es (q ∷ qs) l = refl
 
@@ -53,7 +54,8 @@ pub record InHand (p q : PoolView) (u : TrainView) (c d : ℕ) : Type 0 where
   pub apart : c ≢ d
   pub owned : IsOwned q (c ∷ d ∷ numbers q u)
 
-pub in_hand : (p q : PoolView) (t u : TrainView) (c d : ℕ) → IsHeld p t → IsLive p c → owners.times c (numbers p t) ≡ 0 → Moves p (numbers p t) q (d ∷ numbers q u) → InHand p q u c d
+pub in_hand : (p q : PoolView) (t u : TrainView) (c d : ℕ) → IsHeld p t → IsLive p c → owners.times c (numbers p t) ≡ 0
+    → Moves p (numbers p t) q (d ∷ numbers q u) → InHand p q u c d
 in_hand p q t u c d held live apart m =
     let same : finmap.get q.chains c ≡ finmap.get p.chains c = m.others c live apart in
     let live_q : IsLive q c = live_from q c (omega (arith, live_same p q c same, live_one p c live)) in
@@ -63,30 +65,49 @@ in_hand p q t u c d held live apart m =
       live = live_q;
       shown = ap (λ (o : Option ChainView). unwrap_or o no_chain) same;
       other = live_first q d (numbers q u) owned;
-      apart = λ e. absurd (omega (arith, none, ap (λ (j : ℕ). owners.times j (d ∷ numbers q u)) e, times_same d (numbers q u)));
+      apart =
+          λ e. absurd (omega (
+            arith,
+            none,
+            ap (λ (j : ℕ). owners.times j (d ∷ numbers q u)) e,
+            times_same d (numbers q u),
+          ));
       owned = owned_more q c (d ∷ numbers q u) owned live_q none;
     }
 
-pub joins : (p q r : PoolView) (t u : TrainView) (c d : ℕ) (f : Front) (es : List Entry) → InHand p q u c d → Moves p (numbers p t) q (d ∷ numbers q u) → IsHeld q u → Makes (without (without q d) c) r c f es → Joins p q t c r u
+pub joins : (p q r : PoolView) (t u : TrainView) (c d : ℕ) (f : Front) (es : List Entry) → InHand p q u c d
+    → Moves p (numbers p t) q (d ∷ numbers q u) → IsHeld q u → Makes (without (without q d) c) r c f es
+    → Joins p q t c r u
 joins p q r t u c d f es h m held made =
-    let step : Moves q (c ∷ d ∷ []) r (c ∷ []) = moves_trans (moves_after (c ∷ []) (moves_without q (without q d) d h.other refl))
-    (moves_trans (moves_without (without q d) (without (without q d) c) c (live_without q (without q d) d refl c h.apart h.live) refl) (moves_adds made.adds)) in
-    let same : SameAt q r (numbers q u) = same_beside (numbers q u) step held.owned (λ k l. omega (arith, h.owned k, live_at_most q k, l)) in
+    let step : Moves q (c ∷ d ∷ []) r (c ∷ []) =
+    moves_trans (moves_after (c ∷ []) (moves_without q (without q d) d h.other refl))
+    (moves_trans (moves_without (without q d) (without (without q d) c) c
+    (live_without q (without q d) d refl c h.apart h.live) refl) (moves_adds made.adds)) in
+    let same : SameAt q r (numbers q u) =
+    same_beside (numbers q u) step held.owned (λ k l. omega (arith, h.owned k, live_at_most q k, l)) in
     let b : Beside q r u = beside q r u same held in
-    let all : Moves q (c ∷ d ∷ numbers q u) r (c ∷ numbers r u) = moves_beside (c ∷ d ∷ numbers q u) (c ∷ numbers r u) (numbers q u) step (λ k. omega arith) (λ k. omega (arith, ap (owners.times k) b.numbers)) in
+    let all : Moves q (c ∷ d ∷ numbers q u) r (c ∷ numbers r u) =
+    moves_beside (c ∷ d ∷ numbers q u) (c ∷ numbers r u) (numbers q u) step (λ k. omega arith)
+    (λ k. omega (arith, ap (owners.times k) b.numbers)) in
     let owned : IsOwned r (c ∷ numbers r u) = owned_after all h.owned in
     record {
       live = live_first r c (numbers r u) owned;
       held = b.held;
       apart = omega (arith, owned c, live_at_most r c, times_same c (numbers r u));
       queued_packets_are = b.queued_packets;
-      moves = moves_trans (moves_beside (c ∷ numbers p t) (c ∷ d ∷ numbers q u) (c ∷ []) m (λ k. omega arith) (λ k. omega arith)) all;
+      moves =
+          moves_trans (moves_beside (c ∷ numbers p t) (c ∷ d ∷ numbers q u) (c ∷ []) m (λ k. omega arith)
+          (λ k. omega arith)) all;
     }
 
 -- ---- the bytes
-all_bytes : (es : List Entry) (cs : List QueuedFragment) → flat_bytes (joined_after es cs) ≡ flat_bytes es ++ bytes_of (map fragment_of cs)
+all_bytes : (es : List Entry) (cs : List QueuedFragment)
+    → flat_bytes (joined_after es cs) ≡ flat_bytes es ++ bytes_of (map fragment_of cs)
 all_bytes es [] = sym (append-nil (flat_bytes es))
-all_bytes es (q ∷ cs) = all_bytes (cat es q.entries) cs ∙ (ap (λ (xs : List ℕ). xs ++ bytes_of (map fragment_of cs)) (cat_bytes es q.entries) ∙ append_assoc (flat_bytes es) (flat_bytes q.entries) (bytes_of (map fragment_of cs)))
+all_bytes es (q ∷ cs) =
+    all_bytes (cat es q.entries) cs
+    ∙ (ap (λ (xs : List ℕ). xs ++ bytes_of (map fragment_of cs)) (cat_bytes es q.entries)
+    ∙ append_assoc (flat_bytes es) (flat_bytes q.entries) (bytes_of (map fragment_of cs)))
 
 pub queue_bytes : (cs : List QueuedFragment) → flat_bytes (joined cs) ≡ bytes_of (map fragment_of cs)
 queue_bytes [] = refl
@@ -103,11 +124,13 @@ laid_bag (e ∷ es) = ap (cons_option e.cluster) (laid_bag es)
 laid_mbufs : (es : List Entry) → (flat.weight_of (laid es)).mbufs ≡ (weight_of es).mbufs
 laid_mbufs es = length-map es _
 
-all_mbufs : (es : List Entry) (cs : List QueuedFragment) → length (joined_after es cs) ≤ length es + (queue_weight cs).mbufs
+all_mbufs : (es : List Entry) (cs : List QueuedFragment)
+    → length (joined_after es cs) ≤ length es + (queue_weight cs).mbufs
 all_mbufs es [] = omega arith
 all_mbufs es (q ∷ cs) = omega (arith, all_mbufs (cat es q.entries) cs, cat_length es q.entries)
 
-cat_times : (c : ℕ) (es fs : List Entry) → times c (weight_of (cat es fs)).bag ≤ times c (weight_of es).bag + times c (weight_of fs).bag
+cat_times : (c : ℕ) (es fs : List Entry)
+    → times c (weight_of (cat es fs)).bag ≤ times c (weight_of es).bag + times c (weight_of fs).bag
 cat_times c es fs =
     omega (
       arith,
@@ -118,15 +141,23 @@ cat_times c es fs =
       times-both c (flat.weight_of (laid es)) (flat.weight_of (laid fs)),
     )
 
-all_times : (c : ℕ) (es : List Entry) (cs : List QueuedFragment) → times c (weight_of (joined_after es cs)).bag ≤ times c (weight_of es).bag + times c (queue_weight cs).bag
+all_times : (c : ℕ) (es : List Entry) (cs : List QueuedFragment)
+    → times c (weight_of (joined_after es cs)).bag ≤ times c (weight_of es).bag + times c (queue_weight cs).bag
 all_times c es [] = omega arith
-all_times c es (q ∷ cs) = omega (arith, all_times c (cat es q.entries) cs, cat_times c es q.entries, times-both c (weight_of q.entries) (queue_weight cs))
+all_times c es (q ∷ cs) =
+    omega (
+      arith,
+      all_times c (cat es q.entries) cs,
+      cat_times c es q.entries,
+      times-both c (weight_of q.entries) (queue_weight cs),
+    )
 
 filled_some : (e : Entry) (fs : List Entry) → 0 < length (filled_up e fs)
 filled_some e [] = omega arith
 filled_some e (f ∷ fs) = go (nat_lt (length f.bytes) (trailing_space e)) (filled_some (with_back e f.bytes) fs)
   where
-    go : (b : Bool) → 0 < length (filled_up (with_back e f.bytes) fs) → 0 < length (cond b (filled_up (with_back e f.bytes) fs) (e ∷ f ∷ fs))
+    go : (b : Bool) → 0 < length (filled_up (with_back e f.bytes) fs)
+        → 0 < length (cond b (filled_up (with_back e f.bytes) fs) (e ∷ f ∷ fs))
     go true ih = ih
     go false ih = omega arith
 
@@ -151,38 +182,59 @@ covers_of : (es : List Entry) → 0 < length es → AreFit es → Covers (weight
 covers_of es l f =
     let c = covers_fit es l f in
     let m : (flat.weight_of (laid es)).mbufs ≡ (weight_of es).mbufs = laid_mbufs es in
-    let b : length (flat.weight_of (laid es)).bag ≡ length (weight_of es).bag = ap (λ (xs : List ℕ). length xs) (laid_bag es) in
+    let b : length (flat.weight_of (laid es)).bag ≡ length (weight_of es).bag =
+    ap (λ (xs : List ℕ). length xs) (laid_bag es) in
     subst (λ (w : Weight). Covers w (length (flat_bytes es))) (λ i. record { mbufs = m i; bag = laid_bag es i }) c
 
 -- **the join is one that the flat machine allows**
-pub join_is : (p : PoolView) (t : TrainView) (n : ℕ) → IsQueue p t → AllSome (queued p t) → AllFit (queued p t) → IsWhole (map_of (fragments p t)) n
+pub join_is : (p : PoolView) (t : TrainView) (n : ℕ) → IsQueue p t → AllSome (queued p t) → AllFit (queued p t)
+    → IsWhole (map_of (fragments p t)) n
     → IsJoin (weight_of_pieces (map_of (fragments p t))) (weight_of (joined (queued p t))) n
 join_is p t n is some fit w =
     let same : fragments p t ≡ map fragment_of (queued p t) = fragments_are p t in
-    let e : weight_of_pieces (map_of (fragments p t)) ≡ queue_weight (queued p t) = weight_is (fragments p t) is.apart is.small ∙ (ap (all_of (λ (f : Fragment). f.weight)) same ∙ map_weight (queued p t)) in
-    let len : n ≡ length (flat_bytes (joined (queued p t))) = (bytes_are (fragments p t) n is.apart w).1 ∙ ap (λ (xs : List ℕ). length xs) (ap bytes_of same ∙ sym (queue_bytes (queued p t))) in
+    let e : weight_of_pieces (map_of (fragments p t)) ≡ queue_weight (queued p t) =
+    weight_is (fragments p t) is.apart is.small
+    ∙ (ap (all_of (λ (f : Fragment). f.weight)) same ∙ map_weight (queued p t)) in
+    let len : n ≡ length (flat_bytes (joined (queued p t))) =
+    (bytes_are (fragments p t) n is.apart w).1
+    ∙ ap (λ (xs : List ℕ). length xs) (ap bytes_of same ∙ sym (queue_bytes (queued p t))) in
     subst (λ (v : Weight). IsJoin v (weight_of (joined (queued p t))) n) (sym e) (go (queued p t) some fit len)
   where
-    go : (qs : List QueuedFragment) → AllSome qs → AllFit qs → n ≡ length (flat_bytes (joined qs)) → IsJoin (queue_weight qs) (weight_of (joined qs)) n
+    go : (qs : List QueuedFragment) → AllSome qs → AllFit qs → n ≡ length (flat_bytes (joined qs))
+        → IsJoin (queue_weight qs) (weight_of (joined qs)) n
     go [] s f l = absurd (omega (arith, l, w.some))
     go (q ∷ qs) s f l = record {
       mbufs = all_mbufs q.entries qs;
       bag = λ c. omega (arith, all_times c q.entries qs, times-both c (weight_of q.entries) (queue_weight qs));
-      covers = subst (Covers (weight_of (joined_after q.entries qs))) (sym l) (covers_of (joined_after q.entries qs) (all_some q.entries qs s.0) (all_fit q.entries qs f.0 f.1));
+      covers =
+          subst (Covers (weight_of (joined_after q.entries qs))) (sym l)
+          (covers_of (joined_after q.entries qs) (all_some q.entries qs s.0) (all_fit q.entries qs f.0 f.1));
     }
 
 -- **the bytes of the join are those of the map, in order**
-pub joined_bytes : (p : PoolView) (t : TrainView) (n : ℕ) → IsQueue p t → IsWhole (map_of (fragments p t)) n → Rattle.flat_model.specs.Fragments.Whole.bytes_below (map_of (fragments p t)) n ≡ flat_bytes (joined (queued p t))
-joined_bytes p t n is w = (bytes_are (fragments p t) n is.apart w).0 ∙ (ap bytes_of (fragments_are p t) ∙ sym (queue_bytes (queued p t)))
+pub joined_bytes : (p : PoolView) (t : TrainView) (n : ℕ) → IsQueue p t → IsWhole (map_of (fragments p t)) n
+    → Rattle.flat_model.specs.Fragments.Whole.bytes_below (map_of (fragments p t)) n ≡ flat_bytes (joined (queued p t))
+joined_bytes p t n is w =
+    (bytes_are (fragments p t) n is.apart w).0 ∙ (ap bytes_of (fragments_are p t) ∙ sym (queue_bytes (queued p t)))
 
-pub joined_len : (p : PoolView) (t : TrainView) (n : ℕ) → IsQueue p t → IsWhole (map_of (fragments p t)) n → n ≡ length (flat_bytes (joined (queued p t)))
-joined_len p t n is w = (bytes_are (fragments p t) n is.apart w).1 ∙ ap (λ (xs : List ℕ). length xs) (ap bytes_of (fragments_are p t) ∙ sym (queue_bytes (queued p t)))
+pub joined_len : (p : PoolView) (t : TrainView) (n : ℕ) → IsQueue p t → IsWhole (map_of (fragments p t)) n
+    → n ≡ length (flat_bytes (joined (queued p t)))
+joined_len p t n is w =
+    (bytes_are (fragments p t) n is.apart w).1
+    ∙ ap (λ (xs : List ℕ). length xs) (ap bytes_of (fragments_are p t) ∙ sym (queue_bytes (queued p t)))
 
-pub entries_more : (p q r : PoolView) (t u : TrainView) (c d tag : ℕ) (f : Front) (whole : List Entry) → IsHeld p t → 0 < t.len → chain_of q c ≡ chain_of p c → queued_packet_at p t 0 ≡ record { number = d; entries = (chain_of q d).entries; tag = tag }
-    → queued_packets q u ≡ remove (queued_packets p t) 0 → queued_packets r u ≡ queued_packets q u → Makes (without (without q d) c) r c f (cat (chain_of q c).entries (chain_of q d).entries) → joined_after (chain_of p c).entries (queued p t) ≡ whole → joined_after (chain_of r c).entries (queued r u) ≡ whole
+pub entries_more : (p q r : PoolView) (t u : TrainView) (c d tag : ℕ) (f : Front) (whole : List Entry) → IsHeld p t
+    → 0 < t.len → chain_of q c ≡ chain_of p c
+    → queued_packet_at p t 0 ≡ record { number = d; entries = (chain_of q d).entries; tag = tag }
+    → queued_packets q u ≡ remove (queued_packets p t) 0 → queued_packets r u ≡ queued_packets q u
+    → Makes (without (without q d) c) r c f (cat (chain_of q c).entries (chain_of q d).entries)
+    → joined_after (chain_of p c).entries (queued p t) ≡ whole
+    → joined_after (chain_of r c).entries (queued r u) ≡ whole
 entries_more p q r t u c d tag f whole held some shown taken gone kept made is =
     let first : queued_at (queued p t) 0 ≡ queued_of (queued_packet_at p t 0) = queued_is p t 0 held some in
     let e : (chain_of r c).entries ≡ cat (chain_of p c).entries (queued_at (queued p t) 0).entries =
     made.entries ∙ (λ i. cat (shown i).entries (sym (first ∙ ap queued_of taken) i).entries) in
-    let left : queued r u ≡ remove (queued p t) 0 = ap (map queued_of) (kept ∙ gone) ∙ map-remove queued_of (queued_packets p t) 0 in
-    (λ i. joined_after (e i) (left i)) ∙ (sym (joined_next (chain_of p c).entries (queued p t) (omega (arith, length-queued p t held))) ∙ is)
+    let left : queued r u ≡ remove (queued p t) 0 =
+    ap (map queued_of) (kept ∙ gone) ∙ map-remove queued_of (queued_packets p t) 0 in
+    (λ i. joined_after (e i) (left i))
+    ∙ (sym (joined_next (chain_of p c).entries (queued p t) (omega (arith, length-queued p t held))) ∙ is)

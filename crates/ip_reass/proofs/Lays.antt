@@ -26,7 +26,8 @@ pub record Waits (c : ℕ) (v : ChainView) (q : PoolView) (u : TrainView) : Type
   pub shown : chain_of q c ≡ v
   pub apart : times c (numbers q u) ≡ 0
 
-pub waits : (r q : PoolView) (t u : TrainView) (c : ℕ) (v : ChainView) → IsLive r c → chain_of r c ≡ v → times c (numbers r t) ≡ 0 → Moves r (numbers r t) q (numbers q u) → Waits c v q u
+pub waits : (r q : PoolView) (t u : TrainView) (c : ℕ) (v : ChainView) → IsLive r c → chain_of r c ≡ v
+    → times c (numbers r t) ≡ 0 → Moves r (numbers r t) q (numbers q u) → Waits c v q u
 waits r q t u c v live shown apart moves =
     let same : finmap.get q.chains c ≡ finmap.get r.chains c = moves.others c live apart in
     record {
@@ -39,32 +40,51 @@ insert_at : {X : Type 0} (xs ys : List X) (i : ℕ) (y : X) → length xs ≡ i 
 insert_at xs ys i y l = λ j. take_at xs ys i l j ++ y ∷ drop_at xs ys i l j
 
 -- ---- the new queue
-pub record Settled (p : PoolView) (t : TrainView) (i n c : ℕ) (q : QueuedFragment) (s : PoolView) (w : TrainView) : Type 0 where
+pub record Settled (p : PoolView) (t : TrainView) (i n c : ℕ) (q : QueuedFragment) (s : PoolView) (w : TrainView) : Type
+    0 where
   pub queue_is : queued s w ≡ take i (queued p t) ++ cut n q ∷ cut_to (queued_end q) (drop i (queued p t))
   pub moves : Moves p (c ∷ numbers p t) s (numbers s w)
 
 pub settled : (p r q s : PoolView) (t u w : TrainView) (c i n offset e tag : ℕ) (more : Bool) → i ≤ t.len → IsHeld p t
-    → Changed p t c (record (chain_of p c) { entries = without_first n (chain_of p c).entries }) r → queued q u ≡ take i (queued r t) ++ cut_to e (drop i (queued r t)) → Moves r (numbers r t) q (numbers q u)
-    → e ≡ offset + length (string (chain_of p c)) → tag / 2 ≡ offset + n → eqb (tag % 2) 1 ≡ more → queued_packets s w ≡ insert (queued_packets q u) i (record { number = c; entries = (chain_of q c).entries; tag = tag }) → Moves q (c ∷ numbers q u) s (numbers s w)
+    → Changed p t c (record (chain_of p c) { entries = without_first n (chain_of p c).entries }) r
+    → queued q u ≡ take i (queued r t) ++ cut_to e (drop i (queued r t)) → Moves r (numbers r t) q (numbers q u)
+    → e ≡ offset + length (string (chain_of p c)) → tag / 2 ≡ offset + n → eqb (tag % 2) 1 ≡ more
+    → queued_packets s w ≡ insert (queued_packets q u) i
+    (record { number = c; entries = (chain_of q c).entries; tag = tag }) → Moves q (c ∷ numbers q u) s (numbers s w)
     → Settled p t i n c (arrived p c offset more) s w
 settled p r q s t u w c i n offset e tag more place held change cleared moves ends half odd put goes =
-    let wait : Waits c (record (chain_of p c) { entries = without_first n (chain_of p c).entries }) q u = waits r q t u c (record (chain_of p c) { entries = without_first n (chain_of p c).entries }) change.live change.shown change.apart moves in
+    let wait : Waits c (record (chain_of p c) { entries = without_first n (chain_of p c).entries }) q u =
+    waits r q t u c (record (chain_of p c) { entries = without_first n (chain_of p c).entries }) change.live
+    change.shown change.apart moves in
     let same : queued r t ≡ queued p t = ap (map queued_of) change.queued_packets_are in
-    let long : length (take i (queued p t)) ≡ i = length-take-le i (queued p t) (omega (arith, length-queued p t held)) in
-    let mine : queued_of (record { number = c; entries = (chain_of q c).entries; tag = tag }) ≡ cut n (arrived p c offset more) = λ j. record { offset = half j; more = odd j; entries = (wait.shown j).entries } in
+    let long : length (take i (queued p t)) ≡ i =
+    length-take-le i (queued p t) (omega (arith, length-queued p t held)) in
+    let mine : queued_of (record { number = c; entries = (chain_of q c).entries; tag = tag })
+    ≡ cut n (arrived p c offset more) =
+    λ j. record { offset = half j; more = odd j; entries = (wait.shown j).entries } in
     record {
       queue_is =
           ap (map queued_of) put ∙ (map-insert queued_of (queued_packets q u) i _
           ∙ ((λ j. insert ((cleared ∙ λ k. take i (same k) ++ cut_to (ends k) (drop i (same k))) j) i (mine j))
-          ∙ insert_at (take i (queued p t)) (cut_to (offset + length (string (chain_of p c))) (drop i (queued p t))) i _ long));
-      moves = moves_trans change.moves (moves_trans (moves_beside (c ∷ numbers r t) (c ∷ numbers q u) (c ∷ []) moves (λ k. omega arith) (λ k. omega arith)) goes);
+          ∙ insert_at (take i (queued p t)) (cut_to (offset + length (string (chain_of p c))) (drop i (queued p t))) i _
+          long));
+      moves =
+          moves_trans change.moves (moves_trans
+          (moves_beside (c ∷ numbers r t) (c ∷ numbers q u) (c ∷ []) moves (λ k. omega arith) (λ k. omega arith)) goes);
     }
 
 -- ---- the same of the fragments
 pub fragment_cut : (n : ℕ) (q : QueuedFragment) → fragment_of (cut n q) ≡ trimmed n (fragment_of q)
-fragment_cut n q = λ i. record { offset = q.offset + n; bytes = without_first_bytes n q.entries i; more = q.more; weight = weight_trimmed n q.entries i }
+fragment_cut n q =
+    λ i. record {
+      offset = q.offset + n;
+      bytes = without_first_bytes n q.entries i;
+      more = q.more;
+      weight = weight_trimmed n q.entries i;
+    }
 
-map-cond : (b : Bool) (xs ys : List QueuedFragment) → map fragment_of (cond b xs ys) ≡ cond b (map fragment_of xs) (map fragment_of ys)
+map-cond : (b : Bool) (xs ys : List QueuedFragment)
+    → map fragment_of (cond b xs ys) ≡ cond b (map fragment_of xs) (map fragment_of ys)
 map-cond true xs ys = refl
 map-cond false xs ys = refl
 
@@ -74,25 +94,32 @@ map-cut_to e (q ∷ qs) =
     map-cond _ (q ∷ qs) _
     ∙ (λ i. cond (Rattle.std.proofs.Common.leb e q.offset) (map fragment_of (q ∷ qs))
     ((map-cond _ (cut_to e qs) (cut (e - q.offset) q ∷ qs)
-    ∙ (λ j. cond (Rattle.std.proofs.Common.leb (queued_end q) e) (map-cut_to e qs j) (fragment_cut (e - q.offset) q j ∷ map fragment_of qs))) i))
+    ∙ (λ j. cond (Rattle.std.proofs.Common.leb (queued_end q) e) (map-cut_to e qs j)
+    (fragment_cut (e - q.offset) q j ∷ map fragment_of qs))) i))
 
 pub map-settled : (i n e : ℕ) (q : QueuedFragment) (qs : List QueuedFragment)
-    → map fragment_of (take i qs ++ cut n q ∷ cut_to e (drop i qs)) ≡ take i (map fragment_of qs) ++ trimmed n (fragment_of q) ∷ left_from e (drop i (map fragment_of qs))
+    → map fragment_of (take i qs ++ cut n q ∷ cut_to e (drop i qs))
+    ≡ take i (map fragment_of qs) ++ trimmed n (fragment_of q) ∷ left_from e (drop i (map fragment_of qs))
 map-settled i n e q qs =
     map-append fragment_of (take i qs) (cut n q ∷ cut_to e (drop i qs))
-    ∙ (λ j. sym (take-map fragment_of i qs) j ++ fragment_cut n q j ∷ (map-cut_to e (drop i qs) ∙ ap (left_from e) (sym (drop-map fragment_of i qs))) j)
+    ∙ (λ j. sym (take-map fragment_of i qs) j ++ fragment_cut n q j
+    ∷ (map-cut_to e (drop i qs) ∙ ap (left_from e) (sym (drop-map fragment_of i qs))) j)
 
 -- what the code makes of a queue is what is laid
-pub laid_list : (low i : ℕ) (q : QueuedFragment) (qs : List QueuedFragment) → AllUpto q.offset (take i (map fragment_of qs)) → AllAbove q.offset (drop i (map fragment_of qs))
-    → take i qs ++ cut (reach low (take i (map fragment_of qs)) - q.offset) q ∷ cut_to (queued_end q) (drop i qs) ≡ laid_after low q qs
+pub laid_list : (low i : ℕ) (q : QueuedFragment) (qs : List QueuedFragment)
+    → AllUpto q.offset (take i (map fragment_of qs)) → AllAbove q.offset (drop i (map fragment_of qs))
+    → take i qs ++ cut (reach low (take i (map fragment_of qs)) - q.offset) q ∷ cut_to (queued_end q) (drop i qs)
+    ≡ laid_after low q qs
 laid_list low zero q [] u a = refl
 laid_list low (suc i) q [] u a = refl
 laid_list low zero q (r ∷ rs) u a = sym (cond-false _ _ _ (lt-leb r.offset q.offset a.0))
 laid_list low (suc i) q (r ∷ rs) u a =
-    ap (λ (xs : List QueuedFragment). r ∷ xs) (laid_list (queued_end r) i q rs u.1 a) ∙ sym (cond-true _ _ _ (le-leb r.offset q.offset u.0))
+    ap (λ (xs : List QueuedFragment). r ∷ xs) (laid_list (queued_end r) i q rs u.1 a)
+    ∙ sym (cond-true _ _ _ (le-leb r.offset q.offset u.0))
 
 -- ---- the new train
-pub around : (p : PoolView) (t : TrainView) (a i : ℕ) → IsQueue p t → AllUpto a (take i (fragments p t)) → AllAbove a (drop i (fragments p t)) → Around a (take i (fragments p t)) (drop i (fragments p t))
+pub around : (p : PoolView) (t : TrainView) (a i : ℕ) → IsQueue p t → AllUpto a (take i (fragments p t))
+    → AllAbove a (drop i (fragments p t)) → Around a (take i (fragments p t)) (drop i (fragments p t))
 around p t a i is upto above =
     let whole : take i (fragments p t) ++ drop i (fragments p t) ≡ fragments p t = take-append-drop i (fragments p t) in
     let order : Apart 0 (take i (fragments p t) ++ drop i (fragments p t)) = subst (Apart 0) (sym whole) is.apart in
@@ -104,10 +131,14 @@ around p t a i is upto above =
     }
 
 -- the fragments then
-pub made_is : (p s : PoolView) (t w : TrainView) (i n c : ℕ) (q : QueuedFragment) → Settled p t i n c q s w → fragments s w ≡ take i (fragments p t) ++ trimmed n (fragment_of q) ∷ left_from (queued_end q) (drop i (fragments p t))
+pub made_is : (p s : PoolView) (t w : TrainView) (i n c : ℕ) (q : QueuedFragment) → Settled p t i n c q s w
+    → fragments s w ≡ take i (fragments p t) ++ trimmed n (fragment_of q)
+    ∷ left_from (queued_end q) (drop i (fragments p t))
 made_is p s t w i n c q done =
     let same : map fragment_of (queued p t) ≡ fragments p t = sym (fragments_are p t) in
-    fragments_are s w ∙ (ap (map fragment_of) done.queue_is ∙ (map-settled i n (queued_end q) q (queued p t) ∙ (λ j. take i (same j) ++ trimmed n (fragment_of q) ∷ left_from (queued_end q) (drop i (same j)))))
+    fragments_are s w ∙ (ap (map fragment_of) done.queue_is
+    ∙ (map-settled i n (queued_end q) q (queued p t)
+    ∙ (λ j. take i (same j) ++ trimmed n (fragment_of q) ∷ left_from (queued_end q) (drop i (same j)))))
 
 pub record Laid (p : PoolView) (t : TrainView) (q : QueuedFragment) (s : PoolView) (w : TrainView) : Type 0 where
   pub covered : is_covered (map_of (fragments p t)) (fragment_of q) ≡ false
@@ -116,8 +147,10 @@ pub record Laid (p : PoolView) (t : TrainView) (q : QueuedFragment) (s : PoolVie
   pub apart : Apart 0 (fragments s w)
   pub small : AllEnd 65515 (fragments s w)
 
-pub laid_in : (p s : PoolView) (t w : TrainView) (i n c : ℕ) (q : QueuedFragment) → IsQueue p t → AllUpto q.offset (take i (fragments p t)) → AllAbove q.offset (drop i (fragments p t))
-    → n ≡ reach 0 (take i (fragments p t)) - q.offset → n < length (flat_bytes q.entries) → queued_end q ≤ 65515 → Settled p t i n c q s w → Laid p t q s w
+pub laid_in : (p s : PoolView) (t w : TrainView) (i n c : ℕ) (q : QueuedFragment) → IsQueue p t
+    → AllUpto q.offset (take i (fragments p t)) → AllAbove q.offset (drop i (fragments p t))
+    → n ≡ reach 0 (take i (fragments p t)) - q.offset → n < length (flat_bytes q.entries) → queued_end q ≤ 65515
+    → Settled p t i n c q s w → Laid p t q s w
 laid_in p s t w i n c q is upto above n_is some fits done =
     let f : Fragment = fragment_of q in
     let xs : List Fragment = take i (fragments p t) in
@@ -125,17 +158,33 @@ laid_in p s t w i n c q is upto above n_is some fits done =
     let w' : Around q.offset (take i (fragments p t)) (drop i (fragments p t)) = around p t q.offset i is upto above in
     let whole : take i (fragments p t) ++ drop i (fragments p t) ≡ fragments p t = take-append-drop i (fragments p t) in
     let same : map fragment_of (queued p t) ≡ fragments p t = sym (fragments_are p t) in
-    let made : fragments s w ≡ take i (fragments p t) ++ trimmed n (fragment_of q) ∷ left_from (queued_end q) (drop i (fragments p t)) = made_is p s t w i n c q done in
+    let made : fragments s w ≡ take i (fragments p t) ++ trimmed n (fragment_of q)
+    ∷ left_from (queued_end q) (drop i (fragments p t)) = made_is p s t w i n c q done in
     record {
-      covered = ap (λ (zs : List Fragment). is_covered (map_of zs) (fragment_of q)) (sym whole) ∙ covered_no (fragment_of q) (take i (fragments p t)) (drop i (fragments p t)) w' (omega arith);
-      map_is = ap map_of made ∙ (laid_is (fragment_of q) (take i (fragments p t)) (drop i (fragments p t)) w' n n_is some ∙ ap (λ (zs : List Fragment). overlay (map_of zs) (fragment_of q)) whole);
+      covered =
+          ap (λ (zs : List Fragment). is_covered (map_of zs) (fragment_of q)) (sym whole)
+          ∙ covered_no (fragment_of q) (take i (fragments p t)) (drop i (fragments p t)) w' (omega arith);
+      map_is =
+          ap map_of made ∙ (laid_is (fragment_of q) (take i (fragments p t)) (drop i (fragments p t)) w' n n_is some
+          ∙ ap (λ (zs : List Fragment). overlay (map_of zs) (fragment_of q)) whole);
       queue_is =
           done.queue_is
-          ∙ (ap (λ (m : ℕ). take i (queued p t) ++ cut m q ∷ cut_to (queued_end q) (drop i (queued p t))) (n_is ∙ ap (λ (fs : List Fragment). reach 0 (take i fs) - q.offset) (sym same))
-          ∙ laid_list 0 i q (queued p t) (subst (λ (fs : List Fragment). AllUpto q.offset (take i fs)) (sym same) upto) (subst (λ (fs : List Fragment). AllAbove q.offset (drop i fs)) (sym same) above));
-      apart = subst (Apart 0) (sym made) (laid_apart (fragment_of q) (take i (fragments p t)) (drop i (fragments p t)) w' n n_is some);
-      small = subst (AllEnd 65515) (sym made) (AllEnd-append 65515 (take i (fragments p t)) (trimmed n (fragment_of q) ∷ left_from (queued_end q) (drop i (fragments p t))) (AllEnd-take 65515 i (fragments p t) is.small)
-          (omega (arith, end_trimmed n (fragment_of q) (omega arith)), AllEnd-left_from 65515 (queued_end q) (drop i (fragments p t)) (AllEnd-drop 65515 i (fragments p t) is.small)));
+          ∙ (ap (λ (m : ℕ). take i (queued p t) ++ cut m q ∷ cut_to (queued_end q) (drop i (queued p t)))
+          (n_is ∙ ap (λ (fs : List Fragment). reach 0 (take i fs) - q.offset) (sym same))
+          ∙ laid_list 0 i q (queued p t) (subst (λ (fs : List Fragment). AllUpto q.offset (take i fs)) (sym same) upto)
+          (subst (λ (fs : List Fragment). AllAbove q.offset (drop i fs)) (sym same) above));
+      apart =
+          subst (Apart 0) (sym made) (laid_apart (fragment_of q) (take i (fragments p t)) (drop i (fragments p t)) w' n
+          n_is some);
+      small =
+          subst (AllEnd 65515) (sym made)
+          (AllEnd-append 65515 (take i (fragments p t))
+          (trimmed n (fragment_of q) ∷ left_from (queued_end q) (drop i (fragments p t)))
+          (AllEnd-take 65515 i (fragments p t) is.small) (
+            omega (arith, end_trimmed n (fragment_of q) (omega arith)),
+            AllEnd-left_from 65515 (queued_end q) (drop i (fragments p t))
+                (AllEnd-drop 65515 i (fragments p t) is.small),
+          ));
     }
 
 -- ---- after all others
@@ -157,21 +206,32 @@ cut_none q =
     let z : q.offset + 0 ≡ q.offset = omega arith in
     λ j. record { offset = z j; more = q.more; entries = without_none q.entries j }
 
-pub appended : (p s : PoolView) (t w : TrainView) (c i offset tag : ℕ) (more : Bool) → i ≡ t.len → IsHeld p t → tag / 2 ≡ offset → eqb (tag % 2) 1 ≡ more
-    → queued_packets s w ≡ insert (queued_packets p t) i (record { number = c; entries = (chain_of p c).entries; tag = tag }) → Moves p (c ∷ numbers p t) s (numbers s w)
+pub appended : (p s : PoolView) (t w : TrainView) (c i offset tag : ℕ) (more : Bool) → i ≡ t.len → IsHeld p t
+    → tag / 2 ≡ offset → eqb (tag % 2) 1 ≡ more
+    → queued_packets s w ≡ insert (queued_packets p t) i
+    (record { number = c; entries = (chain_of p c).entries; tag = tag }) → Moves p (c ∷ numbers p t) s (numbers s w)
     → Settled p t t.len 0 c (arrived p c offset more) s w
 appended p s t w c i offset tag more is_i held half odd put goes =
     let f : QueuedFragment = arrived p c offset more in
     let l : length (queued p t) ≡ t.len = length-queued p t held in
     let long : length (take t.len (queued p t)) ≡ t.len = length-take-le t.len (queued p t) (omega (arith, l)) in
     let none : drop t.len (queued p t) ≡ [] = drop_all t.len (queued p t) (omega (arith, l)) in
-    let mine : queued_of (record { number = c; entries = (chain_of p c).entries; tag = tag }) ≡ cut 0 (arrived p c offset more) = (λ j. record { offset = half j; more = odd j; entries = (chain_of p c).entries }) ∙ sym (cut_none (arrived p c offset more)) in
+    let mine : queued_of (record { number = c; entries = (chain_of p c).entries; tag = tag })
+    ≡ cut 0 (arrived p c offset more) =
+    (λ j. record { offset = half j; more = odd j; entries = (chain_of p c).entries })
+    ∙ sym (cut_none (arrived p c offset more)) in
     record {
       queue_is =
-          ap (map queued_of) (put ∙ ap (λ (n : ℕ). insert (queued_packets p t) n (record { number = c; entries = (chain_of p c).entries; tag = tag })) is_i) ∙ (map-insert queued_of (queued_packets p t) t.len _
+          ap (map queued_of) (put ∙ ap (λ (n : ℕ). insert (queued_packets p t) n
+          (record {
+            number = c;
+            entries = (chain_of p c).entries;
+            tag = tag;
+          })) is_i) ∙ (map-insert queued_of (queued_packets p t) t.len _
           ∙ ((λ j. insert (sym (take-append-drop t.len (queued p t)) j) t.len (mine j))
           ∙ (insert_at (take t.len (queued p t)) (drop t.len (queued p t)) t.len (cut 0 (arrived p c offset more)) long
-          ∙ ap (λ (rest : List QueuedFragment). take t.len (queued p t) ++ cut 0 (arrived p c offset more) ∷ rest) (none ∙ sym (ap (cut_to (queued_end (arrived p c offset more))) none)))));
+          ∙ ap (λ (rest : List QueuedFragment). take t.len (queued p t) ++ cut 0 (arrived p c offset more) ∷ rest)
+          (none ∙ sym (ap (cut_to (queued_end (arrived p c offset more))) none)))));
       moves = goes;
     }
 
@@ -181,15 +241,26 @@ pub record IsLast (s : PoolView) (w : TrainView) (i : ℕ) (f : Fragment) : Type
   pub more : (fragment_at (fragments s w) i).more ≡ f.more
   pub end : reach 0 (fragments s w) ≡ end_of f
 
-pub is_last : (p s : PoolView) (t w : TrainView) (i c : ℕ) (q : QueuedFragment) → IsHeld p t → i ≡ t.len → Settled p t i 0 c q s w → IsLast s w i (fragment_of q)
+pub is_last : (p s : PoolView) (t w : TrainView) (i c : ℕ) (q : QueuedFragment) → IsHeld p t → i ≡ t.len
+    → Settled p t i 0 c q s w → IsLast s w i (fragment_of q)
 is_last p s t w i c q held is_i done =
     let l : length (fragments p t) ≡ i = length-fragments p t held ∙ sym is_i in
     let none : drop i (fragments p t) ≡ [] = drop_all i (fragments p t) (omega (arith, l)) in
     let long : length (take i (fragments p t)) ≡ i = length-take-le i (fragments p t) (omega (arith, l)) in
     let made : fragments s w ≡ take i (fragments p t) ++ trimmed 0 (fragment_of q) ∷ [] =
-    made_is p s t w i 0 c q done ∙ ap (λ (ys : List Fragment). take i (fragments p t) ++ trimmed 0 (fragment_of q) ∷ left_from (queued_end q) ys) none in
-    let at : fragment_at (fragments s w) i ≡ trimmed 0 (fragment_of q) = ap (λ (fs : List Fragment). fragment_at fs i) made ∙ last_here (take i (fragments p t)) (trimmed 0 (fragment_of q)) i (sym long) in
-    let len : i + 1 ≡ length (fragments s w) = omega (arith, long, ap (λ (fs : List Fragment). length fs) made, length-append (take i (fragments p t)) (trimmed 0 (fragment_of q) ∷ [])) in
+    made_is p s t w i 0 c q done ∙ ap
+    (λ (ys : List Fragment). take i (fragments p t) ++ trimmed 0 (fragment_of q) ∷ left_from (queued_end q) ys) none
+    in
+    let at : fragment_at (fragments s w) i ≡ trimmed 0 (fragment_of q) =
+    ap (λ (fs : List Fragment). fragment_at fs i) made
+    ∙ last_here (take i (fragments p t)) (trimmed 0 (fragment_of q)) i (sym long) in
+    let len : i + 1 ≡ length (fragments s w) =
+    omega (
+      arith,
+      long,
+      ap (λ (fs : List Fragment). length fs) made,
+      length-append (take i (fragments p t)) (trimmed 0 (fragment_of q) ∷ []),
+    ) in
     record {
       len = len;
       more = ap (λ (f : Fragment). f.more) at;
@@ -197,7 +268,9 @@ is_last p s t w i c q held is_i done =
     }
 
 -- the fragments reach as far as before
-pub reaches : (p s : PoolView) (t w : TrainView) (i n c : ℕ) (q : QueuedFragment) → n ≡ reach 0 (take i (fragments p t)) - q.offset → n < length (flat_bytes q.entries) → Settled p t i n c q s w → reach 0 (fragments p t) ≤ reach 0 (fragments s w)
+pub reaches : (p s : PoolView) (t w : TrainView) (i n c : ℕ) (q : QueuedFragment)
+    → n ≡ reach 0 (take i (fragments p t)) - q.offset → n < length (flat_bytes q.entries) → Settled p t i n c q s w
+    → reach 0 (fragments p t) ≤ reach 0 (fragments s w)
 reaches p s t w i n c q is some done =
     omega (
       arith,
@@ -218,15 +291,20 @@ queue_same p r t b is =
     let e : fragments r t ≡ fragments p t = ap (map fragment_in) b.queued_packets in
     record { held = b.held; apart = subst (Apart 0) (sym e) is.apart; small = subst (AllEnd 65515) (sym e) is.small }
 
-pub covered_in : (p r : PoolView) (t : TrainView) (i c : ℕ) (f : Fragment) → IsQueue p t → IsLive p c → times c (numbers p t) ≡ 0 → AllUpto f.offset (take i (fragments p t)) → AllAbove f.offset (drop i (fragments p t))
+pub covered_in : (p r : PoolView) (t : TrainView) (i c : ℕ) (f : Fragment) → IsQueue p t → IsLive p c
+    → times c (numbers p t) ≡ 0 → AllUpto f.offset (take i (fragments p t)) → AllAbove f.offset (drop i (fragments p t))
     → length f.bytes ≤ reach 0 (take i (fragments p t)) - f.offset → r ≡ without p c → Covered p t c f r
 covered_in p r t i c f is live apart upto above none gone =
     let b : Beside p r t = beside_without p r c t gone apart is.held in
     let w' : Around f.offset (take i (fragments p t)) (drop i (fragments p t)) = around p t f.offset i is upto above in
     let whole : take i (fragments p t) ++ drop i (fragments p t) ≡ fragments p t = take-append-drop i (fragments p t) in
     record {
-      covered = ap (λ (zs : List Fragment). is_covered (map_of zs) f) (sym whole) ∙ covered_yes f (take i (fragments p t)) (drop i (fragments p t)) w' none;
+      covered =
+          ap (λ (zs : List Fragment). is_covered (map_of zs) f) (sym whole)
+          ∙ covered_yes f (take i (fragments p t)) (drop i (fragments p t)) w' none;
       queue_is = ap (map queued_of) b.queued_packets;
       is = queue_same p r t b is;
-      moves = moves_beside (c ∷ numbers p t) (numbers r t) (numbers p t) (moves_without p r c live gone) (λ k. omega arith) (λ k. omega (arith, ap (times k) b.numbers));
+      moves =
+          moves_beside (c ∷ numbers p t) (numbers r t) (numbers p t) (moves_without p r c live gone) (λ k. omega arith)
+          (λ k. omega (arith, ap (times k) b.numbers));
     }

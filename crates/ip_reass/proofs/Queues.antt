@@ -29,7 +29,8 @@ use Rattle.ip_reass.proofs.Aging.{lent}
 use Rattle.ip_reass.proofs.Arriving.{slice_at}
 
 -- ---- by key and by place
-none_in : (p : PoolView) (k : Key) (ds : List Datagram) → find (has_key k) ds ≡ None → find (goes_by k) (queues p ds) ≡ None
+none_in : (p : PoolView) (k : Key) (ds : List Datagram) → find (has_key k) ds ≡ None
+    → find (goes_by k) (queues p ds) ≡ None
 none_in p k [] e = refl
 none_in p k (d ∷ ds) e = elim (cases_Bool (has_key k d)) [
   | inl is ↦ absurd (none-some d (sym e ∙ cond-true _ _ _ is))
@@ -37,11 +38,13 @@ none_in p k (d ∷ ds) e = elim (cases_Bool (has_key k d)) [
 ]
 
 module _ (k : Key) (f : QueuedFragment) where
-  laid_none : (qs : List KeyedQueue) → find (goes_by k) qs ≡ None → laid_under k f qs ≡ qs ++ with_laid f (record { key = k; fragments = [] }) ∷ []
+  laid_none : (qs : List KeyedQueue) → find (goes_by k) qs ≡ None
+      → laid_under k f qs ≡ qs ++ with_laid f (record { key = k; fragments = [] }) ∷ []
   laid_none [] e = refl
   laid_none (q ∷ qs) e = elim (cases_Bool (goes_by k q)) [
     | inl is ↦ absurd (none-some q (sym e ∙ cond-true _ _ _ is))
-    | inr is ↦ cond-false _ _ _ is ∙ ap (λ (rs : List KeyedQueue). q ∷ rs) (laid_none qs (sym (cond-false _ _ _ is) ∙ e))
+    | inr is ↦ cond-false _ _ _ is
+        ∙ ap (λ (rs : List KeyedQueue). q ∷ rs) (laid_none qs (sym (cond-false _ _ _ is) ∙ e))
   ]
 
   under_none : (qs : List KeyedQueue) → find (goes_by k) qs ≡ None → under k qs ≡ []
@@ -55,18 +58,22 @@ module _ (k : Key) (f : QueuedFragment) where
   without_none [] e = refl
   without_none (q ∷ qs) e = elim (cases_Bool (goes_by k q)) [
     | inl is ↦ absurd (none-some q (sym e ∙ cond-true _ _ _ is))
-    | inr is ↦ cond-false _ _ _ is ∙ ap (λ (rs : List KeyedQueue). q ∷ rs) (without_none qs (sym (cond-false _ _ _ is) ∙ e))
+    | inr is ↦ cond-false _ _ _ is
+        ∙ ap (λ (rs : List KeyedQueue). q ∷ rs) (without_none qs (sym (cond-false _ _ _ is) ∙ e))
   ]
 
-  laid_here : (qs : List KeyedQueue) (i : ℕ) → i < length qs → find (goes_by k) (take i qs) ≡ None → goes_by k (queue_at qs i) ≡ true → laid_under k f qs ≡ set qs i (with_laid f (queue_at qs i))
+  laid_here : (qs : List KeyedQueue) (i : ℕ) → i < length qs → find (goes_by k) (take i qs) ≡ None
+      → goes_by k (queue_at qs i) ≡ true → laid_under k f qs ≡ set qs i (with_laid f (queue_at qs i))
   laid_here [] i l n e = absurd (omega arith)
   laid_here (q ∷ qs) zero l n e = cond-true _ _ _ e
   laid_here (q ∷ qs) (suc i) l n e = elim (cases_Bool (goes_by k q)) [
     | inl is ↦ absurd (none-some q (sym n ∙ cond-true _ _ _ is))
-    | inr is ↦ cond-false _ _ _ is ∙ ap (λ (rs : List KeyedQueue). q ∷ rs) (laid_here qs i (omega arith) (sym (cond-false _ _ _ is) ∙ n) e)
+    | inr is ↦ cond-false _ _ _ is
+        ∙ ap (λ (rs : List KeyedQueue). q ∷ rs) (laid_here qs i (omega arith) (sym (cond-false _ _ _ is) ∙ n) e)
   ]
 
-  under_here : (qs : List KeyedQueue) (i : ℕ) → i < length qs → find (goes_by k) (take i qs) ≡ None → goes_by k (queue_at qs i) ≡ true → under k qs ≡ (queue_at qs i).fragments
+  under_here : (qs : List KeyedQueue) (i : ℕ) → i < length qs → find (goes_by k) (take i qs) ≡ None
+      → goes_by k (queue_at qs i) ≡ true → under k qs ≡ (queue_at qs i).fragments
   under_here [] i l n e = absurd (omega arith)
   under_here (q ∷ qs) zero l n e = cond-true _ _ _ e
   under_here (q ∷ qs) (suc i) l n e = elim (cases_Bool (goes_by k q)) [
@@ -74,27 +81,39 @@ module _ (k : Key) (f : QueuedFragment) where
     | inr is ↦ cond-false _ _ _ is ∙ under_here qs i (omega arith) (sym (cond-false _ _ _ is) ∙ n) e
   ]
 
-  without_here : (qs : List KeyedQueue) (i : ℕ) → i < length qs → find (goes_by k) (take i qs) ≡ None → goes_by k (queue_at qs i) ≡ true → without_key k qs ≡ remove qs i
+  without_here : (qs : List KeyedQueue) (i : ℕ) → i < length qs → find (goes_by k) (take i qs) ≡ None
+      → goes_by k (queue_at qs i) ≡ true → without_key k qs ≡ remove qs i
   without_here [] i l n e = absurd (omega arith)
   without_here (q ∷ qs) zero l n e = cond-true _ _ _ e
   without_here (q ∷ qs) (suc i) l n e = elim (cases_Bool (goes_by k q)) [
     | inl is ↦ absurd (none-some q (sym n ∙ cond-true _ _ _ is))
-    | inr is ↦ cond-false _ _ _ is ∙ ap (λ (rs : List KeyedQueue). q ∷ rs) (without_here qs i (omega arith) (sym (cond-false _ _ _ is) ∙ n) e)
+    | inr is ↦ cond-false _ _ _ is
+        ∙ ap (λ (rs : List KeyedQueue). q ∷ rs) (without_here qs i (omega arith) (sym (cond-false _ _ _ is) ∙ n) e)
   ]
 
 -- what is left by place is what is left by key, where the first queue with the key stands there
-leaves_here : (k : Key) (f : QueuedFragment) (qs : List KeyedQueue) (i : ℕ) (q : PoolView) (result : Arrival) (now : List KeyedQueue) → i < length qs → find (goes_by k) (take i qs) ≡ None → goes_by k (queue_at qs i) ≡ true → LeavesAt i f qs q result now → Leaves k f qs q result now
+leaves_here : (k : Key) (f : QueuedFragment) (qs : List KeyedQueue) (i : ℕ) (q : PoolView) (result : Arrival)
+    (now : List KeyedQueue) → i < length qs → find (goes_by k) (take i qs) ≡ None → goes_by k (queue_at qs i) ≡ true
+    → LeavesAt i f qs q result now → Leaves k f qs q result now
 leaves_here k f qs i q Kept now l n e h = h ∙ sym (laid_here k f qs i l n e)
-leaves_here k f qs i q (Whole c x) now l n e h = (h.0 ∙ ap (λ (fs : List QueuedFragment). joined (laid f fs)) (sym (under_here k f qs i l n e)), h.1 ∙ sym (without_here k f qs i l n e))
+leaves_here k f qs i q (Whole c x) now l n e h = (
+  h.0 ∙ ap (λ (fs : List QueuedFragment). joined (laid f fs)) (sym (under_here k f qs i l n e)),
+  h.1
+      ∙ sym (without_here k f qs i l n e),
+)
 leaves_here k f qs i q (Dropped why) now l n e h = h.0
 
 -- and so is the cause
-cause_here : (k : Key) (f : QueuedFragment) (qs : List KeyedQueue) (i : ℕ) (q : PoolView) (result : Arrival) (now : List KeyedQueue) → i < length qs → find (goes_by k) (take i qs) ≡ None → goes_by k (queue_at qs i) ≡ true → LeavesAt i f qs q result now
+cause_here : (k : Key) (f : QueuedFragment) (qs : List KeyedQueue) (i : ℕ) (q : PoolView) (result : Arrival)
+    (now : List KeyedQueue) → i < length qs → find (goes_by k) (take i qs) ≡ None → goes_by k (queue_at qs i) ≡ true
+    → LeavesAt i f qs q result now
     → HasCause FragmentDropped result → HasCause (cause_among (under k now) f) result
 cause_here k f qs i q Kept now l n e h is = tt
 cause_here k f qs i q (Whole c x) now l n e h is = tt
 cause_here k f qs i q (Dropped why) now l n e h is =
-    is ∙ sym (cond-true _ _ _ ((λ j. is_covered (map_of (map fragment_of (under k (h.0 j)))) (fragment_of f)) ∙ (ap (λ (fs : List QueuedFragment). is_covered (map_of (map fragment_of fs)) (fragment_of f)) (under_here k f qs i l n e) ∙ h.1)))
+    is ∙ sym (cond-true _ _ _ ((λ j. is_covered (map_of (map fragment_of (under k (h.0 j)))) (fragment_of f))
+    ∙ (ap (λ (fs : List QueuedFragment). is_covered (map_of (map fragment_of fs)) (fragment_of f))
+    (under_here k f qs i l n e) ∙ h.1)))
 
 -- and where a new one stands after the others
 set_end : {X : Type 0} (xs : List X) (x y : X) → set (xs ++ x ∷ []) (length xs) y ≡ xs ++ y ∷ []
@@ -110,30 +129,43 @@ gone_end [] x = refl
 gone_end (z ∷ zs) x = ap (λ ws. z ∷ ws) (gone_end zs x)
 
 none_covers : (f : QueuedFragment) → 0 < length (fragment_of f).bytes → is_covered (map_of []) (fragment_of f) ≡ false
-none_covers f l = covered_no (fragment_of f) [] [] (record { before = tt; after = tt; upto = tt; above = tt }) (omega arith)
+none_covers f l =
+    covered_no (fragment_of f) [] [] (record { before = tt; after = tt; upto = tt; above = tt }) (omega arith)
 
-leaves_new : (k : Key) (f : QueuedFragment) (qs : List KeyedQueue) (q : PoolView) (result : Arrival) (now : List KeyedQueue) → 0 < length (fragment_of f).bytes → find (goes_by k) qs ≡ None
+leaves_new : (k : Key) (f : QueuedFragment) (qs : List KeyedQueue) (q : PoolView) (result : Arrival)
+    (now : List KeyedQueue) → 0 < length (fragment_of f).bytes → find (goes_by k) qs ≡ None
     → LeavesAt (length qs) f (qs ++ record { key = k; fragments = [] } ∷ []) q result now → Leaves k f qs q result now
 leaves_new k f qs q Kept now l n h =
-    h ∙ ((λ j. set (qs ++ record { key = k; fragments = [] } ∷ []) (length qs) (with_laid f (at_end qs (record { key = k; fragments = [] }) no_queue j)))
-    ∙ (set_end qs (record { key = k; fragments = [] }) (with_laid f (record { key = k; fragments = [] })) ∙ sym (laid_none k f qs n)))
+    h ∙ ((λ j. set (qs ++ record { key = k; fragments = [] } ∷ []) (length qs)
+    (with_laid f (at_end qs (record { key = k; fragments = [] }) no_queue j)))
+    ∙ (set_end qs (record { key = k; fragments = [] }) (with_laid f (record { key = k; fragments = [] }))
+    ∙ sym (laid_none k f qs n)))
 leaves_new k f qs q (Whole c x) now l n h = (
-  h.0 ∙ ((λ j. joined (laid f (at_end qs (record { key = k; fragments = [] }) no_queue j).fragments)) ∙ ap (λ (fs : List QueuedFragment). joined (laid f fs)) (sym (under_none k f qs n))),
+  h.0 ∙ ((λ j. joined (laid f (at_end qs (record { key = k; fragments = [] }) no_queue j).fragments))
+      ∙ ap (λ (fs : List QueuedFragment). joined (laid f fs)) (sym (under_none k f qs n))),
   h.1 ∙ (gone_end qs (record { key = k; fragments = [] }) ∙ sym (without_none k f qs n)),
 )
 leaves_new k f qs q (Dropped why) now l n h =
-    absurd (false≢true (sym (none_covers f l) ∙ (λ j. is_covered (map_of (map fragment_of (sym (at_end qs (record { key = k; fragments = [] }) no_queue) j).fragments)) (fragment_of f)) ∙ h.1))
+    absurd (false≢true (sym (none_covers f l)
+    ∙ (λ j. is_covered (map_of (map fragment_of
+    (sym (at_end qs (record { key = k; fragments = [] }) no_queue) j).fragments)) (fragment_of f)) ∙ h.1))
 
 -- a fragment with bytes is laid in a new queue
-cause_new : (cause : Why) (k : Key) (f : QueuedFragment) (qs : List KeyedQueue) (q : PoolView) (result : Arrival) (now : List KeyedQueue) → 0 < length (fragment_of f).bytes → LeavesAt (length qs) f (qs ++ record { key = k; fragments = [] } ∷ []) q result now → HasCause cause result
+cause_new : (cause : Why) (k : Key) (f : QueuedFragment) (qs : List KeyedQueue) (q : PoolView) (result : Arrival)
+    (now : List KeyedQueue) → 0 < length (fragment_of f).bytes
+    → LeavesAt (length qs) f (qs ++ record { key = k; fragments = [] } ∷ []) q result now → HasCause cause result
 cause_new cause k f qs q Kept now l h = tt
 cause_new cause k f qs q (Whole c x) now l h = tt
 cause_new cause k f qs q (Dropped why) now l h =
-    absurd (false≢true (sym (none_covers f l) ∙ (λ j. is_covered (map_of (map fragment_of (sym (at_end qs (record { key = k; fragments = [] }) no_queue) j).fragments)) (fragment_of f)) ∙ h.1))
+    absurd (false≢true (sym (none_covers f l)
+    ∙ (λ j. is_covered (map_of (map fragment_of
+    (sym (at_end qs (record { key = k; fragments = [] }) no_queue) j).fragments)) (fragment_of f)) ∙ h.1))
 
 -- **where nothing waits, a fragment with bytes ended for want of an mbuf**
-pub cause_lacking : (k : Key) (f : QueuedFragment) (now : List KeyedQueue) → 0 < length (fragment_of f).bytes → now ≡ [] → NoBufs ≡ cause_among (under k now) f
-cause_lacking k f now l e = sym (ap (λ (qs : List KeyedQueue). cause_among (under k qs) f) e ∙ cond-false _ _ _ (none_covers f l))
+pub cause_lacking : (k : Key) (f : QueuedFragment) (now : List KeyedQueue) → 0 < length (fragment_of f).bytes → now ≡ []
+    → NoBufs ≡ cause_among (under k now) f
+cause_lacking k f now l e =
+    sym (ap (λ (qs : List KeyedQueue). cause_among (under k qs) f) e ∙ cond-false _ _ _ (none_covers f l))
 
 -- ---- a step in between
 pub wait_then : (qs rs ts : List KeyedQueue) → WaitOrNone qs rs → ts ≡ rs → WaitOrNone qs ts
@@ -149,48 +181,70 @@ no_queues q [] e = refl
 no_queues q (d ∷ es) e = absurd (omega arith)
 
 -- the test of the pool
-pub wait_tested : (p q : PoolView) (ds es : List Datagram) (b : Bool) → (b ≡ true → queues q es ≡ queues p ds) → (b ≡ false → length es ≡ 0) → WaitOrNone (queues p ds) (queues q es)
+pub wait_tested : (p q : PoolView) (ds es : List Datagram) (b : Bool) → (b ≡ true → queues q es ≡ queues p ds)
+    → (b ≡ false → length es ≡ 0) → WaitOrNone (queues p ds) (queues q es)
 wait_tested p q ds es true a n = inl (a refl)
 wait_tested p q ds es false a n = inr (no_queues q es (n refl))
 
-pub wait_reserved : (p q : PoolView) (r s : TableView) (c d : Counters) (b : Bool) → (b ≡ true → (q ≡ p) × (s ≡ r) × (d ≡ c)) → (b ≡ false → length s.datagrams ≡ 0) → WaitOrNone (queues p r.datagrams) (queues q s.datagrams)
-wait_reserved p q r s c d b kept none = wait_tested p q r.datagrams s.datagrams b (λ e. let a = kept e in λ j. queues (a.0 j) (a.1 j).datagrams) none
+pub wait_reserved : (p q : PoolView) (r s : TableView) (c d : Counters) (b : Bool)
+    → (b ≡ true → (q ≡ p) × (s ≡ r) × (d ≡ c)) → (b ≡ false → length s.datagrams ≡ 0)
+    → WaitOrNone (queues p r.datagrams) (queues q s.datagrams)
+wait_reserved p q r s c d b kept none =
+    wait_tested p q r.datagrams s.datagrams b (λ e. let a = kept e in λ j. queues (a.0 j) (a.1 j).datagrams) none
 
 -- **nothing waits where the pool had no mbuf**
-pub none_reserved : (p q : PoolView) (r s : TableView) (c d : Counters) (answer : Bool) → (are_free p 1 0 ≡ true → (q ≡ p) × (s ≡ r) × (d ≡ c)) → (are_free p 1 0 ≡ false → length s.datagrams ≡ 0) → answer ≡ are_free q 1 0 → answer ≡ false → queues q s.datagrams ≡ []
+pub none_reserved : (p q : PoolView) (r s : TableView) (c d : Counters) (answer : Bool)
+    → (are_free p 1 0 ≡ true → (q ≡ p) × (s ≡ r) × (d ≡ c)) → (are_free p 1 0 ≡ false → length s.datagrams ≡ 0)
+    → answer ≡ are_free q 1 0 → answer ≡ false → queues q s.datagrams ≡ []
 none_reserved p q r s c d answer kept none is refused = elim (cases_Bool (are_free p 1 0)) [
   | inl free ↦ absurd (false≢true (sym refused ∙ is ∙ ap (λ (o : PoolView). are_free o 1 0) (kept free).0 ∙ free))
   | inr lacks ↦ no_queues q s.datagrams (none lacks)
 ]
 
-none_then : (k : Key) (qs rs : List KeyedQueue) → WaitOrNone qs rs → find (goes_by k) qs ≡ None → find (goes_by k) rs ≡ None
+none_then : (k : Key) (qs rs : List KeyedQueue) → WaitOrNone qs rs → find (goes_by k) qs ≡ None
+    → find (goes_by k) rs ≡ None
 none_then k qs rs (inl a) n = ap (find (goes_by k)) a ∙ n
 none_then k qs rs (inr a) n = ap (find (goes_by k)) a
 
 -- what is left where the queue is a new one
-new_place : (p r t : PoolView) (hs : List Datagram) (qs now : List KeyedQueue) (k : Key) (n i offset : ℕ) (more : Bool) (result : Arrival) → chain_of r n ≡ chain_of p n → queues r hs ≡ qs ++ record { key = k; fragments = [] } ∷ [] → i ≡ length qs
-    → LeavesAt i (arrived r n offset more) (queues r hs) t result now → LeavesAt (length qs) (arrived p n offset more) (qs ++ record { key = k; fragments = [] } ∷ []) t result now
+new_place : (p r t : PoolView) (hs : List Datagram) (qs now : List KeyedQueue) (k : Key) (n i offset : ℕ) (more : Bool)
+    (result : Arrival) → chain_of r n ≡ chain_of p n → queues r hs ≡ qs ++ record { key = k; fragments = [] } ∷ []
+    → i ≡ length qs
+    → LeavesAt i (arrived r n offset more) (queues r hs) t result now
+    → LeavesAt (length qs) (arrived p n offset more) (qs ++ record { key = k; fragments = [] } ∷ []) t result now
 new_place p r t hs qs now k n i offset more result chain rows size leaves =
-    subst (λ (v : ChainView). LeavesAt (length qs) (record { offset = offset; more = more; entries = v.entries }) (qs ++ record { key = k; fragments = [] } ∷ []) t result now) chain
+    subst (λ (v : ChainView). LeavesAt (length qs) (record { offset = offset; more = more; entries = v.entries })
+    (qs ++ record { key = k; fragments = [] } ∷ []) t result now) chain
     (subst (λ (rs : List KeyedQueue). LeavesAt (length qs) (arrived r n offset more) rs t result now) rows
     (subst (λ (j : ℕ). LeavesAt j (arrived r n offset more) (queues r hs) t result now) size leaves))
 
 -- **a fragment that begins its datagram**
-pub begins_layout : (p q r t : PoolView) (ds es hs ts : List Datagram) (k : Key) (n i offset : ℕ) (more : Bool) (result : Arrival) → WaitOrNone (queues p ds) (queues q es) → find (has_key k) ds ≡ None → 0 < length (string (chain_of p n)) → chain_of r n ≡ chain_of p n
-    → queues r hs ≡ queues q es ++ record { key = k; fragments = [] } ∷ [] → i ≡ length es → LeavesAt i (arrived r n offset more) (queues r hs) t result (queues t ts) → HasLayout p ds k (arrived p n offset more) result t ts
+pub begins_layout : (p q r t : PoolView) (ds es hs ts : List Datagram) (k : Key) (n i offset : ℕ) (more : Bool)
+    (result : Arrival) → WaitOrNone (queues p ds) (queues q es) → find (has_key k) ds ≡ None
+    → 0 < length (string (chain_of p n)) → chain_of r n ≡ chain_of p n
+    → queues r hs ≡ queues q es ++ record { key = k; fragments = [] } ∷ [] → i ≡ length es
+    → LeavesAt i (arrived r n offset more) (queues r hs) t result (queues t ts)
+    → HasLayout p ds k (arrived p n offset more) result t ts
 begins_layout p q r t ds es hs ts k n i offset more result wait none some chain rows i_is leaves =
-    let here = new_place p r t hs (queues q es) (queues t ts) k n i offset more result chain rows (omega (arith, i_is, length-map es (queue_of q))) leaves in
+    let here =
+    new_place p r t hs (queues q es) (queues t ts) k n i offset more result chain rows
+    (omega (arith, i_is, length-map es (queue_of q))) leaves in
     record {
       waited = queues q es;
       before = wait;
-      leaves = leaves_new k (arrived p n offset more) (queues q es) t result (queues t ts) some (none_then k (queues p ds) (queues q es) wait (none_in p k ds none)) here;
+      leaves =
+          leaves_new k (arrived p n offset more) (queues q es) t result (queues t ts) some
+          (none_then k (queues p ds) (queues q es) wait (none_in p k ds none)) here;
     }
 
-pub begins_cause : (cause : Why) (p q r t : PoolView) (es hs ts : List Datagram) (k : Key) (n i offset : ℕ) (more : Bool) (result : Arrival) → 0 < length (string (chain_of p n)) → chain_of r n ≡ chain_of p n
-    → queues r hs ≡ queues q es ++ record { key = k; fragments = [] } ∷ [] → i ≡ length es → LeavesAt i (arrived r n offset more) (queues r hs) t result (queues t ts) → HasCause cause result
+pub begins_cause : (cause : Why) (p q r t : PoolView) (es hs ts : List Datagram) (k : Key) (n i offset : ℕ)
+    (more : Bool) (result : Arrival) → 0 < length (string (chain_of p n)) → chain_of r n ≡ chain_of p n
+    → queues r hs ≡ queues q es ++ record { key = k; fragments = [] } ∷ [] → i ≡ length es
+    → LeavesAt i (arrived r n offset more) (queues r hs) t result (queues t ts) → HasCause cause result
 begins_cause cause p q r t es hs ts k n i offset more result some chain rows i_is leaves =
     cause_new cause k (arrived p n offset more) (queues q es) t result (queues t ts) some
-    (new_place p r t hs (queues q es) (queues t ts) k n i offset more result chain rows (omega (arith, i_is, length-map es (queue_of q))) leaves)
+    (new_place p r t hs (queues q es) (queues t ts) k n i offset more result chain rows
+    (omega (arith, i_is, length-map es (queue_of q))) leaves)
 
 -- the first datagram with the key stands at a place
 record Found (p : PoolView) (ds : List Datagram) (k : Key) (i : ℕ) : Type 0 where
@@ -198,13 +252,20 @@ record Found (p : PoolView) (ds : List Datagram) (k : Key) (i : ℕ) : Type 0 wh
   front : find (goes_by k) (take i (queues p ds)) ≡ None
   here : goes_by k (queue_at (queues p ds) i) ≡ true
 
-found : (p : PoolView) (slice items ds : List Datagram) (k k' : Key) (i : ℕ) → slice ≡ items → items ≡ ds → k' ≡ k → i < length slice → find (has_key k') slice ≡ slice_get slice i → find (has_key k') (take i slice) ≡ None → Found p ds k i
+found : (p : PoolView) (slice items ds : List Datagram) (k k' : Key) (i : ℕ) → slice ≡ items → items ≡ ds → k' ≡ k
+    → i < length slice → find (has_key k') slice ≡ slice_get slice i → find (has_key k') (take i slice) ≡ None
+    → Found p ds k i
 found p slice items ds k k' i a b e l at_is none_is =
     let same : slice ≡ ds = a ∙ b in
-    let at : find (has_key k) ds ≡ slice_get ds i = subst (λ (zs : List Datagram). find (has_key k) zs ≡ slice_get zs i) same (subst (λ (j : Key). find (has_key j) slice ≡ slice_get slice i) e at_is) in
-    let front : find (has_key k) (take i ds) ≡ None = subst (λ (zs : List Datagram). find (has_key k) (take i zs) ≡ None) same (subst (λ (j : Key). find (has_key j) (take i slice) ≡ None) e none_is) in
+    let at : find (has_key k) ds ≡ slice_get ds i =
+    subst (λ (zs : List Datagram). find (has_key k) zs ≡ slice_get zs i) same
+    (subst (λ (j : Key). find (has_key j) slice ≡ slice_get slice i) e at_is) in
+    let front : find (has_key k) (take i ds) ≡ None =
+    subst (λ (zs : List Datagram). find (has_key k) (take i zs) ≡ None) same
+    (subst (λ (j : Key). find (has_key j) (take i slice) ≡ None) e none_is) in
     let within : i < length ds = omega (arith, ap (λ (zs : List Datagram). length zs) same) in
-    let passes : has_key k (datagram_at ds i) ≡ true = found_passes (has_key k) ds (datagram_at ds i) (at ∙ slice_at ds i within) in
+    let passes : has_key k (datagram_at ds i) ≡ true =
+    found_passes (has_key k) ds (datagram_at ds i) (at ∙ slice_at ds i within) in
     record {
       within = omega (arith, within, length-map ds (queue_of p));
       front = ap (find (goes_by k)) (take-map (queue_of p) i ds) ∙ none_in p k (take i ds) front;
@@ -212,44 +273,77 @@ found p slice items ds k k' i a b e l at_is none_is =
     }
 
 -- **a fragment that joins the others of its datagram**
-pub found_layout : (p t : PoolView) (slice items ds ts : List Datagram) (k k' : Key) (f : QueuedFragment) (i : ℕ) (result : Arrival) → slice ≡ items → items ≡ ds → k' ≡ k → i < length slice → find (has_key k') slice ≡ slice_get slice i → find (has_key k') (take i slice) ≡ None
+pub found_layout : (p t : PoolView) (slice items ds ts : List Datagram) (k k' : Key) (f : QueuedFragment) (i : ℕ)
+    (result : Arrival) → slice ≡ items → items ≡ ds → k' ≡ k → i < length slice
+    → find (has_key k') slice ≡ slice_get slice i → find (has_key k') (take i slice) ≡ None
     → LeavesAt i f (queues p items) t result (queues t ts) → HasLayout p ds k f result t ts
 found_layout p t slice items ds ts k k' f i result a b e l at_is none_is leaves =
     let o = found p slice items ds k k' i a b e l at_is none_is in
     record {
       waited = queues p ds;
       before = inl refl;
-      leaves = leaves_here k f (queues p ds) i t result (queues t ts) o.within o.front o.here (subst (λ (zs : List Datagram). LeavesAt i f (queues p zs) t result (queues t ts)) b leaves);
+      leaves =
+          leaves_here k f (queues p ds) i t result (queues t ts) o.within o.front o.here
+          (subst (λ (zs : List Datagram). LeavesAt i f (queues p zs) t result (queues t ts)) b leaves);
     }
 
-pub found_cause : (p t : PoolView) (slice items ds ts : List Datagram) (k k' : Key) (f : QueuedFragment) (i : ℕ) (result : Arrival) → slice ≡ items → items ≡ ds → k' ≡ k → i < length slice → find (has_key k') slice ≡ slice_get slice i → find (has_key k') (take i slice) ≡ None
-    → LeavesAt i f (queues p items) t result (queues t ts) → HasCause FragmentDropped result → HasCause (cause_among (under k (queues t ts)) f) result
+pub found_cause : (p t : PoolView) (slice items ds ts : List Datagram) (k k' : Key) (f : QueuedFragment) (i : ℕ)
+    (result : Arrival) → slice ≡ items → items ≡ ds → k' ≡ k → i < length slice
+    → find (has_key k') slice ≡ slice_get slice i → find (has_key k') (take i slice) ≡ None
+    → LeavesAt i f (queues p items) t result (queues t ts) → HasCause FragmentDropped result
+    → HasCause (cause_among (under k (queues t ts)) f) result
 found_cause p t slice items ds ts k k' f i result a b e l at_is none_is leaves cause =
     let o = found p slice items ds k k' i a b e l at_is none_is in
-    cause_here k f (queues p ds) i t result (queues t ts) o.within o.front o.here (subst (λ (zs : List Datagram). LeavesAt i f (queues p zs) t result (queues t ts)) b leaves) cause
+    cause_here k f (queues p ds) i t result (queues t ts) o.within o.front o.here
+    (subst (λ (zs : List Datagram). LeavesAt i f (queues p zs) t result (queues t ts)) b leaves) cause
 
 -- **the header was pulled up and cut off before**
-pub arrived_layout : (p q r t : PoolView) (ds es ts : List Datagram) (n n' : ℕ) (h : IpHead) (result : Arrival) → WaitOrNone (queues p ds) (queues q es) → queues r es ≡ queues q es → (chain_of r n').entries ≡ carried_entries (chain_of p n)
-    → HasLayout r es (key_in h) (arrived r n' h.offset h.more) result t ts → HasLayout p ds (key_in h) (fragment_carried (chain_of p n) h) result t ts
+pub arrived_layout : (p q r t : PoolView) (ds es ts : List Datagram) (n n' : ℕ) (h : IpHead) (result : Arrival)
+    → WaitOrNone (queues p ds) (queues q es) → queues r es ≡ queues q es
+    → (chain_of r n').entries ≡ carried_entries (chain_of p n)
+    → HasLayout r es (key_in h) (arrived r n' h.offset h.more) result t ts
+    → HasLayout p ds (key_in h) (fragment_carried (chain_of p n) h) result t ts
 arrived_layout p q r t ds es ts n n' h result wait rows entries x = record {
   waited = x.waited;
-  before = wait_trans (queues p ds) (queues r es) x.waited (wait_then (queues p ds) (queues q es) (queues r es) wait rows) x.before;
-  leaves = subst (λ (xs : List Entry). Leaves (key_in h) (record { offset = h.offset; more = h.more; entries = xs }) x.waited t result (queues t ts)) entries x.leaves;
+  before =
+      wait_trans (queues p ds) (queues r es) x.waited (wait_then (queues p ds) (queues q es) (queues r es) wait rows)
+      x.before;
+  leaves =
+      subst (λ (xs : List Entry). Leaves (key_in h) (record { offset = h.offset; more = h.more; entries = xs }) x.waited
+      t result (queues t ts)) entries x.leaves;
 }
 
-pub arrived_cause : (p r : PoolView) (n n' : ℕ) (h : IpHead) (held : List QueuedFragment) (result : Arrival) → is_bad_fragment (flat_head h) (h.total - 20) ≡ false → (chain_of r n').entries ≡ carried_entries (chain_of p n)
-    → HasCause (cause_among held (arrived r n' h.offset h.more)) result → HasCause (cause_of (chain_of p n) h held) result
+pub arrived_cause : (p r : PoolView) (n n' : ℕ) (h : IpHead) (held : List QueuedFragment) (result : Arrival)
+    → is_bad_fragment (flat_head h) (h.total - 20) ≡ false → (chain_of r n').entries ≡ carried_entries (chain_of p n)
+    → HasCause (cause_among held (arrived r n' h.offset h.more)) result
+    → HasCause (cause_of (chain_of p n) h held) result
 arrived_cause p r n n' h held result good entries x =
     subst (λ (w : Why). HasCause w result)
-    (ap (λ (xs : List Entry). cause_among held (record { offset = h.offset; more = h.more; entries = xs })) entries ∙ sym (cond-false _ _ _ good)) x
+    (ap (λ (xs : List Entry). cause_among held (record { offset = h.offset; more = h.more; entries = xs })) entries
+    ∙ sym (cond-false _ _ _ good)) x
 
 -- **a fragment of which nothing is left**
-pub covered_layout : (p q : PoolView) (ds slice es back : List Datagram) (i c n : ℕ) (f : QueuedFragment) (answer : Bool) → i < length ds → n ≡ length ds → slice ≡ ds → answer ≡ false → LaysIn p slice i c f answer q es → back ≡ take n (es ++ drop (length es) ds)
-    → (queues q back ≡ queues p ds) × (is_covered (map_of (map fragment_of (queue_at (queues p ds) i).fragments)) (fragment_of f) ≡ true)
+pub covered_layout : (p q : PoolView) (ds slice es back : List Datagram) (i c n : ℕ) (f : QueuedFragment)
+    (answer : Bool) → i < length ds → n ≡ length ds → slice ≡ ds → answer ≡ false → LaysIn p slice i c f answer q es
+    → back ≡ take n (es ++ drop (length es) ds)
+    → (queues q back ≡ queues p ds)
+    × (is_covered (map_of (map fragment_of (queue_at (queues p ds) i).fragments)) (fragment_of f) ≡ true)
 covered_layout p q ds slice es back i c n f answer l n_is was refused la back_is =
-    let here : LaysIn p ds i c f false q es = subst (λ (zs : List Datagram). LaysIn p zs i c f false q es) was (subst (λ (b : Bool). LaysIn p slice i c f b q es) refused la) in
-    let long : length es ≡ n = omega (arith, ap (λ (zs : List Datagram). length zs) here.change, length-set ds i (record (datagram_at ds i) { fragments = here.train; bytes = here.bytes }), n_is) in
+    let here : LaysIn p ds i c f false q es =
+    subst (λ (zs : List Datagram). LaysIn p zs i c f false q es) was
+    (subst (λ (b : Bool). LaysIn p slice i c f b q es) refused la) in
+    let long : length es ≡ n =
+    omega (
+      arith,
+      ap (λ (zs : List Datagram). length zs) here.change,
+      length-set ds i (record (datagram_at ds i) { fragments = here.train; bytes = here.bytes }),
+      n_is,
+    ) in
     let same : back ≡ es = back_is ∙ lent n ds es long in
     let at : map fragment_of (queue_at (queues p ds) i).fragments ≡ fragments p (datagram_at ds i).fragments =
-    ap (λ (q : KeyedQueue). map fragment_of q.fragments) (get_or-map (queue_of p) ds i no_datagram no_queue l) ∙ sym (fragments_are p (datagram_at ds i).fragments) in
-    (ap (queues q) same ∙ here.rows_same, ap (λ (fs : List Fragment). is_covered (map_of fs) (fragment_of f)) at ∙ here.covered)
+    ap (λ (q : KeyedQueue). map fragment_of q.fragments) (get_or-map (queue_of p) ds i no_datagram no_queue l)
+    ∙ sym (fragments_are p (datagram_at ds i).fragments) in (
+      ap (queues q) same ∙ here.rows_same,
+      ap (λ (fs : List Fragment). is_covered (map_of fs) (fragment_of f)) at
+          ∙ here.covered,
+    )

@@ -26,7 +26,8 @@ abbrev pub held_by : Fragment → HeldRange
 held_by f = record { offset = f.offset; len = length f.bytes; more = f.more }
 
 -- of n numbers from `at` on, a test holds of those from a to e
-count_between : (test : ℕ → Bool) (a e at n : ℕ) → a ≤ e → e ≤ at + n → ((k : ℕ) → a ≤ k → k < e → test k ≡ true) → ((k : ℕ) → k < a → test k ≡ false) → ((k : ℕ) → e ≤ k → test k ≡ false)
+count_between : (test : ℕ → Bool) (a e at n : ℕ) → a ≤ e → e ≤ at + n → ((k : ℕ) → a ≤ k → k < e → test k ≡ true)
+    → ((k : ℕ) → k < a → test k ≡ false) → ((k : ℕ) → e ≤ k → test k ≡ false)
     → count_by test (range_with_len at n) ≡ (e - a) - (at - a)
 count_between test a e at zero o l hit low high = omega arith
 count_between test a e at (suc n) o l hit low high =
@@ -54,7 +55,8 @@ record IsFrom (m : Map) (low : ℕ) (fs : List Fragment) : Type 0 where
   pub same : (k : ℕ) → low ≤ k → m k ≡ map_of fs k
   pub under : (a k : ℕ) → low ≤ a → k < low → is_of a (m k) ≡ false
 
-passed : (m : Map) (low : ℕ) (f : Fragment) (fs : List Fragment) → Apart low (f ∷ fs) → IsFrom m low (f ∷ fs) → IsFrom m (end_of f) fs
+passed : (m : Map) (low : ℕ) (f : Fragment) (fs : List Fragment) → Apart low (f ∷ fs) → IsFrom m low (f ∷ fs)
+    → IsFrom m (end_of f) fs
 passed m low f fs h c = record {
   same = λ k l. c.same k (omega arith) ∙ known_past f fs k l;
   under = λ a k l s. elim (cases_lt k low) [
@@ -68,7 +70,8 @@ passed m low f fs h c = record {
 }
 
 -- a fragment's piece owns as many offsets as it has bytes
-owned : (most : ℕ) (m : Map) (low : ℕ) (f : Fragment) (fs : List Fragment) → Apart low (f ∷ fs) → IsFrom m low (f ∷ fs) → end_of f ≤ most → owned_below most m f.offset ≡ length f.bytes
+owned : (most : ℕ) (m : Map) (low : ℕ) (f : Fragment) (fs : List Fragment) → Apart low (f ∷ fs) → IsFrom m low (f ∷ fs)
+    → end_of f ≤ most → owned_below most m f.offset ≡ length f.bytes
 unfolding owned_below
 owned most m low f fs h c l =
     let all = count_between (λ (k : ℕ). is_of f.offset (m k)) f.offset (end_of f) 0 most (omega arith) (omega arith)
@@ -77,10 +80,12 @@ owned most m low f fs h c l =
       | inl b ↦ c.under f.offset k (omega arith) b
       | inr b ↦ ap (is_of f.offset) (c.same k b ∙ nothing_below f.offset (f ∷ fs) k (omega arith, h.1, h.2) a)
     ])
-    (λ k a. ap (is_of f.offset) (c.same k (omega arith) ∙ known_past f fs k a) ∙ later f.offset (end_of f) fs k h.2 (omega arith)) in
+    (λ k a. ap (is_of f.offset) (c.same k (omega arith) ∙ known_past f fs k a)
+    ∙ later f.offset (end_of f) fs k h.2 (omega arith)) in
     omega (arith, all)
 
-each_held : (m : Map) (low : ℕ) (fs : List Fragment) → Apart low fs → AllEnd IP_MAX_DATA fs → IsFrom m low fs → map (range_of m) (map piece_of fs) ≡ map held_by fs
+each_held : (m : Map) (low : ℕ) (fs : List Fragment) → Apart low fs → AllEnd IP_MAX_DATA fs → IsFrom m low fs
+    → map (range_of m) (map piece_of fs) ≡ map held_by fs
 each_held m low [] h e c = refl
 each_held m low (f ∷ fs) h e c =
     let len = owned IP_MAX_DATA m low f fs h c e.0 in
@@ -96,19 +101,24 @@ ranges_are fs a e =
 -- their bytes
 sum_held : (fs : List Fragment) → sum_by (λ (range : HeldRange). range.len) (map held_by fs) ≡ bytes_held fs
 sum_held [] = refl
-sum_held (f ∷ fs) = sum_by-cons (λ (range : HeldRange). range.len) (held_by f) (map held_by fs) ∙ ap (λ n. length f.bytes + n) (sum_held fs)
+sum_held (f ∷ fs) =
+    sum_by-cons (λ (range : HeldRange). range.len) (held_by f) (map held_by fs)
+    ∙ ap (λ n. length f.bytes + n) (sum_held fs)
 
-pub bytes_told : (fs : List Fragment) → Apart 0 fs → AllEnd IP_MAX_DATA fs → sum_by (λ (range : HeldRange). range.len) (ranges (map_of fs)) ≡ bytes_held fs
+pub bytes_told : (fs : List Fragment) → Apart 0 fs → AllEnd IP_MAX_DATA fs
+    → sum_by (λ (range : HeldRange). range.len) (ranges (map_of fs)) ≡ bytes_held fs
 bytes_told fs a e = ap (sum_by (λ (range : HeldRange). range.len)) (ranges_are fs a e) ∙ sum_held fs
 
 pub ranges_told : (fs : List Fragment) → Apart 0 fs → AllEnd IP_MAX_DATA fs → length (ranges (map_of fs)) ≡ length fs
 ranges_told fs a e = ap length (ranges_are fs a e) ∙ length-map fs held_by
 
 -- ---- a range by its place
-pub nth_past : (fs : List Fragment) (k : ℕ) → Apart 0 fs → AllEnd IP_MAX_DATA fs → length fs ≤ k → nth_of (map_of fs) k ≡ None
+pub nth_past : (fs : List Fragment) (k : ℕ) → Apart 0 fs → AllEnd IP_MAX_DATA fs → length fs ≤ k
+    → nth_of (map_of fs) k ≡ None
 nth_past fs k a e l = slice_get_past (ranges (map_of fs)) k (omega (arith, ranges_told fs a e, l))
 
-pub nth_is : (fs : List Fragment) (k : ℕ) → Apart 0 fs → AllEnd IP_MAX_DATA fs → k < length fs → nth_of (map_of fs) k ≡ Some (held_by (fragment_at fs k))
+pub nth_is : (fs : List Fragment) (k : ℕ) → Apart 0 fs → AllEnd IP_MAX_DATA fs → k < length fs
+    → nth_of (map_of fs) k ≡ Some (held_by (fragment_at fs k))
 nth_is fs k a e l =
     ap (λ (rs : List HeldRange). slice_get rs k) (ranges_are fs a e)
     ∙ (slice_get-map held_by fs k ∙ ap (option_map held_by) (slice_get-get_or fs k no_fragment l))
@@ -121,22 +131,28 @@ told_from d = record { key = d.key; ticks = d.ticks; bytes = d.bytes; ranges = d
 told_is : (p : PoolView) (d : Datagram) → IsUnfinished p d → told_of (unfinished_of p d) ≡ told_from d
 told_is p d is =
     let bytes = bytes_told (fragments p d.fragments) is.queue.apart is.queue.small ∙ sym is.counted in
-    let number = ranges_told (fragments p d.fragments) is.queue.apart is.queue.small ∙ length-fragments p d.fragments is.queue.held in
+    let number =
+    ranges_told (fragments p d.fragments) is.queue.apart is.queue.small
+    ∙ length-fragments p d.fragments is.queue.held in
     λ i. record { key = d.key; ticks = d.ticks; bytes = bytes i; ranges = number i }
 
 module _ (p : PoolView) (ds : List Datagram) (i : ℕ) where
   pub is_unfinished : (d : Datagram) → AllUnfinished p ds → slice_get ds i ≡ Some d → IsUnfinished p d
-  is_unfinished d each is = subst (IsUnfinished p) (get_or_from_slice_get ds i d d is) (each_at p ds i d (slice_get_within ds i d is) each).0
+  is_unfinished d each is =
+      subst (IsUnfinished p) (get_or_from_slice_get ds i d d is) (each_at p ds i d (slice_get_within ds i d is) each).0
 
-  pub unfinished_here : (d : Datagram) → AllUnfinished p ds → slice_get ds i ≡ Some d → nth_unfinished i (unfinished p ds) ≡ Some (told_from d)
+  pub unfinished_here : (d : Datagram) → AllUnfinished p ds → slice_get ds i ≡ Some d
+      → nth_unfinished i (unfinished p ds) ≡ Some (told_from d)
   unfinished_here d each is =
       ap (option_map told_of) (slice_get-map (unfinished_of p) ds i ∙ ap (option_map (unfinished_of p)) is)
       ∙ ap Some (told_is p d (is_unfinished d each is))
 
   pub unfinished_none : slice_get ds i ≡ None → nth_unfinished i (unfinished p ds) ≡ None
-  unfinished_none is = ap (option_map told_of) (slice_get-map (unfinished_of p) ds i ∙ ap (option_map (unfinished_of p)) is)
+  unfinished_none is =
+      ap (option_map told_of) (slice_get-map (unfinished_of p) ds i ∙ ap (option_map (unfinished_of p)) is)
 
-  pub range_here : (k : ℕ) (d : Datagram) → slice_get ds i ≡ Some d → nth_range i k (unfinished p ds) ≡ nth_of (map_of (fragments p d.fragments)) k
+  pub range_here : (k : ℕ) (d : Datagram) → slice_get ds i ≡ Some d
+      → nth_range i k (unfinished p ds) ≡ nth_of (map_of (fragments p d.fragments)) k
   range_here k d is = ap (range_in k) (slice_get-map (unfinished_of p) ds i ∙ ap (option_map (unfinished_of p)) is)
 
   pub range_none : (k : ℕ) → slice_get ds i ≡ None → nth_range i k (unfinished p ds) ≡ None

@@ -36,10 +36,13 @@ pub record Stays (p : PoolView) (ds : List Datagram) (c : ℕ) (q : PoolView) (e
   pub live : IsLive q c
   pub moves : Moves p (c ∷ held_all p ds) q (c ∷ held_all q es)
 
-pub stays : (p q : PoolView) (ds es : List Datagram) (c : ℕ) → IsOwned p (c ∷ held_all p ds) → Moves p (held_all p ds) q (held_all q es) → Stays p ds c q es
+pub stays : (p q : PoolView) (ds es : List Datagram) (c : ℕ) → IsOwned p (c ∷ held_all p ds)
+    → Moves p (held_all p ds) q (held_all q es) → Stays p ds c q es
 stays p q ds es c owns m =
-    let same : SameAt p q (c ∷ []) = same_beside (c ∷ []) m (λ k. omega (arith, owns k)) (λ k h. omega (arith, owns k, live_at_most p k)) in
-    let moves : Moves p (c ∷ held_all p ds) q (c ∷ held_all q es) = moves_beside (c ∷ held_all p ds) (c ∷ held_all q es) (c ∷ []) m (λ k. omega arith) (λ k. omega arith) in
+    let same : SameAt p q (c ∷ []) =
+    same_beside (c ∷ []) m (λ k. omega (arith, owns k)) (λ k h. omega (arith, owns k, live_at_most p k)) in
+    let moves : Moves p (c ∷ held_all p ds) q (c ∷ held_all q es) =
+    moves_beside (c ∷ held_all p ds) (c ∷ held_all q es) (c ∷ []) m (λ k. omega arith) (λ k. omega arith) in
     record {
       owned = owned_after moves owns;
       chain = chain_same p q (c ∷ []) c same (omega (arith, times_same c []));
@@ -54,20 +57,27 @@ pub record Freed (p : PoolView) (ds : List Datagram) (c : ℕ) (q r : PoolView) 
   pub rows : queues r es ≡ queues q es
   pub moves : Moves p (c ∷ held_all p ds) r (held_all r es)
 
-pub freed : (p q r : PoolView) (ds es : List Datagram) (c : ℕ) → Stays p ds c q es → IsTable q es → r ≡ without q c → Freed p ds c q r es
+pub freed : (p q r : PoolView) (ds es : List Datagram) (c : ℕ) → Stays p ds c q es → IsTable q es → r ≡ without q c
+    → Freed p ds c q r es
 freed p q r ds es c st is gone =
-    let same : SameAt q r (held_all q es) = same_without q r c (held_all q es) (apart_first q c (held_all q es) st.owned) gone in
+    let same : SameAt q r (held_all q es) =
+    same_without q r c (held_all q es) (apart_first q c (held_all q es) st.owned) gone in
     let all : held_all r es ≡ held_all q es = held_all_same q r es same in
     record {
       table = table_same q r es same is;
       shows = unfinished_same q r es same;
       rows = queues_same q r es same;
-      moves = moves_trans st.moves (moves_beside (c ∷ held_all q es) (held_all r es) (held_all q es) (moves_without q r c st.live gone) (λ k. omega arith) (λ k. omega (arith, ap (times k) all)));
+      moves =
+          moves_trans st.moves (moves_beside (c ∷ held_all q es) (held_all r es) (held_all q es)
+          (moves_without q r c st.live gone) (λ k. omega arith) (λ k. omega (arith, ap (times k) all)));
     }
 
 -- ---- the two ends of the test for a key's mbuf
-pub lacking : (rest : State) (held : Weight) (new : State) (k : Key) (f : Fragment) (w : Weight) (p q r : PoolView) (ds es : List Datagram) (c mid d : Counters) (result : Arrival) (answer : Bool) → answer ≡ false
-    → HasBuffers exact_ledger (machine p ds c rest) (held ⊕ w) (need_mbufs 1) answer (machine q es mid rest) → unfinished r es ≡ unfinished q es → d ≡ counted NoBufs mid → new ≡ machine r es d rest → BeginsAt p ds c k f w result r es d rest held new
+pub lacking : (rest : State) (held : Weight) (new : State) (k : Key) (f : Fragment) (w : Weight) (p q r : PoolView)
+    (ds es : List Datagram) (c mid d : Counters) (result : Arrival) (answer : Bool) → answer ≡ false
+    → HasBuffers exact_ledger (machine p ds c rest) (held ⊕ w) (need_mbufs 1) answer (machine q es mid rest)
+    → unfinished r es ≡ unfinished q es → d ≡ counted NoBufs mid → new ≡ machine r es d rest
+    → BeginsAt p ds c k f w result r es d rest held new
 lacking rest held new k f w p q r ds es c mid d result answer refused af shows counts is = record {
   tests = record {
     answer = answer;
@@ -81,9 +91,12 @@ lacking rest held new k f w p q r ds es c mid d result answer refused af shows c
 }
 
 -- what is left of the datagrams after a test
-pub none_then : (rest : State) (w : Weight) (k : Key) (p q : PoolView) (ds es : List Datagram) (c mid : Counters) (answer : Bool) → find (is_key k) (unfinished p ds) ≡ None
-    → HasBuffers exact_ledger (machine p ds c rest) w (need_mbufs 1) answer (machine q es mid rest) → count_by (is_key k) (unfinished q es) ≡ 0
-none_then rest w k p q ds es c mid true none (inl a) = ap (λ (s : State). count_by (is_key k) s.unfinished) a.1 ∙ none_found (is_key k) (unfinished p ds) none
+pub none_then : (rest : State) (w : Weight) (k : Key) (p q : PoolView) (ds es : List Datagram) (c mid : Counters)
+    (answer : Bool) → find (is_key k) (unfinished p ds) ≡ None
+    → HasBuffers exact_ledger (machine p ds c rest) w (need_mbufs 1) answer (machine q es mid rest)
+    → count_by (is_key k) (unfinished q es) ≡ 0
+none_then rest w k p q ds es c mid true none (inl a) =
+    ap (λ (s : State). count_by (is_key k) s.unfinished) a.1 ∙ none_found (is_key k) (unfinished p ds) none
 none_then rest w k p q ds es c mid true none (inr a) = ap (λ (s : State). count_by (is_key k) s.unfinished) a.1
 none_then rest w k p q ds es c mid false none a = ap (λ (s : State). count_by (is_key k) s.unfinished) a.1
 
@@ -92,43 +105,69 @@ get_or-end [] x d = refl
 get_or-end (y ∷ ys) x d = get_or-end ys x d
 
 same_key : (k : Key) → is_key k (begun k) ≡ true
-same_key k = and_from _ _ (and_from _ _ (and_from _ _ (eq-eqb k.source k.source refl) (eq-eqb k.destination k.destination refl)) (eq-eqb k.id k.id refl)) (eq-eqb k.protocol k.protocol refl)
+same_key k =
+    and_from _ _ (and_from _ _ (and_from _ _ (eq-eqb k.source k.source refl) (eq-eqb k.destination k.destination refl))
+    (eq-eqb k.id k.id refl)) (eq-eqb k.protocol k.protocol refl)
 
 -- a datagram that has begun, at the end of the table
-pub record Began (p : PoolView) (ds : List Datagram) (n : ℕ) (k : Key) (q : PoolView) (es : List Datagram) (i : ℕ) : Type 0 where
+pub record Began (p : PoolView) (ds : List Datagram) (n : ℕ) (k : Key) (q : PoolView) (es : List Datagram)
+    (i : ℕ) : Type 0 where
   pub table : IsTable q es
   pub stays : Stays p ds n q es
   pub at : unfinished_of q (datagram_at es i) ≡ begun k
   pub shows : unfinished q es ≡ unfinished p ds ++ begun k ∷ []
   pub rows : queues q es ≡ queues p ds ++ record { key = k; fragments = [] } ∷ []
 
-pub began : (p q : PoolView) (ds es : List Datagram) (n h i : ℕ) (k : Key) → IsTable p ds → IsOwned p (n ∷ held_all p ds) → Adds p q h (one_mbuf true (empty_entry 28 None) h) → es ≡ ds ++ new_datagram k h ∷ [] → i ≡ length ds → Began p ds n k q es i
+pub began : (p q : PoolView) (ds es : List Datagram) (n h i : ℕ) (k : Key) → IsTable p ds
+    → IsOwned p (n ∷ held_all p ds) → Adds p q h (one_mbuf true (empty_entry 28 None) h)
+    → es ≡ ds ++ new_datagram k h ∷ [] → i ≡ length ds → Began p ds n k q es i
 began p q ds es n h i k is owns adds e i_is =
     let b : Begins p ds q es = begins p q ds es k h is adds e in
     record {
       table = b.table;
       stays = stays p q ds es n owns b.moves;
-      at = ap (λ (d : Datagram). unfinished_of q d) ((λ j. get_or (e j) (i_is j) no_datagram) ∙ get_or-end ds (new_datagram k h) no_datagram);
+      at = ap (λ (d : Datagram). unfinished_of q d)
+          ((λ j. get_or (e j) (i_is j) no_datagram) ∙ get_or-end ds (new_datagram k h) no_datagram);
       shows = b.shows k h e;
       rows = b.rows k h e;
     }
 
-pub begins_here : (rest : State) (held : Weight) (new : State) (k : Key) (w : Weight) (p q r : PoolView) (ds es hs : List Datagram) (c mid d : Counters) (n i offset : ℕ) (more : Bool) (result : Arrival) (t : PoolView) (ts : List Datagram) (answer : Bool) → answer ≡ true
-    → find (is_key k) (unfinished p ds) ≡ None → HasBuffers exact_ledger (machine p ds c rest) (held ⊕ w) (need_mbufs 1) answer (machine q es mid rest) → chain_of r n ≡ chain_of p n → Began q es n k r hs i
-    → (is_key k (unfinished_of r (datagram_at hs i)) ≡ true → count_by (is_key k) (unfinished r hs) ≤ 1 → Lays exact_ledger held k (fragment_of (arrived r n offset more)) (unfinished_of r (datagram_at hs i)) (machine r hs mid rest) new)
+pub begins_here : (rest : State) (held : Weight) (new : State) (k : Key) (w : Weight) (p q r : PoolView)
+    (ds es hs : List Datagram) (c mid d : Counters) (n i offset : ℕ) (more : Bool) (result : Arrival) (t : PoolView)
+    (ts : List Datagram) (answer : Bool) → answer ≡ true
+    → find (is_key k) (unfinished p ds) ≡ None
+    → HasBuffers exact_ledger (machine p ds c rest) (held ⊕ w) (need_mbufs 1) answer (machine q es mid rest)
+    → chain_of r n ≡ chain_of p n → Began q es n k r hs i
+    → (is_key k (unfinished_of r (datagram_at hs i)) ≡ true → count_by (is_key k) (unfinished r hs) ≤ 1
+    → Lays exact_ledger held k (fragment_of (arrived r n offset more)) (unfinished_of r (datagram_at hs i))
+    (machine r hs mid rest) new)
     → BeginsAt p ds c k (fragment_of (arrived p n offset more)) w result t ts d rest held new
 begins_here rest held new k w p q r ds es hs c mid d n i offset more result t ts answer agrees none af chain b step =
-    let zero_then : count_by (is_key k) (unfinished q es) ≡ 0 = none_then rest (held ⊕ w) k p q ds es c mid answer none af in
+    let zero_then : count_by (is_key k) (unfinished q es) ≡ 0 =
+    none_then rest (held ⊕ w) k p q ds es c mid answer none af in
     let here : is_key k (unfinished_of r (datagram_at hs i)) ≡ true = ap (is_key k) b.at ∙ same_key k in
     let one : count_by (is_key k) (begun k ∷ []) ≤ 1 = count_by-le-length (is_key k) (begun k ∷ []) in
-    let most : count_by (is_key k) (unfinished r hs) ≤ 1 = omega (arith, ap (count_by (is_key k)) b.shows, count-append (is_key k) (unfinished q es) (begun k ∷ []), zero_then, one) in
+    let most : count_by (is_key k) (unfinished r hs) ≤ 1 =
+    omega (
+      arith,
+      ap (count_by (is_key k)) b.shows,
+      count-append (is_key k) (unfinished q es) (begun k ∷ []),
+      zero_then,
+      one,
+    ) in
     let lays = step here most in
-    let a : Lays exact_ledger held k (fragment_of (arrived p n offset more)) (unfinished_of r (datagram_at hs i)) (machine r hs mid rest) new =
-    subst (λ (v : ChainView). Lays exact_ledger held k (fragment_of (record { offset = offset; more = more; entries = v.entries })) (unfinished_of r (datagram_at hs i)) (machine r hs mid rest) new) chain lays in
+    let a : Lays exact_ledger held k (fragment_of (arrived p n offset more)) (unfinished_of r (datagram_at hs i))
+    (machine r hs mid rest) new =
+    subst (λ (v : ChainView). Lays exact_ledger held k
+    (fragment_of (record { offset = offset; more = more; entries = v.entries })) (unfinished_of r (datagram_at hs i))
+    (machine r hs mid rest) new) chain lays in
     let b' : Lays exact_ledger held k (fragment_of (arrived p n offset more)) (begun k) (machine r hs mid rest) new =
-    subst (λ (u : Unfinished). Lays exact_ledger held k (fragment_of (arrived p n offset more)) u (machine r hs mid rest) new) b.at a in
-    let c' : Lays exact_ledger held k (fragment_of (arrived p n offset more)) (begun k) (begin_unfinished k (machine q es mid rest)) new =
-    subst (λ (us : List Unfinished). Lays exact_ledger held k (fragment_of (arrived p n offset more)) (begun k) (record rest { unfinished = us; counters = mid }) new) b.shows b' in
+    subst (λ (u : Unfinished). Lays exact_ledger held k (fragment_of (arrived p n offset more)) u
+    (machine r hs mid rest) new) b.at a in
+    let c' : Lays exact_ledger held k (fragment_of (arrived p n offset more)) (begun k)
+    (begin_unfinished k (machine q es mid rest)) new =
+    subst (λ (us : List Unfinished). Lays exact_ledger held k (fragment_of (arrived p n offset more)) (begun k)
+    (record rest { unfinished = us; counters = mid }) new) b.shows b' in
     record {
       tests = record {
         answer = answer;
@@ -142,9 +181,11 @@ begins_here rest held new k w p q r ds es hs c mid d n i offset more result t ts
     }
 
 -- there is room in the table: each datagram has an mbuf for its key and a fragment, and the chain in hand one more
-pub room : (p : PoolView) (ds : List Datagram) (c : ℕ) → IsBounded p → IsTable p ds → HaveFragments ds → IsOwned p (c ∷ held_all p ds) → 2 * length ds < p.mbufs
+pub room : (p : PoolView) (ds : List Datagram) (c : ℕ) → IsBounded p → IsTable p ds → HaveFragments ds
+    → IsOwned p (c ∷ held_all p ds) → 2 * length ds < p.mbufs
 room p ds c b is some owns = omega (arith, owned_at_most p (c ∷ held_all p ds) b owns, twice ds is.each some)
   where
     twice : (xs : List Datagram) → AllUnfinished p xs → HaveFragments xs → 2 * length xs ≤ length (held_all p xs)
     twice [] a f = omega arith
-    twice (d ∷ xs) a f = omega (arith, f.0, a.0.queue.held.whole, twice xs a.1 f.1, length-append (held p d) (held_all p xs))
+    twice (d ∷ xs) a f =
+        omega (arith, f.0, a.0.queue.held.whole, twice xs a.1 f.1, length-append (held p d) (held_all p xs))

@@ -37,72 +37,118 @@ remove-set (x ∷ xs) zero y = refl
 remove-set (x ∷ xs) (suc i) y = ap (λ zs. x ∷ zs) (remove-set xs i y)
 
 -- one key at place i
-module _ (k : Key) (p : PoolView) (ds : List Datagram) (i : ℕ) (l : i < length ds) (here : is_key k (unfinished_of p (datagram_at ds i)) ≡ true) (most : count_by (is_key k) (unfinished p ds) ≤ 1) where
-  at_i : get_or (unfinished p ds) i (unfinished_of p no_datagram) ≡ unfinished_of p (datagram_at ds i)
-  at_i = get_or-map (unfinished_of p) ds i no_datagram (unfinished_of p no_datagram) l
+module _ (k : Key) (p : PoolView) (ds : List Datagram) (i : ℕ) (l : i < length ds)
+    (here : is_key k (unfinished_of p (datagram_at ds i)) ≡ true) (most : count_by (is_key k) (unfinished p ds) ≤ 1)
+  where
+    at_i : get_or (unfinished p ds) i (unfinished_of p no_datagram) ≡ unfinished_of p (datagram_at ds i)
+    at_i = get_or-map (unfinished_of p) ds i no_datagram (unfinished_of p no_datagram) l
 
-  within : i < length (unfinished p ds)
-  within = omega (arith, length-map ds (unfinished_of p))
+    within : i < length (unfinished p ds)
+    within = omega (arith, length-map ds (unfinished_of p))
 
-  -- what `set_bytes` makes of the datagrams
-  pub bytes_set : (bytes : Map) → map (λ (u : Unfinished). cond (is_key k u) (record u { bytes = bytes }) u) (unfinished p ds) ≡ set (unfinished p ds) i (record (unfinished_of p (datagram_at ds i)) { bytes = bytes })
-  bytes_set bytes =
-      map_one (is_key k) (λ (u : Unfinished). record u { bytes = bytes }) (unfinished p ds) i (unfinished_of p no_datagram) within (ap (is_key k) at_i ∙ here) most
-      ∙ ap (λ (u : Unfinished). set (unfinished p ds) i (record u { bytes = bytes })) at_i
+    -- what `set_bytes` makes of the datagrams
+    pub bytes_set : (bytes : Map) → map (λ (u : Unfinished). cond (is_key k u) (record u { bytes = bytes }) u)
+        (unfinished p ds) ≡ set (unfinished p ds) i (record (unfinished_of p (datagram_at ds i)) { bytes = bytes })
+    bytes_set bytes =
+        map_one (is_key k) (λ (u : Unfinished). record u { bytes = bytes }) (unfinished p ds) i
+        (unfinished_of p no_datagram) within (ap (is_key k) at_i ∙ here) most
+        ∙ ap (λ (u : Unfinished). set (unfinished p ds) i (record u { bytes = bytes })) at_i
 
-  pub ended : filter (λ (u : Unfinished). not (is_key k u)) (unfinished p ds) ≡ remove (unfinished p ds) i
-  ended = filter_one (is_key k) (unfinished p ds) i (unfinished_of p no_datagram) within (ap (is_key k) at_i ∙ here) most
+    pub ended : filter (λ (u : Unfinished). not (is_key k u)) (unfinished p ds) ≡ remove (unfinished p ds) i
+    ended =
+        filter_one (is_key k) (unfinished p ds) i (unfinished_of p no_datagram) within (ap (is_key k) at_i ∙ here) most
 
 -- it waits
-pub settles_kept : (rest : State) (held : Weight) (k : Key) (p q : PoolView) (ds es : List Datagram) (c : Counters) (i n : ℕ) (f : QueuedFragment) (new : State) → i < length ds
-    → is_key k (unfinished_of p (datagram_at ds i)) ≡ true → count_by (is_key k) (unfinished p ds) ≤ 1 → (la : LaysIn p ds i n f true q es) → ((m : ℕ) → ¬ IsWhole (map_of (fragments q la.train)) m)
-    → new ≡ machine q es c rest → Lays exact_ledger held k (fragment_of f) (unfinished_of p (datagram_at ds i)) (machine p ds c rest) new
+pub settles_kept : (rest : State) (held : Weight) (k : Key) (p q : PoolView) (ds es : List Datagram) (c : Counters)
+    (i n : ℕ) (f : QueuedFragment) (new : State) → i < length ds
+    → is_key k (unfinished_of p (datagram_at ds i)) ≡ true → count_by (is_key k) (unfinished p ds) ≤ 1
+    → (la : LaysIn p ds i n f true q es) → ((m : ℕ) → ¬ IsWhole (map_of (fragments q la.train)) m)
+    → new ≡ machine q es c rest → Lays exact_ledger held k (fragment_of f) (unfinished_of p (datagram_at ds i))
+    (machine p ds c rest) new
 settles_kept rest held k p q ds es c i n f new l here most la waits is = record {
   yes = λ e. absurd (false≢true (sym la.covered ∙ e));
   no = λ e. inr (
     λ m w. waits m (subst (λ (bytes : Map). IsWhole bytes m) (sym la.map) w),
-    is ∙ (λ j. record rest { unfinished = (la.shows ∙ sym (bytes_set k p ds i l here most (overlay (map_of (fragments p (datagram_at ds i).fragments)) (fragment_of f)))) j; counters = c }),
+    is ∙ (λ j. record rest {
+      unfinished = (la.shows
+          ∙ sym (bytes_set k p ds i l here most
+          (overlay (map_of (fragments p (datagram_at ds i).fragments)) (fragment_of f)))) j;
+      counters = c;
+    }),
   );
 }
 
 -- the datagram is whole
-pub settles_whole : (rest : State) (held : Weight) (k : Key) (p q r : PoolView) (ds es hs : List Datagram) (c d : Counters) (i n out m : ℕ) (f : QueuedFragment) (new : State) → i < length ds
-    → is_key k (unfinished_of p (datagram_at ds i)) ≡ true → count_by (is_key k) (unfinished p ds) ≤ 1 → (la : LaysIn p ds i n f true q es) → (ta : TakesOut q es i out r hs)
-    → IsWhole (map_of (fragments q la.train)) m → IsJoin (weight_of_pieces (map_of (fragments q la.train))) (weight_of (joined (queued q la.train))) m
-    → bytes_below (map_of (fragments q la.train)) m ≡ flat_bytes (joined (queued q la.train)) → (chain_of r out).entries ≡ joined (queued q la.train) → d ≡ counts_more IpReassembled 1 c
-    → WholeArrives exact_ledger held k.source k.destination k.protocol (item_at r out) (machine r hs d rest) new → Lays exact_ledger held k (fragment_of f) (unfinished_of p (datagram_at ds i)) (machine p ds c rest) new
+pub settles_whole : (rest : State) (held : Weight) (k : Key) (p q r : PoolView) (ds es hs : List Datagram)
+    (c d : Counters) (i n out m : ℕ) (f : QueuedFragment) (new : State) → i < length ds
+    → is_key k (unfinished_of p (datagram_at ds i)) ≡ true → count_by (is_key k) (unfinished p ds) ≤ 1
+    → (la : LaysIn p ds i n f true q es) → (ta : TakesOut q es i out r hs)
+    → IsWhole (map_of (fragments q la.train)) m
+    → IsJoin (weight_of_pieces (map_of (fragments q la.train))) (weight_of (joined (queued q la.train))) m
+    → bytes_below (map_of (fragments q la.train)) m ≡ flat_bytes (joined (queued q la.train))
+    → (chain_of r out).entries ≡ joined (queued q la.train) → d ≡ counts_more IpReassembled 1 c
+    → WholeArrives exact_ledger held k.source k.destination k.protocol (item_at r out) (machine r hs d rest) new
+    → Lays exact_ledger held k (fragment_of f) (unfinished_of p (datagram_at ds i)) (machine p ds c rest) new
 settles_whole rest held k p q r ds es hs c d i n out m f new l here most la ta whole join bytes entries counts goes =
     let bs : Map = overlay (map_of (fragments p (datagram_at ds i).fragments)) (fragment_of f) in
-    let item : item_at r out ≡ record { bytes = bytes_below (map_of (fragments q la.train)) m; weight = weight_of (joined (queued q la.train)) } =
-    ap item_of entries ∙ ap (λ (xs : List ℕ). record { bytes = xs; weight = weight_of (joined (queued q la.train)) }) (sym bytes) in
+    let item : item_at r out ≡ record
+    { bytes = bytes_below (map_of (fragments q la.train)) m; weight = weight_of (joined (queued q la.train)) } =
+    ap item_of entries ∙ ap (λ (xs : List ℕ). record { bytes = xs; weight = weight_of (joined (queued q la.train)) })
+    (sym bytes) in
     let left : unfinished r hs ≡ filter (λ (u : Unfinished). not (is_key k u)) (unfinished p ds) =
-    ta.shows ∙ (ap (λ (us : List Unfinished). remove us i) la.shows ∙ (remove-set (unfinished p ds) i _ ∙ sym (ended k p ds i l here most))) in
-    let now : machine r hs d rest ≡ counts_reassembled (end_unfinished k (machine p ds c rest)) = λ j. record rest { unfinished = left j; counters = counts j } in
-    let arrives : WholeArrives exact_ledger held k.source k.destination k.protocol (record { bytes = bytes_below (map_of (fragments q la.train)) m; weight = weight_of (joined (queued q la.train)) }) (counts_reassembled (end_unfinished k (machine p ds c rest))) new =
-    subst (λ (s : State). WholeArrives exact_ledger held k.source k.destination k.protocol (record { bytes = bytes_below (map_of (fragments q la.train)) m; weight = weight_of (joined (queued q la.train)) }) s new) now
-    (subst (λ (x : Item). WholeArrives exact_ledger held k.source k.destination k.protocol x (machine r hs d rest) new) item goes) in
-    let settled : Settles exact_ledger held k (map_of (fragments q la.train)) (machine p ds c rest) new = inl (m, whole, weight_of (joined (queued q la.train)), join, arrives) in
+    ta.shows ∙ (ap (λ (us : List Unfinished). remove us i) la.shows
+    ∙ (remove-set (unfinished p ds) i _ ∙ sym (ended k p ds i l here most))) in
+    let now : machine r hs d rest ≡ counts_reassembled (end_unfinished k (machine p ds c rest)) =
+    λ j. record rest { unfinished = left j; counters = counts j } in
+    let arrives : WholeArrives exact_ledger held k.source k.destination k.protocol
+    (record {
+      bytes = bytes_below (map_of (fragments q la.train)) m;
+      weight =
+          weight_of (joined (queued q la.train));
+    }) (counts_reassembled (end_unfinished k (machine p ds c rest))) new =
+    subst (λ (s : State). WholeArrives exact_ledger held k.source k.destination k.protocol
+    (record {
+      bytes = bytes_below (map_of (fragments q la.train)) m;
+      weight = weight_of (joined (queued q la.train));
+    }) s new) now
+    (subst (λ (x : Item). WholeArrives exact_ledger held k.source k.destination k.protocol x (machine r hs d rest) new)
+    item goes) in
+    let settled : Settles exact_ledger held k (map_of (fragments q la.train)) (machine p ds c rest) new =
+    inl (m, whole, weight_of (joined (queued q la.train)), join, arrives) in
     record {
       yes = λ e. absurd (false≢true (sym la.covered ∙ e));
       no = λ e. subst (λ (b : Map). Settles exact_ledger held k b (machine p ds c rest) new) la.map settled;
     }
 
 -- ---- as the code sees it: the table was lent as a slice
-pub record Lent (p : PoolView) (ds : List Datagram) (i c : ℕ) (f : QueuedFragment) (q : PoolView) (es back : List Datagram) : Type 0 where
+pub record Lent (p : PoolView) (ds : List Datagram) (i c : ℕ) (f : QueuedFragment) (q : PoolView)
+    (es back : List Datagram) : Type 0 where
   pub lays : LaysIn p ds i c f true q es
   pub back_is : back ≡ es
   pub train_is : (datagram_at es i).fragments ≡ lays.train
   pub queue : IsQueue q lays.train
 
-pub lent_table : (p q : PoolView) (ds slice es : List Datagram) (i c n : ℕ) (f : QueuedFragment) (answer : Bool) (back : List Datagram) → i < length ds → n ≡ length ds → slice ≡ ds → answer ≡ true
+pub lent_table : (p q : PoolView) (ds slice es : List Datagram) (i c n : ℕ) (f : QueuedFragment) (answer : Bool)
+    (back : List Datagram) → i < length ds → n ≡ length ds → slice ≡ ds → answer ≡ true
     → LaysIn p slice i c f answer q es → back ≡ take n (es ++ drop (length es) ds) → Lent p ds i c f q es back
 lent_table p q ds slice es i c n f answer back l n_is was agrees la back_is =
-    let here : LaysIn p ds i c f true q es = subst (λ (zs : List Datagram). LaysIn p zs i c f true q es) was (subst (λ (b : Bool). LaysIn p slice i c f b q es) agrees la) in
-    let long : length es ≡ n = omega (arith, ap (λ (zs : List Datagram). length zs) here.change, length-set ds i (record (datagram_at ds i) { fragments = here.train; bytes = here.bytes }), n_is) in
+    let here : LaysIn p ds i c f true q es =
+    subst (λ (zs : List Datagram). LaysIn p zs i c f true q es) was
+    (subst (λ (b : Bool). LaysIn p slice i c f b q es) agrees la) in
+    let long : length es ≡ n =
+    omega (
+      arith,
+      ap (λ (zs : List Datagram). length zs) here.change,
+      length-set ds i (record (datagram_at ds i) { fragments = here.train; bytes = here.bytes }),
+      n_is,
+    ) in
     let within : i < length es = omega (arith, long, n_is) in
     let one : IsUnfinished q (datagram_at es i) = (each_at q es i no_datagram within here.table.each).0 in
     let at : (datagram_at es i).fragments ≡ here.train =
-    ap (λ (zs : List Datagram). (get_or zs i no_datagram).fragments) here.change ∙ ap (λ (d : Datagram). d.fragments) (get_or-set_same ds i (record (datagram_at ds i) { fragments = here.train; bytes = here.bytes }) no_datagram l) in
+    ap (λ (zs : List Datagram). (get_or zs i no_datagram).fragments) here.change
+    ∙ ap (λ (d : Datagram). d.fragments)
+    (get_or-set_same ds i (record (datagram_at ds i) { fragments = here.train; bytes = here.bytes }) no_datagram l)
+    in
     record {
       lays = here;
       back_is = back_is ∙ lent n ds es long;
@@ -110,43 +156,60 @@ lent_table p q ds slice es i c n f answer back l n_is was agrees la back_is =
       queue = subst (IsQueue q) at one.queue;
     }
 
-module _ (p q : PoolView) (ds es back : List Datagram) (i n : ℕ) (f : QueuedFragment) (e : Lent p ds i n f q es back) where
-  -- it waits
-  pub lent_kept : (rest : State) (held : Weight) (k : Key) (c : Counters) (new : State) → i < length ds → is_key k (unfinished_of p (datagram_at ds i)) ≡ true → count_by (is_key k) (unfinished p ds) ≤ 1
-      → ((m : ℕ) → ¬ IsWhole (map_of (fragments q (datagram_at es i).fragments)) m) → new ≡ machine q back c rest → Lays exact_ledger held k (fragment_of f) (unfinished_of p (datagram_at ds i)) (machine p ds c rest) new
-  lent_kept rest held k c new l here most waits is =
-      settles_kept rest held k p q ds es c i n f new l here most e.lays (λ m w. waits m (subst (λ (t : TrainView). IsWhole (map_of (fragments q t)) m) (sym e.train_is) w))
-      (is ∙ ap (λ (zs : List Datagram). machine q zs c rest) e.back_is)
+module _ (p q : PoolView) (ds es back : List Datagram) (i n : ℕ) (f : QueuedFragment) (e : Lent p ds i n f q es back)
+  where
+    -- it waits
+    pub lent_kept : (rest : State) (held : Weight) (k : Key) (c : Counters) (new : State) → i < length ds
+        → is_key k (unfinished_of p (datagram_at ds i)) ≡ true → count_by (is_key k) (unfinished p ds) ≤ 1
+        → ((m : ℕ) → ¬ IsWhole (map_of (fragments q (datagram_at es i).fragments)) m) → new ≡ machine q back c rest
+        → Lays exact_ledger held k (fragment_of f) (unfinished_of p (datagram_at ds i)) (machine p ds c rest) new
+    lent_kept rest held k c new l here most waits is =
+        settles_kept rest held k p q ds es c i n f new l here most e.lays
+        (λ m w. waits m (subst (λ (t : TrainView). IsWhole (map_of (fragments q t)) m) (sym e.train_is) w))
+        (is ∙ ap (λ (zs : List Datagram). machine q zs c rest) e.back_is)
 
-  whole_here : (m : ℕ) → IsWhole (map_of (fragments q (datagram_at es i).fragments)) m → IsWhole (map_of (fragments q e.lays.train)) m
-  whole_here m w = subst (λ (t : TrainView). IsWhole (map_of (fragments q t)) m) e.train_is w
+    whole_here : (m : ℕ) → IsWhole (map_of (fragments q (datagram_at es i).fragments)) m
+        → IsWhole (map_of (fragments q e.lays.train)) m
+    whole_here m w = subst (λ (t : TrainView). IsWhole (map_of (fragments q t)) m) e.train_is w
 
-  -- a whole datagram is no longer than the longest, and has a fragment
-  pub whole_short : (m : ℕ) → IsWhole (map_of (fragments q (datagram_at es i).fragments)) m → m ≤ 65515
-  whole_short m w = whole_most (fragments q e.lays.train) m e.queue.apart e.queue.small (whole_here m w)
+    -- a whole datagram is no longer than the longest, and has a fragment
+    pub whole_short : (m : ℕ) → IsWhole (map_of (fragments q (datagram_at es i).fragments)) m → m ≤ 65515
+    whole_short m w = whole_most (fragments q e.lays.train) m e.queue.apart e.queue.small (whole_here m w)
 
-  -- it is whole
-  module _ (l : i < length ds) (r : PoolView) (hs : List Datagram) (out m : ℕ) (bounded : IsBounded q) (w : IsWhole (map_of (fragments q (datagram_at es i).fragments)) m) (takes : TakesOut q back i out r hs) where
-    taken : TakesOut q es i out r hs
-    taken = subst (λ (zs : List Datagram). TakesOut q zs i out r hs) e.back_is takes
+    -- it is whole
+    module _ (l : i < length ds) (r : PoolView) (hs : List Datagram) (out m : ℕ) (bounded : IsBounded q)
+        (w : IsWhole (map_of (fragments q (datagram_at es i).fragments)) m) (takes : TakesOut q back i out r hs) where
+      taken : TakesOut q es i out r hs
+      taken = subst (λ (zs : List Datagram). TakesOut q zs i out r hs) e.back_is takes
 
-    pub lent_entries : (chain_of r out).entries ≡ joined (queued q e.lays.train)
-    lent_entries = taken.entries ∙ ap (λ (t : TrainView). joined (queued q t)) e.train_is
+      pub lent_entries : (chain_of r out).entries ≡ joined (queued q e.lays.train)
+      lent_entries = taken.entries ∙ ap (λ (t : TrainView). joined (queued q t)) e.train_is
 
-    pub lent_whole : (rest : State) (held : Weight) (k : Key) (c d : Counters) (new : State) → is_key k (unfinished_of p (datagram_at ds i)) ≡ true → count_by (is_key k) (unfinished p ds) ≤ 1 → d ≡ counts_more IpReassembled 1 c
-        → WholeArrives exact_ledger held k.source k.destination k.protocol (item_at r out) (machine r hs d rest) new → Lays exact_ledger held k (fragment_of f) (unfinished_of p (datagram_at ds i)) (machine p ds c rest) new
-    lent_whole rest held k c d new here most counts goes =
-        let whole : IsWhole (map_of (fragments q e.lays.train)) m = whole_here m w in
-        settles_whole rest held k p q r ds es hs c d i n out m f new l here most e.lays taken whole (join_is q e.lays.train m e.queue (all_some q e.lays.train bounded e.queue.held) (all_fit q e.lays.train bounded e.queue.held) whole)
-        (joined_bytes q e.lays.train m e.queue whole) lent_entries counts goes
+      pub lent_whole : (rest : State) (held : Weight) (k : Key) (c d : Counters) (new : State)
+          → is_key k (unfinished_of p (datagram_at ds i)) ≡ true → count_by (is_key k) (unfinished p ds) ≤ 1
+          → d ≡ counts_more IpReassembled 1 c
+          → WholeArrives exact_ledger held k.source k.destination k.protocol (item_at r out) (machine r hs d rest) new
+          → Lays exact_ledger held k (fragment_of f) (unfinished_of p (datagram_at ds i)) (machine p ds c rest) new
+      lent_whole rest held k c d new here most counts goes =
+          let whole : IsWhole (map_of (fragments q e.lays.train)) m = whole_here m w in
+          settles_whole rest held k p q r ds es hs c d i n out m f new l here most e.lays taken whole
+          (join_is q e.lays.train m e.queue (all_some q e.lays.train bounded e.queue.held)
+          (all_fit q e.lays.train bounded e.queue.held) whole)
+          (joined_bytes q e.lays.train m e.queue whole) lent_entries counts goes
 
-    pub lent_leaves : ((chain_of r out).entries ≡ joined (laid f (queue_at (queues p ds) i).fragments)) × (queues r hs ≡ remove (queues p ds) i)
-    lent_leaves =
-        let here : queue_at (queues p ds) i ≡ queue_of p (datagram_at ds i) = get_or-map (queue_of p) ds i no_datagram no_queue l in
-        (lent_entries ∙ (ap joined e.lays.queue ∙ ap (λ (y : KeyedQueue). joined (laid f y.fragments)) (sym here)), taken.rows ∙ (ap (λ (ys : List KeyedQueue). remove ys i) e.lays.rows ∙ remove-set (queues p ds) i _))
+      pub lent_leaves : ((chain_of r out).entries ≡ joined (laid f (queue_at (queues p ds) i).fragments))
+          × (queues r hs ≡ remove (queues p ds) i)
+      lent_leaves =
+          let here : queue_at (queues p ds) i ≡ queue_of p (datagram_at ds i) =
+          get_or-map (queue_of p) ds i no_datagram no_queue l in (
+            lent_entries ∙ (ap joined e.lays.queue ∙ ap (λ (y : KeyedQueue). joined (laid f y.fragments)) (sym here)),
+            taken.rows ∙ (ap (λ (ys : List KeyedQueue). remove ys i) e.lays.rows ∙ remove-set (queues p ds) i _),
+          )
 
-    pub lent_len : m ≡ length (string (chain_of r out))
-    lent_len = joined_len q e.lays.train m e.queue (whole_here m w) ∙ ap (λ (xs : List Entry). length (flat_bytes xs)) (sym lent_entries)
+      pub lent_len : m ≡ length (string (chain_of r out))
+      lent_len =
+          joined_len q e.lays.train m e.queue (whole_here m w)
+          ∙ ap (λ (xs : List Entry). length (flat_bytes xs)) (sym lent_entries)
 
-    pub lent_moves : Moves p (n ∷ held_all p ds) r (out ∷ held_all r hs)
-    lent_moves = moves_trans e.lays.moves taken.moves
+      pub lent_moves : Moves p (n ∷ held_all p ds) r (out ∷ held_all r hs)
+      lent_moves = moves_trans e.lays.moves taken.moves

@@ -25,11 +25,19 @@ use Rattle.ip_reass.specs.Same.{held_all_same, each_same, unfinished_same, queue
 use Rattle.ip_reass.specs.Layouts.{KeyedQueue, queue_of, queues}
 
 -- ---- datagrams freed
-pub held_all-append : (p : PoolView) (k : ℕ) (xs ys : List Datagram) → times k (held_all p (xs ++ ys)) ≡ times k (held_all p xs) + times k (held_all p ys)
+pub held_all-append : (p : PoolView) (k : ℕ) (xs ys : List Datagram)
+    → times k (held_all p (xs ++ ys)) ≡ times k (held_all p xs) + times k (held_all p ys)
 held_all-append p k [] ys = omega arith
-held_all-append p k (d ∷ xs) ys = omega (arith, times-append k (held p d) (held_all p (xs ++ ys)), times-append k (held p d) (held_all p xs), held_all-append p k xs ys)
+held_all-append p k (d ∷ xs) ys =
+    omega (
+      arith,
+      times-append k (held p d) (held_all p (xs ++ ys)),
+      times-append k (held p d) (held_all p xs),
+      held_all-append p k xs ys,
+    )
 
-all_split : (p : PoolView) (ys : List Datagram) (d : Datagram) → AllUnfinished p (ys ++ d ∷ []) → AllUnfinished p ys × IsUnfinished p d
+all_split : (p : PoolView) (ys : List Datagram) (d : Datagram) → AllUnfinished p (ys ++ d ∷ [])
+    → AllUnfinished p ys × IsUnfinished p d
 all_split p [] d a = (tt, a.0)
 all_split p (y ∷ ys) d a = let r = all_split p ys d a.1 in ((a.0, r.0), r.1)
 
@@ -39,7 +47,14 @@ pub record Last (p : PoolView) (d : Datagram) : Type 0 where
 
 pub last_of : (p : PoolView) (xs ys : List Datagram) (d : Datagram) → xs ≡ ys ++ d ∷ [] → IsTable p xs → Last p d
 last_of p xs ys d e is = record {
-  owned = λ k. omega (arith, is.owned k, ap (λ (zs : List Datagram). times k (held_all p zs)) e, held_all-append p k ys (d ∷ []), times-append k (held p d) []);
+  owned =
+      λ k. omega (
+        arith,
+        is.owned k,
+        ap (λ (zs : List Datagram). times k (held_all p zs)) e,
+        held_all-append p k ys (d ∷ []),
+        times-append k (held p d) [],
+      );
   held = (all_split p ys d (subst (AllUnfinished p) e is.each)).1.queue.held;
 }
 
@@ -49,13 +64,22 @@ pub record Shorter (p : PoolView) (xs : List Datagram) (r : PoolView) (ys : List
   pub moves : Moves p (held_all p xs) r (held_all r ys)
 
 -- **a table without its last datagram, which was freed**
-pub shorter : (p r : PoolView) (xs ys : List Datagram) (d : Datagram) → xs ≡ ys ++ d ∷ [] → IsTable p xs → Moves p (held p d) r [] → Shorter p xs r ys
+pub shorter : (p r : PoolView) (xs ys : List Datagram) (d : Datagram) → xs ≡ ys ++ d ∷ [] → IsTable p xs
+    → Moves p (held p d) r [] → Shorter p xs r ys
 shorter p r xs ys d e is m =
-    let split : (k : ℕ) → times k (held_all p xs) ≡ times k (held_all p ys) + times k (held p d) = λ k. omega (arith, ap (λ (zs : List Datagram). times k (held_all p zs)) e, held_all-append p k ys (d ∷ []), times-append k (held p d) []) in
+    let split : (k : ℕ) → times k (held_all p xs) ≡ times k (held_all p ys) + times k (held p d) =
+    λ k. omega (
+      arith,
+      ap (λ (zs : List Datagram). times k (held_all p zs)) e,
+      held_all-append p k ys (d ∷ []),
+      times-append k (held p d) [],
+    ) in
     let owns : IsOwned p (held_all p ys) = λ k. omega (arith, is.owned k, split k) in
-    let same : SameAt p r (held_all p ys) = same_beside (held_all p ys) m owns (λ k l. omega (arith, is.owned k, split k, live_at_most p k)) in
+    let same : SameAt p r (held_all p ys) =
+    same_beside (held_all p ys) m owns (λ k l. omega (arith, is.owned k, split k, live_at_most p k)) in
     let all : held_all r ys ≡ held_all p ys = held_all_same p r ys same in
-    let moves : Moves p (held_all p xs) r (held_all r ys) = moves_beside (held_all p xs) (held_all r ys) (held_all p ys) m split (λ k. omega (arith, ap (times k) all)) in
+    let moves : Moves p (held_all p xs) r (held_all r ys) =
+    moves_beside (held_all p xs) (held_all r ys) (held_all p ys) m split (λ k. omega (arith, ap (times k) all)) in
     record {
       table = record {
         owned = owned_after moves is.owned;
@@ -71,42 +95,57 @@ pub record Emptied (p : PoolView) (d : Datagram) (q : PoolView) : Type 0 where
   pub queue_is : queued q d.fragments ≡ queued p d.fragments
   pub moves : Moves p (held p d) q (numbers q d.fragments)
 
-pub emptied : (p q : PoolView) (d : Datagram) → IsOwned p (held p d) → IsHeld p d.fragments → q ≡ without p d.holder → Emptied p d q
+pub emptied : (p q : PoolView) (d : Datagram) → IsOwned p (held p d) → IsHeld p d.fragments → q ≡ without p d.holder
+    → Emptied p d q
 emptied p q d owns holds is =
-    let b : Beside p q d.fragments = beside_without p q d.holder d.fragments is (apart_first p d.holder (numbers p d.fragments) owns) holds in
+    let b : Beside p q d.fragments =
+    beside_without p q d.holder d.fragments is (apart_first p d.holder (numbers p d.fragments) owns) holds in
     record {
       held_q = b.held;
       queue_is = ap (map queued_of) b.queued_packets;
-      moves = moves_beside (held p d) (numbers q d.fragments) (numbers p d.fragments) (moves_without p q d.holder (live_first p d.holder (numbers p d.fragments) owns) is) (λ k. omega arith) (λ k. omega (arith, ap (times k) b.numbers));
+      moves =
+          moves_beside (held p d) (numbers q d.fragments) (numbers p d.fragments)
+          (moves_without p q d.holder (live_first p d.holder (numbers p d.fragments) owns) is) (λ k. omega arith)
+          (λ k. omega (arith, ap (times k) b.numbers));
     }
 
 -- the datagrams that stay are as they were, step by step
-pub same_more : (p q r : PoolView) (xs ys : List Datagram) (d : Datagram) → xs ≡ ys ++ d ∷ [] → SameAt p q (held_all p xs) → SameAt q r (held_all q ys) → SameAt p r (held_all p ys)
+pub same_more : (p q r : PoolView) (xs ys : List Datagram) (d : Datagram) → xs ≡ ys ++ d ∷ []
+    → SameAt p q (held_all p xs) → SameAt q r (held_all q ys) → SameAt p r (held_all p ys)
 same_more p q r xs ys d e s n =
-    let here : SameAt p q (held_all p ys) = same_part p q (held_all p xs) (held_all p ys) s (λ k. omega (arith, ap (λ (zs : List Datagram). times k (held_all p zs)) e, held_all-append p k ys (d ∷ []))) in
+    let here : SameAt p q (held_all p ys) =
+    same_part p q (held_all p xs) (held_all p ys) s
+    (λ k. omega (arith, ap (λ (zs : List Datagram). times k (held_all p zs)) e, held_all-append p k ys (d ∷ []))) in
     same_trans p q r (held_all p ys) here (subst (SameAt q r) (held_all_same p q ys here) n)
 
 pub same_none : (p : PoolView) (xs : List ℕ) → SameAt p p xs
 same_none p xs = record { mbufs = refl; same = λ k h. refl }
 
 -- ---- a look-up
-pub find_at : (test : Datagram → Bool) (xs : List Datagram) (i : ℕ) (d : Datagram) → i < length xs → test (get_or xs i d) ≡ true → find test (drop i xs) ≡ slice_get xs i
+pub find_at : (test : Datagram → Bool) (xs : List Datagram) (i : ℕ) (d : Datagram) → i < length xs
+    → test (get_or xs i d) ≡ true → find test (drop i xs) ≡ slice_get xs i
 find_at test [] i d l e = absurd (omega arith)
 find_at test (x ∷ xs) zero d l e = cond-true _ _ _ e
 find_at test (x ∷ xs) (suc i) d l e = find_at test xs i d (omega arith) e
 
-pub find_past : (test : Datagram → Bool) (xs : List Datagram) (i : ℕ) (d : Datagram) → i < length xs → test (get_or xs i d) ≡ false → find test (drop (i + 1) xs) ≡ find test (drop i xs)
-find_past test xs i d l e = (let e' : i + 1 ≡ suc i = omega arith in ap (λ (n : ℕ). find test (drop n xs)) e') ∙ go xs i l e
+pub find_past : (test : Datagram → Bool) (xs : List Datagram) (i : ℕ) (d : Datagram) → i < length xs
+    → test (get_or xs i d) ≡ false → find test (drop (i + 1) xs) ≡ find test (drop i xs)
+find_past test xs i d l e =
+    (let e' : i + 1 ≡ suc i = omega arith in ap (λ (n : ℕ). find test (drop n xs)) e') ∙ go xs i l e
   where
-    go : (ys : List Datagram) (j : ℕ) → j < length ys → test (get_or ys j d) ≡ false → find test (drop (suc j) ys) ≡ find test (drop j ys)
+    go : (ys : List Datagram) (j : ℕ) → j < length ys → test (get_or ys j d) ≡ false
+        → find test (drop (suc j) ys) ≡ find test (drop j ys)
     go [] j m f = absurd (omega arith)
     go (y ∷ ys) zero m f = sym (cond-false _ _ _ f)
     go (y ∷ ys) (suc j) m f = go ys j (omega arith) f
 
-pub find_none_more : (test : Datagram → Bool) (xs : List Datagram) (i : ℕ) (d : Datagram) → i < length xs → find test (take i xs) ≡ None → test (get_or xs i d) ≡ false → find test (take (i + 1) xs) ≡ None
-find_none_more test xs i d l none e = (let e' : i + 1 ≡ suc i = omega arith in ap (λ (n : ℕ). find test (take n xs)) e') ∙ go xs i l none e
+pub find_none_more : (test : Datagram → Bool) (xs : List Datagram) (i : ℕ) (d : Datagram) → i < length xs
+    → find test (take i xs) ≡ None → test (get_or xs i d) ≡ false → find test (take (i + 1) xs) ≡ None
+find_none_more test xs i d l none e =
+    (let e' : i + 1 ≡ suc i = omega arith in ap (λ (n : ℕ). find test (take n xs)) e') ∙ go xs i l none e
   where
-    go : (ys : List Datagram) (j : ℕ) → j < length ys → find test (take j ys) ≡ None → test (get_or ys j d) ≡ false → find test (take (suc j) ys) ≡ None
+    go : (ys : List Datagram) (j : ℕ) → j < length ys → find test (take j ys) ≡ None → test (get_or ys j d) ≡ false
+        → find test (take (suc j) ys) ≡ None
     go [] j m n f = refl
     go (y ∷ ys) zero m n f = cond-false _ _ _ f
     go (y ∷ ys) (suc j) m n f = elim (cases_Bool (test y)) [
@@ -120,29 +159,47 @@ pub record Begins (p : PoolView) (ds : List Datagram) (q : PoolView) (es : List 
   pub same : SameAt p q (held_all p ds)
   pub moves : Moves p (held_all p ds) q (held_all q es)
   pub shows : (k : Key) (c : ℕ) → es ≡ ds ++ new_datagram k c ∷ [] → unfinished q es ≡ unfinished p ds ++ begun k ∷ []
-  pub rows : (k : Key) (c : ℕ) → es ≡ ds ++ new_datagram k c ∷ [] → queues q es ≡ queues p ds ++ record { key = k; fragments = [] } ∷ []
+  pub rows : (k : Key) (c : ℕ) → es ≡ ds ++ new_datagram k c ∷ []
+      → queues q es ≡ queues p ds ++ record { key = k; fragments = [] } ∷ []
 
-pub begins : (p q : PoolView) (ds es : List Datagram) (k : Key) (c : ℕ) → IsTable p ds → Adds p q c (one_mbuf true (empty_entry 28 None) c)
+pub begins : (p q : PoolView) (ds es : List Datagram) (k : Key) (c : ℕ) → IsTable p ds
+    → Adds p q c (one_mbuf true (empty_entry 28 None) c)
     → es ≡ ds ++ new_datagram k c ∷ [] → Begins p ds q es
 begins p q ds es k c is a e =
     let d : Datagram = new_datagram k c in
     let same : SameAt p q (held_all p ds) = same_adds (held_all p ds) a is.owned in
     let all : held_all q ds ≡ held_all p ds = held_all_same p q ds same in
-    let times_is : (j : ℕ) → times j (held_all q es) ≡ times j (held_all p ds) + times j (c ∷ []) = λ j. omega (arith, ap (λ (zs : List Datagram). times j (held_all q zs)) e, held_all-append q j ds (d ∷ []), ap (times j) all) in
-    let moves : Moves p (held_all p ds) q (held_all q es) = moves_beside (held_all p ds) (held_all q es) (held_all p ds) (moves_adds a) (λ j. omega arith) times_is in
+    let times_is : (j : ℕ) → times j (held_all q es) ≡ times j (held_all p ds) + times j (c ∷ []) =
+    λ j. omega (
+      arith,
+      ap (λ (zs : List Datagram). times j (held_all q zs)) e,
+      held_all-append q j ds (d ∷ []),
+      ap (times j) all,
+    ) in
+    let moves : Moves p (held_all p ds) q (held_all q es) =
+    moves_beside (held_all p ds) (held_all q es) (held_all p ds) (moves_adds a) (λ j. omega arith) times_is in
     let mine : IsUnfinished q d = record {
       queue = record { held = held_none q d.fragments refl; apart = tt; small = tt };
       counted = refl;
       holder = ap (λ v. weight_of v.entries) (shown_adds a);
     } in
     record {
-      table = record { owned = owned_after moves is.owned; each = subst (AllUnfinished q) (sym e) (each_end q ds d (each_same p q ds same is.each) mine) };
+      table =
+          record {
+            owned = owned_after moves is.owned;
+            each = subst (AllUnfinished q) (sym e) (each_end q ds d (each_same p q ds same is.each) mine);
+          };
       same = same;
       moves = moves;
-      shows = λ j b f. ap (unfinished q) f ∙ (map-append (unfinished_of q) ds (new_datagram j b ∷ []) ∙ ap (λ (us : List Unfinished). us ++ begun j ∷ []) (unfinished_same p q ds same));
-      rows = λ j b f. ap (queues q) f ∙ (map-append (queue_of q) ds (new_datagram j b ∷ []) ∙ ap (λ (us : List KeyedQueue). us ++ record { key = j; fragments = [] } ∷ []) (queues_same p q ds same));
+      shows =
+          λ j b f. ap (unfinished q) f ∙ (map-append (unfinished_of q) ds (new_datagram j b ∷ [])
+          ∙ ap (λ (us : List Unfinished). us ++ begun j ∷ []) (unfinished_same p q ds same));
+      rows =
+          λ j b f. ap (queues q) f ∙ (map-append (queue_of q) ds (new_datagram j b ∷ [])
+          ∙ ap (λ (us : List KeyedQueue). us ++ record { key = j; fragments = [] } ∷ []) (queues_same p q ds same));
     }
   where
-    each_end : (q : PoolView) (xs : List Datagram) (x : Datagram) → AllUnfinished q xs → IsUnfinished q x → AllUnfinished q (xs ++ x ∷ [])
+    each_end : (q : PoolView) (xs : List Datagram) (x : Datagram) → AllUnfinished q xs → IsUnfinished q x
+        → AllUnfinished q (xs ++ x ∷ [])
     each_end q [] x a h = (h, tt)
     each_end q (y ∷ ys) x a h = (a.0, each_end q ys x a.1 h)

@@ -22,7 +22,8 @@ last_more [] = true
 last_more (p ∷ []) = p.more
 last_more (p ∷ q ∷ ps) = last_more (q ∷ ps)
 
-pub row_known : (low : ℕ) (ps : List Fragment) (k : ℕ) → InRow low ps → low ≤ k → k < reach low ps → IsSome (map_of ps k)
+pub row_known : (low : ℕ) (ps : List Fragment) (k : ℕ) → InRow low ps → low ≤ k → k < reach low ps
+    → IsSome (map_of ps k)
 row_known low [] k r l m = absurd (omega arith)
 row_known low (p ∷ ps) k r l m = elim (cases_lt k (end_of p)) [
   | inl b ↦ subst IsSome (sym (known_here p ps k (omega arith) b)) refl
@@ -37,7 +38,8 @@ known_end low ps k a h = elim (cases_lt k (reach low ps)) [
 ]
 
 -- the last byte is the last fragment's
-pub last_is : (low : ℕ) (p : Fragment) (ps : List Fragment) (k : ℕ) → Apart low (p ∷ ps) → k + 1 ≡ reach low (p ∷ ps) → (c : Held) × (map_of (p ∷ ps) k ≡ Some c) × (c.piece.more ≡ last_more (p ∷ ps))
+pub last_is : (low : ℕ) (p : Fragment) (ps : List Fragment) (k : ℕ) → Apart low (p ∷ ps) → k + 1 ≡ reach low (p ∷ ps)
+    → (c : Held) × (map_of (p ∷ ps) k ≡ Some c) × (c.piece.more ≡ last_more (p ∷ ps))
 last_is low p [] k a e = (own p k, known_here p [] k (omega arith) (omega arith), refl)
 last_is low p (q ∷ ps) k a e =
     let g : end_of q ≤ reach (end_of q) ps = reach_grows (end_of q) ps a.2.2 in
@@ -45,7 +47,8 @@ last_is low p (q ∷ ps) k a e =
     (r.0, known_past p (q ∷ ps) k (omega arith) ∙ r.1, r.2)
 
 -- **fragments in a row whose last has no more are whole**
-pub whole_from : (ps : List Fragment) (n : ℕ) → Apart 0 ps → InRow 0 ps → last_more ps ≡ false → n ≡ reach 0 ps → IsWhole (map_of ps) n
+pub whole_from : (ps : List Fragment) (n : ℕ) → Apart 0 ps → InRow 0 ps → last_more ps ≡ false → n ≡ reach 0 ps
+    → IsWhole (map_of ps) n
 whole_from [] n a row last e = absurd (let f : true ≡ false = last in cc)
 whole_from (p ∷ ps) n a row last e =
     let g : end_of p ≤ reach (end_of p) ps = reach_grows (end_of p) ps a.2 in
@@ -57,17 +60,29 @@ whole_from (p ∷ ps) n a row last e =
       last = subst (λ (o : Option Held). IfSome o (λ held. held.piece.more ≡ false)) (sym r.1) (r.2 ∙ last);
     }
 
-pub row_from : (low n : ℕ) (ps : List Fragment) → Apart low ps → low ≤ n → ((k : ℕ) → low ≤ k → k < n → IsSome (map_of ps k)) → ((k : ℕ) → IsSome (map_of ps k) → k < n) → InRow low ps × (reach low ps ≡ n)
-row_from low n [] a l some none = (tt, elim (cases_lt low n) [ inl m ↦ absurd (false≢true (some low (omega arith) m)) | inr m ↦ omega arith ])
+pub row_from : (low n : ℕ) (ps : List Fragment) → Apart low ps → low ≤ n
+    → ((k : ℕ) → low ≤ k → k < n → IsSome (map_of ps k)) → ((k : ℕ) → IsSome (map_of ps k) → k < n)
+    → InRow low ps × (reach low ps ≡ n)
+row_from low n [] a l some none =
+    (tt, elim (cases_lt low n) [ inl m ↦ absurd (false≢true (some low (omega arith) m)) | inr m ↦ omega arith ])
 row_from low n (p ∷ ps) a l some none =
-    let first : p.offset < n = none p.offset (subst IsSome (sym (known_here p ps p.offset (omega arith) (omega arith))) refl) in
-    let last : end_of p ≤ n = let m : p.offset + length p.bytes - 1 < n = none (p.offset + length p.bytes - 1) (subst IsSome (sym (known_here p ps (p.offset + length p.bytes - 1) (omega arith) (omega arith))) refl) in omega arith in
+    let first : p.offset < n =
+    none p.offset (subst IsSome (sym (known_here p ps p.offset (omega arith) (omega arith))) refl) in
+    let last : end_of p ≤ n =
+    let m : p.offset + length p.bytes - 1 < n =
+    none (p.offset + length p.bytes - 1)
+    (subst IsSome (sym (known_here p ps (p.offset + length p.bytes - 1) (omega arith) (omega arith))) refl) in
+    omega arith in
     let at_low : p.offset ≡ low = elim (place p low) [
-      | below b ↦ absurd (false≢true (subst IsSome (known_below p ps low b ∙ nothing_below (end_of p) ps low a.2 (omega arith)) (some low (omega arith) (omega arith))))
+      | below b ↦ absurd (false≢true
+          (subst IsSome (known_below p ps low b ∙ nothing_below (end_of p) ps low a.2 (omega arith))
+          (some low (omega arith) (omega arith))))
       | within b c ↦ omega arith
       | past b ↦ omega arith
     ] in
-    let r = row_from (end_of p) n ps a.2 last (λ k b m. subst IsSome (known_past p ps k b) (some k (omega arith) m)) (later none) in
+    let r =
+    row_from (end_of p) n ps a.2 last (λ k b m. subst IsSome (known_past p ps k b) (some k (omega arith) m))
+    (later none) in
     ((at_low, r.0), r.1)
   where
     later : ((k : ℕ) → IsSome (map_of (p ∷ ps) k) → k < n) → (k : ℕ) → IsSome (map_of ps k) → k < n
@@ -77,26 +92,31 @@ row_from low n (p ∷ ps) a l some none =
     ]
 
 -- **and only those are**
-pub whole_only : (n : ℕ) (ps : List Fragment) → Apart 0 ps → IsWhole (map_of ps) n → InRow 0 ps × (reach 0 ps ≡ n) × (last_more ps ≡ false)
+pub whole_only : (n : ℕ) (ps : List Fragment) → Apart 0 ps → IsWhole (map_of ps) n
+    → InRow 0 ps × (reach 0 ps ≡ n) × (last_more ps ≡ false)
 whole_only n [] a w = absurd (false≢true (w.filled 0 w.some))
 whole_only n (p ∷ ps) a w =
     let r = row_from 0 n (p ∷ ps) a (omega arith) (λ k l m. w.filled k m) w.ended in
     let some = w.some in
     let c = last_is 0 p ps (n - 1) a (omega (arith, r.1)) in
-    let none : c.0.piece.more ≡ false = subst (λ (o : Option Held). IfSome o (λ held. held.piece.more ≡ false)) c.1 w.last in
+    let none : c.0.piece.more ≡ false =
+    subst (λ (o : Option Held). IfSome o (λ held. held.piece.more ≡ false)) c.1 w.last in
     (r.0, r.1, sym c.2 ∙ none)
 
 -- **the bytes of fragments in a row, joined, are the map's in order**
-pub joined_at : (low : ℕ) (ps : List Fragment) (k : ℕ) (c : Held) → InRow low ps → map_of ps (low + k) ≡ Some c → c.byte ≡ get_or (bytes_of ps) k 0
+pub joined_at : (low : ℕ) (ps : List Fragment) (k : ℕ) (c : Held) → InRow low ps → map_of ps (low + k) ≡ Some c
+    → c.byte ≡ get_or (bytes_of ps) k 0
 joined_at low [] k c r e = absurd (let f : None ≡ Some c = e in cc)
 joined_at low (p ∷ ps) k c r e = elim (cases_lt k (length p.bytes)) [
   | inl l ↦
       let same : Some (own p (low + k)) ≡ Some c = sym (known_here p ps (low + k) (omega arith) (omega arith)) ∙ e in
       let at_k : low + k - p.offset ≡ k = omega arith in
-      sym (get_or_append_left p.bytes (bytes_of ps) 0 k l ∙ (ap (λ (j : ℕ). get_or p.bytes j 0) (sym at_k) ∙ ap byte_in same))
+      sym (get_or_append_left p.bytes (bytes_of ps) 0 k l
+      ∙ (ap (λ (j : ℕ). get_or p.bytes j 0) (sym at_k) ∙ ap byte_in same))
   | inr l ↦
       let moved : low + k ≡ end_of p + (k - length p.bytes) = omega arith in
-      joined_at (end_of p) ps (k - length p.bytes) c r.1 (ap (map_of ps) (sym moved) ∙ (sym (known_past p ps (low + k) (omega arith)) ∙ e))
+      joined_at (end_of p) ps (k - length p.bytes) c r.1
+      (ap (map_of ps) (sym moved) ∙ (sym (known_past p ps (low + k) (omega arith)) ∙ e))
       ∙ sym (get_or-append_right p.bytes (bytes_of ps) (length p.bytes) k 0 refl l)
 ]
   where
@@ -109,7 +129,8 @@ length-joined low [] r = omega arith
 length-joined low (p ∷ ps) r = omega (arith, length-joined (end_of p) ps r.1, length-append p.bytes (bytes_of ps))
 
 -- **what is whole is the fragments joined**
-pub bytes_are : (ps : List Fragment) (n : ℕ) → Apart 0 ps → IsWhole (map_of ps) n → (bytes_below (map_of ps) n ≡ bytes_of ps) × (n ≡ length (bytes_of ps))
+pub bytes_are : (ps : List Fragment) (n : ℕ) → Apart 0 ps → IsWhole (map_of ps) n
+    → (bytes_below (map_of ps) n ≡ bytes_of ps) × (n ≡ length (bytes_of ps))
 bytes_are ps n a w =
     let r = whole_only n ps a w in
     let len : n ≡ length (bytes_of ps) = omega (arith, length-joined 0 ps r.0, r.1) in
@@ -145,7 +166,8 @@ last_at zero (p ∷ q ∷ ps) e = absurd (omega arith)
 last_at (suc i) (p ∷ q ∷ ps) e = last_at i (q ∷ ps) (omega arith)
 
 -- more come after the last
-pub open_stops : (ps : List Fragment) (i : ℕ) → Apart 0 ps → i + 1 ≡ length ps → (fragment_at ps i).more ≡ true → (n : ℕ) → ¬ IsWhole (map_of ps) n
+pub open_stops : (ps : List Fragment) (i : ℕ) → Apart 0 ps → i + 1 ≡ length ps → (fragment_at ps i).more ≡ true
+    → (n : ℕ) → ¬ IsWhole (map_of ps) n
 open_stops ps i a l m n w =
     let r = whole_only n ps a w in
     false≢true (sym r.2 ∙ (last_at i ps l ∙ m))
@@ -157,8 +179,11 @@ gap_stops ps a l n w =
     absurd (omega (arith, row_held 0 ps r.0))
 
 -- **none is missing**
-pub whole_held : (ps : List Fragment) (i : ℕ) → Apart 0 ps → i + 1 ≡ length ps → (fragment_at ps i).more ≡ false → reach 0 ps ≤ bytes_held ps → IsWhole (map_of ps) (bytes_held ps)
-whole_held ps i a l m most = whole_from ps (bytes_held ps) a (held_row 0 ps a (omega arith)) (last_at i ps l ∙ m) (omega (arith, held_most 0 ps a))
+pub whole_held : (ps : List Fragment) (i : ℕ) → Apart 0 ps → i + 1 ≡ length ps → (fragment_at ps i).more ≡ false
+    → reach 0 ps ≤ bytes_held ps → IsWhole (map_of ps) (bytes_held ps)
+whole_held ps i a l m most =
+    whole_from ps (bytes_held ps) a (held_row 0 ps a (omega arith)) (last_at i ps l ∙ m)
+    (omega (arith, held_most 0 ps a))
 
 reach_within : (low : ℕ) (qs : List Fragment) → low ≤ 65515 → AllEnd 65515 qs → reach low qs ≤ 65515
 reach_within low [] l s = l
@@ -186,13 +211,23 @@ reach_left low e x [] l m = l
 reach_left low e x (p ∷ ps) l m = elim (left e p ps) [
   | left_whole h is ↦ omega (arith, ap (reach x) is)
   | left_none h is ↦ omega (arith, ap (reach x) is, reach_left (end_of p) e x ps (omega arith) m)
-  | left_cut h n is ↦ omega (arith, ap (reach x) is, ap (λ (k : ℕ). reach k ps) (end_trimmed (e - p.offset) p (omega arith)))
+  | left_cut h n is ↦ omega (
+    arith,
+    ap (reach x) is,
+    ap (λ (k : ℕ). reach k ps) (end_trimmed (e - p.offset) p (omega arith)),
+  )
 ]
 
-pub reach_laid : (n : ℕ) (f : Fragment) (xs ys : List Fragment) → n ≡ reach 0 xs - f.offset → n < length f.bytes → reach 0 (xs ++ ys) ≤ reach 0 (xs ++ trimmed n f ∷ left_from (end_of f) ys)
+pub reach_laid : (n : ℕ) (f : Fragment) (xs ys : List Fragment) → n ≡ reach 0 xs - f.offset → n < length f.bytes
+    → reach 0 (xs ++ ys) ≤ reach 0 (xs ++ trimmed n f ∷ left_from (end_of f) ys)
 reach_laid n f xs ys is some =
     let end : end_of (trimmed n f) ≡ end_of f = end_trimmed n f (omega arith) in
-    omega (arith, reach_join 0 xs ys, reach_join 0 xs (trimmed n f ∷ left_from (end_of f) ys), reach_left (reach 0 xs) (end_of f) (end_of (trimmed n f)) ys (omega arith) (omega arith))
+    omega (
+      arith,
+      reach_join 0 xs ys,
+      reach_join 0 xs (trimmed n f ∷ left_from (end_of f) ys),
+      reach_left (reach 0 xs) (end_of f) (end_of (trimmed n f)) ys (omega arith) (omega arith),
+    )
 
 -- the last of them
 pub last_here : (xs : List Fragment) (f : Fragment) (i : ℕ) → i ≡ length xs → fragment_at (xs ++ f ∷ []) i ≡ f

@@ -18,7 +18,8 @@ use Rattle.ledger.proofs.Weights.{owned_mbufs, owned_bag}
 
 -- ---- where each chain stands once in the owners' lists, and these weigh what the state and `held` weigh, the pool
 -- accounts for both
-pub accounted_all : (p : PoolView) (s : State) (held : Weight) (all : List ℕ) → IsAll p all → s.config.mbufs ≡ p.mbufs → s.config.clusters ≡ p.clusters → SameWeight (weight_owned p all) (weight_of_state s ⊕ held) → IsAccounted p s held
+pub accounted_all : (p : PoolView) (s : State) (held : Weight) (all : List ℕ) → IsAll p all → s.config.mbufs ≡ p.mbufs
+    → s.config.clusters ≡ p.clusters → SameWeight (weight_owned p all) (weight_of_state s ⊕ held) → IsAccounted p s held
 accounted_all p s held all h m c b = record {
   mbufs = m;
   clusters = c;
@@ -27,31 +28,46 @@ accounted_all p s held all h m c b = record {
 }
 
 -- ---- a test of the pool is the machine's
-free_clusters_were : (p : PoolView) (s : State) (held : Weight) → IsAccounted p s held → free_clusters p ≡ flat.free_clusters s held
+free_clusters_were : (p : PoolView) (s : State) (held : Weight) → IsAccounted p s held
+    → free_clusters p ≡ flat.free_clusters s held
 free_clusters_were p s held b =
     let size : p.clusters ≡ s.config.clusters = sym b.clusters in
     λ i. count_by (λ c. nat_eq (b.references c i) 0) (range_with_len 0 (size i))
 
-pub free_clusters_are : (p : PoolView) (s : State) (held : Weight) → IsAccounted p s held → flat.free_clusters s held ≡ free_clusters p
+pub free_clusters_are : (p : PoolView) (s : State) (held : Weight) → IsAccounted p s held
+    → flat.free_clusters s held ≡ free_clusters p
 free_clusters_are p s held b = sym (free_clusters_were p s held b)
 
-pub free_mbufs_are : (p : PoolView) (s : State) (held : Weight) → IsAccounted p s held → flat.free_mbufs s held ≡ p.mbufs - held_mbufs p
+pub free_mbufs_are : (p : PoolView) (s : State) (held : Weight) → IsAccounted p s held
+    → flat.free_mbufs s held ≡ p.mbufs - held_mbufs p
 free_mbufs_are p s held b = omega (arith, b.mbufs, b.total)
 
-pub test_is : (p : PoolView) (s : State) (held : Weight) (need : Need) → IsAccounted p s held → has_enough s held need ≡ are_free p need.mbufs need.clusters
+pub test_is : (p : PoolView) (s : State) (held : Weight) (need : Need) → IsAccounted p s held
+    → has_enough s held need ≡ are_free p need.mbufs need.clusters
 test_is p s held need b =
     ap (λ (n : ℕ). nat_le need.mbufs n && nat_le need.clusters (flat.free_clusters s held)) (free_mbufs_are p s held b)
-    ∙ ap (λ (n : ℕ). nat_le need.mbufs (p.mbufs - held_mbufs p) && nat_le need.clusters n) (free_clusters_are p s held b)
+    ∙ ap (λ (n : ℕ). nat_le need.mbufs (p.mbufs - held_mbufs p) && nat_le need.clusters n)
+    (free_clusters_are p s held b)
 
 -- ---- what a test that passed means
-pub enough_mbufs : (p : PoolView) (mbufs clusters : ℕ) → are_free p mbufs clusters ≡ true → 0 < mbufs → held_mbufs p + mbufs ≤ p.mbufs
-enough_mbufs p mbufs clusters e some = omega (arith, leb-true mbufs (p.mbufs - held_mbufs p) (and_parts (nat_le mbufs (p.mbufs - held_mbufs p)) (nat_le clusters (free_clusters p)) e).0)
+pub enough_mbufs : (p : PoolView) (mbufs clusters : ℕ) → are_free p mbufs clusters ≡ true → 0 < mbufs
+    → held_mbufs p + mbufs ≤ p.mbufs
+enough_mbufs p mbufs clusters e some =
+    omega (
+      arith,
+      leb-true mbufs (p.mbufs - held_mbufs p)
+          (and_parts (nat_le mbufs (p.mbufs - held_mbufs p)) (nat_le clusters (free_clusters p)) e).0,
+    )
 
-pub enough_clusters : (p : PoolView) (mbufs clusters : ℕ) → are_free p mbufs clusters ≡ true → clusters ≤ free_clusters p
-enough_clusters p mbufs clusters e = leb-true clusters (free_clusters p) (and_parts (nat_le mbufs (p.mbufs - held_mbufs p)) (nat_le clusters (free_clusters p)) e).1
+pub enough_clusters : (p : PoolView) (mbufs clusters : ℕ) → are_free p mbufs clusters ≡ true
+    → clusters ≤ free_clusters p
+enough_clusters p mbufs clusters e =
+    leb-true clusters (free_clusters p)
+    (and_parts (nat_le mbufs (p.mbufs - held_mbufs p)) (nat_le clusters (free_clusters p)) e).1
 
 -- ---- the same pool beside another state, and another weight held
-pub accounted_as : {p : PoolView} {s t : State} {held kept : Weight} → IsAccounted p s held → t.config ≡ s.config → SameWeight (weight_of_state s ⊕ held) (weight_of_state t ⊕ kept) → IsAccounted p t kept
+pub accounted_as : {p : PoolView} {s t : State} {held kept : Weight} → IsAccounted p s held → t.config ≡ s.config
+    → SameWeight (weight_of_state s ⊕ held) (weight_of_state t ⊕ kept) → IsAccounted p t kept
 accounted_as a e b = record {
   mbufs = ap (λ (c : Config). c.mbufs) e ∙ a.mbufs;
   clusters = ap (λ (c : Config). c.clusters) e ∙ a.clusters;

@@ -29,18 +29,33 @@ reserves_at_once {p} {need} s held us c enough is_us is_c b =
     (record { has_buffers = inl (sym (test_is p s held need b ∙ enough), refl); accounted = b })
 
 -- ---- all that waited is given back, and the test is made once more
-shifts_reclaimed : (p q : PoolView) (s : State) (held : Weight) (waited : List ℕ) → SameWeight (weight_owned p waited) (weight_of_unfinished s.unfinished) → Shifts s held (weight_owned p waited) (reclaimed s) held (weight_owned q [])
+shifts_reclaimed : (p q : PoolView) (s : State) (held : Weight) (waited : List ℕ)
+    → SameWeight (weight_owned p waited) (weight_of_unfinished s.unfinished)
+    → Shifts s held (weight_owned p waited) (reclaimed s) held (weight_owned q [])
 shifts_reclaimed p q s held waited w =
     let u : Weight = weight_of_unfinished s.unfinished in
-    let queued : Weight = all_of (λ (socket : Socket). all_of (λ (d : Datagram). d.item.weight) socket.queue) s.sockets in
+    let queued : Weight =
+    all_of (λ (socket : Socket). all_of (λ (d : Datagram). d.item.weight) socket.queue) s.sockets in
     let out : Weight = all_of (λ (item : Item). item.weight) s.output in
     record {
       mbufs = omega (arith, w.mbufs);
-      bag = λ c. omega (arith, w.bag c, times-both c (weight_of_state s) held, times-both c (weight_of_state (reclaimed s)) held, times-both c (queued ⊕ u) out, times-both c queued u, times-both c (queued ⊕ nothing) out, times-both c queued nothing);
+      bag =
+          λ c. omega (
+            arith,
+            w.bag c,
+            times-both c (weight_of_state s) held,
+            times-both c (weight_of_state (reclaimed s)) held,
+            times-both c (queued ⊕ u) out,
+            times-both c queued u,
+            times-both c (queued ⊕ nothing) out,
+            times-both c queued nothing,
+          );
     }
 
-has_buffers_again : (p q : PoolView) (s : State) (held : Weight) (need : Need) (answer : Bool) → IsAccounted p s held → IsAccounted q (reclaimed s) held
-    → are_free p need.mbufs need.clusters ≡ false → answer ≡ are_free q need.mbufs need.clusters → HasBuffers exact_ledger s held need answer (reclaimed s)
+has_buffers_again : (p q : PoolView) (s : State) (held : Weight) (need : Need) (answer : Bool) → IsAccounted p s held
+    → IsAccounted q (reclaimed s) held
+    → are_free p need.mbufs need.clusters ≡ false → answer ≡ are_free q need.mbufs need.clusters
+    → HasBuffers exact_ledger s held need answer (reclaimed s)
 has_buffers_again p q s held need true b after lacking is =
     inr (sym (test_is p s held need b ∙ lacking), refl, is ∙ sym (test_is q (reclaimed s) held need after))
 has_buffers_again p q s held need false b after lacking is =
@@ -51,20 +66,28 @@ no_length [] e = refl
 no_length (x ∷ xs) e = absurd (omega arith)
 
 -- an owner of the chains `waited`, that were n datagrams, gave all of them back
-pub record GivesBack (p : PoolView) (waited : List ℕ) (us : List Unfinished) (c : Counters) (q : PoolView) (vs : List Unfinished) (d : Counters) : Type 0 where
+pub record GivesBack (p : PoolView) (waited : List ℕ) (us : List Unfinished) (c : Counters) (q : PoolView)
+    (vs : List Unfinished) (d : Counters) : Type 0 where
   pub moves : Moves p waited q []
   pub owned : IsOwned p waited
   pub weighs : SameWeight (weight_owned p waited) (weight_of_unfinished us)
   pub none : length vs ≡ 0
   pub counters : d ≡ counts_more IpReclaimed (length us) c
 
-pub reserves_again : {p q : PoolView} {need : Need} {waited : List ℕ} {us vs : List Unfinished} {c d : Counters} (s : State) (held : Weight) (answer : Bool)
-    → GivesBack p waited us c q vs d → are_free p need.mbufs need.clusters ≡ false → answer ≡ are_free q need.mbufs need.clusters
-    → s.unfinished ≡ us → s.counters ≡ c → IsAccounted p s held → Reserves s held need answer (record s { unfinished = vs; counters = d }) q
+pub reserves_again : {p q : PoolView} {need : Need} {waited : List ℕ} {us vs : List Unfinished} {c d : Counters}
+    (s : State) (held : Weight) (answer : Bool)
+    → GivesBack p waited us c q vs d → are_free p need.mbufs need.clusters ≡ false
+    → answer ≡ are_free q need.mbufs need.clusters
+    → s.unfinished ≡ us → s.counters ≡ c → IsAccounted p s held
+    → Reserves s held need answer (record s { unfinished = vs; counters = d }) q
 reserves_again {p} {q} {need} {waited} {us} {vs} {c} {d} s held answer g lacking is is_us is_c b =
-    let w : SameWeight (weight_owned p waited) (weight_of_unfinished s.unfinished) = subst (λ (x : List Unfinished). SameWeight (weight_owned p waited) (weight_of_unfinished x)) (sym is_us) g.weighs in
-    let after : IsAccounted q (reclaimed s) held = accounted_after b g.moves g.owned refl (shifts_reclaimed p q s held waited w) in
+    let w : SameWeight (weight_owned p waited) (weight_of_unfinished s.unfinished) =
+    subst (λ (x : List Unfinished). SameWeight (weight_owned p waited) (weight_of_unfinished x)) (sym is_us) g.weighs
+    in
+    let after : IsAccounted q (reclaimed s) held =
+    accounted_after b g.moves g.owned refl (shifts_reclaimed p q s held waited w) in
     let none : [] ≡ vs = sym (no_length vs g.none) in
-    let counted : (reclaimed s).counters ≡ d = (λ i. counts_more IpReclaimed (length (is_us i)) (is_c i)) ∙ sym g.counters in
+    let counted : (reclaimed s).counters ≡ d =
+    (λ i. counts_more IpReclaimed (length (is_us i)) (is_c i)) ∙ sym g.counters in
     subst (λ (m : State). Reserves s held need answer m q) (λ i. record s { unfinished = none i; counters = counted i })
     (record { has_buffers = has_buffers_again p q s held need answer b after lacking is; accounted = after })

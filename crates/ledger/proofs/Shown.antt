@@ -21,7 +21,16 @@ pub usage_is : (p : PoolView) (s : State) (free : ℕ) → IsAccounted p s nothi
     } ≡ usage_of s
 usage_is p s free b e =
     let clusters : p.clusters ≡ s.config.clusters = sym b.clusters in
-    let counts : map (references p) (range_with_len 0 p.clusters) ≡ map (count_of s nothing) (range_with_len 0 s.config.clusters) = λ i. map (λ c. b.references c i) (range_with_len 0 (clusters i)) in
+    let counts : map (references p) (range_with_len 0 p.clusters)
+    ≡ map (count_of s nothing) (range_with_len 0 s.config.clusters) =
+    λ i. map (λ c. b.references c i) (range_with_len 0 (clusters i)) in
     let free_is : free ≡ flat.free_mbufs s nothing = omega (arith, e, free_mbufs_are p s nothing b) in
     let free_clusters_is : free_clusters p ≡ flat.free_clusters s nothing = sym (free_clusters_are p s nothing b) in
-    λ i. record { free_mbufs = free_is i; mbufs = sym b.mbufs i; free_clusters = free_clusters_is i; clusters = clusters i; refs = sum (counts i); most = fold max 0 (counts i) }
+    λ i. record {
+      free_mbufs = free_is i;
+      mbufs = sym b.mbufs i;
+      free_clusters = free_clusters_is i;
+      clusters = clusters i;
+      refs = sum (counts i);
+      most = fold max 0 (counts i);
+    }

@@ -15,11 +15,27 @@ bag_of : (c : ℕ) (es : List Entry) → times c (weight_of es).bag ≡ count_by
 bag_of c [] = refl
 bag_of c (e ∷ es) = go e.cluster (bag_of c es)
   where
-    go : (o : Option ℕ) → times c (weight_of es).bag ≡ count_by (refers c) es → times c (filter_map (λ (e : Entry). e.cluster) (record { bytes = e.bytes; start = e.start; cluster = o } ∷ es)) ≡ count_by (refers c) (record { bytes = e.bytes; start = e.start; cluster = o } ∷ es)
-    go None h = omega (arith, h, sum_by-cons (λ e. cond {A = ℕ} (refers c e) 1 0) (record { bytes = e.bytes; start = e.start; cluster = None }) es)
-    go (Some k) h = omega (arith, h, sum_by-cons (λ e. cond {A = ℕ} (refers c e) 1 0) (record { bytes = e.bytes; start = e.start; cluster = Some k }) es, sum_by-cons (λ j. cond {A = ℕ} (j == c) 1 0) k (weight_of es).bag)
+    go : (o : Option ℕ) → times c (weight_of es).bag ≡ count_by (refers c) es
+        → times c (filter_map (λ (e : Entry). e.cluster) (record { bytes = e.bytes; start = e.start; cluster = o } ∷ es))
+        ≡ count_by (refers c) (record { bytes = e.bytes; start = e.start; cluster = o } ∷ es)
+    go None h =
+        omega (
+          arith,
+          h,
+          sum_by-cons (λ e. cond {A = ℕ} (refers c e) 1 0)
+              (record { bytes = e.bytes; start = e.start; cluster = None }) es,
+        )
+    go (Some k) h =
+        omega (
+          arith,
+          h,
+          sum_by-cons (λ e. cond {A = ℕ} (refers c e) 1 0)
+              (record { bytes = e.bytes; start = e.start; cluster = Some k }) es,
+          sum_by-cons (λ j. cond {A = ℕ} (j == c) 1 0) k (weight_of es).bag,
+        )
 
-pub owned_bag : (p : PoolView) (c : ℕ) (xs : List ℕ) → times c (weight_owned p xs).bag ≡ sum_by (λ k. references_of c (chain_of p k)) xs
+pub owned_bag : (p : PoolView) (c : ℕ) (xs : List ℕ)
+    → times c (weight_owned p xs).bag ≡ sum_by (λ k. references_of c (chain_of p k)) xs
 owned_bag p c [] = refl
 owned_bag p c (x ∷ xs) =
     omega (

@@ -13,10 +13,12 @@ answered {after = after} answer idle call s n is will did =
 
 pub asked : {before after : Option StackView} (answer : ℤ) (idle : Type 0) (Says : StackView → Type 0) (s : StackView)
     → before ≡ Some s → after ≡ Some s → Says s → Answers before answer after idle (IsAsked Says)
-asked answer idle Says s is will says = answered answer idle (IsAsked Says) s s is will (record { same = refl; says = says })
+asked answer idle Says s is will says =
+    answered answer idle (IsAsked Says) s s is will (record { same = refl; says = says })
 
 -- the same, of an answer as the machine passes it
-pub answered_by : {before after : Option StackView} (answer : ℤ) (idle : Type 0) (Call : ℤ → StackView → StackView → Type 0)
+pub answered_by : {before after : Option StackView} (answer : ℤ) (idle : Type 0)
+    (Call : ℤ → StackView → StackView → Type 0)
     (s n : StackView) → SFits w32 answer → before ≡ Some s → after ≡ Some n → Call answer s n
     → Answers before (to_z w32 (of_z w32 answer)) after idle (Call (to_z w32 (of_z w32 answer)))
 answered_by {before = before} {after = after} answer idle Call s n fits is will did =

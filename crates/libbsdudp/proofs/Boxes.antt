@@ -25,7 +25,12 @@ use Rattle.libbsdudp.specs.Held.{Boxed, IsFull, Kept}
 
 -- the box behind a handle
 abbrev pub stack_box : Bx
-stack_box = record { row = owned.the_row; laws = owned_laws.the_row_laws; al = record { row = heap.the_row; laws = heap_laws.the_row_laws; g = ghosts; d = dict; drops = impl [] tnil dnil } }
+stack_box =
+    record {
+      row = owned.the_row;
+      laws = owned_laws.the_row_laws;
+      al = record { row = heap.the_row; laws = heap_laws.the_row_laws; g = ghosts; d = dict; drops = impl [] tnil dnil };
+    }
 
 -- pointer and allocator of a box, side by side
 module _ (E : Bx) where
@@ -35,15 +40,19 @@ module _ (E : Bx) where
   -- a pair, and what a box at its pointer owns, are a box
   module _ {M : Type 1} {𝓤 : Ura M} {𝓛 : Logic 𝓤} {K : Type 0} {Γ : List (Item 𝓤)} {G : Goal 𝓤 𝓛.H} where
     pub boxed_again : K → (p : Ptr × E.al.row.Denot) (u : Val) (a : E.al.row.Denot) (x : X E) → p.1 ≡ a
-        → ((b o : ℕ) (h : Val) → u ≡ word E h b o → Fits E.al h → Seq K 𝓛 (‵ ((B E).own_val (record { ptr = block_ptr b o; alloc = a; value = x }) (word E h b o ∷ [])) ∷ Γ) G)
+        → ((b o : ℕ) (h : Val) → u ≡ word E h b o → Fits E.al h
+        → Seq K 𝓛 (‵ ((B E).own_val (record { ptr = block_ptr b o; alloc = a; value = x }) (word E h b o ∷ [])) ∷ Γ)
+        G)
         → Seq K 𝓛 (‵ ((Side).own_val p (u ∷ [])) ∷ ‵ (box_owns (token E.al a) (R E) p.0 x) ∷ Γ) G
     boxed_again t p u a x same k =
-        move t (1 ∷ []) $ in_a_block t p.0 (λ q. box_owns (token E.al a) (R E) q x) (fst∗ 𝓤 (never 𝓤) (sem 𝓛 (token E.al a (bare (τ E)) null_ptr))) (λ b o at.
+        move t (1 ∷ []) $ in_a_block t p.0 (λ q. box_owns (token E.al a) (R E) q x)
+        (fst∗ 𝓤 (never 𝓤) (sem 𝓛 (token E.al a (bare (τ E)) null_ptr))) (λ b o at.
         move t (1 ∷ []) $ fpick t (λ parts. fsplit t $ feq_l t (λ whole. fsplit t $ feq_l t (λ first. fsplit t $
         rewrite t 0 (λ (s : E.al.row.Denot). ‵ (E.al.row.own_val s parts.1.0)) same refl $
         handle_tells E.al t a parts.1.0 (λ h second fits. move t (1 ∷ []) $ drop t $ move t (1 ∷ []) $ fsplit t $
         box_in E t {hv = h} (record { ptr = block_ptr b o; alloc = a; value = x }) b o x refl refl $
-        k b o h (ap only (whole ∙ (λ i. vstruct (of_list ((first ∙ ap (λ (q : Ptr). ptr_val q ∷ []) at) i ++ (second i ++ []))) ∷ []))) fits)))))
+        k b o h (ap only (whole ∙ (λ i. vstruct
+        (of_list ((first ∙ ap (λ (q : Ptr). ptr_val q ∷ []) at) i ++ (second i ++ []))) ∷ []))) fits)))))
 
 -- a handle with a mark has a box
 pub has : (k : Kept) → IsFull k → (x : Boxed) × (k ≡ Some x)

@@ -11,7 +11,12 @@ use Rattle.libbsdudp.proofs.link_owned.OwnedLink.TheLaws as owned_laws
 use Rattle.libbsdudp.specs.LinkHeld.{Boxed, IsFull, Kept}
 
 abbrev pub link_box : Bx
-link_box = record { row = owned.the_row; laws = owned_laws.the_row_laws; al = record { row = heap.the_row; laws = heap_laws.the_row_laws; g = ghosts; d = dict; drops = impl [] tnil dnil } }
+link_box =
+    record {
+      row = owned.the_row;
+      laws = owned_laws.the_row_laws;
+      al = record { row = heap.the_row; laws = heap_laws.the_row_laws; g = ghosts; d = dict; drops = impl [] tnil dnil };
+    }
 
 -- a handle with a mark has a box
 pub has : (k : Kept) → IsFull k → (x : Boxed) × (k ≡ Some x)

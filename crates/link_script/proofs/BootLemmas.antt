@@ -10,7 +10,8 @@ use Rattle.script_loop.proofs.Laws.{Moves-none}
 use Rattle.link_script.specs.Says.{Says}
 use Rattle.link_script.specs.Boots.{IsUnbooted}
 
-pub Serves-unbooted : (step : State → Event → Reply → State → Type 0) (c : Config) (fault : RunFault) (a w : Option (List ℕ)) → IsUnbooted c fault
+pub Serves-unbooted : (step : State → Event → Reply → State → Type 0) (c : Config) (fault : RunFault)
+    (a w : Option (List ℕ)) → IsUnbooted c fault
     → (new : State) × Serves (Says step) (boot c) new a a w w (Err fault)
 Serves-unbooted step c Memory a w h = (boot c, (Moves-none a w, refl))
 Serves-unbooted step c BadSizes a w h = (boot c, (Moves-none a w, refl))

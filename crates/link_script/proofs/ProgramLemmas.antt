@@ -10,12 +10,14 @@ use Rattle.link_script.specs.declared.options.Task.{Task}
 use Rattle.link_script.specs.declared.command_line.Failure.TheVariants.{Usage, Run}
 
 -- nothing was read or written
-pub Ran-none : (asks : Task → Type 0) (a w : Option (List ℕ)) (failure : Failure) → IsWordsFault asks failure → Ran asks a a w w (Err failure)
+pub Ran-none : (asks : Task → Type 0) (a w : Option (List ℕ)) (failure : Failure) → IsWordsFault asks failure
+    → Ran asks a a w w (Err failure)
 Ran-none asks a w Usage h = (h, Moves-none a w)
 Ran-none asks a w (Run fault) h = inl (h, Moves-none a w)
 
 -- what is said of words that could be had
-pub Asked-words : {W E : Type 0} (texts : W → List (List ℕ)) (d : Config) (w : Result W E) (all : W) (bytes : List (List ℕ)) (r : Result Task Failure)
+pub Asked-words : {W E : Type 0} (texts : W → List (List ℕ)) (d : Config) (w : Result W E) (all : W)
+    (bytes : List (List ℕ)) (r : Result Task Failure)
     → w ≡ Ok all → texts all ≡ bytes → MatchResult r (IsCommand d bytes) (IsWordsFault (IsCommand d bytes))
     → MatchResult r (IsAskedBy texts d w) (IsWordsFault (IsAskedBy texts d w))
 Asked-words {W} {E} texts d w all bytes r is same h =

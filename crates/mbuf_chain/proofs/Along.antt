@@ -38,19 +38,26 @@ pub record OnWay (s : StoreView) (l : List ℕ) (i at : ℕ) : Type 0 where
   pub after : cells_from s (head_of s at).next ≡ drop i l
   pub whole : IsWhole s (head_of s at).next
 
-pub on_way : (s : StoreView) (l : List ℕ) (i at : ℕ) → 1 ≤ i → IsWhole s (Some at) → cells_from s (Some at) ≡ drop (i - 1) l → OnWay s l i at
+pub on_way : (s : StoreView) (l : List ℕ) (i at : ℕ) → 1 ≤ i → IsWhole s (Some at)
+    → cells_from s (Some at) ≡ drop (i - 1) l → OnWay s l i at
 on_way s l i at some whole rest =
     let w = walk_on s (Some at) at refl whole in
     let here : drop (i - 1) l ≡ at ∷ cells_from s (head_of s at).next = sym rest ∙ w.cells in
     let same : suc (i - 1) ≡ i = omega arith in
     record { here = here; after = sym (drop_more (i - 1) at l _ here) ∙ ap (λ (n : ℕ). drop n l) same; whole = w.whole }
 
-pub has_next : (s : StoreView) (l : List ℕ) (i at : ℕ) (h : Head) → OnWay s l i at → h ≡ head_of s at → i < weigh one l → IsSome h.next
+pub has_next : (s : StoreView) (l : List ℕ) (i at : ℕ) (h : Head) → OnWay s l i at → h ≡ head_of s at → i < weigh one l
+    → IsSome h.next
 has_next s l i at h w e lt = go h.next refl
   where
     go : (o : Option ℕ) → h.next ≡ o → IsSome h.next
     go (Some n) is = subst (λ (o : Option ℕ). IsSome o) (sym is) refl
-    go None is = absurd (omega (arith, ones_drop i l (omega arith), ap (weigh one) (sym w.after ∙ walk_end s (head_of s at).next (ap (λ (y : Head). y.next) (sym e) ∙ is))))
+    go None is =
+        absurd (omega (
+          arith,
+          ones_drop i l (omega arith),
+          ap (weigh one) (sym w.after ∙ walk_end s (head_of s at).next (ap (λ (y : Head). y.next) (sym e) ∙ is)),
+        ))
 
 -- the next one
 pub record NextOn (s : StoreView) (l : List ℕ) (i next : ℕ) : Type 0 where
@@ -59,7 +66,8 @@ pub record NextOn (s : StoreView) (l : List ℕ) (i next : ℕ) : Type 0 where
   pub rest : cells_from s (Some next) ≡ drop i l
   pub sum : (g : ℕ → ℕ) → g next + weigh g (drop (i + 1) l) ≡ weigh g (drop i l)
 
-pub next_on : (s : StoreView) (l : List ℕ) (i at next : ℕ) (h : Head) → OnWay s l i at → h ≡ head_of s at → h.next ≡ Some next → NextOn s l i next
+pub next_on : (s : StoreView) (l : List ℕ) (i at next : ℕ) (h : Head) → OnWay s l i at → h ≡ head_of s at
+    → h.next ≡ Some next → NextOn s l i next
 next_on s l i at next h w e is =
     let next_is : (head_of s at).next ≡ Some next = ap (λ (y : Head). y.next) (sym e) ∙ is in
     let whole : IsWhole s (Some next) = subst (IsWhole s) next_is w.whole in
@@ -71,8 +79,16 @@ next_on s l i at next h w e is =
       out = step.out;
       whole = whole;
       rest = rest;
-      sum = λ g. omega (arith, ap (weigh g) (sym rest ∙ step.cells), ap (weigh g) more, ap (λ (n : ℕ). weigh g (drop n l)) same);
+      sum =
+          λ g. omega (
+            arith,
+            ap (weigh g) (sym rest ∙ step.cells),
+            ap (weigh g) more,
+            ap (λ (n : ℕ). weigh g (drop n l)) same,
+          );
     }
 
-pub all_bytes : (s : StoreView) (first : ℕ) → IsWhole s (Some first) → IsStore s → weigh (len_at s) (cells_from s (Some first)) ≤ 134215680
-all_bytes s first whole store = omega (arith, bytes_bound s (Some first) (cells_from s (Some first)) whole, few_cells s (Some first), store.mbufs)
+pub all_bytes : (s : StoreView) (first : ℕ) → IsWhole s (Some first) → IsStore s
+    → weigh (len_at s) (cells_from s (Some first)) ≤ 134215680
+all_bytes s first whole store =
+    omega (arith, bytes_bound s (Some first) (cells_from s (Some first)) whole, few_cells s (Some first), store.mbufs)

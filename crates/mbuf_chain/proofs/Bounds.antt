@@ -22,7 +22,8 @@ get_index [] i h = absurd (omega arith)
 get_index (x ∷ xs) zero h = refl
 get_index (x ∷ xs) (suc i) h = get_index xs i (omega arith)
 
-fits : (s : StoreView) (c : ℕ) (at : Place) → IsPool s → IsLive (pool_of s) c → IsPlace (chain_of (pool_of s) c) at → Fits (pool_of s) (chain_of (pool_of s) c) at.index
+fits : (s : StoreView) (c : ℕ) (at : Place) → IsPool s → IsLive (pool_of s) c → IsPlace (chain_of (pool_of s) c) at
+    → Fits (pool_of s) (chain_of (pool_of s) c) at.index
 fits s c at ok live place =
     let r = rooms_at s c at (head_of s at.cell) ok live place refl in
     record {
@@ -36,7 +37,8 @@ times_weigh : (k : ℕ) (l : List ℕ) → times k l ≡ weigh (is_at k) l
 times_weigh k [] = refl
 times_weigh k (x ∷ xs) = ap (λ (n : ℕ). is_at k x + n) (times_weigh k xs)
 
-times_cells : (s : StoreView) (k : ℕ) (l : List ℕ) (v : ChainView) → read_chain s l ≡ v → times k v.cells ≡ weigh (is_at k) l
+times_cells : (s : StoreView) (k : ℕ) (l : List ℕ) (v : ChainView) → read_chain s l ≡ v
+    → times k v.cells ≡ weigh (is_at k) l
 times_cells s k l v shows = ap (λ (w : ChainView). times k w.cells) (sym shows) ∙ times_weigh k l
 
 once : (s : StoreView) (c k : ℕ) → IsPool s → IsLive (pool_of s) c → times k (chain_of (pool_of s) c).cells ≤ 1
@@ -44,7 +46,8 @@ once s c k ok live =
     let o = open_on s c ok live in
     omega (arith, once_in s c o.at k, times_cells s k o.at.cells (chain_of (pool_of s) c) o.at.shows)
 
-apart : (s : StoreView) (c d k : ℕ) → IsPool s → IsLive (pool_of s) c → IsLive (pool_of s) d → c ≢ d → times k (chain_of (pool_of s) c).cells + times k (chain_of (pool_of s) d).cells ≤ 1
+apart : (s : StoreView) (c d k : ℕ) → IsPool s → IsLive (pool_of s) c → IsLive (pool_of s) d → c ≢ d
+    → times k (chain_of (pool_of s) c).cells + times k (chain_of (pool_of s) d).cells ≤ 1
 apart s c d k ok live_c live_d ne =
     let two = open_two s c d ok live_c live_d ne in
     omega (
@@ -57,14 +60,19 @@ apart s c d k ok live_c live_d ne =
 
 pub bounded : (s : StoreView) → IsPool s → IsBounded (pool_of s)
 bounded s ok = record {
-  some = λ c live. let o = open_on s c ok live in omega (arith, count_cells s c o.at, some_cell s o.at.cells o.at.chain);
+  some = λ c live. let o = open_on s c ok live in
+      omega (arith, count_cells s c o.at, some_cell s o.at.cells o.at.chain);
   numbers = λ c live. let o = open_on s c ok live in out_below s c (first_out s c o.at);
   cells = λ c live. (live_cells s c ok live).same;
   once = λ c k live. once s c k ok live;
   apart = λ c d k live_c live_d ne. apart s c d k ok live_c live_d ne;
   fits = λ c i live lt.
       fits s c (record { index = i; cell = slice_index (chain_of (pool_of s) c).cells i }) ok live
-      (record { within = lt; cell = get_index (chain_of (pool_of s) c).cells i (omega (arith, lt, (live_cells s c ok live).same)) });
+      (record {
+        within = lt;
+        cell = get_index (chain_of (pool_of s) c).cells i
+            (omega (arith, lt, (live_cells s c ok live).same));
+      });
   few = omega (arith, held_is s ok.0 ok.1, few_out s);
   small = ok.1.store.mbufs.1;
 }

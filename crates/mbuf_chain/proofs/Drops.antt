@@ -18,7 +18,16 @@ use Rattle.mbuf_chain.proofs.Stores.{Ready, ready, refers_to}
 use Rattle.mbuf_chain.proofs.Cuts.{bare_front}
 
 nothing_freed : (s : StoreView) (l : List ℕ) → Freed s s l l
-nothing_freed s l = record { mbufs = refl; clusters = refl; kept = λ k out. refl; bytes = λ c some. refl; once = λ k. refl; total = refl; counted = λ c. refl }
+nothing_freed s l =
+    record {
+      mbufs = refl;
+      clusters = refl;
+      kept = λ k out. refl;
+      bytes = λ c some. refl;
+      once = λ k. refl;
+      total = refl;
+      counted = λ c. refl;
+    }
 
 -- the first mbuf of a live chain can be given back
 pub first_ready : (s : StoreView) (a : ℕ) → IsPool s → IsLive (pool_of s) a → Ready s s (Some a) (Some a) a
@@ -27,7 +36,8 @@ first_ready s a pool live =
     ready s s (Some a) (Some a) a refl (freeable s a o.at) (whole_of s a o.at) (nothing_freed s (cells_from s (Some a)))
 
 -- in a chain of several another follows it
-pub next_some : (s : StoreView) (a : ℕ) → IsPool s → IsLive (pool_of s) a → 1 < length (chain_of (pool_of s) a).entries → IsSome (head_of s a).next
+pub next_some : (s : StoreView) (a : ℕ) → IsPool s → IsLive (pool_of s) a → 1 < length (chain_of (pool_of s) a).entries
+    → IsSome (head_of s a).next
 next_some s a pool live several =
     let o = open_on s a pool live in
     go o.at.cells o.at.linked (omega (arith, count_cells s a o.at, several))
@@ -35,7 +45,9 @@ next_some s a pool live several =
     go : (l : List ℕ) → IsLinked s (Some a) l → 1 < weigh one l → IsSome (head_of s a).next
     go [] h lt = absurd (omega arith)
     go (x ∷ []) h lt = absurd (omega arith)
-    go (x ∷ y ∷ ys) h lt = subst (λ (j : ℕ). IsSome (head_of s j).next) (sym (same_Some a x h.0)) (subst (λ (n : Option ℕ). IsSome n) (sym h.3.0) refl)
+    go (x ∷ y ∷ ys) h lt =
+        subst (λ (j : ℕ). IsSome (head_of s j).next) (sym (same_Some a x h.0))
+        (subst (λ (n : Option ℕ). IsSome n) (sym h.3.0) refl)
 
 -- the mbufs after it are a chain, which begins with one that says nothing of the packet
 record Later (s : StoreView) (b : ℕ) (m : List ℕ) : Type 0 where
@@ -60,21 +72,35 @@ pub record Dropped (s t : StoreView) (a b : ℕ) : Type 0 where
   pub pool : IsPool t
   pub adds : Adds (without (pool_of s) a) (pool_of t) b (second_part 1 (chain_of (pool_of s) a))
 
-pub dropped : (s t : StoreView) (a b : ℕ) → IsPool s → IsLive (pool_of s) a → (head_of s a).next ≡ Some b → Freed s t (cells_from s (Some a)) (cells_from s (head_of s a).next) → IsStore t → Dropped s t a b
+pub dropped : (s t : StoreView) (a b : ℕ) → IsPool s → IsLive (pool_of s) a → (head_of s a).next ≡ Some b
+    → Freed s t (cells_from s (Some a)) (cells_from s (head_of s a).next) → IsStore t → Dropped s t a b
 dropped s t a b pool live next freed store =
     let o = open_on s a pool live in
     let f = o.at in
     let w = walk_on s (Some a) a refl (whole_of s a o.at) in
     let m : List ℕ = cells_from s (head_of s a).next in
     let all : a ∷ cells_from s (head_of s a).next ≡ o.at.cells = sym w.cells ∙ o.at.walks in
-    let l = later s (head_of s a).next b (cells_from s (head_of s a).next) next w.whole (subst (IsChain s) (sym all) o.at.chain).1 in
-    let sum : (g : ℕ → ℕ) → weigh g o.at.cells ≡ g a + weigh g (cells_from s (head_of s a).next) = λ g. ap (weigh g) (sym all) in
+    let l =
+    later s (head_of s a).next b (cells_from s (head_of s a).next) next w.whole
+    (subst (IsChain s) (sym all) o.at.chain).1 in
+    let sum : (g : ℕ → ℕ) → weigh g o.at.cells ≡ g a + weigh g (cells_from s (head_of s a).next) =
+    λ g. ap (weigh g) (sym all) in
     let went_on : (k : ℕ) → 0 < weigh_all (is_at k) (cells_from s (head_of s a).next ∷ o.at.rest) → is_out t k ≡ true =
-    λ k p. bit (is_out t k) (omega (arith, p, freed.once k, ap (weigh (is_at k)) o.at.walks, o.at.sound.once k, sum (is_at k))) in
+    λ k p. bit (is_out t k) (omega
+    (arith, p, freed.once k, ap (weigh (is_at k)) o.at.walks, o.at.sound.once k, sum (is_at k))) in
     let kept : (k : ℕ) → 0 < weigh_all (is_at k) (cells_from s (head_of s a).next ∷ o.at.rest) → SameCell s t k =
-    λ k p. same_cell s t k (freed.kept k (went_on k p)) (went_on k p ∙ sym (bit (is_out s k) (omega (arith, p, o.at.sound.once k, sum (is_at k)))))
-    (λ d is. freed.bytes d (omega (arith, freed.counted d, ap (weigh (refers_at s d)) o.at.walks, o.at.sound.counted d, refers_to s k d is, weigh_all_has (refers_at s d) k (cells_from s (head_of s a).next ∷ o.at.rest) p))) in
-    let kept_m : (k : ℕ) → 0 < weigh (is_at k) (cells_from s (head_of s a).next) → SameCell s t k = λ k p. kept k (omega (arith, p)) in
+    λ k p. same_cell s t k (freed.kept k (went_on k p))
+    (went_on k p ∙ sym (bit (is_out s k) (omega (arith, p, o.at.sound.once k, sum (is_at k)))))
+    (λ d is. freed.bytes d (omega (
+      arith,
+      freed.counted d,
+      ap (weigh (refers_at s d)) o.at.walks,
+      o.at.sound.counted d,
+      refers_to s k d is,
+      weigh_all_has (refers_at s d) k (cells_from s (head_of s a).next ∷ o.at.rest) p,
+    ))) in
+    let kept_m : (k : ℕ) → 0 < weigh (is_at k) (cells_from s (head_of s a).next) → SameCell s t k =
+    λ k p. kept k (omega (arith, p)) in
     let same = list_kept s t m kept_m in
     let went = step s t (o.at.cells ∷ []) (cells_from s (head_of s a).next ∷ []) o.at.rest o.at.sound (record {
       kept = λ k p. kept k (omega (arith, p));
@@ -91,26 +117,33 @@ dropped s t a b pool live next freed store =
       entries = same.entries i;
       cells = cells_from s (head_of s a).next;
     }) ∙ ap (λ (cs : List ℕ). second_part 1 (read_chain s cs)) all ∙ ap (second_part 1) o.at.shows in
-    let alone_b : heads_at b o.at.rest ≡ 0 = omega (arith, once_in s a o.at b, sum (is_at b), l.inside, heads-tails s b o.at.rest o.at.sound.linked.1) in
+    let alone_b : heads_at b o.at.rest ≡ 0 =
+    omega (arith, once_in s a o.at b, sum (is_at b), l.inside, heads-tails s b o.at.rest o.at.sound.linked.1) in
     let left : finmap.remove (view_of s) a ≡ chains_of s o.at.rest =
-    ap (λ (q : FinMap nat_cmp ChainView). finmap.remove q a) o.at.map_is ∙ remove-insert (chains_of s o.at.rest) a (chain_of (pool_of s) a) o.at.fresh in
+    ap (λ (q : FinMap nat_cmp ChainView). finmap.remove q a) o.at.map_is
+    ∙ remove-insert (chains_of s o.at.rest) a (chain_of (pool_of s) a) o.at.fresh in
     record {
       pool = (
         cells_from s (head_of s a).next ∷ o.at.rest,
         went.sound,
         (
-          (λ packet is. absurd (none-some packet (sym l.bare.packet ∙ ap (λ (h : Head). h.packet) (sym head) ∙ sym (ap (λ (j : ℕ). (head_of t j).packet) l.first) ∙ is))),
+          (λ packet is. absurd (none-some packet
+              (sym l.bare.packet ∙ ap (λ (h : Head). h.packet) (sym head)
+              ∙ sym (ap (λ (j : ℕ). (head_of t j).packet) l.first) ∙ is))),
           went.totals o.totals.1,
         ),
       );
       adds = record {
-        fresh = ap (λ (q : FinMap nat_cmp ChainView). finmap.get q b) left ∙ get-chains_of s o.at.rest b ∙ not_first s b o.at.rest alone_b;
+        fresh =
+            ap (λ (q : FinMap nat_cmp ChainView). finmap.get q b) left ∙ get-chains_of s o.at.rest b
+            ∙ not_first s b o.at.rest alone_b;
         pool = λ i. record {
           mbufs = freed.mbufs i;
           clusters = freed.clusters i;
           chains = (view_is t _ went.sound
               ∙ (λ j. finmap.insert (went.map_is j) (l.first j) (shown j))
-              ∙ ap (λ (q : FinMap nat_cmp ChainView). finmap.insert q b (second_part 1 (chain_of (pool_of s) a))) (sym left)) i;
+              ∙ ap (λ (q : FinMap nat_cmp ChainView). finmap.insert q b (second_part 1 (chain_of (pool_of s) a)))
+              (sym left)) i;
         };
       };
     }

@@ -25,28 +25,46 @@ pub record Blank (s t : StoreView) (i : ℕ) (header : Bool) (start : ℕ) (ws :
   pub cluster : None ≡ (head_of t i).cluster
   pub low : room_low (head_of t i) ≤ start
   pub high : start + length ws ≤ room_high (head_of t i)
-  pub done : (u : StoreView) → WritesPlace t u i (only i) start ws → Adds (pool_of s) (pool_of u) i (one_mbuf header (record { bytes = ws; start = start; cluster = None }) i)
+  pub done : (u : StoreView) → WritesPlace t u i (only i) start ws
+      → Adds (pool_of s) (pool_of u) i (one_mbuf header (record { bytes = ws; start = start; cluster = None }) i)
 
-pub blank : (s t : StoreView) (i : ℕ) (header : Bool) (start : ℕ) (ws : List ℕ) → IsPool s → Taken s t i (head_for header start (length ws) None) → IsStore t → start_of header ≤ start → start + length ws ≤ 128 → Blank s t i header start ws
+pub blank : (s t : StoreView) (i : ℕ) (header : Bool) (start : ℕ) (ws : List ℕ) → IsPool s
+    → Taken s t i (head_for header start (length ws) None) → IsStore t → start_of header ≤ start
+    → start + length ws ≤ 128 → Blank s t i header start ws
 blank s t i header start ws pool got store low high =
     let m = plain_made s t i header start (length ws) pool got store low high in
     let n = new_plain s t i (head_for header start (length ws) None) got refl store in
-    let old : Entry = record { bytes = take (length ws) (drop start (mbuf_of t i).bytes); start = start; cluster = None } in
+    let old : Entry =
+    record { bytes = take (length ws) (drop start (mbuf_of t i).bytes); start = start; cluster = None } in
     let shows = new_entry (pool_of s) (pool_of t) i 0 header old m.adds refl in
     let long : length (mbuf_of t i).bytes ≡ 128 = store.mbuf_bytes i n.out in
     record {
       pool = m.pool;
       live = live_adds m.adds;
-      place = subst (λ (v : ChainView). IsPlace v (only i)) (sym (shown_adds m.adds)) (record { within = omega arith; cell = refl });
+      place =
+          subst (λ (v : ChainView). IsPlace v (only i)) (sym (shown_adds m.adds))
+          (record { within = omega arith; cell = refl });
       unshared = λ c is. absurd (none-some c (ap (λ (e : Entry). e.cluster) (sym shows) ∙ is));
       cluster = ap (λ (h : Head). h.cluster) (sym n.head);
       low = omega (arith, low, ap room_low n.head, low_for header start (length ws));
       high = omega (arith, high, ap room_high n.head);
-      done = λ u w. filled (pool_of s) (pool_of t) (pool_of u) i 0 header old (record { bytes = ws; start = start; cluster = None }) m.adds refl
-          (w.map_is ∙ ap (λ (e : Entry). with_chain (pool_of t) i (with_entry (chain_of (pool_of t) i) 0 e)) (written n.head long));
+      done =
+          λ u w. filled (pool_of s) (pool_of t) (pool_of u) i 0 header old
+          (record { bytes = ws; start = start; cluster = None }) m.adds refl
+          (w.map_is ∙ ap (λ (e : Entry). with_chain (pool_of t) i (with_entry (chain_of (pool_of t) i) 0 e))
+          (written n.head long));
     }
   where
-    written : head_of t i ≡ head_for header start (length ws) None → length (mbuf_of t i).bytes ≡ 128 → entry_over t i start ws ≡ record { bytes = ws; start = start; cluster = None }
+    written : head_of t i ≡ head_for header start (length ws) None → length (mbuf_of t i).bytes ≡ 128
+        → entry_over t i start ws ≡ record { bytes = ws; start = start; cluster = None }
     written e long =
-        ap (λ (h : Head). record { bytes = take h.len (drop h.start (over (place_bytes t i h.cluster) start ws)); start = h.start; cluster = h.cluster }) e
-        ∙ (λ j. record { bytes = run_written (mbuf_of t i).bytes start ws (omega (arith, long, high)) j; start = start; cluster = None })
+        ap (λ (h : Head). record {
+          bytes = take h.len (drop h.start (over (place_bytes t i h.cluster) start ws));
+          start = h.start;
+          cluster = h.cluster;
+        }) e
+        ∙ (λ j. record {
+          bytes = run_written (mbuf_of t i).bytes start ws (omega (arith, long, high)) j;
+          start = start;
+          cluster = None;
+        })

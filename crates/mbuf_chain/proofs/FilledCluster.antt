@@ -20,14 +20,19 @@ use Rattle.mbuf_chain.proofs.Laws.Steps.{filled, new_entry}
 abbrev before : StoreView → ℕ → ℕ → ℕ → Entry
 before u d start len = record { bytes = take len (drop start (cluster_of u d).bytes); start = start; cluster = Some d }
 
-made : (s t u : StoreView) (i d : ℕ) (header : Bool) (start len : ℕ) → IsPool s → TakesCluster s t d → Taken t u i (head_for header start len (Some d)) → IsStore u → start + len ≤ 2048
+made : (s t u : StoreView) (i d : ℕ) (header : Bool) (start len : ℕ) → IsPool s → TakesCluster s t d
+    → Taken t u i (head_for header start len (Some d)) → IsStore u → start + len ≤ 2048
     → IsMade s u i (one_mbuf header (before u d start len) i)
 made s t u i d header start len pool got_cluster got store high =
     let h : Head = head_for header start len (Some d) in
     let n = new_clustered s t u i d h got_cluster got refl store in
-    subst (λ (f : Front). IsMade s u i (record { front = f; entries = before u d start len ∷ []; cells = i ∷ [] })) (front_for header start len (Some d))
-    (subst (λ (e : Entry). IsMade s u i (record { front = front_of (head_for header start len (Some d)); entries = e ∷ []; cells = i ∷ [] })) (ap (entry_from u i) n.head)
-    (added s u i h pool n refl (record { low = omega arith; high = omega (arith, high); kind = refl }) (total_for header start len (Some d))))
+    subst (λ (f : Front). IsMade s u i (record { front = f; entries = before u d start len ∷ []; cells = i ∷ [] }))
+    (front_for header start len (Some d))
+    (subst (λ (e : Entry). IsMade s u i
+    (record { front = front_of (head_for header start len (Some d)); entries = e ∷ []; cells = i ∷ [] })) (ap
+    (entry_from u i) n.head)
+    (added s u i h pool n refl (record { low = omega arith; high = omega (arith, high); kind = refl })
+    (total_for header start len (Some d))))
 
 -- what the write needs, and what is there after it
 pub record Blank (s u : StoreView) (i d : ℕ) (header : Bool) (start : ℕ) (ws : List ℕ) : Type 0 where
@@ -38,9 +43,12 @@ pub record Blank (s u : StoreView) (i d : ℕ) (header : Bool) (start : ℕ) (ws
   pub cluster : Some d ≡ (head_of u i).cluster
   pub low : room_low (head_of u i) ≤ start
   pub high : start + length ws ≤ room_high (head_of u i)
-  pub done : (v : StoreView) → WritesPlace u v i (only i) start ws → Adds (pool_of s) (pool_of v) i (one_mbuf header (record { bytes = ws; start = start; cluster = Some d }) i)
+  pub done : (v : StoreView) → WritesPlace u v i (only i) start ws
+      → Adds (pool_of s) (pool_of v) i (one_mbuf header (record { bytes = ws; start = start; cluster = Some d }) i)
 
-pub blank : (s t u : StoreView) (i d : ℕ) (header : Bool) (start : ℕ) (ws : List ℕ) → IsPool s → TakesCluster s t d → references (pool_of s) d ≡ 0 → Taken t u i (head_for header start (length ws) (Some d)) → IsStore u → start + length ws ≤ 2048
+pub blank : (s t u : StoreView) (i d : ℕ) (header : Bool) (start : ℕ) (ws : List ℕ) → IsPool s → TakesCluster s t d
+    → references (pool_of s) d ≡ 0 → Taken t u i (head_for header start (length ws) (Some d)) → IsStore u
+    → start + length ws ≤ 2048
     → Blank s u i d header start ws
 blank s t u i d header start ws pool got_cluster none got store high =
     let m = made s t u i d header start (length ws) pool got_cluster got store high in
@@ -49,22 +57,47 @@ blank s t u i d header start ws pool got_cluster none got store high =
     let shows = new_entry (pool_of s) (pool_of u) i 0 header old m.adds refl in
     let below : d < length s.clusters = slice_get_within s.clusters d free_cluster got_cluster.was_free in
     let here : cluster_of u d ≡ record { count = 1; bytes = got_cluster.bytes } =
-    ap (λ (w : StoreView). cluster_of w d) got.change ∙ ap (λ (w : StoreView). cluster_of w d) got_cluster.change ∙ cluster_here s d (record { count = 1; bytes = got_cluster.bytes }) below in
-    let long : length (cluster_of u d).bytes ≡ 2048 = store.cluster_bytes d (omega (arith, ap (λ (v : ClusterView). v.count) here)) in
-    let one : references (pool_of u) d ≡ 1 = omega (arith, references-adds d m.adds, none, sum_by-cons (λ (e : Entry). cond {A = ℕ} (refers d e) 1 0) old [], ap (λ (b : Bool). cond {A = ℕ} b 1 0) (eq-eqb d d refl)) in
+    ap (λ (w : StoreView). cluster_of w d) got.change ∙ ap (λ (w : StoreView). cluster_of w d) got_cluster.change
+    ∙ cluster_here s d (record { count = 1; bytes = got_cluster.bytes }) below in
+    let long : length (cluster_of u d).bytes ≡ 2048 =
+    store.cluster_bytes d (omega (arith, ap (λ (v : ClusterView). v.count) here)) in
+    let one : references (pool_of u) d ≡ 1 =
+    omega (
+      arith,
+      references-adds d m.adds,
+      none,
+      sum_by-cons (λ (e : Entry). cond {A = ℕ} (refers d e) 1 0) old [],
+      ap (λ (b : Bool). cond {A = ℕ} b 1 0) (eq-eqb d d refl),
+    ) in
     record {
       pool = m.pool;
       live = live_adds m.adds;
-      place = subst (λ (v : ChainView). IsPlace v (only i)) (sym (shown_adds m.adds)) (record { within = omega arith; cell = refl });
-      unshared = subst (IsUnshared (pool_of u)) (sym shows) (λ k is. subst (λ (j : ℕ). references (pool_of u) j ≡ 1) (same_Some d k is) one);
+      place =
+          subst (λ (v : ChainView). IsPlace v (only i)) (sym (shown_adds m.adds))
+          (record { within = omega arith; cell = refl });
+      unshared =
+          subst (IsUnshared (pool_of u)) (sym shows)
+          (λ k is. subst (λ (j : ℕ). references (pool_of u) j ≡ 1) (same_Some d k is) one);
       cluster = ap (λ (h : Head). h.cluster) (sym n.head);
       low = omega (arith, ap room_low n.head);
       high = omega (arith, high, ap room_high n.head);
-      done = λ v w. filled (pool_of s) (pool_of u) (pool_of v) i 0 header old (record { bytes = ws; start = start; cluster = Some d }) m.adds refl
-          (w.map_is ∙ ap (λ (e : Entry). with_chain (pool_of u) i (with_entry (chain_of (pool_of u) i) 0 e)) (written n.head long));
+      done =
+          λ v w. filled (pool_of s) (pool_of u) (pool_of v) i 0 header old
+          (record { bytes = ws; start = start; cluster = Some d }) m.adds refl
+          (w.map_is ∙ ap (λ (e : Entry). with_chain (pool_of u) i (with_entry (chain_of (pool_of u) i) 0 e))
+          (written n.head long));
     }
   where
-    written : head_of u i ≡ head_for header start (length ws) (Some d) → length (cluster_of u d).bytes ≡ 2048 → entry_over u i start ws ≡ record { bytes = ws; start = start; cluster = Some d }
+    written : head_of u i ≡ head_for header start (length ws) (Some d) → length (cluster_of u d).bytes ≡ 2048
+        → entry_over u i start ws ≡ record { bytes = ws; start = start; cluster = Some d }
     written e long =
-        ap (λ (h : Head). record { bytes = take h.len (drop h.start (over (place_bytes u i h.cluster) start ws)); start = h.start; cluster = h.cluster }) e
-        ∙ (λ j. record { bytes = run_written (cluster_of u d).bytes start ws (omega (arith, long, high)) j; start = start; cluster = Some d })
+        ap (λ (h : Head). record {
+          bytes = take h.len (drop h.start (over (place_bytes u i h.cluster) start ws));
+          start = h.start;
+          cluster = h.cluster;
+        }) e
+        ∙ (λ j. record {
+          bytes = run_written (cluster_of u d).bytes start ws (omega (arith, long, high)) j;
+          start = start;
+          cluster = Some d;
+        })

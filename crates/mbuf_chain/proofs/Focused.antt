@@ -28,14 +28,17 @@ pub linked_from : (s : StoreView) (c : ℕ) (l : List ℕ) → first_of l ≡ c 
 linked_from s c [] first h = absurd h
 linked_from s c (x ∷ xs) first h = (ap {B = Option ℕ} Some (sym first), h.0.1, h.0.2, h.0.3)
 
-abbrev focused_of : (s : StoreView) (lists : List (List ℕ)) (c : ℕ) → Focus s lists c (chain_of (pool_of s) c) → Focused s c
+abbrev focused_of : (s : StoreView) (lists : List (List ℕ)) (c : ℕ) → Focus s lists c (chain_of (pool_of s) c)
+    → Focused s c
 focused_of s lists c f = record {
   cells = f.found.cells;
   rest = f.found.rest;
   sound = f.sound;
   chain = f.sound.linked.0;
   linked = linked_from s c f.found.cells f.found.first f.sound.linked.0;
-  walks = walk_is (length s.mbufs) s (Some c) f.found.cells (linked_from s c f.found.cells f.found.first f.sound.linked.0) (omega (arith, f.sound.total, few_out s));
+  walks =
+      walk_is (length s.mbufs) s (Some c) f.found.cells (linked_from s c f.found.cells f.found.first f.sound.linked.0)
+      (omega (arith, f.sound.total, few_out s));
   first = f.found.first;
   shows = f.found.shows;
   fresh = f.fresh;
@@ -56,7 +59,8 @@ open_on s c (lists, ok, totals) is =
     let f = focus s lists c (chain_of (pool_of s) c) ok is in
     record { at = focused_of s lists c f; totals = f.found.totals totals }
 
-pub open_off : (s : StoreView) (c added removed : ℕ) → IsOff s c added removed → IsLive (pool_of s) c → OpenedOff s c added removed
+pub open_off : (s : StoreView) (c added removed : ℕ) → IsOff s c added removed → IsLive (pool_of s) c
+    → OpenedOff s c added removed
 open_off s c added removed (lists, ok, totals) is =
     let f = focus s lists c (chain_of (pool_of s) c) ok is in
     record { at = focused_of s lists c f; totals = f.found.totals_by c added removed totals }
@@ -73,7 +77,8 @@ freeable s c f = record {
 pub whole_of : (s : StoreView) (c : ℕ) → Focused s c → IsWhole s (Some c)
 whole_of s c f = subst (IsLinked s (Some c)) (sym f.walks) f.linked
 
-pub once_in : (s : StoreView) (c : ℕ) → (f : Focused s c) → (k : ℕ) → weigh (is_at k) f.cells + weigh_all (is_at k) f.rest ≤ 1
+pub once_in : (s : StoreView) (c : ℕ) → (f : Focused s c) → (k : ℕ)
+    → weigh (is_at k) f.cells + weigh_all (is_at k) f.rest ≤ 1
 once_in s c f k = omega (arith, f.sound.once k, small (is_out s k))
 
 -- ---- one of its mbufs
@@ -82,12 +87,14 @@ in_list [] i h = absurd (omega arith)
 in_list (x ∷ xs) zero h = omega (arith, is_at_same x)
 in_list (x ∷ xs) (suc i) h = omega (arith, in_list xs i (omega arith))
 
-pub entry_in : (s : StoreView) (l : List ℕ) (i : ℕ) → i < weigh one l → slice_index_or (map (entry_at s) l) i no_entry ≡ entry_at s (slice_index l i)
+pub entry_in : (s : StoreView) (l : List ℕ) (i : ℕ) → i < weigh one l
+    → slice_index_or (map (entry_at s) l) i no_entry ≡ entry_at s (slice_index l i)
 entry_in s [] i h = absurd (omega arith)
 entry_in s (x ∷ xs) zero h = refl
 entry_in s (x ∷ xs) (suc i) h = entry_in s xs i (omega arith)
 
-pub fit_in : (s : StoreView) (at : Option ℕ) (l : List ℕ) (i : ℕ) → IsLinked s at l → i < weigh one l → IsFit (head_of s (slice_index l i))
+pub fit_in : (s : StoreView) (at : Option ℕ) (l : List ℕ) (i : ℕ) → IsLinked s at l → i < weigh one l
+    → IsFit (head_of s (slice_index l i))
 fit_in s at [] i h lt = absurd (omega arith)
 fit_in s at (x ∷ xs) zero h lt = h.2
 fit_in s at (x ∷ xs) (suc i) h lt = fit_in s (head_of s x).next xs i h.3 (omega arith)
@@ -101,20 +108,27 @@ pub record Entered (s : StoreView) (c : ℕ) (f : Focused s c) (i x : ℕ) : Typ
   pub shows : entry_of (chain_of (pool_of s) c) i ≡ entry_at s x
   pub fit : IsFit (head_of s x)
 
-pub count_cells : (s : StoreView) (c : ℕ) → (f : Focused s c) → length (chain_of (pool_of s) c).entries ≡ weigh one f.cells
+pub count_cells : (s : StoreView) (c : ℕ) → (f : Focused s c)
+    → length (chain_of (pool_of s) c).entries ≡ weigh one f.cells
 count_cells s c f = ap (λ (v : ChainView). length v.entries) (sym f.shows) ∙ count_ones s f.cells
 
-pub enter : (s : StoreView) (c : ℕ) (at : Place) → (f : Focused s c) → IsPlace (chain_of (pool_of s) c) at → Entered s c f at.index at.cell
+pub enter : (s : StoreView) (c : ℕ) (at : Place) → (f : Focused s c) → IsPlace (chain_of (pool_of s) c) at
+    → Entered s c f at.index at.cell
 enter s c at f is =
     let below : at.index < weigh one f.cells = omega (arith, is.within, count_cells s c f) in
-    let cell : slice_index f.cells at.index ≡ at.cell = get_or_from_slice_get f.cells at.index at.cell 0 (ap (λ (v : ChainView). slice_get v.cells at.index) f.shows ∙ is.cell) in
-    let inside : 0 < weigh (is_at at.cell) f.cells = subst (λ (j : ℕ). 0 < weigh (is_at j) f.cells) cell (in_list f.cells at.index below) in
+    let cell : slice_index f.cells at.index ≡ at.cell =
+    get_or_from_slice_get f.cells at.index at.cell 0
+    (ap (λ (v : ChainView). slice_get v.cells at.index) f.shows ∙ is.cell) in
+    let inside : 0 < weigh (is_at at.cell) f.cells =
+    subst (λ (j : ℕ). 0 < weigh (is_at j) f.cells) cell (in_list f.cells at.index below) in
     record {
       below = below;
       cell = cell;
       inside = inside;
       out = bit (is_out s at.cell) (omega (arith, f.sound.once at.cell));
-      shows = ap (λ (v : ChainView). entry_of v at.index) (sym f.shows) ∙ entry_in s f.cells at.index below ∙ ap (entry_at s) cell;
+      shows =
+          ap (λ (v : ChainView). entry_of v at.index) (sym f.shows) ∙ entry_in s f.cells at.index below
+          ∙ ap (entry_at s) cell;
       fit = subst (λ (j : ℕ). IsFit (head_of s j)) cell (fit_in s (Some c) f.cells at.index f.linked below);
     }
 

@@ -23,14 +23,25 @@ pub record FitsAfter (s : StoreView) (at : Place) (h : Head) (n : ℕ) : Type 0 
   pub high : h.start + h.len + n ≤ room_high (head_of s at.cell)
   pub small : room_high (head_of s at.cell) ≤ 2048
 
-pub fits_after : {s : StoreView} (c : ℕ) {n : ℕ} {at : Place} {h : Head} → IsPool s → IsLive (pool_of s) c → IsPlace (chain_of (pool_of s) c) at → h ≡ head_of s at.cell
-    → (entry_of (chain_of (pool_of s) c) at.index).start + length (entry_of (chain_of (pool_of s) c) at.index).bytes + n ≤ room_end (entry_of (chain_of (pool_of s) c) at.index) → FitsAfter s at h n
+pub fits_after : {s : StoreView} (c : ℕ) {n : ℕ} {at : Place} {h : Head} → IsPool s → IsLive (pool_of s) c
+    → IsPlace (chain_of (pool_of s) c) at → h ≡ head_of s at.cell
+    → (entry_of (chain_of (pool_of s) c) at.index).start + length (entry_of (chain_of (pool_of s) c) at.index).bytes + n
+    ≤ room_end (entry_of (chain_of (pool_of s) c) at.index) → FitsAfter s at h n
 fits_after {s} c {n} {at} {h} pool live place e fits =
     let k = shown_at s c at pool live place in
     record {
       out = k.out;
       low = omega (arith, k.fit.low, ap (λ (y : Head). y.start) e);
-      high = omega (arith, fits, k.long, ap (λ (y : Entry). y.start) k.entry, high_seen s c at k, ap (λ (y : Head). y.start) e, ap (λ (y : Head). y.len) e);
+      high =
+          omega (
+            arith,
+            fits,
+            k.long,
+            ap (λ (y : Entry). y.start) k.entry,
+            high_seen s c at k,
+            ap (λ (y : Head). y.start) e,
+            ap (λ (y : Head). y.len) e,
+          );
       small = most (head_of s at.cell).cluster;
     }
 
@@ -39,29 +50,43 @@ pub record ReadyAfter (s t : StoreView) (c n : ℕ) (at : Place) (h : Head) (ws 
   pub place : IsPlace (chain_of (pool_of t) c) at
   pub low : room_low (head_of t at.cell) ≤ h.start
   pub high : h.start + (h.len + n) ≤ room_high (head_of t at.cell)
-  pub done : (u : StoreView) → pool_of u ≡ with_chain (pool_of t) c (with_entry (chain_of (pool_of t) c) at.index (entry_from t at.cell (with_segment (head_of t at.cell) h.start (h.len + n))))
-      → pool_of u ≡ with_chain (pool_of s) c (with_entry (chain_of (pool_of s) c) at.index (with_back (entry_of (chain_of (pool_of s) c) at.index) ws))
+  pub done : (u : StoreView) → pool_of u
+      ≡ with_chain (pool_of t) c (with_entry (chain_of (pool_of t) c) at.index
+      (entry_from t at.cell (with_segment (head_of t at.cell) h.start (h.len + n))))
+      → pool_of u ≡ with_chain (pool_of s) c
+      (with_entry (chain_of (pool_of s) c) at.index (with_back (entry_of (chain_of (pool_of s) c) at.index) ws))
 
-pub ready_after : {s t : StoreView} (c : ℕ) {n : ℕ} {at : Place} {h : Head} {ws : List ℕ} → IsPool s → IsLive (pool_of s) c → IsPlace (chain_of (pool_of s) c) at → h ≡ head_of s at.cell
-    → (entry_of (chain_of (pool_of s) c) at.index).start + length (entry_of (chain_of (pool_of s) c) at.index).bytes + n ≤ room_end (entry_of (chain_of (pool_of s) c) at.index) → n ≡ length ws → WritesPlace s t c at (h.start + h.len) ws → ReadyAfter s t c n at h ws
+pub ready_after : {s t : StoreView} (c : ℕ) {n : ℕ} {at : Place} {h : Head} {ws : List ℕ} → IsPool s
+    → IsLive (pool_of s) c → IsPlace (chain_of (pool_of s) c) at → h ≡ head_of s at.cell
+    → (entry_of (chain_of (pool_of s) c) at.index).start + length (entry_of (chain_of (pool_of s) c) at.index).bytes + n
+    ≤ room_end (entry_of (chain_of (pool_of s) c) at.index) → n ≡ length ws
+    → WritesPlace s t c at (h.start + h.len) ws → ReadyAfter s t c n at h ws
 ready_after {s} {t} c {n} {at} {h} {ws} pool live place e fits count w =
-    subst (λ (y : Head). ReadyAfter s t c n at y ws) (sym e) (go (subst (λ (y : Head). WritesPlace s t c at (y.start + y.len) ws) e w) (fits_after c pool live place refl fits))
+    subst (λ (y : Head). ReadyAfter s t c n at y ws) (sym e)
+    (go (subst (λ (y : Head). WritesPlace s t c at (y.start + y.len) ws) e w)
+    (fits_after c pool live place refl fits))
   where
-    go : WritesPlace s t c at ((head_of s at.cell).start + (head_of s at.cell).len) ws → FitsAfter s at (head_of s at.cell) n → ReadyAfter s t c n at (head_of s at.cell) ws
+    go : WritesPlace s t c at ((head_of s at.cell).start + (head_of s at.cell).len) ws
+        → FitsAfter s at (head_of s at.cell) n → ReadyAfter s t c n at (head_of s at.cell) ws
     go w' f =
         let k = shown_at s c at pool live place in
-        let g = grown s t c ((head_of s at.cell).start + (head_of s at.cell).len) ws at pool live place w' (omega (arith, f.high, count)) (inl (omega arith)) in
+        let g =
+        grown s t c ((head_of s at.cell).start + (head_of s at.cell).len) ws at pool live place w'
+        (omega (arith, f.high, count)) (inl (omega arith)) in
         record {
           live = g.live;
           place = g.place;
           low = omega (arith, ap room_low g.head, k.fit.low);
           high = omega (arith, ap room_high g.head, f.high);
-          done = λ u change. grown_is s t u c at _ _ g.same change (grown_back s t c n ws at k w' count (omega (arith, f.high, count)));
+          done =
+              λ u change. grown_is s t u c at _ _ g.same change
+              (grown_back s t c n ws at k w' count (omega (arith, f.high, count)));
         }
 
 -- ---- in front
 -- the room of an mbuf, as a caller sees it
-follows : (s : StoreView) (l : List ℕ) (i : ℕ) → IsChain s l → 0 < i → i < weigh one l → IsFollower (head_of s (slice_index l i))
+follows : (s : StoreView) (l : List ℕ) (i : ℕ) → IsChain s l → 0 < i → i < weigh one l
+    → IsFollower (head_of s (slice_index l i))
 follows s l i h lt within = go l i h lt within
   where
     inside : (xs : List ℕ) (j : ℕ) → AllFollow s xs → j < weigh one xs → IsFollower (head_of s (slice_index xs j))
@@ -74,17 +99,25 @@ follows s l i h lt within = go l i h lt within
     go (x ∷ xs) zero g p q = absurd (omega arith)
     go (x ∷ xs) (suc j) g p q = inside xs j g.1 (omega arith)
 
-pub low_seen : (s : StoreView) (c : ℕ) (at : Place) → IsPool s → IsLive (pool_of s) c → IsPlace (chain_of (pool_of s) c) at → room_low (head_of s at.cell) ≡ room_start (chain_of (pool_of s) c) at.index
+pub low_seen : (s : StoreView) (c : ℕ) (at : Place) → IsPool s → IsLive (pool_of s) c
+    → IsPlace (chain_of (pool_of s) c) at → room_low (head_of s at.cell) ≡ room_start (chain_of (pool_of s) c) at.index
 low_seen s c at pool live place =
     let k = shown_at s c at pool live place in
     let o = open_on s c pool live in
     let e = enter s c at o.at place in
-    ap (λ (y : Entry). cond {A = ℕ} (is_some y.cluster) 0 (cond (is_some (head_of s at.cell).packet) 28 20)) (sym k.entry)
+    ap (λ (y : Entry). cond {A = ℕ} (is_some y.cluster) 0 (cond (is_some (head_of s at.cell).packet) 28 20))
+    (sym k.entry)
     ∙ ap (cond (is_some (entry_of (chain_of (pool_of s) c) at.index).cluster) 0) (elim (cases_eq at.index 0) [
-      | inl zero_is ↦ ap (λ (b : Bool). cond {A = ℕ} b 28 20) (ap (λ (j : ℕ). is_some (head_of s j).packet) (sym e.cell ∙ ap (slice_index o.at.cells) zero_is ∙ o.at.first) ∙ header_is s c pool live)
-          ∙ sym (ap (λ (b : Bool). cond (chain_of (pool_of s) c).front.header (cond {A = ℕ} b 28 20) 20) (eq-eqb at.index 0 zero_is))
-      | inr ne ↦ ap (λ (p : Option PacketHeader). cond {A = ℕ} (is_some p) 28 20) (subst (λ (j : ℕ). (head_of s j).packet ≡ None) e.cell (follows s o.at.cells at.index o.at.chain (omega arith) e.below).packet)
-          ∙ sym (ap (λ (b : Bool). cond (chain_of (pool_of s) c).front.header (cond {A = ℕ} b 28 20) 20) (ne_eqb at.index 0 ne) ∙ both (chain_of (pool_of s) c).front.header)
+      | inl zero_is ↦ ap (λ (b : Bool). cond {A = ℕ} b 28 20)
+          (ap (λ (j : ℕ). is_some (head_of s j).packet) (sym e.cell ∙ ap (slice_index o.at.cells) zero_is ∙ o.at.first)
+          ∙ header_is s c pool live)
+          ∙ sym (ap (λ (b : Bool). cond (chain_of (pool_of s) c).front.header (cond {A = ℕ} b 28 20) 20)
+          (eq-eqb at.index 0 zero_is))
+      | inr ne ↦ ap (λ (p : Option PacketHeader). cond {A = ℕ} (is_some p) 28 20)
+          (subst (λ (j : ℕ). (head_of s j).packet ≡ None) e.cell
+          (follows s o.at.cells at.index o.at.chain (omega arith) e.below).packet)
+          ∙ sym (ap (λ (b : Bool). cond (chain_of (pool_of s) c).front.header (cond {A = ℕ} b 28 20) 20)
+          (ne_eqb at.index 0 ne) ∙ both (chain_of (pool_of s) c).front.header)
     ])
   where
     both : (b : Bool) → cond {A = ℕ} b 20 20 ≡ 20
@@ -99,8 +132,10 @@ pub record FitsBefore (s : StoreView) (at : Place) (h : Head) (n : ℕ) : Type 0
   pub few : n ≤ 2048
   pub most : h.len + n ≤ 4096
 
-pub fits_before : (s : StoreView) (c n : ℕ) (at : Place) (h : Head) → IsPool s → IsLive (pool_of s) c → IsPlace (chain_of (pool_of s) c) at → h ≡ head_of s at.cell
-    → room_start (chain_of (pool_of s) c) at.index + n ≤ (entry_of (chain_of (pool_of s) c) at.index).start → FitsBefore s at h n
+pub fits_before : (s : StoreView) (c n : ℕ) (at : Place) (h : Head) → IsPool s → IsLive (pool_of s) c
+    → IsPlace (chain_of (pool_of s) c) at → h ≡ head_of s at.cell
+    → room_start (chain_of (pool_of s) c) at.index + n ≤ (entry_of (chain_of (pool_of s) c) at.index).start
+    → FitsBefore s at h n
 fits_before s c n at h pool live place e fits =
     let k = shown_at s c at pool live place in
     let low = low_seen s c at pool live place in
@@ -110,7 +145,15 @@ fits_before s c n at h pool live place e fits =
       low = omega (arith, fits, low, ap (λ (y : Entry). y.start) k.entry, ap (λ (y : Head). y.start) e);
       high = omega (arith, fits, k.fit.high, ap (λ (y : Entry). y.start) k.entry, ap (λ (y : Head). y.start) e);
       few = omega (arith, fits, k.fit.high, most (head_of s at.cell).cluster, ap (λ (y : Entry). y.start) k.entry);
-      most = omega (arith, fits, k.fit.high, most (head_of s at.cell).cluster, ap (λ (y : Entry). y.start) k.entry, ap (λ (y : Head). y.len) e);
+      most =
+          omega (
+            arith,
+            fits,
+            k.fit.high,
+            most (head_of s at.cell).cluster,
+            ap (λ (y : Entry). y.start) k.entry,
+            ap (λ (y : Head). y.len) e,
+          );
     }
 
 pub record ReadyBefore (s t : StoreView) (c n : ℕ) (at : Place) (h : Head) (ws : List ℕ) : Type 0 where
@@ -118,24 +161,36 @@ pub record ReadyBefore (s t : StoreView) (c n : ℕ) (at : Place) (h : Head) (ws
   pub place : IsPlace (chain_of (pool_of t) c) at
   pub low : room_low (head_of t at.cell) ≤ h.start - n
   pub high : h.start - n + (h.len + n) ≤ room_high (head_of t at.cell)
-  pub done : (u : StoreView) → pool_of u ≡ with_chain (pool_of t) c (with_entry (chain_of (pool_of t) c) at.index (entry_from t at.cell (with_segment (head_of t at.cell) (h.start - n) (h.len + n))))
-      → pool_of u ≡ with_chain (pool_of s) c (with_entry (chain_of (pool_of s) c) at.index (with_front (entry_of (chain_of (pool_of s) c) at.index) ws))
+  pub done : (u : StoreView) → pool_of u
+      ≡ with_chain (pool_of t) c (with_entry (chain_of (pool_of t) c) at.index
+      (entry_from t at.cell (with_segment (head_of t at.cell) (h.start - n) (h.len + n))))
+      → pool_of u ≡ with_chain (pool_of s) c
+      (with_entry (chain_of (pool_of s) c) at.index (with_front (entry_of (chain_of (pool_of s) c) at.index) ws))
 
-pub ready_before : (s t : StoreView) (c n : ℕ) (at : Place) (h : Head) (ws : List ℕ) → IsPool s → IsLive (pool_of s) c → IsPlace (chain_of (pool_of s) c) at → h ≡ head_of s at.cell
-    → room_start (chain_of (pool_of s) c) at.index + n ≤ (entry_of (chain_of (pool_of s) c) at.index).start → n ≡ length ws → WritesPlace s t c at (h.start - n) ws → ReadyBefore s t c n at h ws
+pub ready_before : (s t : StoreView) (c n : ℕ) (at : Place) (h : Head) (ws : List ℕ) → IsPool s → IsLive (pool_of s) c
+    → IsPlace (chain_of (pool_of s) c) at → h ≡ head_of s at.cell
+    → room_start (chain_of (pool_of s) c) at.index + n ≤ (entry_of (chain_of (pool_of s) c) at.index).start
+    → n ≡ length ws → WritesPlace s t c at (h.start - n) ws → ReadyBefore s t c n at h ws
 ready_before s t c n at h ws pool live place e fits count w =
-    subst (λ (y : Head). ReadyBefore s t c n at y ws) (sym e) (go (subst (λ (y : Head). WritesPlace s t c at (y.start - n) ws) e w) (fits_before s c n at (head_of s at.cell) pool live place refl fits))
+    subst (λ (y : Head). ReadyBefore s t c n at y ws) (sym e)
+    (go (subst (λ (y : Head). WritesPlace s t c at (y.start - n) ws) e w)
+    (fits_before s c n at (head_of s at.cell) pool live place refl fits))
   where
-    go : WritesPlace s t c at ((head_of s at.cell).start - n) ws → FitsBefore s at (head_of s at.cell) n → ReadyBefore s t c n at (head_of s at.cell) ws
+    go : WritesPlace s t c at ((head_of s at.cell).start - n) ws → FitsBefore s at (head_of s at.cell) n
+        → ReadyBefore s t c n at (head_of s at.cell) ws
     go w' f =
         let k = shown_at s c at pool live place in
-        let g = grown s t c ((head_of s at.cell).start - n) ws at pool live place w' (omega (arith, f.high, count)) (inr (omega (arith, f.less, count))) in
+        let g =
+        grown s t c ((head_of s at.cell).start - n) ws at pool live place w' (omega (arith, f.high, count))
+        (inr (omega (arith, f.less, count))) in
         record {
           live = g.live;
           place = g.place;
           low = omega (arith, ap room_low g.head, f.low);
           high = omega (arith, ap room_high g.head, k.fit.high, f.less);
-          done = λ u change. grown_is s t u c at _ _ g.same change (grown_front s t c n ((head_of s at.cell).start - n) ws at k w' count (omega (arith, f.less, count)));
+          done =
+              λ u change. grown_is s t u c at _ _ g.same change
+              (grown_front s t c n ((head_of s at.cell).start - n) ws at k w' count (omega (arith, f.less, count)));
         }
 
 -- ---- rooms told
@@ -149,7 +204,8 @@ pub record Rooms (s : StoreView) (c : ℕ) (at : Place) (h : Head) : Type 0 wher
   pub high : h.start + h.len ≤ room_high h
   pub high_is : room_high h ≡ room_end (entry_of (chain_of (pool_of s) c) at.index)
 
-pub rooms_at : (s : StoreView) (c : ℕ) (at : Place) (h : Head) → IsPool s → IsLive (pool_of s) c → IsPlace (chain_of (pool_of s) c) at → h ≡ head_of s at.cell → Rooms s c at h
+pub rooms_at : (s : StoreView) (c : ℕ) (at : Place) (h : Head) → IsPool s → IsLive (pool_of s) c
+    → IsPlace (chain_of (pool_of s) c) at → h ≡ head_of s at.cell → Rooms s c at h
 rooms_at s c at h pool live place e =
     let k = shown_at s c at pool live place in
     record {
@@ -168,9 +224,13 @@ pub record FrontTold (s : StoreView) (c : ℕ) (at : Place) (n : ℕ) : Type 0 w
   pub value : n ≡ leading_space (chain_of (pool_of s) c) at.index
   pub within : room_start (chain_of (pool_of s) c) at.index + n ≤ (entry_of (chain_of (pool_of s) c) at.index).start
 
-pub front_then : (s : StoreView) (c : ℕ) (at : Place) (h : Head) → Rooms s c at h → is_some h.cluster ≡ true → FrontTold s c at 0
+pub front_then : (s : StoreView) (c : ℕ) (at : Place) (h : Head) → Rooms s c at h → is_some h.cluster ≡ true
+    → FrontTold s c at 0
 front_then s c at h r some = record {
-  value = sym (ap (λ (z : Bool). cond {A = ℕ} z 0 ((entry_of (chain_of (pool_of s) c) at.index).start - room_start (chain_of (pool_of s) c) at.index)) (ap (λ (o : Option ℕ). is_some o) (sym r.cluster) ∙ some));
+  value =
+      sym (ap (λ (z : Bool). cond {A = ℕ} z 0
+      ((entry_of (chain_of (pool_of s) c) at.index).start - room_start (chain_of (pool_of s) c) at.index)) (ap
+      (λ (o : Option ℕ). is_some o) (sym r.cluster) ∙ some));
   within = omega (arith, r.low, r.low_is, r.start);
 }
 
@@ -178,13 +238,17 @@ pub record FrontElse (s : StoreView) (c : ℕ) (at : Place) (h : Head) (d : ℕ)
   pub less : d ≤ h.start
   pub told : FrontTold s c at (h.start - d)
 
-pub front_else : (s : StoreView) (c d : ℕ) (at : Place) (h : Head) → Rooms s c at h → is_some h.cluster ≡ false → d ≡ cond {A = ℕ} (is_some h.packet) 28 20 → FrontElse s c at h d
+pub front_else : (s : StoreView) (c d : ℕ) (at : Place) (h : Head) → Rooms s c at h → is_some h.cluster ≡ false
+    → d ≡ cond {A = ℕ} (is_some h.packet) 28 20 → FrontElse s c at h d
 front_else s c d at h r none is =
     let low : room_low h ≡ d = ap (λ (z : Bool). cond {A = ℕ} z 0 (cond (is_some h.packet) 28 20)) none ∙ sym is in
     record {
       less = omega (arith, r.low, low);
       told = record {
-        value = sym (ap (λ (z : Bool). cond {A = ℕ} z 0 ((entry_of (chain_of (pool_of s) c) at.index).start - room_start (chain_of (pool_of s) c) at.index)) (ap (λ (o : Option ℕ). is_some o) (sym r.cluster) ∙ none)
+        value =
+            sym (ap (λ (z : Bool). cond {A = ℕ} z 0
+            ((entry_of (chain_of (pool_of s) c) at.index).start - room_start (chain_of (pool_of s) c) at.index)) (ap
+            (λ (o : Option ℕ). is_some o) (sym r.cluster) ∙ none)
             ∙ (λ i. sym r.start i - (sym r.low_is ∙ low) i));
         within = omega (arith, r.low, low, r.low_is, r.start);
       };
@@ -192,11 +256,18 @@ front_else s c d at h r none is =
 
 pub record BackTold (s : StoreView) (c : ℕ) (at : Place) (n : ℕ) : Type 0 where
   pub value : n ≡ trailing_space (entry_of (chain_of (pool_of s) c) at.index)
-  pub within : (entry_of (chain_of (pool_of s) c) at.index).start + length (entry_of (chain_of (pool_of s) c) at.index).bytes + n ≤ room_end (entry_of (chain_of (pool_of s) c) at.index)
+  pub within : (entry_of (chain_of (pool_of s) c) at.index).start
+      + length (entry_of (chain_of (pool_of s) c) at.index).bytes + n
+      ≤ room_end (entry_of (chain_of (pool_of s) c) at.index)
 
-pub back_then : (s : StoreView) (c : ℕ) (at : Place) (h : Head) → Rooms s c at h → is_some h.cluster ≡ true → BackTold s c at 0
+pub back_then : (s : StoreView) (c : ℕ) (at : Place) (h : Head) → Rooms s c at h → is_some h.cluster ≡ true
+    → BackTold s c at 0
 back_then s c at h r some = record {
-  value = sym (ap (λ (z : Bool). cond {A = ℕ} z 0 (128 - (entry_of (chain_of (pool_of s) c) at.index).start - length (entry_of (chain_of (pool_of s) c) at.index).bytes)) (ap (λ (o : Option ℕ). is_some o) (sym r.cluster) ∙ some));
+  value =
+      sym (ap (λ (z : Bool). cond {A = ℕ} z 0
+      (128 - (entry_of (chain_of (pool_of s) c) at.index).start
+      - length (entry_of (chain_of (pool_of s) c) at.index).bytes)) (ap (λ (o : Option ℕ). is_some o) (sym
+      r.cluster) ∙ some));
   within = omega (arith, r.high, r.high_is, r.start, r.len);
 }
 
@@ -205,14 +276,19 @@ pub record BackElse (s : StoreView) (c : ℕ) (at : Place) (h : Head) : Type 0 w
   pub fits : h.len ≤ 128 - h.start
   pub told : BackTold s c at (128 - h.start - h.len)
 
-pub back_else : (s : StoreView) (c : ℕ) (at : Place) (h : Head) → Rooms s c at h → is_some h.cluster ≡ false → BackElse s c at h
+pub back_else : (s : StoreView) (c : ℕ) (at : Place) (h : Head) → Rooms s c at h → is_some h.cluster ≡ false
+    → BackElse s c at h
 back_else s c at h r none =
     let high : room_high h ≡ 128 = ap (λ (z : Bool). cond {A = ℕ} z 2048 128) none in
     record {
       less = omega (arith, r.high, high);
       fits = omega (arith, r.high, high);
       told = record {
-        value = sym (ap (λ (z : Bool). cond {A = ℕ} z 0 (128 - (entry_of (chain_of (pool_of s) c) at.index).start - length (entry_of (chain_of (pool_of s) c) at.index).bytes)) (ap (λ (o : Option ℕ). is_some o) (sym r.cluster) ∙ none)
+        value =
+            sym (ap (λ (z : Bool). cond {A = ℕ} z 0
+            (128 - (entry_of (chain_of (pool_of s) c) at.index).start
+            - length (entry_of (chain_of (pool_of s) c) at.index).bytes)) (ap (λ (o : Option ℕ). is_some o) (sym
+            r.cluster) ∙ none)
             ∙ (λ i. 128 - sym r.start i - sym r.len i));
         within = omega (arith, r.high, high, r.high_is, r.start, r.len);
       };

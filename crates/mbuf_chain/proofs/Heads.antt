@@ -34,7 +34,8 @@ same_outs s x m out =
       mbufs = length-set s.mbufs x (Some m);
       clusters = refl;
       outs = λ k. elim (cases_eq k x) [
-        | inl e ↦ subst (λ (j : ℕ). is_out (with_mbuf s x (Some m)) j ≡ is_out s j) (sym e) (out_here s x (Some m) lt ∙ sym out)
+        | inl e ↦ subst (λ (j : ℕ). is_out (with_mbuf s x (Some m)) j ≡ is_out s j) (sym e)
+            (out_here s x (Some m) lt ∙ sym out)
         | inr ne ↦ out_there s x (Some m) lt k ne
       ];
       total = omega (arith, outs_total s x (Some m) lt, on (is_out s x) out);
@@ -43,43 +44,70 @@ same_outs s x m out =
 
 -- the bytes that a fitting head shows lie after it
 pub low_is : (h : Head) → h.cluster ≡ None → head_size h ≡ room_low h
-low_is h none = ap (λ (o : Option ℕ). cond {A = ℕ} (is_some o) 32 (cond (is_some h.packet) 28 20)) none ∙ sym (ap (λ (o : Option ℕ). cond {A = ℕ} (is_some o) 0 (cond (is_some h.packet) 28 20)) none)
+low_is h none =
+    ap (λ (o : Option ℕ). cond {A = ℕ} (is_some o) 32 (cond (is_some h.packet) 28 20)) none
+    ∙ sym (ap (λ (o : Option ℕ). cond {A = ℕ} (is_some o) 0 (cond (is_some h.packet) 28 20)) none)
 
 high_is : (h : Head) → h.cluster ≡ None → room_high h ≡ 128
 high_is h none = ap (λ (o : Option ℕ). cond {A = ℕ} (is_some o) 2048 128) none
 
-set_made : (s : StoreView) (x : ℕ) (h : Head) (b : List ℕ) → is_out s x ≡ true → length b ≡ head_size h → IsStore s → HeadSet s (with_mbuf s x (Some (record { head = h; bytes = over (mbuf_of s x).bytes 0 b }))) x h
+set_made : (s : StoreView) (x : ℕ) (h : Head) (b : List ℕ) → is_out s x ≡ true → length b ≡ head_size h → IsStore s
+    → HeadSet s (with_mbuf s x (Some (record { head = h; bytes = over (mbuf_of s x).bytes 0 b }))) x h
 set_made s x h b out long store =
     let m : MbufView = record { head = h; bytes = over (mbuf_of s x).bytes 0 b } in
     let lt = out_below s x out in
-    let here : mbuf_of (with_mbuf s x (Some (record { head = h; bytes = over (mbuf_of s x).bytes 0 b }))) x ≡ record { head = h; bytes = over (mbuf_of s x).bytes 0 b } =
+    let here : mbuf_of (with_mbuf s x (Some (record { head = h; bytes = over (mbuf_of s x).bytes 0 b }))) x
+    ≡ record { head = h; bytes = over (mbuf_of s x).bytes 0 b } =
     ap (λ (o : Option MbufView). unwrap_or o Rattle.mbuf_pool.specs.Store.no_mbuf) (slot_here s x (Some m) lt) in
     record {
       outs = same_outs s x m out;
       head = ap (λ (v : MbufView). v.head) here;
       out = out_here s x (Some m) lt;
-      others = λ k ne. same_cell s (with_mbuf s x (Some m)) k (mbuf_there s x (Some m) lt k ne) (out_there s x (Some m) lt k ne) (λ c e. refl);
-      entry = λ fit. ap (entry_from (with_mbuf s x (Some m)) x) (ap (λ (v : MbufView). v.head) here) ∙ shown fit here h.cluster refl;
+      others =
+          λ k ne. same_cell s (with_mbuf s x (Some m)) k (mbuf_there s x (Some m) lt k ne)
+          (out_there s x (Some m) lt k ne) (λ c e. refl);
+      entry =
+          λ fit. ap (entry_from (with_mbuf s x (Some m)) x) (ap (λ (v : MbufView). v.head) here)
+          ∙ shown fit here h.cluster refl;
     }
   where
-    shown : IsFit h → mbuf_of (with_mbuf s x (Some (record { head = h; bytes = over (mbuf_of s x).bytes 0 b }))) x ≡ record { head = h; bytes = over (mbuf_of s x).bytes 0 b }
-        → (o : Option ℕ) → h.cluster ≡ o → entry_from (with_mbuf s x (Some (record { head = h; bytes = over (mbuf_of s x).bytes 0 b }))) x h ≡ entry_from s x h
+    shown : IsFit h → mbuf_of (with_mbuf s x (Some (record { head = h; bytes = over (mbuf_of s x).bytes 0 b }))) x
+        ≡ record { head = h; bytes = over (mbuf_of s x).bytes 0 b }
+        → (o : Option ℕ) → h.cluster ≡ o
+        → entry_from (with_mbuf s x (Some (record { head = h; bytes = over (mbuf_of s x).bytes 0 b }))) x h
+        ≡ entry_from s x h
     shown fit here (Some c) is =
-        subst (λ (o : Option ℕ). take h.len (drop h.start (place_bytes (with_mbuf s x (Some (record { head = h; bytes = over (mbuf_of s x).bytes 0 b }))) x o)) ≡ take h.len (drop h.start (place_bytes s x o)) → entry_from (with_mbuf s x (Some (record { head = h; bytes = over (mbuf_of s x).bytes 0 b }))) x h ≡ entry_from s x h)
+        subst (λ (o : Option ℕ). take h.len
+        (drop h.start (place_bytes (with_mbuf s x (Some (record { head = h; bytes = over (mbuf_of s x).bytes 0 b })))
+        x o)) ≡ take h.len (drop h.start (place_bytes s x o)) → entry_from (with_mbuf s x (Some
+        (record { head = h; bytes = over (mbuf_of s x).bytes 0 b }))) x h ≡ entry_from s x h)
         refl (λ e. λ i. record { bytes = e i; start = h.start; cluster = h.cluster })
-        (subst (λ (o : Option ℕ). take h.len (drop h.start (place_bytes (with_mbuf s x (Some (record { head = h; bytes = over (mbuf_of s x).bytes 0 b }))) x o)) ≡ take h.len (drop h.start (place_bytes s x o))) (sym is) refl)
+        (subst (λ (o : Option ℕ). take h.len
+        (drop h.start (place_bytes (with_mbuf s x (Some (record { head = h; bytes = over (mbuf_of s x).bytes 0 b })))
+        x o)) ≡ take h.len (drop h.start (place_bytes s x o))) (sym is) refl)
     shown fit here None is =
-        let bytes : take h.len (drop h.start (over (mbuf_of s x).bytes 0 b)) ≡ take h.len (drop h.start (mbuf_of s x).bytes) =
-        run_apart (mbuf_of s x).bytes 0 b h.start h.len (omega (arith, long, low_is h is, high_is h is, fit.low, fit.high, store.mbuf_bytes x out)) (omega (arith, high_is h is, fit.high, store.mbuf_bytes x out)) (inl (omega (arith, long, low_is h is, fit.low))) in
+        let bytes : take h.len (drop h.start (over (mbuf_of s x).bytes 0 b))
+        ≡ take h.len (drop h.start (mbuf_of s x).bytes) =
+        run_apart (mbuf_of s x).bytes 0 b h.start h.len
+        (omega (arith, long, low_is h is, high_is h is, fit.low, fit.high, store.mbuf_bytes x out))
+        (omega (arith, high_is h is, fit.high, store.mbuf_bytes x out))
+        (inl (omega (arith, long, low_is h is, fit.low))) in
         λ i. record {
-          bytes = (subst (λ (o : Option ℕ). take h.len (drop h.start (place_bytes (with_mbuf s x (Some (record { head = h; bytes = over (mbuf_of s x).bytes 0 b }))) x o)) ≡ take h.len (drop h.start (place_bytes s x o))) (sym is)
+          bytes =
+              (subst (λ (o : Option ℕ). take h.len
+              (drop h.start (place_bytes (with_mbuf s x
+              (Some (record {
+                head = h;
+                bytes = over (mbuf_of s x).bytes 0 b;
+              }))) x o)) ≡ take h.len (drop h.start (place_bytes s x o))) (sym is)
               (ap (λ (v : MbufView). take h.len (drop h.start v.bytes)) here ∙ bytes)) i;
           start = h.start;
           cluster = h.cluster;
         }
 
 pub head_set : (s t : StoreView) (x : ℕ) (h : Head) → is_out s x ≡ true → IsStore s → SetsHead s t x h → HeadSet s t x h
-head_set s t x h out store (b, long, is) = subst (λ (u : StoreView). HeadSet s u x h) (sym is) (set_made s x h b out long store)
+head_set s t x h out store (b, long, is) =
+    subst (λ (u : StoreView). HeadSet s u x h) (sym is) (set_made s x h b out long store)
 
 -- ---- a head of a live chain
 pub record Reheaded (s t : StoreView) (c i x : ℕ) (h : Head) (f : Focused s c) : Type 0 where
@@ -88,7 +116,9 @@ pub record Reheaded (s t : StoreView) (c i x : ℕ) (h : Head) (f : Focused s c)
   pub entry : entry_at t x ≡ entry_from s x h
   pub others : (k : ℕ) → k ≢ x → head_of t k ≡ head_of s k
 
-pub rehead : (s t : StoreView) (c i x : ℕ) (h : Head) → (f : Focused s c) → Entered s c f i x → SetsHead s t x h → IsStore t → h.next ≡ (head_of s x).next → h.cluster ≡ (head_of s x).cluster → IsFit h → (0 < i → IsFollower (head_of s x) → IsFollower h)
+pub rehead : (s t : StoreView) (c i x : ℕ) (h : Head) → (f : Focused s c) → Entered s c f i x → SetsHead s t x h
+    → IsStore t → h.next ≡ (head_of s x).next → h.cluster ≡ (head_of s x).cluster → IsFit h
+    → (0 < i → IsFollower (head_of s x) → IsFollower h)
     → Reheaded s t c i x h f
 rehead s t c i x h f e sets store next cluster fit follow =
     let set = head_set s t x h e.out f.sound.store sets in
@@ -108,21 +138,28 @@ rehead s t c i x h f e sets store next cluster fit follow =
 pub enter_first : (s : StoreView) (c : ℕ) → (f : Focused s c) → Entered s c f 0 c
 enter_first s c f =
     let some : 0 < weigh one f.cells = some_cell s f.cells f.chain in
-    let inside : 0 < weigh (is_at c) f.cells = subst (λ (j : ℕ). 0 < weigh (is_at j) f.cells) f.first (in_list f.cells 0 some) in
+    let inside : 0 < weigh (is_at c) f.cells =
+    subst (λ (j : ℕ). 0 < weigh (is_at j) f.cells) f.first (in_list f.cells 0 some) in
     record {
       below = some;
       cell = f.first;
       inside = inside;
       out = first_out s c f;
-      shows = ap (λ (v : ChainView). entry_of v 0) (sym f.shows) ∙ Rattle.mbuf_chain.proofs.Focused.entry_in s f.cells 0 some ∙ ap (entry_at s) f.first;
-      fit = subst (λ (j : ℕ). IsFit (head_of s j)) f.first (Rattle.mbuf_chain.proofs.Focused.fit_in s (Some c) f.cells 0 f.linked some);
+      shows =
+          ap (λ (v : ChainView). entry_of v 0) (sym f.shows) ∙ Rattle.mbuf_chain.proofs.Focused.entry_in s f.cells 0 some
+          ∙ ap (entry_at s) f.first;
+      fit =
+          subst (λ (j : ℕ). IsFit (head_of s j)) f.first
+          (Rattle.mbuf_chain.proofs.Focused.fit_in s (Some c) f.cells 0 f.linked some);
     }
 
 -- ---- a chain shown as it was
 pub with_self : (p : PoolView) (c : ℕ) → IsLive p c → with_chain p c (chain_of p c) ≡ p
-with_self p c live = λ i. record { mbufs = p.mbufs; clusters = p.clusters; chains = insert_same p.chains c (chain_of p c) live i }
+with_self p c live =
+    λ i. record { mbufs = p.mbufs; clusters = p.clusters; chains = insert_same p.chains c (chain_of p c) live i }
 
-pub set_same : (es : List Entry) (i : ℕ) (e : Entry) → slice_index_or es i Rattle.mbuf_chain.specs.Chain.no_entry ≡ e → slice_set es i e ≡ es
+pub set_same : (es : List Entry) (i : ℕ) (e : Entry) → slice_index_or es i Rattle.mbuf_chain.specs.Chain.no_entry ≡ e
+    → slice_set es i e ≡ es
 set_same [] i e is = refl
 set_same (y ∷ ys) zero e is = λ j. sym is j ∷ ys
 set_same (y ∷ ys) (suc i) e is = ap (λ (l : List Entry). y ∷ l) (set_same ys i e is)
@@ -132,46 +169,74 @@ with_entry_same v i e is = λ j. record { front = v.front; entries = set_same v.
 
 -- ---- the packet length put right
 abbrev pub with_total : Head → ℕ → ℕ → PacketHeader → Head
-with_total h added removed packet = record h { packet = Some (record { len = packet.len + added - removed; arrival = packet.arrival }) }
+with_total h added removed packet =
+    record h { packet = Some (record { len = packet.len + added - removed; arrival = packet.arrival }) }
 
 -- what is known where it is off
 pub record Totalled (s : StoreView) (c added removed : ℕ) : Type 0 where
   pub out : is_out s c ≡ true
-  pub fits : (packet : PacketHeader) → (head_of s c).packet ≡ Some packet → (packet.len + added ≤ 134215680 + removed) × (removed ≤ packet.len + added)
+  pub fits : (packet : PacketHeader) → (head_of s c).packet ≡ Some packet
+      → (packet.len + added ≤ 134215680 + removed) × (removed ≤ packet.len + added)
 
-pub total_known : (s : StoreView) (c added removed : ℕ) → IsOff s c added removed → IsLive (pool_of s) c → Totalled s c added removed
+pub total_known : (s : StoreView) (c added removed : ℕ) → IsOff s c added removed → IsLive (pool_of s) c
+    → Totalled s c added removed
 total_known s c added removed off live =
     let o = open_off s c added removed off live in
     record {
       out = first_out s c o.at;
       fits = λ packet is.
           let sum = o.totals.0 packet (ap (λ (j : ℕ). (head_of s j).packet) o.at.first ∙ is) in
-          let bound : weigh (len_at s) o.at.cells ≤ 134215680 = omega (arith, Rattle.mbuf_chain.proofs.Lists.bytes_bound s (Some c) o.at.cells o.at.linked, o.at.sound.total, Rattle.mbuf_chain.proofs.Lists.few_out s, o.at.sound.store.mbufs) in
-          (omega (arith, sum, bound, off_here c added o.at.cells o.at.first, off_here c removed o.at.cells o.at.first), omega (arith, sum, off_here c added o.at.cells o.at.first, off_here c removed o.at.cells o.at.first));
+          let bound : weigh (len_at s) o.at.cells ≤ 134215680 =
+          omega (
+            arith,
+            Rattle.mbuf_chain.proofs.Lists.bytes_bound s (Some c) o.at.cells o.at.linked,
+            o.at.sound.total,
+            Rattle.mbuf_chain.proofs.Lists.few_out s,
+            o.at.sound.store.mbufs,
+          ) in (
+            omega (arith, sum, bound, off_here c added o.at.cells o.at.first, off_here c removed o.at.cells o.at.first),
+            omega (arith, sum, off_here c added o.at.cells o.at.first, off_here c removed o.at.cells o.at.first),
+          );
     }
 
-pub total_right : (s : StoreView) (c added removed : ℕ) → IsOff s c added removed → IsLive (pool_of s) c → (head_of s c).packet ≡ None → IsPool s
+pub total_right : (s : StoreView) (c added removed : ℕ) → IsOff s c added removed → IsLive (pool_of s) c
+    → (head_of s c).packet ≡ None → IsPool s
 total_right s c added removed off live none =
-    let o = open_off s c added removed off live in
-    (o.at.cells ∷ o.at.rest, o.at.sound, (λ packet is. absurd (none-some packet (sym none ∙ ap (λ (j : ℕ). (head_of s j).packet) (sym o.at.first) ∙ is)), rest_right s c added removed o.at.rest (alone_first s c o.at) o.totals.1))
+    let o = open_off s c added removed off live in (
+      o.at.cells ∷ o.at.rest,
+      o.at.sound,
+      (
+        λ packet is. absurd (none-some packet (sym none ∙ ap (λ (j : ℕ). (head_of s j).packet) (sym o.at.first) ∙ is)),
+        rest_right s c added removed o.at.rest (alone_first s c o.at) o.totals.1,
+      ),
+    )
 
 pub record IsSet (s t : StoreView) : Type 0 where
   pub pool : IsPool t
   pub same : pool_of t ≡ pool_of s
 
 -- the packet length alone
-pub total_sets : (s t : StoreView) (c added removed : ℕ) (packet : PacketHeader) → (head_of s c).packet ≡ Some packet → SetsHead s t c (with_packet_len (head_of s c) (packet.len + added - removed)) → SetsHead s t c (with_total (head_of s c) added removed packet)
+pub total_sets : (s t : StoreView) (c added removed : ℕ) (packet : PacketHeader) → (head_of s c).packet ≡ Some packet
+    → SetsHead s t c (with_packet_len (head_of s c) (packet.len + added - removed))
+    → SetsHead s t c (with_total (head_of s c) added removed packet)
 total_sets s t c added removed packet is sets =
-    subst (λ (h : Head). SetsHead s t c h) (ap (λ (o : Option PacketHeader). record (head_of s c) { packet = option_map {T = PacketHeader} (λ p. record p { len = packet.len + added - removed }) o }) is) sets
+    subst (λ (h : Head). SetsHead s t c h)
+    (ap (λ (o : Option PacketHeader). record (head_of s c)
+    { packet = option_map {T = PacketHeader} (λ p. record p { len = packet.len + added - removed }) o }) is) sets
 
-pub total_set : (s t : StoreView) (c added removed : ℕ) (packet : PacketHeader) → IsOff s c added removed → IsLive (pool_of s) c → (head_of s c).packet ≡ Some packet → SetsHead s t c (with_total (head_of s c) added removed packet) → IsStore t → IsSet s t
+pub total_set : (s t : StoreView) (c added removed : ℕ) (packet : PacketHeader) → IsOff s c added removed
+    → IsLive (pool_of s) c → (head_of s c).packet ≡ Some packet
+    → SetsHead s t c (with_total (head_of s c) added removed packet) → IsStore t → IsSet s t
 total_set s t c added removed packet off live is sets store =
     let o = open_off s c added removed off live in
     let f = o.at in
     let e = enter_first s c o.at in
     let h = with_total (head_of s c) added removed packet in
-    let low : room_low (with_total (head_of s c) added removed packet) ≡ room_low (head_of s c) = ap (λ (p : Option PacketHeader). cond {A = ℕ} (is_some (head_of s c).cluster) 0 (cond (is_some p) 28 20)) (sym is) in
-    let fit : IsFit (with_total (head_of s c) added removed packet) = record { low = omega (arith, low, e.fit.low); high = e.fit.high; kind = e.fit.kind } in
+    let low : room_low (with_total (head_of s c) added removed packet) ≡ room_low (head_of s c) =
+    ap (λ (p : Option PacketHeader). cond {A = ℕ} (is_some (head_of s c).cluster) 0 (cond (is_some p) 28 20)) (sym is)
+    in
+    let fit : IsFit (with_total (head_of s c) added removed packet) =
+    record { low = omega (arith, low, e.fit.low); high = e.fit.high; kind = e.fit.kind } in
     let r = rehead s t c 0 c h o.at e sets store refl refl fit (λ lt. absurd (omega arith)) in
     let front : front_of (head_of t c) ≡ front_of (head_of s c) = ap front_of r.head ∙ front_same is in
     record {
@@ -180,30 +245,56 @@ total_set s t c added removed packet off live is sets store =
         r.change.sound,
         (
           λ packet' is'.
-              let here : Some (record { len = packet.len + added - removed; arrival = packet.arrival }) ≡ Some packet' = ap (λ (y : Head). y.packet) (sym r.head) ∙ ap (λ (j : ℕ). (head_of t j).packet) (sym f.first) ∙ is' in
-              omega (arith, ap (λ (q : PacketHeader). q.len) (same_Some _ _ here), o.totals.0 packet (ap (λ (j : ℕ). (head_of s j).packet) f.first ∙ is), off_here c added f.cells f.first, off_here c removed f.cells f.first, r.change.lens, ap (λ (y : Head). y.len) r.head),
+              let here : Some (record { len = packet.len + added - removed; arrival = packet.arrival }) ≡ Some packet' =
+              ap (λ (y : Head). y.packet) (sym r.head) ∙ ap (λ (j : ℕ). (head_of t j).packet) (sym f.first) ∙ is' in
+              omega (
+                arith,
+                ap (λ (q : PacketHeader). q.len) (same_Some _ _ here),
+                o.totals.0 packet (ap (λ (j : ℕ). (head_of s j).packet) f.first ∙ is),
+                off_here c added f.cells f.first,
+                off_here c removed f.cells f.first,
+                r.change.lens,
+                ap (λ (y : Head). y.len) r.head,
+              ),
           rest_kept f r.change (rest_right s c added removed f.rest (alone_first s c f) o.totals.1),
         ),
       );
-      same = changed_entry s t c 0 c f r.change front ∙ ap (with_chain (pool_of s) c) (with_entry_same (chain_of (pool_of s) c) 0 (entry_at t c) (e.shows ∙ sym r.entry)) ∙ with_self (pool_of s) c live;
+      same =
+          changed_entry s t c 0 c f r.change front
+          ∙ ap (with_chain (pool_of s) c)
+          (with_entry_same (chain_of (pool_of s) c) 0 (entry_at t c) (e.shows ∙ sym r.entry))
+          ∙ with_self (pool_of s) c live;
     }
   where
-    front_same : (head_of s c).packet ≡ Some packet → record { header = true; after = (head_of s c).next_packet; tag = packet.arrival } ≡ front_of (head_of s c)
-    front_same e = λ i. record { header = is_some (sym e i); after = (head_of s c).next_packet; tag = arrival_of (sym e i) }
+    front_same : (head_of s c).packet ≡ Some packet
+        → record { header = true; after = (head_of s c).next_packet; tag = packet.arrival } ≡ front_of (head_of s c)
+    front_same e =
+        λ i. record { header = is_some (sym e i); after = (head_of s c).next_packet; tag = arrival_of (sym e i) }
 
-    rest_kept : (f : Focused s c) → Changed s t c 0 c f → AllByRecursion (IsTotal s) f.rest → AllByRecursion (IsTotal t) f.rest
+    rest_kept : (f : Focused s c) → Changed s t c 0 c f → AllByRecursion (IsTotal s) f.rest
+        → AllByRecursion (IsTotal t) f.rest
     rest_kept f went = went.totals
 
 -- ---- an mbuf that shows fewer of its bytes
-pub place_long : (s : StoreView) (c i x : ℕ) → (f : Focused s c) → Entered s c f i x → length (place_bytes s x (head_of s x).cluster) ≡ room_high (head_of s x)
+pub place_long : (s : StoreView) (c i x : ℕ) → (f : Focused s c) → Entered s c f i x
+    → length (place_bytes s x (head_of s x).cluster) ≡ room_high (head_of s x)
 place_long s c i x f e = go (head_of s x).cluster refl
   where
     go : (o : Option ℕ) → (head_of s x).cluster ≡ o → length (place_bytes s x o) ≡ cond {A = ℕ} (is_some o) 2048 128
     go None is = f.sound.store.mbuf_bytes x e.out
-    go (Some d) is = f.sound.store.cluster_bytes d (omega (arith, f.sound.counted d, refers_to s x d is, Rattle.mbuf_chain.proofs.Focused.weigh_has (refers_at s d) x f.cells e.inside))
+    go (Some d) is =
+        f.sound.store.cluster_bytes d (omega (
+          arith,
+          f.sound.counted d,
+          refers_to s x d is,
+          Rattle.mbuf_chain.proofs.Focused.weigh_has (refers_at s d) x f.cells e.inside,
+        ))
 
-pub entry_long : (s : StoreView) (c i x : ℕ) → (f : Focused s c) → Entered s c f i x → length (entry_at s x).bytes ≡ (head_of s x).len
-entry_long s c i x f e = run_length (place_bytes s x (head_of s x).cluster) (head_of s x).start (head_of s x).len (omega (arith, place_long s c i x f e, e.fit.high))
+pub entry_long : (s : StoreView) (c i x : ℕ) → (f : Focused s c) → Entered s c f i x
+    → length (entry_at s x).bytes ≡ (head_of s x).len
+entry_long s c i x f e =
+    run_length (place_bytes s x (head_of s x).cluster) (head_of s x).start (head_of s x).len
+    (omega (arith, place_long s c i x f e, e.fit.high))
 
 -- a head that shows other bytes of the same room: the entry that it shows, and a packet length that is off
 pub record Resized (s t : StoreView) (c added removed i : ℕ) (e : Entry) : Type 0 where
@@ -211,24 +302,35 @@ pub record Resized (s t : StoreView) (c added removed i : ℕ) (e : Entry) : Typ
   pub live : IsLive (pool_of t) c
   pub map_is : pool_of t ≡ with_chain (pool_of s) c (with_entry (chain_of (pool_of s) c) i e)
 
-pub resized : (s t : StoreView) (c added removed start len : ℕ) (at : Place) → IsPool s → IsLive (pool_of s) c → IsPlace (chain_of (pool_of s) c) at → SetsHead s t at.cell (with_segment (head_of s at.cell) start len) → IsStore t
-    → room_low (head_of s at.cell) ≤ start → start + len ≤ room_high (head_of s at.cell) → len + removed ≡ (head_of s at.cell).len + added → Resized s t c added removed at.index (entry_from s at.cell (with_segment (head_of s at.cell) start len))
+pub resized : (s t : StoreView) (c added removed start len : ℕ) (at : Place) → IsPool s → IsLive (pool_of s) c
+    → IsPlace (chain_of (pool_of s) c) at → SetsHead s t at.cell (with_segment (head_of s at.cell) start len)
+    → IsStore t
+    → room_low (head_of s at.cell) ≤ start → start + len ≤ room_high (head_of s at.cell)
+    → len + removed ≡ (head_of s at.cell).len + added
+    → Resized s t c added removed at.index (entry_from s at.cell (with_segment (head_of s at.cell) start len))
 resized s t c added removed start len at pool live place sets store low high lens =
     let o = open_on s c pool live in
     let e = enter s c at o.at place in
     let h = with_segment (head_of s at.cell) start len in
-    let r = rehead s t c at.index at.cell h o.at e sets store refl refl (record { low = low; high = high; kind = e.fit.kind }) (λ _ was. record { packet = was.packet; after = was.after }) in
+    let r =
+    rehead s t c at.index at.cell h o.at e sets store refl refl (record { low = low; high = high; kind = e.fit.kind })
+    (λ _ was. record { packet = was.packet; after = was.after }) in
     let same : (k : ℕ) → (head_of t k).packet ≡ (head_of s k).packet = λ k. elim (cases_eq k at.cell) [
-      | inl is ↦ subst (λ (j : ℕ). (head_of t j).packet ≡ (head_of s j).packet) (sym is) (ap (λ (y : Head). y.packet) r.head)
+      | inl is ↦ subst (λ (j : ℕ). (head_of t j).packet ≡ (head_of s j).packet) (sym is)
+          (ap (λ (y : Head). y.packet) r.head)
       | inr ne ↦ ap (λ (y : Head). y.packet) (r.others k ne)
     ] in
     let front : front_of (head_of t c) ≡ front_of (head_of s c) = elim (cases_eq c at.cell) [
       | inl is ↦ subst (λ (j : ℕ). front_of (head_of t j) ≡ front_of (head_of s j)) (sym is) (ap front_of r.head)
       | inr ne ↦ ap front_of (r.others c ne)
     ] in
-    let map_is = changed_entry s t c at.index at.cell o.at r.change front ∙ ap (λ (y : Entry). with_chain (pool_of s) c (with_entry (chain_of (pool_of s) c) at.index y)) r.entry in
+    let map_is =
+    changed_entry s t c at.index at.cell o.at r.change front
+    ∙ ap (λ (y : Entry). with_chain (pool_of s) c (with_entry (chain_of (pool_of s) c) at.index y)) r.entry in
     record {
-      off = off_after s t c at.index at.cell added removed o r.change (same c) (omega (arith, lens, ap (λ (y : Head). y.len) r.head));
+      off =
+          off_after s t c at.index at.cell added removed o r.change (same c)
+          (omega (arith, lens, ap (λ (y : Head). y.len) r.head));
       live = live_shown (pool_of s) (pool_of t) c _ map_is;
       map_is = map_is;
     }
@@ -242,7 +344,8 @@ pub record Shown (s : StoreView) (c : ℕ) (at : Place) : Type 0 where
   pub place : length (place_bytes s at.cell (head_of s at.cell).cluster) ≡ room_high (head_of s at.cell)
   pub entry : entry_of (chain_of (pool_of s) c) at.index ≡ entry_at s at.cell
 
-pub shown_at : (s : StoreView) (c : ℕ) (at : Place) → IsPool s → IsLive (pool_of s) c → IsPlace (chain_of (pool_of s) c) at → Shown s c at
+pub shown_at : (s : StoreView) (c : ℕ) (at : Place) → IsPool s → IsLive (pool_of s) c
+    → IsPlace (chain_of (pool_of s) c) at → Shown s c at
 shown_at s c at pool live place =
     let o = open_on s c pool live in
     let e = enter s c at o.at place in
@@ -261,15 +364,25 @@ shown_at s c at pool live place =
 
 -- narrowed
 pub narrowed_is : (s : StoreView) (c skip keep : ℕ) (at : Place) → Shown s c at → skip + keep ≤ (head_of s at.cell).len
-    → entry_from s at.cell (with_segment (head_of s at.cell) ((head_of s at.cell).start + skip) keep) ≡ narrowed (entry_of (chain_of (pool_of s) c) at.index) skip keep
+    → entry_from s at.cell (with_segment (head_of s at.cell) ((head_of s at.cell).start + skip) keep)
+    ≡ narrowed (entry_of (chain_of (pool_of s) c) at.index) skip keep
 narrowed_is s c skip keep at k within =
     let h = head_of s at.cell in
-    (λ i. record { bytes = sym (run_inner (place_bytes s at.cell (head_of s at.cell).cluster) (head_of s at.cell).start (head_of s at.cell).len skip keep (omega (arith, k.place, k.fit.high)) within) i; start = h.start + skip; cluster = h.cluster })
+    (λ i. record {
+      bytes = sym (run_inner (place_bytes s at.cell (head_of s at.cell).cluster) (head_of s at.cell).start
+          (head_of s at.cell).len skip keep (omega (arith, k.place, k.fit.high))
+          within) i;
+      start = h.start + skip;
+      cluster = h.cluster;
+    })
     ∙ ap (λ (y : Entry). narrowed y skip keep) (sym k.entry)
 
 -- each mbuf of a live chain shows as many bytes as its head says
-pub cell_long : (s : StoreView) (c k : ℕ) → (f : Focused s c) → 0 < weigh (is_at k) f.cells → length (entry_at s k).bytes ≡ (head_of s k).len
-cell_long s c k f p = run_length (place_bytes s k (head_of s k).cluster) (head_of s k).start (head_of s k).len (omega (arith, long (head_of s k).cluster refl, (fit (Some c) f.cells f.linked p).high))
+pub cell_long : (s : StoreView) (c k : ℕ) → (f : Focused s c) → 0 < weigh (is_at k) f.cells
+    → length (entry_at s k).bytes ≡ (head_of s k).len
+cell_long s c k f p =
+    run_length (place_bytes s k (head_of s k).cluster) (head_of s k).start (head_of s k).len
+    (omega (arith, long (head_of s k).cluster refl, (fit (Some c) f.cells f.linked p).high))
   where
     fit : (at : Option ℕ) (l : List ℕ) → IsLinked s at l → 0 < weigh (is_at k) l → IsFit (head_of s k)
     fit at [] h q = absurd (omega arith)
@@ -280,4 +393,10 @@ cell_long s c k f p = run_length (place_bytes s k (head_of s k).cluster) (head_o
 
     long : (o : Option ℕ) → (head_of s k).cluster ≡ o → length (place_bytes s k o) ≡ cond {A = ℕ} (is_some o) 2048 128
     long None is = f.sound.store.mbuf_bytes k (bit (is_out s k) (omega (arith, f.sound.once k, p)))
-    long (Some d) is = f.sound.store.cluster_bytes d (omega (arith, f.sound.counted d, refers_to s k d is, Rattle.mbuf_chain.proofs.Focused.weigh_has (refers_at s d) k f.cells p))
+    long (Some d) is =
+        f.sound.store.cluster_bytes d (omega (
+          arith,
+          f.sound.counted d,
+          refers_to s k d is,
+          Rattle.mbuf_chain.proofs.Focused.weigh_has (refers_at s d) k f.cells p,
+        ))

@@ -25,13 +25,18 @@ abbrev pub chains_of : StoreView → List (List ℕ) → FinMap nat_cmp ChainVie
 chains_of s [] = finmap.empty
 chains_of s (l ∷ ls) = finmap.insert (chains_of s ls) (first_of l) (read_chain s l)
 
-pub get-chains_of : (s : StoreView) (lists : List (List ℕ)) (q : ℕ) → finmap.get (chains_of s lists) q ≡ find_first s q lists
+pub get-chains_of : (s : StoreView) (lists : List (List ℕ)) (q : ℕ)
+    → finmap.get (chains_of s lists) q ≡ find_first s q lists
 get-chains_of s [] q = get-empty nat_cmp q
 get-chains_of s (l ∷ ls) q =
     elim (cases_eq (first_of l) q) [
-      | inl e ↦ subst (λ (j : ℕ). finmap.get (finmap.insert (chains_of s ls) (first_of l) (read_chain s l)) j ≡ cond (nat_eq (first_of l) j) (Some (read_chain s l)) (find_first s j ls)) e
-          (get_here (chains_of s ls) (first_of l) (read_chain s l) ∙ ap (λ b. cond b (Some (read_chain s l)) (find_first s (first_of l) ls)) (sym (eq-eqb (first_of l) (first_of l) refl)))
-      | inr ne ↦ get_there (chains_of s ls) (first_of l) (read_chain s l) q (λ e. ne (sym e)) ∙ get-chains_of s ls q ∙ ap (λ b. cond b (Some (read_chain s l)) (find_first s q ls)) (sym (ne_eqb (first_of l) q ne))
+      | inl e ↦ subst (λ (j : ℕ). finmap.get (finmap.insert (chains_of s ls) (first_of l) (read_chain s l)) j
+          ≡ cond (nat_eq (first_of l) j) (Some (read_chain s l)) (find_first s j ls)) e
+          (get_here (chains_of s ls) (first_of l) (read_chain s l)
+          ∙ ap (λ b. cond b (Some (read_chain s l)) (find_first s (first_of l) ls))
+          (sym (eq-eqb (first_of l) (first_of l) refl)))
+      | inr ne ↦ get_there (chains_of s ls) (first_of l) (read_chain s l) q (λ e. ne (sym e)) ∙ get-chains_of s ls q
+          ∙ ap (λ b. cond b (Some (read_chain s l)) (find_first s q ls)) (sym (ne_eqb (first_of l) q ne))
     ]
 
 pub on : (b : Bool) → b ≡ true → cond {A = ℕ} b 1 0 ≡ 1
@@ -61,11 +66,13 @@ abbrev pub tails_at : ℕ → List (List ℕ) → ℕ
 tails_at q [] = 0
 tails_at q (l ∷ ls) = weigh (is_at q) (tail l) + tails_at q ls
 
-pub split_first : (s : StoreView) (q : ℕ) (l : List ℕ) → IsChain s l → weigh (is_at q) l ≡ is_at q (first_of l) + weigh (is_at q) (tail l)
+pub split_first : (s : StoreView) (q : ℕ) (l : List ℕ) → IsChain s l
+    → weigh (is_at q) l ≡ is_at q (first_of l) + weigh (is_at q) (tail l)
 split_first s q [] h = absurd h
 split_first s q (c ∷ cs) h = refl
 
-pub heads-tails : (s : StoreView) (q : ℕ) (lists : List (List ℕ)) → AllByRecursion (IsChain s) lists → weigh_all (is_at q) lists ≡ heads_at q lists + tails_at q lists
+pub heads-tails : (s : StoreView) (q : ℕ) (lists : List (List ℕ)) → AllByRecursion (IsChain s) lists
+    → weigh_all (is_at q) lists ≡ heads_at q lists + tails_at q lists
 heads-tails s q [] h = refl
 heads-tails s q (l ∷ ls) h = omega (arith, split_first s q l h.0, heads-tails s q ls h.1)
 
@@ -76,7 +83,8 @@ pub is_at_other : (q c : ℕ) → c ≢ q → is_at q c ≡ 0
 is_at_other q c ne = off (nat_eq c q) (ne_eqb c q ne)
 
 -- an mbuf after another is the next of one
-after : (s : StoreView) (q : ℕ) (at : Option ℕ) (c : ℕ) (cs : List ℕ) → IsLinked s at (c ∷ cs) → 0 < weigh (is_at q) cs → (k : ℕ) × (0 < weigh (is_at k) (c ∷ cs)) × ((head_of s k).next ≡ Some q)
+after : (s : StoreView) (q : ℕ) (at : Option ℕ) (c : ℕ) (cs : List ℕ) → IsLinked s at (c ∷ cs) → 0 < weigh (is_at q) cs
+    → (k : ℕ) × (0 < weigh (is_at k) (c ∷ cs)) × ((head_of s k).next ≡ Some q)
 after s q at c [] h p = absurd (omega arith)
 after s q at c (d ∷ ds) h p =
     elim (cases_eq d q) [
@@ -86,7 +94,8 @@ after s q at c (d ∷ ds) h p =
           (later.0, omega (arith, later.1), later.2)
     ]
 
-after_all : (s : StoreView) (q : ℕ) (lists : List (List ℕ)) → AllByRecursion (IsChain s) lists → 0 < tails_at q lists → (k : ℕ) × (0 < weigh_all (is_at k) lists) × ((head_of s k).next ≡ Some q)
+after_all : (s : StoreView) (q : ℕ) (lists : List (List ℕ)) → AllByRecursion (IsChain s) lists → 0 < tails_at q lists
+    → (k : ℕ) × (0 < weigh_all (is_at k) lists) × ((head_of s k).next ≡ Some q)
 after_all s q [] h p = absurd (omega arith)
 after_all s q ([] ∷ ls) h p = absurd h.0
 after_all s q ((c ∷ cs) ∷ ls) h p =
@@ -96,7 +105,8 @@ after_all s q ((c ∷ cs) ∷ ls) h p =
     ]
 
 -- the next of an mbuf stands after it
-following_next : (s : StoreView) (q k : ℕ) (at : Option ℕ) (c : ℕ) (cs : List ℕ) → IsLinked s at (c ∷ cs) → 0 < weigh (is_at k) (c ∷ cs) → (head_of s k).next ≡ Some q → 0 < weigh (is_at q) cs
+following_next : (s : StoreView) (q k : ℕ) (at : Option ℕ) (c : ℕ) (cs : List ℕ) → IsLinked s at (c ∷ cs)
+    → 0 < weigh (is_at k) (c ∷ cs) → (head_of s k).next ≡ Some q → 0 < weigh (is_at q) cs
 following_next s q k at c [] h p e =
     elim (cases_eq c k) [
       | inl is ↦ absurd (none-some q (sym (sym e ∙ ap (λ j. (head_of s j).next) (sym is) ∙ h.3)))
@@ -104,11 +114,14 @@ following_next s q k at c [] h p e =
     ]
 following_next s q k at c (d ∷ ds) h p e =
     elim (cases_eq c k) [
-      | inl is ↦ let same : d ≡ q = same_Some d q (sym h.3.0 ∙ ap (λ j. (head_of s j).next) is ∙ e) in subst (λ (j : ℕ). 0 < is_at j d + weigh (is_at j) ds) same (omega (arith, is_at_same d))
-      | inr not ↦ let later = following_next s q k (head_of s c).next d ds h.3 (omega (arith, is_at_other k c not)) e in omega (arith, later)
+      | inl is ↦ let same : d ≡ q = same_Some d q (sym h.3.0 ∙ ap (λ j. (head_of s j).next) is ∙ e) in
+          subst (λ (j : ℕ). 0 < is_at j d + weigh (is_at j) ds) same (omega (arith, is_at_same d))
+      | inr not ↦ let later = following_next s q k (head_of s c).next d ds h.3 (omega (arith, is_at_other k c not)) e in
+          omega (arith, later)
     ]
 
-next_after_all : (s : StoreView) (q k : ℕ) (lists : List (List ℕ)) → AllByRecursion (IsChain s) lists → 0 < weigh_all (is_at k) lists → (head_of s k).next ≡ Some q → 0 < tails_at q lists
+next_after_all : (s : StoreView) (q k : ℕ) (lists : List (List ℕ)) → AllByRecursion (IsChain s) lists
+    → 0 < weigh_all (is_at k) lists → (head_of s k).next ≡ Some q → 0 < tails_at q lists
 next_after_all s q k [] h p e = absurd (omega arith)
 next_after_all s q k ([] ∷ ls) h p e = absurd h.0
 next_after_all s q k ((c ∷ cs) ∷ ls) h p e =
@@ -122,7 +135,8 @@ pub walk_is : (n : ℕ) (s : StoreView) (at : Option ℕ) (l : List ℕ) → IsL
 walk_is zero s at [] h le = refl
 walk_is (suc n) s at [] h le = ap (walk (suc n) s) h
 walk_is zero s at (c ∷ cs) h le = absurd (omega arith)
-walk_is (suc n) s at (c ∷ cs) h le = ap (walk (suc n) s) h.0 ∙ ap (λ (xs : List ℕ). c ∷ xs) (walk_is n s (head_of s c).next cs h.3 (omega arith))
+walk_is (suc n) s at (c ∷ cs) h le =
+    ap (walk (suc n) s) h.0 ∙ ap (λ (xs : List ℕ). c ∷ xs) (walk_is n s (head_of s c).next cs h.3 (omega arith))
 
 -- ---- which mbufs are pointed at
 next_is : (a : Option ℕ) (q : ℕ) → option_eq nat_eq a (Some q) ≡ true → a ≡ Some q
@@ -132,19 +146,24 @@ next_is (Some x) q e = ap {B = Option ℕ} Some (eqb-true x q e)
 is_next : (a : Option ℕ) (q : ℕ) → a ≡ Some q → option_eq nat_eq a (Some q) ≡ true
 is_next a q e = ap (λ (o : Option ℕ). option_eq nat_eq o (Some q)) e ∙ eq-eqb q q refl
 
-pointed_by : (n : ℕ) (s : StoreView) (q : ℕ) → is_pointed n s q ≡ true → (k : ℕ) × (k < n) × (is_out s k ≡ true) × ((head_of s k).next ≡ Some q)
+pointed_by : (n : ℕ) (s : StoreView) (q : ℕ) → is_pointed n s q ≡ true
+    → (k : ℕ) × (k < n) × (is_out s k ≡ true) × ((head_of s k).next ≡ Some q)
 pointed_by zero s q e = absurd (false≢true e)
 pointed_by (suc n) s q e =
     elim (or_cases (is_out s n && option_eq nat_eq (head_of s n).next (Some q)) (is_pointed n s q) e) [
-      | inl here ↦ let parts = and_parts (is_out s n) (option_eq nat_eq (head_of s n).next (Some q)) here in (n, omega arith, parts.0, next_is _ q parts.1)
+      | inl here ↦ let parts = and_parts (is_out s n) (option_eq nat_eq (head_of s n).next (Some q)) here in
+          (n, omega arith, parts.0, next_is _ q parts.1)
       | inr below ↦ let found = pointed_by n s q below in (found.0, omega (arith, found.1), found.2, found.3)
     ]
 
-points : (n : ℕ) (s : StoreView) (q k : ℕ) → k < n → is_out s k ≡ true → (head_of s k).next ≡ Some q → is_pointed n s q ≡ true
+points : (n : ℕ) (s : StoreView) (q k : ℕ) → k < n → is_out s k ≡ true → (head_of s k).next ≡ Some q
+    → is_pointed n s q ≡ true
 points zero s q k lt out e = absurd (omega arith)
 points (suc n) s q k lt out e =
     elim (cases_eq k n) [
-      | inl is ↦ or_left _ (is_pointed n s q) (subst (λ (j : ℕ). (is_out s j && option_eq nat_eq (head_of s j).next (Some q)) ≡ true) is (and_from _ _ out (is_next _ q e)))
+      | inl is ↦ or_left _ (is_pointed n s q)
+          (subst (λ (j : ℕ). (is_out s j && option_eq nat_eq (head_of s j).next (Some q)) ≡ true) is
+          (and_from _ _ out (is_next _ q e)))
       | inr not ↦ or_right _ (is_pointed n s q) (points n s q k (omega arith) out e)
     ]
 
@@ -154,7 +173,8 @@ not_first s q [] h = refl
 not_first s q (l ∷ ls) h =
     elim (cases_eq (first_of l) q) [
       | inl e ↦ absurd (omega (arith, is_at_same q, ap (is_at q) e))
-      | inr ne ↦ ap (λ b. cond b (Some (read_chain s l)) (find_first s q ls)) (ne_eqb (first_of l) q ne) ∙ not_first s q ls (omega arith)
+      | inr ne ↦ ap (λ b. cond b (Some (read_chain s l)) (find_first s q ls)) (ne_eqb (first_of l) q ne)
+          ∙ not_first s q ls (omega arith)
     ]
 
 -- a chain that begins at the number, with all the lists beside it
@@ -166,9 +186,11 @@ pub record Found (s : StoreView) (q : ℕ) (v : ChainView) (lists : List (List �
   pub weight : (f : ℕ → ℕ) → weigh_all f lists ≡ weigh f cells + weigh_all f rest
   pub chains : AllByRecursion (IsChain s) lists → IsChain s cells × AllByRecursion (IsChain s) rest
   pub totals : AllByRecursion (IsTotal s) lists → IsTotal s cells × AllByRecursion (IsTotal s) rest
-  pub totals_by : (c added removed : ℕ) → AllByRecursion (IsTotalBy s c added removed) lists → IsTotalBy s c added removed cells × AllByRecursion (IsTotalBy s c added removed) rest
+  pub totals_by : (c added removed : ℕ) → AllByRecursion (IsTotalBy s c added removed) lists
+      → IsTotalBy s c added removed cells × AllByRecursion (IsTotalBy s c added removed) rest
 
-pub find_chain : (s : StoreView) (q : ℕ) (v : ChainView) (lists : List (List ℕ)) → find_first s q lists ≡ Some v → Found s q v lists
+pub find_chain : (s : StoreView) (q : ℕ) (v : ChainView) (lists : List (List ℕ)) → find_first s q lists ≡ Some v
+    → Found s q v lists
 find_chain s q v [] e = absurd (none-some v e)
 find_chain s q v (l ∷ ls) e =
     elim (cases_eq (first_of l) q) [
@@ -176,14 +198,18 @@ find_chain s q v (l ∷ ls) e =
         cells = l;
         rest = ls;
         first = is;
-        shows = same_Some _ _ (sym (ap (λ b. cond b (Some (read_chain s l)) (find_first s q ls)) (eq-eqb (first_of l) q is)) ∙ e);
+        shows =
+            same_Some _ _ (sym (ap (λ b. cond b (Some (read_chain s l)) (find_first s q ls)) (eq-eqb (first_of l) q is))
+            ∙ e);
         weight = λ f. refl;
         chains = λ h. h;
         totals = λ h. h;
         totals_by = λ c added removed h. h;
       }
       | inr ne ↦
-          let below = find_chain s q v ls (sym (ap (λ b. cond b (Some (read_chain s l)) (find_first s q ls)) (ne_eqb (first_of l) q ne)) ∙ e) in
+          let below =
+          find_chain s q v ls (sym (ap (λ b. cond b (Some (read_chain s l)) (find_first s q ls))
+          (ne_eqb (first_of l) q ne)) ∙ e) in
           record {
             cells = below.cells;
             rest = l ∷ below.rest;
@@ -192,15 +218,21 @@ find_chain s q v (l ∷ ls) e =
             weight = λ f. omega (arith, below.weight f);
             chains = λ h. let parts = below.chains h.1 in (parts.0, (h.0, parts.1));
             totals = λ h. let parts = below.totals h.1 in (parts.0, (h.0, parts.1));
-            totals_by = λ c added removed h. let parts = below.totals_by c added removed h.1 in (parts.0, (h.0, parts.1));
+            totals_by = λ c added removed h. let parts = below.totals_by c added removed h.1 in
+                (parts.0, (h.0, parts.1));
           }
     ]
 
-is_first_some : (s : StoreView) (q : ℕ) (lists : List (List ℕ)) → 0 < heads_at q lists → (v : ChainView) × (find_first s q lists ≡ Some v)
+is_first_some : (s : StoreView) (q : ℕ) (lists : List (List ℕ)) → 0 < heads_at q lists
+    → (v : ChainView) × (find_first s q lists ≡ Some v)
 is_first_some s q [] h = absurd (omega arith)
 is_first_some s q (l ∷ ls) h =
     elim (cases_eq (first_of l) q) [
-      | inl is ↦ (read_chain s l, ap (λ b. cond b (Some (read_chain s l)) (find_first s q ls)) (eq-eqb (first_of l) q is))
+      | inl is ↦ (
+        read_chain s l,
+        ap (λ b. cond b (Some (read_chain s l)) (find_first s q ls))
+            (eq-eqb (first_of l) q is),
+      )
       | inr ne ↦
           let below = is_first_some s q ls (omega (arith, is_at_other q (first_of l) ne)) in
           (below.0, ap (λ b. cond b (Some (read_chain s l)) (find_first s q ls)) (ne_eqb (first_of l) q ne) ∙ below.1)
@@ -210,37 +242,47 @@ pub out_below : (s : StoreView) (k : ℕ) → is_out s k ≡ true → k < length
 out_below s k e =
     elim (cases_lt k (length s.mbufs)) [
       | inl lt ↦ lt
-      | inr past ↦ absurd (false≢true (sym (ap (λ (o : Option MbufView). is_some o) (get_or_past s.mbufs k None past)) ∙ e))
+      | inr past ↦ absurd (false≢true
+          (sym (ap (λ (o : Option MbufView). is_some o) (get_or_past s.mbufs k None past)) ∙ e))
     ]
 
 pub few_out : (s : StoreView) → mbufs_out s ≤ length s.mbufs
 few_out s = count_by-le-length is_some s.mbufs
 
 -- the links from the chain's first mbuf on give the chain's mbufs
-pub cells_are : (s : StoreView) (lists : List (List ℕ)) → IsSound s lists → (q : ℕ) (v : ChainView) → (found : Found s q v lists) → cells_from s (Some q) ≡ found.cells
-cells_are s lists ok q v found = go found.cells found.first (found.chains ok.linked).0 (omega (arith, found.weight one, ok.total, few_out s))
+pub cells_are : (s : StoreView) (lists : List (List ℕ)) → IsSound s lists → (q : ℕ) (v : ChainView)
+    → (found : Found s q v lists) → cells_from s (Some q) ≡ found.cells
+cells_are s lists ok q v found =
+    go found.cells found.first (found.chains ok.linked).0 (omega (arith, found.weight one, ok.total, few_out s))
   where
     go : (l : List ℕ) → first_of l ≡ q → IsChain s l → weigh one l ≤ length s.mbufs → cells_from s (Some q) ≡ l
     go [] first linked le = absurd linked
-    go (c ∷ cs) first linked le = walk_is (length s.mbufs) s (Some q) (c ∷ cs) (ap {B = Option ℕ} Some (sym first), linked.0.1, linked.0.2, linked.0.3) le
+    go (c ∷ cs) first linked le =
+        walk_is (length s.mbufs) s (Some q) (c ∷ cs)
+        (ap {B = Option ℕ} Some (sym first), linked.0.1, linked.0.2, linked.0.3) le
 
 pub chain_is : (s : StoreView) (lists : List (List ℕ)) → IsSound s lists → (q : ℕ) → chain_at s q ≡ find_first s q lists
 chain_is s lists ok q =
     elim (cases_Bool (is_out s q)) [
       | inr no_one ↦
-          ap (λ b. cond (b && not (is_pointed (length s.mbufs) s q)) (Some (read_chain s (cells_from s (Some q)))) None) no_one
-          ∙ sym (not_first s q lists (omega (arith, ok.once q, heads-tails s q lists ok.linked, off (is_out s q) no_one)))
+          ap (λ b. cond (b && not (is_pointed (length s.mbufs) s q)) (Some (read_chain s (cells_from s (Some q)))) None)
+          no_one
+          ∙ sym (not_first s q lists (omega
+          (arith, ok.once q, heads-tails s q lists ok.linked, off (is_out s q) no_one)))
       | inl out ↦ elim (cases_lt 0 (heads_at q lists)) [
         | inr none ↦
-            let tails : 0 < tails_at q lists = omega (arith, ok.once q, heads-tails s q lists ok.linked, on (is_out s q) out) in
+            let tails : 0 < tails_at q lists =
+            omega (arith, ok.once q, heads-tails s q lists ok.linked, on (is_out s q) out) in
             let before = after_all s q lists ok.linked tails in
-            ap (λ b. cond (is_out s q && not b) (Some (read_chain s (cells_from s (Some q)))) None) (pointed_true before.0 before.1 before.2)
+            ap (λ b. cond (is_out s q && not b) (Some (read_chain s (cells_from s (Some q)))) None)
+            (pointed_true before.0 before.1 before.2)
             ∙ ap (λ b. cond (b && false) (Some (read_chain s (cells_from s (Some q)))) None) out
             ∙ sym (not_first s q lists (omega arith))
         | inl is ↦
             let some = is_first_some s q lists is in
             let found = find_chain s q some.0 lists some.1 in
-            ap (λ b. cond (is_out s q && not b) (Some (read_chain s (cells_from s (Some q)))) None) (pointed_false out is)
+            ap (λ b. cond (is_out s q && not b) (Some (read_chain s (cells_from s (Some q)))) None)
+            (pointed_false out is)
             ∙ ap (λ b. cond (b && true) (Some (read_chain s (cells_from s (Some q)))) None) out
             ∙ ap (λ (l : List ℕ). Some (read_chain s l)) (cells_are s lists ok q some.0 found)
             ∙ ap Some found.shows
@@ -251,7 +293,8 @@ chain_is s lists ok q =
     in_lists : (k : ℕ) → 0 < weigh_all (is_at k) lists → is_out s k ≡ true
     in_lists k p = bit (is_out s k) (omega (arith, ok.once k))
 
-    pointed_true : (k : ℕ) → 0 < weigh_all (is_at k) lists → (head_of s k).next ≡ Some q → is_pointed (length s.mbufs) s q ≡ true
+    pointed_true : (k : ℕ) → 0 < weigh_all (is_at k) lists → (head_of s k).next ≡ Some q
+        → is_pointed (length s.mbufs) s q ≡ true
     pointed_true k p e = points (length s.mbufs) s q k (out_below s k (in_lists k p)) (in_lists k p) e
 
     pointed_false : is_out s q ≡ true → 0 < heads_at q lists → is_pointed (length s.mbufs) s q ≡ false
@@ -259,7 +302,8 @@ chain_is s lists ok q =
       | inr e ↦ e
       | inl e ↦
           let by = pointed_by (length s.mbufs) s q e in
-          let tails = next_after_all s q by.0 lists ok.linked (omega (arith, ok.once by.0, on (is_out s by.0) by.2)) by.3 in
+          let tails =
+          next_after_all s q by.0 lists ok.linked (omega (arith, ok.once by.0, on (is_out s by.0) by.2)) by.3 in
           absurd (omega (arith, tails, ok.once q, heads-tails s q lists ok.linked, on (is_out s q) out))
     ]
 
@@ -285,7 +329,8 @@ next_cell s at whole = go (cells_from s (Some at)) whole (few_cells s (Some at))
     go : (l : List ℕ) → IsLinked s (Some at) l → weigh one l ≤ length s.mbufs → cells_from s (Some at) ≡ l → Next s at
     go [] h le e = absurd (none-some at (sym h))
     go (c ∷ cs) h le e =
-        let rest : cells_from s (head_of s c).next ≡ cs = walk_is (length s.mbufs) s (head_of s c).next cs h.3 (omega arith) in
+        let rest : cells_from s (head_of s c).next ≡ cs =
+        walk_is (length s.mbufs) s (head_of s c).next cs h.3 (omega arith) in
         let here : Next s c = record {
           cells = ap (cells_from s) (sym h.0) ∙ e ∙ ap (λ (xs : List ℕ). c ∷ xs) (sym rest);
           out = h.1;
@@ -305,7 +350,8 @@ high_small h fit = omega (arith, fit.high, go h.cluster)
     go (Some c) = omega arith
 
 -- the bytes of a chain of so many mbufs
-pub bytes_bound : (s : StoreView) (at : Option ℕ) (l : List ℕ) → IsLinked s at l → weigh (len_at s) l ≤ 2048 * weigh one l
+pub bytes_bound : (s : StoreView) (at : Option ℕ) (l : List ℕ) → IsLinked s at l
+    → weigh (len_at s) l ≤ 2048 * weigh one l
 bytes_bound s at [] h = omega arith
 bytes_bound s at (c ∷ cs) h = omega (arith, bytes_bound s (head_of s c).next cs h.3, high_small (head_of s c) h.2)
 
@@ -320,7 +366,13 @@ pub record Walked (s : StoreView) (at : Option ℕ) (i : ℕ) : Type 0 where
 pub walk_on : (s : StoreView) (at : Option ℕ) (i : ℕ) → at ≡ Some i → IsWhole s at → Walked s at i
 walk_on s at i is whole =
     let next = next_cell s i (subst (IsWhole s) is whole) in
-    record { cells = ap (cells_from s) is ∙ next.cells; out = next.out; fit = next.fit; whole = next.whole; short = high_small (head_of s i) next.fit }
+    record {
+      cells = ap (cells_from s) is ∙ next.cells;
+      out = next.out;
+      fit = next.fit;
+      whole = next.whole;
+      short = high_small (head_of s i) next.fit;
+    }
 
 pub walk_end : (s : StoreView) (at : Option ℕ) → at ≡ None → cells_from s at ≡ []
 walk_end s at is = ap (cells_from s) is ∙ no_cells s
@@ -329,13 +381,20 @@ walk_end s at is = ap (cells_from s) is ∙ no_cells s
 pub record Goes (s : StoreView) (f : ℕ → ℕ) (all total : ℕ) (i : ℕ) (h : Head) : Type 0 where
   pub whole : IsWhole s h.next
   pub sum : total + f i + weigh f (cells_from s h.next) ≡ all
-  pub shorter : (at : Option ℕ) → at ≡ Some i → IsWhole s at → weigh one (cells_from s h.next) < weigh one (cells_from s at)
+  pub shorter : (at : Option ℕ) → at ≡ Some i → IsWhole s at
+      → weigh one (cells_from s h.next) < weigh one (cells_from s at)
 
-pub goes : (s : StoreView) (f : ℕ → ℕ) (all total : ℕ) (at : Option ℕ) (i : ℕ) (h : Head) → at ≡ Some i → IsWhole s at → total + weigh f (cells_from s at) ≡ all → h ≡ head_of s i → Goes s f all total i h
+pub goes : (s : StoreView) (f : ℕ → ℕ) (all total : ℕ) (at : Option ℕ) (i : ℕ) (h : Head) → at ≡ Some i → IsWhole s at
+    → total + weigh f (cells_from s at) ≡ all → h ≡ head_of s i → Goes s f all total i h
 goes s f all total at i h is whole sum head =
     let w = walk_on s at i is whole in
     record {
       whole = subst (IsWhole s) (ap (λ (y : Head). y.next) (sym head)) w.whole;
       sum = omega (arith, sum, ap (weigh f) w.cells, ap (λ (y : Head). weigh f (cells_from s y.next)) head);
-      shorter = λ at' is' whole'. omega (arith, ap (weigh one) (walk_on s at' i is' whole').cells, ap (λ (y : Head). weigh one (cells_from s y.next)) head);
+      shorter =
+          λ at' is' whole'. omega (
+            arith,
+            ap (weigh one) (walk_on s at' i is' whole').cells,
+            ap (λ (y : Head). weigh one (cells_from s y.next)) head,
+          );
     }

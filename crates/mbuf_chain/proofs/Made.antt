@@ -37,21 +37,31 @@ pub record NewMbuf (s t : StoreView) (i : ℕ) (h : Head) : Type 0 where
   pub store : IsStore t
 
 -- what an mbuf refers to is counted
-pub counted_in : (s : StoreView) (lists : List (List ℕ)) → IsSound s lists → (k c : ℕ) → 0 < weigh_all (is_at k) lists → (head_of s k).cluster ≡ Some c → 0 < count_of s c
-counted_in s lists ok k c here is = omega (arith, ok.counted c, refers_to s k c is, weigh_all_has (refers_at s c) k lists here)
+pub counted_in : (s : StoreView) (lists : List (List ℕ)) → IsSound s lists → (k c : ℕ) → 0 < weigh_all (is_at k) lists
+    → (head_of s k).cluster ≡ Some c → 0 < count_of s c
+counted_in s lists ok k c here is =
+    omega (arith, ok.counted c, refers_to s k c is, weigh_all_has (refers_at s c) k lists here)
 
 pub record IsMade (s t : StoreView) (i : ℕ) (v : ChainView) : Type 0 where
   pub pool : IsPool t
   pub adds : Adds (pool_of s) (pool_of t) i v
 
-pub added : (s t : StoreView) (i : ℕ) (h : Head) → IsPool s → NewMbuf s t i h → h.next ≡ None → IsFit h → ((packet : PacketHeader) → h.packet ≡ Some packet → packet.len ≡ h.len)
+pub added : (s t : StoreView) (i : ℕ) (h : Head) → IsPool s → NewMbuf s t i h → h.next ≡ None → IsFit h
+    → ((packet : PacketHeader) → h.packet ≡ Some packet → packet.len ≡ h.len)
     → IsMade s t i (record { front = front_of h; entries = entry_at t i ∷ []; cells = i ∷ [] })
 added s t i h (lists, ok, totals) n ends fit total =
     let went = step s t [] ((i ∷ []) ∷ []) lists ok (record {
-      kept = λ k p. n.kept k (λ e. absurd (omega (arith, ok.once i, off (is_out s i) n.fresh, subst (λ (j : ℕ). 0 < weigh_all (is_at j) lists) e p))) (λ c is. counted_in s lists ok k c p is);
+      kept =
+          λ k p. n.kept k (λ e. absurd (omega (
+            arith,
+            ok.once i,
+            off (is_out s i) n.fresh,
+            subst (λ (j : ℕ). 0 < weigh_all (is_at j) lists) e p,
+          ))) (λ c is. counted_in s lists ok k c p is);
       linked = (((refl, n.out, subst IsFit (sym n.head) fit, ap (λ (y : Head). y.next) n.head ∙ ends), tt), tt);
       once = λ k. elim (cases_eq k i) [
-        | inl e ↦ subst (λ (j : ℕ). weigh_all (is_at j) ((i ∷ []) ∷ []) + out_at s j ≡ 0 + out_at t j) (sym e) (omega (arith, is_at_same i, off (is_out s i) n.fresh, on (is_out t i) n.out))
+        | inl e ↦ subst (λ (j : ℕ). weigh_all (is_at j) ((i ∷ []) ∷ []) + out_at s j ≡ 0 + out_at t j) (sym e)
+            (omega (arith, is_at_same i, off (is_out s i) n.fresh, on (is_out t i) n.out))
         | inr ne ↦ omega (arith, is_at_other k i (λ e. ne (sym e)), ap {B = ℕ} (λ b. cond b 1 0) (n.outs k ne))
       ];
       total = omega (arith, n.total);
@@ -59,15 +69,30 @@ added s t i h (lists, ok, totals) n ends fit total =
       store = n.store;
     }) in
     record {
-      pool = ((i ∷ []) ∷ lists, went.sound, (λ packet is. omega (arith, total packet (ap (λ (y : Head). y.packet) (sym n.head) ∙ is), ap (λ (y : Head). y.len) n.head), went.totals totals));
+      pool = (
+        (i ∷ []) ∷ lists,
+        went.sound,
+        (
+          λ packet is. omega (
+            arith,
+            total packet (ap (λ (y : Head). y.packet) (sym n.head) ∙ is),
+            ap (λ (y : Head). y.len) n.head,
+          ),
+          went.totals totals,
+        ),
+      );
       adds = record {
-        fresh = get-view_of s i ∙ ap (λ b. cond (b && not (is_pointed (length s.mbufs) s i)) (Some (read_chain s (cells_from s (Some i)))) None) n.fresh;
+        fresh =
+            get-view_of s i ∙ ap (λ b. cond (b && not (is_pointed (length s.mbufs) s i))
+            (Some (read_chain s (cells_from s (Some i)))) None) n.fresh;
         pool = λ j. record {
           mbufs = n.mbufs j;
           clusters = n.clusters j;
           chains = (view_is t _ went.sound
-              ∙ ap (λ (m : FinMap nat_cmp ChainView). finmap.insert m i (read_chain t (i ∷ []))) (went.map_is ∙ sym (view_is s lists ok))
-              ∙ ap (λ (y : Head). finmap.insert (view_of s) i (record { front = front_of y; entries = entry_at t i ∷ []; cells = i ∷ [] })) n.head) j;
+              ∙ ap (λ (m : FinMap nat_cmp ChainView). finmap.insert m i (read_chain t (i ∷ [])))
+              (went.map_is ∙ sym (view_is s lists ok))
+              ∙ ap (λ (y : Head). finmap.insert (view_of s) i
+              (record { front = front_of y; entries = entry_at t i ∷ []; cells = i ∷ [] })) n.head) j;
         };
       };
     }
@@ -83,22 +108,35 @@ new_plain s t i h got none store =
       out = ap (λ (v : StoreView). is_out v i) got.change ∙ out_here s i (Some m) got.below;
       outs = λ k ne. ap (λ (v : StoreView). is_out v k) got.change ∙ out_there s i (Some m) got.below k ne;
       total = omega (arith, ap mbufs_out got.change, outs_total s i (Some m) got.below, off (is_out s i) got.fresh);
-      kept = λ k ne _. same_cell s t k (ap (λ (v : StoreView). mbuf_of v k) got.change ∙ mbuf_there s i (Some m) got.below k ne) (ap (λ (v : StoreView). is_out v k) got.change ∙ out_there s i (Some m) got.below k ne)
+      kept =
+          λ k ne _. same_cell s t k (ap (λ (v : StoreView). mbuf_of v k) got.change
+          ∙ mbuf_there s i (Some m) got.below k ne) (ap (λ (v : StoreView). is_out v k) got.change
+          ∙ out_there s i (Some m) got.below k ne)
           (λ c _. ap (λ (v : StoreView). (cluster_of v c).bytes) got.change);
       head = head_is;
-      counts = λ c. omega (arith, ap (λ (v : StoreView). count_of v c) got.change, refers_none t i c (ap (λ (y : Head). y.cluster) head_is ∙ none));
+      counts =
+          λ c. omega (
+            arith,
+            ap (λ (v : StoreView). count_of v c) got.change,
+            refers_none t i c (ap (λ (y : Head). y.cluster) head_is ∙ none),
+          );
       store = store;
     }
   where
     head_is : head_of t i ≡ h
-    head_is = ap (λ (v : StoreView). head_of v i) got.change ∙ ap (λ (o : Option MbufView). (unwrap_or o no_mbuf).head) (slot_here s i (Some (record { head = h; bytes = got.bytes })) got.below)
+    head_is =
+        ap (λ (v : StoreView). head_of v i) got.change
+        ∙ ap (λ (o : Option MbufView). (unwrap_or o no_mbuf).head)
+        (slot_here s i (Some (record { head = h; bytes = got.bytes })) got.below)
 
 -- ---- heads of new mbufs
-pub front_for : (header : Bool) (start len : ℕ) (cluster : Option ℕ) → front_of (head_for header start len cluster) ≡ alone header
+pub front_for : (header : Bool) (start len : ℕ) (cluster : Option ℕ)
+    → front_of (head_for header start len cluster) ≡ alone header
 front_for true start len cluster = refl
 front_for false start len cluster = refl
 
-pub total_for : (header : Bool) (start len : ℕ) (cluster : Option ℕ) (packet : PacketHeader) → (head_for header start len cluster).packet ≡ Some packet → packet.len ≡ len
+pub total_for : (header : Bool) (start len : ℕ) (cluster : Option ℕ) (packet : PacketHeader)
+    → (head_for header start len cluster).packet ≡ Some packet → packet.len ≡ len
 total_for true start len cluster packet is = ap (λ (p : PacketHeader). p.len) (sym (same_Some _ _ is))
 total_for false start len cluster packet is = absurd (none-some packet is)
 
@@ -107,16 +145,29 @@ low_for true start len = refl
 low_for false start len = refl
 
 -- a plain mbuf alone, that shows so many of its bytes
-pub plain_made : (s t : StoreView) (i : ℕ) (header : Bool) (start len : ℕ) → IsPool s → Taken s t i (head_for header start len None) → IsStore t → start_of header ≤ start → start + len ≤ 128
-    → IsMade s t i (one_mbuf header (record { bytes = take len (drop start (mbuf_of t i).bytes); start = start; cluster = None }) i)
+pub plain_made : (s t : StoreView) (i : ℕ) (header : Bool) (start len : ℕ) → IsPool s
+    → Taken s t i (head_for header start len None) → IsStore t → start_of header ≤ start → start + len ≤ 128
+    → IsMade s t i (one_mbuf header
+    (record { bytes = take len (drop start (mbuf_of t i).bytes); start = start; cluster = None }) i)
 plain_made s t i header start len pool got store low high =
     let h = head_for header start len None in
     let n = new_plain s t i h got refl store in
-    subst (λ (f : Front). IsMade s t i (record { front = f; entries = record { bytes = take len (drop start (mbuf_of t i).bytes); start = start; cluster = None } ∷ []; cells = i ∷ [] })) (front_for header start len None)
-    (subst (λ (e : Entry). IsMade s t i (record { front = front_of (head_for header start len None); entries = e ∷ []; cells = i ∷ [] })) (entry n.head)
-    (added s t i h pool n refl (record { low = omega (arith, low_for header start len); high = omega arith; kind = refl }) (total_for header start len None)))
+    subst (λ (f : Front). IsMade s t i
+    (record {
+      front = f;
+      entries = record
+          { bytes = take len (drop start (mbuf_of t i).bytes); start = start; cluster = None } ∷ [];
+      cells =
+          i ∷ [];
+    })) (front_for header start len None)
+    (subst (λ (e : Entry). IsMade s t i
+    (record { front = front_of (head_for header start len None); entries = e ∷ []; cells = i ∷ [] })) (entry n.head)
+    (added s t i h pool n refl (record
+    { low = omega (arith, low_for header start len); high = omega arith; kind = refl }) (total_for header start len
+    None)))
   where
-    entry : head_of t i ≡ head_for header start len None → entry_at t i ≡ record { bytes = take len (drop start (mbuf_of t i).bytes); start = start; cluster = None }
+    entry : head_of t i ≡ head_for header start len None
+        → entry_at t i ≡ record { bytes = take len (drop start (mbuf_of t i).bytes); start = start; cluster = None }
     entry e = ap (entry_from t i) e
 
 -- no mbuf is free where all are held
@@ -127,7 +178,14 @@ none_free s (lists, ok, totals) all = held_is s lists ok ∙ all
 pub one_free : (s t : StoreView) (i : ℕ) (h : Head) → IsPool s → Taken s t i h → held_mbufs (pool_of s) < length s.mbufs
 one_free s t i h (lists, ok, totals) got =
     let m : MbufView = record { head = h; bytes = got.bytes } in
-    omega (arith, held_is s lists ok, outs_total s i (Some m) got.below, off (is_out s i) got.fresh, Rattle.mbuf_chain.proofs.Lists.few_out (with_mbuf s i (Some m)), length-set s.mbufs i (Some m))
+    omega (
+      arith,
+      held_is s lists ok,
+      outs_total s i (Some m) got.below,
+      off (is_out s i) got.fresh,
+      Rattle.mbuf_chain.proofs.Lists.few_out (with_mbuf s i (Some m)),
+      length-set s.mbufs i (Some m),
+    )
 
 -- ---- an mbuf that shares a cluster
 -- no cluster is held by more mbufs than are out
@@ -136,7 +194,8 @@ count_few s lists ok c = omega (arith, ok.counted c, ok.total, fewer lists)
   where
     at_most : (l : List ℕ) → weigh (refers_at s c) l ≤ weigh one l
     at_most [] = omega arith
-    at_most (x ∷ xs) = omega (arith, at_most xs, Rattle.mbuf_chain.proofs.Lists.small (option_eq nat_eq (head_of s x).cluster (Some c)))
+    at_most (x ∷ xs) =
+        omega (arith, at_most xs, Rattle.mbuf_chain.proofs.Lists.small (option_eq nat_eq (head_of s x).cluster (Some c)))
 
     fewer : (ls : List (List ℕ)) → weigh_all (refers_at s c) ls ≤ weigh_all one ls
     fewer [] = omega arith
@@ -152,115 +211,243 @@ can_hold s t i d h (lists, ok, totals) got some =
     let m : MbufView = record { head = h; bytes = got.bytes } in
     record {
       some = omega (arith, some, ap (λ (v : StoreView). count_of v d) got.change);
-      few = omega (arith, count_few s lists ok d, ap (λ (v : StoreView). count_of v d) got.change, outs_total s i (Some m) got.below, off (is_out s i) got.fresh, Rattle.mbuf_chain.proofs.Lists.few_out (with_mbuf s i (Some m)), length-set s.mbufs i (Some m), ok.store.mbufs);
+      few =
+          omega (
+            arith,
+            count_few s lists ok d,
+            ap (λ (v : StoreView). count_of v d) got.change,
+            outs_total s i (Some m) got.below,
+            off (is_out s i) got.fresh,
+            Rattle.mbuf_chain.proofs.Lists.few_out (with_mbuf s i (Some m)),
+            length-set s.mbufs i (Some m),
+            ok.store.mbufs,
+          );
     }
 
-pub new_shared : (s t u : StoreView) (i d : ℕ) (h : Head) → Taken s t i h → h.cluster ≡ Some d → 0 < count_of s d → u ≡ with_cluster t d (held (cluster_of t d)) → IsStore u → NewMbuf s u i h
+pub new_shared : (s t u : StoreView) (i d : ℕ) (h : Head) → Taken s t i h → h.cluster ≡ Some d → 0 < count_of s d
+    → u ≡ with_cluster t d (held (cluster_of t d)) → IsStore u → NewMbuf s u i h
 new_shared s t u i d h got is some is_held store =
     let m : MbufView = record { head = h; bytes = got.bytes } in
-    let below : d < length t.clusters = omega (arith, counted_within s d some, ap (λ (v : StoreView). length v.clusters) got.change) in
-    let here : cluster_of u d ≡ held (cluster_of t d) = ap (λ (v : StoreView). cluster_of v d) is_held ∙ cluster_here t d (held (cluster_of t d)) below in
-    let there : (c : ℕ) → c ≢ d → cluster_of u c ≡ cluster_of t c = λ c ne. ap (λ (v : StoreView). cluster_of v c) is_held ∙ cluster_there t d (held (cluster_of t d)) below c ne in
-    let head_is : head_of u i ≡ h = ap (λ (v : StoreView). head_of v i) (is_held) ∙ ap (λ (v : StoreView). head_of v i) got.change ∙ ap (λ (o : Option MbufView). (unwrap_or o no_mbuf).head) (slot_here s i (Some m) got.below) in
-    let refers : head_of u i ≡ h → (c : ℕ) → c ≢ d → refers_at u c i ≡ 0 = λ e c ne. refers_not u i c d (ap (λ (y : Head). y.cluster) e ∙ is) ne in
+    let below : d < length t.clusters =
+    omega (arith, counted_within s d some, ap (λ (v : StoreView). length v.clusters) got.change) in
+    let here : cluster_of u d ≡ held (cluster_of t d) =
+    ap (λ (v : StoreView). cluster_of v d) is_held ∙ cluster_here t d (held (cluster_of t d)) below in
+    let there : (c : ℕ) → c ≢ d → cluster_of u c ≡ cluster_of t c =
+    λ c ne. ap (λ (v : StoreView). cluster_of v c) is_held ∙ cluster_there t d (held (cluster_of t d)) below c ne in
+    let head_is : head_of u i ≡ h =
+    ap (λ (v : StoreView). head_of v i) (is_held) ∙ ap (λ (v : StoreView). head_of v i) got.change
+    ∙ ap (λ (o : Option MbufView). (unwrap_or o no_mbuf).head) (slot_here s i (Some m) got.below) in
+    let refers : head_of u i ≡ h → (c : ℕ) → c ≢ d → refers_at u c i ≡ 0 =
+    λ e c ne. refers_not u i c d (ap (λ (y : Head). y.cluster) e ∙ is) ne in
     record {
-      mbufs = ap (λ (v : StoreView). length v.mbufs) is_held ∙ ap (λ (v : StoreView). length v.mbufs) got.change ∙ length-set s.mbufs i (Some m);
-      clusters = ap (λ (v : StoreView). length v.clusters) is_held ∙ length-set t.clusters d (held (cluster_of t d)) ∙ ap (λ (v : StoreView). length v.clusters) got.change;
+      mbufs =
+          ap (λ (v : StoreView). length v.mbufs) is_held ∙ ap (λ (v : StoreView). length v.mbufs) got.change
+          ∙ length-set s.mbufs i (Some m);
+      clusters =
+          ap (λ (v : StoreView). length v.clusters) is_held ∙ length-set t.clusters d (held (cluster_of t d))
+          ∙ ap (λ (v : StoreView). length v.clusters) got.change;
       fresh = got.fresh;
-      out = ap (λ (v : StoreView). is_out v i) is_held ∙ ap (λ (v : StoreView). is_out v i) got.change ∙ out_here s i (Some m) got.below;
-      outs = λ k ne. ap (λ (v : StoreView). is_out v k) is_held ∙ ap (λ (v : StoreView). is_out v k) got.change ∙ out_there s i (Some m) got.below k ne;
-      total = omega (arith, ap mbufs_out is_held, ap mbufs_out got.change, outs_total s i (Some m) got.below, off (is_out s i) got.fresh);
-      kept = λ k ne _. same_cell s u k (ap (λ (v : StoreView). mbuf_of v k) is_held ∙ ap (λ (v : StoreView). mbuf_of v k) got.change ∙ mbuf_there s i (Some m) got.below k ne)
-          (ap (λ (v : StoreView). is_out v k) is_held ∙ ap (λ (v : StoreView). is_out v k) got.change ∙ out_there s i (Some m) got.below k ne)
+      out =
+          ap (λ (v : StoreView). is_out v i) is_held ∙ ap (λ (v : StoreView). is_out v i) got.change
+          ∙ out_here s i (Some m) got.below;
+      outs =
+          λ k ne. ap (λ (v : StoreView). is_out v k) is_held ∙ ap (λ (v : StoreView). is_out v k) got.change
+          ∙ out_there s i (Some m) got.below k ne;
+      total =
+          omega (
+            arith,
+            ap mbufs_out is_held,
+            ap mbufs_out got.change,
+            outs_total s i (Some m) got.below,
+            off (is_out s i) got.fresh,
+          );
+      kept =
+          λ k ne _. same_cell s u k (ap (λ (v : StoreView). mbuf_of v k) is_held
+          ∙ ap (λ (v : StoreView). mbuf_of v k) got.change ∙ mbuf_there s i (Some m) got.below k ne)
+          (ap (λ (v : StoreView). is_out v k) is_held ∙ ap (λ (v : StoreView). is_out v k) got.change
+          ∙ out_there s i (Some m) got.below k ne)
           (λ c _. same_bytes here there c ∙ ap (λ (v : StoreView). (cluster_of v c).bytes) got.change);
       head = head_is;
       counts = λ c. elim (cases_eq c d) [
         | inl e ↦ subst (λ (j : ℕ). count_of u j ≡ count_of s j + refers_at u j i) (sym e)
-            (omega (arith, ap (λ (v : ClusterView). v.count) here, ap (λ (v : StoreView). count_of v d) got.change, refers_to u i d (ap (λ (y : Head). y.cluster) head_is ∙ is)))
-        | inr ne ↦ omega (arith, ap (λ (v : ClusterView). v.count) (there c ne), ap (λ (v : StoreView). count_of v c) got.change, refers head_is c ne)
+            (omega (
+              arith,
+              ap (λ (v : ClusterView). v.count) here,
+              ap (λ (v : StoreView). count_of v d) got.change,
+              refers_to u i d (ap (λ (y : Head). y.cluster) head_is ∙ is),
+            ))
+        | inr ne ↦ omega (
+          arith,
+          ap (λ (v : ClusterView). v.count) (there c ne),
+          ap (λ (v : StoreView). count_of v c) got.change,
+          refers head_is c ne,
+        )
       ];
       store = store;
     }
   where
-    same_bytes : cluster_of u d ≡ held (cluster_of t d) → ((c : ℕ) → c ≢ d → cluster_of u c ≡ cluster_of t c) → (c : ℕ) → (cluster_of u c).bytes ≡ (cluster_of t c).bytes
+    same_bytes : cluster_of u d ≡ held (cluster_of t d) → ((c : ℕ) → c ≢ d → cluster_of u c ≡ cluster_of t c) → (c : ℕ)
+        → (cluster_of u c).bytes ≡ (cluster_of t c).bytes
     same_bytes here there c = elim (cases_eq c d) [
-      | inl e ↦ subst (λ (j : ℕ). (cluster_of u j).bytes ≡ (cluster_of t j).bytes) (sym e) (ap (λ (v : ClusterView). v.bytes) here)
+      | inl e ↦ subst (λ (j : ℕ). (cluster_of u j).bytes ≡ (cluster_of t j).bytes) (sym e)
+          (ap (λ (v : ClusterView). v.bytes) here)
       | inr ne ↦ ap (λ (v : ClusterView). v.bytes) (there c ne)
     ]
 
 -- an mbuf alone that shows some of the bytes that another shows in its cluster
-pub shared_made : (s t u : StoreView) (i c d skip keep : ℕ) (at : Place) (header : Bool) (start : ℕ) → IsPool s → Shown s c at → (head_of s at.cell).cluster ≡ Some d → 0 < count_of s d → skip + keep ≤ length (entry_of (chain_of (pool_of s) c) at.index).bytes
-    → start ≡ (head_of s at.cell).start + skip → Taken s t i (head_for header start keep (Some d)) → u ≡ with_cluster t d (held (cluster_of t d)) → IsStore u
+pub shared_made : (s t u : StoreView) (i c d skip keep : ℕ) (at : Place) (header : Bool) (start : ℕ) → IsPool s
+    → Shown s c at → (head_of s at.cell).cluster ≡ Some d → 0 < count_of s d
+    → skip + keep ≤ length (entry_of (chain_of (pool_of s) c) at.index).bytes
+    → start ≡ (head_of s at.cell).start + skip → Taken s t i (head_for header start keep (Some d))
+    → u ≡ with_cluster t d (held (cluster_of t d)) → IsStore u
     → IsMade s u i (one_mbuf header (narrowed (entry_of (chain_of (pool_of s) c) at.index) skip keep) i)
 shared_made s t u i c d skip keep at header start pool k is some within start_is got is_held store =
     let h = head_for header start keep (Some d) in
     let n = new_shared s t u i d h got refl some is_held store in
-    subst (λ (f : Front). IsMade s u i (record { front = f; entries = narrowed (entry_of (chain_of (pool_of s) c) at.index) skip keep ∷ []; cells = i ∷ [] })) (front_for header start keep (Some d))
-    (subst (λ (e : Entry). IsMade s u i (record { front = front_of (head_for header start keep (Some d)); entries = e ∷ []; cells = i ∷ [] })) (entry n)
-    (added s u i h pool n refl (record { low = omega arith; high = omega (arith, start_is, k.small, k.long, within); kind = refl }) (total_for header start keep (Some d))))
+    subst (λ (f : Front). IsMade s u i
+    (record {
+      front = f;
+      entries = narrowed (entry_of (chain_of (pool_of s) c) at.index) skip keep ∷ [];
+      cells = i ∷ [];
+    })) (front_for header start keep (Some d))
+    (subst (λ (e : Entry). IsMade s u i
+    (record { front = front_of (head_for header start keep (Some d)); entries = e ∷ []; cells = i ∷ [] })) (entry n)
+    (added s u i h pool n refl (record
+    { low = omega arith; high = omega (arith, start_is, k.small, k.long, within); kind = refl }) (total_for header
+    start keep (Some d))))
   where
     bytes_kept : NewMbuf s u i (head_for header start keep (Some d)) → (cluster_of u d).bytes ≡ (cluster_of s d).bytes
     bytes_kept n =
-        let below : d < length t.clusters = omega (arith, counted_within s d some, ap (λ (v : StoreView). length v.clusters) got.change) in
-        ap (λ (v : StoreView). (cluster_of v d).bytes) is_held ∙ ap (λ (v : ClusterView). v.bytes) (cluster_here t d (held (cluster_of t d)) below) ∙ ap (λ (v : StoreView). (cluster_of v d).bytes) got.change
+        let below : d < length t.clusters =
+        omega (arith, counted_within s d some, ap (λ (v : StoreView). length v.clusters) got.change) in
+        ap (λ (v : StoreView). (cluster_of v d).bytes) is_held
+        ∙ ap (λ (v : ClusterView). v.bytes) (cluster_here t d (held (cluster_of t d)) below)
+        ∙ ap (λ (v : StoreView). (cluster_of v d).bytes) got.change
 
-    entry : NewMbuf s u i (head_for header start keep (Some d)) → entry_at u i ≡ narrowed (entry_of (chain_of (pool_of s) c) at.index) skip keep
+    entry : NewMbuf s u i (head_for header start keep (Some d))
+        → entry_at u i ≡ narrowed (entry_of (chain_of (pool_of s) c) at.index) skip keep
     entry n =
         ap (entry_from u i) n.head
-        ∙ (λ j. record { bytes = take keep (drop (start_is j) (bytes_kept n j)); start = start_is j; cluster = sym is j })
-        ∙ (λ j. record { bytes = take keep (drop ((head_of s at.cell).start + skip) (place_bytes s at.cell (sym is j))); start = (head_of s at.cell).start + skip; cluster = (head_of s at.cell).cluster })
+        ∙ (λ j. record {
+          bytes = take keep (drop (start_is j) (bytes_kept n j));
+          start = start_is j;
+          cluster = sym is j;
+        })
+        ∙ (λ j. record {
+          bytes = take keep (drop ((head_of s at.cell).start + skip) (place_bytes s at.cell (sym is j)));
+          start = (head_of s at.cell).start + skip;
+          cluster = (head_of s at.cell).cluster;
+        })
         ∙ narrowed_is s c skip keep at k (omega (arith, k.long, within))
 
 -- ---- an mbuf on a new cluster
-pub new_clustered : (s t u : StoreView) (i d : ℕ) (h : Head) → TakesCluster s t d → Taken t u i h → h.cluster ≡ Some d → IsStore u → NewMbuf s u i h
+pub new_clustered : (s t u : StoreView) (i d : ℕ) (h : Head) → TakesCluster s t d → Taken t u i h → h.cluster ≡ Some d
+    → IsStore u → NewMbuf s u i h
 new_clustered s t u i d h got_cluster got is store =
     let m : MbufView = record { head = h; bytes = got.bytes } in
     let v : ClusterView = record { count = 1; bytes = got_cluster.bytes } in
     let below : d < length s.clusters = slice_get_within s.clusters d free_cluster got_cluster.was_free in
-    let was : count_of s d ≡ 0 = ap (λ (w : ClusterView). w.count) (get_or_from_slice_get s.clusters d free_cluster free_cluster got_cluster.was_free) in
-    let here : cluster_of u d ≡ record { count = 1; bytes = got_cluster.bytes } = ap (λ (w : StoreView). cluster_of w d) got.change ∙ ap (λ (w : StoreView). cluster_of w d) got_cluster.change ∙ cluster_here s d v below in
-    let there : (c : ℕ) → c ≢ d → cluster_of u c ≡ cluster_of s c = λ c ne. ap (λ (w : StoreView). cluster_of w c) got.change ∙ ap (λ (w : StoreView). cluster_of w c) got_cluster.change ∙ cluster_there s d v below c ne in
-    let head_is : head_of u i ≡ h = ap (λ (w : StoreView). head_of w i) got.change ∙ ap (λ (o : Option MbufView). (unwrap_or o no_mbuf).head) (slot_here t i (Some m) got.below) in
+    let was : count_of s d ≡ 0 =
+    ap (λ (w : ClusterView). w.count)
+    (get_or_from_slice_get s.clusters d free_cluster free_cluster got_cluster.was_free) in
+    let here : cluster_of u d ≡ record { count = 1; bytes = got_cluster.bytes } =
+    ap (λ (w : StoreView). cluster_of w d) got.change ∙ ap (λ (w : StoreView). cluster_of w d) got_cluster.change
+    ∙ cluster_here s d v below in
+    let there : (c : ℕ) → c ≢ d → cluster_of u c ≡ cluster_of s c =
+    λ c ne. ap (λ (w : StoreView). cluster_of w c) got.change
+    ∙ ap (λ (w : StoreView). cluster_of w c) got_cluster.change ∙ cluster_there s d v below c ne in
+    let head_is : head_of u i ≡ h =
+    ap (λ (w : StoreView). head_of w i) got.change
+    ∙ ap (λ (o : Option MbufView). (unwrap_or o no_mbuf).head) (slot_here t i (Some m) got.below) in
     record {
-      mbufs = ap (λ (w : StoreView). length w.mbufs) got.change ∙ length-set t.mbufs i (Some m) ∙ ap (λ (w : StoreView). length w.mbufs) got_cluster.change;
-      clusters = ap (λ (w : StoreView). length w.clusters) got.change ∙ ap (λ (w : StoreView). length w.clusters) got_cluster.change ∙ length-set s.clusters d v;
+      mbufs =
+          ap (λ (w : StoreView). length w.mbufs) got.change ∙ length-set t.mbufs i (Some m)
+          ∙ ap (λ (w : StoreView). length w.mbufs) got_cluster.change;
+      clusters =
+          ap (λ (w : StoreView). length w.clusters) got.change
+          ∙ ap (λ (w : StoreView). length w.clusters) got_cluster.change ∙ length-set s.clusters d v;
       fresh = ap (λ (w : StoreView). is_out w i) (sym got_cluster.change) ∙ got.fresh;
       out = ap (λ (w : StoreView). is_out w i) got.change ∙ out_here t i (Some m) got.below;
-      outs = λ k ne. ap (λ (w : StoreView). is_out w k) got.change ∙ out_there t i (Some m) got.below k ne ∙ ap (λ (w : StoreView). is_out w k) got_cluster.change;
-      total = omega (arith, ap mbufs_out got.change, ap mbufs_out got_cluster.change, outs_total t i (Some m) got.below, off (is_out t i) got.fresh);
-      kept = λ k ne counted. same_cell s u k (ap (λ (w : StoreView). mbuf_of w k) got.change ∙ mbuf_there t i (Some m) got.below k ne ∙ ap (λ (w : StoreView). mbuf_of w k) got_cluster.change)
-          (ap (λ (w : StoreView). is_out w k) got.change ∙ out_there t i (Some m) got.below k ne ∙ ap (λ (w : StoreView). is_out w k) got_cluster.change)
-          (λ c refers. ap (λ (w : ClusterView). w.bytes) (there c (λ e. absurd (omega (arith, counted c refers, ap (count_of s) e, was)))));
+      outs =
+          λ k ne. ap (λ (w : StoreView). is_out w k) got.change ∙ out_there t i (Some m) got.below k ne
+          ∙ ap (λ (w : StoreView). is_out w k) got_cluster.change;
+      total =
+          omega (
+            arith,
+            ap mbufs_out got.change,
+            ap mbufs_out got_cluster.change,
+            outs_total t i (Some m) got.below,
+            off (is_out t i) got.fresh,
+          );
+      kept =
+          λ k ne counted. same_cell s u k
+          (ap (λ (w : StoreView). mbuf_of w k) got.change ∙ mbuf_there t i (Some m) got.below k ne
+          ∙ ap (λ (w : StoreView). mbuf_of w k) got_cluster.change)
+          (ap (λ (w : StoreView). is_out w k) got.change ∙ out_there t i (Some m) got.below k ne
+          ∙ ap (λ (w : StoreView). is_out w k) got_cluster.change)
+          (λ c refers. ap (λ (w : ClusterView). w.bytes)
+          (there c (λ e. absurd (omega (arith, counted c refers, ap (count_of s) e, was)))));
       head = head_is;
       counts = λ c. elim (cases_eq c d) [
-        | inl e ↦ subst (λ (j : ℕ). count_of u j ≡ count_of s j + refers_at u j i) (sym e) (omega (arith, ap (λ (w : ClusterView). w.count) here, was, refers_to u i d (ap (λ (y : Head). y.cluster) head_is ∙ is)))
-        | inr ne ↦ omega (arith, ap (λ (w : ClusterView). w.count) (there c ne), refers_not u i c d (ap (λ (y : Head). y.cluster) head_is ∙ is) ne)
+        | inl e ↦ subst (λ (j : ℕ). count_of u j ≡ count_of s j + refers_at u j i) (sym e)
+            (omega (
+              arith,
+              ap (λ (w : ClusterView). w.count) here,
+              was,
+              refers_to u i d (ap (λ (y : Head). y.cluster) head_is ∙ is),
+            ))
+        | inr ne ↦ omega (
+          arith,
+          ap (λ (w : ClusterView). w.count) (there c ne),
+          refers_not u i c d (ap (λ (y : Head). y.cluster) head_is ∙ is) ne,
+        )
       ];
       store = store;
     }
 
-pub clustered_made : (s t u : StoreView) (i d : ℕ) (header : Bool) (start : ℕ) → IsPool s → TakesCluster s t d → Taken t u i (head_for header start 0 (Some d)) → IsStore u → start ≤ 2048 → IsMade s u i (one_mbuf header (empty_entry start (Some d)) i)
+pub clustered_made : (s t u : StoreView) (i d : ℕ) (header : Bool) (start : ℕ) → IsPool s → TakesCluster s t d
+    → Taken t u i (head_for header start 0 (Some d)) → IsStore u → start ≤ 2048
+    → IsMade s u i (one_mbuf header (empty_entry start (Some d)) i)
 clustered_made s t u i d header start pool got_cluster got store high =
     let h = head_for header start 0 (Some d) in
     let n = new_clustered s t u i d h got_cluster got refl store in
-    subst (λ (f : Front). IsMade s u i (record { front = f; entries = empty_entry start (Some d) ∷ []; cells = i ∷ [] })) (front_for header start 0 (Some d))
-    (subst (λ (e : Entry). IsMade s u i (record { front = front_of (head_for header start 0 (Some d)); entries = e ∷ []; cells = i ∷ [] })) (ap (entry_from u i) n.head)
-    (added s u i h pool n refl (record { low = omega arith; high = omega arith; kind = refl }) (total_for header start 0 (Some d))))
+    subst (λ (f : Front). IsMade s u i
+    (record { front = f; entries = empty_entry start (Some d) ∷ []; cells = i ∷ [] })) (front_for header start 0
+    (Some d))
+    (subst (λ (e : Entry). IsMade s u i
+    (record { front = front_of (head_for header start 0 (Some d)); entries = e ∷ []; cells = i ∷ [] })) (ap
+    (entry_from u i) n.head)
+    (added s u i h pool n refl (record { low = omega arith; high = omega arith; kind = refl })
+    (total_for header start 0 (Some d))))
 
-pub one_free_beside : (s t u : StoreView) (i d : ℕ) (h : Head) → IsPool s → TakesCluster s t d → Taken t u i h → held_mbufs (pool_of s) < length s.mbufs
+pub one_free_beside : (s t u : StoreView) (i d : ℕ) (h : Head) → IsPool s → TakesCluster s t d → Taken t u i h
+    → held_mbufs (pool_of s) < length s.mbufs
 one_free_beside s t u i d h (lists, ok, totals) got_cluster got =
     let m : MbufView = record { head = h; bytes = got.bytes } in
-    omega (arith, held_is s lists ok, outs_total t i (Some m) got.below, off (is_out t i) got.fresh, Rattle.mbuf_chain.proofs.Lists.few_out (with_mbuf t i (Some m)), length-set t.mbufs i (Some m), ap mbufs_out got_cluster.change, ap (λ (v : StoreView). length v.mbufs) got_cluster.change)
+    omega (
+      arith,
+      held_is s lists ok,
+      outs_total t i (Some m) got.below,
+      off (is_out t i) got.fresh,
+      Rattle.mbuf_chain.proofs.Lists.few_out (with_mbuf t i (Some m)),
+      length-set t.mbufs i (Some m),
+      ap mbufs_out got_cluster.change,
+      ap (λ (v : StoreView). length v.mbufs) got_cluster.change,
+    )
 
 -- the cluster is given back, since no mbuf is free
-pub given_back : (s t u v : StoreView) (d : ℕ) → TakesCluster s t d → u ≡ t → v ≡ with_cluster u d (released (cluster_of u d)) → v ≡ s
-given_back s t u v d got same change = change ∙ ap (λ (w : StoreView). with_cluster w d (released (cluster_of w d))) same ∙ taken_back s t d got
+pub given_back : (s t u v : StoreView) (d : ℕ) → TakesCluster s t d → u ≡ t
+    → v ≡ with_cluster u d (released (cluster_of u d)) → v ≡ s
+given_back s t u v d got same change =
+    change ∙ ap (λ (w : StoreView). with_cluster w d (released (cluster_of w d))) same ∙ taken_back s t d got
 
 -- ---- free clusters
 pub unreferenced : (s : StoreView) → IsPool s → (c : ℕ) → references (pool_of s) c ≡ count_of s c
 unreferenced s (lists, ok, totals) c = references_is s lists ok c
 
-count_range : {X : Type 0} (p : X → Bool) (q : ℕ → Bool) (d : X) (xs : List X) (a : ℕ) → ((k : ℕ) → k < length xs → q (a + k) ≡ p (slice_index_or xs k d)) → count_by q (range_with_len a (length xs)) ≡ count_by p xs
+count_range : {X : Type 0} (p : X → Bool) (q : ℕ → Bool) (d : X) (xs : List X) (a : ℕ)
+    → ((k : ℕ) → k < length xs → q (a + k) ≡ p (slice_index_or xs k d))
+    → count_by q (range_with_len a (length xs)) ≡ count_by p xs
 count_range p q d [] a h = refl
 count_range p q d (x ∷ xs) a h =
     let zero_is : a + 0 ≡ a = omega arith in
@@ -270,29 +457,50 @@ count_range p q d (x ∷ xs) a h =
       sum_by-cons (λ y. cond {A = ℕ} (p y) 1 0) x xs,
       sum_by-cons (λ k. cond {A = ℕ} (q k) 1 0) a (range_with_len (a + 1) (length xs)),
       ap {B = ℕ} (λ b. cond b 1 0) first,
-      count_range p q d xs (a + 1) (λ k lt. let e : a + 1 + k ≡ a + suc k = omega arith in ap q e ∙ h (suc k) (omega arith)),
+      count_range p q d xs (a + 1) (λ k lt. let e : a + 1 + k ≡ a + suc k = omega arith in
+          ap q e ∙ h (suc k) (omega arith)),
     )
 
 pub free_are : (s : StoreView) → IsPool s → free_clusters (pool_of s) ≡ Rattle.mbuf_pool.specs.Store.free_clusters s
-free_are s pool = count_range (λ (v : ClusterView). nat_eq v.count 0) (λ c. nat_eq (references (pool_of s) c) 0) free_cluster s.clusters 0 (λ k lt. let e : 0 + k ≡ k = omega arith in ap (λ c. nat_eq (references (pool_of s) c) 0) e ∙ ap (λ n. nat_eq n 0) (unreferenced s pool k))
+free_are s pool =
+    count_range (λ (v : ClusterView). nat_eq v.count 0) (λ c. nat_eq (references (pool_of s) c) 0) free_cluster
+    s.clusters 0 (λ k lt. let e : 0 + k ≡ k = omega arith in
+    ap (λ c. nat_eq (references (pool_of s) c) 0) e ∙ ap (λ n. nat_eq n 0) (unreferenced s pool k))
 
 pub was_unreferenced : (s t : StoreView) (d : ℕ) → IsPool s → TakesCluster s t d → references (pool_of s) d ≡ 0
-was_unreferenced s t d pool got = unreferenced s pool d ∙ ap (λ (w : ClusterView). w.count) (get_or_from_slice_get s.clusters d free_cluster free_cluster got.was_free)
+was_unreferenced s t d pool got =
+    unreferenced s pool d ∙ ap (λ (w : ClusterView). w.count)
+    (get_or_from_slice_get s.clusters d free_cluster free_cluster got.was_free)
 
 -- and it was free
-some_zero : {X : Type 0} (f : X → Bool) (xs : List X) (c : ℕ) (x : X) → slice_get xs c ≡ Some x → f x ≡ true → 0 < count_by f xs
+some_zero : {X : Type 0} (f : X → Bool) (xs : List X) (c : ℕ) (x : X) → slice_get xs c ≡ Some x → f x ≡ true
+    → 0 < count_by f xs
 some_zero f [] c x e is = absurd (none-some x e)
-some_zero f (y ∷ ys) zero x e is = omega (arith, sum_by-cons (λ z. cond {A = ℕ} (f z) 1 0) y ys, ap (λ z. cond {A = ℕ} (f z) 1 0) (same_Some y x e), ap {B = ℕ} (λ b. cond b 1 0) is)
-some_zero f (y ∷ ys) (suc c) x e is = omega (arith, sum_by-cons (λ z. cond {A = ℕ} (f z) 1 0) y ys, some_zero f ys c x e is)
+some_zero f (y ∷ ys) zero x e is =
+    omega (
+      arith,
+      sum_by-cons (λ z. cond {A = ℕ} (f z) 1 0) y ys,
+      ap (λ z. cond {A = ℕ} (f z) 1 0) (same_Some y x e),
+      ap {B = ℕ} (λ b. cond b 1 0) is,
+    )
+some_zero f (y ∷ ys) (suc c) x e is =
+    omega (arith, sum_by-cons (λ z. cond {A = ℕ} (f z) 1 0) y ys, some_zero f ys c x e is)
 
 pub cluster_free : (s t : StoreView) (d : ℕ) → IsPool s → TakesCluster s t d → 0 < free_clusters (pool_of s)
-cluster_free s t d pool got = omega (arith, free_are s pool, some_zero (λ (v : ClusterView). nat_eq v.count 0) s.clusters d free_cluster got.was_free refl)
+cluster_free s t d pool got =
+    omega (
+      arith,
+      free_are s pool,
+      some_zero (λ (v : ClusterView). nat_eq v.count 0) s.clusters d free_cluster
+          got.was_free refl,
+    )
 
 pub counts_are : (s : StoreView) → IsPool s → counts (pool_of s) ≡ Rattle.mbuf_pool.specs.Store.counts_of s
 counts_are s pool = λ i. map (λ c. unreferenced s pool c i) (range_with_len 0 (length s.clusters))
 
 -- the cluster of a live chain's entry is counted
-pub counted_at : (s : StoreView) (c d : ℕ) (at : Place) → IsPool s → IsLive (pool_of s) c → IsPlace (chain_of (pool_of s) c) at → (head_of s at.cell).cluster ≡ Some d → 0 < count_of s d
+pub counted_at : (s : StoreView) (c d : ℕ) (at : Place) → IsPool s → IsLive (pool_of s) c
+    → IsPlace (chain_of (pool_of s) c) at → (head_of s at.cell).cluster ≡ Some d → 0 < count_of s d
 counted_at s c d at pool live place is =
     let o = open_on s c pool live in
     let e = enter s c at o.at place in

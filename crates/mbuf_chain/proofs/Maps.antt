@@ -31,7 +31,8 @@ module _ {X : Type 0} where
   pub get_here : (m : FinMap nat_cmp X) (k : ℕ) (v : X) → finmap.get (finmap.insert m k v) k ≡ Some v
   get_here m k v = get-insert nat_cmp_total m k v k ∙ ap (λ b. cond b (Some v) (finmap.get m k)) (tied k)
 
-  pub get_there : (m : FinMap nat_cmp X) (k : ℕ) (v : X) (q : ℕ) → q ≢ k → finmap.get (finmap.insert m k v) q ≡ finmap.get m q
+  pub get_there : (m : FinMap nat_cmp X) (k : ℕ) (v : X) (q : ℕ) → q ≢ k
+      → finmap.get (finmap.insert m k v) q ≡ finmap.get m q
   get_there m k v q ne = get-insert nat_cmp_total m k v q ∙ ap (λ b. cond b (Some v) (finmap.get m q)) (apart q k ne)
 
   pub get_gone : (m : FinMap nat_cmp X) (k : ℕ) → finmap.get (finmap.remove m k) k ≡ None
@@ -41,27 +42,35 @@ module _ {X : Type 0} where
   get_left m k q ne = get-remove nat_cmp_total m k q ∙ ap (λ b. cond b None (finmap.get m q)) (apart q k ne)
 
   -- the last change at a number stands
-  pub insert-insert : (m : FinMap nat_cmp X) (k : ℕ) (v w : X) → finmap.insert (finmap.insert m k v) k w ≡ finmap.insert m k w
+  pub insert-insert : (m : FinMap nat_cmp X) (k : ℕ) (v w : X)
+      → finmap.insert (finmap.insert m k v) k w ≡ finmap.insert m k w
   insert-insert m k v w = same _ _ (λ q. elim (cases_eq q k) [
-    | inl e ↦ subst (λ (j : ℕ). finmap.get (finmap.insert (finmap.insert m k v) k w) j ≡ finmap.get (finmap.insert m k w) j) (sym e) (get_here _ k w ∙ sym (get_here m k w))
+    | inl e ↦ subst (λ (j : ℕ). finmap.get (finmap.insert (finmap.insert m k v) k w) j
+        ≡ finmap.get (finmap.insert m k w) j) (sym e) (get_here _ k w ∙ sym (get_here m k w))
     | inr ne ↦ get_there _ k w q ne ∙ get_there m k v q ne ∙ sym (get_there m k w q ne)
   ])
 
-  pub remove-insert : (m : FinMap nat_cmp X) (k : ℕ) (v : X) → finmap.get m k ≡ None → finmap.remove (finmap.insert m k v) k ≡ m
+  pub remove-insert : (m : FinMap nat_cmp X) (k : ℕ) (v : X) → finmap.get m k ≡ None
+      → finmap.remove (finmap.insert m k v) k ≡ m
   remove-insert m k v none = same _ _ (λ q. elim (cases_eq q k) [
-    | inl e ↦ subst (λ (j : ℕ). finmap.get (finmap.remove (finmap.insert m k v) k) j ≡ finmap.get m j) (sym e) (get_gone _ k ∙ sym none)
+    | inl e ↦ subst (λ (j : ℕ). finmap.get (finmap.remove (finmap.insert m k v) k) j ≡ finmap.get m j) (sym e)
+        (get_gone _ k ∙ sym none)
     | inr ne ↦ get_left _ k q ne ∙ get_there m k v q ne
   ])
 
-  pub remove-insert_any : (m : FinMap nat_cmp X) (k : ℕ) (v : X) → finmap.remove (finmap.insert m k v) k ≡ finmap.remove m k
+  pub remove-insert_any : (m : FinMap nat_cmp X) (k : ℕ) (v : X)
+      → finmap.remove (finmap.insert m k v) k ≡ finmap.remove m k
   remove-insert_any m k v = same _ _ (λ q. elim (cases_eq q k) [
-    | inl e ↦ subst (λ (j : ℕ). finmap.get (finmap.remove (finmap.insert m k v) k) j ≡ finmap.get (finmap.remove m k) j) (sym e) (get_gone _ k ∙ sym (get_gone m k))
+    | inl e ↦ subst (λ (j : ℕ). finmap.get (finmap.remove (finmap.insert m k v) k) j ≡ finmap.get (finmap.remove m k) j)
+        (sym e) (get_gone _ k ∙ sym (get_gone m k))
     | inr ne ↦ get_left _ k q ne ∙ get_there m k v q ne ∙ sym (get_left m k q ne)
   ])
 
-  pub insert-remove : (m : FinMap nat_cmp X) (k : ℕ) (v : X) → finmap.get m k ≡ Some v → finmap.insert (finmap.remove m k) k v ≡ m
+  pub insert-remove : (m : FinMap nat_cmp X) (k : ℕ) (v : X) → finmap.get m k ≡ Some v
+      → finmap.insert (finmap.remove m k) k v ≡ m
   insert-remove m k v some = same _ _ (λ q. elim (cases_eq q k) [
-    | inl e ↦ subst (λ (j : ℕ). finmap.get (finmap.insert (finmap.remove m k) k v) j ≡ finmap.get m j) (sym e) (get_here _ k v ∙ sym some)
+    | inl e ↦ subst (λ (j : ℕ). finmap.get (finmap.insert (finmap.remove m k) k v) j ≡ finmap.get m j) (sym e)
+        (get_here _ k v ∙ sym some)
     | inr ne ↦ get_there _ k v q ne ∙ get_left m k q ne
   ])
 
@@ -72,11 +81,14 @@ module _ {X : Type 0} where
   ])
 
   -- what a table has
-  pub get-tabulate : (n : ℕ) (f : ℕ → Option X) (q : ℕ) → (q < n → finmap.get (tabulate n f) q ≡ f q) × (n ≤ q → finmap.get (tabulate n f) q ≡ None)
+  pub get-tabulate : (n : ℕ) (f : ℕ → Option X) (q : ℕ)
+      → (q < n → finmap.get (tabulate n f) q ≡ f q) × (n ≤ q → finmap.get (tabulate n f) q ≡ None)
   get-tabulate zero f q = (λ h. absurd (omega arith), λ _. get-empty nat_cmp q)
   get-tabulate (suc n) f q =
       let below = get-tabulate n f q in
-      elim (f n) as (λ (o : Option X). f n ≡ o → (q < suc n → finmap.get (add_option (tabulate n f) n o) q ≡ f q) × (suc n ≤ q → finmap.get (add_option (tabulate n f) n o) q ≡ None)) [
+      elim (f n) as (λ (o : Option X). f n ≡ o
+      → (q < suc n → finmap.get (add_option (tabulate n f) n o) q ≡ f q)
+      × (suc n ≤ q → finmap.get (add_option (tabulate n f) n o) q ≡ None)) [
         | None ↦ λ e. (
           λ h. elim (cases_eq q n) [
             | inl is ↦ below.1 (omega arith) ∙ sym e ∙ ap f (sym is)
@@ -86,7 +98,8 @@ module _ {X : Type 0} where
         )
         | Some x ↦ λ e. (
           λ h. elim (cases_eq q n) [
-            | inl is ↦ subst (λ (j : ℕ). finmap.get (finmap.insert (tabulate n f) n x) j ≡ f j) (sym is) (get_here _ n x ∙ sym e)
+            | inl is ↦ subst (λ (j : ℕ). finmap.get (finmap.insert (tabulate n f) n x) j ≡ f j) (sym is)
+                (get_here _ n x ∙ sym e)
             | inr ne ↦ get_there _ n x q ne ∙ below.0 (omega arith)
           ],
           λ h. get_there _ n x q (λ is. absurd (omega arith)) ∙ below.1 (omega arith),
@@ -101,22 +114,34 @@ module _ {X : Type 0} where
   unfolding total
   total_is f m = refl
 
-  total_put : (f : X → ℕ) (es : List (ℕ × X)) (k : ℕ) (v : X) → find nat_cmp k es ≡ None → sum_by f (map (λ e. e.1) (put nat_cmp k v es)) ≡ f v + sum_by f (map (λ e. e.1) es)
+  total_put : (f : X → ℕ) (es : List (ℕ × X)) (k : ℕ) (v : X) → find nat_cmp k es ≡ None
+      → sum_by f (map (λ e. e.1) (put nat_cmp k v es)) ≡ f v + sum_by f (map (λ e. e.1) es)
   total_put f [] k v none = omega arith
   total_put f (e ∷ es) k v none =
-      elim (nat_cmp k e.0) as (λ r. cond (is_eq r) (Some e.1) (find nat_cmp k es) ≡ None → sum_by f (map (λ e. e.1) (by_order r ((k, v) ∷ e ∷ es) ((e.0, v) ∷ es) (e ∷ put nat_cmp k v es))) ≡ f v + sum_by f (map (λ e. e.1) (e ∷ es))) [
+      elim (nat_cmp k e.0) as (λ r. cond (is_eq r) (Some e.1) (find nat_cmp k es) ≡ None
+      → sum_by f (map (λ e. e.1) (by_order r ((k, v) ∷ e ∷ es) ((e.0, v) ∷ es) (e ∷ put nat_cmp k v es)))
+      ≡ f v + sum_by f (map (λ e. e.1) (e ∷ es))) [
         | Less ↦ λ _. sum_by-cons f v (map (λ e. e.1) (e ∷ es))
         | Equal ↦ λ is. absurd (none-some e.1 (sym is))
-        | Greater ↦ λ is. omega (arith, total_put f es k v is, sum_by-cons f e.1 (map (λ e. e.1) (put nat_cmp k v es)), sum_by-cons f e.1 (map (λ e. e.1) es))
+        | Greater ↦ λ is. omega (
+          arith,
+          total_put f es k v is,
+          sum_by-cons f e.1 (map (λ e. e.1) (put nat_cmp k v es)),
+          sum_by-cons f e.1 (map (λ e. e.1) es),
+        )
       ] none
 
-  pub total-insert : (f : X → ℕ) (m : FinMap nat_cmp X) (k : ℕ) (v : X) → finmap.get m k ≡ None → total f (finmap.insert m k v) ≡ f v + total f m
+  pub total-insert : (f : X → ℕ) (m : FinMap nat_cmp X) (k : ℕ) (v : X) → finmap.get m k ≡ None
+      → total f (finmap.insert m k v) ≡ f v + total f m
   unfolding total
   total-insert f m k v none =
-      ap (λ (es : List (ℕ × X)). sum_by f (map (λ e. e.1) es)) (entries-insert nat_cmp_total m k v) ∙ total_put f (finmap.entries m) k v (sym (get-entries m k) ∙ none)
+      ap (λ (es : List (ℕ × X)). sum_by f (map (λ e. e.1) es)) (entries-insert nat_cmp_total m k v)
+      ∙ total_put f (finmap.entries m) k v (sym (get-entries m k) ∙ none)
 
-  pub total-remove : (f : X → ℕ) (m : FinMap nat_cmp X) (k : ℕ) (v : X) → finmap.get m k ≡ Some v → total f m ≡ f v + total f (finmap.remove m k)
-  total-remove f m k v some = ap (total f) (sym (insert-remove m k v some)) ∙ total-insert f (finmap.remove m k) k v (get_gone m k)
+  pub total-remove : (f : X → ℕ) (m : FinMap nat_cmp X) (k : ℕ) (v : X) → finmap.get m k ≡ Some v
+      → total f m ≡ f v + total f (finmap.remove m k)
+  total-remove f m k v some =
+      ap (total f) (sym (insert-remove m k v some)) ∙ total-insert f (finmap.remove m k) k v (get_gone m k)
 
   no_length : (es : List (ℕ × X)) → length es ≡ 0 → es ≡ []
   no_length [] e = refl
@@ -130,23 +155,31 @@ module _ {X : Type 0} where
   total-empty f = ap (λ (es : List (ℕ × X)). sum_by f (map (λ e. e.1) es)) no_entries
 
   -- two keys made one
-  pub two_to_one : (m : FinMap nat_cmp X) (a b : ℕ) (v w u : X) → finmap.get m b ≡ None → a ≢ b → finmap.insert (finmap.remove (finmap.insert (finmap.insert m b w) a v) b) a u ≡ finmap.insert m a u
+  pub two_to_one : (m : FinMap nat_cmp X) (a b : ℕ) (v w u : X) → finmap.get m b ≡ None → a ≢ b
+      → finmap.insert (finmap.remove (finmap.insert (finmap.insert m b w) a v) b) a u ≡ finmap.insert m a u
   two_to_one m a b v w u none ne = same _ _ (λ q. elim (cases_eq q a) [
-    | inl e ↦ subst (λ (j : ℕ). finmap.get (finmap.insert (finmap.remove (finmap.insert (finmap.insert m b w) a v) b) a u) j ≡ finmap.get (finmap.insert m a u) j) (sym e) (get_here _ a u ∙ sym (get_here m a u))
+    | inl e ↦ subst (λ (j : ℕ). finmap.get
+        (finmap.insert (finmap.remove (finmap.insert (finmap.insert m b w) a v) b) a u) j
+        ≡ finmap.get (finmap.insert m a u) j) (sym e) (get_here _ a u ∙ sym (get_here m a u))
     | inr na ↦ get_there _ a u q na ∙ elim (cases_eq q b) [
-      | inl e ↦ subst (λ (j : ℕ). finmap.get (finmap.remove (finmap.insert (finmap.insert m b w) a v) b) j ≡ finmap.get m j) (sym e) (get_gone _ b ∙ sym none)
+      | inl e ↦ subst (λ (j : ℕ). finmap.get (finmap.remove (finmap.insert (finmap.insert m b w) a v) b) j
+          ≡ finmap.get m j) (sym e) (get_gone _ b ∙ sym none)
       | inr nb ↦ get_left _ b q nb ∙ get_there _ a v q na ∙ get_there m b w q nb
     ] ∙ sym (get_there m a u q na)
   ])
 
 module _ {X : Type 0} where
   -- one key made two
-  pub one_to_two : (m : FinMap nat_cmp X) (a b : ℕ) (v w u : X) → a ≢ b → finmap.insert (finmap.insert m b w) a u ≡ finmap.insert (finmap.insert (finmap.insert m a v) a u) b w
+  pub one_to_two : (m : FinMap nat_cmp X) (a b : ℕ) (v w u : X) → a ≢ b
+      → finmap.insert (finmap.insert m b w) a u ≡ finmap.insert (finmap.insert (finmap.insert m a v) a u) b w
   one_to_two m a b v w u ne = same _ _ (λ q. elim (cases_eq q a) [
-    | inl e ↦ subst (λ (j : ℕ). finmap.get (finmap.insert (finmap.insert m b w) a u) j ≡ finmap.get (finmap.insert (finmap.insert (finmap.insert m a v) a u) b w) j) (sym e)
+    | inl e ↦ subst (λ (j : ℕ). finmap.get (finmap.insert (finmap.insert m b w) a u) j
+        ≡ finmap.get (finmap.insert (finmap.insert (finmap.insert m a v) a u) b w) j) (sym e)
         (get_here _ a u ∙ sym (get_there _ b w a ne ∙ get_here _ a u))
     | inr na ↦ get_there _ a u q na ∙ elim (cases_eq q b) [
-      | inl e ↦ subst (λ (j : ℕ). finmap.get (finmap.insert m b w) j ≡ finmap.get (finmap.insert (finmap.insert (finmap.insert m a v) a u) b w) j) (sym e) (get_here _ b w ∙ sym (get_here _ b w))
+      | inl e ↦ subst (λ (j : ℕ). finmap.get (finmap.insert m b w) j
+          ≡ finmap.get (finmap.insert (finmap.insert (finmap.insert m a v) a u) b w) j) (sym e) (get_here _ b w
+          ∙ sym (get_here _ b w))
       | inr nb ↦ get_there m b w q nb ∙ sym (get_there _ b w q nb ∙ get_there _ a u q na ∙ get_there m a v q na)
     ]
   ])

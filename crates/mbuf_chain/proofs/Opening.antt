@@ -10,11 +10,14 @@ use Rattle.mbuf_chain.specs.Inside.Cells.{IsSound, IsPool, pool_of}
 use Rattle.mbuf_chain.proofs.Lists.{off}
 use Rattle.mbuf_chain.proofs.Changes.{view_is}
 
-none_out : (xs : List (Option MbufView)) (k : ℕ) → count_by (λ (o : Option MbufView). is_some o) xs ≡ 0 → is_some (slice_index_or xs k None) ≡ false
+none_out : (xs : List (Option MbufView)) (k : ℕ) → count_by (λ (o : Option MbufView). is_some o) xs ≡ 0
+    → is_some (slice_index_or xs k None) ≡ false
 none_out [] k e = refl
-none_out (Some m ∷ xs) k e = absurd (omega (arith, sum_by-cons (λ (o : Option MbufView). cond {A = ℕ} (is_some o) 1 0) (Some m) xs))
+none_out (Some m ∷ xs) k e =
+    absurd (omega (arith, sum_by-cons (λ (o : Option MbufView). cond {A = ℕ} (is_some o) 1 0) (Some m) xs))
 none_out (None ∷ xs) zero e = refl
-none_out (None ∷ xs) (suc k) e = none_out xs k (omega (arith, sum_by-cons (λ (o : Option MbufView). cond {A = ℕ} (is_some o) 1 0) None xs))
+none_out (None ∷ xs) (suc k) e =
+    none_out xs k (omega (arith, sum_by-cons (λ (o : Option MbufView). cond {A = ℕ} (is_some o) 1 0) None xs))
 
 pub over_sound : (s : StoreView) → mbufs_out s ≡ 0 → ((c : ℕ) → count_of s c ≡ 0) → IsStore s → IsSound s []
 over_sound s mbufs clusters store = record {
@@ -28,5 +31,8 @@ over_sound s mbufs clusters store = record {
 pub over_pool : (s : StoreView) → mbufs_out s ≡ 0 → ((c : ℕ) → count_of s c ≡ 0) → IsStore s → IsPool s
 over_pool s mbufs clusters store = ([], over_sound s mbufs clusters store, tt)
 
-pub over_empty : (s : StoreView) → mbufs_out s ≡ 0 → ((c : ℕ) → count_of s c ≡ 0) → IsStore s → pool_of s ≡ record { mbufs = length s.mbufs; clusters = length s.clusters; chains = finmap.empty }
-over_empty s mbufs clusters store = ap (λ (m : FinMap nat_cmp ChainView). record { mbufs = length s.mbufs; clusters = length s.clusters; chains = m }) (view_is s [] (over_sound s mbufs clusters store))
+pub over_empty : (s : StoreView) → mbufs_out s ≡ 0 → ((c : ℕ) → count_of s c ≡ 0) → IsStore s
+    → pool_of s ≡ record { mbufs = length s.mbufs; clusters = length s.clusters; chains = finmap.empty }
+over_empty s mbufs clusters store =
+    ap (λ (m : FinMap nat_cmp ChainView). record { mbufs = length s.mbufs; clusters = length s.clusters; chains = m })
+    (view_is s [] (over_sound s mbufs clusters store))

@@ -34,7 +34,8 @@ live_cells s c pool live =
     record {
       same = ap length (sym cells) ∙ cells_count f.cells ∙ sym (count_cells s c f);
       some = omega (arith, count_cells s c f, some f.cells f.chain);
-      few = omega (arith, count_cells s c f, f.sound.total, Rattle.mbuf_chain.proofs.Lists.few_out s, f.sound.store.mbufs);
+      few =
+          omega (arith, count_cells s c f, f.sound.total, Rattle.mbuf_chain.proofs.Lists.few_out s, f.sound.store.mbufs);
       first = ap (λ (l : List ℕ). slice_get l 0) (sym cells) ∙ first f.cells f.chain f.first;
     }
   where
@@ -46,11 +47,13 @@ live_cells s c pool live =
     first [] h e = absurd h
     first (y ∷ ys) h e = ap {B = Option ℕ} Some e
 
-pub first_place : (s : StoreView) (c : ℕ) → IsPool s → IsLive (pool_of s) c → IsPlace (chain_of (pool_of s) c) (record { index = 0; cell = c })
+pub first_place : (s : StoreView) (c : ℕ) → IsPool s → IsLive (pool_of s) c
+    → IsPlace (chain_of (pool_of s) c) (record { index = 0; cell = c })
 first_place s c pool live = let l = live_cells s c pool live in record { within = l.some; cell = l.first }
 
 -- ---- the place after another
-next_in : (s : StoreView) (at : Option ℕ) (l : List ℕ) (i : ℕ) → IsLinked s at l → i < weigh one l → (head_of s (slice_index l i)).next ≡ slice_get l (suc i)
+next_in : (s : StoreView) (at : Option ℕ) (l : List ℕ) (i : ℕ) → IsLinked s at l → i < weigh one l
+    → (head_of s (slice_index l i)).next ≡ slice_get l (suc i)
 next_in s at [] i h lt = absurd (omega arith)
 next_in s at (x ∷ []) zero h lt = h.3
 next_in s at (x ∷ y ∷ ys) zero h lt = h.3.0
@@ -61,27 +64,50 @@ past [] i e = omega arith
 past (x ∷ xs) zero e = absurd (none-some x (sym e))
 past (x ∷ xs) (suc i) e = omega (arith, past xs i e)
 
-next_is : (s : StoreView) (c : ℕ) (at : Place) → IsPool s → IsLive (pool_of s) c → IsPlace (chain_of (pool_of s) c) at → (head_of s at.cell).next ≡ slice_get (chain_of (pool_of s) c).cells (at.index + 1)
+next_is : (s : StoreView) (c : ℕ) (at : Place) → IsPool s → IsLive (pool_of s) c → IsPlace (chain_of (pool_of s) c) at
+    → (head_of s at.cell).next ≡ slice_get (chain_of (pool_of s) c).cells (at.index + 1)
 next_is s c at pool live place =
     let o = open_on s c pool live in
     let e = enter s c at o.at place in
-    ap (λ (j : ℕ). (head_of s j).next) (sym e.cell) ∙ next_in s (Some c) o.at.cells at.index o.at.linked e.below ∙ ap (λ (v : ChainView). slice_get v.cells (suc at.index)) o.at.shows
+    ap (λ (j : ℕ). (head_of s j).next) (sym e.cell) ∙ next_in s (Some c) o.at.cells at.index o.at.linked e.below
+    ∙ ap (λ (v : ChainView). slice_get v.cells (suc at.index)) o.at.shows
     ∙ (let same : suc at.index ≡ at.index + 1 = omega arith in ap (slice_get (chain_of (pool_of s) c).cells) same)
 
-pub next_place : (s : StoreView) (c : ℕ) (at : Place) (next : ℕ) (h : Head) → IsPool s → IsLive (pool_of s) c → IsPlace (chain_of (pool_of s) c) at → h ≡ head_of s at.cell → h.next ≡ Some next → IsPlace (chain_of (pool_of s) c) (record { index = at.index + 1; cell = next })
+pub next_place : (s : StoreView) (c : ℕ) (at : Place) (next : ℕ) (h : Head) → IsPool s → IsLive (pool_of s) c
+    → IsPlace (chain_of (pool_of s) c) at → h ≡ head_of s at.cell → h.next ≡ Some next
+    → IsPlace (chain_of (pool_of s) c) (record { index = at.index + 1; cell = next })
 next_place s c at next h pool live place head is =
     let l = live_cells s c pool live in
-    let there : slice_get (chain_of (pool_of s) c).cells (at.index + 1) ≡ Some next = sym (next_is s c at pool live place) ∙ ap (λ (y : Head). y.next) (sym head) ∙ is in
-    record { within = omega (arith, l.same, slice_get_within (chain_of (pool_of s) c).cells (at.index + 1) next there); cell = there }
+    let there : slice_get (chain_of (pool_of s) c).cells (at.index + 1) ≡ Some next =
+    sym (next_is s c at pool live place) ∙ ap (λ (y : Head). y.next) (sym head) ∙ is in
+    record {
+      within = omega (arith, l.same, slice_get_within (chain_of (pool_of s) c).cells (at.index + 1) next there);
+      cell = there;
+    }
 
-pub next_none : (s : StoreView) (c : ℕ) (at : Place) (h : Head) → IsPool s → IsLive (pool_of s) c → IsPlace (chain_of (pool_of s) c) at → h ≡ head_of s at.cell → h.next ≡ None → at.index + 1 ≡ length (chain_of (pool_of s) c).entries
+pub next_none : (s : StoreView) (c : ℕ) (at : Place) (h : Head) → IsPool s → IsLive (pool_of s) c
+    → IsPlace (chain_of (pool_of s) c) at → h ≡ head_of s at.cell → h.next ≡ None
+    → at.index + 1 ≡ length (chain_of (pool_of s) c).entries
 next_none s c at h pool live place head is =
     let l = live_cells s c pool live in
-    omega (arith, l.same, place.within, past (chain_of (pool_of s) c).cells (at.index + 1) (sym (next_is s c at pool live place) ∙ ap (λ (y : Head). y.next) (sym head) ∙ is))
+    omega (
+      arith,
+      l.same,
+      place.within,
+      past (chain_of (pool_of s) c).cells (at.index + 1)
+          (sym (next_is s c at pool live place) ∙ ap (λ (y : Head). y.next) (sym head) ∙ is),
+    )
 
 -- ---- where the bytes lie
 pub segment_is : (s : StoreView) (c : ℕ) (at : Place) (h : Head) → Shown s c at → h ≡ head_of s at.cell
-    → ◌≡◌ {A = Segment} (record { start = h.start; len = h.len; cluster = h.cluster }) (record { start = (entry_of (chain_of (pool_of s) c) at.index).start; len = length (entry_of (chain_of (pool_of s) c) at.index).bytes; cluster = (entry_of (chain_of (pool_of s) c) at.index).cluster })
+    → ◌≡◌ {A = Segment} (record { start = h.start; len = h.len; cluster = h.cluster })
+    (record {
+      start = (entry_of (chain_of (pool_of s) c) at.index).start;
+      len =
+          length (entry_of (chain_of (pool_of s) c) at.index).bytes;
+      cluster =
+          (entry_of (chain_of (pool_of s) c) at.index).cluster;
+    })
 segment_is s c at h k head = λ i. record {
   start = (ap (λ (y : Head). y.start) head ∙ ap (λ (e : Entry). e.start) (sym k.entry)) i;
   len = (ap (λ (y : Head). y.len) head ∙ k.long) i;
@@ -95,9 +121,11 @@ pub record Bared (p q : PoolView) (a b : ℕ) : Type 0 where
   pub back_live : IsLive q b
   pub front_same : chain_of q a ≡ chain_of p a
   pub bare : (chain_of q b).front ≡ alone false
-  pub whole : with_chain (without q b) a (joined (chain_of q a) (chain_of q b)) ≡ with_chain (without p b) a (joined (chain_of p a) (chain_of p b))
+  pub whole : with_chain (without q b) a (joined (chain_of q a) (chain_of q b))
+      ≡ with_chain (without p b) a (joined (chain_of p a) (chain_of p b))
 
-pub bared : (p q : PoolView) (a b : ℕ) → a ≢ b → IsLive p a → IsLive p b → q ≡ with_chain p b (headless (chain_of p b)) → Bared p q a b
+pub bared : (p q : PoolView) (a b : ℕ) → a ≢ b → IsLive p a → IsLive p b → q ≡ with_chain p b (headless (chain_of p b))
+    → Bared p q a b
 bared p q a b ne live_a live_b is =
     subst (λ (r : PoolView). Bared p r a b) (sym is) (record {
       front_live = live_with p (with_chain p b (headless (chain_of p b))) b (headless (chain_of p b)) a refl live_a;
@@ -107,7 +135,9 @@ bared p q a b ne live_a live_b is =
       whole = λ i. record {
         mbufs = p.mbufs;
         clusters = p.clusters;
-        chains = finmap.insert (remove-insert_any p.chains b (headless (chain_of p b)) i) a (joined (chain_there p b a (headless (chain_of p b)) ne i) (chain_here p b (headless (chain_of p b)) i));
+        chains =
+            finmap.insert (remove-insert_any p.chains b (headless (chain_of p b)) i) a
+            (joined (chain_there p b a (headless (chain_of p b)) ne i) (chain_here p b (headless (chain_of p b)) i));
       };
     })
 
@@ -118,26 +148,34 @@ get_after [] m (suc n) e = absurd (omega arith)
 get_after (x ∷ l) m zero e = absurd (omega arith)
 get_after (x ∷ l) m (suc n) e = get_after l m n (omega arith)
 
-pub linked_place : (s : StoreView) (q : PoolView) (a b : ℕ) (last : Place) → IsPool s → IsLive (pool_of s) a → IsLive (pool_of s) b → last.index + 1 ≡ length (chain_of (pool_of s) a).entries
-    → q ≡ with_chain (without (pool_of s) b) a (joined (chain_of (pool_of s) a) (chain_of (pool_of s) b)) → IsPlace (chain_of q a) (record { index = last.index + 1; cell = b })
+pub linked_place : (s : StoreView) (q : PoolView) (a b : ℕ) (last : Place) → IsPool s → IsLive (pool_of s) a
+    → IsLive (pool_of s) b → last.index + 1 ≡ length (chain_of (pool_of s) a).entries
+    → q ≡ with_chain (without (pool_of s) b) a (joined (chain_of (pool_of s) a) (chain_of (pool_of s) b))
+    → IsPlace (chain_of q a) (record { index = last.index + 1; cell = b })
 linked_place s q a b last pool live_a live_b is_last is =
     let l = live_cells s a pool live_a in
     let m = live_cells s b pool live_b in
     let v = chain_of (pool_of s) a in
     let w = chain_of (pool_of s) b in
-    subst (λ (u : ChainView). IsPlace u (record { index = last.index + 1; cell = b })) (sym (ap (λ (r : PoolView). chain_of r a) is ∙ chain_here (without (pool_of s) b) a (joined v w)))
+    subst (λ (u : ChainView). IsPlace u (record { index = last.index + 1; cell = b }))
+    (sym (ap (λ (r : PoolView). chain_of r a) is ∙ chain_here (without (pool_of s) b) a (joined v w)))
     (record {
-      within = omega (arith, length-append (chain_of (pool_of s) a).entries (chain_of (pool_of s) b).entries, m.some, is_last);
-      cell = get_after (chain_of (pool_of s) a).cells (chain_of (pool_of s) b).cells (last.index + 1) (l.same ∙ sym is_last) ∙ m.first;
+      within =
+          omega (arith, length-append (chain_of (pool_of s) a).entries (chain_of (pool_of s) b).entries, m.some, is_last);
+      cell =
+          get_after (chain_of (pool_of s) a).cells (chain_of (pool_of s) b).cells (last.index + 1) (l.same ∙ sym is_last)
+          ∙ m.first;
     })
 
 -- the front of a live chain
-pub header_is : (s : StoreView) (c : ℕ) → IsPool s → IsLive (pool_of s) c → is_some (head_of s c).packet ≡ (chain_of (pool_of s) c).front.header
+pub header_is : (s : StoreView) (c : ℕ) → IsPool s → IsLive (pool_of s) c
+    → is_some (head_of s c).packet ≡ (chain_of (pool_of s) c).front.header
 header_is s c pool live =
     let o = open_on s c pool live in
     ap (λ (j : ℕ). is_some (head_of s j).packet) (sym o.at.first) ∙ ap (λ (v : ChainView). v.front.header) o.at.shows
 
-pub front_is : (s : StoreView) (c : ℕ) → IsPool s → IsLive (pool_of s) c → front_of (head_of s c) ≡ (chain_of (pool_of s) c).front
+pub front_is : (s : StoreView) (c : ℕ) → IsPool s → IsLive (pool_of s) c
+    → front_of (head_of s c) ≡ (chain_of (pool_of s) c).front
 front_is s c pool live =
     let o = open_on s c pool live in
     ap (λ (j : ℕ). front_of (head_of s j)) (sym o.at.first) ∙ ap (λ (v : ChainView). v.front) o.at.shows

@@ -19,18 +19,26 @@ readable s c pool live =
     let f = freeable s c (open_on s c pool live).at in
     record { whole = f.whole; store = f.store; counted = f.counted }
 
-pub entries_are : (s : StoreView) (c : ℕ) → IsPool s → IsLive (pool_of s) c → entries_from s (Some c) ≡ (chain_of (pool_of s) c).entries
+pub entries_are : (s : StoreView) (c : ℕ) → IsPool s → IsLive (pool_of s) c
+    → entries_from s (Some c) ≡ (chain_of (pool_of s) c).entries
 entries_are s c pool live =
     let f = (open_on s c pool live).at in
     ap (map (entry_at s)) f.walks ∙ ap (λ (v : ChainView). v.entries) f.shows
 
 -- the cluster to which an mbuf of a live chain refers is one of the pool's
-pub cluster_known : (s : StoreView) (c : ℕ) (at : Place) → IsPool s → IsLive (pool_of s) c → IsPlace (chain_of (pool_of s) c) at → (d : ℕ) → (entry_of (chain_of (pool_of s) c) at.index).cluster ≡ Some d → d < length s.clusters
+pub cluster_known : (s : StoreView) (c : ℕ) (at : Place) → IsPool s → IsLive (pool_of s) c
+    → IsPlace (chain_of (pool_of s) c) at → (d : ℕ) → (entry_of (chain_of (pool_of s) c) at.index).cluster ≡ Some d
+    → d < length s.clusters
 cluster_known s c at pool live place d is =
     let f = (open_on s c pool live).at in
     let e = enter s c at f place in
     let refers : (head_of s at.cell).cluster ≡ Some d = ap (λ (x : Entry). x.cluster) (sym e.shows) ∙ is in
-    counted_within s d (omega (arith, refers_to s at.cell d refers, weigh_has (refers_at s d) at.cell f.cells e.inside, f.sound.counted d))
+    counted_within s d (omega (
+      arith,
+      refers_to s at.cell d refers,
+      weigh_has (refers_at s d) at.cell f.cells e.inside,
+      f.sound.counted d,
+    ))
 
 -- ---- one step
 -- what is known of the next mbuf, whose head is h
@@ -52,39 +60,58 @@ reads_head s at i is r =
       entries = ap (map (entry_at s)) w.cells;
       bytes = bytes (head_of s i).cluster;
       long = long w (head_of s i).cluster refl;
-      rest = record { whole = w.whole; store = r.store; counted = λ c. omega (arith, r.counted c, ap (weigh (refers_at s c)) w.cells) };
+      rest =
+          record {
+            whole = w.whole;
+            store = r.store;
+            counted = λ c. omega (arith, r.counted c, ap (weigh (refers_at s c)) w.cells);
+          };
     }
   where
     counted : (c : ℕ) → Walked s at i → (head_of s i).cluster ≡ Some c → 0 < count_of s c
     counted c w e = omega (arith, r.counted c, ap (weigh (refers_at s c)) w.cells, refers_to s i c e)
 
     low : (head_of s i).cluster ≡ None → room_low (head_of s i) ≡ head_size (head_of s i)
-    low e = ap (λ (o : Option ℕ). cond {A = ℕ} (is_some o) 0 (cond (is_some (head_of s i).packet) 28 20)) e ∙ sym (ap (λ (o : Option ℕ). cond {A = ℕ} (is_some o) 32 (cond (is_some (head_of s i).packet) 28 20)) e)
+    low e =
+        ap (λ (o : Option ℕ). cond {A = ℕ} (is_some o) 0 (cond (is_some (head_of s i).packet) 28 20)) e
+        ∙ sym (ap (λ (o : Option ℕ). cond {A = ℕ} (is_some o) 32 (cond (is_some (head_of s i).packet) 28 20)) e)
 
     high : (o : Option ℕ) → (head_of s i).cluster ≡ o → room_high (head_of s i) ≡ cond {A = ℕ} (is_some o) 2048 128
     high o e = ap (λ (o : Option ℕ). cond {A = ℕ} (is_some o) 2048 128) e
 
-    room : Walked s at i → (o : Option ℕ) → (head_of s i).cluster ≡ o → IsRoom s (buffer_of i o) (head_of s i).start (head_of s i).len
+    room : Walked s at i → (o : Option ℕ) → (head_of s i).cluster ≡ o
+        → IsRoom s (buffer_of i o) (head_of s i).start (head_of s i).len
     room w None e = (w.out, e, omega (arith, low e, w.fit.low), omega (arith, high None e, w.fit.high))
     room w (Some c) e = (counted c w e, omega (arith, high (Some c) e, w.fit.high))
 
-    bytes : (o : Option ℕ) → take (head_of s i).len (drop (head_of s i).start (bytes_in s (buffer_of i o))) ≡ take (head_of s i).len (drop (head_of s i).start (place_bytes s i o))
+    bytes : (o : Option ℕ) → take (head_of s i).len (drop (head_of s i).start (bytes_in s (buffer_of i o)))
+        ≡ take (head_of s i).len (drop (head_of s i).start (place_bytes s i o))
     bytes None = refl
     bytes (Some c) = refl
 
-    long : Walked s at i → (o : Option ℕ) → (head_of s i).cluster ≡ o → (head_of s i).len ≡ length (take (head_of s i).len (drop (head_of s i).start (place_bytes s i o)))
-    long w None e = sym (run_length (mbuf_of s i).bytes (head_of s i).start (head_of s i).len (omega (arith, high None e, w.fit.high, r.store.mbuf_bytes i w.out)))
-    long w (Some c) e = sym (run_length (cluster_of s c).bytes (head_of s i).start (head_of s i).len (omega (arith, high (Some c) e, w.fit.high, r.store.cluster_bytes c (counted c w e))))
+    long : Walked s at i → (o : Option ℕ) → (head_of s i).cluster ≡ o
+        → (head_of s i).len ≡ length (take (head_of s i).len (drop (head_of s i).start (place_bytes s i o)))
+    long w None e =
+        sym (run_length (mbuf_of s i).bytes (head_of s i).start (head_of s i).len
+        (omega (arith, high None e, w.fit.high, r.store.mbuf_bytes i w.out)))
+    long w (Some c) e =
+        sym (run_length (cluster_of s c).bytes (head_of s i).start (head_of s i).len
+        (omega (arith, high (Some c) e, w.fit.high, r.store.cluster_bytes c (counted c w e))))
 
-pub reads : (s : StoreView) (at : Option ℕ) (i : ℕ) (h : Head) → at ≡ Some i → IsReadable s at → h ≡ head_of s i → Reads s at i h
+pub reads : (s : StoreView) (at : Option ℕ) (i : ℕ) (h : Head) → at ≡ Some i → IsReadable s at → h ≡ head_of s i
+    → Reads s at i h
 reads s at i h is r head = subst (Reads s at i) (sym head) (reads_head s at i is r)
 
 -- ---- what the iterators give
-pub next_entry : (s : StoreView) (at : Option ℕ) (i : ℕ) (h : Head) → Reads s at i h → layout_of (entries_from s at) ≡ (h.len, h.cluster) ∷ layout_of (entries_from s h.next)
-next_entry s at i h r = ap layout_of r.entries ∙ ap (λ (n : ℕ). (n, h.cluster) ∷ layout_of (entries_from s h.next)) (sym r.long)
+pub next_entry : (s : StoreView) (at : Option ℕ) (i : ℕ) (h : Head) → Reads s at i h
+    → layout_of (entries_from s at) ≡ (h.len, h.cluster) ∷ layout_of (entries_from s h.next)
+next_entry s at i h r =
+    ap layout_of r.entries ∙ ap (λ (n : ℕ). (n, h.cluster) ∷ layout_of (entries_from s h.next)) (sym r.long)
 
-pub next_piece : (s : StoreView) (at : Option ℕ) (i : ℕ) (h : Head) (bs : List ℕ) → Reads s at i h → bs ≡ read s (data_of i h) → pieces_of (entries_from s at) ≡ bs ∷ pieces_of (entries_from s h.next)
-next_piece s at i h bs r is = ap pieces_of r.entries ∙ ap (λ (xs : List ℕ). xs ∷ pieces_of (entries_from s h.next)) (sym (is ∙ r.bytes))
+pub next_piece : (s : StoreView) (at : Option ℕ) (i : ℕ) (h : Head) (bs : List ℕ) → Reads s at i h
+    → bs ≡ read s (data_of i h) → pieces_of (entries_from s at) ≡ bs ∷ pieces_of (entries_from s h.next)
+next_piece s at i h bs r is =
+    ap pieces_of r.entries ∙ ap (λ (xs : List ℕ). xs ∷ pieces_of (entries_from s h.next)) (sym (is ∙ r.bytes))
 
 -- one less is left
 pub one_less : {X : Type 0} (xs ys : List X) (x : X) → xs ≡ x ∷ ys → length ys < length xs

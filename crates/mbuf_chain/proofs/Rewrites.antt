@@ -38,50 +38,82 @@ pub record Renewed (s t : StoreView) (at : Option ℕ) (l : List ℕ) (i x : ℕ
   pub counted : (c : ℕ) → weigh (refers_at t c) l ≡ weigh (refers_at s c) l
   pub lens : weigh (len_at t) l + (head_of s x).len ≡ weigh (len_at s) l + (head_of t x).len
 
-pub renewed : (s t : StoreView) (x : ℕ) → CellChange s t x → (at : Option ℕ) (l : List ℕ) (i : ℕ) → ((k : ℕ) → k ≢ x → 0 < weigh (is_at k) l → SameCell s t k) → IsLinked s at l → ((k : ℕ) → weigh (is_at k) l ≤ 1) → i < weigh one l → slice_index l i ≡ x
+pub renewed : (s t : StoreView) (x : ℕ) → CellChange s t x → (at : Option ℕ) (l : List ℕ) (i : ℕ)
+    → ((k : ℕ) → k ≢ x → 0 < weigh (is_at k) l → SameCell s t k) → IsLinked s at l → ((k : ℕ) → weigh (is_at k) l ≤ 1)
+    → i < weigh one l → slice_index l i ≡ x
     → Renewed s t at l i x
 renewed s t x change at [] i kept linked once lt is = absurd (omega arith)
 renewed s t x change at (y ∷ ys) zero kept linked once lt is =
-    let others : (k : ℕ) → 0 < weigh (is_at k) ys → SameCell s t k = λ k p. kept k (λ e. absurd (omega (arith, once y, is_at_same y, subst (λ (j : ℕ). 0 < weigh (is_at j) ys) (e ∙ sym is) p))) (omega (arith, p)) in
+    let others : (k : ℕ) → 0 < weigh (is_at k) ys → SameCell s t k =
+    λ k p. kept k (λ e. absurd (omega
+    (arith, once y, is_at_same y, subst (λ (j : ℕ). 0 < weigh (is_at j) ys) (e ∙ sym is) p))) (omega (arith, p)) in
     let same = list_kept s t ys others in
     record {
       linked = (
         linked.0,
         subst (λ (j : ℕ). is_out t j ≡ true) (sym is) change.out,
         subst (λ (j : ℕ). IsFit (head_of t j)) (sym is) change.fit,
-        subst (λ (n : Option ℕ). IsLinked t n ys) (sym (subst (λ (j : ℕ). (head_of t j).next ≡ (head_of s j).next) (sym is) change.next)) (links_kept s t (head_of s y).next ys others linked.3),
+        subst (λ (n : Option ℕ). IsLinked t n ys)
+            (sym (subst (λ (j : ℕ). (head_of t j).next ≡ (head_of s j).next) (sym is) change.next))
+            (links_kept s t (head_of s y).next ys others linked.3),
       );
       entries = λ j. entry_at t (is j) ∷ same.entries j;
-      counted = λ c. λ j. cond (option_eq nat_eq (subst (λ (j : ℕ). (head_of t j).cluster ≡ (head_of s j).cluster) (sym is) change.cluster j) (Some c)) 1 0 + same.counted c j;
+      counted =
+          λ c. λ j. cond (option_eq nat_eq
+          (subst (λ (j : ℕ). (head_of t j).cluster ≡ (head_of s j).cluster) (sym is) change.cluster j)
+          (Some c)) 1 0 + same.counted c j;
       lens = omega (arith, same.lens, ap (λ (j : ℕ). (head_of s j).len) is, ap (λ (j : ℕ). (head_of t j).len) is);
     }
 renewed s t x change at (y ∷ ys) (suc i) kept linked once lt is =
-    let apart : y ≢ x = λ e. absurd (omega (arith, once x, in_list ys i (omega arith), ap (λ (j : ℕ). weigh (is_at j) ys) is, ap (is_at x) e, is_at_same x)) in
+    let apart : y ≢ x =
+    λ e. absurd (omega (
+      arith,
+      once x,
+      in_list ys i (omega arith),
+      ap (λ (j : ℕ). weigh (is_at j) ys) is,
+      ap (is_at x) e,
+      is_at_same x,
+    )) in
     let here = kept y apart (omega (arith, is_at_same y)) in
-    let below = renewed s t x change (head_of s y).next ys i (λ k ne p. kept k ne (omega (arith, p))) linked.3 (λ k. omega (arith, once k)) (omega arith) is in
+    let below =
+    renewed s t x change (head_of s y).next ys i (λ k ne p. kept k ne (omega (arith, p))) linked.3
+    (λ k. omega (arith, once k)) (omega arith) is in
     record {
-      linked = (linked.0, here.out ∙ linked.1, subst IsFit (sym here.head) linked.2, subst (λ (h : Head). IsLinked t h.next ys) (sym here.head) below.linked);
+      linked = (
+        linked.0,
+        here.out ∙ linked.1,
+        subst IsFit (sym here.head) linked.2,
+        subst (λ (h : Head). IsLinked t h.next ys) (sym here.head) below.linked,
+      );
       entries = λ j. here.entry j ∷ below.entries j;
       counted = λ c. λ j. cond (option_eq nat_eq (here.head j).cluster (Some c)) 1 0 + below.counted c j;
       lens = omega (arith, below.lens, ap (λ (h : Head). h.len) here.head);
     }
 
 -- ---- the mbufs after the first go on saying nothing of the packet
-follow_renewed : (s t : StoreView) (x : ℕ) (l : List ℕ) → ((k : ℕ) → k ≢ x → 0 < weigh (is_at k) l → SameCell s t k) → (0 < weigh (is_at x) l → IsFollower (head_of s x) → IsFollower (head_of t x)) → AllFollow s l → AllFollow t l
+follow_renewed : (s t : StoreView) (x : ℕ) (l : List ℕ) → ((k : ℕ) → k ≢ x → 0 < weigh (is_at k) l → SameCell s t k)
+    → (0 < weigh (is_at x) l → IsFollower (head_of s x) → IsFollower (head_of t x)) → AllFollow s l → AllFollow t l
 follow_renewed s t x [] kept here h = h
 follow_renewed s t x (y ∷ ys) kept here h = (
   elim (cases_eq y x) [
-    | inl e ↦ subst (λ (j : ℕ). IsFollower (head_of t j)) (sym e) (here (subst (λ (j : ℕ). 0 < is_at x j + weigh (is_at x) ys) (sym e) (omega (arith, is_at_same x))) (subst (λ (j : ℕ). IsFollower (head_of s j)) e h.0))
+    | inl e ↦ subst (λ (j : ℕ). IsFollower (head_of t j)) (sym e)
+        (here (subst (λ (j : ℕ). 0 < is_at x j + weigh (is_at x) ys) (sym e) (omega (arith, is_at_same x)))
+        (subst (λ (j : ℕ). IsFollower (head_of s j)) e h.0))
     | inr ne ↦ subst IsFollower (sym (kept y ne (omega (arith, is_at_same y))).head) h.0
   ],
   follow_renewed s t x ys (λ k ne p. kept k ne (omega (arith, p))) (λ p. here (omega (arith, p))) h.1,
 )
 
-chain_renewed : (s t : StoreView) (x : ℕ) (l : List ℕ) (i : ℕ) → ((k : ℕ) → k ≢ x → 0 < weigh (is_at k) l → SameCell s t k) → ((k : ℕ) → weigh (is_at k) l ≤ 1) → i < weigh one l → slice_index l i ≡ x → (0 < i → IsFollower (head_of s x) → IsFollower (head_of t x))
+chain_renewed : (s t : StoreView) (x : ℕ) (l : List ℕ) (i : ℕ)
+    → ((k : ℕ) → k ≢ x → 0 < weigh (is_at k) l → SameCell s t k) → ((k : ℕ) → weigh (is_at k) l ≤ 1) → i < weigh one l
+    → slice_index l i ≡ x → (0 < i → IsFollower (head_of s x) → IsFollower (head_of t x))
     → IsChain s l → IsLinked t (Some (first_of l)) l → IsChain t l
 chain_renewed s t x [] i kept once lt is follow chain linked = absurd chain
-chain_renewed s t x (y ∷ ys) zero kept once lt is follow chain linked =
-    (linked, follow_renewed s t x ys (λ k ne p. kept k ne (omega (arith, p))) (λ p. absurd (omega (arith, once y, is_at_same y, subst (λ (j : ℕ). 0 < weigh (is_at j) ys) (sym is) p))) chain.1)
+chain_renewed s t x (y ∷ ys) zero kept once lt is follow chain linked = (
+  linked,
+  follow_renewed s t x ys (λ k ne p. kept k ne (omega (arith, p)))
+      (λ p. absurd (omega (arith, once y, is_at_same y, subst (λ (j : ℕ). 0 < weigh (is_at j) ys) (sym is) p))) chain.1,
+)
 chain_renewed s t x (y ∷ ys) (suc i) kept once lt is follow chain linked =
     (linked, follow_renewed s t x ys (λ k ne p. kept k ne (omega (arith, p))) (λ _. follow (omega arith)) chain.1)
 
@@ -90,18 +122,32 @@ pub record Changed (s t : StoreView) (c i x : ℕ) (f : Focused s c) : Type 0 wh
   pub sound : IsSound t (f.cells ∷ f.rest)
   pub totals : AllByRecursion (IsTotal s) f.rest → AllByRecursion (IsTotal t) f.rest
   pub lens : weigh (len_at t) f.cells + (head_of s x).len ≡ weigh (len_at s) f.cells + (head_of t x).len
-  pub map_is : pool_of t ≡ with_chain (pool_of s) c (record { front = front_of (head_of t c); entries = slice_set (chain_of (pool_of s) c).entries i (entry_at t x); cells = (chain_of (pool_of s) c).cells })
+  pub map_is : pool_of t ≡ with_chain (pool_of s) c
+      (record {
+        front = front_of (head_of t c);
+        entries = slice_set (chain_of (pool_of s) c).entries i (entry_at t x);
+        cells = (chain_of (pool_of s) c).cells;
+      })
 
-pub changed : (s t : StoreView) (c i x : ℕ) → (f : Focused s c) → i < weigh one f.cells → slice_index f.cells i ≡ x → SameOuts s t → IsStore t → CellChange s t x → ((k : ℕ) → k ≢ x → is_out s k ≡ true → 0 < weigh (is_at k) f.cells + weigh_all (is_at k) f.rest → SameCell s t k)
+pub changed : (s t : StoreView) (c i x : ℕ) → (f : Focused s c) → i < weigh one f.cells → slice_index f.cells i ≡ x
+    → SameOuts s t → IsStore t → CellChange s t x
+    → ((k : ℕ) → k ≢ x → is_out s k ≡ true → 0 < weigh (is_at k) f.cells + weigh_all (is_at k) f.rest → SameCell s t k)
     → (0 < i → IsFollower (head_of s x) → IsFollower (head_of t x)) → Changed s t c i x f
 changed s t c i x f lt is outs store change kept follow =
-    let inside : 0 < weigh (is_at x) f.cells = subst (λ (j : ℕ). 0 < weigh (is_at j) f.cells) is (in_list f.cells i lt) in
-    let kept' : (k : ℕ) → k ≢ x → 0 < weigh (is_at k) f.cells + weigh_all (is_at k) f.rest → SameCell s t k = λ k ne p. kept k ne (bit (is_out s k) (omega (arith, f.sound.once k, p))) p in
-    let in_cells : (k : ℕ) → k ≢ x → 0 < weigh (is_at k) f.cells → SameCell s t k = λ k ne p. kept' k ne (omega (arith, p)) in
-    let in_rest : (k : ℕ) → 0 < weigh_all (is_at k) f.rest → SameCell s t k = λ k p. kept' k (λ e. absurd (omega (arith, once_in s c f x, inside, subst (λ (j : ℕ). 0 < weigh_all (is_at j) f.rest) e p))) (omega (arith, p)) in
+    let inside : 0 < weigh (is_at x) f.cells =
+    subst (λ (j : ℕ). 0 < weigh (is_at j) f.cells) is (in_list f.cells i lt) in
+    let kept' : (k : ℕ) → k ≢ x → 0 < weigh (is_at k) f.cells + weigh_all (is_at k) f.rest → SameCell s t k =
+    λ k ne p. kept k ne (bit (is_out s k) (omega (arith, f.sound.once k, p))) p in
+    let in_cells : (k : ℕ) → k ≢ x → 0 < weigh (is_at k) f.cells → SameCell s t k =
+    λ k ne p. kept' k ne (omega (arith, p)) in
+    let in_rest : (k : ℕ) → 0 < weigh_all (is_at k) f.rest → SameCell s t k =
+    λ k p. kept' k (λ e. absurd (omega
+    (arith, once_in s c f x, inside, subst (λ (j : ℕ). 0 < weigh_all (is_at j) f.rest) e p))) (omega (arith, p)) in
     let once : (k : ℕ) → weigh (is_at k) f.cells ≤ 1 = λ k. omega (arith, once_in s c f k) in
     let new = renewed s t x change (Some c) f.cells i in_cells f.linked once lt is in
-    let chain : IsChain t f.cells = chain_renewed s t x f.cells i in_cells once lt is follow f.chain (subst (λ (j : ℕ). IsLinked t (Some j) f.cells) (sym f.first) new.linked) in
+    let chain : IsChain t f.cells =
+    chain_renewed s t x f.cells i in_cells once lt is follow f.chain
+    (subst (λ (j : ℕ). IsLinked t (Some j) f.cells) (sym f.first) new.linked) in
     let went = step s t (f.cells ∷ []) (f.cells ∷ []) f.rest f.sound (record {
       kept = in_rest;
       linked = (chain, tt);
@@ -118,9 +164,23 @@ changed s t c i x f lt is outs store change kept follow =
         mbufs = outs.mbufs j;
         clusters = outs.clusters j;
         chains = (view_is t (f.cells ∷ f.rest) went.sound
-            ∙ (λ k. finmap.insert (went.map_is k) (f.first k) (record { front = front_of (head_of t (f.first k)); entries = (new.entries ∙ ap (λ (v : ChainView). slice_set v.entries i (entry_at t x)) f.shows) k; cells = (ap (λ (v : ChainView). v.cells) f.shows) k }))
+            ∙ (λ k. finmap.insert (went.map_is k) (f.first k)
+            (record {
+              front = front_of (head_of t (f.first k));
+              entries =
+                  (new.entries ∙ ap (λ (v : ChainView). slice_set v.entries i (entry_at t x)) f.shows) k;
+              cells =
+                  (ap (λ (v : ChainView). v.cells) f.shows) k;
+            }))
             ∙ sym (insert-insert (chains_of s f.rest) c (chain_of (pool_of s) c) _)
-            ∙ ap (λ (m : FinMap nat_cmp ChainView). finmap.insert m c (record { front = front_of (head_of t c); entries = slice_set (chain_of (pool_of s) c).entries i (entry_at t x); cells = (chain_of (pool_of s) c).cells })) (sym f.map_is)) j;
+            ∙ ap (λ (m : FinMap nat_cmp ChainView). finmap.insert m c
+            (record {
+              front = front_of (head_of t c);
+              entries =
+                  slice_set (chain_of (pool_of s) c).entries i (entry_at t x);
+              cells =
+                  (chain_of (pool_of s) c).cells;
+            })) (sym f.map_is)) j;
       };
     }
   where
@@ -137,19 +197,42 @@ off_there c n l none = elim (cases_eq (first_of l) c) [
   | inr ne ↦ ap {B = ℕ} (λ b. cond b n 0) (ne_eqb (first_of l) c ne)
 ]
 
-pub rest_by : (t : StoreView) (c added removed : ℕ) (rest : List (List ℕ)) → heads_at c rest ≡ 0 → AllByRecursion (IsTotal t) rest → AllByRecursion (IsTotalBy t c added removed) rest
+pub rest_by : (t : StoreView) (c added removed : ℕ) (rest : List (List ℕ)) → heads_at c rest ≡ 0
+    → AllByRecursion (IsTotal t) rest → AllByRecursion (IsTotalBy t c added removed) rest
 rest_by t c added removed [] none h = tt
-rest_by t c added removed (l ∷ ls) none h =
-    (λ packet is. omega (arith, h.0 packet is, off_there c added l (omega (arith, none)), off_there c removed l (omega (arith, none))), rest_by t c added removed ls (omega (arith, none)) h.1)
+rest_by t c added removed (l ∷ ls) none h = (
+  λ packet is. omega (
+    arith,
+    h.0 packet is,
+    off_there c added l (omega (arith, none)),
+    off_there c removed l (omega (arith, none)),
+  ),
+  rest_by t c added removed ls (omega (arith, none)) h.1,
+)
 
-pub rest_right : (t : StoreView) (c added removed : ℕ) (rest : List (List ℕ)) → heads_at c rest ≡ 0 → AllByRecursion (IsTotalBy t c added removed) rest → AllByRecursion (IsTotal t) rest
+pub rest_right : (t : StoreView) (c added removed : ℕ) (rest : List (List ℕ)) → heads_at c rest ≡ 0
+    → AllByRecursion (IsTotalBy t c added removed) rest → AllByRecursion (IsTotal t) rest
 rest_right t c added removed [] none h = tt
-rest_right t c added removed (l ∷ ls) none h =
-    (λ packet is. omega (arith, h.0 packet is, off_there c added l (omega (arith, none)), off_there c removed l (omega (arith, none))), rest_right t c added removed ls (omega (arith, none)) h.1)
+rest_right t c added removed (l ∷ ls) none h = (
+  λ packet is. omega (
+    arith,
+    h.0 packet is,
+    off_there c added l (omega (arith, none)),
+    off_there c removed l (omega (arith, none)),
+  ),
+  rest_right t c added removed ls (omega (arith, none)) h.1,
+)
 
 -- no other chain begins there
 pub alone_first : (s : StoreView) (c : ℕ) → (f : Focused s c) → heads_at c f.rest ≡ 0
-alone_first s c f = omega (arith, once_in s c f c, subst (λ (j : ℕ). 0 < weigh (is_at j) f.cells) f.first (in_list f.cells 0 (some f.cells f.chain)), heads-tails s c f.rest f.sound.linked.1)
+alone_first s c f =
+    omega (
+      arith,
+      once_in s c f c,
+      subst (λ (j : ℕ). 0 < weigh (is_at j) f.cells) f.first
+          (in_list f.cells 0 (some f.cells f.chain)),
+      heads-tails s c f.rest f.sound.linked.1,
+    )
   where
     some : (l : List ℕ) → IsChain s l → 0 < weigh one l
     some [] h = absurd h
@@ -160,18 +243,37 @@ some_cell s [] h = absurd h
 some_cell s (y ∷ ys) h = omega arith
 
 -- after a change of an mbuf's length the packet length is off by as much
-pub off_after : (s t : StoreView) (c i x added removed : ℕ) → (o : Opened s c) → Changed s t c i x o.at → (head_of t c).packet ≡ (head_of s c).packet → (head_of t x).len + removed ≡ (head_of s x).len + added → IsOff t c added removed
+pub off_after : (s t : StoreView) (c i x added removed : ℕ) → (o : Opened s c) → Changed s t c i x o.at
+    → (head_of t c).packet ≡ (head_of s c).packet → (head_of t x).len + removed ≡ (head_of s x).len + added
+    → IsOff t c added removed
 off_after s t c i x added removed o went packet lens = (
   o.at.cells ∷ o.at.rest,
   went.sound,
   (
-    λ h is. omega (arith, o.totals.0 h (ap (λ (j : ℕ). (head_of s j).packet) o.at.first ∙ sym packet ∙ ap (λ (j : ℕ). (head_of t j).packet) (sym o.at.first) ∙ is), went.lens, lens, off_here c added o.at.cells o.at.first, off_here c removed o.at.cells o.at.first),
+    λ h is. omega (
+      arith,
+      o.totals.0 h
+          (ap (λ (j : ℕ). (head_of s j).packet) o.at.first ∙ sym packet
+          ∙ ap (λ (j : ℕ). (head_of t j).packet) (sym o.at.first)
+          ∙ is),
+      went.lens,
+      lens,
+      off_here c added o.at.cells o.at.first,
+      off_here c removed o.at.cells o.at.first,
+    ),
     rest_by t c added removed o.at.rest (alone_first s c o.at) (went.totals o.totals.1),
   ),
 )
 
 -- an mbuf whose front is as it was: the entry alone has changed
-pub changed_entry : (s t : StoreView) (c i x : ℕ) → (f : Focused s c) → Changed s t c i x f → front_of (head_of t c) ≡ front_of (head_of s c) → pool_of t ≡ with_chain (pool_of s) c (with_entry (chain_of (pool_of s) c) i (entry_at t x))
+pub changed_entry : (s t : StoreView) (c i x : ℕ) → (f : Focused s c) → Changed s t c i x f
+    → front_of (head_of t c) ≡ front_of (head_of s c)
+    → pool_of t ≡ with_chain (pool_of s) c (with_entry (chain_of (pool_of s) c) i (entry_at t x))
 changed_entry s t c i x f went front =
-    went.map_is ∙ ap (λ (g : Front). with_chain (pool_of s) c (record { front = g; entries = slice_set (chain_of (pool_of s) c).entries i (entry_at t x); cells = (chain_of (pool_of s) c).cells }))
+    went.map_is ∙ ap (λ (g : Front). with_chain (pool_of s) c
+    (record {
+      front = g;
+      entries = slice_set (chain_of (pool_of s) c).entries i (entry_at t x);
+      cells = (chain_of (pool_of s) c).cells;
+    }))
     (front ∙ ap (λ (j : ℕ). front_of (head_of s j)) (sym f.first) ∙ ap (λ (v : ChainView). v.front) f.shows)

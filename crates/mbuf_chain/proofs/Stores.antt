@@ -42,49 +42,95 @@ module _ (s : StoreView) (c : ℕ) (v : ClusterView) (lt : c < length s.clusters
 pub released_count : (v : ClusterView) → 0 < v.count → (released v).count + 1 ≡ v.count
 released_count v some =
     elim (cases_eq v.count 1) [
-      | inl e ↦ omega (arith, e, ap (λ b. (cond {A = ClusterView} b free_cluster (record v { count = v.count - 1 })).count) (eq-eqb v.count 1 e))
-      | inr ne ↦ omega (arith, ap (λ b. (cond {A = ClusterView} b free_cluster (record v { count = v.count - 1 })).count) (ne_eqb v.count 1 ne))
+      | inl e ↦ omega (
+        arith,
+        e,
+        ap (λ b.
+            (cond {A = ClusterView} b free_cluster (record v { count = v.count - 1 })).count) (eq-eqb v.count 1 e),
+      )
+      | inr ne ↦ omega (
+        arith,
+        ap (λ b.
+            (cond {A = ClusterView} b free_cluster (record v { count = v.count - 1 })).count) (ne_eqb v.count 1 ne),
+      )
     ]
 
 pub released_bytes : (v : ClusterView) → 0 < v.count → 0 < (released v).count → (released v).bytes ≡ v.bytes
 released_bytes v some left =
     elim (cases_eq v.count 1) [
-      | inl e ↦ absurd (omega (arith, e, left, ap (λ b. (cond {A = ClusterView} b free_cluster (record v { count = v.count - 1 })).count) (eq-eqb v.count 1 e)))
-      | inr ne ↦ ap (λ b. (cond {A = ClusterView} b free_cluster (record v { count = v.count - 1 })).bytes) (ne_eqb v.count 1 ne)
+      | inl e ↦ absurd (omega (
+        arith,
+        e,
+        left,
+        ap (λ b. (cond {A = ClusterView} b free_cluster (record v { count = v.count - 1 })).count)
+            (eq-eqb v.count 1 e),
+      ))
+      | inr ne ↦ ap (λ b. (cond {A = ClusterView} b free_cluster (record v { count = v.count - 1 })).bytes)
+          (ne_eqb v.count 1 ne)
     ]
 
 pub refers_to : (s : StoreView) (x d : ℕ) → (head_of s x).cluster ≡ Some d → refers_at s d x ≡ 1
-refers_to s x d is = ap {B = ℕ} (λ (o : Option ℕ). cond (option_eq nat_eq o (Some d)) 1 0) is ∙ on (nat_eq d d) (eq-eqb d d refl)
+refers_to s x d is =
+    ap {B = ℕ} (λ (o : Option ℕ). cond (option_eq nat_eq o (Some d)) 1 0) is ∙ on (nat_eq d d) (eq-eqb d d refl)
 
 pub refers_not : (s : StoreView) (x c d : ℕ) → (head_of s x).cluster ≡ Some d → c ≢ d → refers_at s c x ≡ 0
-refers_not s x c d is ne = ap {B = ℕ} (λ (o : Option ℕ). cond (option_eq nat_eq o (Some c)) 1 0) is ∙ off (nat_eq d c) (ne_eqb d c (λ e. ne (sym e)))
+refers_not s x c d is ne =
+    ap {B = ℕ} (λ (o : Option ℕ). cond (option_eq nat_eq o (Some c)) 1 0) is
+    ∙ off (nat_eq d c) (ne_eqb d c (λ e. ne (sym e)))
 
 pub refers_none : (s : StoreView) (x c : ℕ) → (head_of s x).cluster ≡ None → refers_at s c x ≡ 0
 refers_none s x c is = ap {B = ℕ} (λ (o : Option ℕ). cond (option_eq nat_eq o (Some c)) 1 0) is
 
 -- ---- an mbuf given back, with its reference
-pub free_one : (s t : StoreView) (l m : List ℕ) (i : ℕ) → Freed s t l (i ∷ m) → is_out t i ≡ true → ((c : ℕ) → refers_at s c i ≤ count_of t c) → Freed s (with_mbuf (released_in t (head_of s i).cluster) i None) l m
+pub free_one : (s t : StoreView) (l m : List ℕ) (i : ℕ) → Freed s t l (i ∷ m) → is_out t i ≡ true
+    → ((c : ℕ) → refers_at s c i ≤ count_of t c) → Freed s (with_mbuf (released_in t (head_of s i).cluster) i None) l m
 free_one s t l m i f out known = go (head_of s i).cluster refl
   where
     gone : (u : StoreView) → u.mbufs ≡ t.mbufs → (k : ℕ) → out_at (with_mbuf u i None) k + is_at k i ≡ out_at t k
     gone u e k =
         let lt : i < length u.mbufs = omega (arith, out_below t i out, ap length e) in
         elim (cases_eq k i) [
-          | inl is ↦ subst (λ (j : ℕ). out_at (with_mbuf u i None) j + is_at j i ≡ out_at t j) (sym is) (omega (arith, is_at_same i, on (is_out t i) out, off (is_out (with_mbuf u i None) i) (out_here u i None lt)))
-          | inr ne ↦ omega (arith, is_at_other k i (λ x. ne (sym x)), ap {B = ℕ} (λ b. cond b 1 0) (out_there u i None lt k ne), ap {B = ℕ} (λ (ms : List (Option MbufView)). cond (is_some (slice_index_or ms k None)) 1 0) e)
+          | inl is ↦ subst (λ (j : ℕ). out_at (with_mbuf u i None) j + is_at j i ≡ out_at t j) (sym is)
+              (omega (
+                arith,
+                is_at_same i,
+                on (is_out t i) out,
+                off (is_out (with_mbuf u i None) i) (out_here u i None lt),
+              ))
+          | inr ne ↦ omega (
+            arith,
+            is_at_other k i (λ x. ne (sym x)),
+            ap {B = ℕ} (λ b. cond b 1 0) (out_there u i None lt k ne),
+            ap {B = ℕ} (λ (ms : List (Option MbufView)). cond (is_some (slice_index_or ms k None)) 1 0) e,
+          )
         ]
 
     less : (u : StoreView) → u.mbufs ≡ t.mbufs → mbufs_out (with_mbuf u i None) + 1 ≡ mbufs_out t
     less u e =
         let lt : i < length u.mbufs = omega (arith, out_below t i out, ap length e) in
-        omega (arith, outs_total u i None lt, ap (λ (ms : List (Option MbufView)). count_by is_some ms) e, ap {B = ℕ} (λ (ms : List (Option MbufView)). cond (is_some (slice_index_or ms i None)) 1 0) e, on (is_out t i) out)
+        omega (
+          arith,
+          outs_total u i None lt,
+          ap (λ (ms : List (Option MbufView)). count_by is_some ms) e,
+          ap {B = ℕ} (λ (ms : List (Option MbufView)). cond (is_some (slice_index_or ms i None)) 1 0) e,
+          on (is_out t i) out,
+        )
 
-    same : (u : StoreView) → u.mbufs ≡ t.mbufs → (k : ℕ) → is_out (with_mbuf u i None) k ≡ true → mbuf_of (with_mbuf u i None) k ≡ mbuf_of s k
+    same : (u : StoreView) → u.mbufs ≡ t.mbufs → (k : ℕ) → is_out (with_mbuf u i None) k ≡ true
+        → mbuf_of (with_mbuf u i None) k ≡ mbuf_of s k
     same u e k there =
         let lt : i < length u.mbufs = omega (arith, out_below t i out, ap length e) in
-        let ne : k ≢ i = λ is. absurd (omega (arith, on (is_out (with_mbuf u i None) k) there, ap {B = ℕ} (λ (j : ℕ). out_at (with_mbuf u i None) j) is, off (is_out (with_mbuf u i None) i) (out_here u i None lt))) in
-        mbuf_there u i None lt k ne ∙ ap (λ (ms : List (Option MbufView)). unwrap_or (slice_index_or ms k None) no_mbuf) e
-        ∙ f.kept k (ap (λ (ms : List (Option MbufView)). is_some (slice_index_or ms k None)) (sym e) ∙ sym (out_there u i None lt k ne) ∙ there)
+        let ne : k ≢ i =
+        λ is. absurd (omega (
+          arith,
+          on (is_out (with_mbuf u i None) k) there,
+          ap {B = ℕ} (λ (j : ℕ). out_at (with_mbuf u i None) j) is,
+          off (is_out (with_mbuf u i None) i) (out_here u i None lt),
+        )) in
+        mbuf_there u i None lt k ne ∙ ap (λ (ms : List (Option MbufView)). unwrap_or (slice_index_or ms k None) no_mbuf)
+        e
+        ∙ f.kept k (ap (λ (ms : List (Option MbufView)). is_some (slice_index_or ms k None)) (sym e)
+        ∙ sym (out_there u i None lt k ne) ∙ there)
 
     go : (o : Option ℕ) → (head_of s i).cluster ≡ o → Freed s (with_mbuf (released_in t o) i None) l m
     go None none = record {
@@ -100,22 +146,39 @@ free_one s t l m i f out known = go (head_of s i).cluster refl
         let counted : 0 < count_of t d = omega (arith, known d, refers_to s i d some) in
         let lt : d < length t.clusters = counted_within t d counted in
         let v = released (cluster_of t d) in
-        let here : cluster_of (with_cluster t d (released (cluster_of t d))) d ≡ released (cluster_of t d) = cluster_here t d v lt in
+        let here : cluster_of (with_cluster t d (released (cluster_of t d))) d ≡ released (cluster_of t d) =
+        cluster_here t d v lt in
         record {
           mbufs = length-set t.mbufs i None ∙ f.mbufs;
           clusters = length-set t.clusters d v ∙ f.clusters;
           kept = same (with_cluster t d v) refl;
           bytes = λ c left. elim (cases_eq c d) [
-            | inl is ↦ subst (λ (j : ℕ). 0 < count_of (with_cluster t d (released (cluster_of t d))) j → (cluster_of (with_cluster t d (released (cluster_of t d))) j).bytes ≡ (cluster_of s j).bytes) (sym is)
-                (λ g. ap (λ (w : ClusterView). w.bytes) here ∙ released_bytes (cluster_of t d) counted (omega (arith, g, ap (λ (w : ClusterView). w.count) here)) ∙ f.bytes d counted) left
-            | inr ne ↦ ap (λ (w : ClusterView). w.bytes) (cluster_there t d v lt c ne) ∙ f.bytes c (omega (arith, left, ap (λ (w : ClusterView). w.count) (cluster_there t d v lt c ne)))
+            | inl is ↦ subst (λ (j : ℕ). 0 < count_of (with_cluster t d (released (cluster_of t d))) j
+                → (cluster_of (with_cluster t d (released (cluster_of t d))) j).bytes ≡ (cluster_of s j).bytes) (sym is)
+                (λ g. ap (λ (w : ClusterView). w.bytes) here
+                ∙ released_bytes (cluster_of t d) counted (omega (arith, g, ap (λ (w : ClusterView). w.count) here))
+                ∙ f.bytes d counted) left
+            | inr ne ↦ ap (λ (w : ClusterView). w.bytes) (cluster_there t d v lt c ne)
+                ∙ f.bytes c (omega (arith, left, ap (λ (w : ClusterView). w.count) (cluster_there t d v lt c ne)))
           ];
           once = λ k. omega (arith, f.once k, gone (with_cluster t d v) refl k);
           total = omega (arith, f.total, less (with_cluster t d v) refl);
           counted = λ c. elim (cases_eq c d) [
-            | inl is ↦ subst (λ (j : ℕ). count_of (with_cluster t d (released (cluster_of t d))) j + weigh (refers_at s j) l ≡ count_of s j + weigh (refers_at s j) m) (sym is)
-                (omega (arith, f.counted d, ap (λ (w : ClusterView). w.count) here, released_count (cluster_of t d) counted, refers_to s i d some))
-            | inr ne ↦ omega (arith, f.counted c, ap (λ (w : ClusterView). w.count) (cluster_there t d v lt c ne), refers_not s i c d some ne)
+            | inl is ↦ subst (λ (j : ℕ). count_of (with_cluster t d (released (cluster_of t d))) j
+                + weigh (refers_at s j) l ≡ count_of s j + weigh (refers_at s j) m) (sym is)
+                (omega (
+                  arith,
+                  f.counted d,
+                  ap (λ (w : ClusterView). w.count) here,
+                  released_count (cluster_of t d) counted,
+                  refers_to s i d some,
+                ))
+            | inr ne ↦ omega (
+              arith,
+              f.counted c,
+              ap (λ (w : ClusterView). w.count) (cluster_there t d v lt c ne),
+              refers_not s i c d some ne,
+            )
           ];
         }
 
@@ -126,14 +189,17 @@ pub record Ready (s t : StoreView) (first at : Option ℕ) (i : ℕ) : Type 0 wh
   pub next : (head_of t i).next ≡ (head_of s i).next
   pub whole : IsWhole s (head_of t i).next
   pub shorter : weigh one (cells_from s (head_of t i).next) < weigh one (cells_from s at)
-  pub freed : Freed s (with_mbuf (released_in t (head_of t i).cluster) i None) (cells_from s first) (cells_from s (head_of t i).next)
+  pub freed : Freed s (with_mbuf (released_in t (head_of t i).cluster) i None) (cells_from s first)
+      (cells_from s (head_of t i).next)
 
-pub ready : (s t : StoreView) (first at : Option ℕ) (i : ℕ) → at ≡ Some i → IsFreeable s first → IsWhole s at → Freed s t (cells_from s first) (cells_from s at) → Ready s t first at i
+pub ready : (s t : StoreView) (first at : Option ℕ) (i : ℕ) → at ≡ Some i → IsFreeable s first → IsWhole s at
+    → Freed s t (cells_from s first) (cells_from s at) → Ready s t first at i
 ready s t first at i is own whole f =
     let w = walk_on s at i is whole in
     let is_one : 0 < out_at t i = omega (arith, f.once i, own.once i, ap (weigh (is_at i)) w.cells, is_at_same i) in
     let out : is_out t i ≡ true = bit (is_out t i) is_one in
-    let counts : (c : ℕ) → refers_at s c i ≤ count_of t c = λ c. omega (arith, f.counted c, own.counted c, ap (weigh (refers_at s c)) w.cells) in
+    let counts : (c : ℕ) → refers_at s c i ≤ count_of t c =
+    λ c. omega (arith, f.counted c, own.counted c, ap (weigh (refers_at s c)) w.cells) in
     let head : head_of t i ≡ head_of s i = ap (λ (m : MbufView). m.head) (f.kept i out) in
     let next : (head_of t i).next ≡ (head_of s i).next = ap (λ (h : Head). h.next) head in
     record {
@@ -142,8 +208,11 @@ ready s t first at i is own whole f =
       next = next;
       whole = subst (IsWhole s) (sym next) w.whole;
       shorter = omega (arith, ap (weigh one) w.cells, ap (λ (o : Option ℕ). weigh one (cells_from s o)) next);
-      freed = subst (λ (h : Head). Freed s (with_mbuf (released_in t h.cluster) i None) (cells_from s first) (cells_from s h.next)) (sym head)
-          (free_one s t (cells_from s first) (cells_from s (head_of s i).next) i (subst (Freed s t (cells_from s first)) w.cells f) out counts);
+      freed =
+          subst (λ (h : Head). Freed s (with_mbuf (released_in t h.cluster) i None) (cells_from s first)
+          (cells_from s h.next)) (sym head)
+          (free_one s t (cells_from s first) (cells_from s (head_of s i).next) i
+          (subst (Freed s t (cells_from s first)) w.cells f) out counts);
     }
 
 -- ---- an mbuf taken

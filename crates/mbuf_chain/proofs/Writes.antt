@@ -23,29 +23,45 @@ pub record PlaceWrite (s t : StoreView) (x start : ℕ) (ws : List ℕ) : Type 0
   pub outs : SameOuts s t
   pub heads : (k : ℕ) → head_of t k ≡ head_of s k
   pub bytes : place_bytes t x (head_of s x).cluster ≡ over (place_bytes s x (head_of s x).cluster) start ws
-  pub others : (k : ℕ) → k ≢ x → ((d : ℕ) → (head_of s x).cluster ≡ Some d → (head_of s k).cluster ≡ Some d → ⊥) → SameCell s t k
+  pub others : (k : ℕ) → k ≢ x → ((d : ℕ) → (head_of s x).cluster ≡ Some d → (head_of s k).cluster ≡ Some d → ⊥)
+      → SameCell s t k
 
-in_mbuf : (s : StoreView) (x start : ℕ) (ws : List ℕ) → is_out s x ≡ true → (head_of s x).cluster ≡ None → PlaceWrite s (with_bytes s (buffer_of x None) (over (bytes_in s (buffer_of x None)) start ws)) x start ws
+in_mbuf : (s : StoreView) (x start : ℕ) (ws : List ℕ) → is_out s x ≡ true → (head_of s x).cluster ≡ None
+    → PlaceWrite s (with_bytes s (buffer_of x None) (over (bytes_in s (buffer_of x None)) start ws)) x start ws
 in_mbuf s x start ws out none =
     let m : MbufView = record { head = head_of s x; bytes = over (mbuf_of s x).bytes start ws } in
     let lt = out_below s x out in
-    let here : mbuf_of (with_mbuf s x (Some (record { head = head_of s x; bytes = over (mbuf_of s x).bytes start ws }))) x ≡ record { head = head_of s x; bytes = over (mbuf_of s x).bytes start ws } =
+    let here : mbuf_of (with_mbuf s x (Some (record { head = head_of s x; bytes = over (mbuf_of s x).bytes start ws })))
+    x ≡ record { head = head_of s x; bytes = over (mbuf_of s x).bytes start ws } =
     ap (λ (o : Option MbufView). unwrap_or o no_mbuf) (slot_here s x (Some m) lt) in
     record {
       outs = same_outs s x m out;
       heads = λ k. elim (cases_eq k x) [
-        | inl e ↦ subst (λ (j : ℕ). head_of (with_mbuf s x (Some (record { head = head_of s x; bytes = over (mbuf_of s x).bytes start ws }))) j ≡ head_of s j) (sym e) (ap (λ (v : MbufView). v.head) here)
+        | inl e ↦ subst (λ (j : ℕ). head_of
+            (with_mbuf s x (Some (record { head = head_of s x; bytes = over (mbuf_of s x).bytes start ws }))) j
+            ≡ head_of s j) (sym e) (ap (λ (v : MbufView). v.head) here)
         | inr ne ↦ ap (λ (v : MbufView). v.head) (mbuf_there s x (Some m) lt k ne)
       ];
-      bytes = subst (λ (o : Option ℕ). place_bytes (with_mbuf s x (Some (record { head = head_of s x; bytes = over (mbuf_of s x).bytes start ws }))) x o ≡ over (place_bytes s x o) start ws) (sym none) (ap (λ (v : MbufView). v.bytes) here);
-      others = λ k ne _. same_cell s (with_mbuf s x (Some m)) k (mbuf_there s x (Some m) lt k ne) (out_there s x (Some m) lt k ne) (λ d is. refl);
+      bytes =
+          subst (λ (o : Option ℕ). place_bytes
+          (with_mbuf s x (Some (record { head = head_of s x; bytes = over (mbuf_of s x).bytes start ws }))) x o
+          ≡ over (place_bytes s x o) start ws) (sym none) (ap (λ (v : MbufView). v.bytes) here);
+      others =
+          λ k ne _. same_cell s (with_mbuf s x (Some m)) k (mbuf_there s x (Some m) lt k ne)
+          (out_there s x (Some m) lt k ne) (λ d is. refl);
     }
 
-in_cluster : (s : StoreView) (x d start : ℕ) (ws : List ℕ) → (head_of s x).cluster ≡ Some d → 0 < count_of s d → PlaceWrite s (with_bytes s (buffer_of x (Some d)) (over (bytes_in s (buffer_of x (Some d))) start ws)) x start ws
+in_cluster : (s : StoreView) (x d start : ℕ) (ws : List ℕ) → (head_of s x).cluster ≡ Some d → 0 < count_of s d
+    → PlaceWrite s (with_bytes s (buffer_of x (Some d)) (over (bytes_in s (buffer_of x (Some d))) start ws)) x start ws
 in_cluster s x d start ws some counted =
     let v : ClusterView = record { count = count_of s d; bytes = over (cluster_of s d).bytes start ws } in
     let lt = counted_within s d counted in
-    let here : cluster_of (with_cluster s d (record { count = count_of s d; bytes = over (cluster_of s d).bytes start ws })) d ≡ record { count = count_of s d; bytes = over (cluster_of s d).bytes start ws } = cluster_here s d v lt in
+    let here : cluster_of (with_cluster s d
+    (record { count = count_of s d; bytes = over (cluster_of s d).bytes start ws })) d ≡ record {
+      count =
+          count_of s d;
+      bytes = over (cluster_of s d).bytes start ws;
+    } = cluster_here s d v lt in
     record {
       outs = record {
         mbufs = refl;
@@ -53,22 +69,38 @@ in_cluster s x d start ws some counted =
         outs = λ k. refl;
         total = refl;
         counts = λ c. elim (cases_eq c d) [
-          | inl e ↦ subst (λ (j : ℕ). count_of (with_cluster s d (record { count = count_of s d; bytes = over (cluster_of s d).bytes start ws })) j ≡ count_of s j) (sym e) (ap (λ (w : ClusterView). w.count) here)
+          | inl e ↦ subst (λ (j : ℕ). count_of
+              (with_cluster s d (record { count = count_of s d; bytes = over (cluster_of s d).bytes start ws })) j
+              ≡ count_of s j) (sym e) (ap (λ (w : ClusterView). w.count) here)
           | inr ne ↦ ap (λ (w : ClusterView). w.count) (cluster_there s d v lt c ne)
         ];
       };
       heads = λ k. refl;
-      bytes = subst (λ (o : Option ℕ). place_bytes (with_cluster s d (record { count = count_of s d; bytes = over (cluster_of s d).bytes start ws })) x o ≡ over (place_bytes s x o) start ws) (sym some) (ap (λ (w : ClusterView). w.bytes) here);
-      others = λ k ne apart. same_cell s (with_cluster s d v) k refl refl (λ c is. ap (λ (w : ClusterView). w.bytes) (cluster_there s d v lt c (λ e. absurd (apart d some (is ∙ ap {B = Option ℕ} Some e)))));
+      bytes =
+          subst (λ (o : Option ℕ). place_bytes
+          (with_cluster s d (record { count = count_of s d; bytes = over (cluster_of s d).bytes start ws })) x o
+          ≡ over (place_bytes s x o) start ws) (sym some) (ap (λ (w : ClusterView). w.bytes) here);
+      others =
+          λ k ne apart. same_cell s (with_cluster s d v) k refl refl
+          (λ c is. ap (λ (w : ClusterView). w.bytes)
+          (cluster_there s d v lt c (λ e. absurd (apart d some (is ∙ ap {B = Option ℕ} Some e)))));
     }
 
-pub place_written : (s t : StoreView) (x start : ℕ) (ws : List ℕ) → is_out s x ≡ true → ((d : ℕ) → (head_of s x).cluster ≡ Some d → 0 < count_of s d)
-    → t ≡ with_bytes s (buffer_of x (head_of s x).cluster) (over (bytes_in s (buffer_of x (head_of s x).cluster)) start ws) → PlaceWrite s t x start ws
+pub place_written : (s t : StoreView) (x start : ℕ) (ws : List ℕ) → is_out s x ≡ true
+    → ((d : ℕ) → (head_of s x).cluster ≡ Some d → 0 < count_of s d)
+    → t ≡ with_bytes s (buffer_of x (head_of s x).cluster)
+    (over (bytes_in s (buffer_of x (head_of s x).cluster)) start ws) → PlaceWrite s t x start ws
 place_written s t x start ws out counted is = go (head_of s x).cluster refl
   where
     go : (o : Option ℕ) → (head_of s x).cluster ≡ o → PlaceWrite s t x start ws
-    go None e = subst (λ (u : StoreView). PlaceWrite s u x start ws) (sym (is ∙ ap (λ (o : Option ℕ). with_bytes s (buffer_of x o) (over (bytes_in s (buffer_of x o)) start ws)) e)) (in_mbuf s x start ws out e)
-    go (Some d) e = subst (λ (u : StoreView). PlaceWrite s u x start ws) (sym (is ∙ ap (λ (o : Option ℕ). with_bytes s (buffer_of x o) (over (bytes_in s (buffer_of x o)) start ws)) e)) (in_cluster s x d start ws e (counted d e))
+    go None e =
+        subst (λ (u : StoreView). PlaceWrite s u x start ws)
+        (sym (is ∙ ap (λ (o : Option ℕ). with_bytes s (buffer_of x o) (over (bytes_in s (buffer_of x o)) start ws)) e))
+        (in_mbuf s x start ws out e)
+    go (Some d) e =
+        subst (λ (u : StoreView). PlaceWrite s u x start ws)
+        (sym (is ∙ ap (λ (o : Option ℕ). with_bytes s (buffer_of x o) (over (bytes_in s (buffer_of x o)) start ws)) e))
+        (in_cluster s x d start ws e (counted d e))
 
 -- ---- nobody else shows the bytes
 abbrev flat : List (List ℕ) → List ℕ
@@ -83,86 +115,145 @@ weigh_flat f (l ∷ ls) = omega (arith, weigh_on l (flat ls), weigh_flat f ls)
     weigh_on [] b = omega arith
     weigh_on (x ∷ a) b = omega (arith, weigh_on a b)
 
-two_in : (f : ℕ → ℕ) (x k : ℕ) (l : List ℕ) → k ≢ x → 0 < weigh (is_at x) l → 0 < weigh (is_at k) l → f x + f k ≤ weigh f l
+two_in : (f : ℕ → ℕ) (x k : ℕ) (l : List ℕ) → k ≢ x → 0 < weigh (is_at x) l → 0 < weigh (is_at k) l
+    → f x + f k ≤ weigh f l
 two_in f x k [] ne a b = absurd (omega arith)
 two_in f x k (y ∷ ys) ne a b =
     elim (cases_eq y x) [
       | inl e ↦ omega (arith, ap f e, weigh_has f k ys (omega (arith, b, is_at_other k y (λ w. ne (sym w ∙ e)))))
       | inr nx ↦ elim (cases_eq y k) [
         | inl e ↦ omega (arith, ap f e, weigh_has f x ys (omega (arith, a, is_at_other x y nx)))
-        | inr nk ↦ omega (arith, two_in f x k ys ne (omega (arith, a, is_at_other x y nx)) (omega (arith, b, is_at_other k y nk)))
+        | inr nk ↦ omega (
+          arith,
+          two_in f x k ys ne (omega (arith, a, is_at_other x y nx))
+              (omega (arith, b, is_at_other k y nk)),
+        )
       ]
     ]
 
 -- an mbuf whose cluster has one reference shares it with none
-sole : (s : StoreView) (c x d : ℕ) → (f : Focused s c) → 0 < weigh (is_at x) f.cells → count_of s d ≡ 1 → (head_of s x).cluster ≡ Some d → (k : ℕ) → k ≢ x → 0 < weigh (is_at k) f.cells + weigh_all (is_at k) f.rest → (head_of s k).cluster ≡ Some d → ⊥
+sole : (s : StoreView) (c x d : ℕ) → (f : Focused s c) → 0 < weigh (is_at x) f.cells → count_of s d ≡ 1
+    → (head_of s x).cluster ≡ Some d → (k : ℕ) → k ≢ x → 0 < weigh (is_at k) f.cells + weigh_all (is_at k) f.rest
+    → (head_of s k).cluster ≡ Some d → ⊥
 sole s c x d f inside one_ref is k ne there same =
-    absurd (omega (arith, two_in (refers_at s d) x k (flat (f.cells ∷ f.rest)) ne (omega (arith, weigh_flat (is_at x) (f.cells ∷ f.rest), inside)) (omega (arith, weigh_flat (is_at k) (f.cells ∷ f.rest), there)), weigh_flat (refers_at s d) (f.cells ∷ f.rest), f.sound.counted d, refers_to s x d is, refers_to s k d same, one_ref))
+    absurd (omega (
+      arith,
+      two_in (refers_at s d) x k (flat (f.cells ∷ f.rest)) ne
+          (omega (arith, weigh_flat (is_at x) (f.cells ∷ f.rest), inside))
+          (omega (arith, weigh_flat (is_at k) (f.cells ∷ f.rest), there)),
+      weigh_flat (refers_at s d) (f.cells ∷ f.rest),
+      f.sound.counted d,
+      refers_to s x d is,
+      refers_to s k d same,
+      one_ref,
+    ))
 
 -- ---- a write in a live chain
 pub record Written (s t : StoreView) (c : ℕ) (at : Place) (start : ℕ) (ws : List ℕ) : Type 0 where
   pub pool : IsPool t
   pub writes : WritesPlace s t c at start ws
 
-pub written : (s t : StoreView) (c start : ℕ) (ws : List ℕ) (at : Place) → IsPool s → IsLive (pool_of s) c → IsPlace (chain_of (pool_of s) c) at → IsUnshared (pool_of s) (entry_of (chain_of (pool_of s) c) at.index)
+pub written : (s t : StoreView) (c start : ℕ) (ws : List ℕ) (at : Place) → IsPool s → IsLive (pool_of s) c
+    → IsPlace (chain_of (pool_of s) c) at → IsUnshared (pool_of s) (entry_of (chain_of (pool_of s) c) at.index)
     → PlaceWrite s t at.cell start ws → IsStore t → Written s t c at start ws
 written s t c start ws at pool live place unshared w store =
     let o = open_on s c pool live in
     let f = o.at in
     let e = enter s c at o.at place in
     let x = at.cell in
-    let ref : (d : ℕ) → (head_of s at.cell).cluster ≡ Some d → count_of s d ≡ 1 = λ d is. sym (unreferenced s pool d) ∙ unshared d (ap (λ (y : Entry). y.cluster) e.shows ∙ is) in
+    let ref : (d : ℕ) → (head_of s at.cell).cluster ≡ Some d → count_of s d ≡ 1 =
+    λ d is. sym (unreferenced s pool d) ∙ unshared d (ap (λ (y : Entry). y.cluster) e.shows ∙ is) in
     let r = changed s t c at.index at.cell o.at e.below e.cell w.outs store (record {
       next = ap (λ (y : Head). y.next) (w.heads at.cell);
       cluster = ap (λ (y : Head). y.cluster) (w.heads at.cell);
       out = w.outs.outs at.cell ∙ e.out;
       fit = subst IsFit (sym (w.heads at.cell)) e.fit;
-    }) (λ k ne out there. w.others k ne (λ d is same. sole s c at.cell d o.at e.inside (ref d is) is k ne there same)) (λ _ was. subst Rattle.mbuf_chain.specs.Inside.Cells.IsFollower (sym (w.heads at.cell)) was) in
+    }) (λ k ne out there. w.others k ne (λ d is same. sole s c at.cell d o.at e.inside (ref d is) is k ne there
+    same)) (λ _ was. subst Rattle.mbuf_chain.specs.Inside.Cells.IsFollower (sym (w.heads at.cell)) was) in
     let entry : entry_at t at.cell ≡ entry_over s at.cell start ws =
-    ap (entry_from t at.cell) (w.heads at.cell) ∙ (λ i. record { bytes = take (head_of s at.cell).len (drop (head_of s at.cell).start (w.bytes i)); start = (head_of s at.cell).start; cluster = (head_of s at.cell).cluster }) in
+    ap (entry_from t at.cell) (w.heads at.cell)
+    ∙ (λ i. record {
+      bytes = take (head_of s at.cell).len (drop (head_of s at.cell).start (w.bytes i));
+      start = (head_of s at.cell).start;
+      cluster = (head_of s at.cell).cluster;
+    }) in
     record {
       pool = (
         f.cells ∷ f.rest,
         r.sound,
         (
-          λ packet is. omega (arith, o.totals.0 packet (ap (λ (y : Head). y.packet) (sym (w.heads (first_of o.at.cells))) ∙ is), r.lens, ap (λ (y : Head). y.len) (w.heads at.cell)),
+          λ packet is. omega (
+            arith,
+            o.totals.0 packet
+                (ap (λ (y : Head). y.packet) (sym (w.heads (first_of o.at.cells))) ∙ is),
+            r.lens,
+            ap (λ (y : Head). y.len) (w.heads at.cell),
+          ),
           r.totals o.totals.1,
         ),
       );
       writes = record {
         head = w.heads at.cell;
         bytes = w.bytes;
-        map_is = changed_entry s t c at.index at.cell f r (ap front_of (w.heads c)) ∙ ap (λ (y : Entry). with_chain (pool_of s) c (with_entry (chain_of (pool_of s) c) at.index y)) entry;
+        map_is =
+            changed_entry s t c at.index at.cell f r (ap front_of (w.heads c))
+            ∙ ap (λ (y : Entry). with_chain (pool_of s) c (with_entry (chain_of (pool_of s) c) at.index y)) entry;
       };
     }
 
 -- ---- the room of a write
-pub room_of : (s : StoreView) (c start n : ℕ) (at : Place) → Shown s c at → ((d : ℕ) → (head_of s at.cell).cluster ≡ Some d → 0 < count_of s d) → room_low (head_of s at.cell) ≤ start → start + n ≤ room_high (head_of s at.cell)
+pub room_of : (s : StoreView) (c start n : ℕ) (at : Place) → Shown s c at
+    → ((d : ℕ) → (head_of s at.cell).cluster ≡ Some d → 0 < count_of s d) → room_low (head_of s at.cell) ≤ start
+    → start + n ≤ room_high (head_of s at.cell)
     → IsRoom s (buffer_of at.cell (head_of s at.cell).cluster) start n
 room_of s c start n at k counted low high = go (head_of s at.cell).cluster refl
   where
-    go : (o : Option ℕ) → (head_of s at.cell).cluster ≡ o → IsRoom s (buffer_of at.cell (head_of s at.cell).cluster) start n
-    go None e = subst (λ (o : Option ℕ). IsRoom s (buffer_of at.cell o) start n) (sym e) (k.out, e, omega (arith, low_is (head_of s at.cell) e, low), omega (arith, high, ap (λ (o : Option ℕ). cond {A = ℕ} (is_some o) 2048 128) e))
-    go (Some d) e = subst (λ (o : Option ℕ). IsRoom s (buffer_of at.cell o) start n) (sym e) (counted d e, omega (arith, high, ap (λ (o : Option ℕ). cond {A = ℕ} (is_some o) 2048 128) e))
+    go : (o : Option ℕ) → (head_of s at.cell).cluster ≡ o
+        → IsRoom s (buffer_of at.cell (head_of s at.cell).cluster) start n
+    go None e =
+        subst (λ (o : Option ℕ). IsRoom s (buffer_of at.cell o) start n) (sym e) (
+          k.out,
+          e,
+          omega (arith, low_is (head_of s at.cell) e, low),
+          omega (arith, high, ap (λ (o : Option ℕ). cond {A = ℕ} (is_some o) 2048 128) e),
+        )
+    go (Some d) e =
+        subst (λ (o : Option ℕ). IsRoom s (buffer_of at.cell o) start n) (sym e)
+        (counted d e, omega (arith, high, ap (λ (o : Option ℕ). cond {A = ℕ} (is_some o) 2048 128) e))
 
-pub write_is : (s : StoreView) (p : Part) (ws : List ℕ) → p.len ≡ length ws → write s p ws ≡ with_bytes s p.buffer (over (bytes_in s p.buffer) p.start ws)
-write_is s p ws e = ap (λ (l : List ℕ). with_bytes s p.buffer (over (bytes_in s p.buffer) p.start l)) (take_all p.len ws (omega (arith, e)))
+pub write_is : (s : StoreView) (p : Part) (ws : List ℕ) → p.len ≡ length ws
+    → write s p ws ≡ with_bytes s p.buffer (over (bytes_in s p.buffer) p.start ws)
+write_is s p ws e =
+    ap (λ (l : List ℕ). with_bytes s p.buffer (over (bytes_in s p.buffer) p.start l))
+    (take_all p.len ws (omega (arith, e)))
 
 -- ---- rooms as a caller sees them
-pub high_seen : (s : StoreView) (c : ℕ) (at : Place) → Shown s c at → room_high (head_of s at.cell) ≡ room_end (entry_of (chain_of (pool_of s) c) at.index)
+pub high_seen : (s : StoreView) (c : ℕ) (at : Place) → Shown s c at
+    → room_high (head_of s at.cell) ≡ room_end (entry_of (chain_of (pool_of s) c) at.index)
 high_seen s c at k = ap (λ (e : Entry). cond {A = ℕ} (is_some e.cluster) 2048 128) (sym k.entry)
 
 -- a write after or in front of the bytes that an mbuf shows leaves the pool
-pub same_pool : (s t : StoreView) (c start : ℕ) (ws : List ℕ) (at : Place) → IsLive (pool_of s) c → Shown s c at → WritesPlace s t c at start ws → start + length ws ≤ room_high (head_of s at.cell)
-    → ((head_of s at.cell).start + (head_of s at.cell).len ≤ start) ⊎ (start + length ws ≤ (head_of s at.cell).start) → pool_of t ≡ pool_of s
+pub same_pool : (s t : StoreView) (c start : ℕ) (ws : List ℕ) (at : Place) → IsLive (pool_of s) c → Shown s c at
+    → WritesPlace s t c at start ws → start + length ws ≤ room_high (head_of s at.cell)
+    → ((head_of s at.cell).start + (head_of s at.cell).len ≤ start) ⊎ (start + length ws ≤ (head_of s at.cell).start)
+    → pool_of t ≡ pool_of s
 same_pool s t c start ws at live k w fits apart =
     let h = head_of s at.cell in
-    let bytes : take (head_of s at.cell).len (drop (head_of s at.cell).start (over (place_bytes s at.cell (head_of s at.cell).cluster) start ws)) ≡ take (head_of s at.cell).len (drop (head_of s at.cell).start (place_bytes s at.cell (head_of s at.cell).cluster)) =
-    run_apart (place_bytes s at.cell (head_of s at.cell).cluster) start ws (head_of s at.cell).start (head_of s at.cell).len (omega (arith, k.place, fits)) (omega (arith, k.place, k.fit.high)) (turn apart) in
-    let entry : entry_over s at.cell start ws ≡ entry_at s at.cell = λ i. record { bytes = bytes i; start = h.start; cluster = h.cluster } in
-    w.map_is ∙ ap (with_chain (pool_of s) c) (with_entry_same (chain_of (pool_of s) c) at.index (entry_over s at.cell start ws) (k.entry ∙ sym entry)) ∙ with_self (pool_of s) c live
+    let bytes : take (head_of s at.cell).len
+    (drop (head_of s at.cell).start (over (place_bytes s at.cell (head_of s at.cell).cluster) start ws))
+    ≡ take (head_of s at.cell).len
+    (drop (head_of s at.cell).start (place_bytes s at.cell (head_of s at.cell).cluster)) =
+    run_apart (place_bytes s at.cell (head_of s at.cell).cluster) start ws (head_of s at.cell).start
+    (head_of s at.cell).len (omega (arith, k.place, fits)) (omega (arith, k.place, k.fit.high)) (turn apart) in
+    let entry : entry_over s at.cell start ws ≡ entry_at s at.cell =
+    λ i. record { bytes = bytes i; start = h.start; cluster = h.cluster } in
+    w.map_is ∙ ap (with_chain (pool_of s) c)
+    (with_entry_same (chain_of (pool_of s) c) at.index (entry_over s at.cell start ws) (k.entry ∙ sym entry))
+    ∙ with_self (pool_of s) c live
   where
-    turn : ((head_of s at.cell).start + (head_of s at.cell).len ≤ start) ⊎ (start + length ws ≤ (head_of s at.cell).start) → (start + length ws ≤ (head_of s at.cell).start) ⊎ ((head_of s at.cell).start + (head_of s at.cell).len ≤ start)
+    turn : ((head_of s at.cell).start + (head_of s at.cell).len ≤ start)
+        ⊎ (start + length ws ≤ (head_of s at.cell).start)
+        → (start + length ws ≤ (head_of s at.cell).start) ⊎ ((head_of s at.cell).start + (head_of s at.cell).len ≤ start)
     turn (inl a) = inr a
     turn (inr a) = inl a
 
@@ -173,8 +264,11 @@ pub record Grown (s t : StoreView) (c : ℕ) (at : Place) : Type 0 where
   pub same : pool_of t ≡ pool_of s
   pub head : head_of t at.cell ≡ head_of s at.cell
 
-pub grown : (s t : StoreView) (c start : ℕ) (ws : List ℕ) (at : Place) → IsPool s → IsLive (pool_of s) c → IsPlace (chain_of (pool_of s) c) at → WritesPlace s t c at start ws → start + length ws ≤ room_high (head_of s at.cell)
-    → ((head_of s at.cell).start + (head_of s at.cell).len ≤ start) ⊎ (start + length ws ≤ (head_of s at.cell).start) → Grown s t c at
+pub grown : (s t : StoreView) (c start : ℕ) (ws : List ℕ) (at : Place) → IsPool s → IsLive (pool_of s) c
+    → IsPlace (chain_of (pool_of s) c) at → WritesPlace s t c at start ws
+    → start + length ws ≤ room_high (head_of s at.cell)
+    → ((head_of s at.cell).start + (head_of s at.cell).len ≤ start) ⊎ (start + length ws ≤ (head_of s at.cell).start)
+    → Grown s t c at
 grown s t c start ws at pool live place w fits apart =
     let same = same_pool s t c start ws at live (shown_at s c at pool live place) w fits apart in
     record {
@@ -185,41 +279,82 @@ grown s t c start ws at pool live place w fits apart =
     }
 
 -- the entry then: with the bytes after its own, or in front of them
-pub grown_back : (s t : StoreView) (c n : ℕ) (ws : List ℕ) (at : Place) → Shown s c at → WritesPlace s t c at ((head_of s at.cell).start + (head_of s at.cell).len) ws → n ≡ length ws → (head_of s at.cell).start + (head_of s at.cell).len + length ws ≤ room_high (head_of s at.cell)
-    → entry_from t at.cell (with_segment (head_of t at.cell) (head_of s at.cell).start ((head_of s at.cell).len + n)) ≡ with_back (entry_of (chain_of (pool_of s) c) at.index) ws
+pub grown_back : (s t : StoreView) (c n : ℕ) (ws : List ℕ) (at : Place) → Shown s c at
+    → WritesPlace s t c at ((head_of s at.cell).start + (head_of s at.cell).len) ws → n ≡ length ws
+    → (head_of s at.cell).start + (head_of s at.cell).len + length ws ≤ room_high (head_of s at.cell)
+    → entry_from t at.cell (with_segment (head_of t at.cell) (head_of s at.cell).start ((head_of s at.cell).len + n))
+    ≡ with_back (entry_of (chain_of (pool_of s) c) at.index) ws
 grown_back s t c n ws at k w count fits =
     let h = head_of s at.cell in
-    (λ i. record { bytes = take (h.len + count i) (drop h.start (place_bytes t at.cell (w.head i).cluster)); start = h.start; cluster = (w.head i).cluster })
-    ∙ (λ i. record { bytes = (ap (λ (xs : List ℕ). take (h.len + length ws) (drop h.start xs)) w.bytes ∙ written_after (place_bytes s at.cell (head_of s at.cell).cluster) (head_of s at.cell).start (head_of s at.cell).len ws (omega (arith, k.place, fits))) i; start = h.start; cluster = h.cluster })
+    (λ i. record {
+      bytes = take (h.len + count i) (drop h.start (place_bytes t at.cell (w.head i).cluster));
+      start = h.start;
+      cluster = (w.head i).cluster;
+    })
+    ∙ (λ i. record {
+      bytes = (ap (λ (xs : List ℕ). take (h.len + length ws) (drop h.start xs)) w.bytes
+          ∙ written_after (place_bytes s at.cell (head_of s at.cell).cluster) (head_of s at.cell).start
+          (head_of s at.cell).len ws (omega (arith, k.place, fits))) i;
+      start = h.start;
+      cluster = h.cluster;
+    })
     ∙ ap (λ (e : Entry). with_back e ws) (sym k.entry)
 
-pub grown_front : (s t : StoreView) (c n start : ℕ) (ws : List ℕ) (at : Place) → Shown s c at → WritesPlace s t c at start ws → n ≡ length ws → start + length ws ≡ (head_of s at.cell).start
-    → entry_from t at.cell (with_segment (head_of t at.cell) start ((head_of s at.cell).len + n)) ≡ with_front (entry_of (chain_of (pool_of s) c) at.index) ws
+pub grown_front : (s t : StoreView) (c n start : ℕ) (ws : List ℕ) (at : Place) → Shown s c at
+    → WritesPlace s t c at start ws → n ≡ length ws → start + length ws ≡ (head_of s at.cell).start
+    → entry_from t at.cell (with_segment (head_of t at.cell) start ((head_of s at.cell).len + n))
+    ≡ with_front (entry_of (chain_of (pool_of s) c) at.index) ws
 grown_front s t c n start ws at k w count is =
     let h = head_of s at.cell in
     let less : start ≡ (head_of s at.cell).start - length ws = omega (arith, is) in
-    (λ i. record { bytes = take (h.len + count i) (drop start (place_bytes t at.cell (w.head i).cluster)); start = start; cluster = (w.head i).cluster })
-    ∙ (λ i. record { bytes = (ap (λ (xs : List ℕ). take (h.len + length ws) (drop start xs)) w.bytes ∙ written_before (place_bytes s at.cell (head_of s at.cell).cluster) (head_of s at.cell).start start (head_of s at.cell).len ws is (omega (arith, k.place, k.fit.high))) i; start = less i; cluster = h.cluster })
+    (λ i. record {
+      bytes = take (h.len + count i) (drop start (place_bytes t at.cell (w.head i).cluster));
+      start = start;
+      cluster = (w.head i).cluster;
+    })
+    ∙ (λ i. record {
+      bytes = (ap (λ (xs : List ℕ). take (h.len + length ws) (drop start xs)) w.bytes
+          ∙ written_before (place_bytes s at.cell (head_of s at.cell).cluster) (head_of s at.cell).start start
+          (head_of s at.cell).len ws is (omega (arith, k.place, k.fit.high))) i;
+      start = less i;
+      cluster = h.cluster;
+    })
     ∙ ap (λ (e : Entry). with_front e ws) (sym k.entry)
 
 -- the entry with bytes written over its own
-pub overwritten_is : (s : StoreView) (c offset : ℕ) (ws : List ℕ) (at : Place) → Shown s c at → offset + length ws ≤ (head_of s at.cell).len
-    → entry_over s at.cell ((head_of s at.cell).start + offset) ws ≡ overwritten (entry_of (chain_of (pool_of s) c) at.index) offset ws
+pub overwritten_is : (s : StoreView) (c offset : ℕ) (ws : List ℕ) (at : Place) → Shown s c at
+    → offset + length ws ≤ (head_of s at.cell).len
+    → entry_over s at.cell ((head_of s at.cell).start + offset) ws
+    ≡ overwritten (entry_of (chain_of (pool_of s) c) at.index) offset ws
 overwritten_is s c offset ws at k within =
     let h = head_of s at.cell in
-    (λ i. record { bytes = written_within (place_bytes s at.cell (head_of s at.cell).cluster) (head_of s at.cell).start (head_of s at.cell).len offset ws (omega (arith, k.place, k.fit.high)) within i; start = h.start; cluster = h.cluster })
+    (λ i. record {
+      bytes = written_within (place_bytes s at.cell (head_of s at.cell).cluster) (head_of s at.cell).start
+          (head_of s at.cell).len offset ws (omega (arith, k.place, k.fit.high)) within i;
+      start =
+          h.start;
+      cluster = h.cluster;
+    })
     ∙ ap (λ (e : Entry). overwritten e offset ws) (sym k.entry)
 
 -- both parts of a change
-pub grown_is : (s t u : StoreView) (c : ℕ) (at : Place) (e : Entry) (e' : Entry) → pool_of t ≡ pool_of s → pool_of u ≡ with_chain (pool_of t) c (with_entry (chain_of (pool_of t) c) at.index e) → e ≡ e' → pool_of u ≡ with_chain (pool_of s) c (with_entry (chain_of (pool_of s) c) at.index e')
-grown_is s t u c at e e' same change is = change ∙ (λ i. with_chain (same i) c (with_entry (chain_of (same i) c) at.index (is i)))
+pub grown_is : (s t u : StoreView) (c : ℕ) (at : Place) (e : Entry) (e' : Entry) → pool_of t ≡ pool_of s
+    → pool_of u ≡ with_chain (pool_of t) c (with_entry (chain_of (pool_of t) c) at.index e) → e ≡ e'
+    → pool_of u ≡ with_chain (pool_of s) c (with_entry (chain_of (pool_of s) c) at.index e')
+grown_is s t u c at e e' same change is =
+    change ∙ (λ i. with_chain (same i) c (with_entry (chain_of (same i) c) at.index (is i)))
 
 -- bytes of an entry as those of its place
-pub entry_bytes : (s : StoreView) (c skip n start : ℕ) (b : Buffer) (at : Place) → Shown s c at → b ≡ buffer_of at.cell (head_of s at.cell).cluster → start ≡ (head_of s at.cell).start + skip → skip + n ≤ length (entry_of (chain_of (pool_of s) c) at.index).bytes
+pub entry_bytes : (s : StoreView) (c skip n start : ℕ) (b : Buffer) (at : Place) → Shown s c at
+    → b ≡ buffer_of at.cell (head_of s at.cell).cluster → start ≡ (head_of s at.cell).start + skip
+    → skip + n ≤ length (entry_of (chain_of (pool_of s) c) at.index).bytes
     → take n (drop start (bytes_in s b)) ≡ take n (drop skip (entry_of (chain_of (pool_of s) c) at.index).bytes)
 entry_bytes s c skip n start b at k is begins within =
-    (λ i. take n (drop (begins i) (bytes_in s (is i)))) ∙ ap (λ (xs : List ℕ). take n (drop ((head_of s at.cell).start + skip) xs)) (same (head_of s at.cell).cluster)
-    ∙ sym (Rattle.mbuf_chain.proofs.Bytes.run_inner (place_bytes s at.cell (head_of s at.cell).cluster) (head_of s at.cell).start (head_of s at.cell).len skip n (omega (arith, k.place, k.fit.high)) (omega (arith, k.long, within)))
+    (λ i. take n (drop (begins i) (bytes_in s (is i))))
+    ∙ ap (λ (xs : List ℕ). take n (drop ((head_of s at.cell).start + skip) xs)) (same (head_of s at.cell).cluster)
+    ∙ sym (Rattle.mbuf_chain.proofs.Bytes.run_inner (place_bytes s at.cell (head_of s at.cell).cluster)
+    (head_of s at.cell).start (head_of s at.cell).len skip n (omega (arith, k.place, k.fit.high))
+    (omega (arith, k.long, within)))
     ∙ ap (λ (e : Entry). take n (drop skip e.bytes)) (sym k.entry)
   where
     same : (o : Option ℕ) → bytes_in s (buffer_of at.cell o) ≡ place_bytes s at.cell o
@@ -227,50 +362,77 @@ entry_bytes s c skip n start b at k is begins within =
     same (Some d) = refl
 
 -- ---- bytes lent, and copied
-counted_place : (s : StoreView) (c : ℕ) (at : Place) → IsPool s → IsLive (pool_of s) c → IsPlace (chain_of (pool_of s) c) at → (d : ℕ) → (head_of s at.cell).cluster ≡ Some d → 0 < count_of s d
+counted_place : (s : StoreView) (c : ℕ) (at : Place) → IsPool s → IsLive (pool_of s) c
+    → IsPlace (chain_of (pool_of s) c) at → (d : ℕ) → (head_of s at.cell).cluster ≡ Some d → 0 < count_of s d
 counted_place s c at pool live place d is = counted_at s c d at pool live place is
 
 -- some of the bytes that an mbuf shows
-pub source_room : (s : StoreView) (c skip n : ℕ) (at : Place) (h : Head) (b : Buffer) → IsPool s → IsLive (pool_of s) c → IsPlace (chain_of (pool_of s) c) at → h ≡ head_of s at.cell → b ≡ buffer_of at.cell h.cluster → skip + n ≤ length (entry_of (chain_of (pool_of s) c) at.index).bytes → IsRoom s b (h.start + skip) n
+pub source_room : (s : StoreView) (c skip n : ℕ) (at : Place) (h : Head) (b : Buffer) → IsPool s → IsLive (pool_of s) c
+    → IsPlace (chain_of (pool_of s) c) at → h ≡ head_of s at.cell → b ≡ buffer_of at.cell h.cluster
+    → skip + n ≤ length (entry_of (chain_of (pool_of s) c) at.index).bytes → IsRoom s b (h.start + skip) n
 source_room s c skip n at h b pool live place e is within =
     let k = shown_at s c at pool live place in
     subst (λ (a : Buffer). IsRoom s a (h.start + skip) n) (sym (is ∙ ap (λ (y : Head). buffer_of at.cell y.cluster) e))
-    (room_of s c (h.start + skip) n at k (counted_place s c at pool live place) (omega (arith, k.fit.low, ap (λ (y : Head). y.start) e)) (omega (arith, k.fit.high, k.long, within, ap (λ (y : Head). y.start) e)))
+    (room_of s c (h.start + skip) n at k (counted_place s c at pool live place)
+    (omega (arith, k.fit.low, ap (λ (y : Head). y.start) e))
+    (omega (arith, k.fit.high, k.long, within, ap (λ (y : Head). y.start) e)))
 
-pub target_room : (s : StoreView) (c start n : ℕ) (at : Place) (h : Head) (b : Buffer) → IsPool s → IsLive (pool_of s) c → IsPlace (chain_of (pool_of s) c) at → h ≡ head_of s at.cell → b ≡ buffer_of at.cell h.cluster → room_low (head_of s at.cell) ≤ start → start + n ≤ room_high (head_of s at.cell) → IsRoom s b start n
+pub target_room : (s : StoreView) (c start n : ℕ) (at : Place) (h : Head) (b : Buffer) → IsPool s → IsLive (pool_of s) c
+    → IsPlace (chain_of (pool_of s) c) at → h ≡ head_of s at.cell → b ≡ buffer_of at.cell h.cluster
+    → room_low (head_of s at.cell) ≤ start → start + n ≤ room_high (head_of s at.cell) → IsRoom s b start n
 target_room s c start n at h b pool live place e is low high =
-    subst (λ (a : Buffer). IsRoom s a start n) (sym (is ∙ ap (λ (y : Head). buffer_of at.cell y.cluster) e)) (room_of s c start n at (shown_at s c at pool live place) (counted_place s c at pool live place) low high)
+    subst (λ (a : Buffer). IsRoom s a start n) (sym (is ∙ ap (λ (y : Head). buffer_of at.cell y.cluster) e))
+    (room_of s c start n at (shown_at s c at pool live place) (counted_place s c at pool live place) low high)
 
-pub lent_room : (s : StoreView) (c : ℕ) (at : Place) (h : Head) (b : Buffer) → IsPool s → IsLive (pool_of s) c → IsPlace (chain_of (pool_of s) c) at → h ≡ head_of s at.cell → b ≡ buffer_of at.cell h.cluster → IsRoom s b h.start h.len
+pub lent_room : (s : StoreView) (c : ℕ) (at : Place) (h : Head) (b : Buffer) → IsPool s → IsLive (pool_of s) c
+    → IsPlace (chain_of (pool_of s) c) at → h ≡ head_of s at.cell → b ≡ buffer_of at.cell h.cluster
+    → IsRoom s b h.start h.len
 lent_room s c at h b pool live place e is =
     let k = shown_at s c at pool live place in
-    target_room s c h.start h.len at h b pool live place e is (omega (arith, k.fit.low, ap (λ (y : Head). y.start) e)) (omega (arith, k.fit.high, ap (λ (y : Head). y.start) e, ap (λ (y : Head). y.len) e))
+    target_room s c h.start h.len at h b pool live place e is (omega (arith, k.fit.low, ap (λ (y : Head). y.start) e))
+    (omega (arith, k.fit.high, ap (λ (y : Head). y.start) e, ap (λ (y : Head). y.len) e))
 
 place_is : (s : StoreView) (x : ℕ) (o : Option ℕ) → bytes_in s (buffer_of x o) ≡ place_bytes s x o
 place_is s x None = refl
 place_is s x (Some d) = refl
 
-pub lent_bytes : (s : StoreView) (c : ℕ) (at : Place) (h : Head) (b : Buffer) → IsPool s → IsLive (pool_of s) c → IsPlace (chain_of (pool_of s) c) at → h ≡ head_of s at.cell → b ≡ buffer_of at.cell h.cluster → take h.len (drop h.start (bytes_in s b)) ≡ (entry_of (chain_of (pool_of s) c) at.index).bytes
+pub lent_bytes : (s : StoreView) (c : ℕ) (at : Place) (h : Head) (b : Buffer) → IsPool s → IsLive (pool_of s) c
+    → IsPlace (chain_of (pool_of s) c) at → h ≡ head_of s at.cell → b ≡ buffer_of at.cell h.cluster
+    → take h.len (drop h.start (bytes_in s b)) ≡ (entry_of (chain_of (pool_of s) c) at.index).bytes
 lent_bytes s c at h b pool live place e is =
     let k = shown_at s c at pool live place in
     (λ i. take (e i).len (drop (e i).start (bytes_in s ((is ∙ ap (λ (y : Head). buffer_of at.cell y.cluster) e) i))))
-    ∙ ap (λ (xs : List ℕ). take (head_of s at.cell).len (drop (head_of s at.cell).start xs)) (place_is s at.cell (head_of s at.cell).cluster)
+    ∙ ap (λ (xs : List ℕ). take (head_of s at.cell).len (drop (head_of s at.cell).start xs))
+    (place_is s at.cell (head_of s at.cell).cluster)
     ∙ ap (λ (y : Entry). y.bytes) (sym k.entry)
 
-pub copied : {s t : StoreView} (c other : ℕ) {start : ℕ} (skip n : ℕ) {at from : Place} {h g : Head} {b a : Buffer} → IsPool s → IsLive (pool_of s) c → IsPlace (chain_of (pool_of s) c) at → IsUnshared (pool_of s) (entry_of (chain_of (pool_of s) c) at.index)
-    → IsLive (pool_of s) other → IsPlace (chain_of (pool_of s) other) from → skip + n ≤ length (entry_of (chain_of (pool_of s) other) from.index).bytes
-    → h ≡ head_of s at.cell → g ≡ head_of s from.cell → b ≡ buffer_of at.cell h.cluster → a ≡ buffer_of from.cell g.cluster
-    → t ≡ write s (record { buffer = b; start = start; len = n }) (read s (record { buffer = a; start = g.start + skip; len = n })) → IsStore t
+pub copied : {s t : StoreView} (c other : ℕ) {start : ℕ} (skip n : ℕ) {at from : Place} {h g : Head} {b a : Buffer}
+    → IsPool s → IsLive (pool_of s) c → IsPlace (chain_of (pool_of s) c) at
+    → IsUnshared (pool_of s) (entry_of (chain_of (pool_of s) c) at.index)
+    → IsLive (pool_of s) other → IsPlace (chain_of (pool_of s) other) from
+    → skip + n ≤ length (entry_of (chain_of (pool_of s) other) from.index).bytes
+    → h ≡ head_of s at.cell → g ≡ head_of s from.cell → b ≡ buffer_of at.cell h.cluster
+    → a ≡ buffer_of from.cell g.cluster
+    → t ≡ write s (record { buffer = b; start = start; len = n })
+    (read s (record { buffer = a; start = g.start + skip; len = n })) → IsStore t
     → Written s t c at start (take n (drop skip (entry_of (chain_of (pool_of s) other) from.index).bytes))
-copied {s} {t} c other {start} skip n {at} {from} {h} {g} {b} {a} pool live place unshared live_other from_place within e e' is is' change store =
+copied {s} {t} c other {start} skip n {at} {from} {h} {g} {b} {a} pool live place unshared live_other from_place within
+    e e' is is' change store =
     let k = shown_at s c at pool live place in
     let k' = shown_at s other from pool live_other from_place in
     let ws = take n (drop skip (entry_of (chain_of (pool_of s) other) from.index).bytes) in
-    let read_is : take n (drop (g.start + skip) (bytes_in s a)) ≡ take n (drop skip (entry_of (chain_of (pool_of s) other) from.index).bytes) =
-    entry_bytes s other skip n (g.start + skip) a from k' (is' ∙ ap (λ (y : Head). buffer_of from.cell y.cluster) e') (ap (λ (y : Head). y.start + skip) e') within in
-    let long : n ≡ length (take n (drop skip (entry_of (chain_of (pool_of s) other) from.index).bytes)) = sym (Rattle.mbuf_chain.proofs.Bytes.run_length (entry_of (chain_of (pool_of s) other) from.index).bytes skip n within) in
+    let read_is : take n (drop (g.start + skip) (bytes_in s a))
+    ≡ take n (drop skip (entry_of (chain_of (pool_of s) other) from.index).bytes) =
+    entry_bytes s other skip n (g.start + skip) a from k' (is' ∙ ap (λ (y : Head). buffer_of from.cell y.cluster) e')
+    (ap (λ (y : Head). y.start + skip) e') within in
+    let long : n ≡ length (take n (drop skip (entry_of (chain_of (pool_of s) other) from.index).bytes)) =
+    sym (Rattle.mbuf_chain.proofs.Bytes.run_length (entry_of (chain_of (pool_of s) other) from.index).bytes skip n
+    within) in
     written s t c start ws at pool live place unshared
     (place_written s t at.cell start ws k.out (counted_place s c at pool live place)
-    (change ∙ ap (λ (xs : List ℕ). write s (record { buffer = b; start = start; len = n }) xs) read_is ∙ write_is s (record { buffer = b; start = start; len = n }) ws long
-    ∙ ap (λ (y : Buffer). with_bytes s y (over (bytes_in s y) start (take n (drop skip (entry_of (chain_of (pool_of s) other) from.index).bytes)))) (is ∙ ap (λ (y : Head). buffer_of at.cell y.cluster) e)))
+    (change ∙ ap (λ (xs : List ℕ). write s (record { buffer = b; start = start; len = n }) xs) read_is
+    ∙ write_is s (record { buffer = b; start = start; len = n }) ws long
+    ∙ ap (λ (y : Buffer). with_bytes s y
+    (over (bytes_in s y) start (take n (drop skip (entry_of (chain_of (pool_of s) other) from.index).bytes)))) (is
+    ∙ ap (λ (y : Head). buffer_of at.cell y.cluster) e)))
     store

@@ -16,7 +16,8 @@ block_at : (xs : List ℕ) (a n k : ℕ) → k < n → get_or (block xs a n) k 0
 block_at xs a n k lt = get_or-take n (drop a xs) k 0 lt ∙ get_or-drop a xs k 0
 
 -- a block that lies apart from the write
-pub block_apart : (xs : List ℕ) (at : ℕ) (ws : List ℕ) (a n : ℕ) → at + length ws ≤ length xs → a + n ≤ length xs → (at + length ws ≤ a) ⊎ (a + n ≤ at) → block (over xs at ws) a n ≡ block xs a n
+pub block_apart : (xs : List ℕ) (at : ℕ) (ws : List ℕ) (a n : ℕ) → at + length ws ≤ length xs → a + n ≤ length xs
+    → (at + length ws ≤ a) ⊎ (a + n ≤ at) → block (over xs at ws) a n ≡ block xs a n
 block_apart xs at ws a n fits inside apart =
     let long : length (over xs at ws) ≡ length xs = length_over xs at ws (omega arith) in
     let new_long = length_block (over xs at ws) a n (omega arith) in
@@ -29,14 +30,16 @@ block_apart xs at ws a n fits inside apart =
     ∙ sym (block_at xs a n k (omega arith)))
 
 -- a block that the write lies in
-pub block_written : (xs : List ℕ) (a n s : ℕ) (ws : List ℕ) → a + n ≤ length xs → s + length ws ≤ n → block (over xs (a + s) ws) a n ≡ over (block xs a n) s ws
+pub block_written : (xs : List ℕ) (a n s : ℕ) (ws : List ℕ) → a + n ≤ length xs → s + length ws ≤ n
+    → block (over xs (a + s) ws) a n ≡ over (block xs a n) s ws
 block_written xs a n s ws inside fits =
     let old_long = length_block xs a n inside in
     let long : length (over xs (a + s) ws) ≡ length xs = length_over xs (a + s) ws (omega arith) in
     let new_long = length_block (over xs (a + s) ws) a n (omega arith) in
     let all : a + s + length ws ≤ length xs = omega arith in
     let small : s + length ws ≤ length (block xs a n) = omega arith in
-    ext_get_or 0 (block (over xs (a + s) ws) a n) (over (block xs a n) s ws) (new_long ∙ sym (length_over (block xs a n) s ws (omega arith) ∙ old_long)) (λ k lt.
+    ext_get_or 0 (block (over xs (a + s) ws) a n) (over (block xs a n) s ws)
+    (new_long ∙ sym (length_over (block xs a n) s ws (omega arith) ∙ old_long)) (λ k lt.
     block_at (over xs (a + s) ws) a n k (omega arith)
     ∙ elim (cases_lt k s) [
       | inl before ↦
@@ -57,11 +60,13 @@ block_written xs a n s ws inside fits =
     ])
 
 -- a part of a block
-pub block_part : (xs : List ℕ) (a n s k : ℕ) → a + n ≤ length xs → s + k ≤ n → block (block xs a n) s k ≡ block xs (a + s) k
+pub block_part : (xs : List ℕ) (a n s k : ℕ) → a + n ≤ length xs → s + k ≤ n
+    → block (block xs a n) s k ≡ block xs (a + s) k
 block_part xs a n s k inside fits =
     let long = length_block xs a n inside in
     let inner = length_block (block xs a n) s k (omega arith) in
-    ext_get_or 0 (block (block xs a n) s k) (block xs (a + s) k) (inner ∙ sym (length_block xs (a + s) k (omega arith))) (λ j lt.
+    ext_get_or 0 (block (block xs a n) s k) (block xs (a + s) k) (inner ∙ sym (length_block xs (a + s) k (omega arith)))
+    (λ j lt.
     let same : a + (s + j) ≡ a + s + j = omega arith in
     block_at (block xs a n) s k j (omega arith)
     ∙ block_at xs a n (s + j) (omega arith)

@@ -9,7 +9,8 @@ use Rattle.mbuf_pool.specs.Inside.AllOut.{IsAllOut}
 use Rattle.mbuf_pool.specs.Inside.Fields.{shown, IsSound}
 use Rattle.mbuf_pool.proofs.Shown.{mbuf_out, count_at, mbufs_long, clusters_long}
 
-module _ (z : Sizes) (r : Cells) (counts : List ℕ) (some : 0 < z.mbufs) (most : z.mbufs ≤ 65535) (few : z.clusters ≤ 4096) (made : r ≡ zero_cells z.mbufs z.clusters) (ones : counts ≡ replicate z.clusters 1) where
+module _ (z : Sizes) (r : Cells) (counts : List ℕ) (some : 0 < z.mbufs) (most : z.mbufs ≤ 65535)
+    (few : z.clusters ≤ 4096) (made : r ≡ zero_cells z.mbufs z.clusters) (ones : counts ≡ replicate z.clusters 1) where
   pub heads_are : length r.heads ≡ z.mbufs
   heads_are = ap (λ (x : Cells). length x.heads) made ∙ length-replicate z.mbufs zero_head
 
@@ -53,7 +54,9 @@ pub record ClustersLeft (z : Sizes) (s : StoreView) (k : ℕ) : Type 0 where
 
 pub clusters_first : (z : Sizes) (s : StoreView) → MbufsLeft z s 0 → ClustersLeft z s z.clusters
 clusters_first z s h = record {
-  mbufs = ext_get_or None s.mbufs (replicate z.mbufs None) (h.mbufs ∙ sym (length-replicate z.mbufs None)) (λ i lt. h.above i (omega arith) ∙ sym (get_or-replicate z.mbufs i None None (omega (arith, h.mbufs))));
+  mbufs =
+      ext_get_or None s.mbufs (replicate z.mbufs None) (h.mbufs ∙ sym (length-replicate z.mbufs None))
+      (λ i lt. h.above i (omega arith) ∙ sym (get_or-replicate z.mbufs i None None (omega (arith, h.mbufs))));
   clusters = h.clusters;
   below = h.counted;
   above = λ c le. Rattle.std.proofs.lemmas.List.get_or_past s.clusters c free_cluster (omega (arith, h.clusters));
@@ -62,5 +65,8 @@ clusters_first z s h = record {
 pub all_free : (z : Sizes) (s : StoreView) → ClustersLeft z s 0 → s ≡ free_store z
 all_free z s h =
     let clusters : s.clusters ≡ replicate z.clusters free_cluster =
-    ext_get_or free_cluster s.clusters (replicate z.clusters free_cluster) (h.clusters ∙ sym (length-replicate z.clusters free_cluster)) (λ c lt. h.above c (omega arith) ∙ sym (get_or-replicate z.clusters c free_cluster free_cluster (omega (arith, h.clusters)))) in
+    ext_get_or free_cluster s.clusters (replicate z.clusters free_cluster)
+    (h.clusters ∙ sym (length-replicate z.clusters free_cluster))
+    (λ c lt. h.above c (omega arith)
+    ∙ sym (get_or-replicate z.clusters c free_cluster free_cluster (omega (arith, h.clusters)))) in
     λ j. record { mbufs = h.mbufs j; clusters = clusters j }

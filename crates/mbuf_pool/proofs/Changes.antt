@@ -43,13 +43,18 @@ module _ (r : Cells) (sized : IsSized r) where
     mbuf_here = block_written r.bytes (128 * i) 128 s ws (omega (arith, sized.block)) fits
 
     pub mbuf_other : (k : ℕ) → k < length r.heads → k ≢ i → block mbuf_new (128 * k) 128 ≡ mbuf_bytes r k
-    mbuf_other k below ne = block_apart r.bytes (128 * i + s) ws (128 * k) 128 (omega (arith, sized.block)) (omega (arith, sized.block)) (elim (cases_lt i k) [
-      | inl before ↦ inl (omega arith)
-      | inr after ↦ let less : k < i = omega arith in inr (omega arith)
-    ])
+    mbuf_other k below ne =
+        block_apart r.bytes (128 * i + s) ws (128 * k) 128 (omega (arith, sized.block)) (omega (arith, sized.block))
+        (elim (cases_lt i k) [
+          | inl before ↦ inl (omega arith)
+          | inr after ↦ let less : k < i = omega arith in inr (omega arith)
+        ])
 
-    pub mbuf_cluster : (c n : ℕ) → c < r.clusters → n ≤ 2048 → block mbuf_new (128 * length r.heads + 2048 * c) n ≡ block r.bytes (128 * length r.heads + 2048 * c) n
-    mbuf_cluster c n below few = block_apart r.bytes (128 * i + s) ws (128 * length r.heads + 2048 * c) n (omega (arith, sized.block)) (omega (arith, sized.block)) (inl (omega arith))
+    pub mbuf_cluster : (c n : ℕ) → c < r.clusters → n ≤ 2048
+        → block mbuf_new (128 * length r.heads + 2048 * c) n ≡ block r.bytes (128 * length r.heads + 2048 * c) n
+    mbuf_cluster c n below few =
+        block_apart r.bytes (128 * i + s) ws (128 * length r.heads + 2048 * c) n (omega (arith, sized.block))
+        (omega (arith, sized.block)) (inl (omega arith))
 
   -- a write inside the cluster c
   module _ (c s : ℕ) (ws : List ℕ) (lt : c < r.clusters) (fits : s + length ws ≤ 2048) where
@@ -62,14 +67,19 @@ module _ (r : Cells) (sized : IsSized r) where
     pub cluster_here : block cluster_new (128 * length r.heads + 2048 * c) 2048 ≡ over (cluster_bytes r c) s ws
     cluster_here = block_written r.bytes (128 * length r.heads + 2048 * c) 2048 s ws (omega (arith, sized.block)) fits
 
-    pub cluster_other : (d n : ℕ) → d < r.clusters → n ≤ 2048 → d ≢ c → block cluster_new (128 * length r.heads + 2048 * d) n ≡ block r.bytes (128 * length r.heads + 2048 * d) n
-    cluster_other d n below few ne = block_apart r.bytes (128 * length r.heads + 2048 * c + s) ws (128 * length r.heads + 2048 * d) n (omega (arith, sized.block)) (omega (arith, sized.block)) (elim (cases_lt c d) [
-      | inl before ↦ inl (omega arith)
-      | inr after ↦ let less : d < c = omega arith in inr (omega arith)
-    ])
+    pub cluster_other : (d n : ℕ) → d < r.clusters → n ≤ 2048 → d ≢ c
+        → block cluster_new (128 * length r.heads + 2048 * d) n ≡ block r.bytes (128 * length r.heads + 2048 * d) n
+    cluster_other d n below few ne =
+        block_apart r.bytes (128 * length r.heads + 2048 * c + s) ws (128 * length r.heads + 2048 * d) n
+        (omega (arith, sized.block)) (omega (arith, sized.block)) (elim (cases_lt c d) [
+          | inl before ↦ inl (omega arith)
+          | inr after ↦ let less : d < c = omega arith in inr (omega arith)
+        ])
 
     pub cluster_mbuf : (k : ℕ) → k < length r.heads → block cluster_new (128 * k) 128 ≡ mbuf_bytes r k
-    cluster_mbuf k below = block_apart r.bytes (128 * length r.heads + 2048 * c + s) ws (128 * k) 128 (omega (arith, sized.block)) (omega (arith, sized.block)) (inr (omega arith))
+    cluster_mbuf k below =
+        block_apart r.bytes (128 * length r.heads + 2048 * c + s) ws (128 * k) 128 (omega (arith, sized.block))
+        (omega (arith, sized.block)) (inr (omega arith))
 
   -- ---- the three changes
   at_start : (a n : ℕ) (xs : List ℕ) → take n (drop (a + 0) xs) ≡ block xs a n
@@ -77,7 +87,8 @@ module _ (r : Cells) (sized : IsSized r) where
 
   -- a new head
   pub head_changed : (i : ℕ) (h : Head) (b : List ℕ) → i < length r.heads → length b ≡ head_size h
-      → SameButMbuf r (with_head r i h b) i × (cells.head_of (with_head r i h b) i ≡ h) × (mbuf_bytes (with_head r i h b) i ≡ over (mbuf_bytes r i) 0 b) × IsSized (with_head r i h b)
+      → SameButMbuf r (with_head r i h b) i × (cells.head_of (with_head r i h b) i ≡ h)
+      × (mbuf_bytes (with_head r i h b) i ≡ over (mbuf_bytes r i) 0 b) × IsSized (with_head r i h b)
   head_changed i h b lt long =
       let t = with_head r i h b in
       let count : length t.heads ≡ length r.heads = length-set r.heads i h in
@@ -89,17 +100,23 @@ module _ (r : Cells) (sized : IsSized r) where
           clusters = refl;
           heads = λ k ne. get_or-set_other r.heads i k h zero_head ne;
           mbufs = λ k below ne. ap (λ xs. block xs (128 * k) 128) bytes ∙ mbuf_other i 0 b lt fits k below ne;
-          all_clusters = λ c below. ap (λ n. block t.bytes (128 * n + 2048 * c) 2048) count ∙ ap (λ xs. block xs (128 * length r.heads + 2048 * c) 2048) bytes ∙ mbuf_cluster i 0 b lt fits c 2048 below (omega arith);
+          all_clusters =
+              λ c below. ap (λ n. block t.bytes (128 * n + 2048 * c) 2048) count
+              ∙ ap (λ xs. block xs (128 * length r.heads + 2048 * c) 2048) bytes
+              ∙ mbuf_cluster i 0 b lt fits c 2048 below (omega arith);
           links = λ c below. ap link_in (
               at_start (128 * length t.heads + 2048 * c) 4 t.bytes
-              ∙ ap (λ n. block t.bytes (128 * n + 2048 * c) 4) count ∙ ap (λ xs. block xs (128 * length r.heads + 2048 * c) 4) bytes
+              ∙ ap (λ n. block t.bytes (128 * n + 2048 * c) 4) count
+              ∙ ap (λ xs. block xs (128 * length r.heads + 2048 * c) 4) bytes
               ∙ mbuf_cluster i 0 b lt fits c 4 below (omega arith)
               ∙ sym (at_start (128 * length r.heads + 2048 * c) 4 r.bytes));
         },
         get_or-set_same r.heads i h zero_head lt,
         ap (λ xs. block xs (128 * i) 128) bytes ∙ mbuf_here i 0 b lt fits,
         record {
-          block = ap length bytes ∙ mbuf_new_long i 0 b lt fits ∙ sized.block ∙ ap (λ n. cells.region_size n r.clusters) (sym count);
+          block =
+              ap length bytes ∙ mbuf_new_long i 0 b lt fits ∙ sized.block
+              ∙ ap (λ n. cells.region_size n r.clusters) (sym count);
           mbufs = (omega (arith, count, sized.mbufs.0), omega (arith, count, sized.mbufs.1));
           clusters = sized.clusters;
         },
@@ -107,7 +124,9 @@ module _ (r : Cells) (sized : IsSized r) where
 
   -- bytes of an mbuf
   pub mbuf_changed : (i s : ℕ) (ws : List ℕ) → i < length r.heads → s + length ws ≤ 128
-      → let t : Cells = record r { bytes = over r.bytes (128 * i + s) ws } in SameButMbuf r t i × (cells.head_of t i ≡ cells.head_of r i) × (mbuf_bytes t i ≡ over (mbuf_bytes r i) s ws) × IsSized t
+      → let t : Cells = record r { bytes = over r.bytes (128 * i + s) ws } in
+      SameButMbuf r t i × (cells.head_of t i ≡ cells.head_of r i) × (mbuf_bytes t i ≡ over (mbuf_bytes r i) s ws)
+      × IsSized t
   mbuf_changed i s ws lt fits = (
     record {
       count = refl;
@@ -127,7 +146,8 @@ module _ (r : Cells) (sized : IsSized r) where
 
   -- bytes of a cluster
   pub cluster_changed : (c s : ℕ) (ws : List ℕ) → c < r.clusters → s + length ws ≤ 2048
-      → let t : Cells = record r { bytes = over r.bytes (128 * length r.heads + 2048 * c + s) ws } in SameButCluster r t c × (cluster_bytes t c ≡ over (cluster_bytes r c) s ws) × IsSized t
+      → let t : Cells = record r { bytes = over r.bytes (128 * length r.heads + 2048 * c + s) ws } in
+      SameButCluster r t c × (cluster_bytes t c ≡ over (cluster_bytes r c) s ws) × IsSized t
   cluster_changed c s ws lt fits = (
     record {
       heads = refl;

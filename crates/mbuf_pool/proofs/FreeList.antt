@@ -15,17 +15,24 @@ times-there k x xs ne = ap (λ b. cond {A = ℕ} b 1 0 + times k xs) (ne_eqb x k
 
 -- ---- the links
 -- the links stay where the next of each place in the list does
-pub links_kept : (f g : ℕ → Option ℕ) (n : ℕ) (at : Option ℕ) (l : List ℕ) → ((k : ℕ) → k < n → 0 < times k l → g k ≡ f k) → IsLinked f n at l → IsLinked g n at l
+pub links_kept : (f g : ℕ → Option ℕ) (n : ℕ) (at : Option ℕ) (l : List ℕ)
+    → ((k : ℕ) → k < n → 0 < times k l → g k ≡ f k) → IsLinked f n at l → IsLinked g n at l
 links_kept f g n at [] kept h = h
 links_kept f g n at (x ∷ xs) kept h =
-    let here = kept x h.1 (omega (arith, times-here x xs)) in
-    (h.0, h.1, subst (λ (m : Option ℕ). IsLinked g n m xs) (sym here) (links_kept f g n (f x) xs (λ k lt p. kept k lt (omega arith)) h.2))
+    let here = kept x h.1 (omega (arith, times-here x xs)) in (
+      h.0,
+      h.1,
+      subst (λ (m : Option ℕ). IsLinked g n m xs) (sym here)
+          (links_kept f g n (f x) xs (λ k lt p. kept k lt (omega arith)) h.2),
+    )
 
 -- the walk along the links gives the list
-pub walk_is : (next : ℕ → Option ℕ) (places n : ℕ) (at : Option ℕ) (l : List ℕ) → IsLinked next places at l → length l ≤ n → walk next n at ≡ l
+pub walk_is : (next : ℕ → Option ℕ) (places n : ℕ) (at : Option ℕ) (l : List ℕ) → IsLinked next places at l
+    → length l ≤ n → walk next n at ≡ l
 walk_is next places n at [] h le = ap (walk next n) h
 walk_is next places zero at (x ∷ xs) h le = absurd (omega arith)
-walk_is next places (suc n) at (x ∷ xs) h le = ap (walk next (suc n)) h.0 ∙ ap (λ (l : List ℕ). x ∷ l) (walk_is next places n (next x) xs h.2 (omega arith))
+walk_is next places (suc n) at (x ∷ xs) h le =
+    ap (walk next (suc n)) h.0 ∙ ap (λ (l : List ℕ). x ∷ l) (walk_is next places n (next x) xs h.2 (omega arith))
 
 -- ---- how many there are
 -- the sum of f over n places from a on
@@ -52,31 +59,42 @@ places_one x a (suc n) low high =
     elim (cases_eq x a) [
       | inl e ↦
           let here : cond {A = ℕ} (nat_eq x a) 1 0 ≡ 1 = ap (λ b. cond {A = ℕ} b 1 0) (eq-eqb x a e) in
-          omega (arith, places_zero (a + 1) n (λ k. cond (nat_eq x k) 1 0) (λ k le. ap (λ b. cond {A = ℕ} b 1 0) (ne_eqb x k (λ q. absurd (omega arith)))))
+          omega (
+            arith,
+            places_zero (a + 1) n (λ k. cond (nat_eq x k) 1 0)
+                (λ k le. ap (λ b. cond {A = ℕ} b 1 0) (ne_eqb x k (λ q. absurd (omega arith)))),
+          )
       | inr ne ↦
           let here : cond {A = ℕ} (nat_eq x a) 1 0 ≡ 0 = ap (λ b. cond {A = ℕ} b 1 0) (ne_eqb x a ne) in
           omega (arith, places_one x (a + 1) n (omega arith) (omega arith))
     ]
 
 -- a linked list is as long as the sum over all places of how often each stands in it
-all_times : (next : ℕ → Option ℕ) (n : ℕ) (at : Option ℕ) (l : List ℕ) → IsLinked next n at l → over_places 0 n (λ k. times k l) ≡ length l
+all_times : (next : ℕ → Option ℕ) (n : ℕ) (at : Option ℕ) (l : List ℕ) → IsLinked next n at l
+    → over_places 0 n (λ k. times k l) ≡ length l
 all_times next n at [] h = places_zero 0 n (λ k. 0) (λ k le. refl)
 all_times next n at (x ∷ xs) h =
     places_add 0 n (λ k. cond (nat_eq x k) 1 0) (λ k. times k xs)
     ∙ omega (arith, places_one x 0 n (omega arith) (omega (arith, h.1)), all_times next n (next x) xs h.2)
 
-counted : {X : Type 0} (p : X → Bool) (f : ℕ → X) (a n : ℕ) → count_by p (map f (range_with_len a n)) ≡ over_places a n (λ k. cond (p (f k)) 1 0)
+counted : {X : Type 0} (p : X → Bool) (f : ℕ → X) (a n : ℕ)
+    → count_by p (map f (range_with_len a n)) ≡ over_places a n (λ k. cond (p (f k)) 1 0)
 counted p f a zero = refl
-counted p f a (suc n) = sum_by-cons (λ x. cond {A = ℕ} (p x) 1 0) (f a) (map f (range_with_len (a + 1) n)) ∙ ap (λ m. cond {A = ℕ} (p (f a)) 1 0 + m) (counted p f (a + 1) n)
+counted p f a (suc n) =
+    sum_by-cons (λ x. cond {A = ℕ} (p x) 1 0) (f a) (map f (range_with_len (a + 1) n))
+    ∙ ap (λ m. cond {A = ℕ} (p (f a)) 1 0 + m) (counted p f (a + 1) n)
 
 -- where each place is counted as often as it stands in a linked list, the count is the list's length
-pub count_free : {X : Type 0} (p : X → Bool) (f : ℕ → X) (next : ℕ → Option ℕ) (n : ℕ) (at : Option ℕ) (l : List ℕ) → IsLinked next n at l
+pub count_free : {X : Type 0} (p : X → Bool) (f : ℕ → X) (next : ℕ → Option ℕ) (n : ℕ) (at : Option ℕ) (l : List ℕ)
+    → IsLinked next n at l
     → ((k : ℕ) → k < n → cond {A = ℕ} (p (f k)) 1 0 ≡ times k l) → count_by p (map f (range_with_len 0 n)) ≡ length l
 count_free p f next n at l linked each =
-    counted p f 0 n ∙ places_same 0 n (λ k. cond (p (f k)) 1 0) (λ k. times k l) (λ k lt. each k (omega arith)) ∙ all_times next n at l linked
+    counted p f 0 n ∙ places_same 0 n (λ k. cond (p (f k)) 1 0) (λ k. times k l) (λ k lt. each k (omega arith))
+    ∙ all_times next n at l linked
 
 -- a linked list with no place twice is at most as long as there are places
-pub few_free : (next : ℕ → Option ℕ) (n : ℕ) (at : Option ℕ) (l : List ℕ) → IsLinked next n at l → ((k : ℕ) → times k l ≤ 1) → length l ≤ n
+pub few_free : (next : ℕ → Option ℕ) (n : ℕ) (at : Option ℕ) (l : List ℕ) → IsLinked next n at l
+    → ((k : ℕ) → times k l ≤ 1) → length l ≤ n
 few_free next n at l linked once = omega (arith, all_times next n at l linked, small 0 n)
   where
     small : (a m : ℕ) → over_places a m (λ k. times k l) ≤ m
@@ -86,7 +104,8 @@ few_free next n at l linked once = omega (arith, all_times next n at l linked, s
 -- ---- steps of a free list
 module _ (next : ℕ → Option ℕ) (places : ℕ) where
   -- what is free first
-  pub first_free : (k number : ℕ) (free : List ℕ) → IsFreeList next places (Some k) number free → (rest : List ℕ) × (free ≡ k ∷ rest) × (k < places)
+  pub first_free : (k number : ℕ) (free : List ℕ) → IsFreeList next places (Some k) number free
+      → (rest : List ℕ) × (free ≡ k ∷ rest) × (k < places)
   first_free k number [] h = absurd (none-some k (sym h.linked))
   first_free k number (x ∷ xs) h =
       let same : k ≡ x = same_Some k x h.linked.0 in
@@ -98,21 +117,27 @@ module _ (next : ℕ → Option ℕ) (places : ℕ) where
   none_free number (x ∷ xs) h = absurd (none-some x h.linked.0)
 
   -- the first one is taken
-  pub list_taken : (g : ℕ → Option ℕ) (k number : ℕ) (rest : List ℕ) → IsFreeList next places (Some k) number (k ∷ rest) → ((j : ℕ) → j < places → j ≢ k → g j ≡ next j)
+  pub list_taken : (g : ℕ → Option ℕ) (k number : ℕ) (rest : List ℕ) → IsFreeList next places (Some k) number (k ∷ rest)
+      → ((j : ℕ) → j < places → j ≢ k → g j ≡ next j)
       → IsFreeList g places (next k) (number - 1) rest
   list_taken g k number rest h kept =
       record {
-        linked = links_kept next g places (next k) rest (λ j lt p. kept j lt (λ e. absurd (omega (arith, h.once k, times-here k rest, ap (λ (m : ℕ). times m rest) e)))) h.linked.2;
+        linked =
+            links_kept next g places (next k) rest
+            (λ j lt p. kept j lt (λ e. absurd
+            (omega (arith, h.once k, times-here k rest, ap (λ (m : ℕ). times m rest) e)))) h.linked.2;
         once = λ j. omega (arith, h.once j);
         size = omega (arith, h.size);
       }
 
   -- one is put in front
-  pub list_put : (g : ℕ → Option ℕ) (first : Option ℕ) (k number : ℕ) (free : List ℕ) → IsFreeList next places first number free → k < places → times k free ≡ 0 → g k ≡ first
+  pub list_put : (g : ℕ → Option ℕ) (first : Option ℕ) (k number : ℕ) (free : List ℕ)
+      → IsFreeList next places first number free → k < places → times k free ≡ 0 → g k ≡ first
       → ((j : ℕ) → j < places → j ≢ k → g j ≡ next j) → IsFreeList g places (Some k) (number + 1) (k ∷ free)
   list_put g first k number free h lt out here kept =
       let linked : IsLinked g places first free =
-      links_kept next g places first free (λ j below p. kept j below (λ e. absurd (omega (arith, out, ap (λ (m : ℕ). times m free) e)))) h.linked in
+      links_kept next g places first free
+      (λ j below p. kept j below (λ e. absurd (omega (arith, out, ap (λ (m : ℕ). times m free) e)))) h.linked in
       record {
         linked = (refl, lt, subst (λ (m : Option ℕ). IsLinked g places m free) (sym here) linked);
         once = λ j. elim (cases_eq k j) [
@@ -123,6 +148,8 @@ module _ (next : ℕ → Option ℕ) (places : ℕ) where
       }
 
   -- none of the links in the list changes
-  pub list_kept : (g : ℕ → Option ℕ) (first : Option ℕ) (number : ℕ) (free : List ℕ) → IsFreeList next places first number free → ((j : ℕ) → j < places → 0 < times j free → g j ≡ next j)
+  pub list_kept : (g : ℕ → Option ℕ) (first : Option ℕ) (number : ℕ) (free : List ℕ)
+      → IsFreeList next places first number free → ((j : ℕ) → j < places → 0 < times j free → g j ≡ next j)
       → IsFreeList g places first number free
-  list_kept g first number free h kept = record { linked = links_kept next g places first free kept h.linked; once = h.once; size = h.size }
+  list_kept g first number free h kept =
+      record { linked = links_kept next g places first free kept h.linked; once = h.once; size = h.size }

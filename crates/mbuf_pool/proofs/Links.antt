@@ -14,4 +14,6 @@ number_back n h = ap (little_number 4) (sym (append-nil (little_bytes 4 n))) ∙
 
 pub link_back : (link : Option ℕ) → IsLink link → link_in (link_bytes link) ≡ link
 link_back None h = ap link_of (number_back 0xffffffff (omega arith))
-link_back (Some k) h = ap link_of (number_back k (omega arith)) ∙ ap (λ b. if b then None else Some k) (ne_eqb k 0xffffffff (λ e. absurd (omega arith)))
+link_back (Some k) h =
+    ap link_of (number_back k (omega arith))
+    ∙ ap (λ b. if b then None else Some k) (ne_eqb k 0xffffffff (λ e. absurd (omega arith)))

@@ -15,13 +15,16 @@ use Rattle.mbuf_pool.proofs.Blocks.{length_block}
 -- ---- lists of what is at each place
 module _ {X : Type 0} (n : ℕ) (f g : ℕ → X) where
   -- one place differs
-  pub places_set : (i : ℕ) (x : X) → i < n → g i ≡ x → ((k : ℕ) → k < n → k ≢ i → g k ≡ f k) → map g (range_with_len 0 n) ≡ slice_set (map f (range_with_len 0 n)) i x
+  pub places_set : (i : ℕ) (x : X) → i < n → g i ≡ x → ((k : ℕ) → k < n → k ≢ i → g k ≡ f k)
+      → map g (range_with_len 0 n) ≡ slice_set (map f (range_with_len 0 n)) i x
   places_set i x lt here others =
       let xs = map f (range_with_len 0 n) in
       let long : length xs ≡ n = length-map-range_with_len f 0 n in
       sym (fill_by_all g (slice_set xs i x) n x (length-set xs i x ∙ long) (λ k below. elim (cases_eq k i) [
-        | inl e ↦ subst (λ (j : ℕ). get_or (slice_set xs i x) j x ≡ g j) (sym e) (get_or-set_same xs i x x (omega arith) ∙ sym here)
-        | inr ne ↦ get_or-set_other xs i k x x ne ∙ get_or-map-range_with_len f 0 n k k x below (omega arith) ∙ sym (others k below ne)
+        | inl e ↦ subst (λ (j : ℕ). get_or (slice_set xs i x) j x ≡ g j) (sym e)
+            (get_or-set_same xs i x x (omega arith) ∙ sym here)
+        | inr ne ↦ get_or-set_other xs i k x x ne ∙ get_or-map-range_with_len f 0 n k k x below (omega arith)
+            ∙ sym (others k below ne)
       ]))
 
   -- none does
@@ -45,20 +48,29 @@ module _ (r : Cells) (counts free : List ℕ) where
   mbuf_at i lt = get_or-map-range_with_len (mbuf_seen r free) 0 (length r.heads) i i None lt (omega arith)
 
   pub mbuf_past : (i : ℕ) → length r.heads ≤ i → slice_index_or (shown r counts free).mbufs i None ≡ None
-  mbuf_past i le = get_or_past (shown r counts free).mbufs i None (omega (arith, length-map-range_with_len (mbuf_seen r free) 0 (length r.heads)))
+  mbuf_past i le =
+      get_or_past (shown r counts free).mbufs i None
+      (omega (arith, length-map-range_with_len (mbuf_seen r free) 0 (length r.heads)))
 
   pub cluster_at : (c : ℕ) → c < r.clusters → cluster_of (shown r counts free) c ≡ cluster_seen r counts c
   cluster_at c lt = get_or-map-range_with_len (cluster_seen r counts) 0 r.clusters c c free_cluster lt (omega arith)
 
   pub cluster_past : (c : ℕ) → r.clusters ≤ c → cluster_of (shown r counts free) c ≡ free_cluster
-  cluster_past c le = get_or_past (shown r counts free).clusters c free_cluster (omega (arith, length-map-range_with_len (cluster_seen r counts) 0 r.clusters))
+  cluster_past c le =
+      get_or_past (shown r counts free).clusters c free_cluster
+      (omega (arith, length-map-range_with_len (cluster_seen r counts) 0 r.clusters))
 
   -- an mbuf that is out stands in no free list
-  pub mbuf_out : (i : ℕ) → i < length r.heads → times i free ≡ 0 → slice_index_or (shown r counts free).mbufs i None ≡ Some (record { head = cells.head_of r i; bytes = mbuf_bytes r i })
-  mbuf_out i lt e = mbuf_at i lt ∙ yes_zero (times i free) (Some (record { head = cells.head_of r i; bytes = mbuf_bytes r i })) None e
+  pub mbuf_out : (i : ℕ) → i < length r.heads → times i free ≡ 0
+      → slice_index_or (shown r counts free).mbufs i None
+      ≡ Some (record { head = cells.head_of r i; bytes = mbuf_bytes r i })
+  mbuf_out i lt e =
+      mbuf_at i lt ∙ yes_zero (times i free) (Some (record { head = cells.head_of r i; bytes = mbuf_bytes r i })) None e
 
-  pub mbuf_free : (i : ℕ) → i < length r.heads → 0 < times i free → slice_index_or (shown r counts free).mbufs i None ≡ None
-  mbuf_free i lt h = mbuf_at i lt ∙ not_zero (times i free) (Some (record { head = cells.head_of r i; bytes = mbuf_bytes r i })) None h
+  pub mbuf_free : (i : ℕ) → i < length r.heads → 0 < times i free
+      → slice_index_or (shown r counts free).mbufs i None ≡ None
+  mbuf_free i lt h =
+      mbuf_at i lt ∙ not_zero (times i free) (Some (record { head = cells.head_of r i; bytes = mbuf_bytes r i })) None h
 
   pub out_within : (i : ℕ) → IsTrue (is_out (shown r counts free) i) → i < length r.heads
   out_within i out = elim (cases_lt i (length r.heads)) [
@@ -73,8 +85,11 @@ module _ (r : Cells) (counts free : List ℕ) where
   ]
 
   -- the head and bytes of an mbuf that is out
-  pub out_mbuf : (i : ℕ) → IsTrue (is_out (shown r counts free) i) → mbuf_of (shown r counts free) i ≡ record { head = cells.head_of r i; bytes = mbuf_bytes r i }
-  out_mbuf i out = ap (λ (m : Option MbufView). Rattle.std.specs.Prelude.unwrap_or m no_mbuf) (mbuf_out i (out_within i out) (out_once i out))
+  pub out_mbuf : (i : ℕ) → IsTrue (is_out (shown r counts free) i)
+      → mbuf_of (shown r counts free) i ≡ record { head = cells.head_of r i; bytes = mbuf_bytes r i }
+  out_mbuf i out =
+      ap (λ (m : Option MbufView). Rattle.std.specs.Prelude.unwrap_or m no_mbuf)
+      (mbuf_out i (out_within i out) (out_once i out))
 
   -- the count of a cluster
   pub count_at : (c : ℕ) → c < r.clusters → count_of (shown r counts free) c ≡ slice_index counts c
@@ -87,17 +102,22 @@ module _ (r : Cells) (counts free : List ℕ) where
   ]
 
   -- a cluster that is counted shows its bytes
-  pub counted_cluster : (c : ℕ) → 0 < count_of (shown r counts free) c → cluster_of (shown r counts free) c ≡ record { count = slice_index counts c; bytes = cluster_bytes r c }
+  pub counted_cluster : (c : ℕ) → 0 < count_of (shown r counts free) c
+      → cluster_of (shown r counts free) c ≡ record { count = slice_index counts c; bytes = cluster_bytes r c }
   counted_cluster c h =
       let lt = counted_within c h in
       cluster_at c lt
-      ∙ ap (λ (bs : List ℕ). record { count = slice_index counts c; bytes = bs }) (not_zero (slice_index counts c) [] (cluster_bytes r c) (omega (arith, count_at c lt)))
+      ∙ ap (λ (bs : List ℕ). record { count = slice_index counts c; bytes = bs })
+      (not_zero (slice_index counts c) [] (cluster_bytes r c) (omega (arith, count_at c lt)))
 
 -- ---- a store that is sound
-module _ (r : Cells) (counts : List ℕ) (f : Option ℕ) (m : ℕ) (cf : Option ℕ) (cm : ℕ) (free cfree : List ℕ) (ok : IsSound r counts f m cf cm free cfree) where
+module _ (r : Cells) (counts : List ℕ) (f : Option ℕ) (m : ℕ) (cf : Option ℕ) (cm : ℕ) (free cfree : List ℕ)
+    (ok : IsSound r counts f m cf cm free cfree) where
   -- what is seen is what the lists say
   pub seen_is : seen_in r counts f ≡ shown r counts free
-  seen_is = ap (shown r counts) (walk_is (next_mbuf r) (length r.heads) (length r.heads) f free ok.mbuf_list.linked (few_free (next_mbuf r) (length r.heads) f free ok.mbuf_list.linked ok.mbuf_list.once))
+  seen_is =
+      ap (shown r counts) (walk_is (next_mbuf r) (length r.heads) (length r.heads) f free ok.mbuf_list.linked
+      (few_free (next_mbuf r) (length r.heads) f free ok.mbuf_list.linked ok.mbuf_list.once))
 
   pub mbufs_long : length (shown r counts free).mbufs ≡ length r.heads
   mbufs_long = length-map-range_with_len (mbuf_seen r free) 0 (length r.heads)
@@ -111,27 +131,34 @@ module _ (r : Cells) (counts : List ℕ) (f : Option ℕ) (m : ℕ) (cf : Option
     clusters = omega (arith, clusters_long, ok.sized.clusters);
     mbuf_bytes = λ i out.
         let lt = out_within r counts free i out in
-        ap (λ (v : MbufView). length v.bytes) (out_mbuf r counts free i out) ∙ length_block r.bytes (128 * i) 128 (omega (arith, ok.sized.block, lt));
+        ap (λ (v : MbufView). length v.bytes) (out_mbuf r counts free i out)
+        ∙ length_block r.bytes (128 * i) 128 (omega (arith, ok.sized.block, lt));
     cluster_bytes = λ c h.
         let lt = counted_within r counts free c h in
-        ap (λ (v : ClusterView). length v.bytes) (counted_cluster r counts free c h) ∙ length_block r.bytes (128 * length r.heads + 2048 * c) 2048 (omega (arith, ok.sized.block, lt));
+        ap (λ (v : ClusterView). length v.bytes) (counted_cluster r counts free c h)
+        ∙ length_block r.bytes (128 * length r.heads + 2048 * c) 2048 (omega (arith, ok.sized.block, lt));
   }
 
   free_test : (i : ℕ) → i < length r.heads → cond {A = ℕ} (is_none (mbuf_seen r free i)) 1 0 ≡ times i free
   free_test i lt = elim (cases_lt 0 (times i free)) [
     | inl some ↦
-        ap (λ (v : Option MbufView). cond {A = ℕ} (is_none v) 1 0) (not_zero (times i free) (Some (record { head = cells.head_of r i; bytes = mbuf_bytes r i })) None some)
+        ap (λ (v : Option MbufView). cond {A = ℕ} (is_none v) 1 0)
+        (not_zero (times i free) (Some (record { head = cells.head_of r i; bytes = mbuf_bytes r i })) None some)
         ∙ omega (arith, ok.mbuf_list.once i)
     | inr none ↦
         let e : times i free ≡ 0 = omega arith in
-        ap (λ (v : Option MbufView). cond {A = ℕ} (is_none v) 1 0) (yes_zero (times i free) (Some (record { head = cells.head_of r i; bytes = mbuf_bytes r i })) None e)
+        ap (λ (v : Option MbufView). cond {A = ℕ} (is_none v) 1 0)
+        (yes_zero (times i free) (Some (record { head = cells.head_of r i; bytes = mbuf_bytes r i })) None e)
         ∙ sym e
   ]
 
   pub mbufs_free : free_mbufs (shown r counts free) ≡ m
-  mbufs_free = count_free is_none (mbuf_seen r free) (next_mbuf r) (length r.heads) f free ok.mbuf_list.linked free_test ∙ sym ok.mbuf_list.size
+  mbufs_free =
+      count_free is_none (mbuf_seen r free) (next_mbuf r) (length r.heads) f free ok.mbuf_list.linked free_test
+      ∙ sym ok.mbuf_list.size
 
   pub clusters_free : free_clusters (shown r counts free) ≡ cm
   clusters_free =
-      count_free (λ (v : ClusterView). v.count == 0) (cluster_seen r counts) (next_cluster r) r.clusters cf cfree ok.cluster_list.linked (λ c lt. sym (ok.uncounted c lt))
+      count_free (λ (v : ClusterView). v.count == 0) (cluster_seen r counts) (next_cluster r) r.clusters cf cfree
+      ok.cluster_list.linked (λ c lt. sym (ok.uncounted c lt))
       ∙ sym ok.cluster_list.size

@@ -13,16 +13,22 @@ use Rattle.mbuf_pool.proofs.Shown.{places_set, places_same, seen_is}
 use Rattle.mbuf_pool.proofs.Changes.{SameButMbuf, SameButCluster}
 
 -- what a step leaves: an account, and what is seen
-pub record Leaves (t : Cells) (counts : List ℕ) (f : Option ℕ) (m : ℕ) (cf : Option ℕ) (cm : ℕ) (v : StoreView) : Type 0 where
-  pub account : IsAccount t counts f m cf cm
-  pub seen : seen_in t counts f ≡ v
+pub record Leaves (t : Cells) (counts : List ℕ) (f : Option ℕ) (m : ℕ) (cf : Option ℕ) (cm : ℕ) (v : StoreView) : Type 0
+  where
+    pub account : IsAccount t counts f m cf cm
+    pub seen : seen_in t counts f ≡ v
 
-module _ (r : Cells) (counts : List ℕ) (f : Option ℕ) (m : ℕ) (cf : Option ℕ) (cm : ℕ) (free cfree : List ℕ) (ok : IsSound r counts f m cf cm free cfree) where
+module _ (r : Cells) (counts : List ℕ) (f : Option ℕ) (m : ℕ) (cf : Option ℕ) (cm : ℕ) (free cfree : List ℕ)
+    (ok : IsSound r counts f m cf cm free cfree) where
   -- one mbuf changes, or is taken or put
-  pub mbuf_step : (t : Cells) (i : ℕ) (g : Option ℕ) (n : ℕ) (new : List ℕ) (v : StoreView) → i < length r.heads → SameButMbuf r t i → IsSized t → IsFreeList (next_mbuf t) (length r.heads) g n new
-      → ((k : ℕ) → k ≢ i → times k new ≡ times k free) → shown r counts free ≡ v → Leaves t counts g n cf cm (with_mbuf v i (mbuf_seen t new i))
+  pub mbuf_step : (t : Cells) (i : ℕ) (g : Option ℕ) (n : ℕ) (new : List ℕ) (v : StoreView) → i < length r.heads
+      → SameButMbuf r t i → IsSized t → IsFreeList (next_mbuf t) (length r.heads) g n new
+      → ((k : ℕ) → k ≢ i → times k new ≡ times k free) → shown r counts free ≡ v
+      → Leaves t counts g n cf cm (with_mbuf v i (mbuf_seen t new i))
   mbuf_step t i g n new v lt same sized list others is =
-      let clusters : IsFreeList (next_cluster t) r.clusters cf cm cfree = list_kept (next_cluster r) r.clusters (next_cluster t) cf cm cfree ok.cluster_list (λ c below p. same.links c below) in
+      let clusters : IsFreeList (next_cluster t) r.clusters cf cm cfree =
+      list_kept (next_cluster r) r.clusters (next_cluster t) cf cm cfree ok.cluster_list
+      (λ c below p. same.links c below) in
       let sound : IsSound t counts g n cf cm new cfree =
       record {
         sized = sized;
@@ -31,14 +37,20 @@ module _ (r : Cells) (counts : List ℕ) (f : Option ℕ) (m : ℕ) (cf : Option
         counts_long = ok.counts_long ∙ sym same.clusters;
         uncounted = λ c below. ok.uncounted c (subst (λ (k : ℕ). c < k) same.clusters below);
       } in
-      let mbufs : map (mbuf_seen t new) (range_with_len 0 (length t.heads)) ≡ slice_set (shown r counts free).mbufs i (mbuf_seen t new i) =
+      let mbufs : map (mbuf_seen t new) (range_with_len 0 (length t.heads))
+      ≡ slice_set (shown r counts free).mbufs i (mbuf_seen t new i) =
       ap (λ (k : ℕ). map (mbuf_seen t new) (range_with_len 0 k)) same.count
-      ∙ places_set (length r.heads) (mbuf_seen r free) (mbuf_seen t new) i (mbuf_seen t new i) lt refl (λ k below ne. λ j.
-      if others k ne j == 0 then Some (record { head = same.heads k ne j; bytes = same.mbufs k below ne j }) else None) in
+      ∙ places_set (length r.heads) (mbuf_seen r free) (mbuf_seen t new) i (mbuf_seen t new i) lt refl
+      (λ k below ne. λ j.
+      if others k ne j == 0 then Some (record { head = same.heads k ne j; bytes = same.mbufs k below ne j })
+      else None) in
       let shows : map (cluster_seen t counts) (range_with_len 0 t.clusters) ≡ (shown r counts free).clusters =
       ap (λ (k : ℕ). map (cluster_seen t counts) (range_with_len 0 k)) same.clusters
       ∙ places_same r.clusters (cluster_seen r counts) (cluster_seen t counts) (λ c below. λ j.
-      record { count = slice_index counts c; bytes = if slice_index counts c == 0 then [] else same.all_clusters c below j }) in
+      record {
+        count = slice_index counts c;
+        bytes = if slice_index counts c == 0 then [] else same.all_clusters c below j;
+      }) in
       record {
         account = (new, cfree, sound);
         seen = seen_is t counts g n cf cm new cfree sound
@@ -47,16 +59,19 @@ module _ (r : Cells) (counts : List ℕ) (f : Option ℕ) (m : ℕ) (cf : Option
       }
 
   -- one cluster changes, or is taken, counted or released
-  pub cluster_step : (t : Cells) (c x : ℕ) (g : Option ℕ) (n : ℕ) (new : List ℕ) (v : StoreView) → c < r.clusters → SameButCluster r t c → IsSized t → IsFreeList (next_cluster t) r.clusters g n new
+  pub cluster_step : (t : Cells) (c x : ℕ) (g : Option ℕ) (n : ℕ) (new : List ℕ) (v : StoreView) → c < r.clusters
+      → SameButCluster r t c → IsSized t → IsFreeList (next_cluster t) r.clusters g n new
       → ((k : ℕ) → k ≢ c → times k new ≡ times k cfree) → times c new ≡ cond (x == 0) 1 0 → shown r counts free ≡ v
       → Leaves t (slice_set counts c x) f m g n (with_cluster v c (cluster_seen t (slice_set counts c x) c))
   cluster_step t c x g n new v lt same sized list others here is =
       let after = slice_set counts c x in
       let count_here : slice_index after c ≡ x = get_or-set_same counts c x 0 (omega (arith, ok.counts_long)) in
-      let count_other : (k : ℕ) → k ≢ c → slice_index after k ≡ slice_index counts k = λ k ne. get_or-set_other counts c k x 0 ne in
+      let count_other : (k : ℕ) → k ≢ c → slice_index after k ≡ slice_index counts k =
+      λ k ne. get_or-set_other counts c k x 0 ne in
       let mbuf_list : IsFreeList (next_mbuf t) (length t.heads) f m free =
       subst (λ (k : ℕ). IsFreeList (next_mbuf t) k f m free) (sym (ap length same.heads))
-      (list_kept (next_mbuf r) (length r.heads) (next_mbuf t) f m free ok.mbuf_list (λ k below p. ap (λ hs. (slice_index_or hs k cells.zero_head).next) same.heads)) in
+      (list_kept (next_mbuf r) (length r.heads) (next_mbuf t) f m free ok.mbuf_list
+      (λ k below p. ap (λ hs. (slice_index_or hs k cells.zero_head).next) same.heads)) in
       let sound : IsSound t after f m g n free new =
       record {
         sized = sized;
@@ -64,18 +79,26 @@ module _ (r : Cells) (counts : List ℕ) (f : Option ℕ) (m : ℕ) (cf : Option
         cluster_list = subst (λ (k : ℕ). IsFreeList (next_cluster t) k g n new) (sym same.clusters) list;
         counts_long = length-set counts c x ∙ ok.counts_long ∙ sym same.clusters;
         uncounted = λ k below. elim (cases_eq k c) [
-          | inl e ↦ subst (λ (j : ℕ). times j new ≡ cond (slice_index after j == 0) 1 0) (sym e) (here ∙ ap (λ (y : ℕ). cond {A = ℕ} (y == 0) 1 0) (sym count_here))
-          | inr ne ↦ others k ne ∙ ok.uncounted k (subst (λ (j : ℕ). k < j) same.clusters below) ∙ ap (λ (y : ℕ). cond {A = ℕ} (y == 0) 1 0) (sym (count_other k ne))
+          | inl e ↦ subst (λ (j : ℕ). times j new ≡ cond (slice_index after j == 0) 1 0) (sym e)
+              (here ∙ ap (λ (y : ℕ). cond {A = ℕ} (y == 0) 1 0) (sym count_here))
+          | inr ne ↦ others k ne ∙ ok.uncounted k (subst (λ (j : ℕ). k < j) same.clusters below)
+              ∙ ap (λ (y : ℕ). cond {A = ℕ} (y == 0) 1 0) (sym (count_other k ne))
         ];
       } in
       let mbufs : map (mbuf_seen t free) (range_with_len 0 (length t.heads)) ≡ (shown r counts free).mbufs =
       ap (λ hs. map (mbuf_seen t free) (range_with_len 0 (length hs))) same.heads
       ∙ places_same (length r.heads) (mbuf_seen r free) (mbuf_seen t free) (λ k below. λ j.
-      if times k free == 0 then Some (record { head = slice_index_or (same.heads j) k cells.zero_head; bytes = same.mbufs k below j }) else None) in
-      let shows : map (cluster_seen t after) (range_with_len 0 t.clusters) ≡ slice_set (shown r counts free).clusters c (cluster_seen t after c) =
+      if times k free == 0 then Some
+      (record { head = slice_index_or (same.heads j) k cells.zero_head; bytes = same.mbufs k below j }) else None) in
+      let shows : map (cluster_seen t after) (range_with_len 0 t.clusters)
+      ≡ slice_set (shown r counts free).clusters c (cluster_seen t after c) =
       ap (λ (k : ℕ). map (cluster_seen t after) (range_with_len 0 k)) same.clusters
-      ∙ places_set r.clusters (cluster_seen r counts) (cluster_seen t after) c (cluster_seen t after c) lt refl (λ k below ne. λ j.
-      record { count = count_other k ne j; bytes = if count_other k ne j == 0 then [] else same.others k below ne j }) in
+      ∙ places_set r.clusters (cluster_seen r counts) (cluster_seen t after) c (cluster_seen t after c) lt refl
+      (λ k below ne. λ j.
+      record {
+        count = count_other k ne j;
+        bytes = if count_other k ne j == 0 then [] else same.others k below ne j;
+      }) in
       record {
         account = (free, new, sound);
         seen = seen_is t after f m g n free new sound

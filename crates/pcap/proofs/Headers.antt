@@ -32,9 +32,11 @@ reads_fields file h s =
     let long : ltb (length file) 24 ≡ false = le-ltb _ _ s.long in
     rw (long, s.mark, s.major, s.minor, s.link_field, s.link, s.time_zone, s.accuracy, s.snap_len, s.link_field) refl
 
-spelled : (o : Order) (r : Resolution) (z a s f : ℕ) (l : LinkType) (rest : List ℕ) → z < 2 ^ 32 → a < 2 ^ 32 → s < 2 ^ 32 → f < 2 ^ 32
+spelled : (o : Order) (r : Resolution) (z a s f : ℕ) (l : LinkType) (rest : List ℕ) → z < 2 ^ 32 → a < 2 ^ 32
+    → s < 2 ^ 32 → f < 2 ^ 32
     → link_of (f % 2 ^ 16) ≡ Some l
-    → let h : Header = record { order = o; resolution = r; time_zone = z; accuracy = a; snap_len = s; link_field = f; link = l } in
+    → let h : Header =
+    record { order = o; resolution = r; time_zone = z; accuracy = a; snap_len = s; link_field = f; link = l } in
     Stands (header_bytes h ++ rest) h × (drop 24 (header_bytes h ++ rest) ≡ rest)
 spelled Little Microseconds z a s f l rest fz fa fs ff fl = (
   record {
@@ -93,12 +95,16 @@ spelled Big Nanoseconds z a s f l rest fz fa fs ff fl = (
   refl,
 )
 
-pub header_again : (h : Header) (rest : List ℕ) → IsHeader h → (header_of (header_bytes h ++ rest) ≡ Ok h) × (drop 24 (header_bytes h ++ rest) ≡ rest)
+pub header_again : (h : Header) (rest : List ℕ) → IsHeader h
+    → (header_of (header_bytes h ++ rest) ≡ Ok h) × (drop 24 (header_bytes h ++ rest) ≡ rest)
 header_again h rest i =
-    let s = spelled h.order h.resolution h.time_zone h.accuracy h.snap_len h.link_field h.link rest i.time_zone i.accuracy i.snap_len i.link_field i.link in
+    let s =
+    spelled h.order h.resolution h.time_zone h.accuracy h.snap_len h.link_field h.link rest i.time_zone i.accuracy
+    i.snap_len i.link_field i.link in
     (reads_fields (header_bytes h ++ rest) h s.0, s.1)
 
-pub spelled_reads : (w : Whole) → IsHeader w.header → AllByRecursion Fits w.records → Reads (header_bytes w.header ++ records_bytes w.header.order w.records) (Ok w)
+pub spelled_reads : (w : Whole) → IsHeader w.header → AllByRecursion Fits w.records
+    → Reads (header_bytes w.header ++ records_bytes w.header.order w.records) (Ok w)
 spelled_reads w i f =
     let h = header_again w.header (records_bytes w.header.order w.records) i in
     (h.0, record { fit = f; bytes_are = h.1 })

@@ -18,10 +18,12 @@ nothing None b e t = refl
 nothing (Some errno) b e t = absurd (true≢false (e ∙ ap not t))
 
 -- what isn't refused is reached
-pub reached : (c : Config) (bs : List Block) (b : Block) (a : Addr) → first_fault (block_connect_faults c bs b a) ≡ None → is_reached a.ip ≡ true
+pub reached : (c : Config) (bs : List Block) (b : Block) (a : Addr) → first_fault (block_connect_faults c bs b a) ≡ None
+    → is_reached a.ip ≡ true
 reached c bs b a none = go (a.port == 0) (is_reached a.ip) _ none
   where
-    go : (p r : Bool) (rest : Option Errno) → cond p (Some AddressNotAvailable) (cond (not r) (Some HostUnreachable) rest) ≡ None → r ≡ true
+    go : (p r : Bool) (rest : Option Errno)
+        → cond p (Some AddressNotAvailable) (cond (not r) (Some HostUnreachable) rest) ≡ None → r ≡ true
     go true r rest e = cc
     go false true rest e = refl
     go false false rest e = cc

@@ -31,21 +31,29 @@ apart_ports (Some last) j k lt most e = same_rest (last - 1023) j k lt most (ome
 same_number : (p q : ℕ) → Some p ≡ Some q → p ≡ q
 same_number p q e = cc
 
-pub some_port_free : (bs : List Block) (last local : Option ℕ) → length bs ≤ 64 → ((k : ℕ) → k < 3977 → is_used bs local (port_after last k) ≡ true) → ⊥
-some_port_free bs last local few all = omega (arith, pigeons tests 3977 apart bs (λ k lt. best_counts (key_port local (port_after last k)) bs (all k lt)))
+pub some_port_free : (bs : List Block) (last local : Option ℕ) → length bs ≤ 64
+    → ((k : ℕ) → k < 3977 → is_used bs local (port_after last k) ≡ true) → ⊥
+some_port_free bs last local few all =
+    omega (arith, pigeons tests 3977 apart bs (λ k lt. best_counts (key_port local (port_after last k)) bs (all k lt)))
   where
     tests : ℕ → Block → Bool
     tests k b = does_match (key_port local (port_after last k)) b
 
     apart : (b : Block) (j k : ℕ) → j < k → k < 3977 → tests j b ≡ true → tests k b ≡ true → ⊥
     apart b j k lt most e f =
-        apart_ports last j k lt most (same_number (port_after last j) (port_after last k) (sym (has_port local (port_after last j) b e) ∙ has_port local (port_after last k) b f))
+        apart_ports last j k lt most (same_number (port_after last j) (port_after last k)
+        (sym (has_port local (port_after last j) b e) ∙ has_port local (port_after last k) b f))
 
 -- ---- descriptors
 
-pub some_fd_free : (bs : List Block) → length bs < 64 → ((k : ℕ) → 3 ≤ k → k < 67 → is_some (find (has_fd k) bs) ≡ true) → ⊥
+pub some_fd_free : (bs : List Block) → length bs < 64 → ((k : ℕ) → 3 ≤ k → k < 67 → is_some (find (has_fd k) bs) ≡ true)
+    → ⊥
 some_fd_free bs few all =
-    omega (arith, pigeons tests 64 apart bs (λ k lt. found_counts (has_fd (3 + k)) (tests k) (λ b e. e) bs (all (3 + k) (omega arith) (omega arith))))
+    omega (
+      arith,
+      pigeons tests 64 apart bs
+          (λ k lt. found_counts (has_fd (3 + k)) (tests k) (λ b e. e) bs (all (3 + k) (omega arith) (omega arith))),
+    )
   where
     tests : ℕ → Block → Bool
     tests k b = has_fd (3 + k) b

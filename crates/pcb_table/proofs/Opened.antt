@@ -18,23 +18,33 @@ pub is_some-find : (p : Block → Bool) (bs : List Block) → is_some (find p bs
 is_some-find p [] = refl
 is_some-find p (b ∷ bs) = go (is_some-find p bs) (p b) refl
   where
-    go : is_some (find p bs) ≡ nat_lt 0 (count_by p bs) → (t : Bool) → p b ≡ t → is_some (cond t (Some b) (find p bs)) ≡ nat_lt 0 (count_by p (b ∷ bs))
+    go : is_some (find p bs) ≡ nat_lt 0 (count_by p bs) → (t : Bool) → p b ≡ t
+        → is_some (cond t (Some b) (find p bs)) ≡ nat_lt 0 (count_by p (b ∷ bs))
     go rest true met = sym (lt-ltb 0 (count_by p (b ∷ bs)) (omega (arith, counted-cons p b bs, ap one_if met)))
-    go rest false missed = rest ∙ ap (nat_lt 0) (let e : count_by p bs ≡ count_by p (b ∷ bs) = omega (arith, counted-cons p b bs, ap one_if missed) in e)
+    go rest false missed =
+        rest ∙ ap (nat_lt 0) (let e : count_by p bs
+        ≡ count_by p (b ∷ bs) = omega (arith, counted-cons p b bs, ap one_if missed) in e)
 
-fds_set : (bs : List Block) (i : ℕ) (y d : Block) → i < length bs → y.fd ≡ (get_or bs i d).fd → fds_of (set bs i y) ≡ fds_of bs
+fds_set : (bs : List Block) (i : ℕ) (y d : Block) → i < length bs → y.fd ≡ (get_or bs i d).fd
+    → fds_of (set bs i y) ≡ fds_of bs
 fds_set [] i y d lt same = absurd (omega arith)
 fds_set (b ∷ bs) zero y d lt same = λ i. same i ∷ fds_of bs
 fds_set (b ∷ bs) (suc i) y d lt same = ap (λ fds. b.fd ∷ fds) (fds_set bs i y d (omega arith) same)
 
-pub set_keeps_open : (i : Interface) (bs : List Block) (last later : Option ℕ) (fd index : ℕ) (b y : Block) → IsLocated fd bs index b → y.fd ≡ b.fd → KeepsOpen (table_of i bs last) (table_of i (set bs index y) later)
-set_keeps_open i bs last later fd index b y at same = fds_set bs index y b at.within (same ∙ sym (ap (λ (c : Block). c.fd) (at.is b)))
+pub set_keeps_open : (i : Interface) (bs : List Block) (last later : Option ℕ) (fd index : ℕ) (b y : Block)
+    → IsLocated fd bs index b → y.fd ≡ b.fd → KeepsOpen (table_of i bs last) (table_of i (set bs index y) later)
+set_keeps_open i bs last later fd index b y at same =
+    fds_set bs index y b at.within (same ∙ sym (ap (λ (c : Block). c.fd) (at.is b)))
 
-pub remove_closes : (i : Interface) (bs : List Block) (last : Option ℕ) (fd index : ℕ) (b : Block) → AreApart bs → IsLocated fd bs index b → ClosesOnly (table_of i bs last) fd (table_of i (remove bs index) last)
+pub remove_closes : (i : Interface) (bs : List Block) (last : Option ℕ) (fd index : ℕ) (b : Block) → AreApart bs
+    → IsLocated fd bs index b → ClosesOnly (table_of i bs last) fd (table_of i (remove bs index) last)
 remove_closes i bs last fd index b apart at = record {
   before = ap is_some (located_found bs fd index b apart at);
-  after = ap fds_of (located_remove bs fd index b apart at) ∙ sym (filter-map (λ (c : Block). c.fd) (λ k. not (k == fd)) bs);
+  after =
+      ap fds_of (located_remove bs fd index b apart at)
+      ∙ sym (filter-map (λ (c : Block). c.fd) (λ k. not (k == fd)) bs);
 }
 
-pub unbound_opens : (i : Interface) (bs : List Block) (last : Option ℕ) (fd : ℕ) → IsLowestFree bs fd → OpensOnly (table_of i bs last) fd (table_of i (unbound_block fd ∷ bs) last)
+pub unbound_opens : (i : Interface) (bs : List Block) (last : Option ℕ) (fd : ℕ) → IsLowestFree bs fd
+    → OpensOnly (table_of i bs last) fd (table_of i (unbound_block fd ∷ bs) last)
 unbound_opens i bs last fd lowest = record { before = ap is_some lowest.free; after = refl }

@@ -27,28 +27,35 @@ length_both [] rest = omega arith
 length_both (b ∷ done) rest = omega (arith, length_both done rest)
 
 -- where a walk stands, by the length of what is left
-pub walked_within : (q : LookupKey) (whole rest : List Block) (found : Option Block) (fewest : ℕ) → Walked q whole rest found fewest → length rest ≤ length whole
+pub walked_within : (q : LookupKey) (whole rest : List Block) (found : Option Block) (fewest : ℕ)
+    → Walked q whole rest found fewest → length rest ≤ length whole
 walked_within q whole rest found fewest w = omega (arith, length_both w.done rest, ap length w.cut)
 
-walked_rest : (q : LookupKey) (whole rest : List Block) (found : Option Block) (fewest n : ℕ) → n ≡ length whole - length rest → Walked q whole rest found fewest → drop n whole ≡ rest
+walked_rest : (q : LookupKey) (whole rest : List Block) (found : Option Block) (fewest n : ℕ)
+    → n ≡ length whole - length rest → Walked q whole rest found fewest → drop n whole ≡ rest
 walked_rest q whole rest found fewest n is w =
     let at : n ≡ length w.done = omega (arith, is, length_both w.done rest, ap length w.cut) in
     (λ i. drop (at i) (sym w.cut i)) ∙ drop_done w.done rest
 
-pub walked_from : (q : LookupKey) (port : ℕ) (whole slice rest : List Block) (found : Option Block) (fewest : ℕ) → slice ≡ whole → Walked q whole rest found fewest → from_port port (drop (length slice - length rest) whole) ≡ from_port port rest
+pub walked_from : (q : LookupKey) (port : ℕ) (whole slice rest : List Block) (found : Option Block) (fewest : ℕ)
+    → slice ≡ whole → Walked q whole rest found fewest
+    → from_port port (drop (length slice - length rest) whole) ≡ from_port port rest
 walked_from q port whole slice rest found fewest same w =
-    ap (from_port port) (walked_rest q whole rest found fewest (length slice - length rest) (ap (λ (cs : List Block). length cs - length rest) same) w)
+    ap (from_port port) (walked_rest q whole rest found fewest (length slice - length rest)
+    (ap (λ (cs : List Block). length cs - length rest) same) w)
 
 -- ---- the walk by port
 
 -- a block with another port
-from_next : (port : ℕ) (bs : List Block) (at : ℕ) (d : Block) → at < length bs → has_port port (get_or bs at d) ≡ false → from_port port (drop at bs) ≡ from_port port (drop (suc at) bs)
+from_next : (port : ℕ) (bs : List Block) (at : ℕ) (d : Block) → at < length bs → has_port port (get_or bs at d) ≡ false
+    → from_port port (drop at bs) ≡ from_port port (drop (suc at) bs)
 from_next port [] at d lt e = absurd (omega arith)
 from_next port (b ∷ bs) zero d lt e = ap (λ t. cond t (b ∷ bs) (from_port port bs)) e
 from_next port (b ∷ bs) (suc at) d lt e = from_next port bs at d (omega arith) e
 
 -- one that has it
-pub from_here : (port : ℕ) (bs : List Block) (at : ℕ) (d : Block) → at < length bs → has_port port (get_or bs at d) ≡ true → from_port port (drop at bs) ≡ drop at bs
+pub from_here : (port : ℕ) (bs : List Block) (at : ℕ) (d : Block) → at < length bs
+    → has_port port (get_or bs at d) ≡ true → from_port port (drop at bs) ≡ drop at bs
 from_here port [] at d lt e = absurd (omega arith)
 from_here port (b ∷ bs) zero d lt e = ap (λ t. cond t (b ∷ bs) (from_port port bs)) e
 from_here port (b ∷ bs) (suc at) d lt e = from_here port bs at d (omega arith) e
@@ -64,30 +71,38 @@ lacks port b e = go b.port e
     go None e = refl
     go (Some p) e = e
 
-pub from_passed : (port : ℕ) (bs : List Block) (ports : List ℕ) (at n : ℕ) → HasPorts bs ports → PassesLanes ports port at n → from_port port (drop at bs) ≡ from_port port (drop (at + n) bs)
+pub from_passed : (port : ℕ) (bs : List Block) (ports : List ℕ) (at n : ℕ) → HasPorts bs ports
+    → PassesLanes ports port at n → from_port port (drop at bs) ≡ from_port port (drop (at + n) bs)
 from_passed port bs ports at zero has pass = let e : at ≡ at + 0 = omega arith in ap (λ k. from_port port (drop k bs)) e
 from_passed port bs ports at (suc n) has pass = elim (cases_lt at (length bs)) [
   | inl lt ↦
       let d : Block = unbound_block 0 in
       let e : suc at + n ≡ at + suc n = omega arith in
-      from_next port bs at d lt (lacks port (get_or bs at d) (ap (λ x. x == port) (sym (has at d lt)) ∙ pass at (omega arith) (omega arith)))
-      ∙ from_passed port bs ports (suc at) n has (λ k from to. pass k (omega arith) (omega arith)) ∙ ap (λ k. from_port port (drop k bs)) e
+      from_next port bs at d lt (lacks port (get_or bs at d)
+      (ap (λ x. x == port) (sym (has at d lt)) ∙ pass at (omega arith) (omega arith)))
+      ∙ from_passed port bs ports (suc at) n has (λ k from to. pass k (omega arith) (omega arith))
+      ∙ ap (λ k. from_port port (drop k bs)) e
   | inr le ↦ from_past port bs at le ∙ sym (from_past port bs (at + suc n) (omega arith))
 ]
 
 -- the next block after those, if it has another port too
-pub from_after : (port : ℕ) (bs : List Block) (ports : List ℕ) (at n : ℕ) (d : Block) → HasPorts bs ports → PassesLanes ports port at n → at + n < length bs → has_port port (get_or bs (at + n) d) ≡ false
+pub from_after : (port : ℕ) (bs : List Block) (ports : List ℕ) (at n : ℕ) (d : Block) → HasPorts bs ports
+    → PassesLanes ports port at n → at + n < length bs → has_port port (get_or bs (at + n) d) ≡ false
     → from_port port (drop at bs) ≡ from_port port (drop (at + n + 1) bs)
 from_after port bs ports at n d has pass lt lacking =
     let e : suc (at + n) ≡ at + n + 1 = omega arith in
-    from_passed port bs ports at n has pass ∙ from_next port bs (at + n) d lt lacking ∙ ap (λ k. from_port port (drop k bs)) e
+    from_passed port bs ports at n has pass ∙ from_next port bs (at + n) d lt lacking
+    ∙ ap (λ k. from_port port (drop k bs)) e
 
 -- the blocks from it on, if it has the port
-pub from_found : (port : ℕ) (bs : List Block) (ports : List ℕ) (at n : ℕ) (d : Block) → HasPorts bs ports → PassesLanes ports port at n → at + n < length bs → has_port port (get_or bs (at + n) d) ≡ true
+pub from_found : (port : ℕ) (bs : List Block) (ports : List ℕ) (at n : ℕ) (d : Block) → HasPorts bs ports
+    → PassesLanes ports port at n → at + n < length bs → has_port port (get_or bs (at + n) d) ≡ true
     → take (length bs - (at + n)) (drop (at + n) bs) ≡ from_port port (drop at bs)
 from_found port bs ports at n d has pass lt met =
-    take_all (length bs - (at + n)) (drop (at + n) bs) (omega (arith, length-drop (at + n) bs)) ∙ sym (from_here port bs (at + n) d lt met) ∙ sym (from_passed port bs ports at n has pass)
+    take_all (length bs - (at + n)) (drop (at + n) bs) (omega (arith, length-drop (at + n) bs))
+    ∙ sym (from_here port bs (at + n) d lt met) ∙ sym (from_passed port bs ports at n has pass)
 
 -- none, if no block is left
-pub from_none : (port : ℕ) (bs : List Block) (ports : List ℕ) (at n : ℕ) → HasPorts bs ports → PassesLanes ports port at n → length bs ≤ at + n → [] ≡ from_port port (drop at bs)
+pub from_none : (port : ℕ) (bs : List Block) (ports : List ℕ) (at n : ℕ) → HasPorts bs ports
+    → PassesLanes ports port at n → length bs ≤ at + n → [] ≡ from_port port (drop at bs)
 from_none port bs ports at n has pass le = sym (from_passed port bs ports at n has pass ∙ from_past port bs (at + n) le)

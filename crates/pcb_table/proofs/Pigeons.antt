@@ -17,7 +17,8 @@ module _ (t : ℕ → Block → Bool) where
   passes-cons : (n : ℕ) (b : Block) (bs : List Block) → passes n (b ∷ bs) ≡ passed n b + passes n bs
   passes-cons zero b bs = refl
   passes-cons (suc n) b bs =
-      joined (passes n (b ∷ bs)) (passed n b) (cond (t n b) 1 0) (passes n bs) (count_by (t n) bs) (count_by (t n) (b ∷ bs)) (passes-cons n b bs) (counted-cons (t n) b bs)
+      joined (passes n (b ∷ bs)) (passed n b) (cond (t n b) 1 0) (passes n bs) (count_by (t n) bs)
+      (count_by (t n) (b ∷ bs)) (passes-cons n b bs) (counted-cons (t n) b bs)
     where
       joined : (x a c y z w : ℕ) → x ≡ a + y → w ≡ c + z → x + w ≡ (a + c) + (y + z)
       joined x a c y z w e f = omega arith

@@ -31,7 +31,8 @@ IsHex-bytes_in word bytes (inr (some, most, decoded)) =
 unsized : (bytes : List ℕ) → (0 < length bytes → length bytes ≤ 65535 → ⊥) → some_bytes (Ok bytes) ≡ None
 unsized bytes none = grind arith
 
-undecoded : (word : List ℕ) (r : Result (List ℕ) FromHexError) → decode_of word ≡ r → ((bytes : List ℕ) → IsHex word bytes → ⊥)
+undecoded : (word : List ℕ) (r : Result (List ℕ) FromHexError) → decode_of word ≡ r
+    → ((bytes : List ℕ) → IsHex word bytes → ⊥)
     → some_bytes r ≡ None
 undecoded word (Err fault) e none = refl
 undecoded word (Ok bytes) e none = unsized bytes (λ some most. none bytes (inr (some, most, e)))
@@ -44,7 +45,8 @@ no_bytes word none = elim (bytes_eq word (codes "-")) as (λ b. bytes_eq word (c
     ] refl
 
 -- so many bytes of a room are those that a word writes
-pub bytes-are : (word room : List ℕ) (r : Option ℕ) → MatchOption r ((bytes : List ℕ) → IsHex word bytes → ⊥) (λ n. IsHex word (take n room))
+pub bytes-are : (word room : List ℕ) (r : Option ℕ)
+    → MatchOption r ((bytes : List ℕ) → IsHex word bytes → ⊥) (λ n. IsHex word (take n room))
     → front_of room r ≡ bytes_in word
 bytes-are word room None h = sym (no_bytes word h)
 bytes-are word room (Some n) h = sym (IsHex-bytes_in word (take n room) h)

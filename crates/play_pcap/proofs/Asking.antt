@@ -17,7 +17,8 @@ same_place : (a b : ℕ) (o : Option ℕ) → Some a ≡ o → o ≡ Some b → 
 same_place a b o e f = let g : Some a ≡ Some b = e ∙ f in cc
 
 pub ranged : (word : List ℕ) (at : ℕ) (r : Option Range) → Some at ≡ position (λ byte. byte == 45) word
-    → MatchOption r ((r : Range) → IsPair (take at word) (drop (at + 1) word) r → ⊥) (IsPair (take at word) (drop (at + 1) word))
+    → MatchOption r ((r : Range) → IsPair (take at word) (drop (at + 1) word) r → ⊥)
+    (IsPair (take at word) (drop (at + 1) word))
     → MatchOption r ((r : Range) → IsRange word r → ⊥) (IsRange word)
 ranged word at None is h = λ r k.
     h r (subst (λ (i : ℕ). IsPair (take i word) (drop (i + 1) word) r) (same_place at k.0 _ is k.1) k.2)
@@ -37,7 +38,8 @@ no_after word [] other none d (inr h) = no_ranged word d.range none h.0
 no_after word (second ∷ []) other none d h = no_ranged word d.range none h.0
 no_after word (second ∷ third ∷ more) other none d h = h
 
-pub no_details : (rest : Option (Bor (List ℕ))) (text : Bor (List ℕ)) (word : List ℕ) (more : List (List ℕ)) → rest ≡ Some text
+pub no_details : (rest : Option (Bor (List ℕ))) (text : Bor (List ℕ)) (word : List ℕ) (more : List (List ℕ))
+    → rest ≡ Some text
     → words text.now ≡ word ∷ more → (word ≡ codes "ticks" → ⊥) → ((r : Range) → IsRange word r → ⊥)
     → (d : Details) → IsDetails (left rest) d → ⊥
 no_details rest text word more some is other none d h =

@@ -12,14 +12,17 @@ use Rattle.play_pcap.specs.Events.{events_of, played, taken}
 use Rattle.play_pcap.specs.Traces.{IsPass, Pass, file_of, passes_bytes, record_of}
 
 our_header_is : IsHeader our_header
-our_header_is = record { time_zone = lit< tt; accuracy = lit< tt; snap_len = lit< tt; link_field = lit< tt; link = refl }
+our_header_is =
+    record { time_zone = lit< tt; accuracy = lit< tt; snap_len = lit< tt; link_field = lit< tt; link = refl }
 
 all_fit : (ps : List Pass) → AllByRecursion IsPass ps → AllByRecursion Fits (map record_of ps)
 all_fit [] h = tt
 all_fit (p ∷ ps) h =
     let ticks = h.0.ticks in
-    let short = h.0.short in
-    (record { seconds = omega arith; fraction = omega arith; captured = omega arith; original = omega arith }, all_fit ps h.1)
+    let short = h.0.short in (
+      record { seconds = omega arith; fraction = omega arith; captured = omega arith; original = omega arith },
+      all_fit ps h.1,
+    )
 
 pub read_back : ((w : Whole) → IsHeader w.header → AllByRecursion Fits w.records
     → Reads (header_bytes w.header ++ records_bytes w.header.order w.records) (Ok w))
@@ -46,7 +49,8 @@ whole_packet bytes short =
     let no : ltb 65_535 (length (unpadded bytes)) ≡ false = le-ltb _ _ small in rw no refl
 
 plays : (begin : ℕ) (ps : List Pass) → AllByRecursion IsPass ps
-    → events_of (record { header = our_header; ticks = false; begin = begin }) 0 (map record_of ps) ≡ map (λ (p : Pass). Comes (unpadded p.packet)) ps
+    → events_of (record { header = our_header; ticks = false; begin = begin }) 0 (map record_of ps)
+    ≡ map (λ (p : Pass). Comes (unpadded p.packet)) ps
 unfolding events_of
 plays begin [] h = refl
 plays begin (p ∷ ps) h =

@@ -17,21 +17,26 @@ goes_tick go (suc n) m a b c some is h k =
 
 -- the events of one move, and those behind it
 pub goes_move : {S : Type 0} (go : S → Event → S → Type 0) (n : ℕ) (packet : List ℕ) (es all : List Event) (a b c d : S)
-    → all ≡ replicate n Tick ++ Comes packet ∷ es → Goes go (replicate n Tick) a b → go b (Comes packet) c → Goes go es c d
+    → all ≡ replicate n Tick ++ Comes packet ∷ es → Goes go (replicate n Tick) a b → go b (Comes packet) c
+    → Goes go es c d
     → Goes go all a d
 goes_move go n packet es all a b c d is ticks comes rest =
-    subst (λ (v : List Event). Goes go v a d) (sym is) (goes_append go (replicate n Tick) (Comes packet ∷ es) a b d ticks (c, comes, rest))
+    subst (λ (v : List Event). Goes go v a d) (sym is)
+    (goes_append go (replicate n Tick) (Comes packet ∷ es) a b d ticks (c, comes, rest))
 
 came_after : (n : ℕ) (packet : List ℕ) (es : List Event) → came (replicate n Tick ++ Comes packet ∷ es) ≡ came es + 1
 came_after zero packet es = omega arith
 came_after (suc n) packet es = came_after n packet es
 
-pub came_move : (n : ℕ) (packet : List ℕ) (es all : List Event) → all ≡ replicate n Tick ++ Comes packet ∷ es → came all ≡ came es + 1
+pub came_move : (n : ℕ) (packet : List ℕ) (es all : List Event) → all ≡ replicate n Tick ++ Comes packet ∷ es
+    → came all ≡ came es + 1
 came_move n packet es all is = ap came is ∙ came_after n packet es
 
-ticked_after : (n : ℕ) (packet : List ℕ) (es : List Event) → ticked (replicate n Tick ++ Comes packet ∷ es) ≡ n + ticked es
+ticked_after : (n : ℕ) (packet : List ℕ) (es : List Event)
+    → ticked (replicate n Tick ++ Comes packet ∷ es) ≡ n + ticked es
 ticked_after zero packet es = omega arith
 ticked_after (suc n) packet es = ap suc (ticked_after n packet es) ∙ omega arith
 
-pub ticked_move : (n : ℕ) (packet : List ℕ) (es all : List Event) → all ≡ replicate n Tick ++ Comes packet ∷ es → ticked all ≡ n + ticked es
+pub ticked_move : (n : ℕ) (packet : List ℕ) (es all : List Event) → all ≡ replicate n Tick ++ Comes packet ∷ es
+    → ticked all ≡ n + ticked es
 ticked_move n packet es all is = ap ticked is ∙ ticked_after n packet es

@@ -5,7 +5,8 @@ use Rattle.std.specs.Io.KnownBytes.{Appends}
 use Rattle.std.proofs.lemmas.Bool.{false≢true}
 use Rattle.play_pcap.specs.Traces.{Keeps, SentAfter, Traced}
 
-both : (o m n : Bool) (x y z : Option (List ℕ)) (a b : List ℕ) → SentAfter o m x y a → SentAfter m n y z b → SentAfter o n x z (a ++ b)
+both : (o m n : Bool) (x y z : Option (List ℕ)) (a b : List ℕ) → SentAfter o m x y a → SentAfter m n y z b
+    → SentAfter o n x z (a ++ b)
 both false true n x y z a b h k = absurd (false≢true (sym h.0))
 both false false n x y z a b h k = (k.0, k.1 ∙ h.1)
 both true true true x y z a b h k = Appends-trans x y z a b h k

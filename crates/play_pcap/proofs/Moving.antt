@@ -28,7 +28,8 @@ unfolding events_of
 skipped k passed [] d some none = absurd (omega arith)
 skipped k passed (r ∷ rs) d some none = rw (behind r rs, none) refl
 
-pub moved : (k : Course) (passed : ℕ) (rs : List Record) (d : Record) (packet : List ℕ) (at ticks new : ℕ) → 0 < length rs
+pub moved : (k : Course) (passed : ℕ) (rs : List Record) (d : Record) (packet : List ℕ) (at ticks new : ℕ)
+    → 0 < length rs
     → packet_in k.header.link (get_or rs 0 d).bytes.now ≡ Some packet → at ≡ due k (captured (get_or rs 0 d))
     → ticks ≡ at - passed → new ≡ max passed at
     → events_of k passed (map captured rs)

@@ -13,7 +13,8 @@ use Rattle.flat_model.specs.Scripts.Texts.{hex_text}
 -- a digit isn't a space
 no_space : (d : ℕ) → d < 16 → (slice_index lower_digits d == 32) ≡ false
 no_space d lt = elim (slice_index lower_digits d == 32) as (λ b. (slice_index lower_digits d == 32) ≡ b → b ≡ false) [
-  | true ↦ λ is. absurd (none-some d (ap hex_digit_value (sym (eqb-true (slice_index lower_digits d) 32 is)) ∙ IsDigits-lower_digits d lt))
+  | true ↦ λ is. absurd (none-some d
+      (ap hex_digit_value (sym (eqb-true (slice_index lower_digits d) 32 is)) ∙ IsDigits-lower_digits d lt))
   | false ↦ λ is. refl
 ] refl
 
@@ -25,7 +26,8 @@ one_word (b ∷ bytes) h =
     let high = no_space (b / 16) (omega arith) in
     let low = no_space (b % 16) (omega arith) in
     let rest = one_word bytes (λ k. h (suc k)) in
-    slice_split-cons_no (λ byte. byte == 32) (slice_index lower_digits (b / 16)) (slice_index lower_digits (b % 16) ∷ encode_lower bytes) high
+    slice_split-cons_no (λ byte. byte == 32) (slice_index lower_digits (b / 16))
+    (slice_index lower_digits (b % 16) ∷ encode_lower bytes) high
     ∙ ap (onto_first (slice_index lower_digits (b / 16)))
     (slice_split-cons_no (λ byte. byte == 32) (slice_index lower_digits (b % 16)) (encode_lower bytes) low
     ∙ ap (onto_first (slice_index lower_digits (b % 16))) rest)
@@ -36,7 +38,8 @@ behind_rx text =
     ∙ ap (onto_first 114) (slice_split-cons_no (λ byte. byte == 32) 120 (32 ∷ text) refl
     ∙ ap (onto_first 120) (slice_split-cons_yes (λ byte. byte == 32) 32 text refl))
 
-asks : (text packet : List ℕ) → length text ≤ 131_070 → words text ≡ text ∷ [] → IsHex text packet → IsLine (codes "rx " ++ text) (Comes packet)
+asks : (text packet : List ℕ) → length text ≤ 131_070 → words text ≡ text ∷ [] → IsHex text packet
+    → IsLine (codes "rx " ++ text) (Comes packet)
 asks text packet short one hex = record {
   short = omega arith;
   args = text ∷ [];
@@ -51,7 +54,8 @@ not_empty b bytes = elim (length (b ∷ bytes) == 0) as (λ t. (length (b ∷ by
   | false ↦ λ is. refl
 ] refl
 
-pub line_asks : (packet : List ℕ) → IsBytes packet → length packet ≤ 65_535 → IsLine (codes "rx " ++ hex_text packet) (Comes packet)
+pub line_asks : (packet : List ℕ) → IsBytes packet → length packet ≤ 65_535
+    → IsLine (codes "rx " ++ hex_text packet) (Comes packet)
 line_asks [] h short = asks (codes "-") [] (omega arith) refl (inl (refl, refl))
 line_asks (b ∷ bytes) h short =
     let len = length-encode_with lower_digits (b ∷ bytes) in

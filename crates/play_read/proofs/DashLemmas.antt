@@ -14,7 +14,8 @@ first_onto x [] more word e = let h : x ∷ [] ≡ word = cc in ap (λ (t : List
 first_onto x (w ∷ ws) more word e = let h : x ∷ w ≡ word = cc in ap (λ (t : List ℕ). get_or t 0 0) (sym h)
 
 -- the first word of a line of settings begins with a dash
-pub first_dash : (plain word : List ℕ) (more : List (List ℕ)) → has_dashes plain ≡ true → words plain ≡ word ∷ more → get_or word 0 0 ≡ 45
+pub first_dash : (plain word : List ℕ) (more : List (List ℕ)) → has_dashes plain ≡ true → words plain ≡ word ∷ more
+    → get_or word 0 0 ≡ 45
 first_dash [] word more h e = absurd (false≢true h)
 first_dash (b ∷ bs) word more h e =
     let is : b ≡ 45 = eqb-true b 45 (both (b == 45) _ h) in

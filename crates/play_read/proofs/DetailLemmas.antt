@@ -42,13 +42,15 @@ details-are d e r t = ap₂ (λ (a : Option Range) (b : Bool). record { range = 
 details-same : (rest : List (List ℕ)) (d e : Details) → IsDetails rest d → IsDetails rest e → d ≡ e
 details-same [] d e h k = details-are d e (h.0 ∙ sym k.0) (h.1 ∙ sym k.1)
 details-same (word ∷ []) d e (inl h) (inl k) = details-are d e (h.1 ∙ sym k.1) (h.2 ∙ sym k.2)
-details-same (word ∷ []) d e (inr h) (inr k) = details-are d e (ranged-same word d.range e.range h.0 k.0) (h.1 ∙ sym k.1)
+details-same (word ∷ []) d e (inr h) (inr k) =
+    details-are d e (ranged-same word d.range e.range h.0 k.0) (h.1 ∙ sym k.1)
 details-same (word ∷ []) d e (inl h) (inr k) = absurd (ticks-unranged word e.range h.0 k.0)
 details-same (word ∷ []) d e (inr h) (inl k) = absurd (ticks-unranged word d.range k.0 h.0)
 details-same (word ∷ second ∷ []) d e h k = details-are d e (ranged-same word d.range e.range h.0 k.0) (h.2 ∙ sym k.2)
 details-same (word ∷ second ∷ third ∷ more) d e h k = absurd h
 
-pub name-same : (plain name name' : List ℕ) (d e : Details) → IsAsked plain name d → IsAsked plain name' e → name ≡ name'
+pub name-same : (plain name name' : List ℕ) (d e : Details) → IsAsked plain name d → IsAsked plain name' e
+    → name ≡ name'
 name-same plain name name' d e h k =
     let all : codes "rx" ∷ codes "pcap" ∷ name ∷ h.0 ≡ codes "rx" ∷ codes "pcap" ∷ name' ∷ k.0 = sym h.1 ∙ k.1 in
     cc all

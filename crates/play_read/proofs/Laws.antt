@@ -17,12 +17,15 @@ IsIdle plain = ((event : Event) → ¬ script.Asks all_events plain event) × ((
 
 -- of a line that asks to be shown something
 pub Show-idle : (plain : List ℕ) (topic : Topic) → topic_asked plain ≡ Some topic → IsIdle plain
-Show-idle plain topic is = (λ event asks. call-show plain event topic asks is, λ n ticks. ticks-show plain n topic ticks is)
+Show-idle plain topic is =
+    (λ event asks. call-show plain event topic asks is, λ n ticks. ticks-show plain n topic ticks is)
 
 -- of one that asks for a capture
 pub Capture-idle : (plain name : List ℕ) (details : Details) → IsAsked plain name details → IsIdle plain
-Capture-idle plain name details asked =
-    (λ event asks. call-capture plain event name details asks asked, λ n ticks. ticks-capture plain n name details ticks asked)
+Capture-idle plain name details asked = (
+  λ event asks. call-capture plain event name details asks asked,
+  λ n ticks. ticks-capture plain n name details ticks asked,
+)
 
 -- of one with settings
 pub Settings-idle : (plain : List ℕ) → has_dashes plain ≡ true → IsIdle plain

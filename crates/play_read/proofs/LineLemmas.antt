@@ -59,7 +59,8 @@ no-dash Ask_counters h = omega (arith, h)
 no-dash Ask_usage h = omega (arith, h)
 
 -- one word stands after `rx`, and none after `tick`
-after-rx : (event : Event) (args : List (List ℕ)) → front_of (keyword event) ≡ 29304 → HasArguments event args → length args ≡ 1
+after-rx : (event : Event) (args : List (List ℕ)) → front_of (keyword event) ≡ 29304 → HasArguments event args
+    → length args ≡ 1
 after-rx Open args h has = absurd (omega (arith, h))
 after-rx (Bind fd address) args h has = absurd (omega (arith, h))
 after-rx (Connect fd address) args h has = absurd (omega (arith, h))
@@ -74,7 +75,8 @@ after-rx Tick args h has = absurd (omega (arith, h))
 after-rx Ask_counters args h has = absurd (omega (arith, h))
 after-rx Ask_usage args h has = absurd (omega (arith, h))
 
-after-tick : (event : Event) (args : List (List ℕ)) → front_of (keyword event) ≡ 29801 → HasArguments event args → length args ≡ 0
+after-tick : (event : Event) (args : List (List ℕ)) → front_of (keyword event) ≡ 29801 → HasArguments event args
+    → length args ≡ 0
 after-tick Open args h has = absurd (omega (arith, h))
 after-tick (Bind fd address) args h has = absurd (omega (arith, h))
 after-tick (Connect fd address) args h has = absurd (omega (arith, h))
@@ -100,14 +102,17 @@ call-ticks plain event n asks ticks =
     let one : length asks.form.args ≡ 1 = ap length args in
     omega (arith, none, one)
 
-pub call-show : (plain : List ℕ) (event : Event) (topic : Topic) → script.Asks all_events plain event → topic_asked plain ≡ Some topic → ⊥
+pub call-show : (plain : List ℕ) (event : Event) (topic : Topic) → script.Asks all_events plain event
+    → topic_asked plain ≡ Some topic → ⊥
 call-show plain event topic asks is =
     let shows = begins_with_show plain topic is in
     not-show event (sym (ap first_of asks.form.words_are) ∙ ap first_of shows.1)
 
-pub call-capture : (plain : List ℕ) (event : Event) (name : List ℕ) (d : Details) → script.Asks all_events plain event → IsAsked plain name d → ⊥
+pub call-capture : (plain : List ℕ) (event : Event) (name : List ℕ) (d : Details) → script.Asks all_events plain event
+    → IsAsked plain name d → ⊥
 call-capture plain event name d asks asked =
-    let all : keyword event ∷ asks.form.args ≡ codes "rx" ∷ codes "pcap" ∷ name ∷ asked.0 = sym asks.form.words_are ∙ asked.1 in
+    let all : keyword event ∷ asks.form.args ≡ codes "rx" ∷ codes "pcap" ∷ name ∷ asked.0 =
+    sym asks.form.words_are ∙ asked.1 in
     let first : keyword event ≡ codes "rx" = cc all in
     let args : asks.form.args ≡ codes "pcap" ∷ name ∷ asked.0 = cc all in
     let one : length asks.form.args ≡ 1 = after-rx event asks.form.args (ap front_of first) asks.form.arguments in
@@ -123,7 +128,8 @@ pub ticks-capture : (plain : List ℕ) (n : ℕ) (name : List ℕ) (d : Details)
 ticks-capture plain n name d ticks asked =
     let apart : 29801 ≡ 29304 = sym (ap first_of ticks.1) ∙ ap first_of asked.1 in omega (arith, apart)
 
-show-capture : (plain : List ℕ) (topic : Topic) (name : List ℕ) (d : Details) → topic_asked plain ≡ Some topic → IsAsked plain name d → ⊥
+show-capture : (plain : List ℕ) (topic : Topic) (name : List ℕ) (d : Details) → topic_asked plain ≡ Some topic
+    → IsAsked plain name d → ⊥
 show-capture plain topic name d is asked =
     let shows = begins_with_show plain topic is in
     let apart : 29304 ≡ 29544 = sym (ap first_of asked.1) ∙ ap first_of shows.1 in omega (arith, apart)
@@ -150,7 +156,8 @@ capture-settings plain name d is h =
     omega (arith, same)
 
 -- what a line of settings asks for
-settings_alone : (plain : List ℕ) (ask : Ask) → has_dashes plain ≡ true → Writes plain ask → ask ≡ Settings (words plain)
+settings_alone : (plain : List ℕ) (ask : Ask) → has_dashes plain ≡ true → Writes plain ask
+    → ask ≡ Settings (words plain)
 settings_alone plain (Call event) is h = absurd (call-settings plain event is h)
 settings_alone plain (Ticks n) is h = absurd (ticks-settings plain n is h)
 settings_alone plain (Show topic) is h = absurd (show-settings plain topic is h)
@@ -193,14 +200,18 @@ one_ask one plain (Capture name d) (Ticks n) h k = absurd (ticks-capture plain n
 one_ask one plain (Capture name d) (Show topic) h k = absurd (show-capture plain topic name d k h)
 one_ask one plain (Capture name d) (Capture name' e) h k =
     ap₂ Capture (name-same plain name name' d e h k) (capture-same plain name name' d e h k)
-one_ask one plain (Capture name d) (Settings named) h k = settings_alone plain (Capture name d) k.0 h ∙ ap Settings (sym k.1)
+one_ask one plain (Capture name d) (Settings named) h k =
+    settings_alone plain (Capture name d) k.0 h ∙ ap Settings (sym k.1)
 one_ask one plain (Settings named) b h k = ap Settings h.1 ∙ sym (settings_alone plain b h.0 k)
 
 -- a line that asks for none of them
-pub asks_nothing : (plain : List ℕ) → ((event : Event) → ¬ script.Asks all_events plain event) → ((n : ℕ) → ¬ IsTicks plain n)
-    → None ≡ topic_asked plain → ((name : List ℕ) (d : Details) → ¬ IsAsked plain name d) → has_dashes plain ≡ false → AsksFor plain None
+pub asks_nothing : (plain : List ℕ) → ((event : Event) → ¬ script.Asks all_events plain event)
+    → ((n : ℕ) → ¬ IsTicks plain n)
+    → None ≡ topic_asked plain → ((name : List ℕ) (d : Details) → ¬ IsAsked plain name d) → has_dashes plain ≡ false
+    → AsksFor plain None
 asks_nothing plain no_call no_ticks no_topic no_capture no_dashes (Call event) h = no_call event h
 asks_nothing plain no_call no_ticks no_topic no_capture no_dashes (Ticks n) h = no_ticks n h
 asks_nothing plain no_call no_ticks no_topic no_capture no_dashes (Show topic) h = cc
 asks_nothing plain no_call no_ticks no_topic no_capture no_dashes (Capture name d) h = no_capture name d h
-asks_nothing plain no_call no_ticks no_topic no_capture no_dashes (Settings named) h = absurd (false≢true (sym no_dashes ∙ h.0))
+asks_nothing plain no_call no_ticks no_topic no_capture no_dashes (Settings named) h =
+    absurd (false≢true (sym no_dashes ∙ h.0))

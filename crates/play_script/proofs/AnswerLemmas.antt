@@ -14,11 +14,17 @@ use Rattle.play_script.specs.declared.tell.Told.{Told}
 use Rattle.play_script.specs.declared.tell.Told.TheVariants as told
 
 -- a line that asks for this
-pub Ask-tells : (step : State → Event → Reply → State → Type 0) (has : List ℕ → List ℕ → Type 0) (now new : Play) (shown plain line : List ℕ)
+pub Ask-tells : (step : State → Event → Reply → State → Type 0) (has : List ℕ → List ℕ → Type 0) (now new : Play)
+    (shown plain line : List ℕ)
     (wanted : Option (List ℕ)) (ask : Ask) (text below : List ℕ) (after : CapturedView) (quiet : Bool) → line ≡ plain
     → quiet ≡ is_quiet now.form → AsksFor line (Some ask)
     → TellsAsk step has quiet ask (captured_of now.machine now.traced now.number) text below after
-    → new ≡ record now { machine = after.machine; traced = after.traced; head = now.head && stays_head ask; sound = now.sound && is_sound wanted text }
+    → new ≡ record now {
+      machine = after.machine;
+      traced = after.traced;
+      head = now.head && stays_head ask;
+      sound = now.sound && is_sound wanted text;
+    }
     → TellsAsked step has now shown plain wanted (told_text now.form now.name now.number shown wanted text below) new
 Ask-tells step has now new shown plain line wanted ask text below after quiet same loud asks tells is = (
   Some ask,
@@ -27,18 +33,21 @@ Ask-tells step has now new shown plain line wanted ask text below after quiet sa
     after,
     text,
     below,
-    subst (λ (q : Bool). TellsAsk step has q ask (captured_of now.machine now.traced now.number) text below after) loud tells,
+    subst (λ (q : Bool). TellsAsk step has q ask (captured_of now.machine now.traced now.number) text below after) loud
+        tells,
     refl,
     is,
   ),
 )
 
 -- a line that asks for nothing
-pub None-tells : (step : State → Event → Reply → State → Type 0) (has : List ℕ → List ℕ → Type 0) (now new : Play) (shown plain line : List ℕ)
+pub None-tells : (step : State → Event → Reply → State → Type 0) (has : List ℕ → List ℕ → Type 0) (now new : Play)
+    (shown plain line : List ℕ)
     (wanted : Option (List ℕ)) (after : CapturedView) → line ≡ plain → AsksFor line None
     → after ≡ captured_of now.machine now.traced now.number
     → new ≡ record now { machine = after.machine; traced = after.traced; sound = false }
-    → TellsAsked step has now shown plain wanted (fault_text now.form now.name now.number (codes "this asks for nothing")) new
+    → TellsAsked step has now shown plain wanted
+    (fault_text now.form now.name now.number (codes "this asks for nothing")) new
 None-tells step has now new shown plain line wanted after same none kept is = (
   None,
   subst (λ (t : List ℕ). AsksFor t None) same none,
@@ -46,14 +55,19 @@ None-tells step has now new shown plain line wanted after same none kept is = (
 )
 
 -- a line of settings
-pub Settings-tell : (step : State → Event → Reply → State → Type 0) (has : List ℕ → List ℕ → Type 0) (now mid new : Play) (shown plain line text : List ℕ)
-    (wanted : Option (List ℕ)) (named : List (List ℕ)) (ask : Ask) (after : CapturedView) → line ≡ plain → AsksFor line (Some ask) → ask ≡ Settings named
-    → after ≡ captured_of now.machine now.traced now.number → mid ≡ record now { machine = after.machine; traced = after.traced }
+pub Settings-tell : (step : State → Event → Reply → State → Type 0) (has : List ℕ → List ℕ → Type 0)
+    (now mid new : Play) (shown plain line text : List ℕ)
+    (wanted : Option (List ℕ)) (named : List (List ℕ)) (ask : Ask) (after : CapturedView) → line ≡ plain
+    → AsksFor line (Some ask) → ask ≡ Settings named
+    → after ≡ captured_of now.machine now.traced now.number
+    → mid ≡ record now { machine = after.machine; traced = after.traced }
     → TellsSettings mid shown (words plain) wanted text new → TellsAsked step has now shown plain wanted text new
 Settings-tell step has now mid new shown plain line text wanted named ask after same asks is kept begun said =
     let here : AsksFor plain (Some (Settings named)) =
-    subst (λ (t : List ℕ). AsksFor t (Some (Settings named))) same (subst (λ (a : Ask). AsksFor line (Some a)) is asks) in
-    let unchanged : mid ≡ now = begun ∙ ap (λ (s : CapturedView). record now { machine = s.machine; traced = s.traced }) kept in (
+    subst (λ (t : List ℕ). AsksFor t (Some (Settings named))) same (subst (λ (a : Ask). AsksFor line (Some a)) is asks)
+    in
+    let unchanged : mid ≡ now =
+    begun ∙ ap (λ (s : CapturedView). record now { machine = s.machine; traced = s.traced }) kept in (
       Some (Settings named),
       here,
       inr (
@@ -65,16 +79,20 @@ Settings-tell step has now mid new shown plain line text wanted named ask after 
     )
 
 -- what came of what a line asks for
-pub Told-some : (step : State → Event → Reply → State → Type 0) (has : List ℕ → List ℕ → Type 0) (quiet : Bool) (plain : List ℕ) (ask : Ask) (came : Told)
-    (old new : CapturedView) (text below : List ℕ) → AsksFor plain (Some ask) → IsToldAs step has quiet ask came old text below new
+pub Told-some : (step : State → Event → Reply → State → Type 0) (has : List ℕ → List ℕ → Type 0) (quiet : Bool)
+    (plain : List ℕ) (ask : Ask) (came : Told)
+    (old new : CapturedView) (text below : List ℕ) → AsksFor plain (Some ask)
+    → IsToldAs step has quiet ask came old text below new
     → IsTold step has quiet plain came old text below new
 Told-some step has quiet plain ask told.Nothing old new text below asks came = absurd came
 Told-some step has quiet plain ask told.Settings old new text below asks came = (ask, asks, came)
 Told-some step has quiet plain ask (told.Done stays) old new text below asks came = (ask, asks, came)
 
 -- a line that asks for something, or expects something
-pub Asks-tells : (step : State → Event → Reply → State → Type 0) (has : List ℕ → List ℕ → Type 0) (old now new : Play) (line shown plain text : List ℕ)
-    (wanted : Option (List ℕ)) → now ≡ next_line old → reading line ≡ Asks shown plain wanted → TellsAsked step has now shown plain wanted text new
+pub Asks-tells : (step : State → Event → Reply → State → Type 0) (has : List ℕ → List ℕ → Type 0) (old now new : Play)
+    (line shown plain text : List ℕ)
+    (wanted : Option (List ℕ)) → now ≡ next_line old → reading line ≡ Asks shown plain wanted
+    → TellsAsked step has now shown plain wanted text new
     → Tells step has old line text new
 Asks-tells step has old now new line shown plain text wanted counted is said =
     subst (λ (r : Reading). TellsReading step has (next_line old) r text new) (sym is)

@@ -35,28 +35,33 @@ same_but_ticks : (old new : Traced) → new.ticks ≡ later old.ticks → new.wh
     → new ≡ record old { ticks = later old.ticks }
 same_but_ticks old new t w b = rw (sym t, sym w, sym b) refl
 
-pub Captures-no_ticks : (number n : ℕ) (t : Traced) (reply : Reply) → n ≤ 0 → Captures number t (turns_of (replicate n Tick) reply) t
+pub Captures-no_ticks : (number n : ℕ) (t : Traced) (reply : Reply) → n ≤ 0
+    → Captures number t (turns_of (replicate n Tick) reply) t
 Captures-no_ticks number zero t reply none = (Keeps-none t, refl)
 Captures-no_ticks number (suc n) t reply none = absurd (omega (arith, none))
 
 -- a tick in front of others
 pub Captures-ticks : (number n m : ℕ) (old mid new : Traced) (reply : Reply) → 0 < n → m ≡ n - 1
     → mid.ticks ≡ later old.ticks → mid.whole ≡ old.whole → mid.wrote ≡ old.wrote
-    → Captures number mid (turns_of (replicate m Tick) reply) new → Captures number old (turns_of (replicate n Tick) reply) new
+    → Captures number mid (turns_of (replicate m Tick) reply) new
+    → Captures number old (turns_of (replicate n Tick) reply) new
 Captures-ticks number zero m old mid new reply some is t w b h = absurd (omega arith)
 Captures-ticks number (suc n) m old mid new reply some is t w b h =
     let less : m ≡ n = omega arith in
     let front : Captures number mid (turns_of (replicate n Tick) reply) new =
     subst (λ (k : ℕ). Captures number mid (turns_of (replicate k Tick) reply) new) less h in
-    subst (λ (s : Traced). Captures number s (turns_of (replicate n Tick) reply) new) (same_but_ticks old mid t w b) front
+    subst (λ (s : Traced). Captures number s (turns_of (replicate n Tick) reply) new) (same_but_ticks old mid t w b)
+    front
 
 -- ---- a line
 
 -- a tick alone
-pub Captures-tick : (number : ℕ) (old new : Traced) (reply : Reply) → new.ticks ≡ later old.ticks → new.whole ≡ old.whole → new.wrote ≡ old.wrote
+pub Captures-tick : (number : ℕ) (old new : Traced) (reply : Reply) → new.ticks ≡ later old.ticks
+    → new.whole ≡ old.whole → new.wrote ≡ old.wrote
     → Captures number old (turn_of Tick reply ∷ []) new
 Captures-tick number old new reply t w b =
-    subst (λ (s : Traced). Captures number old (turn_of Tick reply ∷ []) s) (sym (same_but_ticks old new t w b)) (Keeps-none old, refl)
+    subst (λ (s : Traced). Captures number old (turn_of Tick reply ∷ []) s) (sym (same_but_ticks old new t w b))
+    (Keeps-none old, refl)
 
 -- a packet that comes, and one that the link takes
 pub Captures-comes : (number : ℕ) (old new : Traced) (packet : List ℕ) (reply : Reply)
@@ -73,9 +78,12 @@ Captures-given number old new packet reply is h t = (
   t,
 )
 
-pub Captures-not_given : (number : ℕ) (t : Traced) (reply : Reply) → given reply ≡ None → Captures number t (turn_of Transmit reply ∷ []) t
-Captures-not_given number t reply is =
-    (subst (λ (m : Option (List ℕ)). Keeps t t (passes_bytes (pass_if t.ticks number m ++ []))) (sym is) (Keeps-none t), refl)
+pub Captures-not_given : (number : ℕ) (t : Traced) (reply : Reply) → given reply ≡ None
+    → Captures number t (turn_of Transmit reply ∷ []) t
+Captures-not_given number t reply is = (
+  subst (λ (m : Option (List ℕ)). Keeps t t (passes_bytes (pass_if t.ticks number m ++ []))) (sym is) (Keeps-none t),
+  refl,
+)
 
 -- ---- lines one after another
 
@@ -83,12 +91,15 @@ abbrev pub Joins : Type 0
 Joins = (old mid new : Traced) (a b : List ℕ) → Keeps old mid a → Keeps mid new b → Keeps old new (a ++ b)
 
 -- a line in front of others
-pub Captures-join : Joins → (number m : ℕ) (old mid new : Traced) (first : List Turn) (rest : List (List Turn)) → m ≡ number
+pub Captures-join : Joins → (number m : ℕ) (old mid new : Traced) (first : List Turn) (rest : List (List Turn))
+    → m ≡ number
     → Captures number old first mid → Keeps mid new (passes_bytes (all_passes m mid.ticks rest))
-    → Keeps old new (passes_bytes (passes number old.ticks first ++ all_passes number (ticks_after old.ticks first) rest))
+    → Keeps old new (passes_bytes (passes number old.ticks first
+    ++ all_passes number (ticks_after old.ticks first) rest))
 Captures-join join number m old mid new first rest is captured kept =
     let later_kept : Keeps mid new (passes_bytes (all_passes number (ticks_after old.ticks first) rest)) =
     subst (λ (t : ℕ). Keeps mid new (passes_bytes (all_passes number t rest))) captured.1
     (subst (λ (k : ℕ). Keeps mid new (passes_bytes (all_passes k mid.ticks rest))) is kept) in
-    subst (λ (bytes : List ℕ). Keeps old new bytes) (sym (passes_bytes-append (passes number old.ticks first) (all_passes number (ticks_after old.ticks first) rest)))
+    subst (λ (bytes : List ℕ). Keeps old new bytes)
+    (sym (passes_bytes-append (passes number old.ticks first) (all_passes number (ticks_after old.ticks first) rest)))
     (join old mid new _ _ captured.0 later_kept)

@@ -5,12 +5,14 @@ use Rattle.flat_model.specs.Machine.State.{State}
 use Rattle.play_script.specs.Deeds.{Does, moved_in}
 
 -- no tick is left
-pub Does-no_ticks : (step : State → Event → Reply → State → Type 0) (n : ℕ) (s : State) → n ≤ 0 → Does step s (replicate n Tick) Done s
+pub Does-no_ticks : (step : State → Event → Reply → State → Type 0) (n : ℕ) (s : State) → n ≤ 0
+    → Does step s (replicate n Tick) Done s
 Does-no_ticks step zero s none = refl
 Does-no_ticks step (suc n) s none = absurd (omega (arith, none))
 
 -- a tick in front of others
-pub Does-ticks : (step : State → Event → Reply → State → Type 0) (n m : ℕ) (old mid new : State) → 0 < n → m ≡ n - 1 → step old Tick Done mid
+pub Does-ticks : (step : State → Event → Reply → State → Type 0) (n m : ℕ) (old mid new : State) → 0 < n → m ≡ n - 1
+    → step old Tick Done mid
     → Does step mid (replicate m Tick) Done new → Does step old (replicate n Tick) Done new
 Does-ticks step zero m old mid new some is first rest = absurd (omega (arith, some))
 Does-ticks step (suc n) m old mid new some is first rest =

@@ -28,20 +28,24 @@ fits-fewer [] some = absurd (some refl)
 fits-fewer (g ∷ gs) some = refl
 
 -- more words are wanted than were told, or fewer
-pub fits-longer : (wanted told more : List (List ℕ)) (word got : List ℕ) → wanted ≡ word ∷ more → told ≡ got ∷ [] → (more ≡ [] → ⊥)
+pub fits-longer : (wanted told more : List (List ℕ)) (word got : List ℕ) → wanted ≡ word ∷ more → told ≡ got ∷ []
+    → (more ≡ [] → ⊥)
     → outcomes.fits wanted told ≡ false
 fits-longer wanted told more word got e f some = rw (e, f, fits-more more some) (and-false _)
 
-pub fits-shorter : (wanted told more : List (List ℕ)) (word got : List ℕ) → wanted ≡ word ∷ [] → told ≡ got ∷ more → (more ≡ [] → ⊥)
+pub fits-shorter : (wanted told more : List (List ℕ)) (word got : List ℕ) → wanted ≡ word ∷ [] → told ≡ got ∷ more
+    → (more ≡ [] → ⊥)
     → outcomes.fits wanted told ≡ false
 fits-shorter wanted told more word got e f some = rw (e, f, fits-fewer more some) (and-false _)
 
-pub unnumbered-longer : (wanted told more : List (List ℕ)) (word got number : List ℕ) → wanted ≡ word ∷ more → told ≡ got ∷ number ∷ []
+pub unnumbered-longer : (wanted told more : List (List ℕ)) (word got number : List ℕ) → wanted ≡ word ∷ more
+    → told ≡ got ∷ number ∷ []
     → (more ≡ [] → ⊥) → outcomes.fits_unnumbered wanted told ≡ false
 unnumbered-longer wanted told more word got number e f some =
     rw (e, f, fits-more more some) (and-and-false _ _)
 
-pub unnumbered-shorter : (wanted told more : List (List ℕ)) (word got number : List ℕ) → wanted ≡ word ∷ [] → told ≡ got ∷ number ∷ more
+pub unnumbered-shorter : (wanted told more : List (List ℕ)) (word got number : List ℕ) → wanted ≡ word ∷ []
+    → told ≡ got ∷ number ∷ more
     → (more ≡ [] → ⊥) → outcomes.fits_unnumbered wanted told ≡ false
 unnumbered-shorter wanted told more word got number e f some =
     rw (e, f, fits-fewer more some) (and-and-false _ _)

@@ -52,7 +52,8 @@ Captures-front join number old mid new turn turns first rest =
 
 -- the events of a capture, one after another
 Goes-turns : Joins → (events : List Event) (old new : CapturedView) → Goes (ComesTo Step) events old new
-    → Leads exact_ledger old.machine (map came_turn events) new.machine × Captures old.line old.traced (map came_turn events) new.traced
+    → Leads exact_ledger old.machine (map came_turn events) new.machine
+    × Captures old.line old.traced (map came_turn events) new.traced
 Goes-turns join [] old new same = (
   ap (λ (s : CapturedView). s.machine) same,
   Captures-same old.line old.traced new.traced (ap (λ (s : CapturedView). s.traced) same),
@@ -66,13 +67,16 @@ Goes-turns join (event ∷ events) old new (mid, went, rest) =
 
 -- ---- what it does
 
-abbrev pub MakesTurns : (List ℕ → List ℕ → Type 0) → List ℕ → List ℕ → Option (List ℕ) → CapturedView → CapturedView → Type 0
+abbrev pub MakesTurns : (List ℕ → List ℕ → Type 0) → List ℕ → List ℕ → Option (List ℕ) → CapturedView → CapturedView
+    → Type 0
 MakesTurns has shown plain wanted old new =
-    (turns : List Turn) × AreTurns has (Asks shown plain wanted) turns × Leads exact_ledger old.machine turns new.machine
+    (turns : List Turn) × AreTurns has (Asks shown plain wanted) turns
+    × Leads exact_ledger old.machine turns new.machine
     × Captures old.line old.traced turns new.traced
 
 -- nothing
-Turns-none : (has : List ℕ → List ℕ → Type 0) (shown plain word : List ℕ) (wanted : Option (List ℕ)) (d : Details) (old new : CapturedView)
+Turns-none : (has : List ℕ → List ℕ → Type 0) (shown plain word : List ℕ) (wanted : Option (List ℕ)) (d : Details)
+    (old new : CapturedView)
     → IsAsked plain word d → new ≡ old → MakesTurns has shown plain wanted old new
 Turns-none has shown plain word wanted d old new asked same = (
   [],
@@ -82,12 +86,17 @@ Turns-none has shown plain word wanted d old new asked same = (
 )
 
 -- what the file that was read does
-File-turns : Joins → (has : List ℕ → List ℕ → Type 0) (shown plain word file : List ℕ) (wanted : Option (List ℕ)) (d : Details)
+File-turns : Joins → (has : List ℕ → List ℕ → Type 0) (shown plain word file : List ℕ) (wanted : Option (List ℕ))
+    (d : Details)
     (outcome : Result Tally CaptureFault) (old new : CapturedView) → IsAsked plain word d → IsHad has word file
     → PlaysFile (ComesTo Step) d file outcome old new → MakesTurns has shown plain wanted old new
 File-turns join has shown plain word file wanted d (Ok tally) old new asked had (w, reads, range, goes, told) =
-    let made = Goes-turns join (capture_events d w) old new goes in
-    (map came_turn (capture_events d w), inr (inr (inl (word, d, file, w, asked, had, reads, range, refl))), made.0, made.1)
+    let made = Goes-turns join (capture_events d w) old new goes in (
+      map came_turn (capture_events d w),
+      inr (inr (inl (word, d, file, w, asked, had, reads, range, refl))),
+      made.0,
+      made.1,
+    )
 File-turns join has shown plain word file wanted d (Err NotOpened) old new asked had plays = absurd plays
 File-turns join has shown plain word file wanted d (Err NotRead) old new asked had plays = absurd plays
 File-turns join has shown plain word file wanted d (Err TooLong) old new asked had plays = absurd plays
@@ -98,7 +107,8 @@ File-turns join has shown plain word file wanted d (Err TooFew) old new asked ha
 File-turns join has shown plain word file wanted d (Err (Bad fault)) old new asked had (reads, same) =
     Turns-none has shown plain word wanted d old new asked same
 
-pub Named-turns : Joins → (has : List ℕ → List ℕ → Type 0) (shown plain word : List ℕ) (wanted : Option (List ℕ)) (d : Details)
+pub Named-turns : Joins → (has : List ℕ → List ℕ → Type 0) (shown plain word : List ℕ) (wanted : Option (List ℕ))
+    (d : Details)
     (outcome : Result Tally CaptureFault) (old new : CapturedView) → IsAsked plain word d
     → PlaysNamed has (ComesTo Step) d word outcome old new → MakesTurns has shown plain wanted old new
 Named-turns join has shown plain word wanted d outcome old new asked (inl (file, had, plays)) =

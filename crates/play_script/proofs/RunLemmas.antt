@@ -13,12 +13,15 @@ use Rattle.play_pcap.specs.Files.{no_folder}
 use Rattle.play_pcap.specs.Traces.{Traced, unwritten}
 use Rattle.play_script.specs.Tells.{Play, Tells, started}
 
-pub started-is : (machine : State) (traced : Traced) (config : Config) (number : ℕ) (sound : Bool) (form form' : Form) (name name' : List ℕ)
+pub started-is : (machine : State) (traced : Traced) (config : Config) (number : ℕ) (sound : Bool) (form form' : Form)
+    (name name' : List ℕ)
     → config ≡ machine.config → form ≡ form' → number ≡ 0 → name ≡ name' → sound ≡ true
-    → record (started machine traced form name) { config = config; number = number; sound = sound } ≡ started machine traced form' name'
+    → record (started machine traced form name) { config = config; number = number; sound = sound }
+    ≡ started machine traced form' name'
 started-is machine traced config number sound form form' name name' c e f h s = rw (c, e, f, h, s) refl
 
-unserved : (step : State → Event → Reply → State → Type 0) (has : List ℕ → List ℕ → Type 0) (c : Config) (fault : RunFault) (begun : Play) (a w : Option (List ℕ))
+unserved : (step : State → Event → Reply → State → Type 0) (has : List ℕ → List ℕ → Type 0) (c : Config)
+    (fault : RunFault) (begun : Play) (a w : Option (List ℕ))
     → IsUnbooted c fault → Serves (Tells step has) begun begun a a w w (Err fault)
 unserved step has c Memory begun a w h = (Moves-none a w, refl)
 unserved step has c BadSizes begun a w h = (Moves-none a w, refl)
@@ -28,31 +31,41 @@ unserved step has c Write begun a w h = absurd h
 unserved step has c TooManyLines begun a w h = absurd h
 
 -- nothing is served without a machine
-pub Serves-unbooted : (step : State → Event → Reply → State → Type 0) (has : List ℕ → List ℕ → Type 0) (c : Config) (fault : RunFault) (traced : Traced)
+pub Serves-unbooted : (step : State → Event → Reply → State → Type 0) (has : List ℕ → List ℕ → Type 0) (c : Config)
+    (fault : RunFault) (traced : Traced)
     (form : Form) (name : List ℕ) (a w : Option (List ℕ)) → IsUnbooted c fault
-    → (new : Play) × Serves (Tells step has) (started (boot c) traced form name) new a a w w (Err fault) × (true ≡ new.sound) × (traced ≡ new.traced)
+    → (new : Play) × Serves (Tells step has) (started (boot c) traced form name) new a a w w (Err fault)
+    × (true ≡ new.sound) × (traced ≡ new.traced)
 Serves-unbooted step has c fault traced form name a w h =
     (started (boot c) traced form name, unserved step has c fault (started (boot c) traced form name) a w h, refl, refl)
 
 -- what is served with a capture
-abbrev pub Served : (State → Event → Reply → State → Type 0) → (List ℕ → List ℕ → Type 0) → State → Traced → Form → List ℕ → Option (List ℕ)
+abbrev pub Served : (State → Event → Reply → State → Type 0) → (List ℕ → List ℕ → Type 0) → State → Traced → Form
+    → List ℕ → Option (List ℕ)
     → Option (List ℕ) → Option (List ℕ) → Option (List ℕ) → Result Unit RunFault → Bool → Traced → Type 0
 Served step has machine traced form name a b w v r sound after =
-    (new : Play) × Serves (Tells step has) (started machine traced form name) new a b w v r × (sound ≡ new.sound) × (after ≡ new.traced)
+    (new : Play) × Serves (Tells step has) (started machine traced form name) new a b w v r × (sound ≡ new.sound)
+    × (after ≡ new.traced)
 
-pub Serves-captured : (step : State → Event → Reply → State → Type 0) (has : List ℕ → List ℕ → Type 0) (machine booted : State) (traced : Traced)
-    (form : Form) (name : List ℕ) (a b w v : Option (List ℕ)) (r : Result Unit RunFault) (sound : Bool) (after : Traced) → machine ≡ booted
-    → Served step has machine traced form name a b w v r sound after → Served step has booted traced form name a b w v r sound after
+pub Serves-captured : (step : State → Event → Reply → State → Type 0) (has : List ℕ → List ℕ → Type 0)
+    (machine booted : State) (traced : Traced)
+    (form : Form) (name : List ℕ) (a b w v : Option (List ℕ)) (r : Result Unit RunFault) (sound : Bool) (after : Traced)
+    → machine ≡ booted
+    → Served step has machine traced form name a b w v r sound after
+    → Served step has booted traced form name a b w v r sound after
 Serves-captured step has machine booted traced form name a b w v r sound after same h =
     subst (λ (m : State). Served step has m traced form name a b w v r sound after) same h
 
 -- what is served without a capture, which is anyone's then, and without files
-abbrev pub Untraced : (State → Event → Reply → State → Type 0) → State → Form → List ℕ → Option (List ℕ) → Option (List ℕ) → Option (List ℕ)
+abbrev pub Untraced : (State → Event → Reply → State → Type 0) → State → Form → List ℕ → Option (List ℕ)
+    → Option (List ℕ) → Option (List ℕ)
     → Option (List ℕ) → Result Unit RunFault → Bool → Type 0
 Untraced step machine form name a b w v r sound =
-    (traced : Traced) × (new : Play) × Serves (Tells step no_folder) (started machine traced form name) new a b w v r × (sound ≡ new.sound)
+    (traced : Traced) × (new : Play) × Serves (Tells step no_folder) (started machine traced form name) new a b w v r
+    × (sound ≡ new.sound)
 
-pub Serves-untraced : (step : State → Event → Reply → State → Type 0) (c : Config) (fault : RunFault) (form : Form) (name : List ℕ)
+pub Serves-untraced : (step : State → Event → Reply → State → Type 0) (c : Config) (fault : RunFault) (form : Form)
+    (name : List ℕ)
     (a w : Option (List ℕ)) → IsUnbooted c fault → Untraced step (boot c) form name a a w w (Err fault) true
 Serves-untraced step c fault form name a w h = (
   unwritten None,
@@ -61,27 +74,35 @@ Serves-untraced step c fault form name a w h = (
   refl,
 )
 
-pub Serves-booted : (step : State → Event → Reply → State → Type 0) (machine booted : State) (form : Form) (name : List ℕ)
+pub Serves-booted : (step : State → Event → Reply → State → Type 0) (machine booted : State) (form : Form)
+    (name : List ℕ)
     (a b w v : Option (List ℕ)) (r : Result Unit RunFault) (sound : Bool) → machine ≡ booted
     → Untraced step machine form name a b w v r sound → Untraced step booted form name a b w v r sound
 Serves-booted step machine booted form name a b w v r sound same h =
     subst (λ (m : State). Untraced step m form name a b w v r sound) same h
 
 -- nothing is served without memory
-pub Serves-none : (step : State → Event → Reply → State → Type 0) (machine : State) (form : Form) (name : List ℕ) (a w : Option (List ℕ))
+pub Serves-none : (step : State → Event → Reply → State → Type 0) (machine : State) (form : Form) (name : List ℕ)
+    (a w : Option (List ℕ))
     → Untraced step machine form name a a w w (Err Memory) true
 Serves-none step machine form name a w =
     (unwritten None, started machine (unwritten None) form name, (Moves-none a w, refl), refl)
 
 -- what a new player serves
-pub Serves-started : (step : State → Event → Reply → State → Type 0) (has : List ℕ → List ℕ → Type 0) (machine : State) (traced after : Traced)
-    (config : Config) (number : ℕ) (sound : Bool) (form form' : Form) (name name' : List ℕ) (new : Play) (a b w v : Option (List ℕ)) (r : Result Unit RunFault)
+pub Serves-started : (step : State → Event → Reply → State → Type 0) (has : List ℕ → List ℕ → Type 0) (machine : State)
+    (traced after : Traced)
+    (config : Config) (number : ℕ) (sound : Bool) (form form' : Form) (name name' : List ℕ) (new : Play)
+    (a b w v : Option (List ℕ)) (r : Result Unit RunFault)
     → config ≡ machine.config → form ≡ form' → number ≡ 0 → name ≡ name' → sound ≡ true → after ≡ new.traced
-    → Serves (Tells step has) (record (started machine traced form name) { config = config; number = number; sound = sound }) new a b w v r
-    → (x : Play) × Serves (Tells step has) (started machine traced form' name') x a b w v r × (new.sound ≡ x.sound) × (after ≡ x.traced)
-Serves-started step has machine traced after config number sound form form' name name' new a b w v r c e f h s t served = (
-  new,
-  subst (λ (p : Play). Serves (Tells step has) p new a b w v r) (started-is machine traced config number sound form form' name name' c e f h s) served,
-  refl,
-  t,
-)
+    → Serves (Tells step has) (record (started machine traced form name)
+    { config = config; number = number; sound = sound }) new a b w v r
+    → (x : Play) × Serves (Tells step has) (started machine traced form' name') x a b w v r × (new.sound ≡ x.sound)
+    × (after ≡ x.traced)
+Serves-started step has machine traced after config number sound form form' name name' new a b w v r c e f h s t
+    served = (
+      new,
+      subst (λ (p : Play). Serves (Tells step has) p new a b w v r)
+          (started-is machine traced config number sound form form' name name' c e f h s) served,
+      refl,
+      t,
+    )

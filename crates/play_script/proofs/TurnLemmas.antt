@@ -39,11 +39,13 @@ ticks_turns : (n : ℕ) → turns_of (replicate n Tick) Done ≡ replicate n (tu
 ticks_turns zero = refl
 ticks_turns (suc n) = ap (λ (ts : List Turn). turn_of Tick Done ∷ ts) (ticks_turns n)
 
-Ticks-done : (n : ℕ) (old new : State) (reply : Reply) → 0 < n → Does Step old (replicate n Tick) reply new → reply ≡ Done
+Ticks-done : (n : ℕ) (old new : State) (reply : Reply) → 0 < n → Does Step old (replicate n Tick) reply new
+    → reply ≡ Done
 Ticks-done zero old new reply some h = absurd (omega (arith, some))
 Ticks-done (suc n) old new reply some (mid, step, rest) = step.0
 
-Leads-append : (old mid new : State) (first rest : List Turn) → Leads exact_ledger old first mid → Leads exact_ledger mid rest new
+Leads-append : (old mid new : State) (first rest : List Turn) → Leads exact_ledger old first mid
+    → Leads exact_ledger mid rest new
     → Leads exact_ledger old (first ++ rest) new
 Leads-append old mid new [] rest same later = subst (λ s. Leads exact_ledger s rest new) same later
 Leads-append old mid new (turn ∷ first) rest (range, next, step, leads) later =
@@ -54,14 +56,22 @@ abbrev Makes : (List ℕ → List ℕ → Type 0) → Reading → ℕ → State 
 Makes has line number old new t u =
     (turns : List Turn) × AreTurns has line turns × Leads exact_ledger old turns new × Captures number t turns u
 
-Makes-one : (has : List ℕ → List ℕ → Type 0) (number : ℕ) (old new : State) (t u : Traced) (shown plain : List ℕ) (wanted : Option (List ℕ)) (event : Event) (reply : Reply)
-    → script.Asks all_events plain event → Does Step old (event ∷ []) reply new → Captures number t (turns_of (event ∷ []) reply) u
+Makes-one : (has : List ℕ → List ℕ → Type 0) (number : ℕ) (old new : State) (t u : Traced) (shown plain : List ℕ)
+    (wanted : Option (List ℕ)) (event : Event) (reply : Reply)
+    → script.Asks all_events plain event → Does Step old (event ∷ []) reply new
+    → Captures number t (turns_of (event ∷ []) reply) u
     → Makes has (Asks shown plain wanted) number old new t u
-Makes-one has number old new t u shown plain wanted event reply asks (mid, step, same) captured =
-    (turn_of event reply ∷ [], inl (event, reply, asks, refl), (in_range plain event asks.form, mid, step, same), captured)
+Makes-one has number old new t u shown plain wanted event reply asks (mid, step, same) captured = (
+  turn_of event reply ∷ [],
+  inl (event, reply, asks, refl),
+  (in_range plain event asks.form, mid, step, same),
+  captured,
+)
 
-Makes-ticks : (has : List ℕ → List ℕ → Type 0) (number : ℕ) (old new : State) (t u : Traced) (shown plain : List ℕ) (wanted : Option (List ℕ)) (n : ℕ) (reply : Reply)
-    → IsTicks plain n → Does Step old (replicate n Tick) reply new → Captures number t (turns_of (replicate n Tick) reply) u
+Makes-ticks : (has : List ℕ → List ℕ → Type 0) (number : ℕ) (old new : State) (t u : Traced) (shown plain : List ℕ)
+    (wanted : Option (List ℕ)) (n : ℕ) (reply : Reply)
+    → IsTicks plain n → Does Step old (replicate n Tick) reply new
+    → Captures number t (turns_of (replicate n Tick) reply) u
     → Makes has (Asks shown plain wanted) number old new t u
 Makes-ticks has number old new t u shown plain wanted n reply is does captured =
     let done : turns_of (replicate n Tick) reply ≡ replicate n (turn_of Tick Done) =
@@ -93,20 +103,32 @@ not_late : (c : Config) → Ok c ≡ Err Late → ⊥
 not_late c e = cc
 
 -- what is told of what a line asks for, by its turns
-Told-turns : Joins → (has : List ℕ → List ℕ → Type 0) (ask : Ask) (old new : CapturedView) (shown plain : List ℕ) (wanted : Option (List ℕ)) (text below : List ℕ) (quiet : Bool)
+Told-turns : Joins → (has : List ℕ → List ℕ → Type 0) (ask : Ask) (old new : CapturedView) (shown plain : List ℕ)
+    (wanted : Option (List ℕ)) (text below : List ℕ) (quiet : Bool)
     → Writes plain ask → TellsAsk Step has quiet ask old text below new
-    → (turns : List Turn) × AreTurns has (Asks shown plain wanted) turns × Leads exact_ledger old.machine turns new.machine
+    → (turns : List Turn) × AreTurns has (Asks shown plain wanted) turns
+    × Leads exact_ledger old.machine turns new.machine
     × Captures old.line old.traced turns new.traced × (stays_head ask ≡ true → turns ≡ [])
 Told-turns join has (Call event) old new shown plain wanted text below quiet asks done =
-    let made = Makes-one has old.line old.machine new.machine old.traced new.traced shown plain wanted event done.reply asks done.does done.captured in
+    let made =
+    Makes-one has old.line old.machine new.machine old.traced new.traced shown plain wanted event done.reply asks
+    done.does done.captured in
     (made.0, made.1, made.2, made.3, λ stays. absurd (false≢true stays))
 Told-turns join has (Ticks n) old new shown plain wanted text below quiet ticks done =
-    let made = Makes-ticks has old.line old.machine new.machine old.traced new.traced shown plain wanted n done.reply ticks done.does done.captured in
+    let made =
+    Makes-ticks has old.line old.machine new.machine old.traced new.traced shown plain wanted n done.reply ticks
+    done.does done.captured in
     (made.0, made.1, made.2, made.3, λ stays. absurd (false≢true stays))
 Told-turns join has (Show topic) old new shown plain wanted text below quiet is (shows, same, traced) =
-    let idle = Show-idle plain topic is in
-    ([], inr (inr (inr (idle.0, idle.1, refl))), same, Captures-same old.line old.traced new.traced traced, λ stays. refl)
-Told-turns join has (Capture name d) old new shown plain wanted text below quiet asked (outcome, before, after, plays, was, now, tells, lines) =
+    let idle = Show-idle plain topic is in (
+      [],
+      inr (inr (inr (idle.0, idle.1, refl))),
+      same,
+      Captures-same old.line old.traced new.traced traced,
+      λ stays. refl,
+    )
+Told-turns join has (Capture name d) old new shown plain wanted text below quiet asked
+    (outcome, before, after, plays, was, now, tells, lines) =
     let made = Named-turns join has shown plain name wanted d outcome old new asked plays in
     (made.0, made.1, made.2, made.3, λ stays. absurd (false≢true stays))
 Told-turns join has (Settings named) old new shown plain wanted text below quiet asks told = absurd told
@@ -119,7 +141,8 @@ and_second : (a b : Bool) → (a && b) ≡ true → b ≡ true
 and_second true b h = h
 and_second false b h = absurd (false≢true h)
 
-Idle : (has : List ℕ → List ℕ → Type 0) (now new : Play) (line : Reading) → AreTurns has line [] → new.machine ≡ now.machine → new.traced ≡ now.traced → new.number ≡ now.number
+Idle : (has : List ℕ → List ℕ → Type 0) (now new : Play) (line : Reading) → AreTurns has line []
+    → new.machine ≡ now.machine → new.traced ≡ now.traced → new.number ≡ now.number
     → new.config ≡ now.config → new.head ≡ now.head → Asked has now line new
 Idle has now new line are machine traced number config head = record {
   turns = [];
@@ -131,11 +154,14 @@ Idle has now new line are machine traced number config head = record {
   head = λ h. (sym head ∙ h, refl);
 }
 
-Settings-line : (has : List ℕ → List ℕ → Type 0) (now new : Play) (shown plain text : List ℕ) (wanted : Option (List ℕ)) (named : List (List ℕ)) (head : Bool) → now.head ≡ head
-    → Writes plain (Settings named) → (outcome : Result Config SettingFault) → IsSettled head now.config named outcome → TellsSettled now shown wanted outcome text new
+Settings-line : (has : List ℕ → List ℕ → Type 0) (now new : Play) (shown plain text : List ℕ) (wanted : Option (List ℕ))
+    (named : List (List ℕ)) (head : Bool) → now.head ≡ head
+    → Writes plain (Settings named) → (outcome : Result Config SettingFault) → IsSettled head now.config named outcome
+    → TellsSettled now shown wanted outcome text new
     → Asked has now (Asks shown plain wanted) new ⊎ Settled has now (Asks shown plain wanted) new
 Settings-line has now new shown plain text wanted named head was is (Err fault) settled (told, same) =
-    inl (Idle has now new (Asks shown plain wanted) (inr (inr (inr ((Settings-idle plain is.0).0, (Settings-idle plain is.0).1, refl))))
+    inl (Idle has now new (Asks shown plain wanted)
+    (inr (inr (inr ((Settings-idle plain is.0).0, (Settings-idle plain is.0).1, refl))))
     (ap (λ (p : Play). p.machine) same) (ap (λ (p : Play). p.traced) same)
     (ap (λ (p : Play). p.number) same) (ap (λ (p : Play). p.config) same) (ap (λ (p : Play). p.head) same))
 Settings-line has now new shown plain text wanted named true was is (Ok c) (set, right) (told, same) =
@@ -145,28 +171,40 @@ Settings-line has now new shown plain text wanted named true was is (Ok c) (set,
       number = ap (λ (p : Play). p.number) same;
       was = was;
       machine = ap (λ (p : Play). p.machine) same ∙ ap boot (sym (ap (λ (p : Play). p.config) same));
-      set = inr (named, is, subst (λ (d : Config). IsSet now.config named (Ok d)) (sym (ap (λ (p : Play). p.config) same)) set);
+      set =
+          inr (
+            named,
+            is,
+            subst (λ (d : Config). IsSet now.config named (Ok d)) (sym (ap (λ (p : Play). p.config) same))
+                set,
+          );
     })
 Settings-line has now new shown plain text wanted named false was is (Ok c) settled told =
     absurd (not_late c settled)
 
-Asked-line : Joins → (has : List ℕ → List ℕ → Type 0) (now new : Play) (shown plain text : List ℕ) (wanted : Option (List ℕ))
+Asked-line : Joins → (has : List ℕ → List ℕ → Type 0) (now new : Play) (shown plain text : List ℕ)
+    (wanted : Option (List ℕ))
     → TellsAsked Step has now shown plain wanted text new
     → Asked has now (Asks shown plain wanted) new ⊎ Settled has now (Asks shown plain wanted) new
 Asked-line join has now new shown plain text wanted (None, none, (tells, same)) =
-    inl (Idle has now new (Asks shown plain wanted) (inr (inr (inr (λ event. none (Call event), λ n. none (Ticks n), refl))))
+    inl (Idle has now new (Asks shown plain wanted)
+    (inr (inr (inr (λ event. none (Call event), λ n. none (Ticks n), refl))))
     (ap (λ (p : Play). p.machine) same) (ap (λ (p : Play). p.traced) same)
     (ap (λ (p : Play). p.number) same) (ap (λ (p : Play). p.config) same) (ap (λ (p : Play). p.head) same))
 Asked-line join has now new shown plain text wanted (Some ask, asks, inr (named, is, (outcome, settled, told))) =
-    Settings-line has now new shown plain text wanted named now.head refl (subst (λ (a : Ask). Writes plain a) is asks) outcome settled told
+    Settings-line has now new shown plain text wanted named now.head refl (subst (λ (a : Ask). Writes plain a) is asks)
+    outcome settled told
 Asked-line join has now new shown plain text wanted (Some ask, asks, inl (after, said, below, answered, tells, same)) =
-    let made = Told-turns join has ask (captured_of now.machine now.traced now.number) after shown plain wanted said below (is_quiet now.form) asks answered in
+    let made =
+    Told-turns join has ask (captured_of now.machine now.traced now.number) after shown plain wanted said below
+    (is_quiet now.form) asks answered in
     let stayed : new.head ≡ (now.head && stays_head ask) = ap (λ (p : Play). p.head) same in
     inl (record {
       turns = made.0;
       are = made.1;
       leads = subst (λ s. Leads exact_ledger now.machine made.0 s) (sym (ap (λ (p : Play). p.machine) same)) made.2;
-      captured = subst (λ (t : Traced). Captures now.number now.traced made.0 t) (sym (ap (λ (p : Play). p.traced) same)) made.3;
+      captured =
+          subst (λ (t : Traced). Captures now.number now.traced made.0 t) (sym (ap (λ (p : Play). p.traced) same)) made.3;
       number = ap (λ (p : Play). p.number) same;
       config = ap (λ (p : Play). p.config) same;
       head = λ h. (
@@ -175,7 +213,8 @@ Asked-line join has now new shown plain text wanted (Some ask, asks, inl (after,
       );
     })
 
-Tells-line : Joins → (has : List ℕ → List ℕ → Type 0) (now new : Play) (line : Reading) (text : List ℕ) → TellsReading Step has now line text new
+Tells-line : Joins → (has : List ℕ → List ℕ → Type 0) (now new : Play) (line : Reading) (text : List ℕ)
+    → TellsReading Step has now line text new
     → Asked has now line new ⊎ Settled has now line new
 Tells-line join has now new Nothing text (is, same) =
     inl (Idle has now new Nothing refl (ap (λ (p : Play). p.machine) same) (ap (λ (p : Play). p.traced) same)
@@ -186,7 +225,8 @@ Tells-line join has now new TooLong text (is, same) =
 Tells-line join has now new (Faulty slip) text (is, same) =
     inl (Idle has now new (Faulty slip) refl (ap (λ (p : Play). p.machine) same) (ap (λ (p : Play). p.traced) same)
     (ap (λ (p : Play). p.number) same) (ap (λ (p : Play). p.config) same) (ap (λ (p : Play). p.head) same))
-Tells-line join has now new (Asks shown plain wanted) text told = Asked-line join has now new shown plain text wanted told
+Tells-line join has now new (Asks shown plain wanted) text told =
+    Asked-line join has now new shown plain text wanted told
 
 -- ---- all lines
 
@@ -201,17 +241,20 @@ MaySetAll-same [] c = refl
 MaySetAll-same (line ∷ lines) c = (c, MaySet-same (reading line) c, MaySetAll-same lines c)
 
 -- what a line adds to a capture, in front of what others add
-Kept-before : Joins → (has : List ℕ → List ℕ → Type 0) (now old mid new : Play) (lines : List (List ℕ)) (first : List Turn) (rest : IsRunOf has mid lines new)
+Kept-before : Joins → (has : List ℕ → List ℕ → Type 0) (now old mid new : Play) (lines : List (List ℕ))
+    (first : List Turn) (rest : IsRunOf has mid lines new)
     → now.traced ≡ old.traced → now.number ≡ more_by 1 old.number → mid.number ≡ now.number
     → Captures now.number now.traced first mid.traced
     → Keeps old.traced new.traced (passes_bytes (all_passes old.number old.traced.ticks (first ∷ rest.turns)))
 Kept-before join has now old mid new lines first rest t n m captured =
     Captures-join join (more_by 1 old.number) mid.number old.traced mid.traced new.traced first rest.turns (m ∙ n)
-    (subst (λ (k : ℕ). Captures k old.traced first mid.traced) n (subst (λ (s : Traced). Captures now.number s first mid.traced) t captured))
+    (subst (λ (k : ℕ). Captures k old.traced first mid.traced) n
+    (subst (λ (s : Traced). Captures now.number s first mid.traced) t captured))
     rest.kept
 
 -- a line in front of a run
-Asked-before : Joins → (has : List ℕ → List ℕ → Type 0) (now old mid new : Play) (line : List ℕ) (lines : List (List ℕ)) → now.machine ≡ old.machine → now.traced ≡ old.traced
+Asked-before : Joins → (has : List ℕ → List ℕ → Type 0) (now old mid new : Play) (line : List ℕ) (lines : List (List ℕ))
+    → now.machine ≡ old.machine → now.traced ≡ old.traced
     → now.number ≡ more_by 1 old.number → now.config ≡ old.config → now.head ≡ old.head
     → Asked has now (reading line) mid → IsRunOf has mid lines new → IsRunOf has old (line ∷ lines) new
 Asked-before join has now old mid new line lines m t n c h first rest =
@@ -230,26 +273,46 @@ Asked-before join has now old mid new line lines m t n c h first rest =
         first = rest.first;
         begins = inr (
           sym h ∙ (first.head stays).0,
-          (d, (old.config, MaySet-same (reading line) old.config, subst (λ (e : Config). MaySetAll lines e d) (first.config ∙ c) set), is),
+          (
+            d,
+            (
+              old.config,
+              MaySet-same (reading line) old.config,
+              subst (λ (e : Config). MaySetAll lines e d) (first.config ∙ c) set,
+            ),
+            is,
+          ),
         );
         turns = [] ∷ rest.turns;
         are = (subst (λ (ts : List Turn). AreTurns has (reading line) ts) (first.head stays).1 first.are, rest.are);
         leads = rest.leads;
         kept = Kept-before join has now old mid new lines [] rest t n first.number
-            (subst (λ (ts : List Turn). Captures now.number now.traced ts mid.traced) (first.head stays).1 first.captured);
+            (subst (λ (ts : List Turn). Captures now.number now.traced ts mid.traced) (first.head stays).1
+            first.captured);
       }
     ]
 
-Settled-before : Joins → (has : List ℕ → List ℕ → Type 0) (now old mid new : Play) (line : List ℕ) (lines : List (List ℕ)) → now.traced ≡ old.traced
+Settled-before : Joins → (has : List ℕ → List ℕ → Type 0) (now old mid new : Play) (line : List ℕ)
+    (lines : List (List ℕ)) → now.traced ≡ old.traced
     → now.number ≡ more_by 1 old.number → now.config ≡ old.config → now.head ≡ old.head
     → Settled has now (reading line) mid → IsRunOf has mid lines new → IsRunOf has old (line ∷ lines) new
 Settled-before join has now old mid new line lines t n c h first rest =
-    let set : MaySet (reading line) old.config mid.config = subst (λ (e : Config). MaySet (reading line) e mid.config) c first.set in
+    let set : MaySet (reading line) old.config mid.config =
+    subst (λ (e : Config). MaySet (reading line) e mid.config) c first.set in
     let kept = Kept-before join has now old mid new lines [] rest t n first.number first.captured in
     elim rest.begins [
       | inl same ↦ record {
         first = rest.first;
-        begins = inr (sym h ∙ first.was, (mid.config, (mid.config, set, MaySetAll-same lines mid.config), same ∙ first.machine));
+        begins =
+            inr (
+              sym h ∙ first.was,
+              (
+                mid.config,
+                (mid.config, set, MaySetAll-same lines mid.config),
+                same
+                    ∙ first.machine,
+              ),
+            );
         turns = [] ∷ rest.turns;
         are = (first.are, rest.are);
         leads = rest.leads;

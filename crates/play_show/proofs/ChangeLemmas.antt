@@ -11,7 +11,8 @@ unfolding delivered_below
 none_delivered text before after = sym (append-nil text)
 
 pub one_more_place : (n : ℕ) (text mid new before after : List ℕ) → mid ≡ text ++ delivered_below n before after
-    → new ≡ mid ++ delivered_line n (get_or before n 0) (get_or after n 0) → new ≡ text ++ delivered_below (n + 1) before after
+    → new ≡ mid ++ delivered_line n (get_or before n 0) (get_or after n 0)
+    → new ≡ text ++ delivered_below (n + 1) before after
 unfolding delivered_below
 one_more_place n text mid new before after e f =
     f ∙ ap (λ (t : List ℕ). t ++ delivered_line n (get_or before n 0) (get_or after n 0)) e
@@ -19,7 +20,8 @@ one_more_place n text mid new before after e f =
     ∙ ap (λ (k : ℕ). text ++ delivered_below k before after) (sym (add-one n))
 
 -- the line of a packet that was found
-pub found_line : (text new packet : List ℕ) (o : Option (List ℕ)) → Some packet ≡ o → new ≡ text ++ line_of (packet_text packet)
+pub found_line : (text new packet : List ℕ) (o : Option (List ℕ)) → Some packet ≡ o
+    → new ≡ text ++ line_of (packet_text packet)
     → new ≡ text ++ waiting_line o
 found_line text new packet o is e = subst (λ (x : Option (List ℕ)). new ≡ text ++ waiting_line x) is e
 
@@ -27,7 +29,8 @@ pub no_packets : (text : List ℕ) (from : ℕ) (output : List Item) → text �
 unfolding packets_below
 no_packets text from output = sym (append-nil text)
 
-pub one_more_packet : (n from : ℕ) (output : List Item) (text mid new : List ℕ) → mid ≡ text ++ packets_below n from output
+pub one_more_packet : (n from : ℕ) (output : List Item) (text mid new : List ℕ)
+    → mid ≡ text ++ packets_below n from output
     → new ≡ mid ++ waiting_line (nth_packet (from + n) output) → new ≡ text ++ packets_below (n + 1) from output
 unfolding packets_below
 one_more_packet n from output text mid new e f =

@@ -16,10 +16,12 @@ if_so b t p is = rw is refl
 pub put_if_less : (m n : ℕ) (t new p : List ℕ) → m < n → new ≡ t ++ p → new ≡ t ++ (if nat_lt m n then p else [])
 put_if_less m n t new p lt e = e ∙ if_so (nat_lt m n) t p (lt-ltb m n lt)
 
-pub joined_four : (t x y z u a b c d : List ℕ) → x ≡ t ++ a → y ≡ x ++ b → z ≡ y ++ c → u ≡ z ++ d → u ≡ t ++ (((a ++ b) ++ c) ++ d)
+pub joined_four : (t x y z u a b c d : List ℕ) → x ≡ t ++ a → y ≡ x ++ b → z ≡ y ++ c → u ≡ z ++ d
+    → u ≡ t ++ (((a ++ b) ++ c) ++ d)
 joined_four t x y z u a b c d ex ey ez eu = rw (eu, ez, ey, ex) (simp append_assoc)
 
 -- the third part is two
-pub joined_six : (t x y z u v a b c d e f : List ℕ) → x ≡ t ++ a → y ≡ x ++ b → z ≡ y ++ (c ++ d) → u ≡ z ++ e → v ≡ u ++ f
+pub joined_six : (t x y z u v a b c d e f : List ℕ) → x ≡ t ++ a → y ≡ x ++ b → z ≡ y ++ (c ++ d) → u ≡ z ++ e
+    → v ≡ u ++ f
     → v ≡ t ++ (((((a ++ b) ++ c) ++ d) ++ e) ++ f)
 joined_six t x y z u v a b c d e f ex ey ez eu ev = rw (ev, eu, ez, ey, ex) (simp append_assoc)

@@ -5,7 +5,8 @@ use Rattle.flat_model.specs.Scripts.Grammar.{words}
 use Rattle.play_show.specs.Topics.{topic_asked}
 use Rattle.play_show.specs.declared.topic.Topic.{Topic}
 
-chosen : (b : Bool) (t topic : Topic) (more : Option Topic) → (if b then Some t else more) ≡ Some topic → (b ≡ true) ⊎ (more ≡ Some topic)
+chosen : (b : Bool) (t topic : Topic) (more : Option Topic) → (if b then Some t else more) ≡ Some topic
+    → (b ≡ true) ⊎ (more ≡ Some topic)
 chosen true t topic more e = inl refl
 chosen false t topic more e = inr e
 

@@ -24,12 +24,14 @@ pub Shows-stack : (s : State) (about : Topic) (told below : List ℕ) → Shows 
 Shows-stack s topic.Sockets told below h = h
 Shows-stack s topic.Unfinished told below h = h
 Shows-stack s topic.Queue told below h = h
-Shows-stack s topic.Counters told below (counters, step, t, b) = (t, b ∙ ap counters_text (same_counters counters s.counters step.0))
+Shows-stack s topic.Counters told below (counters, step, t, b) =
+    (t, b ∙ ap counters_text (same_counters counters s.counters step.0))
 Shows-stack s topic.Pool told below (usage, (shown, is, reply, same), t, b) =
     (t ∙ ap pool_text (same_usage usage shown reply ∙ is), b)
 
 looked : (s : State) (x : Snapshot) → Step s Ask_usage (Shown x.usage) s → x.usage ≡ usage_of s
 looked s x (shown, is, reply, same) = same_usage x.usage shown reply ∙ is
 
-pub Snapshot-stack : (s : State) (x : Snapshot) → IsSnapshot Step s x → (x.counters ≡ s.counters) × (x.usage ≡ usage_of s)
+pub Snapshot-stack : (s : State) (x : Snapshot) → IsSnapshot Step s x
+    → (x.counters ≡ s.counters) × (x.usage ≡ usage_of s)
 Snapshot-stack s x h = (same_counters x.counters s.counters (h.counters).0, looked s x h.usage)

@@ -3,12 +3,14 @@ use Rattle.std.proofs.Common.{◌≡◌, ℕ, suc, ◌+◌, ◌<◌, false, List
 use Rattle.std.proofs.lemmas.List.{drop_more}
 use Rattle.play_text.specs.Forms.{begins_with, drops_at}
 
-next : (byte : ℕ) (bytes : List ℕ) → begins_with (byte ∷ bytes) (codes "dropped ") ≡ false → drops_at (byte ∷ bytes) ≡ suc (drops_at bytes)
+next : (byte : ℕ) (bytes : List ℕ) → begins_with (byte ∷ bytes) (codes "dropped ") ≡ false
+    → drops_at (byte ∷ bytes) ≡ suc (drops_at bytes)
 next byte bytes h = rw h refl
 
 pub step : (told : List ℕ) (at : ℕ) → at < length told → begins_with (drop at told) (codes "dropped ") ≡ false
     → at + drops_at (drop at told) ≡ at + 1 + drops_at (drop (at + 1) told)
 step told at h none =
     let begins = drop_more told at 0 h in
-    ap (λ n. at + n) (ap drops_at begins ∙ next (get_or told at 0) (drop (at + 1) told) (ap (λ t. begins_with t (codes "dropped ")) (sym begins) ∙ none))
+    ap (λ n. at + n) (ap drops_at begins
+    ∙ next (get_or told at 0) (drop (at + 1) told) (ap (λ t. begins_with t (codes "dropped ")) (sym begins) ∙ none))
     ∙ omega arith

@@ -4,20 +4,24 @@ use Rattle.std.proofs.lemmas.List.{append-nil, drop_more, drop_all}
 use Rattle.play_text.specs.Pieces.{piece_text, piece_room, room_of, text_after, text_of}
 use Rattle.play_text.specs.declared.piece.Piece.{Piece}
 
-behind : (text front : List ℕ) (pieces : List Piece) → text_after (text ++ front) pieces ≡ text ++ text_after front pieces
+behind : (text front : List ℕ) (pieces : List Piece)
+    → text_after (text ++ front) pieces ≡ text ++ text_after front pieces
 behind text front [] = refl
 behind text front (piece ∷ pieces) =
-    ap (λ (t : List ℕ). text_after t pieces) (append_assoc text front (piece_text piece)) ∙ behind text (front ++ piece_text piece) pieces
+    ap (λ (t : List ℕ). text_after t pieces) (append_assoc text front (piece_text piece))
+    ∙ behind text (front ++ piece_text piece) pieces
 
 -- once all pieces stand behind the text
-pub all_put : (pieces : List Piece) (i : ℕ) (old new : List ℕ) → length pieces ≤ i → text_after new (drop i pieces) ≡ text_after old pieces
+pub all_put : (pieces : List Piece) (i : ℕ) (old new : List ℕ) → length pieces ≤ i
+    → text_after new (drop i pieces) ≡ text_after old pieces
     → new ≡ old ++ text_of pieces
 all_put pieces i old new h e =
     ap (text_after new) (sym (drop_all i pieces h)) ∙ e
     ∙ ap (λ (t : List ℕ). text_after t pieces) (sym (append-nil old)) ∙ behind old [] pieces
 
 pub one_more : (pieces : List Piece) (i : ℕ) (d : Piece) (mid new whole : List ℕ) → i < length pieces
-    → text_after mid (drop i pieces) ≡ whole → new ≡ mid ++ piece_text (get_or pieces i d) → text_after new (drop (i + 1) pieces) ≡ whole
+    → text_after mid (drop i pieces) ≡ whole → new ≡ mid ++ piece_text (get_or pieces i d)
+    → text_after new (drop (i + 1) pieces) ≡ whole
 one_more pieces i d mid new whole lt h e =
     ap (λ (t : List ℕ). text_after t (drop (i + 1) pieces)) e ∙ sym (ap (text_after mid) (drop_more pieces i d lt)) ∙ h
 
@@ -32,5 +36,6 @@ next_fits pieces i d mid whole n lt h le = omega (arith, next_room pieces i d lt
 
 -- and for those behind it
 pub others_fit : (pieces : List Piece) (i : ℕ) (d : Piece) (mid new whole : ℕ) → i < length pieces
-    → mid + room_of (drop i pieces) ≤ whole → new ≤ mid + piece_room (get_or pieces i d) → new + room_of (drop (i + 1) pieces) ≤ whole
+    → mid + room_of (drop i pieces) ≤ whole → new ≤ mid + piece_room (get_or pieces i d)
+    → new + room_of (drop (i + 1) pieces) ≤ whole
 others_fit pieces i d mid new whole lt h le = omega (arith, next_room pieces i d lt)

@@ -20,7 +20,8 @@ unit byte h =
     )
     (ap Some (omega arith))
 
-coded : (byte : ℕ) (r : List ℕ) → byte < 256 → content plain (code_text byte ++ r) ≡ prepend (encode_utf8 byte) (content plain r)
+coded : (byte : ℕ) (r : List ℕ) → byte < 256
+    → content plain (code_text byte ++ r) ≡ prepend (encode_utf8 byte) (content plain r)
 unfolding content
 coded byte r h = rw (unit byte h, lt-leb 55296 byte (omega (arith, h)), lt-leb 56320 byte (omega (arith, h))) refl
 
@@ -37,17 +38,20 @@ unfolding content short_escape encode_utf8
 reads_backslash r = refl
 
 plain_is : (byte : ℕ) → (byte ≡ 34 → ⊥) → (byte ≡ 92 → ⊥) → 32 ≤ byte → byte < 127 → escaped_byte byte ≡ byte ∷ []
-plain_is byte q b l u = rw (ne_eqb byte 34 q, ne_eqb byte 92 b, le-ltb byte 32 l, le-ltb 126 byte (omega (arith, u))) refl
+plain_is byte q b l u =
+    rw (ne_eqb byte 34 q, ne_eqb byte 92 b, le-ltb byte 32 l, le-ltb 126 byte (omega (arith, u))) refl
 
 itself : (byte : ℕ) (r : List ℕ) → (byte ≡ 34 → ⊥) → (byte ≡ 92 → ⊥) → 32 ≤ byte → byte < 127
     → content plain (byte ∷ r) ≡ prepend (encode_utf8 byte) (content plain r)
 unfolding content
-itself byte r q b l u = rw (ne_eqb byte 34 q, ne_eqb byte 92 b, le-ltb byte 32 l, encode_ascii byte (omega (arith, u))) refl
+itself byte r q b l u =
+    rw (ne_eqb byte 34 q, ne_eqb byte 92 b, le-ltb byte 32 l, encode_ascii byte (omega (arith, u))) refl
 
 reads_plain : (byte : ℕ) → (byte ≡ 34 → ⊥) → (byte ≡ 92 → ⊥) → 32 ≤ byte → byte < 127 → Reads byte
 reads_plain byte q b l u r = ap (λ t. content plain (t ++ r)) (plain_is byte q b l u) ∙ itself byte r q b l u
 
-code_is : (byte : ℕ) → (byte ≡ 34 → ⊥) → (byte ≡ 92 → ⊥) → (byte < 32) ⊎ (127 ≤ byte) → escaped_byte byte ≡ code_text byte
+code_is : (byte : ℕ) → (byte ≡ 34 → ⊥) → (byte ≡ 92 → ⊥) → (byte < 32) ⊎ (127 ≤ byte)
+    → escaped_byte byte ≡ code_text byte
 code_is byte q b (inl l) = rw (ne_eqb byte 34 q, ne_eqb byte 92 b, lt-ltb byte 32 l) refl
 code_is byte q b (inr l) =
     rw (ne_eqb byte 34 q, ne_eqb byte 92 b, le-ltb byte 32 (omega (arith, l)), lt-ltb 126 byte (omega (arith, l))) refl
@@ -58,7 +62,8 @@ reads_coded byte q b l h r = ap (λ t. content plain (t ++ r)) (code_is byte q b
 reads : (byte : ℕ) → byte < 256 → Reads byte
 reads byte h = go (cases_eq byte 34) (cases_eq byte 92) (cases_lt byte 32) (cases_lt byte 127)
   where
-    go : (byte ≡ 34) ⊎ (byte ≡ 34 → ⊥) → (byte ≡ 92) ⊎ (byte ≡ 92 → ⊥) → (byte < 32) ⊎ (32 ≤ byte) → (byte < 127) ⊎ (127 ≤ byte)
+    go : (byte ≡ 34) ⊎ (byte ≡ 34 → ⊥) → (byte ≡ 92) ⊎ (byte ≡ 92 → ⊥) → (byte < 32) ⊎ (32 ≤ byte)
+        → (byte < 127) ⊎ (127 ≤ byte)
         → Reads byte
     go (inl e) b l u = subst Reads (sym e) reads_quote
     go (inr q) (inl e) l u = subst Reads (sym e) reads_backslash

@@ -33,7 +33,8 @@ set_same [] i x e = refl
 set_same (y ∷ xs) zero x e = cc
 set_same (y ∷ xs) (suc i) x e = ap (λ ys. y ∷ ys) (set_same xs i x e)
 
-pub get_set : {X : Type 0} (xs : List X) (i : ℕ) (x y : X) → slice_get xs i ≡ Some x → slice_get (slice_set xs i y) i ≡ Some y
+pub get_set : {X : Type 0} (xs : List X) (i : ℕ) (x y : X) → slice_get xs i ≡ Some x
+    → slice_get (slice_set xs i y) i ≡ Some y
 get_set [] i x y e = absurd (never e)
   where
     never : None ≡ Some x → ⊥
@@ -42,10 +43,12 @@ get_set (z ∷ xs) zero x y e = refl
 get_set (z ∷ xs) (suc i) x y e = get_set xs i x y e
 
 -- calls on a stack are acts on its segment
-pub calls_are_acts : (place : ℕ) (v : SegmentView) (turns : List Turn) (s t : StackView) → slice_get v.stacks place ≡ Some s → AreCalls s turns t
+pub calls_are_acts : (place : ℕ) (v : SegmentView) (turns : List Turn) (s t : StackView)
+    → slice_get v.stacks place ≡ Some s → AreCalls s turns t
     → AreActs v (map (Calls place) turns) (with_stack place t v)
 calls_are_acts place v [] s t here same =
-    ap (λ (xs : List StackView). record v { stacks = xs }) (ap (slice_set v.stacks place) same ∙ set_same v.stacks place s here)
+    ap (λ (xs : List StackView). record v { stacks = xs })
+    (ap (slice_set v.stacks place) same ∙ set_same v.stacks place s here)
 calls_are_acts place v (turn ∷ turns) s t here (range, mid, is, rest) = (
   with_stack place mid v,
   record {
@@ -61,7 +64,8 @@ calls_are_acts place v (turn ∷ turns) s t here (range, mid, is, rest) = (
     random = refl;
     tallies = refl;
   },
-  subst (λ (xs : List StackView). AreActs (with_stack place mid v) (map (Calls place) turns) (record v { stacks = xs })) (set_twice v.stacks place mid t)
+  subst (λ (xs : List StackView). AreActs (with_stack place mid v) (map (Calls place) turns) (record v { stacks = xs }))
+      (set_twice v.stacks place mid t)
       (calls_are_acts place (with_stack place mid v) turns mid t (get_set v.stacks place s mid here) rest),
 )
 
@@ -75,13 +79,15 @@ calls_append : (s t u : StackView) (xs ys : List Turn) → AreCalls s xs t → A
 calls_append s t u [] ys same later = subst (λ (x : StackView). AreCalls x ys u) same later
 calls_append s t u (x ∷ xs) ys (range, mid, is, rest) later = (range, mid, is, calls_append mid t u xs ys rest later)
 
-pub one_tick_more : (n : ℕ) (s t u : StackView) → AreCalls s (replicate n (turn_of Tick Done)) t → IsCall t (turn_of Tick Done) u
+pub one_tick_more : (n : ℕ) (s t u : StackView) → AreCalls s (replicate n (turn_of Tick Done)) t
+    → IsCall t (turn_of Tick Done) u
     → AreCalls s (replicate (suc n) (turn_of Tick Done)) u
 one_tick_more n s t u before step =
     subst (λ (xs : List Turn). AreCalls s xs u) (one_more n (turn_of Tick Done))
     (calls_append s t u (replicate n (turn_of Tick Done)) (turn_of Tick Done ∷ []) before (tt, u, step, refl))
 
-pub one_tick_later : (n : ℕ) (s t u : StackView) → AreCalls s (replicate n (turn_of Tick Done)) t → IsCall t (turn_of Tick Done) u
+pub one_tick_later : (n : ℕ) (s t u : StackView) → AreCalls s (replicate n (turn_of Tick Done)) t
+    → IsCall t (turn_of Tick Done) u
     → AreCalls s (replicate (n + 1) (turn_of Tick Done)) u
 one_tick_later n s t u before step =
     subst (λ k. AreCalls s (replicate k (turn_of Tick Done)) u) (sym (add-one n)) (one_tick_more n s t u before step)
@@ -92,14 +98,17 @@ pub carried_moves : (v w : SegmentView) → IsCarried v w → Moves v w
 carried_moves v w (mid, collected, delivered) =
     (Collects v ∷ Delivers mid ∷ [], (mid, (refl, collected), (w, (refl, delivered), refl)))
 
-by_choice : (v w : SegmentView) (n : ℕ) → ((mid : SegmentView) → AreCarried n mid w → Moves mid w) → (b : Bool) → is_quiet v ≡ b
+by_choice : (v w : SegmentView) (n : ℕ) → ((mid : SegmentView) → AreCarried n mid w → Moves mid w) → (b : Bool)
+    → is_quiet v ≡ b
     → AreCarried (suc n) v w → Moves v w
 by_choice v w n later true e choice = moves_not v w (choice.yes e)
-by_choice v w n later false e choice = let more = choice.no e in moves_on v more.0 w (carried_moves v more.0 more.1) (later more.0 more.2)
+by_choice v w n later false e choice = let more = choice.no e in
+    moves_on v more.0 w (carried_moves v more.0 more.1) (later more.0 more.2)
 
 pub all_carried_move : (n : ℕ) (v w : SegmentView) → AreCarried n v w → Moves v w
 all_carried_move zero v w same = moves_not v w same
-all_carried_move (suc n) v w choice = by_choice v w n (λ mid rest. all_carried_move n mid w rest) (is_quiet v) refl choice
+all_carried_move (suc n) v w choice =
+    by_choice v w n (λ mid rest. all_carried_move n mid w rest) (is_quiet v) refl choice
 
 -- ---- what changes no stack
 
@@ -108,8 +117,10 @@ one_act v w act is = (act ∷ [], (w, is, refl))
 
 -- ---- the stack of a host, handed over and put back
 
-pub put_back : (place : ℕ) (v mid w : SegmentView) (spare s t other : StackView) (b : Bool) → IsExchanged place v spare mid s
-    → Choice b (IsExchanged place mid t w other) (IsKept place mid w) → (slice_get v.stacks place ≡ Some s) × (w ≡ with_stack place t v)
+pub put_back : (place : ℕ) (v mid w : SegmentView) (spare s t other : StackView) (b : Bool)
+    → IsExchanged place v spare mid s
+    → Choice b (IsExchanged place mid t w other) (IsKept place mid w)
+    → (slice_get v.stacks place ≡ Some s) × (w ≡ with_stack place t v)
 put_back place v mid w spare s t other b (here, is) back = (here, by b refl)
   where
     there : slice_get mid.stacks place ≡ Some spare
@@ -119,11 +130,17 @@ put_back place v mid w spare s t other b (here, is) back = (here, by b refl)
     never e = cc
 
     by : (c : Bool) → b ≡ c → w ≡ with_stack place t v
-    by true e = (back.yes e).1 ∙ ap (with_stack place t) is ∙ ap (λ (xs : List StackView). record v { stacks = xs }) (set_twice v.stacks place spare t)
+    by true e =
+        (back.yes e).1 ∙ ap (with_stack place t) is
+        ∙ ap (λ (xs : List StackView). record v { stacks = xs }) (set_twice v.stacks place spare t)
     by false e = absurd (never (sym (back.no e).0 ∙ there))
 
-pub calls_move : (place : ℕ) (v mid w : SegmentView) (spare s t other : StackView) (b : Bool) (turns : List Turn) → IsExchanged place v spare mid s
+pub calls_move : (place : ℕ) (v mid w : SegmentView) (spare s t other : StackView) (b : Bool) (turns : List Turn)
+    → IsExchanged place v spare mid s
     → AreCalls s turns t → Choice b (IsExchanged place mid t w other) (IsKept place mid w) → Moves v w
 calls_move place v mid w spare s t other b turns first calls back =
-    let put = put_back place v mid w spare s t other b first back in
-    (map (Calls place) turns, subst (λ (x : SegmentView). AreActs v (map (Calls place) turns) x) (sym put.1) (calls_are_acts place v turns s t put.0 calls))
+    let put = put_back place v mid w spare s t other b first back in (
+      map (Calls place) turns,
+      subst (λ (x : SegmentView). AreActs v (map (Calls place) turns) x) (sym put.1)
+          (calls_are_acts place v turns s t put.0 calls),
+    )

@@ -30,12 +30,21 @@ pub answered_by_call : (plain : List ℕ) (s t : StackView) (text below : List �
     → Writes plain (Call event) → Step (state_of s) event reply (state_of t)
     → text ≡ told (reply_text reply) (drops_text (state_of s).counters (state_of t).counters) → below ≡ []
     → (turns : List Turn) × IsAnswered plain s turns (Told text below) t
-answered_by_call plain s t text below event reply asks step is none =
-    (turn_of event reply ∷ [], (Some (Call event), asks, (in_range plain event asks.form, t, step, refl), (reply, refl, ap₂ Told is none)))
+answered_by_call plain s t text below event reply asks step is none = (
+  turn_of event reply ∷ [],
+  (
+    Some (Call event),
+    asks,
+    (in_range plain event asks.form, t, step, refl),
+    (reply, refl, ap₂ Told is none),
+  ),
+)
 
 -- a line of a host, on its stack while that is handed over
-pub host_line : (place : ℕ) (plain : List ℕ) (v mid w : SegmentView) (spare s t other : StackView) (came : Outcome) (turns : List Turn) (b : Bool)
-    → IsExchanged place v spare mid s → IsAnswered plain s turns came t → Choice b (IsExchanged place mid t w other) (IsKept place mid w)
+pub host_line : (place : ℕ) (plain : List ℕ) (v mid w : SegmentView) (spare s t other : StackView) (came : Outcome)
+    (turns : List Turn) (b : Bool)
+    → IsExchanged place v spare mid s → IsAnswered plain s turns came t
+    → Choice b (IsExchanged place mid t w other) (IsKept place mid w)
     → IsHostLine place plain v (map (Calls place) turns) came w
 host_line place plain v mid w spare s t other came turns b first answered back =
     let put = put_back place v mid w spare s t other b first back in

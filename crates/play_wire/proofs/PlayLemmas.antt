@@ -12,13 +12,20 @@ use Rattle.play_wire.specs.Inside.{came_of}
 use Rattle.play_wire.specs.declared.fault.Fault.{Fault}
 use Rattle.play_wire.specs.declared.fault.Fault.TheVariants as fault
 
-pub done_by_wire : (play : Play) (named : Bool) (host plain : List ℕ) (came : Outcome) (v w : SegmentView) (old new : List (List ℕ))
-    → play.segment ≡ v → play.names ≡ old → named ≡ false → Moves v w → (more : List (List ℕ)) × (new ≡ old ++ more) → TellsLeft plain came w
+pub done_by_wire : (play : Play) (named : Bool) (host plain : List ℕ) (came : Outcome) (v w : SegmentView)
+    (old new : List (List ℕ))
+    → play.segment ≡ v → play.names ≡ old → named ≡ false → Moves v w → (more : List (List ℕ)) × (new ≡ old ++ more)
+    → TellsLeft plain came w
     → (acts : List Act) × IsDone play (if_there named host) plain acts came w new
 done_by_wire play named host plain came v w old new e f is (acts, are) (more, joined) tells = (
   acts,
-  subst (λ b. IsDone play (if_there b host) plain acts came w new) (sym is)
-      (subst (λ (x : SegmentView). AreActs x acts w) (sym e) are, tells, more, joined ∙ ap (λ (xs : List (List ℕ)). xs ++ more) (sym f)),
+  subst (λ b. IsDone play (if_there b host) plain acts came w new) (sym is) (
+    subst (λ (x : SegmentView). AreActs x acts w) (sym e) are,
+    tells,
+    more,
+    joined
+        ∙ ap (λ (xs : List (List ℕ)). xs ++ more) (sym f),
+  ),
 )
 
 -- what is told of a line `carry` that is answered so
@@ -28,7 +35,8 @@ pub tells_left : (came : Result Unit Fault) (plain words' told below : List ℕ)
 tells_left (Ok done) plain words' told below w same tells = λ rest is. tells rest (ap words same ∙ is)
 tells_left (Err fault) plain words' told below w same tells = tt
 
-pub done_by_host : (play : Play) (named : Bool) (host words plain : List ℕ) (came : Outcome) (v w : SegmentView) (old : List (List ℕ)) (place : ℕ)
+pub done_by_host : (play : Play) (named : Bool) (host words plain : List ℕ) (came : Outcome) (v w : SegmentView)
+    (old : List (List ℕ)) (place : ℕ)
     → play.segment ≡ v → play.names ≡ old → named ≡ true → slice_get old place ≡ Some host → words ≡ plain
     → (acts : List Act) × (IsHostLine place words v acts came w ⊎ IsMissing place v acts came w)
     → (acts : List Act) × IsDone play (if_there named host) plain acts came w old
@@ -37,21 +45,38 @@ done_by_host play named host words plain came v w old place e f is there same (a
     subst (λ (ws : List ℕ). IsHostLine place ws v acts came w ⊎ IsMissing place v acts came w) same did in
     let mine : IsHostLine place plain play.segment acts came w ⊎ IsMissing place play.segment acts came w =
     subst (λ (x : SegmentView). IsHostLine place plain x acts came w ⊎ IsMissing place x acts came w) (sym e) read in
-    let named_so : slice_get play.names place ≡ Some host = subst (λ (xs : List (List ℕ)). slice_get xs place ≡ Some host) (sym f) there in
-    (acts, subst (λ b. IsDone play (if_there b host) plain acts came w old) (sym is) (sym f, inl (place, named_so, mine)))
+    let named_so : slice_get play.names place ≡ Some host =
+    subst (λ (xs : List (List ℕ)). slice_get xs place ≡ Some host) (sym f) there in (
+      acts,
+      subst (λ b. IsDone play (if_there b host) plain acts came w old) (sym is)
+          (sym f, inl (place, named_so, mine)),
+    )
 
 pub done_by_none : (play : Play) (named : Bool) (host plain : List ℕ) (v : SegmentView) (old : List (List ℕ))
     → play.segment ≡ v → play.names ≡ old → named ≡ true
     → (acts : List Act) × IsDone play (if_there named host) plain acts (Refused fault.NoHost) v old
-done_by_none play named host plain v old e f is =
-    ([], subst (λ b. IsDone play (if_there b host) plain [] (Refused fault.NoHost) v old) (sym is) (sym f, inr (refl, sym e, refl)))
+done_by_none play named host plain v old e f is = (
+  [],
+  subst (λ b. IsDone play (if_there b host) plain [] (Refused fault.NoHost) v old) (sym is)
+      (sym f, inr (refl, sym e, refl)),
+)
 
 -- a line that is read so
-pub told_part : (old new : Play) (line part : List ℕ) (host : Option (List ℕ)) (read : Reading) (acts : List Act) (text : List ℕ)
-    → IsParted line host part → reading part ≡ read → TellsPart (next_line old) host (length line - length part) read acts text new
+pub told_part : (old new : Play) (line part : List ℕ) (host : Option (List ℕ)) (read : Reading) (acts : List Act)
+    (text : List ℕ)
+    → IsParted line host part → reading part ≡ read
+    → TellsPart (next_line old) host (length line - length part) read acts text new
     → Tells old line text new
-told_part old new line part host read acts text parted is tells =
-    (acts, (host, part, parted, subst (λ r. TellsPart (next_line old) host (length line - length part) r acts text new) (sym is) tells))
+told_part old new line part host read acts text parted is tells = (
+  acts,
+  (
+    host,
+    part,
+    parted,
+    subst (λ r. TellsPart (next_line old) host (length line - length part) r acts text new)
+        (sym is) tells,
+  ),
+)
 
 pub nothing_more : (old : List ℕ) → old ≡ old ++ []
 nothing_more [] = refl

@@ -13,25 +13,35 @@ use Rattle.play_wire.proofs.ActLemmas.{acts_append, calls_are_acts}
 none_are : (v w : SegmentView) (acts : List Act) → acts ≡ [] → w ≡ v → AreActs v acts w
 none_are v w acts none same = subst (λ (xs : List Act). AreActs v xs w) (sym none) same
 
-host_acts : (place : ℕ) (plain : List ℕ) (v w : SegmentView) (acts : List Act) (came : Outcome) → IsHostLine place plain v acts came w → AreActs v acts w
+host_acts : (place : ℕ) (plain : List ℕ) (v w : SegmentView) (acts : List Act) (came : Outcome)
+    → IsHostLine place plain v acts came w → AreActs v acts w
 host_acts place plain v w acts came is =
     subst (λ (xs : List Act). AreActs v xs w) (sym is.acts_are)
-    (subst (λ (x : SegmentView). AreActs v (map (Calls place) is.turns) x) (sym is.leads) (calls_are_acts place v is.turns is.before is.after is.here is.answered.2))
+    (subst (λ (x : SegmentView). AreActs v (map (Calls place) is.turns) x) (sym is.leads)
+    (calls_are_acts place v is.turns is.before is.after is.here is.answered.2))
 
-done_acts : (now : Play) (host : Option (List ℕ)) (plain : List ℕ) (acts : List Act) (came : Outcome) (segment : SegmentView) (names : List (List ℕ))
+done_acts : (now : Play) (host : Option (List ℕ)) (plain : List ℕ) (acts : List Act) (came : Outcome)
+    (segment : SegmentView) (names : List (List ℕ))
     → IsDone now host plain acts came segment names → AreActs now.segment acts segment
 done_acts now None plain acts came segment names done = done.0
-done_acts now (Some host) plain acts came segment names (same, inl (place, named, inl is)) = host_acts place plain now.segment segment acts came is
-done_acts now (Some host) plain acts came segment names (same, inl (place, named, inr missing)) = none_are now.segment segment acts missing.1 missing.3
-done_acts now (Some host) plain acts came segment names (same, inr (none, kept, refused)) = none_are now.segment segment acts none kept
+done_acts now (Some host) plain acts came segment names (same, inl (place, named, inl is)) =
+    host_acts place plain now.segment segment acts came is
+done_acts now (Some host) plain acts came segment names (same, inl (place, named, inr missing)) =
+    none_are now.segment segment acts missing.1 missing.3
+done_acts now (Some host) plain acts came segment names (same, inr (none, kept, refused)) =
+    none_are now.segment segment acts none kept
 
 part_acts : (now new : Play) (host : Option (List ℕ)) (before : ℕ) (line : Reading) (acts : List Act) (text : List ℕ)
     → TellsPart now host before line acts text new → AreActs now.segment acts new.segment
-part_acts now new host before Nothing acts text (none, is, same) = none_are now.segment new.segment acts none (ap (λ (p : Play). p.segment) same)
-part_acts now new host before TooLong acts text (none, is, same) = none_are now.segment new.segment acts none (ap (λ (p : Play). p.segment) same)
-part_acts now new host before (Faulty slip) acts text (none, is, same) = none_are now.segment new.segment acts none (ap (λ (p : Play). p.segment) same)
+part_acts now new host before Nothing acts text (none, is, same) =
+    none_are now.segment new.segment acts none (ap (λ (p : Play). p.segment) same)
+part_acts now new host before TooLong acts text (none, is, same) =
+    none_are now.segment new.segment acts none (ap (λ (p : Play). p.segment) same)
+part_acts now new host before (Faulty slip) acts text (none, is, same) =
+    none_are now.segment new.segment acts none (ap (λ (p : Play). p.segment) same)
 part_acts now new host before (Asks shown plain wanted) acts text (came, segment, names, done, is, same) =
-    subst (λ (v : SegmentView). AreActs now.segment acts v) (sym (ap (λ (p : Play). p.segment) same)) (done_acts now host plain acts came segment names done)
+    subst (λ (v : SegmentView). AreActs now.segment acts v) (sym (ap (λ (p : Play). p.segment) same))
+    (done_acts now host plain acts came segment names done)
 
 -- what is printed for lines, with the acts that made it
 pub told_by_acts : (old new : Play) (lines : List (List ℕ)) (printed : List ℕ) → Prints Tells old lines printed new
@@ -50,4 +60,9 @@ pub played : (seed : ℕ) (form : Form) (name : List ℕ) (new : Play) (lines : 
     → IsPlayed seed form name lines printed new
 played seed form name new lines printed law prints =
     let made = told_by_acts (started seed form name) new lines printed prints in
-    record { acts = made.0; told = made.1; done = ((started seed form name).segment, refl, made.2); lawful = law (Seeds seed ∷ made.0) }
+    record {
+      acts = made.0;
+      told = made.1;
+      done = ((started seed form name).segment, refl, made.2);
+      lawful = law (Seeds seed ∷ made.0);
+    }

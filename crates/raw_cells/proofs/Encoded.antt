@@ -18,7 +18,8 @@ high_bit false true = refl
 high_bit false false = refl
 
 -- a packet header is read back
-pub packet_back : (o : Option PacketHeader) (k x y : ℕ) (d : PacketHeader) → k ≡ bit (is_some o) → x ≡ (unwrap_or o d).len → y ≡ (unwrap_or o d).arrival
+pub packet_back : (o : Option PacketHeader) (k x y : ℕ) (d : PacketHeader) → k ≡ bit (is_some o)
+    → x ≡ (unwrap_or o d).len → y ≡ (unwrap_or o d).arrival
     → (if k == 0 then None else Some (record { len = x; arrival = y })) ≡ o
 packet_back None k x y d e ex ey = ap (λ j. if j == 0 then None else Some (record { len = x; arrival = y })) e
 packet_back (Some p) k x y d e ex ey =
@@ -26,6 +27,7 @@ packet_back (Some p) k x y d e ex ey =
     ∙ (λ t. Some (record { len = ex t; arrival = ey t }))
 
 -- a cluster's number is read back
-pub cluster_back : (o : Option ℕ) (k x d : ℕ) → k ≡ bit (is_some o) → x ≡ unwrap_or o d → (if k == 0 then None else Some x) ≡ o
+pub cluster_back : (o : Option ℕ) (k x d : ℕ) → k ≡ bit (is_some o) → x ≡ unwrap_or o d
+    → (if k == 0 then None else Some x) ≡ o
 cluster_back None k x d e ex = ap (λ j. if j == 0 then None else Some x) e
 cluster_back (Some c) k x d e ex = ap (λ j. if j == 0 then None else Some x) e ∙ ap Some ex

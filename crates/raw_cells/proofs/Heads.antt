@@ -32,7 +32,8 @@ at_least false b = lit≤ tt
 
 -- the size of a head, by the tests of its flags
 by_flags : (a b : Bool) (x : ℕ) (p : PacketHeader)
-    → ◌≡◌ {A = ℕ} (if is_some (if a then None else Some x) then 32 else (if is_some (if b then None else Some p) then 28 else 20)) (if a then (if b then 20 else 28) else 32)
+    → ◌≡◌ {A = ℕ} (if is_some (if a then None else Some x) then 32
+    else (if is_some (if b then None else Some p) then 28 else 20)) (if a then (if b then 20 else 28) else 32)
 by_flags true true x p = refl
 by_flags true false x p = refl
 by_flags false b x p = refl
@@ -53,7 +54,8 @@ module _ (xs ys : List ℕ) (o p n : ℕ) (h : (k : ℕ) → k < n → get_or xs
 
   same_u32 : (j : ℕ) → j + 4 ≤ n → u32_at xs (o + j) ≡ u32_at ys (p + j)
   same_u32 j le =
-      let a = same_first j (omega arith) in let b = same_byte j 1 (omega arith) in let c = same_byte j 2 (omega arith) in let d = same_byte j 3 (omega arith) in
+      let a = same_first j (omega arith) in let b = same_byte j 1 (omega arith) in
+      let c = same_byte j 2 (omega arith) in let d = same_byte j 3 (omega arith) in
       λ t. a t + b t * 0x100 + c t * 0x10000 + d t * 0x1000000
 
 if_else : {A : Type 0} (b : Bool) (z x y : A) → (b ≡ false → x ≡ y) → (if b then z else x) ≡ (if b then z else y)
@@ -69,14 +71,16 @@ size_32 : (a b : Bool) → a ≡ false → 32 ≤ (if a then (if b then 20 else 
 size_32 a b e = rw e (lit≤ tt)
 
 -- a head is told by its own bytes
-pub same_head : (xs ys : List ℕ) (o p : ℕ) → ((k : ℕ) → k < head_size (head_in xs o) → get_or xs (o + k) 0 ≡ get_or ys (p + k) 0) → head_in xs o ≡ head_in ys p
+pub same_head : (xs ys : List ℕ) (o p : ℕ)
+    → ((k : ℕ) → k < head_size (head_in xs o) → get_or xs (o + k) 0 ≡ get_or ys (p + k) 0) → head_in xs o ≡ head_in ys p
 unfolding head_by
 same_head xs ys o p h =
     let f : ℕ = u16_at xs (o + 18) in
     let a : Bool = f % 2 == 0 in let b : Bool = f / 2 % 2 == 0 in
     let n : ℕ = if a then (if b then 20 else 28) else 32 in
     let low : 20 ≤ n = at_least a b in
-    let size : head_size (head_in xs o) ≡ n = by_flags a b (u32_at xs (o + 28)) (record { len = u32_at xs (o + 20); arrival = u32_at xs (o + 20 + 4) }) in
+    let size : head_size (head_in xs o) ≡ n =
+    by_flags a b (u32_at xs (o + 28)) (record { len = u32_at xs (o + 20); arrival = u32_at xs (o + 20 + 4) }) in
     let h' : (k : ℕ) → k < n → get_or xs (o + k) 0 ≡ get_or ys (p + k) 0 = λ k lt. h k (omega (arith, lt, size)) in
     let same : (j : ℕ) → j + 4 ≤ n → u32_at xs (o + j) ≡ u32_at ys (p + j) = same_u32 xs ys o p n h' in
     let flags : f ≡ u16_at ys (p + 18) = same_u16 xs ys o p n h' 18 (omega (arith, low)) in
@@ -89,10 +93,20 @@ same_head xs ys o p h =
     let long = size_28 a b e in
     let total : u32_at xs (o + 20) ≡ u32_at ys (p + 20) = same 20 (omega (arith, long)) in
     let ox : o + 24 ≡ o + 20 + 4 = omega arith in let py : p + 24 ≡ p + 20 + 4 = omega arith in
-    let arrival : u32_at xs (o + 20 + 4) ≡ u32_at ys (p + 20 + 4) = sym (ap (u32_at xs) ox) ∙ same 24 (omega (arith, long)) ∙ ap (u32_at ys) py in
+    let arrival : u32_at xs (o + 20 + 4) ≡ u32_at ys (p + 20 + 4) =
+    sym (ap (u32_at xs) ox) ∙ same 24 (omega (arith, long)) ∙ ap (u32_at ys) py in
     λ t. Some (record { len = total t; arrival = arrival t })) in
-    let e6 : cluster_in xs (o + 28) f ≡ cluster_in ys (p + 28) f = if_else a None _ _ (λ e. ap Some (same 28 (omega (arith, size_32 a b e)))) in
-    (λ t. record { next = link_of (e0 t); next_packet = link_of (e1 t); len = e2 t; start = e3 t; kind = e4 t; packet = e5 t; cluster = e6 t })
+    let e6 : cluster_in xs (o + 28) f ≡ cluster_in ys (p + 28) f =
+    if_else a None _ _ (λ e. ap Some (same 28 (omega (arith, size_32 a b e)))) in
+    (λ t. record {
+      next = link_of (e0 t);
+      next_packet = link_of (e1 t);
+      len = e2 t;
+      start = e3 t;
+      kind = e4 t;
+      packet = e5 t;
+      cluster = e6 t;
+    })
     ∙ ap (λ g. head_by ys p g) flags
 
 -- a write apart from the heads leaves them
@@ -119,8 +133,10 @@ none_in o = refl
 -- the heads of a new block
 pub heads_new : (n m : ℕ) → heads_in n (replicate m 0) ≡ replicate n zero_head
 heads_new n m =
-    sym (fill_by_all (λ i. head_in (replicate m 0) (128 * i)) (replicate n zero_head) n zero_head (length-replicate n zero_head)
-    (λ i lt. get_or-replicate n i zero_head zero_head lt ∙ sym (none_in (128 * i)) ∙ same_head [] (replicate m 0) (128 * i) (128 * i) (λ k less. sym (zero_at m (128 * i + k)))))
+    sym (fill_by_all (λ i. head_in (replicate m 0) (128 * i)) (replicate n zero_head) n zero_head
+    (length-replicate n zero_head)
+    (λ i lt. get_or-replicate n i zero_head zero_head lt ∙ sym (none_in (128 * i))
+    ∙ same_head [] (replicate m 0) (128 * i) (128 * i) (λ k less. sym (zero_at m (128 * i + k)))))
 
 -- by the test, which says which of the two holds
 tested : (a b : ℕ) (is_less : Bool) → ltb a b ≡ is_less → (a < b) ⊎ (b ≤ a)
@@ -131,7 +147,8 @@ pub less_or_at_least : (a b : ℕ) → (a < b) ⊎ (b ≤ a)
 less_or_at_least a b = tested a b (ltb a b) refl
 
 -- two mbufs, or the room and the head of one, lie apart
-pub mbufs_apart : (bs : List ℕ) (n i j k s m : ℕ) → j < n → k < head_size (head_in bs (128 * j)) → head_size (head_in bs (128 * i)) ≤ s → s + m ≤ 128
+pub mbufs_apart : (bs : List ℕ) (n i j k s m : ℕ) → j < n → k < head_size (head_in bs (128 * j))
+    → head_size (head_in bs (128 * i)) ≤ s → s + m ≤ 128
     → (128 * j + k < 128 * i + s) ⊎ (128 * i + s + m ≤ 128 * j + k)
 mbufs_apart bs n i j k s m lt less past fits =
     let small = head_size_le (head_in bs (128 * j)) in
@@ -140,13 +157,15 @@ mbufs_apart bs n i j k s m lt less past fits =
       | inr le ↦ elim (less_or_at_least j i) [
         | inl below ↦ inl (omega (arith, small))
         | inr ge ↦ let same : j ≡ i = omega arith in
-            let here : k < head_size (head_in bs (128 * i)) = subst (λ (l : ℕ). k < head_size (head_in bs (128 * l))) same less in
+            let here : k < head_size (head_in bs (128 * i)) =
+            subst (λ (l : ℕ). k < head_size (head_in bs (128 * l))) same less in
             inl (omega arith)
       ]
     ]
 
 -- a new head is written over the old one
-pub head_written : (bs enc : List ℕ) (n i : ℕ) (h : Head) → i < n → 128 * n ≤ length bs → length enc ≡ 32 → head_in enc 0 ≡ h
+pub head_written : (bs enc : List ℕ) (n i : ℕ) (h : Head) → i < n → 128 * n ≤ length bs → length enc ≡ 32
+    → head_in enc 0 ≡ h
     → heads_in n (over bs (128 * i) (take (head_size h) enc)) ≡ set (heads_in n bs) i h
 head_written bs enc n i h lt room long is =
     let b = take (head_size h) enc in let o = 128 * i in
@@ -157,7 +176,8 @@ head_written bs enc n i h lt room long is =
     let here : head_in (over bs o b) o ≡ h = sym (same_head enc (over bs o b) 0 o (λ k less.
     let less' : k < head_size h = subst (λ g. k < head_size g) is less in
     let zero_k : 0 + k ≡ k = omega arith in
-    ap (λ j. get_or enc j 0) zero_k ∙ sym (over_in bs o b fits k 0 (omega arith) ∙ get_or-take (head_size h) enc k 0 less'))) ∙ is in
+    ap (λ j. get_or enc j 0) zero_k
+    ∙ sym (over_in bs o b fits k 0 (omega arith) ∙ get_or-take (head_size h) enc k 0 less'))) ∙ is in
     let there : (j : ℕ) → (j < i) ⊎ (i < j) → head_in bs (128 * j) ≡ head_in (over bs o b) (128 * j) = λ j apart.
     same_head bs (over bs o b) (128 * j) (128 * j) (λ k less.
     let small = head_size_le (head_in bs (128 * j)) in
@@ -167,10 +187,13 @@ head_written bs enc n i h lt room long is =
     ]) in
     sym (fill_by_all (λ j. head_in (over bs o b) (128 * j)) xs n zero_head (length-set (heads_in n bs) i h ∙ count)
     (λ j less. elim (less_or_at_least j i) [
-      | inl below ↦ get_or-set_other (heads_in n bs) i j h zero_head (λ e. omega arith) ∙ head_at n bs j zero_head less ∙ there j (inl below)
+      | inl below ↦ get_or-set_other (heads_in n bs) i j h zero_head (λ e. omega arith) ∙ head_at n bs j zero_head less
+          ∙ there j (inl below)
       | inr ge ↦ elim (less_or_at_least i j) [
-        | inl above ↦ get_or-set_other (heads_in n bs) i j h zero_head (λ e. omega arith) ∙ head_at n bs j zero_head less ∙ there j (inr above)
+        | inl above ↦ get_or-set_other (heads_in n bs) i j h zero_head (λ e. omega arith)
+            ∙ head_at n bs j zero_head less ∙ there j (inr above)
         | inr le ↦ let same : i ≡ j = omega arith in
-            subst (λ (l : ℕ). get_or xs l zero_head ≡ head_in (over bs o b) (128 * l)) same (get_or-set_same (heads_in n bs) i h zero_head (omega arith) ∙ sym here)
+            subst (λ (l : ℕ). get_or xs l zero_head ≡ head_in (over bs o b) (128 * l)) same
+            (get_or-set_same (heads_in n bs) i h zero_head (omega arith) ∙ sym here)
       ]
     ]))

@@ -38,11 +38,14 @@ sized_written c p ws sized at =
     }
 
 -- so does a new head
-pub sized_after_head : (old new : Cells) (i : ℕ) (h : Head) → IsSized old → i < length old.heads → SetsHead old new i h → IsSized new
+pub sized_after_head : (old new : Cells) (i : ℕ) (h : Head) → IsSized old → i < length old.heads → SetsHead old new i h
+    → IsSized new
 sized_after_head old new i h sized lt sets =
     let heads = length-set old.heads i h in
     subst IsSized (sym sets.2) (record {
-      block = length_over old.bytes (128 * i) sets.0 (omega (arith, sized.block)) ∙ sized.block ∙ ap (λ n. region_size n old.clusters) (sym heads);
+      block =
+          length_over old.bytes (128 * i) sets.0 (omega (arith, sized.block)) ∙ sized.block
+          ∙ ap (λ n. region_size n old.clusters) (sym heads);
       mbufs = (omega (arith, heads, sized.mbufs.0), omega (arith, heads, sized.mbufs.1));
       clusters = sized.clusters;
     })

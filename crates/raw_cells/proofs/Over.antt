@@ -5,7 +5,14 @@ use Rattle.raw_cells.specs.Over.{over}
 
 module _ {X : Type 0} (xs : List X) (at : ℕ) (ws : List X) where
   long_enough : at ≤ length xs → length xs ≤ length (take at xs ++ (ws ++ drop (at + length ws) xs))
-  long_enough h = omega (arith, length-append (take at xs) (ws ++ drop (at + length ws) xs), length-append ws (drop (at + length ws) xs), length-take-le at xs h, length-drop (at + length ws) xs)
+  long_enough h =
+      omega (
+        arith,
+        length-append (take at xs) (ws ++ drop (at + length ws) xs),
+        length-append ws (drop (at + length ws) xs),
+        length-take-le at xs h,
+        length-drop (at + length ws) xs,
+      )
 
   -- a write is as long as the list
   pub length_over : at ≤ length xs → length (over xs at ws) ≡ length xs
@@ -17,7 +24,15 @@ module _ {X : Type 0} (xs : List X) (at : ℕ) (ws : List X) where
 
     -- nothing is cut where all fits
     pub over_is : over xs at ws ≡ take at xs ++ (ws ++ drop (at + length ws) xs)
-    over_is = take_all (length xs) (take at xs ++ (ws ++ drop (at + length ws) xs)) (omega (arith, length-append (take at xs) (ws ++ drop (at + length ws) xs), length-append ws (drop (at + length ws) xs), front_long, length-drop (at + length ws) xs))
+    over_is =
+        take_all (length xs) (take at xs ++ (ws ++ drop (at + length ws) xs))
+        (omega (
+          arith,
+          length-append (take at xs) (ws ++ drop (at + length ws) xs),
+          length-append ws (drop (at + length ws) xs),
+          front_long,
+          length-drop (at + length ws) xs,
+        ))
 
     pub over_below : (k : ℕ) (d : X) → k < at → get_or (over xs at ws) k d ≡ get_or xs k d
     over_below k d lt =
@@ -27,7 +42,9 @@ module _ {X : Type 0} (xs : List X) (at : ℕ) (ws : List X) where
 
     -- at and after the write
     after : (k : ℕ) (d : X) → at ≤ k → get_or (over xs at ws) k d ≡ get_or (ws ++ drop (at + length ws) xs) (k - at) d
-    after k d le = ap (λ l. get_or l k d) over_is ∙ get_or-append_right (take at xs) (ws ++ drop (at + length ws) xs) at k d front_long le
+    after k d le =
+        ap (λ l. get_or l k d) over_is
+        ∙ get_or-append_right (take at xs) (ws ++ drop (at + length ws) xs) at k d front_long le
 
     pub over_in : (j : ℕ) (d : X) → j < length ws → get_or (over xs at ws) (at + j) d ≡ get_or ws j d
     over_in j d lt =

@@ -13,7 +13,11 @@ module _ (r : Inside) (is : IsRegion r) where
   pub region_sized : IsSized (seen r)
   region_sized =
       let count = length-heads r.mbufs r.block in
-      record { block = omega (arith, is.0, count); mbufs = (omega (arith, is.1, count), omega (arith, is.2, count)); clusters = is.3 }
+      record {
+        block = omega (arith, is.0, count);
+        mbufs = (omega (arith, is.1, count), omega (arith, is.2, count));
+        clusters = is.3;
+      }
 
   within : (b : Buffer) (s n : ℕ) → IsRoom (seen r) b s n → origin (seen r) b + s + n ≤ length r.block
   within (Mbuf i) s n at = omega (arith, is.0, at.0, at.3, length-heads r.mbufs r.block)
@@ -24,17 +28,22 @@ module _ (r : Inside) (is : IsRegion r) where
   part_within p at = within p.buffer p.start p.len at
 
   -- a room lies apart from all heads
-  apart : (b : Buffer) (s n : ℕ) → IsRoom (seen r) b s n → (m : ℕ) → m ≤ n → (j k : ℕ) → j < r.mbufs → k < head_size (head_in r.block (128 * j))
+  apart : (b : Buffer) (s n : ℕ) → IsRoom (seen r) b s n → (m : ℕ) → m ≤ n → (j k : ℕ) → j < r.mbufs
+      → k < head_size (head_in r.block (128 * j))
       → (128 * j + k < origin (seen r) b + s) ⊎ (origin (seen r) b + s + m ≤ 128 * j + k)
   apart (Mbuf i) s n at m le j k lt less =
       let here : i < r.mbufs = omega (arith, at.0, length-heads r.mbufs r.block) in
-      mbufs_apart r.block r.mbufs i j k s m lt less (subst (λ h. head_size h ≤ s) (head_at r.mbufs r.block i zero_head here) at.2) (omega (arith, at.3))
-  apart (Cluster i) s n at m le j k lt less = inl (omega (arith, length-heads r.mbufs r.block, head_size_le (head_in r.block (128 * j))))
+      mbufs_apart r.block r.mbufs i j k s m lt less
+      (subst (λ h. head_size h ≤ s) (head_at r.mbufs r.block i zero_head here) at.2) (omega (arith, at.3))
+  apart (Cluster i) s n at m le j k lt less =
+      inl (omega (arith, length-heads r.mbufs r.block, head_size_le (head_in r.block (128 * j))))
 
   -- a write to a part leaves the heads
   pub part_written : (p : Part) → IsPart (seen r) p → (ws : List ℕ)
       → seen (record r { block = over r.block (place (seen r) p) (take p.len ws) }) ≡ write (seen r) p ws
   part_written p at ws =
       let short : length (take p.len ws) ≤ p.len = omega (arith, length-take p.len ws) in
-      let kept = heads_kept r.mbufs r.block (place (seen r) p) (take p.len ws) (omega (arith, part_within p at)) (apart p.buffer p.start p.len at (length (take p.len ws)) short) in
+      let kept =
+      heads_kept r.mbufs r.block (place (seen r) p) (take p.len ws) (omega (arith, part_within p at))
+      (apart p.buffer p.start p.len at (length (take p.len ws)) short) in
       λ t. record { heads = kept t; bytes = over r.block (place (seen r) p) (take p.len ws); clusters = r.clusters }

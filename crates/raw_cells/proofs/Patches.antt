@@ -36,20 +36,26 @@ module _ (bs : List ℕ) (o k : ℕ) (w : List ℕ) (room : o + 32 ≤ length bs
   patched_in : (m : ℕ) → m < length w → get_or (patched bs o k w) (k + m) 0 ≡ get_or w m 0
   patched_in m lt = over_in (take 32 (drop o bs)) k w (omega (arith, front_long)) m 0 lt
 
-  other_byte : (j q n : ℕ) → j + n ≤ 32 → q < n → (j + n ≤ k) ⊎ (k + length w ≤ j) → get_or (patched bs o k w) (j + q) 0 ≡ get_or bs (o + j + q) 0
+  other_byte : (j q n : ℕ) → j + n ≤ 32 → q < n → (j + n ≤ k) ⊎ (k + length w ≤ j)
+      → get_or (patched bs o k w) (j + q) 0 ≡ get_or bs (o + j + q) 0
   other_byte j q n within lt apart =
       let same : o + (j + q) ≡ o + j + q = omega arith in
-      patched_other (j + q) (omega arith) (elim apart [ inl below ↦ inl (omega arith) | inr above ↦ inr (omega arith) ]) ∙ ap (λ x. get_or bs x 0) same
+      patched_other (j + q) (omega arith) (elim apart [ inl below ↦ inl (omega arith) | inr above ↦ inr (omega arith) ])
+      ∙ ap (λ x. get_or bs x 0) same
 
-  first_byte : (j n : ℕ) → j + n ≤ 32 → 0 < n → (j + n ≤ k) ⊎ (k + length w ≤ j) → get_or (patched bs o k w) j 0 ≡ get_or bs (o + j) 0
-  first_byte j n within lt apart = patched_other j (omega arith) (elim apart [ inl below ↦ inl (omega arith) | inr above ↦ inr (omega arith) ])
+  first_byte : (j n : ℕ) → j + n ≤ 32 → 0 < n → (j + n ≤ k) ⊎ (k + length w ≤ j)
+      → get_or (patched bs o k w) j 0 ≡ get_or bs (o + j) 0
+  first_byte j n within lt apart =
+      patched_other j (omega arith) (elim apart [ inl below ↦ inl (omega arith) | inr above ↦ inr (omega arith) ])
 
-  pub other_u16 : (j : ℕ) → j + 2 ≤ 32 → (j + 2 ≤ k) ⊎ (k + length w ≤ j) → u16_at (patched bs o k w) j ≡ u16_at bs (o + j)
+  pub other_u16 : (j : ℕ) → j + 2 ≤ 32 → (j + 2 ≤ k) ⊎ (k + length w ≤ j)
+      → u16_at (patched bs o k w) j ≡ u16_at bs (o + j)
   other_u16 j within apart =
       let a = first_byte j 2 within (omega arith) apart in let b = other_byte j 1 2 within (omega arith) apart in
       λ t. a t + b t * 0x100
 
-  pub other_u32 : (j : ℕ) → j + 4 ≤ 32 → (j + 4 ≤ k) ⊎ (k + length w ≤ j) → u32_at (patched bs o k w) j ≡ u32_at bs (o + j)
+  pub other_u32 : (j : ℕ) → j + 4 ≤ 32 → (j + 4 ≤ k) ⊎ (k + length w ≤ j)
+      → u32_at (patched bs o k w) j ≡ u32_at bs (o + j)
   other_u32 j within apart =
       let a = first_byte j 4 within (omega arith) apart in let b = other_byte j 1 4 within (omega arith) apart in
       let c = other_byte j 2 4 within (omega arith) apart in let d = other_byte j 3 4 within (omega arith) apart in
@@ -60,13 +66,16 @@ module _ (bs : List ℕ) (o k : ℕ) (w : List ℕ) (room : o + 32 ≤ length bs
 
   pub in_u16 : (p : ℕ) → p ≡ k → length w ≡ 2 → u16_at (patched bs o k w) p ≡ u16_at w 0
   in_u16 p e long =
-      let a = in_byte p 0 p (omega arith) (omega arith) refl in let b = in_byte (p + 1) 1 (p + 1) (omega arith) (omega arith) refl in
+      let a = in_byte p 0 p (omega arith) (omega arith) refl in
+      let b = in_byte (p + 1) 1 (p + 1) (omega arith) (omega arith) refl in
       λ t. a t + b t * 0x100
 
   pub in_u32 : (p q : ℕ) → p ≡ k + q → q + 4 ≤ length w → u32_at (patched bs o k w) p ≡ u32_at w q
   in_u32 p q e long =
-      let a = in_byte p q p (omega arith) (omega arith) refl in let b = in_byte (p + 1) (q + 1) (p + 1) (omega arith) (omega arith) refl in
-      let c = in_byte (p + 2) (q + 2) (p + 2) (omega arith) (omega arith) refl in let d = in_byte (p + 3) (q + 3) (p + 3) (omega arith) (omega arith) refl in
+      let a = in_byte p q p (omega arith) (omega arith) refl in
+      let b = in_byte (p + 1) (q + 1) (p + 1) (omega arith) (omega arith) refl in
+      let c = in_byte (p + 2) (q + 2) (p + 2) (omega arith) (omega arith) refl in
+      let d = in_byte (p + 3) (q + 3) (p + 3) (omega arith) (omega arith) refl in
       λ t. a t + b t * 0x100 + c t * 0x10000 + d t * 0x1000000
 
   -- a write of the few is one of the first n, of which the others are as they were
@@ -75,21 +84,28 @@ module _ (bs : List ℕ) (o k : ℕ) (w : List ℕ) (room : o + 32 ≤ length bs
     few_long = length-take-le n (patched bs o k w) (omega (arith, patched_long))
 
     few_at : (m : ℕ) → m < n → get_or (over bs o (take n (patched bs o k w))) (o + m) 0 ≡ get_or (patched bs o k w) m 0
-    few_at m lt = over_in bs o (take n (patched bs o k w)) (omega (arith, few_long)) m 0 (omega (arith, few_long)) ∙ get_or-take n (patched bs o k w) m 0 lt
+    few_at m lt =
+        over_in bs o (take n (patched bs o k w)) (omega (arith, few_long)) m 0 (omega (arith, few_long))
+        ∙ get_or-take n (patched bs o k w) m 0 lt
 
-    same_there : (m : ℕ) → get_or (over bs (o + k) w) (o + m) 0 ≡ get_or (over bs o (take n (patched bs o k w))) (o + m) 0
+    same_there : (m : ℕ) → get_or (over bs (o + k) w) (o + m) 0
+        ≡ get_or (over bs o (take n (patched bs o k w))) (o + m) 0
     same_there m = elim (less_or_at_least m n) [
       | inr past ↦
           over_above bs (o + k) w (omega arith) (o + m) 0 (omega arith)
-          ∙ sym (over_above bs o (take n (patched bs o k w)) (omega (arith, few_long)) (o + m) 0 (omega (arith, few_long)))
+          ∙ sym (over_above bs o (take n (patched bs o k w)) (omega (arith, few_long)) (o + m) 0
+          (omega (arith, few_long)))
       | inl within ↦ elim (less_or_at_least m k) [
-        | inl below ↦ over_below bs (o + k) w (omega arith) (o + m) 0 (omega arith) ∙ sym (few_at m within ∙ patched_other m (omega arith) (inl below))
+        | inl below ↦ over_below bs (o + k) w (omega arith) (o + m) 0 (omega arith)
+            ∙ sym (few_at m within ∙ patched_other m (omega arith) (inl below))
         | inr from ↦ elim (less_or_at_least m (k + length w)) [
-          | inr above ↦ over_above bs (o + k) w (omega arith) (o + m) 0 (omega arith) ∙ sym (few_at m within ∙ patched_other m (omega arith) (inr above))
+          | inr above ↦ over_above bs (o + k) w (omega arith) (o + m) 0 (omega arith)
+              ∙ sym (few_at m within ∙ patched_other m (omega arith) (inr above))
           | inl inside ↦
               let there : o + m ≡ o + k + (m - k) = omega arith in
               let here : m ≡ k + (m - k) = omega arith in
-              ap (λ x. get_or (over bs (o + k) w) x 0) there ∙ over_in bs (o + k) w (omega arith) (m - k) 0 (omega arith)
+              ap (λ x. get_or (over bs (o + k) w) x 0) there
+              ∙ over_in bs (o + k) w (omega arith) (m - k) 0 (omega arith)
               ∙ sym (few_at m within ∙ ap (λ x. get_or (patched bs o k w) x 0) here ∙ patched_in (m - k) (omega arith))
         ]
       ]
@@ -98,17 +114,21 @@ module _ (bs : List ℕ) (o k : ℕ) (w : List ℕ) (room : o + 32 ≤ length bs
     pub patch_over : over bs (o + k) w ≡ over bs o (take n (patched bs o k w))
     patch_over =
         ext_get_or 0 (over bs (o + k) w) (over bs o (take n (patched bs o k w)))
-        (length_over bs (o + k) w (omega arith) ∙ sym (length_over bs o (take n (patched bs o k w)) (omega (arith, few_long))))
+        (length_over bs (o + k) w (omega arith)
+        ∙ sym (length_over bs o (take n (patched bs o k w)) (omega (arith, few_long))))
         (λ j lt. elim (less_or_at_least j o) [
-          | inl below ↦ over_below bs (o + k) w (omega arith) j 0 (omega arith) ∙ sym (over_below bs o (take n (patched bs o k w)) (omega (arith, few_long)) j 0 below)
+          | inl below ↦ over_below bs (o + k) w (omega arith) j 0 (omega arith)
+              ∙ sym (over_below bs o (take n (patched bs o k w)) (omega (arith, few_long)) j 0 below)
           | inr from ↦
               let there : o + (j - o) ≡ j = omega arith in
-              subst (λ x. get_or (over bs (o + k) w) x 0 ≡ get_or (over bs o (take n (patched bs o k w))) x 0) there (same_there (j - o))
+              subst (λ x. get_or (over bs (o + k) w) x 0 ≡ get_or (over bs o (take n (patched bs o k w))) x 0) there
+              (same_there (j - o))
         ])
 
 -- ---- the head that is read from the patched bytes
 head_from : (xs : List ℕ) (next next_packet : Option ℕ) (len start kind flags total arrival cluster : ℕ)
-    → link_of (u32_at xs 0) ≡ next → link_of (u32_at xs 4) ≡ next_packet → u32_at xs 8 ≡ len → u32_at xs 12 ≡ start → u16_at xs 16 ≡ kind → u16_at xs 18 ≡ flags
+    → link_of (u32_at xs 0) ≡ next → link_of (u32_at xs 4) ≡ next_packet → u32_at xs 8 ≡ len → u32_at xs 12 ≡ start
+    → u16_at xs 16 ≡ kind → u16_at xs 18 ≡ flags
     → u32_at xs 20 ≡ total → u32_at xs 24 ≡ arrival → u32_at xs 28 ≡ cluster
     → head_in xs 0 ≡ record {
       next = next;
@@ -131,49 +151,65 @@ head_from xs next next_packet len start kind flags total arrival cluster e0 e1 e
 }
 
 module _ (bs : List ℕ) (o : ℕ) (w : List ℕ) (room : o + 32 ≤ length bs) where
-  later : (k : ℕ) → k + length w ≤ 32 → k + length w ≤ 24 ⊎ 28 ≤ k → u32_at (patched bs o k w) 24 ≡ u32_at bs (o + 20 + 4)
+  later : (k : ℕ) → k + length w ≤ 32 → k + length w ≤ 24 ⊎ 28 ≤ k
+      → u32_at (patched bs o k w) 24 ≡ u32_at bs (o + 20 + 4)
   later k fits apart =
       let there : o + 24 ≡ o + 20 + 4 = omega arith in
-      other_u32 bs o k w room fits 24 (omega arith) (elim apart [ inl below ↦ inr (omega arith) | inr above ↦ inl (omega arith) ]) ∙ ap (u32_at bs) there
+      other_u32 bs o k w room fits 24 (omega arith)
+      (elim apart [ inl below ↦ inr (omega arith) | inr above ↦ inl (omega arith) ]) ∙ ap (u32_at bs) there
 
-  pub next_set : (next : Option ℕ) → length w ≡ 4 → link_of (u32_at w 0) ≡ next → head_in (patched bs o 0 w) 0 ≡ record (head_in bs o) { next = next }
+  pub next_set : (next : Option ℕ) → length w ≡ 4 → link_of (u32_at w 0) ≡ next
+      → head_in (patched bs o 0 w) 0 ≡ record (head_in bs o) { next = next }
   unfolding head_by
   next_set next long is =
       let fits : 0 + length w ≤ 32 = omega arith in
       let at = other_u32 bs o 0 w room fits in
       head_from (patched bs o 0 w) next _ _ _ _ _ _ _ _
-      (ap link_of (in_u32 bs o 0 w room fits 0 0 refl (omega arith)) ∙ is) (ap link_of (at 4 (omega arith) (inr (omega arith))))
+      (ap link_of (in_u32 bs o 0 w room fits 0 0 refl (omega arith)) ∙ is)
+      (ap link_of (at 4 (omega arith) (inr (omega arith))))
       (at 8 (omega arith) (inr (omega arith))) (at 12 (omega arith) (inr (omega arith)))
-      (other_u16 bs o 0 w room fits 16 (omega arith) (inr (omega arith))) (other_u16 bs o 0 w room fits 18 (omega arith) (inr (omega arith)))
-      (at 20 (omega arith) (inr (omega arith))) (later 0 fits (inl (omega arith))) (at 28 (omega arith) (inr (omega arith)))
+      (other_u16 bs o 0 w room fits 16 (omega arith) (inr (omega arith)))
+      (other_u16 bs o 0 w room fits 18 (omega arith) (inr (omega arith)))
+      (at 20 (omega arith) (inr (omega arith))) (later 0 fits (inl (omega arith)))
+      (at 28 (omega arith) (inr (omega arith)))
 
-  pub next_packet_set : (next : Option ℕ) → length w ≡ 4 → link_of (u32_at w 0) ≡ next → head_in (patched bs o 4 w) 0 ≡ record (head_in bs o) { next_packet = next }
+  pub next_packet_set : (next : Option ℕ) → length w ≡ 4 → link_of (u32_at w 0) ≡ next
+      → head_in (patched bs o 4 w) 0 ≡ record (head_in bs o) { next_packet = next }
   unfolding head_by
   next_packet_set next long is =
       let fits : 4 + length w ≤ 32 = omega arith in
       let at = other_u32 bs o 4 w room fits in
       head_from (patched bs o 4 w) _ next _ _ _ _ _ _ _
-      (ap link_of (at 0 (omega arith) (inl (omega arith)))) (ap link_of (in_u32 bs o 4 w room fits 4 0 refl (omega arith)) ∙ is)
+      (ap link_of (at 0 (omega arith) (inl (omega arith))))
+      (ap link_of (in_u32 bs o 4 w room fits 4 0 refl (omega arith)) ∙ is)
       (at 8 (omega arith) (inr (omega arith))) (at 12 (omega arith) (inr (omega arith)))
-      (other_u16 bs o 4 w room fits 16 (omega arith) (inr (omega arith))) (other_u16 bs o 4 w room fits 18 (omega arith) (inr (omega arith)))
-      (at 20 (omega arith) (inr (omega arith))) (later 4 fits (inl (omega arith))) (at 28 (omega arith) (inr (omega arith)))
+      (other_u16 bs o 4 w room fits 16 (omega arith) (inr (omega arith)))
+      (other_u16 bs o 4 w room fits 18 (omega arith) (inr (omega arith)))
+      (at 20 (omega arith) (inr (omega arith))) (later 4 fits (inl (omega arith)))
+      (at 28 (omega arith) (inr (omega arith)))
 
-  pub data_set : (len start : ℕ) → length w ≡ 8 → u32_at w 0 ≡ len → u32_at w 4 ≡ start → head_in (patched bs o 8 w) 0 ≡ record (head_in bs o) { len = len; start = start }
+  pub data_set : (len start : ℕ) → length w ≡ 8 → u32_at w 0 ≡ len → u32_at w 4 ≡ start
+      → head_in (patched bs o 8 w) 0 ≡ record (head_in bs o) { len = len; start = start }
   unfolding head_by
   data_set len start long is_len is_start =
       let fits : 8 + length w ≤ 32 = omega arith in
       let at = other_u32 bs o 8 w room fits in
       head_from (patched bs o 8 w) _ _ len start _ _ _ _ _
       (ap link_of (at 0 (omega arith) (inl (omega arith)))) (ap link_of (at 4 (omega arith) (inl (omega arith))))
-      (in_u32 bs o 8 w room fits 8 0 refl (omega arith) ∙ is_len) (in_u32 bs o 8 w room fits 12 4 refl (omega arith) ∙ is_start)
-      (other_u16 bs o 8 w room fits 16 (omega arith) (inr (omega arith))) (other_u16 bs o 8 w room fits 18 (omega arith) (inr (omega arith)))
-      (at 20 (omega arith) (inr (omega arith))) (later 8 fits (inl (omega arith))) (at 28 (omega arith) (inr (omega arith)))
+      (in_u32 bs o 8 w room fits 8 0 refl (omega arith) ∙ is_len)
+      (in_u32 bs o 8 w room fits 12 4 refl (omega arith) ∙ is_start)
+      (other_u16 bs o 8 w room fits 16 (omega arith) (inr (omega arith)))
+      (other_u16 bs o 8 w room fits 18 (omega arith) (inr (omega arith)))
+      (at 20 (omega arith) (inr (omega arith))) (later 8 fits (inl (omega arith)))
+      (at 28 (omega arith) (inr (omega arith)))
 
-  mapped : (f : PacketHeader → PacketHeader) (b : Bool) (p : PacketHeader) → (if b then None else Some (f p)) ≡ option_map f (if b then None else Some p)
+  mapped : (f : PacketHeader → PacketHeader) (b : Bool) (p : PacketHeader)
+      → (if b then None else Some (f p)) ≡ option_map f (if b then None else Some p)
   mapped f true p = refl
   mapped f false p = refl
 
-  pub packet_len_set : (n : ℕ) → length w ≡ 4 → u32_at w 0 ≡ n → head_in (patched bs o 20 w) 0 ≡ with_packet_len (head_in bs o) n
+  pub packet_len_set : (n : ℕ) → length w ≡ 4 → u32_at w 0 ≡ n
+      → head_in (patched bs o 20 w) 0 ≡ with_packet_len (head_in bs o) n
   unfolding head_by
   packet_len_set n long is =
       let fits : 20 + length w ≤ 32 = omega arith in
@@ -181,11 +217,16 @@ module _ (bs : List ℕ) (o : ℕ) (w : List ℕ) (room : o + 32 ≤ length bs) 
       head_from (patched bs o 20 w) _ _ _ _ _ _ n _ _
       (ap link_of (at 0 (omega arith) (inl (omega arith)))) (ap link_of (at 4 (omega arith) (inl (omega arith))))
       (at 8 (omega arith) (inl (omega arith))) (at 12 (omega arith) (inl (omega arith)))
-      (other_u16 bs o 20 w room fits 16 (omega arith) (inl (omega arith))) (other_u16 bs o 20 w room fits 18 (omega arith) (inl (omega arith)))
-      (in_u32 bs o 20 w room fits 20 0 refl (omega arith) ∙ is) (later 20 fits (inl (omega arith))) (at 28 (omega arith) (inr (omega arith)))
-      ∙ ap (λ (p : Option PacketHeader). record (head_in bs o) { packet = p }) (mapped (λ p. record p { len = n }) (u16_at bs (o + 18) / 2 % 2 == 0) (record { len = u32_at bs (o + 20); arrival = u32_at bs (o + 20 + 4) }))
+      (other_u16 bs o 20 w room fits 16 (omega arith) (inl (omega arith)))
+      (other_u16 bs o 20 w room fits 18 (omega arith) (inl (omega arith)))
+      (in_u32 bs o 20 w room fits 20 0 refl (omega arith) ∙ is) (later 20 fits (inl (omega arith)))
+      (at 28 (omega arith) (inr (omega arith)))
+      ∙ ap (λ (p : Option PacketHeader). record (head_in bs o) { packet = p })
+      (mapped (λ p. record p { len = n }) (u16_at bs (o + 18) / 2 % 2 == 0)
+      (record { len = u32_at bs (o + 20); arrival = u32_at bs (o + 20 + 4) }))
 
-  pub arrival_set : (n : ℕ) → length w ≡ 4 → u32_at w 0 ≡ n → head_in (patched bs o 24 w) 0 ≡ with_arrival (head_in bs o) n
+  pub arrival_set : (n : ℕ) → length w ≡ 4 → u32_at w 0 ≡ n
+      → head_in (patched bs o 24 w) 0 ≡ with_arrival (head_in bs o) n
   unfolding head_by
   arrival_set n long is =
       let fits : 24 + length w ≤ 32 = omega arith in
@@ -193,11 +234,16 @@ module _ (bs : List ℕ) (o : ℕ) (w : List ℕ) (room : o + 32 ≤ length bs) 
       head_from (patched bs o 24 w) _ _ _ _ _ _ _ n _
       (ap link_of (at 0 (omega arith) (inl (omega arith)))) (ap link_of (at 4 (omega arith) (inl (omega arith))))
       (at 8 (omega arith) (inl (omega arith))) (at 12 (omega arith) (inl (omega arith)))
-      (other_u16 bs o 24 w room fits 16 (omega arith) (inl (omega arith))) (other_u16 bs o 24 w room fits 18 (omega arith) (inl (omega arith)))
-      (at 20 (omega arith) (inl (omega arith))) (in_u32 bs o 24 w room fits 24 0 refl (omega arith) ∙ is) (at 28 (omega arith) (inr (omega arith)))
-      ∙ ap (λ (p : Option PacketHeader). record (head_in bs o) { packet = p }) (mapped (λ p. record p { arrival = n }) (u16_at bs (o + 18) / 2 % 2 == 0) (record { len = u32_at bs (o + 20); arrival = u32_at bs (o + 20 + 4) }))
+      (other_u16 bs o 24 w room fits 16 (omega arith) (inl (omega arith)))
+      (other_u16 bs o 24 w room fits 18 (omega arith) (inl (omega arith)))
+      (at 20 (omega arith) (inl (omega arith))) (in_u32 bs o 24 w room fits 24 0 refl (omega arith) ∙ is)
+      (at 28 (omega arith) (inr (omega arith)))
+      ∙ ap (λ (p : Option PacketHeader). record (head_in bs o) { packet = p })
+      (mapped (λ p. record p { arrival = n }) (u16_at bs (o + 18) / 2 % 2 == 0)
+      (record { len = u32_at bs (o + 20); arrival = u32_at bs (o + 20 + 4) }))
 
-  pub packet_dropped : length w ≡ 2 → u16_at w 0 / 2 % 2 ≡ 0 → u16_at w 0 % 2 ≡ u16_at bs (o + 18) % 2 → head_in (patched bs o 18 w) 0 ≡ record (head_in bs o) { packet = None }
+  pub packet_dropped : length w ≡ 2 → u16_at w 0 / 2 % 2 ≡ 0 → u16_at w 0 % 2 ≡ u16_at bs (o + 18) % 2
+      → head_in (patched bs o 18 w) 0 ≡ record (head_in bs o) { packet = None }
   unfolding head_by
   packet_dropped long none same =
       let fits : 18 + length w ≤ 32 = omega arith in
@@ -206,9 +252,12 @@ module _ (bs : List ℕ) (o : ℕ) (w : List ℕ) (room : o + 32 ≤ length bs) 
       (ap link_of (at 0 (omega arith) (inl (omega arith)))) (ap link_of (at 4 (omega arith) (inl (omega arith))))
       (at 8 (omega arith) (inl (omega arith))) (at 12 (omega arith) (inl (omega arith)))
       (other_u16 bs o 18 w room fits 16 (omega arith) (inl (omega arith))) (in_u16 bs o 18 w room fits 18 refl long)
-      (at 20 (omega arith) (inr (omega arith))) (later 18 fits (inl (omega arith))) (at 28 (omega arith) (inr (omega arith)))
+      (at 20 (omega arith) (inr (omega arith))) (later 18 fits (inl (omega arith)))
+      (at 28 (omega arith) (inr (omega arith)))
       ∙ (λ t. record (head_in bs o) {
-        packet = if eq-eqb (u16_at w 0 / 2 % 2) 0 none t then None else Some (record { len = u32_at bs (o + 20); arrival = u32_at bs (o + 20 + 4) });
+        packet =
+            if eq-eqb (u16_at w 0 / 2 % 2) 0 none t then None
+            else Some (record { len = u32_at bs (o + 20); arrival = u32_at bs (o + 20 + 4) });
         cluster = if same t == 0 then None else Some (u32_at bs (o + 28));
       })
 
@@ -221,10 +270,12 @@ least_size h = go (is_some h.cluster) (is_some h.packet)
     go false true = lit≤ tt
     go false false = lit≤ tt
 
-sized_packet : (h : Head) (f : PacketHeader → PacketHeader) → IsSome h.packet → 28 ≤ head_size (record h { packet = option_map f h.packet })
+sized_packet : (h : Head) (f : PacketHeader → PacketHeader) → IsSome h.packet
+    → 28 ≤ head_size (record h { packet = option_map f h.packet })
 sized_packet h f has = go h.packet (is_some h.cluster) has
   where
-    go : (p : Option PacketHeader) (a : Bool) → IsSome p → 28 ≤ (if a then 32 else (if is_some (option_map f p) then 28 else 20))
+    go : (p : Option PacketHeader) (a : Bool) → IsSome p
+        → 28 ≤ (if a then 32 else (if is_some (option_map f p) then 28 else 20))
     go None a h = absurd (false≢true h)
     go (Some p) true h = lit≤ tt
     go (Some p) false h = lit≤ tt
@@ -232,12 +283,14 @@ sized_packet h f has = go h.packet (is_some h.cluster) has
 pub low_field : (h : Head) (n : ℕ) → n ≤ 20 → n ≤ head_size h
 low_field h n few = omega (arith, least_size h)
 
-pub packet_field : (h : Head) (f : PacketHeader → PacketHeader) (n : ℕ) → n ≤ 28 → IsSome h.packet → n ≤ head_size (record h { packet = option_map f h.packet })
+pub packet_field : (h : Head) (f : PacketHeader → PacketHeader) (n : ℕ) → n ≤ 28 → IsSome h.packet
+    → n ≤ head_size (record h { packet = option_map f h.packet })
 packet_field h f n few has = omega (arith, sized_packet h f has)
 
 module _ (r : Inside) (is : IsRegion r) (v : Cells) (e : seen r ≡ v) (i : ℕ) (lt : i < length v.heads) where
   there : i < r.mbufs
-  there = let below : i < length (seen r).heads = subst (λ (x : Cells). i < length x.heads) (sym e) lt in omega (arith, below, length-heads r.mbufs r.block)
+  there = let below : i < length (seen r).heads = subst (λ (x : Cells). i < length x.heads) (sym e) lt in
+      omega (arith, below, length-heads r.mbufs r.block)
 
   pub field_room : 128 * i + 32 ≤ length r.block
   field_room = omega (arith, is.0, there)
@@ -245,7 +298,8 @@ module _ (r : Inside) (is : IsRegion r) (v : Cells) (e : seen r ≡ v) (i : ℕ)
   head_there : head_in r.block (128 * i) ≡ head_of v i
   head_there = sym (head_at r.mbufs r.block i zero_head there) ∙ ap (λ (x : Cells). head_of x i) e
 
-  pub field_set : (g : Head → Head) (k n at : ℕ) (ws : List ℕ) → at ≡ 128 * i + k → length ws ≡ n → k + n ≤ head_size (g (head_of v i)) → head_in (patched r.block (128 * i) k ws) 0 ≡ g (head_in r.block (128 * i))
+  pub field_set : (g : Head → Head) (k n at : ℕ) (ws : List ℕ) → at ≡ 128 * i + k → length ws ≡ n
+      → k + n ≤ head_size (g (head_of v i)) → head_in (patched r.block (128 * i) k ws) 0 ≡ g (head_in r.block (128 * i))
       → SetsHead v (seen (record r { block = over r.block at (take n ws) })) i (g (head_of v i))
   field_set g k n at ws place long few decoded =
       let h = g (head_of v i) in
@@ -256,18 +310,25 @@ module _ (r : Inside) (is : IsRegion r) (v : Cells) (e : seen r ≡ v) (i : ℕ)
       let b = take (head_size h) p in
       let whole : take n ws ≡ ws = take_all n ws (omega arith) in
       let same : over r.block at (take n ws) ≡ over r.block o b =
-      (λ t. over r.block (place t) (whole t)) ∙ patch_over r.block o k ws field_room fits (head_size h) (omega arith) (head_size_le h) in (
+      (λ t. over r.block (place t) (whole t))
+      ∙ patch_over r.block o k ws field_room fits (head_size h) (omega arith) (head_size_le h) in (
         b,
         length-take-le (head_size h) p (omega (arith, p_long, head_size_le h)),
         (λ t. seen (record r { block = same t }))
-            ∙ (λ t. record { heads = head_written r.block p r.mbufs i h there (omega (arith, is.0)) p_long (decoded ∙ ap g head_there) t; bytes = over r.block o b; clusters = r.clusters })
+            ∙ (λ t. record {
+              heads = head_written r.block p r.mbufs i h there (omega (arith, is.0)) p_long
+                  (decoded ∙ ap g head_there) t;
+              bytes = over r.block o b;
+              clusters = r.clusters;
+            })
             ∙ ap (λ (x : Cells). with_head x i h b) e,
       )
 
   pub field_sized : (h : Head) (t : Cells) → SetsHead v t i h → IsSized t
   field_sized h t sets = sized_after_head v t i h (subst IsSized e (region_sized r is)) lt sets
 
-  pub field_kept : (k n at : ℕ) (ws : List ℕ) → at ≡ 128 * i + k → length ws ≡ n → k + n ≤ 32 → IsRegion (record r { block = over r.block at (take n ws) })
+  pub field_kept : (k n at : ℕ) (ws : List ℕ) → at ≡ 128 * i + k → length ws ≡ n → k + n ≤ 32
+      → IsRegion (record r { block = over r.block at (take n ws) })
   field_kept k n at ws place long few =
       let whole = take_all n ws (omega arith) in
       (length_over r.block at (take n ws) (omega (arith, field_room)) ∙ is.0, is.1, is.2, is.3)
@@ -276,6 +337,8 @@ module _ (r : Inside) (is : IsRegion r) (v : Cells) (e : seen r ≡ v) (i : ℕ)
 pub flags_read : (bs : List ℕ) (at : ℕ) (lent : List ℕ) → lent ≡ take 2 (drop at bs) → u16_at lent 0 ≡ u16_at bs at
 flags_read bs at lent is =
     let low : get_or (take 2 (drop at bs)) 0 0 ≡ get_or bs at 0 =
-    get_or-take 2 (drop at bs) 0 0 (omega arith) ∙ get_or-drop at bs 0 0 ∙ (let same : at + 0 ≡ at = omega arith in ap (λ x. get_or bs x 0) same) in
-    let high : get_or (take 2 (drop at bs)) 1 0 ≡ get_or bs (at + 1) 0 = get_or-take 2 (drop at bs) 1 0 (omega arith) ∙ get_or-drop at bs 1 0 in
+    get_or-take 2 (drop at bs) 0 0 (omega arith) ∙ get_or-drop at bs 0 0
+    ∙ (let same : at + 0 ≡ at = omega arith in ap (λ x. get_or bs x 0) same) in
+    let high : get_or (take 2 (drop at bs)) 1 0 ≡ get_or bs (at + 1) 0 =
+    get_or-take 2 (drop at bs) 1 0 (omega arith) ∙ get_or-drop at bs 1 0 in
     ap (λ l. u16_at l 0) is ∙ (λ t. low t + high t * 0x100)

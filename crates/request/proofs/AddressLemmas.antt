@@ -17,7 +17,8 @@ address-octets a b c d n small_a small_b small_c small_d is =
     )
 
 -- the octets that a text writes are the bytes of the address
-pub IsAddress-of : (text octets : List ℕ) (n : ℕ) → IsDotted text octets → n ≡ from_be_bytes w32 octets → IsAddress text n
+pub IsAddress-of : (text octets : List ℕ) (n : ℕ) → IsDotted text octets → n ≡ from_be_bytes w32 octets
+    → IsAddress text n
 IsAddress-of text octets n h is =
     let sum : n ≡ h.a * 16777216 + h.b * 65536 + h.c * 256 + h.d = is ∙ rw h.value (omega arith) in
     let written = address-octets h.a h.b h.c h.d n h.fit.0 h.fit.1 h.fit.2 h.fit.3 sum in

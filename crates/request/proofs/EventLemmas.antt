@@ -24,7 +24,9 @@ number-same most m n a b small same first second =
 address-same : (m n : ℕ) (a b : List ℕ) → a ≡ b → IsAddress a m → IsAddress b n → m ≡ n
 address-same m n a b same first second =
     let here = IsAddress-dotted b m (subst (λ (t : List ℕ). IsAddress t m) same first) in
-    let octets = ap (λ (x : Ipv4Addr). x.octets) (IsIpv4Text_unique b (record { octets = _ }) (record { octets = _ }) here (IsAddress-dotted b n second)) in
+    let octets =
+    ap (λ (x : Ipv4Addr). x.octets)
+    (IsIpv4Text_unique b (record { octets = _ }) (record { octets = _ }) here (IsAddress-dotted b n second)) in
     let first_octet : m / 16777216 ≡ n / 16777216 = ap (λ (t : List ℕ). get_or t 0 0) octets in
     let second_octet : m / 65536 % 256 ≡ n / 65536 % 256 = ap (λ (t : List ℕ). get_or t 1 0) octets in
     let third_octet : m / 256 % 256 ≡ n / 256 % 256 = ap (λ (t : List ℕ). get_or t 2 0) octets in
@@ -64,7 +66,8 @@ switch-same false true e = absurd (apart (codes "0") (codes "1") refl e)
 
 -- ---- lines
 
-events-same : (a b : Event) (args : List (List ℕ)) → HasArguments a args → HasArguments b args → index a ≡ index b → a ≡ b
+events-same : (a b : Event) (args : List (List ℕ)) → HasArguments a args → HasArguments b args → index a ≡ index b
+    → a ≡ b
 events-same Open Open args h k e = refl
 events-same (Bind fd address) (Bind fd' address') args h k e =
     let words : h.0 ∷ h.1 ∷ h.2 ∷ [] ≡ k.0 ∷ k.1 ∷ k.2 ∷ [] = sym h.3 ∙ k.3 in
@@ -93,7 +96,8 @@ events-same (Close fd) (Close fd') args h k e =
     let words : h.0 ∷ [] ≡ k.0 ∷ [] = sym h.1 ∙ k.1 in
     ap Close (number-same 4294967295 fd fd' h.0 k.0 (omega arith) (cc words) h.2 k.2)
 events-same (Set_option fd option on) (Set_option fd' option' on') args h k e =
-    let words : h.0 ∷ option_name option ∷ switch_name on ∷ [] ≡ k.0 ∷ option_name option' ∷ switch_name on' ∷ [] = sym h.1 ∙ k.1 in
+    let words : h.0 ∷ option_name option ∷ switch_name on ∷ [] ≡ k.0 ∷ option_name option' ∷ switch_name on' ∷ [] =
+    sym h.1 ∙ k.1 in
     ap (λ (n : ℕ). Set_option n option on) (number-same 4294967295 fd fd' h.0 k.0 (omega arith) (cc words) h.2 k.2)
     ∙ ap (λ (o : Opt). Set_option fd' o on) (option-same option option' (cc words))
     ∙ ap (λ (b : Bool). Set_option fd' option' b) (switch-same on on' (cc words))

@@ -14,7 +14,8 @@ use Rattle.request.proofs.KeywordLemmas.{index-word}
 -- what a keyword and the words after it ask for, the line asks for
 pub Asks-form : (text name : List ℕ) (word : Keyword) (args : List (List ℕ)) (r : Option Request)
     → length text ≤ 131200 → words text ≡ name ∷ args → name ≡ word_of word → ReadsForm word args r
-    → MatchOption r ((event : Event) → Asks all_events text event → ⊥) (λ request. Asks all_events text (event_of request))
+    → MatchOption r ((event : Event) → Asks all_events text event → ⊥)
+    (λ request. Asks all_events text (event_of request))
 Asks-form text name word args (Some request) short cut same form = record {
   form = record {
     short = short;
@@ -30,7 +31,8 @@ Asks-form text name word args None short cut same form = λ event h.
     form event (begins ∙ same, subst (λ (t : List (List ℕ)). HasArguments event t) rest h.form.arguments)
 
 -- a line that begins with no keyword asks for nothing
-pub Asks-none : (text name : List ℕ) (args : List (List ℕ)) → words text ≡ name ∷ args → ((event : Event) → keyword event ≡ name → ⊥)
+pub Asks-none : (text name : List ℕ) (args : List (List ℕ)) → words text ≡ name ∷ args
+    → ((event : Event) → keyword event ≡ name → ⊥)
     → (event : Event) → Asks all_events text event → ⊥
 Asks-none text name args cut none event h =
     let begins : keyword event ≡ name = cc (sym h.form.words_are ∙ cut) in
@@ -41,7 +43,8 @@ Asks-none text name args cut none event h =
 pub Send-only : (args : List (List ℕ)) → ((fd : ℕ) (bytes : List ℕ) → HasArguments (Send fd None bytes) args → ⊥)
     → (event : Event) → IsForm line.Send args event → ⊥
 Send-only args none (Send fd None bytes) h = none fd bytes h.1
-Send-only args none (Send fd (Some to) bytes) h = absurd (omega (arith, index-word (Send fd (Some to) bytes) line.Send h.0))
+Send-only args none (Send fd (Some to) bytes) h =
+    absurd (omega (arith, index-word (Send fd (Some to) bytes) line.Send h.0))
 Send-only args none event h = absurd (omega (arith, index-word event line.Send h.0))
 
 pub Receive-only : (args : List (List ℕ)) → ((fd most : ℕ) → HasArguments (Receive fd most) args → ⊥)

@@ -6,7 +6,8 @@ pub whole_lines_after-append : (begun xs ys : List ℕ)
     → whole_lines_after begun (xs ++ ys) ≡ whole_lines_after begun xs ++ whole_lines_after (begun_after begun xs) ys
 whole_lines_after-append begun [] ys = refl
 whole_lines_after-append begun (b ∷ xs) ys =
-    elim (b == 10) as (λ v. cond v (begun ∷ whole_lines_after [] (xs ++ ys)) (whole_lines_after (begun ++ b ∷ []) (xs ++ ys))
+    elim (b == 10) as (λ v. cond v (begun ∷ whole_lines_after [] (xs ++ ys))
+    (whole_lines_after (begun ++ b ∷ []) (xs ++ ys))
     ≡ cond v (begun ∷ whole_lines_after [] xs) (whole_lines_after (begun ++ b ∷ []) xs)
     ++ whole_lines_after (cond v (begun_after [] xs) (begun_after (begun ++ b ∷ []) xs)) ys) [
       | true ↦ ap (λ (t : List (List ℕ)). begun ∷ t) (whole_lines_after-append [] xs ys)
@@ -37,8 +38,10 @@ other_byte b other = grind arith
 
 pub whole_lines-more : (seen : List ℕ) (b : ℕ) → b ≢ 10 → whole_lines (seen ++ b ∷ []) ≡ whole_lines seen
 unfolding whole_lines
-whole_lines-more seen b other = whole_lines_after-append [] seen (b ∷ []) ∙ (let e : (b == 10) ≡ false = other_byte b other in rw e (append-nil _))
+whole_lines-more seen b other =
+    whole_lines_after-append [] seen (b ∷ []) ∙ (let e : (b == 10) ≡ false = other_byte b other in rw e (append-nil _))
 
 pub begun_line-more : (seen : List ℕ) (b : ℕ) → b ≢ 10 → begun_line (seen ++ b ∷ []) ≡ begun_line seen ++ b ∷ []
 unfolding begun_line
-begun_line-more seen b other = begun_after-append [] seen (b ∷ []) ∙ (let e : (b == 10) ≡ false = other_byte b other in rw e)
+begun_line-more seen b other =
+    begun_after-append [] seen (b ∷ []) ∙ (let e : (b == 10) ≡ false = other_byte b other in rw e)

@@ -10,7 +10,8 @@ use Rattle.script_loop.specs.declared.fault.RunFault.{RunFault}
 use Rattle.script_loop.specs.declared.fault.RunFault.TheVariants.{Read, Write, Memory, TooManyLines, BadSizes, BadConfig}
 use Rattle.script_loop.proofs.PrintLemmas.{Prints-push, Prints-same}
 
-pub Answered-start : {S : Type 0} (gives : S → List ℕ → List ℕ → S → Type 0) (begin : S) → Answered gives begin begin [] [] 0 []
+pub Answered-start : {S : Type 0} (gives : S → List ℕ → List ℕ → S → Type 0) (begin : S)
+    → Answered gives begin begin [] [] 0 []
 unfolding whole_lines begun_line
 Answered-start gives begin = record {
   begun = refl;
@@ -21,23 +22,28 @@ Answered-start gives begin = record {
 }
 
 pub Moves-then : (a b c w v u : Option (List ℕ)) (seen more written further : List ℕ)
-    → Moves a b seen w v written → Consumes b c more → Appends v u further → Moves a c (seen ++ more) w u (written ++ further)
+    → Moves a b seen w v written → Consumes b c more → Appends v u further
+    → Moves a c (seen ++ more) w u (written ++ further)
 Moves-then a b c w v u seen more written further m read sent = record {
   consumed = Consumes-trans a b c seen more m.consumed read;
   appended = Appends-trans w v u written further m.appended sent;
 }
 
-Moves-same : (a b w v : Option (List ℕ)) (seen seen' written : List ℕ) → seen ≡ seen' → Moves a b seen w v written → Moves a b seen' w v written
+Moves-same : (a b w v : Option (List ℕ)) (seen seen' written : List ℕ) → seen ≡ seen' → Moves a b seen w v written
+    → Moves a b seen' w v written
 Moves-same a b w v seen seen' written e m = subst (λ (s : List ℕ). Moves a b s w v written) e m
 
 last_line-some : (line : List ℕ) → (line ≡ [] → ⊥) → last_line line ≡ line ∷ []
 last_line-some [] some = absurd (some refl)
 last_line-some (b ∷ bytes) some = refl
 
-whole-lines-last : (seen line : List ℕ) → line ≡ begun_line seen → (line ≡ [] → ⊥) → whole_lines seen ++ line ∷ [] ≡ lines seen
-whole-lines-last seen line e some = ap (λ (t : List (List ℕ)). whole_lines seen ++ t) (sym (last_line-some line some) ∙ ap last_line e)
+whole-lines-last : (seen line : List ℕ) → line ≡ begun_line seen → (line ≡ [] → ⊥)
+    → whole_lines seen ++ line ∷ [] ≡ lines seen
+whole-lines-last seen line e some =
+    ap (λ (t : List (List ℕ)). whole_lines seen ++ t) (sym (last_line-some line some) ∙ ap last_line e)
 
-pub Serves-stop : {S : Type 0} (gives : S → List ℕ → List ℕ → S → Type 0) (begin now : S) (a b c w v u : Option (List ℕ))
+pub Serves-stop : {S : Type 0} (gives : S → List ℕ → List ℕ → S → Type 0) (begin now : S)
+    (a b c w v u : Option (List ℕ))
     (seen chunk written line : List ℕ) (e : RunFault)
     → Moves a b seen w v written → Consumes b c chunk
     → TakesChunk gives begin now seen chunk written v u [] line (Err e)
@@ -69,9 +75,11 @@ Serves-stop gives begin now a b c w v u seen chunk written line BadSizes m read 
 Serves-stop gives begin now a b c w v u seen chunk written line BadConfig m read h = absurd h
 
 -- the rest after the last byte 10, where the reader gave no more
-pub Serves-last : {S : Type 0} (gives : S → List ℕ → List ℕ → S → Type 0) (begin now new : S) (a b c w v u : Option (List ℕ))
+pub Serves-last : {S : Type 0} (gives : S → List ℕ → List ℕ → S → Type 0) (begin now new : S)
+    (a b c w v u : Option (List ℕ))
     (seen line written : List ℕ) (count : ℕ) (text : List ℕ) (r : Result Unit RunFault)
-    → Moves a b seen w v written → Consumes b c [] → IsAtEnd c → Answered gives begin now seen line count written → (line ≡ [] → ⊥)
+    → Moves a b seen w v written → Consumes b c [] → IsAtEnd c → Answered gives begin now seen line count written
+    → (line ≡ [] → ⊥)
     → gives now line text new → Sends v u text r
     → Serves gives begin new a c w u r
 Serves-last gives begin now new a b c w v u seen line written count text (Ok done) m read end h some to sent = (
@@ -98,15 +106,21 @@ Serves-last gives begin now new a b c w v u seen line written count text (Err Wr
         (Prints-push gives begin now new (whole_lines seen) written line text h.printed to),
   ),
 )
-Serves-last gives begin now new a b c w v u seen line written count text (Err Read) m read end h some to sent = absurd sent
-Serves-last gives begin now new a b c w v u seen line written count text (Err Memory) m read end h some to sent = absurd sent
-Serves-last gives begin now new a b c w v u seen line written count text (Err TooManyLines) m read end h some to sent = absurd sent
-Serves-last gives begin now new a b c w v u seen line written count text (Err BadSizes) m read end h some to sent = absurd sent
-Serves-last gives begin now new a b c w v u seen line written count text (Err BadConfig) m read end h some to sent = absurd sent
+Serves-last gives begin now new a b c w v u seen line written count text (Err Read) m read end h some to sent =
+    absurd sent
+Serves-last gives begin now new a b c w v u seen line written count text (Err Memory) m read end h some to sent =
+    absurd sent
+Serves-last gives begin now new a b c w v u seen line written count text (Err TooManyLines) m read end h some to sent =
+    absurd sent
+Serves-last gives begin now new a b c w v u seen line written count text (Err BadSizes) m read end h some to sent =
+    absurd sent
+Serves-last gives begin now new a b c w v u seen line written count text (Err BadConfig) m read end h some to sent =
+    absurd sent
 
 -- a chunk ends by no fault of the reader, and by no refusal of boot
 pub chunk-fault : {S : Type 0} (gives : S → List ℕ → List ℕ → S → Type 0) (begin now : S) (seen chunk written : List ℕ)
-    (w v : Option (List ℕ)) (line : List ℕ) (e : RunFault) → TakesChunk gives begin now seen chunk written w v [] line (Err e)
+    (w v : Option (List ℕ)) (line : List ℕ) (e : RunFault)
+    → TakesChunk gives begin now seen chunk written w v [] line (Err e)
     → (reader_failures (Err e) ≡ 0) × IsServed (Err e)
 chunk-fault gives begin now seen chunk written w v line Write h = (refl, tt)
 chunk-fault gives begin now seen chunk written w v line TooManyLines h = (refl, tt)

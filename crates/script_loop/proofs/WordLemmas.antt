@@ -24,13 +24,16 @@ none_not false x e = refl
 pub words-cut : (text : List ℕ) (at : ℕ) → position (λ b. b == 32) text ≡ Some at
     → words text ≡ take at text ∷ words (drop (at + 1) text)
 words-cut text at e =
-    let found = cond_some (nat_lt (position_or_len (λ b. b == 32) text) (length text)) (position_or_len (λ b. b == 32) text) at e in
+    let found =
+    cond_some (nat_lt (position_or_len (λ b. b == 32) text) (length text)) (position_or_len (λ b. b == 32) text) at e
+    in
     let within : position_or_len (λ b. b == 32) text < length text = ltb-true _ _ found.0 in
     rw (← found.1) (slice_split_first (λ b. b == 32) text 0 within)
 
 pub words-one : (text : List ℕ) → position (λ b. b == 32) text ≡ None → words text ≡ text ∷ []
 words-one text e =
-    let found = none_not (nat_lt (position_or_len (λ b. b == 32) text) (length text)) (position_or_len (λ b. b == 32) text) e in
+    let found =
+    none_not (nat_lt (position_or_len (λ b. b == 32) text) (length text)) (position_or_len (λ b. b == 32) text) e in
     slice_split-none (λ b. b == 32) text (ltb-false _ _ found)
 
 -- a text has a word

@@ -9,7 +9,8 @@ not_both b t f = absurd (never (sym f ∙ t))
     never e = cc
 
 -- one more, if something was left
-pub carried_more : (n m : ℕ) (old mid last : SegmentView) → n ≡ suc m → is_quiet old ≡ false → IsCarried old mid → AreCarried m mid last → AreCarried n old last
+pub carried_more : (n m : ℕ) (old mid last : SegmentView) → n ≡ suc m → is_quiet old ≡ false → IsCarried old mid
+    → AreCarried m mid last → AreCarried n old last
 carried_more n m old mid last e left carried later = subst (λ k. AreCarried k old last) (sym e)
     (record { yes = λ quiet. not_both (is_quiet old) quiet left; no = λ _. (mid, carried, later) })
 

@@ -11,26 +11,41 @@ use Rattle.segment.proofs.Frames.{map_get, map_swap}
 use Rattle.segment.proofs.Walking.{get_past}
 
 -- a segment with other packets under way
-pub changed : (v : SegmentView) (fs gs : List Flying) (room : ℕ) → fs ≡ gs → room ≡ v.room → record v { flight = fs; room = room } ≡ record v { flight = gs }
-changed v fs gs room e same = ap (λ (hs : List Flying). record v { flight = hs; room = room }) e ∙ ap (λ n. record v { flight = gs; room = n }) same
+pub changed : (v : SegmentView) (fs gs : List Flying) (room : ℕ) → fs ≡ gs → room ≡ v.room
+    → record v { flight = fs; room = room } ≡ record v { flight = gs }
+changed v fs gs room e same =
+    ap (λ (hs : List Flying). record v { flight = hs; room = room }) e
+    ∙ ap (λ n. record v { flight = gs; room = n }) same
 
 pub both_swap : (frames : List Frame) (i j : ℕ) → i < length frames → j < length frames
-    → map flying (swap frames i j) ≡ cond (nat_lt i (length (map flying frames)) && nat_lt j (length (map flying frames))) (swap (map flying frames) i j) (map flying frames)
+    → map flying (swap frames i j)
+    ≡ cond (nat_lt i (length (map flying frames)) && nat_lt j (length (map flying frames)))
+    (swap (map flying frames) i j) (map flying frames)
 both_swap frames i j h k =
     let n = length-map frames flying in
     map_swap flying frames i j h k
-    ∙ ap (λ b. cond b (swap (map flying frames) i j) (map flying frames)) (sym (and_from _ _ (lt-ltb i (length (map flying frames)) (omega (arith, n))) (lt-ltb j (length (map flying frames)) (omega (arith, n)))))
+    ∙ ap (λ b. cond b (swap (map flying frames) i j) (map flying frames))
+    (sym (and_from _ _ (lt-ltb i (length (map flying frames)) (omega (arith, n)))
+    (lt-ltb j (length (map flying frames)) (omega (arith, n)))))
 
-pub copied : (frames : List Frame) (i room : ℕ) (frame : Frame) → i < length frames → frame ≡ get_or frames i frame → length frames < room
-    → map flying (frames ++ frame ∷ []) ≡ take room (map flying frames ++ option_to_list (slice_get (map flying frames) i))
+pub copied : (frames : List Frame) (i room : ℕ) (frame : Frame) → i < length frames → frame ≡ get_or frames i frame
+    → length frames < room
+    → map flying (frames ++ frame ∷ [])
+    ≡ take room (map flying frames ++ option_to_list (slice_get (map flying frames) i))
 copied frames i room frame h is more =
     map-append flying frames (frame ∷ [])
-    ∙ sym (take_all room (map flying frames ++ flying frame ∷ []) (omega (arith, length-append (map flying frames) (flying frame ∷ []), length-map frames flying)))
-    ∙ ap (λ (o : Option Flying). take room (map flying frames ++ option_to_list o)) (sym (map_get flying frames i frame h is))
+    ∙ sym (take_all room (map flying frames ++ flying frame ∷ [])
+    (omega (arith, length-append (map flying frames) (flying frame ∷ []), length-map frames flying)))
+    ∙ ap (λ (o : Option Flying). take room (map flying frames ++ option_to_list o))
+    (sym (map_get flying frames i frame h is))
 
-pub none_copied : (fs : List Flying) (i room : ℕ) → length fs ≤ i → length fs ≤ room → fs ≡ take room (fs ++ option_to_list (slice_get fs i))
+pub none_copied : (fs : List Flying) (i room : ℕ) → length fs ≤ i → length fs ≤ room
+    → fs ≡ take room (fs ++ option_to_list (slice_get fs i))
 none_copied fs i room h short =
-    sym (take_all room fs short) ∙ ap (take room) (sym (append-nil fs)) ∙ ap (λ (o : Option Flying). take room (fs ++ option_to_list o)) (sym (get_past fs i h))
+    sym (take_all room fs short) ∙ ap (take room) (sym (append-nil fs))
+    ∙ ap (λ (o : Option Flying). take room (fs ++ option_to_list o)) (sym (get_past fs i h))
 
-pub no_room : (fs : List Flying) (i room : ℕ) → room ≤ length fs → length fs ≤ room → fs ≡ take room (fs ++ option_to_list (slice_get fs i))
-no_room fs i room full short = sym (take_all room fs short) ∙ sym (take-append-le room fs (option_to_list (slice_get fs i)) full)
+pub no_room : (fs : List Flying) (i room : ℕ) → room ≤ length fs → length fs ≤ room
+    → fs ≡ take room (fs ++ option_to_list (slice_get fs i))
+no_room fs i room full short =
+    sym (take_all room fs short) ∙ sym (take-append-le room fs (option_to_list (slice_get fs i)) full)

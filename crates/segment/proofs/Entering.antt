@@ -10,13 +10,18 @@ use Rattle.segment.specs.declared.chances.Fate.{Fate}
 use Rattle.segment.specs.declared.chances.Fate.TheVariants.{Lost, Once, Twice}
 use Rattle.segment.proofs.Taking.{take_again}
 
-copies-append : (fate : Fate) (f : Flying) (xs ys : List Flying) → copies_before fate f (xs ++ ys) ≡ copies_before fate f xs ++ ys
+copies-append : (fate : Fate) (f : Flying) (xs ys : List Flying)
+    → copies_before fate f (xs ++ ys) ≡ copies_before fate f xs ++ ys
 copies-append Lost f xs ys = refl
 copies-append (Once wait) f xs ys = refl
 copies-append (Twice first second) f xs ys = refl
 
 entering-append : (chances : List Chances) (xs ys : List Flying) (g : Lcg)
-    → entering chances (xs ++ ys) g ≡ ((entering chances xs g).0 ++ (entering chances ys (entering chances xs g).1).0, (entering chances ys (entering chances xs g).1).1)
+    → entering chances (xs ++ ys) g
+    ≡ (
+      (entering chances xs g).0 ++ (entering chances ys (entering chances xs g).1).0,
+      (entering chances ys (entering chances xs g).1).1,
+    )
 entering-append chances [] ys g = refl
 entering-append chances (x ∷ xs) ys g =
     let fate : Fate × Lcg = fate_of (chances_at chances x.sender) g in
@@ -25,12 +30,16 @@ entering-append chances (x ∷ xs) ys g =
     ap (λ (r : List Flying × Lcg). (copies_before fate.0 x r.0, r.1)) (entering-append chances xs ys fate.1)
     ∙ ap (λ (fs : List Flying). (fs, back.1)) (copies-append fate.0 x front.0 back.0)
 
-tallied-append : (chances : List Chances) (xs ys : List Flying) (g : Lcg) (tallies : List Tally) → tallied chances (xs ++ ys) g tallies ≡ tallied chances ys (entering chances xs g).1 (tallied chances xs g tallies)
+tallied-append : (chances : List Chances) (xs ys : List Flying) (g : Lcg) (tallies : List Tally)
+    → tallied chances (xs ++ ys) g tallies ≡ tallied chances ys (entering chances xs g).1 (tallied chances xs g tallies)
 tallied-append chances [] ys g tallies = refl
-tallied-append chances (x ∷ xs) ys g tallies = tallied-append chances xs ys (fate_of (chances_at chances x.sender) g).1 (counts x.sender (fate_of (chances_at chances x.sender) g).0 tallies)
+tallied-append chances (x ∷ xs) ys g tallies =
+    tallied-append chances xs ys (fate_of (chances_at chances x.sender) g).1
+    (counts x.sender (fate_of (chances_at chances x.sender) g).0 tallies)
 
 -- these packets went under way, behind the first ones, as far as there was room
-pub record Entered (room : ℕ) (chances : List Chances) (first last : List Flying) (g h : Lcg) (before after : List Tally) (fs : List Flying) : Type 0 where
+pub record Entered (room : ℕ) (chances : List Chances) (first last : List Flying) (g h : Lcg)
+    (before after : List Tally) (fs : List Flying) : Type 0 where
   pub tallies : after ≡ tallied chances fs g before
   pub taken : last ≡ take room (first ++ (entering chances fs g).0)
   pub random : h ≡ (entering chances fs g).1
@@ -42,16 +51,25 @@ take_short room first short = short ∙ ap (take room) (sym (append_nil first))
     append_nil [] = refl
     append_nil (x ∷ xs) = ap (λ ys. x ∷ ys) (append_nil xs)
 
-pub none_entered : (room : ℕ) (chances : List Chances) (first : List Flying) (g : Lcg) (tallies : List Tally) → first ≡ take room first → Entered room chances first first g g tallies tallies []
-none_entered room chances first g tallies short = record { tallies = refl; taken = take_short room first short; random = refl }
+pub none_entered : (room : ℕ) (chances : List Chances) (first : List Flying) (g : Lcg) (tallies : List Tally)
+    → first ≡ take room first → Entered room chances first first g g tallies tallies []
+none_entered room chances first g tallies short =
+    record { tallies = refl; taken = take_short room first short; random = refl }
 
-pub entered_more : (room now : ℕ) (chances those : List Chances) (first mid last : List Flying) (g k h : Lcg) (old some all : List Tally) (xs ys zs : List Flying) → now ≡ room → those ≡ chances
-    → Entered room chances first mid g k old some xs → Entered now those mid last k h some all ys → zs ≡ xs ++ ys → Entered room chances first last g h old all zs
+pub entered_more : (room now : ℕ) (chances those : List Chances) (first mid last : List Flying) (g k h : Lcg)
+    (old some all : List Tally) (xs ys zs : List Flying) → now ≡ room → those ≡ chances
+    → Entered room chances first mid g k old some xs → Entered now those mid last k h some all ys → zs ≡ xs ++ ys
+    → Entered room chances first last g h old all zs
 entered_more room now chances those first mid last g k h old some whole xs ys zs same equal before one is =
-    let all : entering chances zs g ≡ ((entering chances xs g).0 ++ (entering chances ys (entering chances xs g).1).0, (entering chances ys (entering chances xs g).1).1) =
+    let all : entering chances zs g
+    ≡ (
+      (entering chances xs g).0 ++ (entering chances ys (entering chances xs g).1).0,
+      (entering chances ys (entering chances xs g).1).1,
+    ) =
     ap (λ (fs : List Flying). entering chances fs g) is ∙ entering-append chances xs ys g in
     let more : List Flying × Lcg = entering chances ys (entering chances xs g).1 in
-    let here : entering those ys k ≡ more = ap (λ (cs : List Chances). entering cs ys k) equal ∙ ap (entering chances ys) before.random in
+    let here : entering those ys k ≡ more =
+    ap (λ (cs : List Chances). entering cs ys k) equal ∙ ap (entering chances ys) before.random in
     record {
       tallies = one.tallies
           ∙ ap (λ (cs : List Chances). tallied cs ys k some) equal

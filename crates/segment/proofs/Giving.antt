@@ -7,8 +7,11 @@ use Rattle.segment.specs.Flying.{gives, sent_by, waiting}
 use Rattle.segment.specs.Segment.{given_below, waiting_in}
 use Rattle.segment.proofs.Walking.{IsWalked, get_at}
 
-pub given_next : (place : ℕ) (old now : List StackView) (s d : StackView) → IsWalked (λ p x y. AreCalls x (gives (waiting x)) y) old now place
-    → place < length now → s ≡ get_or now place d → given_below old (place + 1) ≡ given_below old place ++ sent_by place (waiting s)
+pub given_next : (place : ℕ) (old now : List StackView) (s d : StackView)
+    → IsWalked (λ p x y. AreCalls x (gives (waiting x)) y) old now place
+    → place < length now → s ≡ get_or now place d
+    → given_below old (place + 1) ≡ given_below old place ++ sent_by place (waiting s)
 given_next place old now s d w within is =
     let here : slice_get old place ≡ Some s = sym (w.rest place (omega arith)) ∙ get_at now place s d within is in
-    ap (given_below old) (add-one place) ∙ ap (λ (x : Option StackView). given_below old place ++ sent_by place (waiting_in x)) here
+    ap (given_below old) (add-one place)
+    ∙ ap (λ (x : Option StackView). given_below old place ++ sent_by place (waiting_in x)) here

@@ -57,36 +57,54 @@ AtEach-length R (x ∷ xs) [] h = absurd (h 0)
 AtEach-length R (x ∷ xs) (y ∷ ys) h = ap suc (AtEach-length (λ n. R (suc n)) xs ys (λ n. h (suc n)))
 
 module _ (k : ℕ) (c : Config) (t : StackView) where
-  joined : (d : Config) (turns : List Turn) (old new : SegmentView) → length old.configs ≡ length old.stacks → IsJoined d old new
-      → Begins c turns t (slice_get new.configs k) (slice_get new.stacks k) → Begins c turns t (slice_get old.configs k) (slice_get old.stacks k)
+  joined : (d : Config) (turns : List Turn) (old new : SegmentView) → length old.configs ≡ length old.stacks
+      → IsJoined d old new
+      → Begins c turns t (slice_get new.configs k) (slice_get new.stacks k)
+      → Begins c turns t (slice_get old.configs k) (slice_get old.stacks k)
   joined d turns old new even j from = go (below_or k (length old.stacks)) (below_or (length old.stacks) k)
     where
       moved : Begins c turns t (slice_get (old.configs ++ d ∷ []) k) (slice_get (old.stacks ++ j.stack ∷ []) k)
-      moved = subst (λ (xs : List Config). Begins c turns t (slice_get xs k) (slice_get (old.stacks ++ j.stack ∷ []) k)) j.configs
+      moved =
+          subst (λ (xs : List Config). Begins c turns t (slice_get xs k) (slice_get (old.stacks ++ j.stack ∷ []) k))
+          j.configs
           (subst (λ (xs : List StackView). Begins c turns t (slice_get new.configs k) (slice_get xs k)) j.stacks from)
 
-      to : (o : Option Config) (p : Option StackView) → slice_get (old.configs ++ d ∷ []) k ≡ o → slice_get (old.stacks ++ j.stack ∷ []) k ≡ p → Begins c turns t o p
-      to o p e f = subst (λ (x : Option Config). Begins c turns t x p) e (subst (λ (y : Option StackView). Begins c turns t (slice_get (old.configs ++ d ∷ []) k) y) f moved)
+      to : (o : Option Config) (p : Option StackView) → slice_get (old.configs ++ d ∷ []) k ≡ o
+          → slice_get (old.stacks ++ j.stack ∷ []) k ≡ p → Begins c turns t o p
+      to o p e f =
+          subst (λ (x : Option Config). Begins c turns t x p) e
+          (subst (λ (y : Option StackView). Begins c turns t (slice_get (old.configs ++ d ∷ []) k) y) f moved)
 
-      back : (o : Option Config) (p : Option StackView) → slice_get old.configs k ≡ o → slice_get old.stacks k ≡ p → Begins c turns t o p → Begins c turns t (slice_get old.configs k) (slice_get old.stacks k)
-      back o p e f b = subst (λ (x : Option Config). Begins c turns t x (slice_get old.stacks k)) (sym e) (subst (λ (y : Option StackView). Begins c turns t o y) (sym f) b)
+      back : (o : Option Config) (p : Option StackView) → slice_get old.configs k ≡ o → slice_get old.stacks k ≡ p
+          → Begins c turns t o p → Begins c turns t (slice_get old.configs k) (slice_get old.stacks k)
+      back o p e f b =
+          subst (λ (x : Option Config). Begins c turns t x (slice_get old.stacks k)) (sym e)
+          (subst (λ (y : Option StackView). Begins c turns t o y) (sym f) b)
 
-      none_there : length old.stacks ≤ k → Begins c turns t None None → Begins c turns t (slice_get old.configs k) (slice_get old.stacks k)
+      none_there : length old.stacks ≤ k → Begins c turns t None None
+          → Begins c turns t (slice_get old.configs k) (slice_get old.stacks k)
       none_there h b = back None None (get_past old.configs k (omega arith)) (get_past old.stacks k h) b
 
       newest : (d ≡ c) × AreCalls j.stack turns t → Started c turns t
       newest b = (j.stack, subst IsConfig b.0 j.is_config, j.started ∙ ap boot b.0, b.1)
 
-      go : (k < length old.stacks) ⊎ (length old.stacks ≤ k) → (length old.stacks < k) ⊎ (k ≤ length old.stacks) → Begins c turns t (slice_get old.configs k) (slice_get old.stacks k)
-      go (inl h) past = to (slice_get old.configs k) (slice_get old.stacks k) (get_front old.configs (d ∷ []) k (omega arith)) (get_front old.stacks (j.stack ∷ []) k h)
-      go (inr h) (inl g) = none_there h (to None None (get_after old.configs d k (omega arith)) (get_after old.stacks j.stack k g))
+      go : (k < length old.stacks) ⊎ (length old.stacks ≤ k) → (length old.stacks < k) ⊎ (k ≤ length old.stacks)
+          → Begins c turns t (slice_get old.configs k) (slice_get old.stacks k)
+      go (inl h) past =
+          to (slice_get old.configs k) (slice_get old.stacks k) (get_front old.configs (d ∷ []) k (omega arith))
+          (get_front old.stacks (j.stack ∷ []) k h)
+      go (inr h) (inl g) =
+          none_there h (to None None (get_after old.configs d k (omega arith)) (get_after old.stacks j.stack k g))
       go (inr h) (inr g) =
           let e : length old.configs ≡ k = omega arith in
           let f : length old.stacks ≡ k = omega arith in
-          none_there h (newest (to (Some d) (Some j.stack) (subst (λ n. slice_get (old.configs ++ d ∷ []) n ≡ Some d) e (get_last old.configs d)) (subst (λ n. slice_get (old.stacks ++ j.stack ∷ []) n ≡ Some j.stack) f (get_last old.stacks j.stack))))
+          none_there h (newest (to (Some d) (Some j.stack)
+          (subst (λ n. slice_get (old.configs ++ d ∷ []) n ≡ Some d) e (get_last old.configs d))
+          (subst (λ n. slice_get (old.stacks ++ j.stack ∷ []) n ≡ Some j.stack) f (get_last old.stacks j.stack))))
 
   -- a host that went on by some turns
-  on : (turns more : List Turn) (o : Option Config) (x y : Option StackView) → (o ≡ None → x ≡ None → more ≡ []) → AreBoth (λ s u. AreCalls s more u) x y → Begins c turns t o y
+  on : (turns more : List Turn) (o : Option Config) (x y : Option StackView) → (o ≡ None → x ≡ None → more ≡ [])
+      → AreBoth (λ s u. AreCalls s more u) x y → Begins c turns t o y
       → Begins c (more ++ turns) t o x
   on turns more None None None none h b = subst (λ (m : List Turn). Started c (m ++ turns) t) (sym (none refl refl)) b
   on turns more None None (Some u) none h b = absurd h
@@ -105,13 +123,15 @@ module _ (k : ℕ) (c : Config) (t : StackView) where
   none_comes flight None e = refl
   none_comes flight (Some d) e = absurd (none-some _ (sym e))
 
-  both_give : (x y : Option StackView) → AreBoth (λ s u. AreCalls s (gives (waiting s)) u) x y → AreBoth (λ s u. AreCalls s (gives (waiting_in x)) u) x y
+  both_give : (x y : Option StackView) → AreBoth (λ s u. AreCalls s (gives (waiting s)) u) x y
+      → AreBoth (λ s u. AreCalls s (gives (waiting_in x)) u) x y
   both_give None None h = tt
   both_give None (Some u) h = absurd h
   both_give (Some s) None h = absurd h
   both_give (Some s) (Some u) h = h
 
-  collects : (turns : List Turn) (old new : SegmentView) → IsCollected old new → Begins c turns t (slice_get new.configs k) (slice_get new.stacks k)
+  collects : (turns : List Turn) (old new : SegmentView) → IsCollected old new
+      → Begins c turns t (slice_get new.configs k) (slice_get new.stacks k)
       → Begins c (turns_in k (Collects old) ++ turns) t (slice_get old.configs k) (slice_get old.stacks k)
   collects turns old new is from =
       on turns (turns_in k (Collects old)) (slice_get old.configs k) (slice_get old.stacks k) (slice_get new.stacks k)
@@ -119,7 +139,8 @@ module _ (k : ℕ) (c : Config) (t : StackView) where
       (both_give (slice_get old.stacks k) (slice_get new.stacks k) (is.hosts k))
       (subst (λ (xs : List Config). Begins c turns t (slice_get xs k) (slice_get new.stacks k)) is.configs from)
 
-  delivers : (turns : List Turn) (old new : SegmentView) → IsDelivered old new → Begins c turns t (slice_get new.configs k) (slice_get new.stacks k)
+  delivers : (turns : List Turn) (old new : SegmentView) → IsDelivered old new
+      → Begins c turns t (slice_get new.configs k) (slice_get new.stacks k)
       → Begins c (turns_in k (Delivers old) ++ turns) t (slice_get old.configs k) (slice_get old.stacks k)
   delivers turns old new is from =
       on turns (turns_in k (Delivers old)) (slice_get old.configs k) (slice_get old.stacks k) (slice_get new.stacks k)
@@ -133,10 +154,14 @@ module _ (k : ℕ) (c : Config) (t : StackView) where
   same_both (Some s) None e = absurd (none-some _ e)
   same_both (Some s) (Some u) e = cc
 
-  some_both : (more : List Turn) (s u : StackView) (x y : Option StackView) → x ≡ Some s → y ≡ Some u → AreCalls s more u → AreBoth (λ a b. AreCalls a more b) x y
-  some_both more s u x y e f calls = subst (λ z. AreBoth (λ a b. AreCalls a more b) z y) (sym e) (subst (λ z. AreBoth (λ a b. AreCalls a more b) (Some s) z) (sym f) calls)
+  some_both : (more : List Turn) (s u : StackView) (x y : Option StackView) → x ≡ Some s → y ≡ Some u
+      → AreCalls s more u → AreBoth (λ a b. AreCalls a more b) x y
+  some_both more s u x y e f calls =
+      subst (λ z. AreBoth (λ a b. AreCalls a more b) z y) (sym e)
+      (subst (λ z. AreBoth (λ a b. AreCalls a more b) (Some s) z) (sym f) calls)
 
-  calls : (place : ℕ) (turn : Turn) (turns : List Turn) (old new : SegmentView) → IsCalled place turn old new → Begins c turns t (slice_get new.configs k) (slice_get new.stacks k)
+  calls : (place : ℕ) (turn : Turn) (turns : List Turn) (old new : SegmentView) → IsCalled place turn old new
+      → Begins c turns t (slice_get new.configs k) (slice_get new.stacks k)
       → Begins c (turns_in k (Calls place turn) ++ turns) t (slice_get old.configs k) (slice_get old.stacks k)
   calls place turn turns old new is from = by (eqb_tells place k)
     where
@@ -144,47 +169,73 @@ module _ (k : ℕ) (c : Config) (t : StackView) where
       mine = subst (λ (xs : List StackView). Begins c turns t (slice_get old.configs k) (slice_get xs k)) is.stacks
           (subst (λ (xs : List Config). Begins c turns t (slice_get xs k) (slice_get new.stacks k)) is.configs from)
 
-      go : (b : Bool) → ((place == k) ≡ b) → (more : List Turn) → (slice_get old.stacks k ≡ None → more ≡ []) → AreBoth (λ s u. AreCalls s more u) (slice_get old.stacks k) (slice_get (slice_set old.stacks place is.after) k)
-          → (if b then turn ∷ [] else []) ≡ more → Begins c (turns_in k (Calls place turn) ++ turns) t (slice_get old.configs k) (slice_get old.stacks k)
-      go b e more none both same = subst (λ (m : List Turn). Begins c (m ++ turns) t (slice_get old.configs k) (slice_get old.stacks k))
+      go : (b : Bool) → ((place == k) ≡ b) → (more : List Turn) → (slice_get old.stacks k ≡ None → more ≡ [])
+          → AreBoth (λ s u. AreCalls s more u) (slice_get old.stacks k)
+          (slice_get (slice_set old.stacks place is.after) k)
+          → (if b then turn ∷ [] else []) ≡ more
+          → Begins c (turns_in k (Calls place turn) ++ turns) t (slice_get old.configs k) (slice_get old.stacks k)
+      go b e more none both same =
+          subst (λ (m : List Turn). Begins c (m ++ turns) t (slice_get old.configs k) (slice_get old.stacks k))
           (sym (ap (λ (x : Bool). if x then turn ∷ [] else []) e ∙ same))
-          (on turns more (slice_get old.configs k) (slice_get old.stacks k) (slice_get (slice_set old.stacks place is.after) k) (λ o x. none x) both mine)
+          (on turns more (slice_get old.configs k) (slice_get old.stacks k)
+          (slice_get (slice_set old.stacks place is.after) k) (λ o x. none x) both mine)
 
-      by : (((place == k) ≡ true) × (place ≡ k)) ⊎ (((place == k) ≡ false) × (place ≢ k)) → Begins c (turns_in k (Calls place turn) ++ turns) t (slice_get old.configs k) (slice_get old.stacks k)
+      by : (((place == k) ≡ true) × (place ≡ k)) ⊎ (((place == k) ≡ false) × (place ≢ k))
+          → Begins c (turns_in k (Calls place turn) ++ turns) t (slice_get old.configs k) (slice_get old.stacks k)
       by (inl h) =
-          let here : slice_get old.stacks k ≡ Some is.before = subst (λ n. slice_get old.stacks n ≡ Some is.before) h.1 is.here in
+          let here : slice_get old.stacks k ≡ Some is.before =
+          subst (λ n. slice_get old.stacks n ≡ Some is.before) h.1 is.here in
           let there : slice_get (slice_set old.stacks place is.after) k ≡ Some is.after =
-          subst (λ n. slice_get (slice_set old.stacks place is.after) n ≡ Some is.after) h.1 (get_set_same old.stacks place is.after (get_within old.stacks place is.before is.here)) in
-          go true h.0 (turn ∷ []) (λ e. absurd (none-some _ (sym e ∙ here))) (some_both (turn ∷ []) is.before is.after _ _ here there is.calls) refl
+          subst (λ n. slice_get (slice_set old.stacks place is.after) n ≡ Some is.after) h.1
+          (get_set_same old.stacks place is.after (get_within old.stacks place is.before is.here)) in
+          go true h.0 (turn ∷ []) (λ e. absurd (none-some _ (sym e ∙ here)))
+          (some_both (turn ∷ []) is.before is.after _ _ here there is.calls) refl
       by (inr h) = go false h.0 [] (λ e. refl) (same_both _ _ (get_set_other old.stacks place k is.after h.1)) refl
 
   -- whatever was done
-  pub began : (acts : List Act) (v last : SegmentView) → length v.configs ≡ length v.stacks → AreActs v acts last → slice_get last.configs k ≡ Some c → slice_get last.stacks k ≡ Some t
+  pub began : (acts : List Act) (v last : SegmentView) → length v.configs ≡ length v.stacks → AreActs v acts last
+      → slice_get last.configs k ≡ Some c → slice_get last.stacks k ≡ Some t
       → Begins c (turns_of k acts) t (slice_get v.configs k) (slice_get v.stacks k)
-  began [] v last even done is_c is_t = subst (λ (w : SegmentView). Begins c [] t (slice_get w.configs k) (slice_get w.stacks k)) done
-      (subst (λ (o : Option Config). Begins c [] t o (slice_get last.stacks k)) (sym is_c) (subst (λ (p : Option StackView). Begins c [] t (Some c) p) (sym is_t) (refl, refl)))
+  began [] v last even done is_c is_t =
+      subst (λ (w : SegmentView). Begins c [] t (slice_get w.configs k) (slice_get w.stacks k)) done
+      (subst (λ (o : Option Config). Begins c [] t o (slice_get last.stacks k)) (sym is_c)
+      (subst (λ (p : Option StackView). Begins c [] t (Some c) p) (sym is_t) (refl, refl)))
   began (Joins d ∷ acts) v last even (mid, j, done) is_c is_t = joined d (turns_of k acts) v mid even j
-      (began acts mid last (ap length j.configs ∙ length-last v.configs d ∙ ap (λ n. n + 1) even ∙ sym (ap length j.stacks ∙ length-last v.stacks j.stack)) done is_c is_t)
+      (began acts mid last (ap length j.configs ∙ length-last v.configs d ∙ ap (λ n. n + 1) even
+      ∙ sym (ap length j.stacks ∙ length-last v.stacks j.stack)) done is_c is_t)
   began (Calls place turn ∷ acts) v last even (mid, is, done) is_c is_t = calls place turn (turns_of k acts) v mid is
-      (began acts mid last (ap length is.configs ∙ even ∙ sym (ap length is.stacks ∙ length-set v.stacks place is.after)) done is_c is_t)
+      (began acts mid last (ap length is.configs ∙ even
+      ∙ sym (ap length is.stacks ∙ length-set v.stacks place is.after)) done is_c is_t)
   began (Collects found ∷ acts) v last even (mid, (found_is, is), done) is_c is_t =
-      subst (λ (f : SegmentView). Begins c (turns_in k (Collects f) ++ turns_of k acts) t (slice_get v.configs k) (slice_get v.stacks k)) (sym found_is)
-      (collects (turns_of k acts) v mid is (began acts mid last (ap length is.configs ∙ even ∙ AtEach-length (λ place s u. AreCalls s (gives (waiting s)) u) v.stacks mid.stacks is.hosts) done is_c is_t))
+      subst (λ (f : SegmentView). Begins c (turns_in k (Collects f) ++ turns_of k acts) t (slice_get v.configs k)
+      (slice_get v.stacks k)) (sym found_is)
+      (collects (turns_of k acts) v mid is
+      (began acts mid last (ap length is.configs ∙ even
+      ∙ AtEach-length (λ place s u. AreCalls s (gives (waiting s)) u) v.stacks mid.stacks is.hosts) done is_c is_t))
   began (Delivers found ∷ acts) v last even (mid, (found_is, is), done) is_c is_t =
-      subst (λ (f : SegmentView). Begins c (turns_in k (Delivers f) ++ turns_of k acts) t (slice_get v.configs k) (slice_get v.stacks k)) (sym found_is)
-      (delivers (turns_of k acts) v mid is (began acts mid last (ap length is.configs ∙ even ∙ AtEach-length (λ place s u. AreCalls s (comes (received_in place (slice_get v.configs place) (leaving v).0)) u) v.stacks mid.stacks is.hosts) done is_c is_t))
+      subst (λ (f : SegmentView). Begins c (turns_in k (Delivers f) ++ turns_of k acts) t (slice_get v.configs k)
+      (slice_get v.stacks k)) (sym found_is)
+      (delivers (turns_of k acts) v mid is
+      (began acts mid last (ap length is.configs ∙ even
+      ∙ AtEach-length (λ place s u. AreCalls s (comes (received_in place (slice_get v.configs place) (leaving v).0))
+      u) v.stacks mid.stacks is.hosts) done is_c is_t))
   began (Impairs place chances ∷ acts) v last even (mid, is, done) is_c is_t =
       subst (λ (w : SegmentView). Begins c (turns_of k acts) t (slice_get w.configs k) (slice_get w.stacks k)) is
-      (began acts mid last (subst (λ (w : SegmentView). length w.configs ≡ length w.stacks) (sym is) even) done is_c is_t)
+      (began acts mid last (subst (λ (w : SegmentView). length w.configs ≡ length w.stacks) (sym is) even) done is_c
+      is_t)
   began (Seeds seed ∷ acts) v last even (mid, is, done) is_c is_t =
       subst (λ (w : SegmentView). Begins c (turns_of k acts) t (slice_get w.configs k) (slice_get w.stacks k)) is
-      (began acts mid last (subst (λ (w : SegmentView). length w.configs ≡ length w.stacks) (sym is) even) done is_c is_t)
+      (began acts mid last (subst (λ (w : SegmentView). length w.configs ≡ length w.stacks) (sym is) even) done is_c
+      is_t)
   began (Loses at ∷ acts) v last even (mid, is, done) is_c is_t =
       subst (λ (w : SegmentView). Begins c (turns_of k acts) t (slice_get w.configs k) (slice_get w.stacks k)) is
-      (began acts mid last (subst (λ (w : SegmentView). length w.configs ≡ length w.stacks) (sym is) even) done is_c is_t)
+      (began acts mid last (subst (λ (w : SegmentView). length w.configs ≡ length w.stacks) (sym is) even) done is_c
+      is_t)
   began (Repeats at ∷ acts) v last even (mid, is, done) is_c is_t =
       subst (λ (w : SegmentView). Begins c (turns_of k acts) t (slice_get w.configs k) (slice_get w.stacks k)) is
-      (began acts mid last (subst (λ (w : SegmentView). length w.configs ≡ length w.stacks) (sym is) even) done is_c is_t)
+      (began acts mid last (subst (λ (w : SegmentView). length w.configs ≡ length w.stacks) (sym is) even) done is_c
+      is_t)
   began (Swaps at other ∷ acts) v last even (mid, is, done) is_c is_t =
       subst (λ (w : SegmentView). Begins c (turns_of k acts) t (slice_get w.configs k) (slice_get w.stacks k)) is
-      (began acts mid last (subst (λ (w : SegmentView). length w.configs ≡ length w.stacks) (sym is) even) done is_c is_t)
+      (began acts mid last (subst (λ (w : SegmentView). length w.configs ≡ length w.stacks) (sym is) even) done is_c
+      is_t)

@@ -25,10 +25,12 @@ then_calls a b c [] ys same later = subst (λ (s : StackView). AreCalls s ys c) 
 then_calls a b c (x ∷ xs) ys (is, mid, call, rest) later = (is, mid, call, then_calls mid b c xs ys rest later)
 
 -- where a packet waits, the link takes the first
-pub first_given : (old new : State) (given : Option (List ℕ)) (items : List Item) → Transmits items old (Given given) new → 0 < length items
+pub first_given : (old new : State) (given : Option (List ℕ)) (items : List Item)
+    → Transmits items old (Given given) new → 0 < length items
     → (packet : List ℕ) × (given ≡ Some packet) × (bytes_of items ≡ packet ∷ bytes_of new.output)
 first_given old new given [] step some = absurd (omega arith)
-first_given old new given (item ∷ later) step some = (item.bytes, (cc step.0), ap (λ (s : State). item.bytes ∷ bytes_of s.output) (sym step.1))
+first_given old new given (item ∷ later) step some =
+    (item.bytes, (cc step.0), ap (λ (s : State). item.bytes ∷ bytes_of s.output) (sym step.1))
 
 -- the bytes behind a reference are bytes
 pub are_bytes : (xs : List ℕ) → ((k : ℕ) → get_or xs k 0 < 256) → IsBytes xs
@@ -58,15 +60,19 @@ take_again (suc n) [] ys = refl
 take_again (suc n) (x ∷ xs) ys = ap (λ zs. x ∷ zs) (take_again n xs ys)
 
 -- one more packet was taken
-pub more_calls : (a s t : StackView) (packets : List (List ℕ)) (i : ℕ) → AreCalls a (gives (take i packets)) s → AreCalls s (gives (take 1 (drop i packets))) t
+pub more_calls : (a s t : StackView) (packets : List (List ℕ)) (i : ℕ) → AreCalls a (gives (take i packets)) s
+    → AreCalls s (gives (take 1 (drop i packets))) t
     → AreCalls a (gives (take (suc i) packets)) t
 more_calls a s t packets i before one = subst (λ (turns : List Turn). AreCalls a turns t)
     (sym (ap gives (take_next i packets) ∙ map-append _ (take i packets) (take 1 (drop i packets))))
     (then_calls a s t (gives (take i packets)) (gives (take 1 (drop i packets))) before one)
 
 -- one more packet of those that wait
-pub sent_next : (sender i : ℕ) (packets : List (List ℕ)) → sent_by sender (take (suc i) packets) ≡ sent_by sender (take i packets) ++ sent_by sender (take 1 (drop i packets))
-sent_next sender i packets = ap (sent_by sender) (take_next i packets) ∙ map-append _ (take i packets) (take 1 (drop i packets))
+pub sent_next : (sender i : ℕ) (packets : List (List ℕ))
+    → sent_by sender (take (suc i) packets)
+    ≡ sent_by sender (take i packets) ++ sent_by sender (take 1 (drop i packets))
+sent_next sender i packets =
+    ap (sent_by sender) (take_next i packets) ∙ map-append _ (take i packets) (take 1 (drop i packets))
 
 -- ---- packets that come
 
@@ -74,37 +80,61 @@ sent_next sender i packets = ap (sent_by sender) (take_next i packets) ∙ map-a
 abbrev pub if_goes : ℕ → Config → Flying → List (List ℕ)
 if_goes place c f = cons_option (if goes_to place c f then Some f.packet else None) []
 
-pub received_next : (place : ℕ) (c : Config) (i : ℕ) (frames : List Frame) (frame : Frame) → i < length frames → frame ≡ get_or frames i frame
-    → received place c (map flying (take (i + 1) frames)) ≡ received place c (map flying (take i frames)) ++ if_goes place c (flying frame)
+pub received_next : (place : ℕ) (c : Config) (i : ℕ) (frames : List Frame) (frame : Frame) → i < length frames
+    → frame ≡ get_or frames i frame
+    → received place c (map flying (take (i + 1) frames))
+    ≡ received place c (map flying (take i frames)) ++ if_goes place c (flying frame)
 received_next place c i frames frame within is =
-    ap (λ (fs : List Frame). received place c (map flying fs)) (take_more frames i frame within ∙ ap (λ (f : Frame). take i frames ++ f ∷ []) (sym is))
+    ap (λ (fs : List Frame). received place c (map flying fs))
+    (take_more frames i frame within ∙ ap (λ (f : Frame). take i frames ++ f ∷ []) (sym is))
     ∙ ap (received place c) (map-append flying (take i frames) (frame ∷ []))
     ∙ filter_map-append _ (map flying (take i frames)) (flying frame ∷ [])
 
-pub more_come : (place : ℕ) (c : Config) (i : ℕ) (frames : List Frame) (frame : Frame) (a s t : StackView) → i < length frames → frame ≡ get_or frames i frame
-    → AreCalls a (comes (received place c (map flying (take i frames)))) s → AreCalls s (comes (if_goes place c (flying frame))) t
+pub more_come : (place : ℕ) (c : Config) (i : ℕ) (frames : List Frame) (frame : Frame) (a s t : StackView)
+    → i < length frames → frame ≡ get_or frames i frame
+    → AreCalls a (comes (received place c (map flying (take i frames)))) s
+    → AreCalls s (comes (if_goes place c (flying frame))) t
     → AreCalls a (comes (received place c (map flying (take (i + 1) frames)))) t
 more_come place c i frames frame a s t within is before one = subst (λ (turns : List Turn). AreCalls a turns t)
-    (sym (ap comes (received_next place c i frames frame within is) ∙ map-append _ (received place c (map flying (take i frames))) (if_goes place c (flying frame))))
-    (then_calls a s t (comes (received place c (map flying (take i frames)))) (comes (if_goes place c (flying frame))) before one)
+    (sym (ap comes (received_next place c i frames frame within is)
+    ∙ map-append _ (received place c (map flying (take i frames))) (if_goes place c (flying frame))))
+    (then_calls a s t (comes (received place c (map flying (take i frames)))) (comes (if_goes place c (flying frame)))
+    before one)
 
-pub come_goes : (place : ℕ) (c : Config) (f : Flying) (s t u : StackView) (bytes : List ℕ) → goes_to place c f ≡ true → bytes ≡ f.packet → u ≡ t → AreCalls s (comes (bytes ∷ [])) t
+pub come_goes : (place : ℕ) (c : Config) (f : Flying) (s t u : StackView) (bytes : List ℕ) → goes_to place c f ≡ true
+    → bytes ≡ f.packet → u ≡ t → AreCalls s (comes (bytes ∷ [])) t
     → AreCalls s (comes (if_goes place c f)) u
-come_goes place c f s t u bytes is same end calls = subst (λ (b : Bool). AreCalls s (comes (cons_option (if b then Some f.packet else None) [])) u) (sym is)
-    (subst (λ (p : List ℕ). AreCalls s (comes (p ∷ [])) u) same (subst (λ (x : StackView). AreCalls s (comes (bytes ∷ [])) x) (sym end) calls))
+come_goes place c f s t u bytes is same end calls =
+    subst (λ (b : Bool). AreCalls s (comes (cons_option (if b then Some f.packet else None) [])) u) (sym is)
+    (subst (λ (p : List ℕ). AreCalls s (comes (p ∷ [])) u) same
+    (subst (λ (x : StackView). AreCalls s (comes (bytes ∷ [])) x) (sym end) calls))
 
-pub come_not : (place : ℕ) (c : Config) (f : Flying) (s t : StackView) → goes_to place c f ≡ false → t ≡ s → AreCalls s (comes (if_goes place c f)) t
-come_not place c f s t is same = subst (λ (b : Bool). AreCalls s (comes (cons_option (if b then Some f.packet else None) [])) t) (sym is) same
+pub come_not : (place : ℕ) (c : Config) (f : Flying) (s t : StackView) → goes_to place c f ≡ false → t ≡ s
+    → AreCalls s (comes (if_goes place c f)) t
+come_not place c f s t is same =
+    subst (λ (b : Bool). AreCalls s (comes (cons_option (if b then Some f.packet else None) [])) t) (sym is) same
 
 -- how many packets go there, with one more looked at
-pub counted_next : (place : ℕ) (c : Config) (i : ℕ) (frames : List Frame) (frame : Frame) (n m : ℕ) (goes : Bool) → i < length frames → frame ≡ get_or frames i frame
-    → n ≡ length (received place c (map flying (take i frames))) → goes ≡ goes_to place c (flying frame) → m ≡ cond goes (n + 1) n
+pub counted_next : (place : ℕ) (c : Config) (i : ℕ) (frames : List Frame) (frame : Frame) (n m : ℕ) (goes : Bool)
+    → i < length frames → frame ≡ get_or frames i frame
+    → n ≡ length (received place c (map flying (take i frames))) → goes ≡ goes_to place c (flying frame)
+    → m ≡ cond goes (n + 1) n
     → m ≡ length (received place c (map flying (take (i + 1) frames)))
 counted_next place c i frames frame n m goes within is before test after = go goes test after
   where
-    all : length (received place c (map flying (take (i + 1) frames))) ≡ length (received place c (map flying (take i frames))) + length (if_goes place c (flying frame))
-    all = ap length (received_next place c i frames frame within is) ∙ length-append (received place c (map flying (take i frames))) (if_goes place c (flying frame))
+    all : length (received place c (map flying (take (i + 1) frames)))
+        ≡ length (received place c (map flying (take i frames))) + length (if_goes place c (flying frame))
+    all =
+        ap length (received_next place c i frames frame within is)
+        ∙ length-append (received place c (map flying (take i frames))) (if_goes place c (flying frame))
 
-    go : (b : Bool) → b ≡ goes_to place c (flying frame) → m ≡ cond b (n + 1) n → m ≡ length (received place c (map flying (take (i + 1) frames)))
-    go true e h = let one : length (if_goes place c (flying frame)) ≡ 1 = ap (λ b. length (cons_option (cond b (Some (flying frame).packet) None) [])) (sym e) in omega (arith, all, before)
-    go false e h = let none : length (if_goes place c (flying frame)) ≡ 0 = ap (λ b. length (cons_option (cond b (Some (flying frame).packet) None) [])) (sym e) in omega (arith, all, before)
+    go : (b : Bool) → b ≡ goes_to place c (flying frame) → m ≡ cond b (n + 1) n
+        → m ≡ length (received place c (map flying (take (i + 1) frames)))
+    go true e h =
+        let one : length (if_goes place c (flying frame)) ≡ 1 =
+        ap (λ b. length (cons_option (cond b (Some (flying frame).packet) None) [])) (sym e) in
+        omega (arith, all, before)
+    go false e h =
+        let none : length (if_goes place c (flying frame)) ≡ 0 =
+        ap (λ b. length (cons_option (cond b (Some (flying frame).packet) None) [])) (sym e) in
+        omega (arith, all, before)

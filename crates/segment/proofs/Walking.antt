@@ -18,7 +18,8 @@ get_set_same [] i y h = absurd (omega arith)
 get_set_same (x ∷ xs) zero y h = refl
 get_set_same (x ∷ xs) (suc i) y h = get_set_same xs i y (omega arith)
 
-pub get_set_other : {X : Type 0} (xs : List X) (i k : ℕ) (y : X) → i ≢ k → slice_get (slice_set xs i y) k ≡ slice_get xs k
+pub get_set_other : {X : Type 0} (xs : List X) (i k : ℕ) (y : X) → i ≢ k
+    → slice_get (slice_set xs i y) k ≡ slice_get xs k
 get_set_other [] i k y h = refl
 get_set_other (x ∷ xs) zero zero y h = absurd (h refl)
 get_set_other (x ∷ xs) zero (suc k) y h = refl
@@ -44,19 +45,27 @@ pub record IsWalked {X : Type 0} (R : ℕ → X → X → Type 0) (old now : Lis
 pub walk_begins : {X : Type 0} (R : ℕ → X → X → Type 0) (old : List X) → IsWalked R old old 0
 walk_begins R old = record { done = λ k h. absurd (omega arith); rest = λ k h. refl; len = refl }
 
-abbrev both_are : {X : Type 0} (R : X → X → Type 0) (a b : Option X) (s t : X) → a ≡ Some s → b ≡ Some t → R s t → AreBoth R a b
+abbrev both_are : {X : Type 0} (R : X → X → Type 0) (a b : Option X) (s t : X) → a ≡ Some s → b ≡ Some t → R s t
+    → AreBoth R a b
 both_are R a b s t e f r = subst (λ x. AreBoth R x b) (sym e) (subst (λ y. AreBoth R (Some s) y) (sym f) r)
 
-pub walk_on : {X : Type 0} (R : ℕ → X → X → Type 0) (old now : List X) (place : ℕ) (s t d : X) → IsWalked R old now place → place < length now
+pub walk_on : {X : Type 0} (R : ℕ → X → X → Type 0) (old now : List X) (place : ℕ) (s t d : X)
+    → IsWalked R old now place → place < length now
     → s ≡ get_or now place d → R place s t → IsWalked R old (slice_set now place t) (place + 1)
-walk_on R old now place s t d w within is step = record { done = done; rest = rest; len = length-set now place t ∙ w.len }
+walk_on R old now place s t d w within is step =
+    record { done = done; rest = rest; len = length-set now place t ∙ w.len }
   where
     here : AreBoth (R place) (slice_get old place) (slice_get (slice_set now place t) place)
-    here = both_are (R place) _ _ s t (sym (w.rest place (omega arith)) ∙ get_at now place s d within is) (get_set_same now place t within) step
+    here =
+        both_are (R place) _ _ s t (sym (w.rest place (omega arith)) ∙ get_at now place s d within is)
+        (get_set_same now place t within) step
 
-    by : (k : ℕ) → k < place + 1 → (k < place) ⊎ (place ≤ k) → AreBoth (R k) (slice_get old k) (slice_get (slice_set now place t) k)
-    by k within' (inl h) = subst (λ x. AreBoth (R k) (slice_get old k) x) (sym (get_set_other now place k t (λ e. omega arith))) (w.done k h)
-    by k within' (inr h) = let e : place ≡ k = omega arith in subst (λ j. AreBoth (R j) (slice_get old j) (slice_get (slice_set now place t) j)) e here
+    by : (k : ℕ) → k < place + 1 → (k < place) ⊎ (place ≤ k)
+        → AreBoth (R k) (slice_get old k) (slice_get (slice_set now place t) k)
+    by k within' (inl h) =
+        subst (λ x. AreBoth (R k) (slice_get old k) x) (sym (get_set_other now place k t (λ e. omega arith))) (w.done k h)
+    by k within' (inr h) = let e : place ≡ k = omega arith in
+        subst (λ j. AreBoth (R j) (slice_get old j) (slice_get (slice_set now place t) j)) e here
 
     done : (k : ℕ) → k < place + 1 → AreBoth (R k) (slice_get old k) (slice_get (slice_set now place t) k)
     done k h = by k h (below_or k place)
@@ -65,24 +74,31 @@ walk_on R old now place s t d w within is step = record { done = done; rest = re
     rest k h = get_set_other now place k t (λ e. omega arith) ∙ w.rest k (omega arith)
 
 -- a host that goes on though it is left out
-pub walk_past : {X : Type 0} (R : ℕ → X → X → Type 0) (old now : List X) (place : ℕ) (s : X) → IsWalked R old now place → place < length now
+pub walk_past : {X : Type 0} (R : ℕ → X → X → Type 0) (old now : List X) (place : ℕ) (s : X) → IsWalked R old now place
+    → place < length now
     → slice_get old place ≡ Some s → R place s s → IsWalked R old now (place + 1)
-walk_past R old now place s w within is step = record { done = λ k h. by k h (below_or k place); rest = λ k h. w.rest k (omega arith); len = w.len }
+walk_past R old now place s w within is step =
+    record { done = λ k h. by k h (below_or k place); rest = λ k h. w.rest k (omega arith); len = w.len }
   where
     by : (k : ℕ) → k < place + 1 → (k < place) ⊎ (place ≤ k) → AreBoth (R k) (slice_get old k) (slice_get now k)
     by k within' (inl h) = w.done k h
-    by k within' (inr h) = let e : place ≡ k = omega arith in subst (λ j. AreBoth (R j) (slice_get old j) (slice_get now j)) e (both_are (R place) _ _ s s is (w.rest place (omega arith) ∙ is) step)
+    by k within' (inr h) = let e : place ≡ k = omega arith in
+        subst (λ j. AreBoth (R j) (slice_get old j) (slice_get now j)) e
+        (both_are (R place) _ _ s s is (w.rest place (omega arith) ∙ is) step)
 
-pub walk_ends : {X : Type 0} (R : ℕ → X → X → Type 0) (old now : List X) (place : ℕ) → IsWalked R old now place → length old ≤ place → AtEach R old now
+pub walk_ends : {X : Type 0} (R : ℕ → X → X → Type 0) (old now : List X) (place : ℕ) → IsWalked R old now place
+    → length old ≤ place → AtEach R old now
 walk_ends R old now place w all k = by (below_or k place)
   where
     by : (k < place) ⊎ (place ≤ k) → AreBoth (R k) (slice_get old k) (slice_get now k)
     by (inl h) = w.done k h
     by (inr h) = let n : slice_get old k ≡ None = get_past old k (omega arith) in
-        subst (λ x. AreBoth (R k) x (slice_get now k)) (sym n) (subst (λ y. AreBoth (R k) None y) (sym (w.rest k h ∙ n)) tt)
+        subst (λ x. AreBoth (R k) x (slice_get now k)) (sym n)
+        (subst (λ y. AreBoth (R k) None y) (sym (w.rest k h ∙ n)) tt)
 
 -- one walk after another
-pub walks_join : {X : Type 0} (R Q S : ℕ → X → X → Type 0) (a b c : List X) → ((k : ℕ) (x y z : X) → R k x y → Q k y z → S k x z) → AtEach R a b → AtEach Q b c → AtEach S a c
+pub walks_join : {X : Type 0} (R Q S : ℕ → X → X → Type 0) (a b c : List X)
+    → ((k : ℕ) (x y z : X) → R k x y → Q k y z → S k x z) → AtEach R a b → AtEach Q b c → AtEach S a c
 walks_join R Q S a b c join first second k = go (slice_get a k) (slice_get b k) (slice_get c k) (first k) (second k)
   where
     go : (x y z : Option _) → AreBoth (R k) x y → AreBoth (Q k) y z → AreBoth (S k) x z

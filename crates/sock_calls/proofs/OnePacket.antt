@@ -70,9 +70,12 @@ need_link c ip n e = go (is_looped c ip) (ip == c.bcast) e
 
 -- a send to another machine goes by the link
 pub by_link : (c : Config) (ip : ℕ) → (ip ≢ c.addr) × (ip ≢ c.bcast) × (ip ≢ 2130706433) → Way.Link ≡ way_of c ip
-by_link c ip (apart, one, outside) = go (ip == c.addr) (ip == 2130706433) (ip == c.bcast) (ne_eqb ip c.addr apart) (ne_eqb ip 2130706433 outside) (ne_eqb ip c.bcast one)
+by_link c ip (apart, one, outside) =
+    go (ip == c.addr) (ip == 2130706433) (ip == c.bcast) (ne_eqb ip c.addr apart) (ne_eqb ip 2130706433 outside)
+    (ne_eqb ip c.bcast one)
   where
-    go : (a l b : Bool) → a ≡ false → l ≡ false → b ≡ false → Way.Link ≡ cond (a || l) Way.Loopback (cond b Way.Both Way.Link)
+    go : (a l b : Bool) → a ≡ false → l ≡ false → b ≡ false
+        → Way.Link ≡ cond (a || l) Way.Loopback (cond b Way.Both Way.Link)
     go true l b e f g = cc
     go false true b e f g = cc
     go false false true e f g = cc

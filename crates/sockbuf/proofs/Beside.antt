@@ -27,7 +27,9 @@ datagrams_same p q b s = ap datagrams_of (queued_packets_same p q b.train s)
 pub ready_same : (p q : PoolView) (b : SockBufView) → SameAt p q (chains_of p b) → IsSockBuf p b → IsSockBuf q b
 ready_same p q b s h = record {
   held = held_same p q b.train s h.held;
-  each = subst (λ (cs : List QueuedPacket). Each (λ (queued_packet : QueuedPacket). IsDatagram queued_packet.entries) cs) (sym (queued_packets_same p q b.train s)) h.each;
+  each =
+      subst (λ (cs : List QueuedPacket). Each (λ (queued_packet : QueuedPacket). IsDatagram queued_packet.entries) cs)
+      (sym (queued_packets_same p q b.train s)) h.each;
   cc = h.cc ∙ ap bytes_queued (sym (datagrams_same p q b s));
   mbcnt = h.mbcnt ∙ ap memory_queued (sym (datagrams_same p q b s));
 }
@@ -36,19 +38,24 @@ ready_same p q b s h = record {
 pub apart_made : {p q : PoolView} {c : ℕ} (xs : List ℕ) → Moves p [] q (c ∷ []) → IsOwned p xs → times c xs ≡ 0
 apart_made {p} {q} {c} xs m o = omega (arith, m.owned c, times_same c [], live_at_most q c, o c)
 
-pub made_beside : {p q : PoolView} {c : ℕ} (b : SockBufView) → Moves p [] q (c ∷ []) → IsSockBuf p b → SameAt p q (chains_of p b)
+pub made_beside : {p q : PoolView} {c : ℕ} (b : SockBufView) → Moves p [] q (c ∷ []) → IsSockBuf p b
+    → SameAt p q (chains_of p b)
 made_beside {p} b m h = same_beside (chains_of p b) m h.held.owned (λ k some. refl)
 
 pub ready_made : {p q : PoolView} {c : ℕ} (b : SockBufView) → Moves p [] q (c ∷ []) → IsSockBuf p b → IsSockBuf q b
 ready_made {p} {q} b m h = ready_same p q b (made_beside b m h) h
 
-pub apart_ready : {p q : PoolView} {c : ℕ} (b : SockBufView) → Moves p [] q (c ∷ []) → IsSockBuf p b → times c (chains_of q b) ≡ 0
-apart_ready {p} {q} {c} b m h = ap (times c) (chains_same p q b (made_beside b m h)) ∙ apart_made (chains_of p b) m h.held.owned
+pub apart_ready : {p q : PoolView} {c : ℕ} (b : SockBufView) → Moves p [] q (c ∷ []) → IsSockBuf p b
+    → times c (chains_of q b) ≡ 0
+apart_ready {p} {q} {c} b m h =
+    ap (times c) (chains_same p q b (made_beside b m h)) ∙ apart_made (chains_of p b) m h.held.owned
 
-pub ready_freed : {p q : PoolView} (c : ℕ) (b : SockBufView) → IsSockBuf p b → times c (chains_of p b) ≡ 0 → q ≡ without p c → IsSockBuf q b
+pub ready_freed : {p q : PoolView} (c : ℕ) (b : SockBufView) → IsSockBuf p b → times c (chains_of p b) ≡ 0
+    → q ≡ without p c → IsSockBuf q b
 ready_freed {p} {q} c b h apart e = ready_same p q b (same_without p q c (chains_of p b) apart e) h
 
 -- ---- a datagram that was refused
-pub refused : {p q : PoolView} {b d : SockBufView} {c back : ℕ} (sender : Addr) (r : Refusal) → AppendsAddr p b sender c (Err (back, r)) q d → IsRefused p b c back q d
+pub refused : {p q : PoolView} {b d : SockBufView} {c back : ℕ} (sender : Addr) (r : Refusal)
+    → AppendsAddr p b sender c (Err (back, r)) q d → IsRefused p b c back q d
 refused sender Full h = h.1
 refused sender NoBufs h = h.2

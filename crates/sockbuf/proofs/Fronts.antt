@@ -15,23 +15,31 @@ address_again a =
     λ i. record { ip = ip i; port = port i }
 
 -- the chain with the address, before the other is linked after it
-pub with_bytes : {p q : PoolView} {d : ℕ} (a : Addr) (bytes : List ℕ) → Adds p q d (one_mbuf true (record { bytes = bytes; start = 28; cluster = None }) d) → bytes ≡ sockaddr_bytes a → Adds p q d (one_mbuf true (address_entry a) d)
-with_bytes {p} {q} {d} a bytes adds is = subst (λ (xs : List ℕ). Adds p q d (one_mbuf true (record { bytes = xs; start = 28; cluster = None }) d)) is adds
+pub with_bytes : {p q : PoolView} {d : ℕ} (a : Addr) (bytes : List ℕ)
+    → Adds p q d (one_mbuf true (record { bytes = bytes; start = 28; cluster = None }) d) → bytes ≡ sockaddr_bytes a
+    → Adds p q d (one_mbuf true (address_entry a) d)
+with_bytes {p} {q} {d} a bytes adds is =
+    subst (λ (xs : List ℕ). Adds p q d (one_mbuf true (record { bytes = xs; start = 28; cluster = None }) d)) is adds
 
 pub record Addressed (p : PoolView) (c : ℕ) (a : Addr) (q : PoolView) (d : ℕ) : Type 0 where
   pub entries : (chain_of q d).entries ≡ address_entry a ∷ (chain_of p c).entries
   pub headed : (chain_of q d).front.header ≡ true
   pub moves : Moves p (c ∷ []) q (d ∷ [])
 
-pub addressed : {p q : PoolView} {d : ℕ} (s : PoolView) (c : ℕ) (a : Addr) → Adds p q d (one_mbuf true (address_entry a) d) → IsLive p c → s ≡ with_chain (without q c) d (joined (chain_of q d) (chain_of q c)) → Addressed p c a s d
+pub addressed : {p q : PoolView} {d : ℕ} (s : PoolView) (c : ℕ) (a : Addr)
+    → Adds p q d (one_mbuf true (address_entry a) d) → IsLive p c
+    → s ≡ with_chain (without q c) d (joined (chain_of q d) (chain_of q c)) → Addressed p c a s d
 addressed {p} {q} {d} s c a adds live linked =
     let front : chain_of q d ≡ one_mbuf true (address_entry a) d = shown_adds adds in
-    let back : chain_of q c ≡ chain_of p c = kept_with p q d (one_mbuf true (address_entry a) d) c adds.pool (apart p q d (one_mbuf true (address_entry a) d) adds c live) in
+    let back : chain_of q c ≡ chain_of p c =
+    kept_with p q d (one_mbuf true (address_entry a) d) c adds.pool
+    (apart p q d (one_mbuf true (address_entry a) d) adds c live) in
     let shown : chain_of s d ≡ joined (one_mbuf true (address_entry a) d) (chain_of p c) =
     shown_with (without q c) s d (joined (chain_of q d) (chain_of q c)) linked ∙ (λ i. joined (front i) (back i)) in
     let owned : IsOwned p (c ∷ []) = owned_more p c [] (λ k. omega arith) live refl in
     let made : Moves p (c ∷ []) q (d ∷ c ∷ []) = then_adds (moves_none p (c ∷ [])) adds in
-    let turned : Moves p (c ∷ []) q (c ∷ d ∷ []) = moves_reordered (c ∷ []) (c ∷ d ∷ []) made (λ k. refl) (λ k. omega arith) in
+    let turned : Moves p (c ∷ []) q (c ∷ d ∷ []) =
+    moves_reordered (c ∷ []) (c ∷ d ∷ []) made (λ k. refl) (λ k. omega arith) in
     let parted : Moves p (c ∷ []) (without q c) (d ∷ []) = then_without (without q c) c (d ∷ []) turned owned refl in
     record {
       entries = ap (λ (v : ChainView). v.entries) shown;
@@ -45,7 +53,8 @@ pub record Stripped (p : PoolView) (c : ℕ) (q : PoolView) (d : ℕ) : Type 0 w
   pub front : (chain_of q d).front ≡ alone false
   pub moves : Moves p (c ∷ []) q (d ∷ [])
 
-pub stripped : {p q : PoolView} {c d : ℕ} → IsLive p c → Adds (without p c) q d (second_part 1 (chain_of p c)) → Stripped p c q d
+pub stripped : {p q : PoolView} {c d : ℕ} → IsLive p c → Adds (without p c) q d (second_part 1 (chain_of p c))
+    → Stripped p c q d
 stripped {p} {q} {c} {d} live adds = record {
   entries = ap (λ (v : ChainView). v.entries) (shown_adds adds);
   front = ap (λ (v : ChainView). v.front) (shown_adds adds);

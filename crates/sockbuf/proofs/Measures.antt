@@ -22,7 +22,9 @@ pub references_are : (es : List Entry) → references_in (layout_of es) ≡ leng
 references_are [] = refl
 references_are (e ∷ es) = go e.cluster (references_are es)
   where
-    go : (o : Option ℕ) → references_in (layout_of es) ≡ length (weight_of es).bag → cond {A = ℕ} (is_some o) 1 0 + references_in (layout_of es) ≡ length (filter_map (λ (e : Entry). e.cluster) (record { bytes = e.bytes; start = e.start; cluster = o } ∷ es))
+    go : (o : Option ℕ) → references_in (layout_of es) ≡ length (weight_of es).bag
+        → cond {A = ℕ} (is_some o) 1 0 + references_in (layout_of es)
+        ≡ length (filter_map (λ (e : Entry). e.cluster) (record { bytes = e.bytes; start = e.start; cluster = o } ∷ es))
     go None h = omega (arith, h)
     go (Some k) h = omega (arith, h)
 
@@ -30,7 +32,9 @@ pub bag_few : (es : List Entry) → length (weight_of es).bag ≤ length es
 bag_few [] = omega arith
 bag_few (e ∷ es) = go e.cluster (bag_few es)
   where
-    go : (o : Option ℕ) → length (weight_of es).bag ≤ length es → length (filter_map (λ (e : Entry). e.cluster) (record { bytes = e.bytes; start = e.start; cluster = o } ∷ es)) ≤ suc (length es)
+    go : (o : Option ℕ) → length (weight_of es).bag ≤ length es
+        → length (filter_map (λ (e : Entry). e.cluster) (record { bytes = e.bytes; start = e.start; cluster = o } ∷ es))
+        ≤ suc (length es)
     go None h = omega (arith, h)
     go (Some k) h = omega (arith, h)
 

@@ -22,20 +22,24 @@ use Rattle.sockbuf.proofs.Fronts.{address_again}
 -- ---- a step beside the queue
 
 -- an owner of a train whose one chain outside became another
-pub beside_one : {p q : PoolView} {c d : ℕ} (t : TrainView) → Moves p (c ∷ []) q (d ∷ []) → times c (numbers p t) ≡ 0 → IsHeld p t → SameAt p q (numbers p t)
+pub beside_one : {p q : PoolView} {c d : ℕ} (t : TrainView) → Moves p (c ∷ []) q (d ∷ []) → times c (numbers p t) ≡ 0
+    → IsHeld p t → SameAt p q (numbers p t)
 beside_one {p} {q} {c} {d} t m apart h =
     same_beside (numbers p t) m h.owned (λ k in_t. elim (cases_eq k c) [
       | inl e ↦ absurd (omega (arith, apart, in_t, ap (λ (j : ℕ). times j (numbers p t)) e))
       | inr ne ↦ times_other k c [] ne
     ])
 
-pub held_beside : {p q : PoolView} {c d : ℕ} (t : TrainView) → Moves p (c ∷ []) q (d ∷ []) → times c (numbers p t) ≡ 0 → IsHeld p t → IsHeld q t
+pub held_beside : {p q : PoolView} {c d : ℕ} (t : TrainView) → Moves p (c ∷ []) q (d ∷ []) → times c (numbers p t) ≡ 0
+    → IsHeld p t → IsHeld q t
 held_beside {p} {q} t m apart h = held_same p q t (beside_one t m apart h) h
 
-pub apart_beside : {p q : PoolView} {c d : ℕ} (t : TrainView) → Moves p (c ∷ []) q (d ∷ []) → IsLive p c → times c (numbers p t) ≡ 0 → IsHeld p t → times d (numbers q t) ≡ 0
+pub apart_beside : {p q : PoolView} {c d : ℕ} (t : TrainView) → Moves p (c ∷ []) q (d ∷ []) → IsLive p c
+    → times c (numbers p t) ≡ 0 → IsHeld p t → times d (numbers q t) ≡ 0
 apart_beside {p} {q} {c} {d} t m live apart h =
     let o : IsOwned p (c ∷ numbers p t) = owned_more p c (numbers p t) h.owned live apart in
-    ap (times d) (numbers_same p q t (beside_one t m apart h)) ∙ apart_first q d (numbers p t) (owned_after (moves_before (numbers p t) m) o)
+    ap (times d) (numbers_same p q t (beside_one t m apart h))
+    ∙ apart_first q d (numbers p t) (owned_after (moves_before (numbers p t) m) o)
 
 -- ---- the shape of a queued chain
 pub record Shape (es : List Entry) : Type 0 where
@@ -50,7 +54,8 @@ shape [] h = absurd h
 shape (e ∷ es) h = record { front = e; rest = es; is = refl; address = h.0; some = h.1 }
 
 -- ---- sums
-cc_of : (es : List Entry) → Shape es → (ds : List Datagram) → bytes_queued (datagram_of es ∷ ds) ≡ length (flat_bytes es) + bytes_queued ds
+cc_of : (es : List Entry) → Shape es → (ds : List Datagram)
+    → bytes_queued (datagram_of es ∷ ds) ≡ length (flat_bytes es) + bytes_queued ds
 cc_of es s ds =
     omega (
       arith,
@@ -61,9 +66,11 @@ cc_of es s ds =
       ap (λ (e : Entry). length e.bytes) s.address,
     )
 
-mbcnt_of : (es : List Entry) → Shape es → (ds : List Datagram) → memory_queued (datagram_of es ∷ ds) ≡ memory_of (weight_of es) + memory_queued ds
+mbcnt_of : (es : List Entry) → Shape es → (ds : List Datagram)
+    → memory_queued (datagram_of es ∷ ds) ≡ memory_of (weight_of es) + memory_queued ds
 mbcnt_of es s ds =
-    let bag : (weight_of (s.front ∷ s.rest)).bag ≡ (weight_of s.rest).bag = ap (λ (e : Entry). (weight_of (e ∷ s.rest)).bag) s.address in
+    let bag : (weight_of (s.front ∷ s.rest)).bag ≡ (weight_of s.rest).bag =
+    ap (λ (e : Entry). (weight_of (e ∷ s.rest)).bag) s.address in
     omega (
       arith,
       sum_by-cons (λ (d : Datagram). memory_of d.item.weight) (datagram_of es) ds,
@@ -72,11 +79,23 @@ mbcnt_of es s ds =
       ap length bag,
     )
 
-bytes_more : (ds : List Datagram) (d : Datagram) → bytes_queued (ds ++ d ∷ []) ≡ bytes_queued ds + (16 + length d.item.bytes)
-bytes_more ds d = omega (arith, sum_by-append (λ (d : Datagram). 16 + length d.item.bytes) ds (d ∷ []), sum_by-cons (λ (d : Datagram). 16 + length d.item.bytes) d [])
+bytes_more : (ds : List Datagram) (d : Datagram)
+    → bytes_queued (ds ++ d ∷ []) ≡ bytes_queued ds + (16 + length d.item.bytes)
+bytes_more ds d =
+    omega (
+      arith,
+      sum_by-append (λ (d : Datagram). 16 + length d.item.bytes) ds (d ∷ []),
+      sum_by-cons (λ (d : Datagram). 16 + length d.item.bytes) d [],
+    )
 
-memory_more : (ds : List Datagram) (d : Datagram) → memory_queued (ds ++ d ∷ []) ≡ memory_queued ds + memory_of d.item.weight
-memory_more ds d = omega (arith, sum_by-append (λ (d : Datagram). memory_of d.item.weight) ds (d ∷ []), sum_by-cons (λ (d : Datagram). memory_of d.item.weight) d [])
+memory_more : (ds : List Datagram) (d : Datagram)
+    → memory_queued (ds ++ d ∷ []) ≡ memory_queued ds + memory_of d.item.weight
+memory_more ds d =
+    omega (
+      arith,
+      sum_by-append (λ (d : Datagram). memory_of d.item.weight) ds (d ∷ []),
+      sum_by-cons (λ (d : Datagram). memory_of d.item.weight) d [],
+    )
 
 -- ---- append
 insert_end : {A : Type 0} (xs : List A) (n : ℕ) (x : A) → n ≡ length xs → insert xs n x ≡ xs ++ x ∷ []
@@ -86,7 +105,9 @@ insert_end xs n x e = ap (λ (k : ℕ). insert xs k x) e ∙ go xs
     go [] = refl
     go (y ∷ ys) = ap (λ (l : List _). y ∷ l) (go ys)
 
-each_end : (xs : List QueuedPacket) (x : QueuedPacket) → Each (λ (queued_packet : QueuedPacket). IsDatagram queued_packet.entries) xs → IsDatagram x.entries → Each (λ (queued_packet : QueuedPacket). IsDatagram queued_packet.entries) (xs ++ x ∷ [])
+each_end : (xs : List QueuedPacket) (x : QueuedPacket)
+    → Each (λ (queued_packet : QueuedPacket). IsDatagram queued_packet.entries) xs → IsDatagram x.entries
+    → Each (λ (queued_packet : QueuedPacket). IsDatagram queued_packet.entries) (xs ++ x ∷ [])
 each_end [] x h here = (here, tt)
 each_end (y ∷ ys) x h here = (h.0, each_end ys x h.1 here)
 
@@ -97,7 +118,8 @@ pub record IsPutIn (p : PoolView) (b : SockBufView) (c d : ℕ) (a : Addr) (q r 
   pub apart : times c (chains_of p b) ≡ 0
   pub entries : (chain_of q d).entries ≡ address_entry a ∷ (chain_of p c).entries
   pub made : Moves p (c ∷ []) q (d ∷ [])
-  pub queued_packets : queued_packets r u ≡ insert (queued_packets q b.train) b.train.len (record { number = d; entries = (chain_of q d).entries; tag = 0 })
+  pub queued_packets : queued_packets r u
+      ≡ insert (queued_packets q b.train) b.train.len (record { number = d; entries = (chain_of q d).entries; tag = 0 })
   pub held : IsHeld r u
   pub moves : Moves q (d ∷ numbers q b.train) r (numbers r u)
 
@@ -106,8 +128,10 @@ pub record Appended (p : PoolView) (b : SockBufView) (c : ℕ) (a : Addr) (r : P
   pub ready : IsSockBuf r d
   pub moves : Moves p (c ∷ chains_of p b) r (chains_of r d)
 
-pub appended : {p q r : PoolView} {b : SockBufView} {u : TrainView} {c d : ℕ} {a : Addr} (cc mbcnt : ℕ) → IsSockBuf p b → IsPutIn p b c d a q r u
-    → cc ≡ b.cc + (16 + length (flat_bytes (chain_of p c).entries)) → mbcnt ≡ b.mbcnt + (128 + memory_of (weight_of (chain_of p c).entries))
+pub appended : {p q r : PoolView} {b : SockBufView} {u : TrainView} {c d : ℕ} {a : Addr} (cc mbcnt : ℕ) → IsSockBuf p b
+    → IsPutIn p b c d a q r u
+    → cc ≡ b.cc + (16 + length (flat_bytes (chain_of p c).entries))
+    → mbcnt ≡ b.mbcnt + (128 + memory_of (weight_of (chain_of p c).entries))
     → Appended p b c a r (record { train = u; cc = cc; mbcnt = mbcnt })
 appended {p} {q} {r} {b} {u} {c} {d} {a} cc mbcnt ready i is_cc is_mbcnt =
     let t : TrainView = b.train in
@@ -115,8 +139,10 @@ appended {p} {q} {r} {b} {u} {c} {d} {a} cc mbcnt ready i is_cc is_mbcnt =
     let es : List Entry = (chain_of p c).entries in
     let new : QueuedPacket = record { number = d; entries = address_entry a ∷ es; tag = 0 } in
     let all : queued_packets r u ≡ queued_packets p t ++ new ∷ [] =
-    i.queued_packets ∙ ap (λ (cs : List QueuedPacket). insert cs t.len (record { number = d; entries = (chain_of q d).entries; tag = 0 })) (queued_packets_same p q t same)
-    ∙ insert_end (queued_packets p t) t.len (record { number = d; entries = (chain_of q d).entries; tag = 0 }) (sym (length-queued_packets p t ready.held))
+    i.queued_packets ∙ ap (λ (cs : List QueuedPacket). insert cs t.len
+    (record { number = d; entries = (chain_of q d).entries; tag = 0 })) (queued_packets_same p q t same)
+    ∙ insert_end (queued_packets p t) t.len (record { number = d; entries = (chain_of q d).entries; tag = 0 })
+    (sym (length-queued_packets p t ready.held))
     ∙ ap (λ (l : List Entry). queued_packets p t ++ record { number = d; entries = l; tag = 0 } ∷ []) i.entries in
     let queued : datagrams_of (queued_packets r u) ≡ datagrams p b ++ datagram_from a p c ∷ [] =
     ap datagrams_of all
@@ -126,12 +152,23 @@ appended {p} {q} {r} {b} {u} {c} {d} {a} cc mbcnt ready i is_cc is_mbcnt =
       datagrams = queued;
       ready = record {
         held = i.held;
-        each = subst (λ (cs : List QueuedPacket). Each (λ (queued_packet : QueuedPacket). IsDatagram queued_packet.entries) cs) (sym all)
+        each =
+            subst (λ (cs : List QueuedPacket). Each (λ (queued_packet : QueuedPacket). IsDatagram queued_packet.entries)
+            cs) (sym all)
             (each_end (queued_packets p t) new ready.each (ap address_entry (sym (address_again a)), i.some));
         cc = omega (arith, is_cc, ap bytes_queued queued, bytes_more (datagrams p b) (datagram_from a p c), ready.cc);
-        mbcnt = omega (arith, is_mbcnt, ap memory_queued queued, memory_more (datagrams p b) (datagram_from a p c), ready.mbcnt);
+        mbcnt =
+            omega (
+              arith,
+              is_mbcnt,
+              ap memory_queued queued,
+              memory_more (datagrams p b) (datagram_from a p c),
+              ready.mbcnt,
+            );
       };
-      moves = moves_trans (moves_before (numbers p t) i.made) (subst (λ (xs : List ℕ). Moves q (d ∷ xs) r (numbers r u)) (numbers_same p q t same) i.moves);
+      moves =
+          moves_trans (moves_before (numbers p t) i.made)
+          (subst (λ (xs : List ℕ). Moves q (d ∷ xs) r (numbers r u)) (numbers_same p q t same) i.moves);
     }
 
 -- ---- take
@@ -150,22 +187,31 @@ pub record Oldest (p : PoolView) (b : SockBufView) (c : ℕ) (q : PoolView) (u :
   pub cc : b.cc ≡ length (flat_bytes (chain_of q c).entries) + bytes_queued (datagrams_of (queued_packets q u))
   pub mbcnt : b.mbcnt ≡ memory_of (weight_of (chain_of q c).entries) + memory_queued (datagrams_of (queued_packets q u))
 
-pub oldest : {p q : PoolView} {b : SockBufView} {u : TrainView} {c tag : ℕ} → IsSockBuf p b → IsTakenOut p b c tag q u → Oldest p b c q u
+pub oldest : {p q : PoolView} {b : SockBufView} {u : TrainView} {c tag : ℕ} → IsSockBuf p b → IsTakenOut p b c tag q u
+    → Oldest p b c q u
 oldest {p} {q} {b} {u} {c} {tag} ready i = go (queued_packets p b.train) refl ready.each
   where
-    go : (cs : List QueuedPacket) → queued_packets p b.train ≡ cs → Each (λ (queued_packet : QueuedPacket). IsDatagram queued_packet.entries) cs → Oldest p b c q u
+    go : (cs : List QueuedPacket) → queued_packets p b.train ≡ cs
+        → Each (λ (queued_packet : QueuedPacket). IsDatagram queued_packet.entries) cs → Oldest p b c q u
     go [] e each = absurd (omega (arith, length-queued_packets p b.train ready.held, i.some, ap length e))
     go (x ∷ xs) e each =
-        let is_x : x.entries ≡ (chain_of q c).entries = ap (λ (y : QueuedPacket). y.entries) (sym (ap (λ (cs : List QueuedPacket). slice_index_or cs 0 no_queued_packet) e) ∙ i.taken) in
+        let is_x : x.entries ≡ (chain_of q c).entries =
+        ap (λ (y : QueuedPacket). y.entries)
+        (sym (ap (λ (cs : List QueuedPacket). slice_index_or cs 0 no_queued_packet) e) ∙ i.taken) in
         let left : queued_packets q u ≡ xs = i.queued_packets ∙ ap (λ (cs : List QueuedPacket). remove cs 0) e in
         let s : Shape (chain_of q c).entries = subst Shape is_x (shape x.entries each.0) in
-        let queued : datagrams p b ≡ datagram_of (chain_of q c).entries ∷ datagrams_of (queued_packets q u) = ap datagrams_of e ∙ (λ j. datagram_of (is_x j) ∷ datagrams_of (sym left j)) in
+        let queued : datagrams p b ≡ datagram_of (chain_of q c).entries ∷ datagrams_of (queued_packets q u) =
+        ap datagrams_of e ∙ (λ j. datagram_of (is_x j) ∷ datagrams_of (sym left j)) in
         record {
           shape = s;
           datagrams = queued;
-          each = subst (λ (cs : List QueuedPacket). Each (λ (queued_packet : QueuedPacket). IsDatagram queued_packet.entries) cs) (sym left) each.1;
+          each =
+              subst (λ (cs : List QueuedPacket). Each (λ (queued_packet : QueuedPacket). IsDatagram queued_packet.entries)
+              cs) (sym left) each.1;
           cc = ready.cc ∙ ap bytes_queued queued ∙ cc_of (chain_of q c).entries s (datagrams_of (queued_packets q u));
-          mbcnt = ready.mbcnt ∙ ap memory_queued queued ∙ mbcnt_of (chain_of q c).entries s (datagrams_of (queued_packets q u));
+          mbcnt =
+              ready.mbcnt ∙ ap memory_queued queued
+              ∙ mbcnt_of (chain_of q c).entries s (datagrams_of (queued_packets q u));
         }
 
 no_more : (cs : List QueuedPacket) → length cs ≡ 0 → cs ≡ []
@@ -177,7 +223,8 @@ pub record LastOne (b : SockBufView) (es : List Entry) : Type 0 where
   pub cc : b.cc ≡ length (flat_bytes es)
   pub mbcnt : b.mbcnt ≡ memory_of (weight_of es)
 
-pub last_one : {p q : PoolView} {b : SockBufView} {u : TrainView} {c tag : ℕ} → IsSockBuf p b → IsTakenOut p b c tag q u → u.len ≡ 0 → LastOne b (chain_of q c).entries
+pub last_one : {p q : PoolView} {b : SockBufView} {u : TrainView} {c tag : ℕ} → IsSockBuf p b → IsTakenOut p b c tag q u
+    → u.len ≡ 0 → LastOne b (chain_of q c).entries
 last_one {p} {q} {b} {u} {c} {tag} ready i none =
     let o : Oldest p b c q u = oldest ready i in
     let left : queued_packets q u ≡ [] = no_more (queued_packets q u) (length-queued_packets q u i.held ∙ none) in
@@ -188,25 +235,38 @@ last_one {p} {q} {b} {u} {c} {tag} ready i none =
 
 -- the sender's address, in the first mbuf
 pub record Address (p : PoolView) (c : ℕ) (i : ℕ) : Type 0 where
-  pub sixteen : (bytes : List ℕ) → bytes ≡ (slice_index_or (chain_of p c).entries i (record { bytes = []; start = 0; cluster = None })).bytes → length bytes ≡ 16
-  pub sender : (bytes : List ℕ) → bytes ≡ (slice_index_or (chain_of p c).entries i (record { bytes = []; start = 0; cluster = None })).bytes → sockaddr_in bytes ≡ (datagram_of (chain_of p c).entries).sender
+  pub sixteen : (bytes : List ℕ)
+      → bytes ≡ (slice_index_or (chain_of p c).entries i (record { bytes = []; start = 0; cluster = None })).bytes
+      → length bytes ≡ 16
+  pub sender : (bytes : List ℕ) → bytes
+      ≡ (slice_index_or (chain_of p c).entries i (record { bytes = []; start = 0; cluster = None })).bytes
+      → sockaddr_in bytes ≡ (datagram_of (chain_of p c).entries).sender
 
 pub address : {p : PoolView} {c : ℕ} (i : ℕ) → Shape (chain_of p c).entries → i ≡ 0 → Address p c i
 address {p} {c} i s first =
-    let is_front : slice_index_or (chain_of p c).entries i (record { bytes = []; start = 0; cluster = None }) ≡ s.front = λ j. slice_index_or (s.is j) (first j) (record { bytes = []; start = 0; cluster = None }) in
+    let is_front : slice_index_or (chain_of p c).entries i (record { bytes = []; start = 0; cluster = None })
+    ≡ s.front = λ j. slice_index_or (s.is j) (first j) (record { bytes = []; start = 0; cluster = None }) in
     record {
-      sixteen = λ bytes e. ap length e ∙ ap (λ (x : Entry). length x.bytes) is_front ∙ ap (λ (x : Entry). length x.bytes) s.address;
-      sender = λ bytes e. ap sockaddr_in e ∙ ap (λ (x : Entry). sockaddr_in x.bytes) is_front ∙ ap (λ (l : List Entry). (datagram_of l).sender) (sym s.is);
+      sixteen =
+          λ bytes e. ap length e ∙ ap (λ (x : Entry). length x.bytes) is_front
+          ∙ ap (λ (x : Entry). length x.bytes) s.address;
+      sender =
+          λ bytes e. ap sockaddr_in e ∙ ap (λ (x : Entry). sockaddr_in x.bytes) is_front
+          ∙ ap (λ (l : List Entry). (datagram_of l).sender) (sym s.is);
     }
 
-pub record Taken (p : PoolView) (b : SockBufView) (sender : Addr) (d : ℕ) (r : PoolView) (e : SockBufView) : Type 0 where
-  pub takes : TakesOldest p b sender d r e
-  pub ready : IsSockBuf r e
+pub record Taken (p : PoolView) (b : SockBufView) (sender : Addr) (d : ℕ) (r : PoolView) (e : SockBufView) : Type 0
+  where
+    pub takes : TakesOldest p b sender d r e
+    pub ready : IsSockBuf r e
 
 -- the mbuf in front was taken off chain c, which is chain d now
-pub taken : {p q r : PoolView} {b : SockBufView} {u : TrainView} {c d tag : ℕ} (sender : Addr) (cc mbcnt : ℕ) → IsSockBuf p b → IsTakenOut p b c tag q u
-    → (chain_of r d).entries ≡ drop 1 (chain_of q c).entries → (chain_of r d).front ≡ alone false → Moves q (c ∷ []) r (d ∷ []) → sender ≡ (datagram_of (chain_of q c).entries).sender
-    → cc ≡ b.cc - length (flat_bytes (chain_of q c).entries) → mbcnt ≡ b.mbcnt - memory_of (weight_of (chain_of q c).entries)
+pub taken : {p q r : PoolView} {b : SockBufView} {u : TrainView} {c d tag : ℕ} (sender : Addr) (cc mbcnt : ℕ)
+    → IsSockBuf p b → IsTakenOut p b c tag q u
+    → (chain_of r d).entries ≡ drop 1 (chain_of q c).entries → (chain_of r d).front ≡ alone false
+    → Moves q (c ∷ []) r (d ∷ []) → sender ≡ (datagram_of (chain_of q c).entries).sender
+    → cc ≡ b.cc - length (flat_bytes (chain_of q c).entries)
+    → mbcnt ≡ b.mbcnt - memory_of (weight_of (chain_of q c).entries)
     → Taken p b sender d r (record { train = u; cc = cc; mbcnt = mbcnt })
 taken {p} {q} {r} {b} {u} {c} {d} sender cc mbcnt ready i entries front m is_sender is_cc is_mbcnt =
     let o : Oldest p b c q u = oldest ready i in
@@ -218,16 +278,21 @@ taken {p} {q} {r} {b} {u} {c} {d} sender cc mbcnt ready i entries front m is_sen
     let first : datagram_of (chain_of q c).entries ≡ datagram_from sender r d =
     ap (λ (a : Addr). record (datagram_of (chain_of q c).entries) { sender = a }) (sym is_sender)
     ∙ ap (λ (l : List Entry). record (datagram_of l) { sender = sender }) s.is
-    ∙ ap (λ (l : List Entry). record { sender = sender; item = record { bytes = flat_bytes l; weight = mbuf ⊕ weight_of l } }) (sym rest) in
+    ∙ ap (λ (l : List Entry). record
+    { sender = sender; item = record { bytes = flat_bytes l; weight = mbuf ⊕ weight_of l } }) (sym rest) in
     record {
       takes = record {
         datagrams = o.datagrams ∙ (λ j. first j ∷ datagrams_of (sym kept j));
         front = front;
-        moves = subst (λ (xs : List ℕ). Moves p (numbers p b.train) r (d ∷ xs)) (sym (numbers_same q r u same)) (moves_trans i.moves (moves_before (numbers q u) m));
+        moves =
+            subst (λ (xs : List ℕ). Moves p (numbers p b.train) r (d ∷ xs)) (sym (numbers_same q r u same))
+            (moves_trans i.moves (moves_before (numbers q u) m));
       };
       ready = record {
         held = held_same q r u same i.held;
-        each = subst (λ (cs : List QueuedPacket). Each (λ (queued_packet : QueuedPacket). IsDatagram queued_packet.entries) cs) (sym kept) o.each;
+        each =
+            subst (λ (cs : List QueuedPacket). Each (λ (queued_packet : QueuedPacket). IsDatagram queued_packet.entries)
+            cs) (sym kept) o.each;
         cc = omega (arith, is_cc, o.cc, ap (λ (cs : List QueuedPacket). bytes_queued (datagrams_of cs)) kept);
         mbcnt = omega (arith, is_mbcnt, o.mbcnt, ap (λ (cs : List QueuedPacket). memory_queued (datagrams_of cs)) kept);
       };

@@ -29,11 +29,13 @@ pub record InHand (p : PoolView) (b : SockBufView) (bytes : List ℕ) (o : Optio
   pub moves : Moves p (chains_of p b) q (d ∷ chains_of q b)
   pub is : (sender : Addr) → datagram_from sender q d ≡ stored_datagram sender bytes o
 
-one_weighs : (bytes : List ℕ) (start : ℕ) (o : Option ℕ) → mbuf ⊕ weight_of (entry bytes start o ∷ []) ≡ record { mbufs = 2; bag = bag_of o }
+one_weighs : (bytes : List ℕ) (start : ℕ) (o : Option ℕ)
+    → mbuf ⊕ weight_of (entry bytes start o ∷ []) ≡ record { mbufs = 2; bag = bag_of o }
 one_weighs bytes start None = refl
 one_weighs bytes start (Some c) = refl
 
-pub in_hand : {p q : PoolView} {b : SockBufView} {d : ℕ} (bytes : List ℕ) (start : ℕ) (o : Option ℕ) → IsSockBuf p b → Adds p q d (one_mbuf false (entry bytes start o) d) → InHand p b bytes o q d
+pub in_hand : {p q : PoolView} {b : SockBufView} {d : ℕ} (bytes : List ℕ) (start : ℕ) (o : Option ℕ) → IsSockBuf p b
+    → Adds p q d (one_mbuf false (entry bytes start o) d) → InHand p b bytes o q d
 in_hand {p} {q} {b} {d} bytes start o ready adds =
     let made : Moves p [] q (d ∷ []) = moves_adds adds in
     let shown : chain_of q d ≡ one_mbuf false (entry bytes start o) d = shown_adds adds in
@@ -51,6 +53,11 @@ in_hand {p} {q} {b} {d} bytes start o ready adds =
           (moves_beside (chains_of p b) (d ∷ chains_of p b) (chains_of p b) made (λ k. omega arith) (λ k. omega arith));
       is = λ sender i. record {
         sender = sender;
-        item = record { bytes = all i; weight = (ap (λ (v : ChainView). mbuf ⊕ weight_of v.entries) shown ∙ one_weighs bytes start o) i };
+        item =
+            record {
+              bytes = all i;
+              weight = (ap (λ (v : ChainView). mbuf ⊕ weight_of v.entries) shown
+                  ∙ one_weighs bytes start o) i;
+            };
       };
     }

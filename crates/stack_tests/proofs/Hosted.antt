@@ -24,19 +24,26 @@ pub record Held (p : PoolView) (s : SocksView) (t : TrainView) (xs : List ℕ) :
   pub owned : IsOwned p (xs ++ (numbers p t ++ queued_chains p s.queues))
 
 -- the chains in hand became others
-pub in_hand : {p q : PoolView} {s : SocksView} {t : TrainView} {xs ys : List ℕ} → Held p s t xs → Moves p xs q ys → Held q s t ys
+pub in_hand : {p q : PoolView} {s : SocksView} {t : TrainView} {xs ys : List ℕ} → Held p s t xs → Moves p xs q ys
+    → Held q s t ys
 in_hand {p} {q} {s} {t} {xs} {ys} is m =
     let zs : List ℕ = numbers p t ++ queued_chains p s.queues in
     let same : SameAt p q zs =
-    same_beside zs m (λ k. omega (arith, is.owned k, times-append k xs zs)) (λ k h. omega (arith, h, is.owned k, times-append k xs zs, live_at_most p k)) in
-    let v : Kept p q s = kept p q s (same_part p q zs (queued_chains p s.queues) same (λ k. omega (arith, times-append k (numbers p t) (queued_chains p s.queues)))) is.socks in
-    let o : SameAt p q (numbers p t) = same_part p q zs (numbers p t) same (λ k. omega (arith, times-append k (numbers p t) (queued_chains p s.queues))) in
+    same_beside zs m (λ k. omega (arith, is.owned k, times-append k xs zs))
+    (λ k h. omega (arith, h, is.owned k, times-append k xs zs, live_at_most p k)) in
+    let v : Kept p q s =
+    kept p q s (same_part p q zs (queued_chains p s.queues) same
+    (λ k. omega (arith, times-append k (numbers p t) (queued_chains p s.queues)))) is.socks in
+    let o : SameAt p q (numbers p t) =
+    same_part p q zs (numbers p t) same (λ k. omega (arith, times-append k (numbers p t) (queued_chains p s.queues)))
+    in
     record {
       socks = v.ready;
       out = record { held = held_same p q t o is.out.held; room = is.out.room };
       owned = λ k. omega (
         arith,
-        owned_after (moves_beside (xs ++ zs) (ys ++ zs) zs m (λ j. omega (arith, times-append j xs zs)) (λ j. omega (arith, times-append j ys zs))) is.owned k,
+        owned_after (moves_beside (xs ++ zs) (ys ++ zs) zs m (λ j. omega (arith, times-append j xs zs))
+            (λ j. omega (arith, times-append j ys zs))) is.owned k,
         times-append k ys zs,
         times-append k ys (numbers q t ++ queued_chains q s.queues),
         times-append k (numbers p t) (queued_chains p s.queues),
@@ -47,20 +54,29 @@ in_hand {p} {q} {s} {t} {xs} {ys} is m =
     }
 
 -- the sockets took a step, by which chains in hand became others
-pub of_socks : {p q : PoolView} {s w : SocksView} {t : TrainView} (xs ys : List ℕ) → Held p s t xs → IsSocks q w → Moves p (xs ++ queued_chains p s.queues) q (ys ++ queued_chains q w.queues) → Held q w t ys
+pub of_socks : {p q : PoolView} {s w : SocksView} {t : TrainView} (xs ys : List ℕ) → Held p s t xs → IsSocks q w
+    → Moves p (xs ++ queued_chains p s.queues) q (ys ++ queued_chains q w.queues) → Held q w t ys
 of_socks {p} {q} {s} {w} {t} xs ys is ready m =
     let zs : List ℕ = numbers p t in
     let us : List ℕ = xs ++ queued_chains p s.queues in
     let vs : List ℕ = ys ++ queued_chains q w.queues in
     let all : (k : ℕ) → times k (xs ++ (zs ++ queued_chains p s.queues)) ≡ times k zs + times k us =
-    λ k. omega (arith, times-append k xs (zs ++ queued_chains p s.queues), times-append k zs (queued_chains p s.queues), times-append k xs (queued_chains p s.queues)) in
-    let o : SameAt p q zs = same_beside zs m (λ k. omega (arith, is.owned k, all k)) (λ k h. omega (arith, h, is.owned k, all k, live_at_most p k)) in
+    λ k. omega (
+      arith,
+      times-append k xs (zs ++ queued_chains p s.queues),
+      times-append k zs (queued_chains p s.queues),
+      times-append k xs (queued_chains p s.queues),
+    ) in
+    let o : SameAt p q zs =
+    same_beside zs m (λ k. omega (arith, is.owned k, all k))
+    (λ k h. omega (arith, h, is.owned k, all k, live_at_most p k)) in
     record {
       socks = ready;
       out = record { held = held_same p q t o is.out.held; room = is.out.room };
       owned = λ k. omega (
         arith,
-        owned_after (moves_beside (xs ++ (zs ++ queued_chains p s.queues)) (vs ++ zs) zs m all (λ j. omega (arith, times-append j vs zs))) is.owned k,
+        owned_after (moves_beside (xs ++ (zs ++ queued_chains p s.queues)) (vs ++ zs) zs m all
+            (λ j. omega (arith, times-append j vs zs))) is.owned k,
         times-append k vs zs,
         times-append k ys (queued_chains q w.queues),
         times-append k ys (numbers q t ++ queued_chains q w.queues),
@@ -70,19 +86,28 @@ of_socks {p} {q} {s} {w} {t} xs ys is ready m =
     }
 
 -- the output queue took a step, by which chains in hand became others
-pub of_queue : {p q : PoolView} {s : SocksView} {t u : TrainView} (xs ys : List ℕ) → Held p s t xs → IsQueue q u → Moves p (xs ++ numbers p t) q (ys ++ numbers q u) → Held q s u ys
+pub of_queue : {p q : PoolView} {s : SocksView} {t u : TrainView} (xs ys : List ℕ) → Held p s t xs → IsQueue q u
+    → Moves p (xs ++ numbers p t) q (ys ++ numbers q u) → Held q s u ys
 of_queue {p} {q} {s} {t} {u} xs ys is queue m =
     let zs : List ℕ = queued_chains p s.queues in
     let vs : List ℕ = ys ++ numbers q u in
     let all : (k : ℕ) → times k (xs ++ (numbers p t ++ zs)) ≡ times k zs + times k (xs ++ numbers p t) =
-    λ k. omega (arith, times-append k xs (numbers p t ++ zs), times-append k (numbers p t) zs, times-append k xs (numbers p t)) in
-    let v : Kept p q s = kept p q s (same_beside zs m (λ k. omega (arith, is.owned k, all k)) (λ k h. omega (arith, h, is.owned k, all k, live_at_most p k))) is.socks in
+    λ k. omega (
+      arith,
+      times-append k xs (numbers p t ++ zs),
+      times-append k (numbers p t) zs,
+      times-append k xs (numbers p t),
+    ) in
+    let v : Kept p q s =
+    kept p q s (same_beside zs m (λ k. omega (arith, is.owned k, all k))
+    (λ k h. omega (arith, h, is.owned k, all k, live_at_most p k))) is.socks in
     record {
       socks = v.ready;
       out = queue;
       owned = λ k. omega (
         arith,
-        owned_after (moves_beside (xs ++ (numbers p t ++ zs)) (vs ++ zs) zs m all (λ j. omega (arith, times-append j vs zs))) is.owned k,
+        owned_after (moves_beside (xs ++ (numbers p t ++ zs)) (vs ++ zs) zs m all
+            (λ j. omega (arith, times-append j vs zs))) is.owned k,
         times-append k vs zs,
         times-append k ys (numbers q u),
         times-append k ys (numbers q u ++ queued_chains q s.queues),
@@ -94,21 +119,44 @@ of_queue {p} {q} {s} {t} {u} xs ys is queue m =
 -- ---- a host's parts between two calls
 
 abbrev pub Parts : PoolView → SocksView → Net → Type 0
-Parts p s n = IsSocks p s × IsQueue p n.out × IsOwned p (numbers p n.out ++ queued_chains p s.queues) × (n.looped ≡ record { first = None; last = None; len = 0 })
+Parts p s n =
+    IsSocks p s × IsQueue p n.out × IsOwned p (numbers p n.out ++ queued_chains p s.queues)
+    × (n.looped ≡ record { first = None; last = None; len = 0 })
 
-pub parts : {p : PoolView} {s : SocksView} (n : Net) → Held p s n.out [] → n.looped ≡ record { first = None; last = None; len = 0 } → Parts p s n
+pub parts : {p : PoolView} {s : SocksView} (n : Net) → Held p s n.out []
+    → n.looped ≡ record { first = None; last = None; len = 0 } → Parts p s n
 parts n h none = (h.socks, h.out, h.owned, none)
 
-pub starts : (p : PoolView) (s : SocksView) (n : Net) → IsSocks p s → IsQueue p n.out → n.out.len ≡ 0 → n.looped ≡ record { first = None; last = None; len = 0 } → Parts p s n
-starts p s n socks out empty none = (socks, out, (λ k. omega (arith, socks.owned k, times-append k (numbers p n.out) (queued_chains p s.queues), ap (times k) (none_left p n.out empty))), none)
+pub starts : (p : PoolView) (s : SocksView) (n : Net) → IsSocks p s → IsQueue p n.out → n.out.len ≡ 0
+    → n.looped ≡ record { first = None; last = None; len = 0 } → Parts p s n
+starts p s n socks out empty none = (
+  socks,
+  out,
+  (λ k. omega (
+    arith,
+    socks.owned k,
+    times-append k (numbers p n.out) (queued_chains p s.queues),
+    ap (times k) (none_left p n.out empty),
+  )),
+  none,
+)
 
-pub after_call : {p : PoolView} {s w : SocksView} (n : Net) {event : Event} {reply : Reply} → Parts p s n → IsCalled p s event reply w → Parts p w n
-after_call {p} {s} {w} n h is = (is.ready, h.1, subst (λ (bs : List SockBufView). IsOwned p (numbers p n.out ++ queued_chains p bs)) (sym is.queues) h.2, h.3)
+pub after_call : {p : PoolView} {s w : SocksView} (n : Net) {event : Event} {reply : Reply} → Parts p s n
+    → IsCalled p s event reply w → Parts p w n
+after_call {p} {s} {w} n h is = (
+  is.ready,
+  h.1,
+  subst (λ (bs : List SockBufView). IsOwned p (numbers p n.out ++ queued_chains p bs)) (sym is.queues)
+      h.2,
+  h.3,
+)
 
-pub after_socks : {p q : PoolView} {s w : SocksView} (n : Net) → Parts p s n → IsSocks q w → Moves p (queued_chains p s.queues) q (queued_chains q w.queues) → Parts q w n
+pub after_socks : {p q : PoolView} {s w : SocksView} (n : Net) → Parts p s n → IsSocks q w
+    → Moves p (queued_chains p s.queues) q (queued_chains q w.queues) → Parts q w n
 after_socks n h ready m = parts n (of_socks [] [] (record { socks = h.0; out = h.1; owned = h.2 }) ready m) h.3
 
-pub can_send : {p : PoolView} {s : SocksView} {n : Net} → Parts p s n → 68 ≤ n.mtu → s.pcbs.bcast ≢ s.pcbs.addr → s.pcbs.bcast ≢ 2130706433 → CanSend (sending p s n)
+pub can_send : {p : PoolView} {s : SocksView} {n : Net} → Parts p s n → 68 ≤ n.mtu → s.pcbs.bcast ≢ s.pcbs.addr
+    → s.pcbs.bcast ≢ 2130706433 → CanSend (sending p s n)
 can_send {p} {s} {n} h mtu apart outside = record {
   socks = h.0;
   out = h.1;
@@ -120,13 +168,18 @@ can_send {p} {s} {n} h mtu apart outside = record {
   outside = outside;
 }
 
-pub after_send : {fd : ℕ} {to : Option Addr} {bytes : List ℕ} {v u : SendView} {result : Result ℕ Errno} → Parts v.pool v.socks v.net → IsSent fd to bytes v result u → Held u.pool u.socks u.net.out (numbers u.pool u.net.looped)
+pub after_send : {fd : ℕ} {to : Option Addr} {bytes : List ℕ} {v u : SendView} {result : Result ℕ Errno}
+    → Parts v.pool v.socks v.net → IsSent fd to bytes v result u
+    → Held u.pool u.socks u.net.out (numbers u.pool u.net.looped)
 after_send h is = record { socks = is.socks; out = is.out; owned = owned_after is.moves h.2 }
 
 -- the queue beside the end of the sockets
-pub queue_left : {p q : PoolView} {s : SocksView} (n : Net) → Parts p s n → Moves p (queued_chains p s.queues) q [] → IsQueue q n.out
+pub queue_left : {p q : PoolView} {s : SocksView} (n : Net) → Parts p s n → Moves p (queued_chains p s.queues) q []
+    → IsQueue q n.out
 queue_left {p} {q} {s} n h m =
     let zs : List ℕ = numbers p n.out in
     let xs : List ℕ = queued_chains p s.queues in
-    let same : SameAt p q zs = same_beside zs m (λ k. omega (arith, h.2 k, times-append k zs xs)) (λ k some. omega (arith, some, h.2 k, times-append k zs xs, live_at_most p k)) in
+    let same : SameAt p q zs =
+    same_beside zs m (λ k. omega (arith, h.2 k, times-append k zs xs))
+    (λ k some. omega (arith, some, h.2 k, times-append k zs xs, live_at_most p k)) in
     record { held = held_same p q n.out same h.1.held; room = h.1.room }

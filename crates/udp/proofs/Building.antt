@@ -18,21 +18,29 @@ long_string v n long = go v.entries long
     go (e ∷ es) long = omega (arith, length-append e.bytes (flat_bytes es))
 
 -- the first bytes of a chain whose first mbuf has them
-pub first_bytes : (n : ℕ) (v : ChainView) → n ≤ length (entry_of v 0).bytes → take n (entry_of v 0).bytes ≡ take n (string v)
+pub first_bytes : (n : ℕ) (v : ChainView) → n ≤ length (entry_of v 0).bytes
+    → take n (entry_of v 0).bytes ≡ take n (string v)
 first_bytes n v long = go v.entries long
   where
-    go : (es : List Entry) → n ≤ length (slice_index_or es 0 no_entry).bytes → take n (slice_index_or es 0 no_entry).bytes ≡ take n (flat_bytes es)
+    go : (es : List Entry) → n ≤ length (slice_index_or es 0 no_entry).bytes
+        → take n (slice_index_or es 0 no_entry).bytes ≡ take n (flat_bytes es)
     go [] long = refl
     go (e ∷ es) long = sym (take-append-le n e.bytes (flat_bytes es) long)
 
 module _ (src dst sport dport : ℕ) where
   pub written : (s : List ℕ) (len sum computed : ℕ) → len ≡ 8 + length s → sum ≡ not_zero computed
-      → computed ≡ checksum (pseudo_header src dst len ++ header_bytes (record { source = sport; destination = dport; len = len; sum = 0 }) ++ s)
-      → header_bytes (record { source = sport; destination = dport; len = len; sum = sum }) ≡ take 8 (udp src dst sport dport s)
+      → computed ≡ checksum (pseudo_header src dst len
+      ++ header_bytes (record { source = sport; destination = dport; len = len; sum = 0 }) ++ s)
+      → header_bytes (record { source = sport; destination = dport; len = len; sum = sum })
+      ≡ take 8 (udp src dst sport dport s)
   unfolding udp
   written s len sum computed len_is sum_is is =
-      let whole : sum ≡ not_zero (checksum (pseudo_header src dst (8 + length s) ++ header_bytes (record { source = sport; destination = dport; len = 8 + length s; sum = 0 }) ++ s)) =
-      sum_is ∙ ap not_zero is ∙ ap (λ n. not_zero (checksum (pseudo_header src dst n ++ header_bytes (record { source = sport; destination = dport; len = n; sum = 0 }) ++ s))) len_is in
+      let whole : sum ≡ not_zero (checksum
+      (pseudo_header src dst (8 + length s)
+      ++ header_bytes (record { source = sport; destination = dport; len = 8 + length s; sum = 0 }) ++ s)) =
+      sum_is ∙ ap not_zero is ∙ ap (λ n. not_zero
+      (checksum (pseudo_header src dst n
+      ++ header_bytes (record { source = sport; destination = dport; len = n; sum = 0 }) ++ s))) len_is in
       λ j. header_bytes (record { source = sport; destination = dport; len = len_is j; sum = whole j })
 
   pub udp_parts : (s : List ℕ) → udp src dst sport dport s ≡ take 8 (udp src dst sport dport s) ++ s
@@ -43,21 +51,25 @@ module _ (src dst sport dport : ℕ) where
   unfolding udp
   header_length s = refl
 
-  over : (b rest h : List ℕ) → 28 ≤ length b → length h ≡ 8 → (take 20 b ++ (h ++ drop (20 + length h) b)) ++ rest ≡ take 20 (b ++ rest) ++ (h ++ drop 28 (b ++ rest))
+  over : (b rest h : List ℕ) → 28 ≤ length b → length h ≡ 8
+      → (take 20 b ++ (h ++ drop (20 + length h) b)) ++ rest ≡ take 20 (b ++ rest) ++ (h ++ drop 28 (b ++ rest))
   over b rest h long eight =
       ap (λ n. (take 20 b ++ (h ++ drop (20 + n) b)) ++ rest) eight
       ∙ append_assoc (take 20 b) (h ++ drop 28 b) rest
       ∙ ap (λ (xs : List ℕ). take 20 b ++ xs) (append_assoc h (drop 28 b) rest)
       ∙ (λ j. sym (take-append-le 20 b rest (omega arith)) j ++ (h ++ sym (drop-append-le 28 b rest long) j))
 
-  pub built_string : (v : ChainView) → 28 ≤ length (entry_of v 0).bytes → string (built src dst sport dport v) ≡ take 20 (string v) ++ udp src dst sport dport (drop 28 (string v))
+  pub built_string : (v : ChainView) → 28 ≤ length (entry_of v 0).bytes
+      → string (built src dst sport dport v) ≡ take 20 (string v) ++ udp src dst sport dport (drop 28 (string v))
   built_string v long =
-      go v.entries long (header_length (drop 28 (string v))) ∙ ap (λ (xs : List ℕ). take 20 (string v) ++ xs) (sym (udp_parts (drop 28 (string v))))
+      go v.entries long (header_length (drop 28 (string v)))
+      ∙ ap (λ (xs : List ℕ). take 20 (string v) ++ xs) (sym (udp_parts (drop 28 (string v))))
     where
       head : List ℕ
       head = take 8 (udp src dst sport dport (drop 28 (string v)))
 
       go : (es : List Entry) → 28 ≤ length (slice_index_or es 0 no_entry).bytes → length head ≡ 8
-          → flat_bytes (slice_set es 0 (overwritten (slice_index_or es 0 no_entry) 20 head)) ≡ take 20 (flat_bytes es) ++ (head ++ drop 28 (flat_bytes es))
+          → flat_bytes (slice_set es 0 (overwritten (slice_index_or es 0 no_entry) 20 head))
+          ≡ take 20 (flat_bytes es) ++ (head ++ drop 28 (flat_bytes es))
       go [] long eight = absurd (omega arith)
       go (e ∷ es) long eight = over e.bytes (flat_bytes es) head long eight

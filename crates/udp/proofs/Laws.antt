@@ -27,41 +27,62 @@ use Rattle.udp.proofs.Building.{header_length}
 -- ---- the flat machine's arrival, for every rest of the machine
 
 -- the fault of a datagram of protocol 17, and of one that isn't
-tested : (h : IpHead) (s : List ℕ) (o : Option Why) → fault_of h s ≡ o → (h.proto == 17) ≡ true → udp_fault h.src h.dst s ≡ o
+tested : (h : IpHead) (s : List ℕ) (o : Option Why) → fault_of h s ≡ o → (h.proto == 17) ≡ true
+    → udp_fault h.src h.dst s ≡ o
 tested h s o e is17 = sym (ap (λ t. cond t (udp_fault h.src h.dst s) (Some NoProtocol)) is17) ∙ e
 
 untested : (h : IpHead) (s : List ℕ) (o : Option Why) → fault_of h s ≡ o → (h.proto == 17) ≡ false → Some NoProtocol ≡ o
 untested h s o e not17 = sym (ap (λ t. cond t (udp_fault h.src h.dst s) (Some NoProtocol)) not17) ∙ e
 
 module _ (L : Ledger) (held : Weight) where
-  some_hear : (sender : Addr) (item : Item) (destination : ℕ) (sockets : List Socket) (old new : State) → 0 < length sockets → Delivers L held sender item sockets old new → GoesTo L held sender item destination sockets old new
+  some_hear : (sender : Addr) (item : Item) (destination : ℕ) (sockets : List Socket) (old new : State)
+      → 0 < length sockets → Delivers L held sender item sockets old new
+      → GoesTo L held sender item destination sockets old new
   some_hear sender item destination [] old new some delivers = absurd (omega arith)
   some_hear sender item destination (to ∷ more) old new some delivers = delivers
 
   -- One that is delivered arrives so, whatever becomes of its deliveries. It may weigh anything.
-  pub delivered_arrives : (p q : PoolView) (c d : ℕ) (h : IpHead) (t : Table) (to : List ℕ) (from : Addr) (w : Weight) → (is : IsDelivered p c h t q to from d)
+  pub delivered_arrives : (p q : PoolView) (c d : ℕ) (h : IpHead) (t : Table) (to : List ℕ) (from : Addr) (w : Weight)
+      → (is : IsDelivered p c h t q to from d)
       → (rest new : State) (queues : Queues)
-      → Delivers L held from (record { bytes = udp_bytes (string (chain_of p c)); weight = w }) (map (socket_with queues) is.heard.found) (machine rest queues t) new
-      → WholeArrives L held h.src h.dst h.proto (record { bytes = string (chain_of p c); weight = w }) (machine rest queues t) new
+      → Delivers L held from (record { bytes = udp_bytes (string (chain_of p c)); weight = w })
+      (map (socket_with queues) is.heard.found) (machine rest queues t) new
+      → WholeArrives L held h.src h.dst h.proto (record { bytes = string (chain_of p c); weight = w })
+      (machine rest queues t) new
   delivered_arrives p q c d h t to from w is rest new queues delivers =
       let s : List ℕ = string (chain_of p c) in
       let old : State = machine rest queues t in
       let some : 0 < length (map (socket_with queues) is.heard.found) =
-      omega (arith, is.some, ap (λ (xs : List ℕ). length xs) is.heard.named, length-map is.heard.found (λ (b : Block). b.fd), length-map is.heard.found (socket_with queues)) in
-      let goes : GoesTo L held (sender_of h s) (record { bytes = udp_bytes s; weight = w }) h.dst (map (socket_with queues) is.heard.found) old new =
-      some_hear (sender_of h s) (record { bytes = udp_bytes s; weight = w }) h.dst (map (socket_with queues) is.heard.found) old new some
-      (subst (λ (a : Addr). Delivers L held a (record { bytes = udp_bytes s; weight = w }) (map (socket_with queues) is.heard.found) old new) is.sender delivers) in
+      omega (
+        arith,
+        is.some,
+        ap (λ (xs : List ℕ). length xs) is.heard.named,
+        length-map is.heard.found (λ (b : Block). b.fd),
+        length-map is.heard.found (socket_with queues),
+      ) in
+      let goes : GoesTo L held (sender_of h s) (record { bytes = udp_bytes s; weight = w }) h.dst
+      (map (socket_with queues) is.heard.found) old new =
+      some_hear (sender_of h s) (record { bytes = udp_bytes s; weight = w }) h.dst
+      (map (socket_with queues) is.heard.found) old new some
+      (subst (λ (a : Addr). Delivers L held a (record { bytes = udp_bytes s; weight = w })
+      (map (socket_with queues) is.heard.found) old new) is.sender delivers) in
       record {
         yes = λ is17. record {
-          none = λ _. subst (λ (sockets : List Socket). GoesTo L held (sender_of h s) (record { bytes = udp_bytes s; weight = w }) h.dst sockets old new) (sym (is.heard.sockets rest queues)) goes;
+          none =
+              λ _. subst (λ (sockets : List Socket). GoesTo L held (sender_of h s)
+              (record { bytes = udp_bytes s; weight = w }) h.dst sockets old new) (sym
+              (is.heard.sockets rest queues)) goes;
           some = λ why e. absurd (none-some why (sym (tested h s None is.faultless is17) ∙ e));
         };
         no = λ not17. absurd (none-some NoProtocol (sym (untested h s None is.faultless not17)));
       }
 
   -- one that is dropped ends, and is counted
-  pub dropped_arrives : (p q : PoolView) (c : ℕ) (h : IpHead) (t : Table) (why : Why) (w : Weight) → IsDropped p c h t q why
-      → (rest : State) (queues : Queues) → WholeArrives L held h.src h.dst h.proto (record { bytes = string (chain_of p c); weight = w }) (machine rest queues t) (ends why (machine rest queues t))
+  pub dropped_arrives : (p q : PoolView) (c : ℕ) (h : IpHead) (t : Table) (why : Why) (w : Weight)
+      → IsDropped p c h t q why
+      → (rest : State) (queues : Queues)
+      → WholeArrives L held h.src h.dst h.proto (record { bytes = string (chain_of p c); weight = w })
+      (machine rest queues t) (ends why (machine rest queues t))
   dropped_arrives p q c h t why w is rest queues = go is.cause
     where
       s : List ℕ
@@ -74,18 +95,24 @@ module _ (L : Ledger) (held : Weight) where
       nobody [] e = refl
       nobody (b ∷ found) e = absurd (omega (arith, ap (λ (xs : List ℕ). length xs) e))
 
-      go : (fault_of h s ≡ Some why) ⊎ IsUnheard h t s why → WholeArrives L held h.src h.dst h.proto (record { bytes = s; weight = w }) old (ends why old)
+      go : (fault_of h s ≡ Some why) ⊎ IsUnheard h t s why
+          → WholeArrives L held h.src h.dst h.proto (record { bytes = s; weight = w }) old (ends why old)
       go (inl fault) = record {
         yes = λ is17. record {
           none = λ none. absurd (none-some why (sym none ∙ tested h s (Some why) fault is17));
-          some = λ other e. ap (λ (y : Why). ends y old) (same_Some why other (sym (tested h s (Some why) fault is17) ∙ e));
+          some =
+              λ other e. ap (λ (y : Why). ends y old) (same_Some why other (sym (tested h s (Some why) fault is17) ∙ e));
         };
-        no = λ not17. ap (λ (y : Why). ends y old) (sym (same_Some NoProtocol why (untested h s (Some why) fault not17)));
+        no = λ not17. ap (λ (y : Why). ends y old)
+            (sym (same_Some NoProtocol why (untested h s (Some why) fault not17)));
       }
       go (inr unheard) = record {
         yes = λ is17. record {
-          none = λ _. subst (λ (sockets : List Socket). GoesTo L held (sender_of h s) (record { bytes = udp_bytes s; weight = w }) h.dst sockets old (ends why old))
-              (sym (unheard.heard.sockets rest queues ∙ nobody unheard.heard.found unheard.heard.named)) (ap (λ (y : Why). ends y old) (unheard.counted rest queues));
+          none =
+              λ _. subst (λ (sockets : List Socket). GoesTo L held (sender_of h s)
+              (record { bytes = udp_bytes s; weight = w }) h.dst sockets old (ends why old))
+              (sym (unheard.heard.sockets rest queues ∙ nobody unheard.heard.found unheard.heard.named))
+              (ap (λ (y : Why). ends y old) (unheard.counted rest queues));
           some = λ other e. absurd (none-some other (sym (tested h s None unheard.faultless is17) ∙ e));
         };
         no = λ not17. absurd (none-some NoProtocol (sym (untested h s None unheard.faultless not17)));
@@ -101,7 +128,8 @@ without_first_bag n [] = refl
 without_first_bag n (e ∷ es) = go e.cluster (without_first_bag (n - length e.bytes) es)
   where
     go : (o : Option ℕ) → bag_of (without_first (n - length e.bytes) es) ≡ bag_of es
-        → bag_of (record e { cluster = o } ∷ without_first (n - length e.bytes) es) ≡ bag_of (record e { cluster = o } ∷ es)
+        → bag_of (record e { cluster = o } ∷ without_first (n - length e.bytes) es)
+        ≡ bag_of (record e { cluster = o } ∷ es)
     go None later = later
     go (Some k) later = ap (λ (ks : List ℕ). k ∷ ks) later
 
@@ -110,7 +138,8 @@ only_first_bag n [] = refl
 only_first_bag n (e ∷ es) = go e.cluster (only_first_bag (n - length e.bytes) es)
   where
     go : (o : Option ℕ) → bag_of (only_first (n - length e.bytes) es) ≡ bag_of es
-        → bag_of (record e { cluster = o } ∷ only_first (n - length e.bytes) es) ≡ bag_of (record e { cluster = o } ∷ es)
+        → bag_of (record e { cluster = o } ∷ only_first (n - length e.bytes) es)
+        ≡ bag_of (record e { cluster = o } ∷ es)
     go None later = later
     go (Some k) later = ap (λ (ks : List ℕ). k ∷ ks) later
 
@@ -123,7 +152,8 @@ only_first_count n [] = refl
 only_first_count n (e ∷ es) = let later = only_first_count (n - length e.bytes) es in omega arith
 
 -- a delivered chain keeps its mbufs and clusters
-pub data_weight : (n : ℕ) (v : ChainView) → flat.weight_of (laid (without_header n v).entries) ≡ flat.weight_of (laid v.entries)
+pub data_weight : (n : ℕ) (v : ChainView)
+    → flat.weight_of (laid (without_header n v).entries) ≡ flat.weight_of (laid v.entries)
 data_weight n v = λ j. record { mbufs = mbufs j; bag = bag j }
   where
     cut : List Entry
@@ -133,19 +163,28 @@ data_weight n v = λ j. record { mbufs = mbufs j; bag = bag j }
     laid_count es = length-map es (λ (e : Entry). record { size = length e.bytes; cluster = e.cluster })
 
     mbufs : length (laid (without_first 8 cut)) ≡ length (laid v.entries)
-    mbufs = omega (arith, laid_count (without_first 8 cut), laid_count v.entries, without_first_count 8 cut, only_first_count n v.entries)
+    mbufs =
+        omega (
+          arith,
+          laid_count (without_first 8 cut),
+          laid_count v.entries,
+          without_first_count 8 cut,
+          only_first_count n v.entries,
+        )
 
     bag : bag_of (without_first 8 cut) ≡ bag_of v.entries
     bag = without_first_bag 8 cut ∙ only_first_bag n v.entries
 
 -- a packet whose UDP header was written has the layout that it had
-pub built_laid : (src dst sport dport : ℕ) (v : ChainView) → 28 ≤ length (entry_of v 0).bytes → laid (built src dst sport dport v).entries ≡ laid v.entries
+pub built_laid : (src dst sport dport : ℕ) (v : ChainView) → 28 ≤ length (entry_of v 0).bytes
+    → laid (built src dst sport dport v).entries ≡ laid v.entries
 built_laid src dst sport dport v long = go v.entries long (header_length src dst sport dport (drop 28 (string v)))
   where
     head : List ℕ
     head = take 8 (udp src dst sport dport (drop 28 (string v)))
 
-    same_size : (b : List ℕ) → 28 ≤ length b → length head ≡ 8 → length (take 20 b ++ (head ++ drop (20 + length head) b)) ≡ length b
+    same_size : (b : List ℕ) → 28 ≤ length b → length head ≡ 8
+        → length (take 20 b ++ (head ++ drop (20 + length head) b)) ≡ length b
     same_size b long eight = omega (
       arith,
       length-append (take 20 b) (head ++ drop (20 + length head) b),
@@ -154,6 +193,7 @@ built_laid src dst sport dport v long = go v.entries long (header_length src dst
       length-drop (20 + length head) b,
     )
 
-    go : (es : List Entry) → 28 ≤ length (slice_index_or es 0 no_entry).bytes → length head ≡ 8 → laid (slice_set es 0 (overwritten (slice_index_or es 0 no_entry) 20 head)) ≡ laid es
+    go : (es : List Entry) → 28 ≤ length (slice_index_or es 0 no_entry).bytes → length head ≡ 8
+        → laid (slice_set es 0 (overwritten (slice_index_or es 0 no_entry) 20 head)) ≡ laid es
     go [] long eight = refl
     go (e ∷ es) long eight = λ j. record { size = same_size e.bytes long eight j; cluster = e.cluster } ∷ laid es

@@ -19,12 +19,14 @@ complement f le = go (f == 65535) refl
     go true e = let same : f ≡ 65535 = eqb-true f 65535 e in eq-eqb (65535 - f) 0 (omega arith)
     go false e = let other : f ≡ 65535 → ⊥ = eqb-false f 65535 e in ne_eqb (65535 - f) 0 (λ z. other (omega arith))
 
-pub right_sum : (src dst : ℕ) (s : List ℕ) (x : ℕ) (h : Header) → h ≡ header_in s → (h.sum == 0) ≡ false → x ≡ checksum (pseudo_header src dst h.len ++ take h.len s) → (x == 0) ≡ has_right_sum src dst s
+pub right_sum : (src dst : ℕ) (s : List ℕ) (x : ℕ) (h : Header) → h ≡ header_in s → (h.sum == 0) ≡ false
+    → x ≡ checksum (pseudo_header src dst h.len ++ take h.len s) → (x == 0) ≡ has_right_sum src dst s
 right_sum src dst s x h said given is =
     let covered : List ℕ = pseudo_header src dst h.len ++ take h.len s in
     ap (λ n. n == 0) is ∙ complement (folded_sum covered) (fold16-most (word_sum covered))
     ∙ (λ j. sym given j || (folded_sum (pseudo_header src dst (said j).len ++ take (said j).len s) == 65535))
-    ∙ ap (λ (k : Header). (k.sum == 0) || (folded_sum (pseudo_header src dst (u16_at 4 s) ++ take (u16_at 4 s) s) == 65535)) said
+    ∙ ap (λ (k : Header). (k.sum == 0)
+    || (folded_sum (pseudo_header src dst (u16_at 4 s) ++ take (u16_at 4 s) s) == 65535)) said
 
 -- ---- sums of numbers; the high halves of the addresses count as if they stood at the low end
 
@@ -36,7 +38,9 @@ pseudo_folded src dst n w is =
     let back : high + low ≡ word_sum (pseudo_header src dst n) = omega arith in
     ap fold16 parts ∙ fold16-high high low ∙ ap fold16 back
 
-pub headers_folded : (src dst w : ℕ) (h : Header) → w ≡ src + dst + 17 + h.len + (h.source + h.destination) + (h.len + h.sum) → fold16 w ≡ folded_sum (pseudo_header src dst h.len ++ header_bytes h)
+pub headers_folded : (src dst w : ℕ) (h : Header)
+    → w ≡ src + dst + 17 + h.len + (h.source + h.destination) + (h.len + h.sum)
+    → fold16 w ≡ folded_sum (pseudo_header src dst h.len ++ header_bytes h)
 headers_folded src dst w h is =
     let high : ℕ = src / 65536 + dst / 65536 in
     let low : ℕ = src % 65536 + dst % 65536 + 17 + h.len + (h.source + h.destination) + (h.len + h.sum) in

@@ -19,7 +19,9 @@ filled_length : (e : Entry) (fs : List Entry) → length (filled_up e fs) ≤ su
 filled_length e [] = omega arith
 filled_length e (f ∷ fs) = go (cases_lt (length f.bytes) (trailing_space e)) (filled_length (with_back e f.bytes) fs)
   where
-    go : (length f.bytes < trailing_space e) ⊎ (trailing_space e ≤ length f.bytes) → length (filled_up (with_back e f.bytes) fs) ≤ suc (length fs) → length (filled_up e (f ∷ fs)) ≤ suc (suc (length fs))
+    go : (length f.bytes < trailing_space e) ⊎ (trailing_space e ≤ length f.bytes)
+        → length (filled_up (with_back e f.bytes) fs) ≤ suc (length fs)
+        → length (filled_up e (f ∷ fs)) ≤ suc (suc (length fs))
     go (inl h) ih = omega (arith, ih, ap (λ (xs : List Entry). length xs) (fill-goes e f fs h))
     go (inr h) ih = omega (arith, ap (λ (xs : List Entry). length xs) (fill-stops e f fs h))
 
@@ -54,7 +56,9 @@ unfolding refs
 filled_refs c e [] = omega arith
 filled_refs c e (f ∷ fs) = go (cases_lt (length f.bytes) (trailing_space e)) (filled_refs c (with_back e f.bytes) fs)
   where
-    go : (length f.bytes < trailing_space e) ⊎ (trailing_space e ≤ length f.bytes) → refs c (filled_up (with_back e f.bytes) fs) ≤ one_at c e.cluster + refs c fs → refs c (filled_up e (f ∷ fs)) ≤ one_at c e.cluster + (one_at c f.cluster + refs c fs)
+    go : (length f.bytes < trailing_space e) ⊎ (trailing_space e ≤ length f.bytes)
+        → refs c (filled_up (with_back e f.bytes) fs) ≤ one_at c e.cluster + refs c fs
+        → refs c (filled_up e (f ∷ fs)) ≤ one_at c e.cluster + (one_at c f.cluster + refs c fs)
     go (inl h) ih = omega (arith, ih, ap (refs c) (fill-goes e f fs h))
     go (inr h) ih = omega (arith, ap (refs c) (fill-stops e f fs h))
 
@@ -67,11 +71,24 @@ cat_refs c (e ∷ f ∷ es) fs = omega (arith, cat_refs c (f ∷ es) fs)
 times-append : (c : ℕ) (xs ys : List ℕ) → times c (xs ++ ys) ≡ times c xs + times c ys
 times-append c [] ys = omega arith
 times-append c (x ∷ xs) ys =
-    omega (arith, times-append c xs ys, sum_by-cons (λ (j : ℕ). cond {A = ℕ} (nat_eq j c) 1 0) x (xs ++ ys), sum_by-cons (λ (j : ℕ). cond {A = ℕ} (nat_eq j c) 1 0) x xs)
+    omega (
+      arith,
+      times-append c xs ys,
+      sum_by-cons (λ (j : ℕ). cond {A = ℕ} (nat_eq j c) 1 0) x (xs ++ ys),
+      sum_by-cons (λ (j : ℕ). cond {A = ℕ} (nat_eq j c) 1 0) x xs,
+    )
 
-pub cat_bag : (es fs : List Entry) (c : ℕ) → times c (weight_of (laid (cat es fs))).bag ≤ times c ((weight_of (laid es)).bag ++ (weight_of (laid fs)).bag)
+pub cat_bag : (es fs : List Entry) (c : ℕ)
+    → times c (weight_of (laid (cat es fs))).bag ≤ times c ((weight_of (laid es)).bag ++ (weight_of (laid fs)).bag)
 cat_bag es fs c =
-    omega (arith, times_laid c (cat es fs), times_laid c es, times_laid c fs, cat_refs c es fs, times-append c (weight_of (laid es)).bag (weight_of (laid fs)).bag)
+    omega (
+      arith,
+      times_laid c (cat es fs),
+      times_laid c es,
+      times_laid c fs,
+      cat_refs c es fs,
+      times-append c (weight_of (laid es)).bag (weight_of (laid fs)).bag,
+    )
 
 -- ---- room
 more_fit : (e f : Entry) → IsFit e → length f.bytes < trailing_space e → IsFit (with_back e f.bytes)
@@ -79,14 +96,19 @@ more_fit e f h room =
     let plain : e.cluster ≡ None = plain_with_room e (length f.bytes) room in
     let is : is_some e.cluster ≡ false = ap (λ (o : Option ℕ). is_some o) plain in
     let end : room_end e ≡ 128 = cond-false {A = ℕ} (is_some e.cluster) 2048 128 is in
-    let back : trailing_space e ≡ 128 - e.start - length e.bytes = cond-false {A = ℕ} (is_some e.cluster) 0 (128 - e.start - length e.bytes) is in
+    let back : trailing_space e ≡ 128 - e.start - length e.bytes =
+    cond-false {A = ℕ} (is_some e.cluster) 0 (128 - e.start - length e.bytes) is in
     record { low = h.low; high = omega (arith, h.high, end, back, room, length-append e.bytes f.bytes) }
 
 filled_fit : (e : Entry) (fs : List Entry) → IsFit e → AreFit fs → AreFit (filled_up e fs)
 filled_fit e [] h hs = (h, tt)
-filled_fit e (f ∷ fs) h hs = go (cases_lt (length f.bytes) (trailing_space e)) (λ room. filled_fit (with_back e f.bytes) fs (more_fit e f h room) hs.1)
+filled_fit e (f ∷ fs) h hs =
+    go (cases_lt (length f.bytes) (trailing_space e))
+    (λ room. filled_fit (with_back e f.bytes) fs (more_fit e f h room) hs.1)
   where
-    go : (length f.bytes < trailing_space e) ⊎ (trailing_space e ≤ length f.bytes) → (length f.bytes < trailing_space e → AreFit (filled_up (with_back e f.bytes) fs)) → AreFit (filled_up e (f ∷ fs))
+    go : (length f.bytes < trailing_space e) ⊎ (trailing_space e ≤ length f.bytes)
+        → (length f.bytes < trailing_space e → AreFit (filled_up (with_back e f.bytes) fs))
+        → AreFit (filled_up e (f ∷ fs))
     go (inl room) ih = subst AreFit (sym (fill-goes e f fs room)) (ih room)
     go (inr room) ih = subst AreFit (sym (fill-stops e f fs room)) (h, (hs.0, hs.1))
 
@@ -97,18 +119,37 @@ cat_fit (e ∷ f ∷ es) fs h hs = (h.0, cat_fit (f ∷ es) fs h.1 hs)
 
 record Held (es : List Entry) : Type 0 where
   bag : length (weight_of (laid es)).bag ≤ length (laid es)
-  room : length (flat_bytes es) ≤ 108 * (length (laid es) - length (weight_of (laid es)).bag) + 2048 * length (weight_of (laid es)).bag
+  room : length (flat_bytes es) ≤ 108 * (length (laid es) - length (weight_of (laid es)).bag)
+      + 2048 * length (weight_of (laid es)).bag
 
 held : (es : List Entry) → AreFit es → Held es
 held [] h = record { bag = omega arith; room = omega arith }
 held (e ∷ es) h = go e.cluster h.0.low h.0.high (held es h.1)
   where
-    go : (o : Option ℕ) → cond {A = ℕ} (is_some o) 0 20 ≤ e.start → e.start + length e.bytes ≤ cond {A = ℕ} (is_some o) 2048 128 → Held es
+    go : (o : Option ℕ) → cond {A = ℕ} (is_some o) 0 20 ≤ e.start
+        → e.start + length e.bytes ≤ cond {A = ℕ} (is_some o) 2048 128 → Held es
         → Held (record { bytes = e.bytes; start = e.start; cluster = o } ∷ es)
-    go None low high t = record { bag = omega (arith, t.bag); room = omega (arith, t.bag, t.room, low, high, length-append e.bytes (flat_bytes es)) }
-    go (Some c) low high t = record { bag = omega (arith, t.bag); room = omega (arith, t.bag, t.room, low, high, length-append e.bytes (flat_bytes es)) }
+    go None low high t =
+        record {
+          bag = omega (arith, t.bag);
+          room = omega (arith, t.bag, t.room, low, high, length-append e.bytes (flat_bytes es));
+        }
+    go (Some c) low high t =
+        record {
+          bag = omega (arith, t.bag);
+          room = omega (arith, t.bag, t.room, low, high, length-append e.bytes (flat_bytes es));
+        }
 
 pub covers_fit : (es : List Entry) → 0 < length es → AreFit es → Covers (weight_of (laid es)) (length (flat_bytes es))
 covers_fit es some h =
     let t : Held es = held es h in
-    record { some = omega (arith, some, length-map es (λ (e : Entry). let x : flat.Entry = record { size = length e.bytes; cluster = e.cluster } in x)); references = t.bag; room = t.room }
+    record {
+      some = omega (
+        arith,
+        some,
+        length-map es (λ (e : Entry). let x : flat.Entry = record { size = length e.bytes; cluster = e.cluster } in
+            x),
+      );
+      references = t.bag;
+      room = t.room;
+    }

@@ -20,7 +20,8 @@ drop_over (suc m) (x ∷ xs) ys h =
 
 pub drop-append : (n : ℕ) (xs ys : List ℕ) → drop n (xs ++ ys) ≡ drop n xs ++ drop (n - length xs) ys
 drop-append n xs ys = elim (cases_lt n (length xs)) [
-  | inl l ↦ let none : 0 ≡ n - length xs = omega arith in drop-append-le n xs ys (omega arith) ∙ ap (λ (k : ℕ). drop n xs ++ drop k ys) none
+  | inl l ↦ let none : 0 ≡ n - length xs = omega arith in
+      drop-append-le n xs ys (omega arith) ∙ ap (λ (k : ℕ). drop n xs ++ drop k ys) none
   | inr l ↦ drop_over n xs ys l ∙ ap (λ (zs : List ℕ). zs ++ drop (n - length xs) ys) (sym (drop_all n xs l))
 ]
 

@@ -30,19 +30,22 @@ fuel (suc k) (suc j) large small zero l s a b = refl
 fuel (suc k) (suc j) large small (suc m) l s a b =
     let some = next_some large small (suc m) l s (omega arith) in
     ap (λ (rooms : List Room). next_room large small (suc m) ∷ rooms)
-    (fuel k j 2048 108 (suc m - size_of (next_room large small (suc m))) (omega arith) (omega arith) (omega (arith, some)) (omega (arith, some)))
+    (fuel k j 2048 108 (suc m - size_of (next_room large small (suc m))) (omega arith) (omega arith)
+    (omega (arith, some)) (omega (arith, some)))
 
 -- the rooms for what is left after a first mbuf
 abbrev pub rest_rooms : ℕ → List Room
 rest_rooms m = filled m 2048 108 m
 
-pub rooms_step : (large small m : ℕ) → 0 < large → 0 < small → 0 < m → filled m large small m ≡ next_room large small m ∷ rest_rooms (m - size_of (next_room large small m))
+pub rooms_step : (large small m : ℕ) → 0 < large → 0 < small → 0 < m
+    → filled m large small m ≡ next_room large small m ∷ rest_rooms (m - size_of (next_room large small m))
 unfolding filled
 rooms_step large small zero l s some = absurd (omega arith)
 rooms_step large small (suc m) l s some =
     let size = next_some large small (suc m) l s some in
     ap (λ (rooms : List Room). next_room large small (suc m) ∷ rooms)
-    (fuel m (suc m - size_of (next_room large small (suc m))) 2048 108 (suc m - size_of (next_room large small (suc m))) (omega arith) (omega arith) (omega (arith, size)) (omega arith))
+    (fuel m (suc m - size_of (next_room large small (suc m))) 2048 108 (suc m - size_of (next_room large small (suc m)))
+    (omega arith) (omega arith) (omega (arith, size)) (omega arith))
 
 pub rest_none : rest_rooms 0 ≡ []
 unfolding filled
@@ -50,11 +53,13 @@ rest_none = refl
 
 -- ---- bytes that one mbuf holds
 
-one_room : (large n : ℕ) (room : Room) → large ≤ 56 → 0 < n → next_room (2048 - large) 100 n ≡ room → size_of room ≡ n → rooms_for large n ≡ room ∷ []
+one_room : (large n : ℕ) (room : Room) → large ≤ 56 → 0 < n → next_room (2048 - large) 100 n ≡ room → size_of room ≡ n
+    → rooms_for large n ≡ room ∷ []
 one_room large n room low some is size =
     let none : n - size_of room ≡ 0 = omega (arith, size) in
     ap or_empty (rooms_step (2048 - large) 100 n (omega (arith, low)) (omega arith) some)
-    ∙ (λ j. or_empty (is j ∷ rest_rooms (n - size_of (is j)))) ∙ ap (λ (k : ℕ). room ∷ rest_rooms k) none ∙ ap (λ (rooms : List Room). room ∷ rooms) rest_none
+    ∙ (λ j. or_empty (is j ∷ rest_rooms (n - size_of (is j)))) ∙ ap (λ (k : ℕ). room ∷ rest_rooms k) none
+    ∙ ap (λ (rooms : List Room). room ∷ rooms) rest_none
 
 -- in its own room
 pub one_plain : (large n : ℕ) → large ≤ 56 → n ≤ 100 → rooms_for large n ≡ Plain n ∷ []
@@ -62,10 +67,12 @@ unfolding filled
 one_plain large zero low few = refl
 one_plain large (suc n) low few =
     let all : min (suc n) 100 ≡ suc n = omega (arith, few) in
-    one_room large (suc n) (Plain (suc n)) low (omega arith) (cond-false {A = Room} _ _ _ (lt-leb 208 (suc n) (omega (arith, few))) ∙ ap Plain all) refl
+    one_room large (suc n) (Plain (suc n)) low (omega arith)
+    (cond-false {A = Room} _ _ _ (lt-leb 208 (suc n) (omega (arith, few))) ∙ ap Plain all) refl
 
 -- or in a cluster
 pub one_cluster : (large n : ℕ) → large ≤ 56 → 208 ≤ n → n ≤ 2048 - large → rooms_for large n ≡ Cluster n ∷ []
 one_cluster large n low many few =
     let all : min n (2048 - large) ≡ n = omega (arith, few) in
-    one_room large n (Cluster n) low (omega (arith, many)) (cond-true {A = Room} _ _ _ (le-leb 208 n many) ∙ ap Cluster all) refl
+    one_room large n (Cluster n) low (omega (arith, many))
+    (cond-true {A = Room} _ _ _ (le-leb 208 n many) ∙ ap Cluster all) refl

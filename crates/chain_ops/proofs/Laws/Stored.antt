@@ -8,8 +8,12 @@ use Rattle.chain_ops.proofs.Stored.{first_bytes, rooms_sum}
 pub use Rattle.chain_ops.proofs.Writes.{copied_back_bytes}
 
 -- bytes to send, and a packet that arrived, are the bytes that were stored
-pub user_bytes : (cs xs : List ℕ) → length cs ≡ count_by is_cluster (user (length xs)) → flat_bytes (stored_first CLUSTER_LEADING_SPACE true cs (user (length xs)) xs) ≡ xs
-user_bytes cs xs e = first_bytes CLUSTER_LEADING_SPACE true cs (user (length xs)) xs e (rooms_sum CLUSTER_LEADING_SPACE (length xs) (omega arith))
+pub user_bytes : (cs xs : List ℕ) → length cs ≡ count_by is_cluster (user (length xs))
+    → flat_bytes (stored_first CLUSTER_LEADING_SPACE true cs (user (length xs)) xs) ≡ xs
+user_bytes cs xs e =
+    first_bytes CLUSTER_LEADING_SPACE true cs (user (length xs)) xs e
+    (rooms_sum CLUSTER_LEADING_SPACE (length xs) (omega arith))
 
-pub wire_bytes : (cs xs : List ℕ) → length cs ≡ count_by is_cluster (wire (length xs)) → flat_bytes (stored_first 0 false cs (wire (length xs)) xs) ≡ xs
+pub wire_bytes : (cs xs : List ℕ) → length cs ≡ count_by is_cluster (wire (length xs))
+    → flat_bytes (stored_first 0 false cs (wire (length xs)) xs) ≡ xs
 wire_bytes cs xs e = first_bytes 0 false cs (wire (length xs)) xs e (rooms_sum 0 (length xs) (omega arith))

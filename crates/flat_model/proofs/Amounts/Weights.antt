@@ -6,7 +6,8 @@ use Rattle.flat_model.proofs.Lists.Totals.{count-append}
 
 -- ---- equations
 
-weight_is : (m n : ℕ) (a b : List ℕ) → m ≡ n → a ≡ b → ◌≡◌ {A = Weight} (record { mbufs = m; bag = a }) (record { mbufs = n; bag = b })
+weight_is : (m n : ℕ) (a b : List ℕ) → m ≡ n → a ≡ b
+    → ◌≡◌ {A = Weight} (record { mbufs = m; bag = a }) (record { mbufs = n; bag = b })
 weight_is m n a b e f = λ i. record { mbufs = e i; bag = f i }
 
 pub nothing-both : (a : Weight) → nothing ⊕ a ≡ a
@@ -16,11 +17,14 @@ pub both-nothing : (a : Weight) → a ⊕ nothing ≡ a
 both-nothing a = weight_is (a.mbufs + 0) a.mbufs (a.bag ++ []) a.bag (omega arith) (append-nil a.bag)
 
 pub both-assoc : (a b d : Weight) → (a ⊕ b) ⊕ d ≡ a ⊕ (b ⊕ d)
-both-assoc a b d = weight_is (a.mbufs + b.mbufs + d.mbufs) (a.mbufs + (b.mbufs + d.mbufs)) ((a.bag ++ b.bag) ++ d.bag) (a.bag ++ (b.bag ++ d.bag)) (omega arith) (append_assoc a.bag b.bag d.bag)
+both-assoc a b d =
+    weight_is (a.mbufs + b.mbufs + d.mbufs) (a.mbufs + (b.mbufs + d.mbufs)) ((a.bag ++ b.bag) ++ d.bag)
+    (a.bag ++ (b.bag ++ d.bag)) (omega arith) (append_assoc a.bag b.bag d.bag)
 
 pub all_of-append : {X : Type 0} (w : X → Weight) (xs ys : List X) → all_of w (xs ++ ys) ≡ all_of w xs ⊕ all_of w ys
 all_of-append w [] ys = sym (nothing-both (all_of w ys))
-all_of-append w (x ∷ xs) ys = ap (λ (a : Weight). w x ⊕ a) (all_of-append w xs ys) ∙ sym (both-assoc (w x) (all_of w xs) (all_of w ys))
+all_of-append w (x ∷ xs) ys =
+    ap (λ (a : Weight). w x ⊕ a) (all_of-append w xs ys) ∙ sym (both-assoc (w x) (all_of w xs) (all_of w ys))
 
 -- ---- counts of a cluster
 

@@ -26,11 +26,13 @@ chunks_enough n c h = omega arith
 
 pub chunks_needed : (n c i : ℕ) → 0 < c → i < chunks n c → i * c < n
 chunks_needed n c i h l =
-    let below : (i + 1) * c ≤ n + (c - 1) = (le-div_iff_mul-le {k = c} {x = i + 1} {y = n + (c - 1)} h).0 (omega arith) in
+    let below : (i + 1) * c ≤ n + (c - 1) =
+    (le-div_iff_mul-le {k = c} {x = i + 1} {y = n + (c - 1)} h).0 (omega arith) in
     omega arith
 
 -- the bytes of the parts from the i-th on
-pub parts_join : (s : List ℕ) (c i k : ℕ) → flat_map (bytes_of s) (map (part (length s) c) (range_with_len i k)) ≡ take (k * c) (drop (i * c) s)
+pub parts_join : (s : List ℕ) (c i k : ℕ)
+    → flat_map (bytes_of s) (map (part (length s) c) (range_with_len i k)) ≡ take (k * c) (drop (i * c) s)
 parts_join s c i zero = let e : 0 * c ≡ 0 = omega arith in rw e refl
 parts_join s c i (suc k) =
     let first : take (min c (length s - i * c)) (drop (i * c) s) ≡ take c (drop (i * c) s) =
@@ -89,10 +91,13 @@ cuts_join_lem s mtu low = go (cases_lt mtu (20 + length s))
       within = λ k d b. one k d b (cuts (length s) mtu) (cuts_short (length s) mtu h) b;
     }
       where
-        one : (k : ℕ) (d : Part) → k < length (cuts (length s) mtu) → (ps : List Part) → ps ≡ record { offset = 0; size = length s; more = false } ∷ [] → k < length ps → 20 + (get_or ps k d).size ≤ mtu
+        one : (k : ℕ) (d : Part) → k < length (cuts (length s) mtu) → (ps : List Part)
+            → ps ≡ record { offset = 0; size = length s; more = false } ∷ [] → k < length ps
+            → 20 + (get_or ps k d).size ≤ mtu
         one k d b ps e l = rw e (at_zero k (subst (λ (qs : List Part). k < length qs) e l))
           where
-            at_zero : (j : ℕ) → j < 1 → 20 + (get_or (record { offset = 0; size = length s; more = false } ∷ []) j d).size ≤ mtu
+            at_zero : (j : ℕ) → j < 1 → 20
+                + (get_or (record { offset = 0; size = length s; more = false } ∷ []) j d).size ≤ mtu
             at_zero zero l = h
             at_zero (suc j) l = absurd (omega arith)
     go (inl h) = record {
@@ -104,6 +109,7 @@ cuts_join_lem s mtu low = go (cases_lt mtu (20 + length s))
           ∙ chunk_even mtu;
       within = rw (cuts_long (length s) mtu h) λ k d b.
           let l : k < chunks (length s) (chunk mtu) = omega (arith, b, length-grid (length s) (chunk mtu)) in
-          let same : (get_or (grid (length s) (chunk mtu)) k d).size ≡ min (chunk mtu) (length s - k * chunk mtu) = ap (λ (p : Part). p.size) (get_or-grid (length s) (chunk mtu) k d l) in
+          let same : (get_or (grid (length s) (chunk mtu)) k d).size ≡ min (chunk mtu) (length s - k * chunk mtu) =
+          ap (λ (p : Part). p.size) (get_or-grid (length s) (chunk mtu) k d l) in
           omega (arith, same, chunk_fits mtu low);
     }

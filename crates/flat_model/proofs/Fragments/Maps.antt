@@ -21,7 +21,8 @@ some_value (Some h) e = (h, refl)
 
 -- a whole map of t's bytes is t
 module _ (t : List ℕ) (bytes : Map) (n : ℕ) (m : IsMapOf t bytes) (w : IsWhole bytes n) where
-  last_of : (x : Option Held) (h : Held) → x ≡ Some h → IfSome x (λ held. held.piece.more ≡ false) → h.piece.more ≡ false
+  last_of : (x : Option Held) (h : Held) → x ≡ Some h → IfSome x (λ held. held.piece.more ≡ false)
+      → h.piece.more ≡ false
   last_of None h e p = absurd (none-some h e)
   last_of (Some g) h e p = ap (λ (y : Held). y.piece.more) (sym (same_Some g h e)) ∙ p
 
@@ -34,7 +35,9 @@ module _ (t : List ℕ) (bytes : Map) (n : ℕ) (m : IsMapOf t bytes) (w : IsWho
       omega (arith, w.some)
 
   pub whole_bytes : bytes_below bytes n ≡ t
-  whole_bytes = same_lists (bytes_below bytes n) t (length-map-range_with_len (λ offset. byte_of (bytes offset)) 0 n ∙ whole_length) λ k d l.
+  whole_bytes =
+      same_lists (bytes_below bytes n) t
+      (length-map-range_with_len (λ offset. byte_of (bytes offset)) 0 n ∙ whole_length) λ k d l.
       let under : k < n = omega (arith, l, length-map-range_with_len (λ offset. byte_of (bytes offset)) 0 n) in
       let at = some_value (bytes k) (w.filled k under) in
       get_or-map-range_with_len (λ offset. byte_of (bytes offset)) 0 n k k d under (omega arith)

@@ -13,7 +13,8 @@ by_choice {R = R} {b = b} c f g = go b refl
     go true e = f e (c.yes e)
     go false e = g e (c.no e)
 
-pub by_case : {T R : Type 0} {P : Type 0} {Q : T → Type 0} {o : Option T} → Case o P Q → (o ≡ None → P → R) → ((x : T) → o ≡ Some x → Q x → R) → R
+pub by_case : {T R : Type 0} {P : Type 0} {Q : T → Type 0} {o : Option T} → Case o P Q → (o ≡ None → P → R)
+    → ((x : T) → o ≡ Some x → Q x → R) → R
 by_case {T = T} {R = R} {o = o} c f g = go o refl
   where
     go : (t : Option T) → o ≡ t → R
@@ -41,11 +42,13 @@ module _ {X : Type 0} (P : X → Type 0) where
   each-find p [] x h e = absurd (none-some x e)
   each-find p (y ∷ ys) x h e = go (each-find p ys x h.1) (p y) refl e
     where
-      go : (find p ys ≡ Some x → P x × (p x ≡ true)) → (b : Bool) → p y ≡ b → cond b (Some y) (find p ys) ≡ Some x → P x × (p x ≡ true)
+      go : (find p ys ≡ Some x → P x × (p x ≡ true)) → (b : Bool) → p y ≡ b → cond b (Some y) (find p ys) ≡ Some x
+          → P x × (p x ≡ true)
       go rest true t e = let same : y ≡ x = same_Some y x e in subst (λ z. P z × (p z ≡ true)) same (h.0, t)
       go rest false t e = rest e
 
-pub each-both : {X : Type 0} {P Q R : X → Type 0} → ((x : X) → P x → Q x → R x) → (xs : List X) → Each P xs → Each Q xs → Each R xs
+pub each-both : {X : Type 0} {P Q R : X → Type 0} → ((x : X) → P x → Q x → R x) → (xs : List X) → Each P xs → Each Q xs
+    → Each R xs
 each-both f [] h k = tt
 each-both f (x ∷ xs) h k = (f x h.0 k.0, each-both f xs h.1 k.1)
 
@@ -53,7 +56,8 @@ pub each-weaker : {X : Type 0} {P Q : X → Type 0} → ((x : X) → P x → Q x
 each-weaker f [] h = tt
 each-weaker f (x ∷ xs) h = (f x h.0, each-weaker f xs h.1)
 
-pub each-map_to : {X Y : Type 0} {P : X → Type 0} (Q : Y → Type 0) (f : X → Y) → ((x : X) → P x → Q (f x)) → (xs : List X) → Each P xs → Each Q (map f xs)
+pub each-map_to : {X Y : Type 0} {P : X → Type 0} (Q : Y → Type 0) (f : X → Y) → ((x : X) → P x → Q (f x))
+    → (xs : List X) → Each P xs → Each Q (map f xs)
 each-map_to Q f keeps [] h = tt
 each-map_to Q f keeps (x ∷ xs) h = (keeps x h.0, each-map_to Q f keeps xs h.1)
 
@@ -63,10 +67,12 @@ each-take P (suc n) [] h = tt
 each-take P (suc n) (x ∷ xs) h = (h.0, each-take P n xs h.1)
 
 -- no fault: no test passed
-pub none_passed : {E : Type 0} (tests : List (Bool × E)) → first_fault tests ≡ None → Each (λ test. test.0 ≡ false) tests
+pub none_passed : {E : Type 0} (tests : List (Bool × E)) → first_fault tests ≡ None
+    → Each (λ test. test.0 ≡ false) tests
 none_passed [] e = tt
 none_passed (test ∷ tests) e = go (none_passed tests) test.0 refl e
   where
-    go : (first_fault tests ≡ None → Each (λ test. test.0 ≡ false) tests) → (b : Bool) → test.0 ≡ b → cond b (Some test.1) (first_fault tests) ≡ None → Each (λ test. test.0 ≡ false) (test ∷ tests)
+    go : (first_fault tests ≡ None → Each (λ test. test.0 ≡ false) tests) → (b : Bool) → test.0 ≡ b
+        → cond b (Some test.1) (first_fault tests) ≡ None → Each (λ test. test.0 ≡ false) (test ∷ tests)
     go rest true t e = absurd (none-some test.1 (sym e))
     go rest false t e = (t, rest e)

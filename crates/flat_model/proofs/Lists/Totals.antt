@@ -16,7 +16,8 @@ unfolding total
 total_le g h at zero le = omega arith
 total_le g h at (suc n) le =
     let here : g at ≤ h at = le at (omega arith) (omega arith) in
-    let later : total g (at + 1) n ≤ total h (at + 1) n = total_le g h (at + 1) n (λ k low high. le k (omega arith) (omega arith)) in
+    let later : total g (at + 1) n ≤ total h (at + 1) n =
+    total_le g h (at + 1) n (λ k low high. le k (omega arith) (omega arith)) in
     omega arith
 
 pub total_add : (g h : ℕ → ℕ) (at n : ℕ) → total (λ k. g k + h k) at n ≡ total g at n + total h at n
@@ -56,7 +57,8 @@ total_spike_most x v at zero = omega arith
 total_spike_most x v at (suc n) = go (total_spike_most x v (at + 1) n) (at == x) refl
   where
     go : total (spike x v) (at + 1) n ≤ v → (b : Bool) → (at == x) ≡ b → cond b v 0 + total (spike x v) (at + 1) n ≤ v
-    go rest true e = let same : at ≡ x = eqb-true at x e in let later = past_spike x v (at + 1) n (omega arith) in omega arith
+    go rest true e = let same : at ≡ x = eqb-true at x e in let later = past_spike x v (at + 1) n (omega arith) in
+        omega arith
     go rest false e = omega arith
 
 pub total_spike : (x v at n : ℕ) → at ≤ x → x < at + n → total (spike x v) at n ≡ v
@@ -64,8 +66,10 @@ unfolding total
 total_spike x v at zero low high = absurd (omega arith)
 total_spike x v at (suc n) low high = go (total_spike x v (at + 1) n) (at == x) refl
   where
-    go : (at + 1 ≤ x → x < at + 1 + n → total (spike x v) (at + 1) n ≡ v) → (b : Bool) → (at == x) ≡ b → cond b v 0 + total (spike x v) (at + 1) n ≡ v
-    go rest true e = let same : at ≡ x = eqb-true at x e in let later = past_spike x v (at + 1) n (omega arith) in omega arith
+    go : (at + 1 ≤ x → x < at + 1 + n → total (spike x v) (at + 1) n ≡ v) → (b : Bool) → (at == x) ≡ b
+        → cond b v 0 + total (spike x v) (at + 1) n ≡ v
+    go rest true e = let same : at ≡ x = eqb-true at x e in let later = past_spike x v (at + 1) n (omega arith) in
+        omega arith
     go rest false e =
         let other : at ≡ x → ⊥ = eqb-false at x e in
         let later : total (spike x v) (at + 1) n ≡ v = rest (omega arith) (omega arith) in
@@ -73,7 +77,8 @@ total_spike x v at (suc n) low high = go (total_spike x v (at + 1) n) (at == x) 
 
 -- ---- counts
 
-pub count_cons : {X : Type 0} (p : X → Bool) (x : X) (xs : List X) → count_by p (x ∷ xs) ≡ cond (p x) 1 0 + count_by p xs
+pub count_cons : {X : Type 0} (p : X → Bool) (x : X) (xs : List X)
+    → count_by p (x ∷ xs) ≡ cond (p x) 1 0 + count_by p xs
 count_cons p x xs = sum_by-cons (λ y. cond (p y) 1 0) x xs
 
 -- what is in a bag
@@ -88,13 +93,17 @@ each_times P (x ∷ xs) c h some = go (each_times P xs c h.1) (x == c) refl (cou
 pub times_each : (P : ℕ → Type 0) (xs : List ℕ) → ((c : ℕ) → 0 < times c xs → P c) → Each P xs
 times_each P [] h = tt
 times_each P (x ∷ xs) h = (
-  h x (let at = count_cons (λ k. k == x) x xs in let one : cond (x == x) 1 0 ≡ 1 = spike_here x 1 x refl in omega arith),
+  h x (let at = count_cons (λ k. k == x) x xs in let one : cond (x == x) 1 0 ≡ 1 = spike_here x 1 x refl in
+      omega arith),
   times_each P xs (λ c some. h c (let at = count_cons (λ k. k == c) x xs in omega arith)),
 )
 
 pub each_sub_bag : (P : ℕ → Type 0) (small large : List ℕ) → IsSubBag small large → Each P large → Each P small
-each_sub_bag P small large sub h = times_each P small (λ c some. each_times P large c h (let le : times c small ≤ times c large = sub c in omega arith))
+each_sub_bag P small large sub h =
+    times_each P small (λ c some. each_times P large c h
+    (let le : times c small ≤ times c large = sub c in omega arith))
 
 pub count-append : {X : Type 0} (p : X → Bool) (xs ys : List X) → count_by p (xs ++ ys) ≡ count_by p xs + count_by p ys
 count-append p [] ys = omega arith
-count-append p (x ∷ xs) ys = let rest = count-append p xs ys in omega (arith, count_cons p x (xs ++ ys), count_cons p x xs)
+count-append p (x ∷ xs) ys = let rest = count-append p xs ys in
+    omega (arith, count_cons p x (xs ++ ys), count_cons p x xs)

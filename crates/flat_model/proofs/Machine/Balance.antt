@@ -13,7 +13,8 @@ use Rattle.flat_model.proofs.Lists.Totals.{total, total_le, total_add, total_spi
 sum_total : (g : ℕ → ℕ) (at n : ℕ) → sum (map g (range_with_len at n)) ≡ total g at n
 unfolding total
 sum_total g at zero = refl
-sum_total g at (suc n) = let rest = sum_total g (at + 1) n in omega (arith, sum_by-cons (λ x. x) (g at) (map g (range_with_len (at + 1) n)))
+sum_total g at (suc n) = let rest = sum_total g (at + 1) n in
+    omega (arith, sum_by-cons (λ x. x) (g at) (map g (range_with_len (at + 1) n)))
 
 total_same : (g h : ℕ → ℕ) (at n : ℕ) → ((k : ℕ) → g k ≡ h k) → total g at n ≡ total h at n
 total_same g h at n e =
@@ -51,7 +52,8 @@ free_and_held s is = let le = is.mbufs in omega arith
 pub references_are : (s : State) → IsConsistent s → (usage_of s).refs ≡ length (weight_of_state s).bag
 references_are s is =
     sum_total (count_of s nothing) 0 s.config.clusters
-    ∙ total_same (count_of s nothing) (λ k. times k (weight_of_state s).bag) 0 s.config.clusters (λ k. let app = count-append (λ j. j == k) (weight_of_state s).bag [] in omega arith)
+    ∙ total_same (count_of s nothing) (λ k. times k (weight_of_state s).bag) 0 s.config.clusters
+    (λ k. let app = count-append (λ j. j == k) (weight_of_state s).bag [] in omega arith)
     ∙ counts_are (weight_of_state s).bag s.config.clusters is.clusters
 
 all_pass : (p : ℕ → Bool) (at n : ℕ) → ((k : ℕ) → p k ≡ true) → count_by p (range_with_len at n) ≡ n
@@ -61,7 +63,8 @@ all_pass p at (suc n) h =
     let here : cond {A = ℕ} (p at) 1 0 ≡ 1 = ap (λ b. cond {A = ℕ} b 1 0) (h at) in
     omega (arith, count_cons p at (range_with_len (at + 1) n))
 
-all_free : (s : State) → s.sockets ≡ [] → s.unfinished ≡ [] → s.output ≡ [] → (free_mbufs s nothing ≡ s.config.mbufs) × (free_clusters s nothing ≡ s.config.clusters)
+all_free : (s : State) → s.sockets ≡ [] → s.unfinished ≡ [] → s.output ≡ []
+    → (free_mbufs s nothing ≡ s.config.mbufs) × (free_clusters s nothing ≡ s.config.clusters)
 all_free s es eu eo = (
   (let none : (weight_of_state s).mbufs ≡ 0 = rw (es, eu, eo) refl in omega arith),
   all_pass (λ c. count_of s nothing c == 0) 0 s.config.clusters (λ k. rw (es, eu, eo) refl),
@@ -76,7 +79,14 @@ most_zero g at (suc n) none = rw (none at) (most_zero g (at + 1) n none)
 
 -- where nothing is held, all is free and no cluster is referred to
 pub none_held : (s : State) → s.sockets ≡ [] → s.unfinished ≡ [] → s.output ≡ []
-    → usage_of s ≡ record { free_mbufs = s.config.mbufs; mbufs = s.config.mbufs; free_clusters = s.config.clusters; clusters = s.config.clusters; refs = 0; most = 0 }
+    → usage_of s ≡ record {
+      free_mbufs = s.config.mbufs;
+      mbufs = s.config.mbufs;
+      free_clusters = s.config.clusters;
+      clusters = s.config.clusters;
+      refs = 0;
+      most = 0;
+    }
 none_held s es eu eo =
     let counts : (k : ℕ) → count_of s nothing k ≡ 0 = (λ k. rw (es, eu, eo) refl) in
     let free = all_free s es eu eo in

@@ -22,14 +22,18 @@ module _ (n : ℕ) (xs : List ℕ) (i : ℕ) (f : ℕ → ℕ) (long : length xs
   at : (j : ℕ) → get_or (set xs i (f (get_or xs i 0))) j 0 ≡ changed j
   at j = elim (cases_eq j i) [
     | inl e ↦
-        ap (λ k. get_or (set xs i (f (get_or xs i 0))) k 0) e ∙ get_or-set_same xs i (f (get_or xs i 0)) 0 (omega (arith, long, lt))
-        ∙ ap (λ k. f (get_or xs k 0)) (sym e) ∙ ap (λ b. cond {A = ℕ} b (f (get_or xs j 0)) (get_or xs j 0)) (sym (eq-eqb j i e))
-    | inr ne ↦ get_or-set_other xs i j (f (get_or xs i 0)) 0 ne ∙ ap (λ b. cond {A = ℕ} b (f (get_or xs j 0)) (get_or xs j 0)) (sym (ne_eqb j i ne))
+        ap (λ k. get_or (set xs i (f (get_or xs i 0))) k 0) e
+        ∙ get_or-set_same xs i (f (get_or xs i 0)) 0 (omega (arith, long, lt))
+        ∙ ap (λ k. f (get_or xs k 0)) (sym e)
+        ∙ ap (λ b. cond {A = ℕ} b (f (get_or xs j 0)) (get_or xs j 0)) (sym (eq-eqb j i e))
+    | inr ne ↦ get_or-set_other xs i j (f (get_or xs i 0)) 0 ne
+        ∙ ap (λ b. cond {A = ℕ} b (f (get_or xs j 0)) (get_or xs j 0)) (sym (ne_eqb j i ne))
   ]
 
   pub set_is : set xs i (f (get_or xs i 0)) ≡ map changed (range_with_len 0 n)
   set_is = same_number_lists _ _ (length-set xs i _ ∙ long ∙ sym (length-map-range_with_len changed 0 n))
-      (λ j below. at j ∙ sym (get_or-map-range_with_len changed 0 n j j 0 (omega (arith, below, length-set xs i (f (get_or xs i 0)), long)) (omega arith)))
+      (λ j below. at j ∙ sym (get_or-map-range_with_len changed 0 n j j 0
+      (omega (arith, below, length-set xs i (f (get_or xs i 0)), long)) (omega arith)))
 
 -- the order of printing is that of the type
 places : map place all_counters ≡ range_with_len 0 COUNTERS
@@ -39,7 +43,8 @@ at_places : (f : ℕ → ℕ) → map f (map place all_counters) ≡ map (λ oth
 at_places f = refl
 
 -- the number at a counter's place, made so much more, is that counter's count
-pub counts_is : (counter : Counter) (k : ℕ) (c : Counters) (value : ℕ) → length c.values ≡ COUNTERS → value ≡ more_by k (value_of counter c)
+pub counts_is : (counter : Counter) (k : ℕ) (c : Counters) (value : ℕ) → length c.values ≡ COUNTERS
+    → value ≡ more_by k (value_of counter c)
     → ◌≡◌ {A = Counters} (record { values = set c.values (place counter) value }) (counts_more counter k c)
 counts_is counter k c value long is =
     let below : place counter < COUNTERS = tag_below (variants the_type) (the_type.to counter) in

@@ -35,7 +35,8 @@ use Rattle.flat_model.proofs.Fragments.Overlaid.{carries_less, pieces_bag, piece
 
 -- ---- counts in lists
 
-pub count-map : {X : Type 0} (p : X → Bool) (f : X → X) → ((x : X) → p (f x) ≡ p x) → (xs : List X) → count_by p (map f xs) ≡ count_by p xs
+pub count-map : {X : Type 0} (p : X → Bool) (f : X → X) → ((x : X) → p (f x) ≡ p x) → (xs : List X)
+    → count_by p (map f xs) ≡ count_by p xs
 count-map p f same [] = refl
 count-map p f same (x ∷ xs) =
     let here : cond {A = ℕ} (p (f x)) 1 0 ≡ cond (p x) 1 0 = ap (λ b. cond {A = ℕ} b 1 0) (same x) in
@@ -53,7 +54,8 @@ pub count-filter : {X : Type 0} (p q : X → Bool) (xs : List X) → count_by p 
 count-filter p q [] = omega arith
 count-filter p q (x ∷ xs) = go (q x) (count-filter p q xs)
   where
-    go : (b : Bool) → count_by p (filter q xs) ≤ count_by p xs → count_by p (cond b (x ∷ filter q xs) (filter q xs)) ≤ count_by p (x ∷ xs)
+    go : (b : Bool) → count_by p (filter q xs) ≤ count_by p xs
+        → count_by p (cond b (x ∷ filter q xs) (filter q xs)) ≤ count_by p (x ∷ xs)
     go true le = omega (arith, count_cons p x (filter q xs), count_cons p x xs)
     go false le = omega (arith, count_cons p x xs)
 
@@ -67,15 +69,19 @@ pub none_found : {X : Type 0} (p : X → Bool) (xs : List X) → find p xs ≡ N
 none_found p [] e = refl
 none_found p (x ∷ xs) e = go (p x) refl (none_found p xs) e (count_cons p x xs)
   where
-    go : (b : Bool) → p x ≡ b → (find p xs ≡ None → count_by p xs ≡ 0) → cond b (Some x) (find p xs) ≡ None → count_by p (x ∷ xs) ≡ cond {A = ℕ} (p x) 1 0 + count_by p xs → count_by p (x ∷ xs) ≡ 0
+    go : (b : Bool) → p x ≡ b → (find p xs ≡ None → count_by p xs ≡ 0) → cond b (Some x) (find p xs) ≡ None
+        → count_by p (x ∷ xs) ≡ cond {A = ℕ} (p x) 1 0 + count_by p xs → count_by p (x ∷ xs) ≡ 0
     go true t rest e n = absurd (none-some x (sym e))
-    go false t rest e n = let zero_here : cond {A = ℕ} (p x) 1 0 ≡ 0 = ap (λ b. cond {A = ℕ} b 1 0) t in let later = rest e in omega arith
+    go false t rest e n = let zero_here : cond {A = ℕ} (p x) 1 0 ≡ 0 = ap (λ b. cond {A = ℕ} b 1 0) t in
+        let later = rest e in omega arith
 
-find_after : {X : Type 0} (p : X → Bool) (xs : List X) (y : X) → find p xs ≡ None → p y ≡ true → find p (xs ++ y ∷ []) ≡ Some y
+find_after : {X : Type 0} (p : X → Bool) (xs : List X) (y : X) → find p xs ≡ None → p y ≡ true
+    → find p (xs ++ y ∷ []) ≡ Some y
 find_after p [] y e t = ap (λ b. cond b (Some y) None) t
 find_after p (x ∷ xs) y e t = go (p x) refl (find_after p xs y) e
   where
-    go : (b : Bool) → p x ≡ b → (find p xs ≡ None → p y ≡ true → find p (xs ++ y ∷ []) ≡ Some y) → cond b (Some x) (find p xs) ≡ None → cond b (Some x) (find p (xs ++ y ∷ [])) ≡ Some y
+    go : (b : Bool) → p x ≡ b → (find p xs ≡ None → p y ≡ true → find p (xs ++ y ∷ []) ≡ Some y)
+        → cond b (Some x) (find p xs) ≡ None → cond b (Some x) (find p (xs ++ y ∷ [])) ≡ Some y
     go true s rest e = absurd (none-some x (sym e))
     go false s rest e = rest e t
 
@@ -90,16 +96,19 @@ module _ {X : Type 0} (w : X → Weight) where
   mbufs-filter p [] = omega arith
   mbufs-filter p (x ∷ xs) = go (p x) (mbufs-filter p xs)
     where
-      go : (b : Bool) → (all_of w (filter p xs)).mbufs ≤ (all_of w xs).mbufs → (all_of w (cond b (x ∷ filter p xs) (filter p xs))).mbufs ≤ (all_of w (x ∷ xs)).mbufs
+      go : (b : Bool) → (all_of w (filter p xs)).mbufs ≤ (all_of w xs).mbufs
+          → (all_of w (cond b (x ∷ filter p xs) (filter p xs))).mbufs ≤ (all_of w (x ∷ xs)).mbufs
       go true le = omega arith
       go false le = omega arith
 
-  pub mbufs-map : (f : X → X) → ((x : X) → (w (f x)).mbufs ≡ (w x).mbufs) → (xs : List X) → (all_of w (map f xs)).mbufs ≡ (all_of w xs).mbufs
+  pub mbufs-map : (f : X → X) → ((x : X) → (w (f x)).mbufs ≡ (w x).mbufs) → (xs : List X)
+      → (all_of w (map f xs)).mbufs ≡ (all_of w xs).mbufs
   mbufs-map f same [] = refl
   mbufs-map f same (x ∷ xs) = let here = same x in let rest = mbufs-map f same xs in omega arith
 
   -- one that is found and the others
-  mbufs-without : (p : X → Bool) (xs : List X) (x : X) → find p xs ≡ Some x → (all_of w (filter (λ y. not (p y)) xs)).mbufs + (w x).mbufs ≤ (all_of w xs).mbufs
+  mbufs-without : (p : X → Bool) (xs : List X) (x : X) → find p xs ≡ Some x
+      → (all_of w (filter (λ y. not (p y)) xs)).mbufs + (w x).mbufs ≤ (all_of w xs).mbufs
   mbufs-without p [] x e = absurd (none-some x e)
   mbufs-without p (y ∷ ys) x e = go (p y) (mbufs-without p ys x) e
     where
@@ -107,35 +116,47 @@ module _ {X : Type 0} (w : X → Weight) where
       fewer [] = omega arith
       fewer (z ∷ zs) = split (p z) (fewer zs)
         where
-          split : (b : Bool) → (all_of w (filter (λ y. not (p y)) zs)).mbufs ≤ (all_of w zs).mbufs → (all_of w (cond (not b) (z ∷ filter (λ y. not (p y)) zs) (filter (λ y. not (p y)) zs))).mbufs ≤ (all_of w (z ∷ zs)).mbufs
+          split : (b : Bool) → (all_of w (filter (λ y. not (p y)) zs)).mbufs ≤ (all_of w zs).mbufs
+              → (all_of w (cond (not b) (z ∷ filter (λ y. not (p y)) zs) (filter (λ y. not (p y)) zs))).mbufs
+              ≤ (all_of w (z ∷ zs)).mbufs
           split true le = omega arith
           split false le = omega arith
 
-      go : (b : Bool) → (find p ys ≡ Some x → (all_of w (filter (λ y. not (p y)) ys)).mbufs + (w x).mbufs ≤ (all_of w ys).mbufs) → cond b (Some y) (find p ys) ≡ Some x
-          → (all_of w (cond (not b) (y ∷ filter (λ y. not (p y)) ys) (filter (λ y. not (p y)) ys))).mbufs + (w x).mbufs ≤ (all_of w (y ∷ ys)).mbufs
-      go true rest e = let same : (w y).mbufs ≡ (w x).mbufs = ap (λ z. (w z).mbufs) (same_Some y x e) in let le = fewer ys in omega arith
+      go : (b : Bool) → (find p ys ≡ Some x
+          → (all_of w (filter (λ y. not (p y)) ys)).mbufs + (w x).mbufs
+          ≤ (all_of w ys).mbufs) → cond b (Some y) (find p ys) ≡ Some x
+          → (all_of w (cond (not b) (y ∷ filter (λ y. not (p y)) ys) (filter (λ y. not (p y)) ys))).mbufs + (w x).mbufs
+          ≤ (all_of w (y ∷ ys)).mbufs
+      go true rest e = let same : (w y).mbufs ≡ (w x).mbufs = ap (λ z. (w z).mbufs) (same_Some y x e) in
+          let le = fewer ys in omega arith
       go false rest e = let le = rest e in omega arith
 
-  unchanged : (p : X → Bool) (f : X → X) (xs : List X) → count_by p xs ≡ 0 → (all_of w (map (λ x. cond (p x) (f x) x) xs)).mbufs ≡ (all_of w xs).mbufs
+  unchanged : (p : X → Bool) (f : X → X) (xs : List X) → count_by p xs ≡ 0
+      → (all_of w (map (λ x. cond (p x) (f x) x) xs)).mbufs ≡ (all_of w xs).mbufs
   unchanged p f [] e = refl
   unchanged p f (x ∷ xs) e = go (p x) refl (unchanged p f xs) (count_cons p x xs)
     where
-      go : (b : Bool) → p x ≡ b → (count_by p xs ≡ 0 → (all_of w (map (λ x. cond (p x) (f x) x) xs)).mbufs ≡ (all_of w xs).mbufs)
+      go : (b : Bool) → p x ≡ b → (count_by p xs ≡ 0
+          → (all_of w (map (λ x. cond (p x) (f x) x) xs)).mbufs ≡ (all_of w xs).mbufs)
           → count_by p (x ∷ xs) ≡ cond {A = ℕ} (p x) 1 0 + count_by p xs
-          → (w (cond b (f x) x)).mbufs + (all_of w (map (λ x. cond (p x) (f x) x) xs)).mbufs ≡ (w x).mbufs + (all_of w xs).mbufs
+          → (w (cond b (f x) x)).mbufs + (all_of w (map (λ x. cond (p x) (f x) x) xs)).mbufs
+          ≡ (w x).mbufs + (all_of w xs).mbufs
       go true t rest n = let one : cond {A = ℕ} (p x) 1 0 ≡ 1 = ap (λ b. cond {A = ℕ} b 1 0) t in absurd (omega arith)
       go false t rest n = let later = rest (omega arith) in omega arith
 
   -- One element at most changes, and has so much more then.
-  pub mbufs-changed : (p : X → Bool) (f : X → X) (k : ℕ) → ((x : X) → (w (f x)).mbufs ≤ (w x).mbufs + k) → (xs : List X) → count_by p xs ≤ 1
+  pub mbufs-changed : (p : X → Bool) (f : X → X) (k : ℕ) → ((x : X) → (w (f x)).mbufs ≤ (w x).mbufs + k) → (xs : List X)
+      → count_by p xs ≤ 1
       → (all_of w (map (λ x. cond (p x) (f x) x) xs)).mbufs ≤ (all_of w xs).mbufs + k
   mbufs-changed p f k le [] e = omega arith
   mbufs-changed p f k le (x ∷ xs) e = go (p x) refl (mbufs-changed p f k le xs) (unchanged p f xs) (count_cons p x xs)
     where
-      go : (b : Bool) → p x ≡ b → (count_by p xs ≤ 1 → (all_of w (map (λ x. cond (p x) (f x) x) xs)).mbufs ≤ (all_of w xs).mbufs + k)
+      go : (b : Bool) → p x ≡ b → (count_by p xs ≤ 1
+          → (all_of w (map (λ x. cond (p x) (f x) x) xs)).mbufs ≤ (all_of w xs).mbufs + k)
           → (count_by p xs ≡ 0 → (all_of w (map (λ x. cond (p x) (f x) x) xs)).mbufs ≡ (all_of w xs).mbufs)
           → count_by p (x ∷ xs) ≡ cond {A = ℕ} (p x) 1 0 + count_by p xs
-          → (w (cond b (f x) x)).mbufs + (all_of w (map (λ x. cond (p x) (f x) x) xs)).mbufs ≤ (w x).mbufs + (all_of w xs).mbufs + k
+          → (w (cond b (f x) x)).mbufs + (all_of w (map (λ x. cond (p x) (f x) x) xs)).mbufs
+          ≤ (w x).mbufs + (all_of w xs).mbufs + k
       go true t rest same n =
           let one : cond {A = ℕ} (p x) 1 0 ≡ 1 = ap (λ b. cond {A = ℕ} b 1 0) t in
           let later = same (omega arith) in
@@ -144,15 +165,19 @@ module _ {X : Type 0} (w : X → Weight) where
       go false t rest same n = let later = rest (omega arith) in omega arith
 
   -- The one that is found is replaced.
-  pub mbufs-replaced : (p : X → Bool) (f : X → X) (k : ℕ) → ((x : X) → (w (f x)).mbufs ≡ k) → (xs : List X) (x : X) → count_by p xs ≤ 1 → find p xs ≡ Some x
+  pub mbufs-replaced : (p : X → Bool) (f : X → X) (k : ℕ) → ((x : X) → (w (f x)).mbufs ≡ k) → (xs : List X) (x : X)
+      → count_by p xs ≤ 1 → find p xs ≡ Some x
       → (all_of w (map (λ x. cond (p x) (f x) x) xs)).mbufs + (w x).mbufs ≡ (all_of w xs).mbufs + k
   mbufs-replaced p f k is [] x c e = absurd (none-some x e)
-  mbufs-replaced p f k is (y ∷ ys) x c e = go (p y) refl (mbufs-replaced p f k is ys x) (unchanged p f ys) (count_cons p y ys) e
+  mbufs-replaced p f k is (y ∷ ys) x c e =
+      go (p y) refl (mbufs-replaced p f k is ys x) (unchanged p f ys) (count_cons p y ys) e
     where
-      go : (b : Bool) → p y ≡ b → (count_by p ys ≤ 1 → find p ys ≡ Some x → (all_of w (map (λ x. cond (p x) (f x) x) ys)).mbufs + (w x).mbufs ≡ (all_of w ys).mbufs + k)
+      go : (b : Bool) → p y ≡ b → (count_by p ys ≤ 1 → find p ys ≡ Some x
+          → (all_of w (map (λ x. cond (p x) (f x) x) ys)).mbufs + (w x).mbufs ≡ (all_of w ys).mbufs + k)
           → (count_by p ys ≡ 0 → (all_of w (map (λ x. cond (p x) (f x) x) ys)).mbufs ≡ (all_of w ys).mbufs)
           → count_by p (y ∷ ys) ≡ cond {A = ℕ} (p y) 1 0 + count_by p ys → cond b (Some y) (find p ys) ≡ Some x
-          → (w (cond b (f y) y)).mbufs + (all_of w (map (λ x. cond (p x) (f x) x) ys)).mbufs + (w x).mbufs ≡ (w y).mbufs + (all_of w ys).mbufs + k
+          → (w (cond b (f y) y)).mbufs + (all_of w (map (λ x. cond (p x) (f x) x) ys)).mbufs + (w x).mbufs
+          ≡ (w y).mbufs + (all_of w ys).mbufs + k
       go true t rest same n e =
           let one : cond {A = ℕ} (p y) 1 0 ≡ 1 = ap (λ b. cond {A = ℕ} b 1 0) t in
           let it : (w y).mbufs ≡ (w x).mbufs = ap (λ z. (w z).mbufs) (same_Some y x e) in
@@ -174,36 +199,53 @@ none_pass : {X : Type 0} (p : X → Bool) (xs : List X) → count_by p xs ≡ 0 
 none_pass p [] e = tt
 none_pass p (x ∷ xs) e = go (p x) refl (none_pass p xs) (count_cons p x xs)
   where
-    go : (b : Bool) → p x ≡ b → (count_by p xs ≡ 0 → Each (λ x. p x ≡ false) xs) → count_by p (x ∷ xs) ≡ cond {A = ℕ} (p x) 1 0 + count_by p xs → Each (λ x. p x ≡ false) (x ∷ xs)
+    go : (b : Bool) → p x ≡ b → (count_by p xs ≡ 0 → Each (λ x. p x ≡ false) xs)
+        → count_by p (x ∷ xs) ≡ cond {A = ℕ} (p x) 1 0 + count_by p xs → Each (λ x. p x ≡ false) (x ∷ xs)
     go true t rest n = let one : cond {A = ℕ} (p x) 1 0 ≡ 1 = ap (λ b. cond {A = ℕ} b 1 0) t in absurd (omega arith)
     go false t rest n = (t, rest (omega arith))
 
 -- the only one with a descriptor is the one that is found
-the_one : (fd : ℕ) (sockets : List Socket) (me : Socket) → count_by (λ (x : Socket). x.fd == fd) sockets ≤ 1 → find (λ (x : Socket). x.fd == fd) sockets ≡ Some me
+the_one : (fd : ℕ) (sockets : List Socket) (me : Socket) → count_by (λ (x : Socket). x.fd == fd) sockets ≤ 1
+    → find (λ (x : Socket). x.fd == fd) sockets ≡ Some me
     → Each {X = Socket} (λ x. (x.fd == fd) ≡ true → x ≡ me) sockets
 the_one fd [] me c e = tt
 the_one fd (x ∷ xs) me c e = go (x.fd == fd) refl (the_one fd xs me) (count_cons (λ (y : Socket). y.fd == fd) x xs) e
   where
-    go : (b : Bool) → (x.fd == fd) ≡ b → (count_by (λ (x : Socket). x.fd == fd) xs ≤ 1 → find (λ (x : Socket). x.fd == fd) xs ≡ Some me → Each {X = Socket} (λ x. (x.fd == fd) ≡ true → x ≡ me) xs)
-        → count_by (λ (y : Socket). y.fd == fd) (x ∷ xs) ≡ cond {A = ℕ} (x.fd == fd) 1 0 + count_by (λ (y : Socket). y.fd == fd) xs
-        → cond b (Some x) (find (λ (x : Socket). x.fd == fd) xs) ≡ Some me → Each {X = Socket} (λ x. (x.fd == fd) ≡ true → x ≡ me) (x ∷ xs)
+    go : (b : Bool) → (x.fd == fd) ≡ b
+        → (count_by (λ (x : Socket). x.fd == fd) xs ≤ 1 → find (λ (x : Socket). x.fd == fd) xs ≡ Some me
+        → Each {X = Socket} (λ x. (x.fd == fd) ≡ true → x ≡ me) xs)
+        → count_by (λ (y : Socket). y.fd == fd) (x ∷ xs)
+        ≡ cond {A = ℕ} (x.fd == fd) 1 0 + count_by (λ (y : Socket). y.fd == fd) xs
+        → cond b (Some x) (find (λ (x : Socket). x.fd == fd) xs) ≡ Some me
+        → Each {X = Socket} (λ x. (x.fd == fd) ≡ true → x ≡ me) (x ∷ xs)
     go true t rest n e =
-        let one : cond {A = ℕ} (x.fd == fd) 1 0 ≡ 1 = ap (λ b. cond {A = ℕ} b 1 0) t in
-        ((λ s. same_Some x me e), each-weaker (λ y f s. no (sym f ∙ s)) xs (none_pass (λ (y : Socket). y.fd == fd) xs (omega arith)))
-    go false t rest n e = ((λ s. no (sym t ∙ s)), rest (let zero_here : cond {A = ℕ} (x.fd == fd) 1 0 ≡ 0 = ap (λ b. cond {A = ℕ} b 1 0) t in omega arith) e)
+        let one : cond {A = ℕ} (x.fd == fd) 1 0 ≡ 1 = ap (λ b. cond {A = ℕ} b 1 0) t in (
+          (λ s. same_Some x me e),
+          each-weaker (λ y f s. no (sym f ∙ s)) xs
+              (none_pass (λ (y : Socket). y.fd == fd) xs (omega arith)),
+        )
+    go false t rest n e = (
+      (λ s. no (sym t ∙ s)),
+      rest (let zero_here : cond {A = ℕ} (x.fd == fd) 1 0
+          ≡ 0 = ap (λ b. cond {A = ℕ} b 1 0) t in omega arith) e,
+    )
 
 apart_all : (sockets : List Socket) → ((fd : ℕ) → count_by (λ (x : Socket). x.fd == fd) sockets ≤ 1) → Apart sockets
 apart_all [] h = tt
 apart_all (x ∷ xs) h = (
-  none_pass (λ (y : Socket). y.fd == x.fd) xs (let one : cond {A = ℕ} (x.fd == x.fd) 1 0 ≡ 1 = ap (λ b. cond {A = ℕ} b 1 0) (eq-eqb x.fd x.fd refl) in let le = h x.fd in omega (arith, count_cons (λ (y : Socket). y.fd == x.fd) x xs)),
+  none_pass (λ (y : Socket). y.fd == x.fd) xs
+      (let one : cond {A = ℕ} (x.fd == x.fd) 1 0 ≡ 1 = ap (λ b. cond {A = ℕ} b 1 0) (eq-eqb x.fd x.fd refl) in
+      let le = h x.fd in omega (arith, count_cons (λ (y : Socket). y.fd == x.fd) x xs)),
   apart_all xs (λ fd. let le = h fd in omega (arith, count_cons (λ (y : Socket). y.fd == fd) x xs)),
 )
 
-find_in : (sockets : List Socket) → Apart sockets → Each {X = Socket} (λ x. find (λ (y : Socket). y.fd == x.fd) sockets ≡ Some x) sockets
+find_in : (sockets : List Socket) → Apart sockets
+    → Each {X = Socket} (λ x. find (λ (y : Socket). y.fd == x.fd) sockets ≡ Some x) sockets
 find_in [] h = tt
 find_in (x ∷ xs) h = (
   ap (λ b. cond b (Some x) (find (λ (y : Socket). y.fd == x.fd) xs)) (eq-eqb x.fd x.fd refl),
-  each-both (λ y e f. ap (λ b. cond b (Some x) (find (λ (z : Socket). z.fd == y.fd) xs)) (turned y f) ∙ e) xs (find_in xs h.1) h.0,
+  each-both (λ y e f. ap (λ b. cond b (Some x) (find (λ (z : Socket). z.fd == y.fd) xs)) (turned y f) ∙ e) xs
+      (find_in xs h.1) h.0,
 )
   where
     turned : (y : Socket) → (y.fd == x.fd) ≡ false → (x.fd == y.fd) ≡ false
@@ -257,7 +299,8 @@ apart_some None = tt
 apart_some (Some x) = (tt, tt)
 
 -- those who hear a datagram are open sockets, no two the same
-hearers_in : (s : State) (destination : ℕ) (q : LookupKey) → ((fd : ℕ) → count_by (λ (x : Socket). x.fd == fd) s.sockets ≤ 1)
+hearers_in : (s : State) (destination : ℕ) (q : LookupKey)
+    → ((fd : ℕ) → count_by (λ (x : Socket). x.fd == fd) s.sockets ≤ 1)
     → Each (AreIn s) (Arrival.hearers s destination q) × Apart (Arrival.hearers s destination q)
 hearers_in s destination q distinct = go (Arrival.is_broadcast s.config destination)
   where
@@ -267,10 +310,16 @@ hearers_in s destination q distinct = go (Arrival.is_broadcast s.config destinat
     found : Each (AreIn s) s.sockets
     found = find_in s.sockets all
 
-    go : (b : Bool) → Each (AreIn s) (cond b (receivers q s.sockets) (option_to_list (best q s.sockets))) × Apart (cond b (receivers q s.sockets) (option_to_list (best q s.sockets)))
-    go true = (each_up_to (AreIn s) _ _ (each-filter (AreIn s) (matches q) s.sockets found), apart_up_to _ _ (apart_filter (matches q) s.sockets all))
+    go : (b : Bool) → Each (AreIn s) (cond b (receivers q s.sockets) (option_to_list (best q s.sockets)))
+        × Apart (cond b (receivers q s.sockets) (option_to_list (best q s.sockets)))
+    go true = (
+      each_up_to (AreIn s) _ _ (each-filter (AreIn s) (matches q) s.sockets found),
+      apart_up_to _ _ (apart_filter (matches q) s.sockets all),
+    )
     go false = (
-      each_some (AreIn s) (best q s.sockets) (some_or (AreIn s) _ _ (some_found (AreIn s) _ s.sockets found) (some_or (AreIn s) _ _ (some_found (AreIn s) _ s.sockets found) (some_found (AreIn s) _ s.sockets found))),
+      each_some (AreIn s) (best q s.sockets)
+          (some_or (AreIn s) _ _ (some_found (AreIn s) _ s.sockets found)
+          (some_or (AreIn s) _ _ (some_found (AreIn s) _ s.sockets found) (some_found (AreIn s) _ s.sockets found))),
       apart_some (best q s.sockets),
     )
 
@@ -315,7 +364,8 @@ module _ (c : Config) where
   }
 
   -- the counters are no part of it
-  pub same_rest : (h : ℕ) (old new : State) → new.config ≡ old.config → new.sockets ≡ old.sockets → new.unfinished ≡ old.unfinished → new.output ≡ old.output
+  pub same_rest : (h : ℕ) (old new : State) → new.config ≡ old.config → new.sockets ≡ old.sockets
+      → new.unfinished ≡ old.unfinished → new.output ≡ old.output
       → new.last_port ≡ old.last_port → new.next_id ≡ old.next_id → Good c h old → Good c h new
   same_rest h old new ec es eu eo ep ei good = record {
     config = ec ∙ good.config;
@@ -332,7 +382,8 @@ module _ (c : Config) where
   }
 
   pub good_ends : (g h : ℕ) (s new : State) (why : Why) → g ≤ h → Good c h s → new ≡ ends why s → Good c g new
-  good_ends g h s new why le good e = subst (Good c g) (sym e) (same_rest g s (ends why s) refl refl refl refl refl refl (less_held g h s le good))
+  good_ends g h s new why le good e =
+      subst (Good c g) (sym e) (same_rest g s (ends why s) refl refl refl refl refl refl (less_held g h s le good))
 
   pub good_reclaimed : (h : ℕ) (s : State) → Good c h s → Good c h (reclaimed s)
   good_reclaimed h s good = record {
@@ -370,30 +421,52 @@ module _ (c : Config) where
           mbufs = omega (arith, good.mbufs);
         }
 
-    pub good_has_buffers : Good c held.mbufs old → HasBuffers exact_ledger old held need true new → Good c (held.mbufs + need.mbufs) new × ((new ≡ old) ⊎ (new ≡ reclaimed old))
-    good_has_buffers good (inl (h, e)) = (subst (Good c (held.mbufs + need.mbufs)) (sym e) (room_left old good h), inl e)
-    good_has_buffers good (inr (h, e, again)) = (room_left new (subst (Good c held.mbufs) (sym e) (good_reclaimed held.mbufs old good)) again, inr e)
+    pub good_has_buffers : Good c held.mbufs old → HasBuffers exact_ledger old held need true new
+        → Good c (held.mbufs + need.mbufs) new × ((new ≡ old) ⊎ (new ≡ reclaimed old))
+    good_has_buffers good (inl (h, e)) =
+        (subst (Good c (held.mbufs + need.mbufs)) (sym e) (room_left old good h), inl e)
+    good_has_buffers good (inr (h, e, again)) =
+        (room_left new (subst (Good c held.mbufs) (sym e) (good_reclaimed held.mbufs old good)) again, inr e)
 
     pub good_lacks : Good c held.mbufs old → HasBuffers exact_ledger old held need false new → Good c held.mbufs new
     good_lacks good (h, e, again) = subst (Good c held.mbufs) (sym e) (good_reclaimed held.mbufs old good)
 
-  good_tests : (old : State) (held : Weight) (n : ℕ) (new : State) (Then : State → Type 0) (g : ℕ) → g ≤ held.mbufs → Good c held.mbufs old
-      → ((mid : State) → Good c (held.mbufs + n) mid → ((mid ≡ old) ⊎ (mid ≡ reclaimed old)) → Then mid → Good c g new) → Arrival.Tests exact_ledger old held n new Then → Good c g new
+  good_tests : (old : State) (held : Weight) (n : ℕ) (new : State) (Then : State → Type 0) (g : ℕ) → g ≤ held.mbufs
+      → Good c held.mbufs old
+      → ((mid : State) → Good c (held.mbufs + n) mid → ((mid ≡ old) ⊎ (mid ≡ reclaimed old)) → Then mid → Good c g new)
+      → Arrival.Tests exact_ledger old held n new Then → Good c g new
   good_tests old held n new Then g le good goes t = go t.answer refl t.has_buffers
     where
       go : (b : Bool) → t.answer ≡ b → HasBuffers exact_ledger old held (need_mbufs n) b t.mid → Good c g new
-      go true e a = let at = good_has_buffers old t.mid held (need_mbufs n) good a in goes t.mid at.0 at.1 (t.goes_on.yes e)
-      go false e a = good_ends g held.mbufs t.mid new NoBufs le (good_lacks old t.mid held (need_mbufs n) good a) (t.goes_on.no e)
+      go true e a = let at = good_has_buffers old t.mid held (need_mbufs n) good a in
+          goes t.mid at.0 at.1 (t.goes_on.yes e)
+      go false e a =
+          good_ends g held.mbufs t.mid new NoBufs le (good_lacks old t.mid held (need_mbufs n) good a) (t.goes_on.no e)
 
   -- ---- what an arrival changes
 
-  pub good_queued : (h fd : ℕ) (d : Datagram) (me : Socket) (s : State) → Good c (h + d.item.weight.mbufs) s → IsQueued c d → socket_at fd s ≡ Some me
-      → 16 + length d.item.bytes + bytes_queued me.queue ≤ 41600 → length me.queue + 1 ≤ 325 → Good c h (change_socket fd (Arrival.queued d) s)
+  pub good_queued : (h fd : ℕ) (d : Datagram) (me : Socket) (s : State) → Good c (h + d.item.weight.mbufs) s
+      → IsQueued c d → socket_at fd s ≡ Some me
+      → 16 + length d.item.bytes + bytes_queued me.queue ≤ 41600 → length me.queue + 1 ≤ 325
+      → Good c h (change_socket fd (Arrival.queued d) s)
   good_queued h fd d me s good is at room more = record {
     config = good.config;
-    sockets = each-map_to (IsSocket c) _ (λ socket g. g) s.sockets (each-both (λ socket g one. go socket g (socket.fd == fd) refl one) s.sockets good.sockets (the_one fd s.sockets me (good.distinct fd) at));
-    few = omega (arith, good.few, length-map s.sockets (λ (socket : Socket). cond (socket.fd == fd) (Arrival.queued d socket) socket));
-    distinct = λ k. let same = count-map (λ (socket : Socket). socket.fd == k) (λ socket. cond (socket.fd == fd) (Arrival.queued d socket) socket) (λ socket. fd_same socket k (socket.fd == fd)) s.sockets in omega (arith, good.distinct k);
+    sockets =
+        each-map_to (IsSocket c) _ (λ socket g. g) s.sockets
+        (each-both (λ socket g one. go socket g (socket.fd == fd) refl one) s.sockets good.sockets
+        (the_one fd s.sockets me (good.distinct fd) at));
+    few =
+        omega (
+          arith,
+          good.few,
+          length-map s.sockets
+              (λ (socket : Socket). cond (socket.fd == fd) (Arrival.queued d socket) socket),
+        );
+    distinct =
+        λ k. let same =
+        count-map (λ (socket : Socket). socket.fd == k)
+        (λ socket. cond (socket.fd == fd) (Arrival.queued d socket) socket)
+        (λ socket. fd_same socket k (socket.fd == fd)) s.sockets in omega (arith, good.distinct k);
     unfinished = good.unfinished;
     keys = good.keys;
     output = good.output;
@@ -401,16 +474,20 @@ module _ (c : Config) where
     last_port = good.last_port;
     next_id = good.next_id;
     mbufs =
-        let more = mbufs-changed weight_of_socket (λ (socket : Socket). socket.fd == fd) (Arrival.queued d) d.item.weight.mbufs
-        (λ socket. let app = mbufs-append (λ (x : Datagram). x.item.weight) socket.queue (d ∷ []) in omega arith) s.sockets (good.distinct fd) in
+        let more =
+        mbufs-changed weight_of_socket (λ (socket : Socket). socket.fd == fd) (Arrival.queued d) d.item.weight.mbufs
+        (λ socket. let app = mbufs-append (λ (x : Datagram). x.item.weight) socket.queue (d ∷ []) in omega arith)
+        s.sockets (good.distinct fd) in
         omega (arith, good.mbufs);
   }
     where
-      fd_same : (socket : Socket) (k : ℕ) (b : Bool) → ((cond b (Arrival.queued d socket) socket).fd == k) ≡ (socket.fd == k)
+      fd_same : (socket : Socket) (k : ℕ) (b : Bool)
+          → ((cond b (Arrival.queued d socket) socket).fd == k) ≡ (socket.fd == k)
       fd_same socket k true = refl
       fd_same socket k false = refl
 
-      go : (socket : Socket) → IsSocket c socket → (b : Bool) → (socket.fd == fd) ≡ b → ((socket.fd == fd) ≡ true → socket ≡ me) → IsSocket c (cond b (Arrival.queued d socket) socket)
+      go : (socket : Socket) → IsSocket c socket → (b : Bool) → (socket.fd == fd) ≡ b
+          → ((socket.fd == fd) ≡ true → socket ≡ me) → IsSocket c (cond b (Arrival.queued d socket) socket)
       go socket g true e one =
           let same : socket.queue ≡ me.queue = ap (λ (x : Socket). x.queue) (one e) in
           let bytes_same : bytes_queued socket.queue ≡ bytes_queued me.queue = ap bytes_queued same in
@@ -423,7 +500,8 @@ module _ (c : Config) where
             peer = g.peer;
             unbound = g.unbound;
             queue = each-append (IsQueued c) socket.queue (d ∷ []) g.queue (is, tt);
-            queued_bytes = omega (arith, sum_by-append (λ (x : Datagram). 16 + length x.item.bytes) socket.queue (d ∷ []));
+            queued_bytes =
+                omega (arith, sum_by-append (λ (x : Datagram). 16 + length x.item.bytes) socket.queue (d ∷ []));
             queued = omega (arith, length-append socket.queue (d ∷ []));
           }
       go socket g false e one = g
@@ -431,32 +509,45 @@ module _ (c : Config) where
   key_same : (k k' : Key) (u : Unfinished) → is_key k' (begun k) ≡ true → is_key k' u ≡ is_key k u
   key_same k k' u e = ap (λ (x : Key). is_key x u) (sym ((whole_key k' (begun k)).0 e))
 
-  pub good_begins : (h : ℕ) (k : Key) (s : State) → Good c (h + 1) s → unfinished_at k s ≡ None → Good c h (begin_unfinished k s)
+  pub good_begins : (h : ℕ) (k : Key) (s : State) → Good c (h + 1) s → unfinished_at k s ≡ None
+      → Good c h (begin_unfinished k s)
   good_begins h k s good none = record {
     config = good.config;
     sockets = good.sockets;
     few = good.few;
     distinct = good.distinct;
-    unfinished = each-append (IsWaiting c) s.unfinished (begun k ∷ []) good.unfinished (record { some_ticks = omega arith; ticks = omega arith; bytes = λ offset held e. absurd (none-some held e) }, tt);
+    unfinished =
+        each-append (IsWaiting c) s.unfinished (begun k ∷ []) good.unfinished (
+          record { some_ticks = omega arith; ticks = omega arith; bytes = λ offset held e. absurd (none-some held e) },
+          tt,
+        );
     keys = λ k'. one k' (is_key k' (begun k)) refl;
     output = good.output;
     short = good.short;
     last_port = good.last_port;
     next_id = good.next_id;
-    mbufs = let app = mbufs-append weight_of_unfinished s.unfinished (begun k ∷ []) in let none' = pieces_none in omega (arith, good.mbufs);
+    mbufs = let app = mbufs-append weight_of_unfinished s.unfinished (begun k ∷ []) in let none' = pieces_none in
+        omega (arith, good.mbufs);
   }
     where
       one : (k' : Key) (b : Bool) → is_key k' (begun k) ≡ b → count_by (is_key k') (s.unfinished ++ begun k ∷ []) ≤ 1
       one k' true e =
-          let same : count_by (is_key k') s.unfinished ≡ count_by (is_key k) s.unfinished = count-same (is_key k') (is_key k) (λ u. key_same k k' u e) s.unfinished in
+          let same : count_by (is_key k') s.unfinished ≡ count_by (is_key k) s.unfinished =
+          count-same (is_key k') (is_key k) (λ u. key_same k k' u e) s.unfinished in
           let zero_before = none_found (is_key k) s.unfinished none in
           let here : cond {A = ℕ} (is_key k' (begun k)) 1 0 ≡ 1 = ap (λ b. cond {A = ℕ} b 1 0) e in
           omega (arith, count-append (is_key k') s.unfinished (begun k ∷ []), count_cons (is_key k') (begun k) [])
       one k' false e =
           let here : cond {A = ℕ} (is_key k' (begun k)) 1 0 ≡ 0 = ap (λ b. cond {A = ℕ} b 1 0) e in
-          omega (arith, count-append (is_key k') s.unfinished (begun k ∷ []), count_cons (is_key k') (begun k) [], good.keys k')
+          omega (
+            arith,
+            count-append (is_key k') s.unfinished (begun k ∷ []),
+            count_cons (is_key k') (begun k) [],
+            good.keys k',
+          )
 
-  pub good_set : (h more : ℕ) (k : Key) (u : Unfinished) (bytes : Map) (s : State) → Good c (h + more) s → unfinished_at k s ≡ Some u → IsMap c bytes
+  pub good_set : (h more : ℕ) (k : Key) (u : Unfinished) (bytes : Map) (s : State) → Good c (h + more) s
+      → unfinished_at k s ≡ Some u → IsMap c bytes
       → (weight_of_pieces bytes).mbufs ≤ (weight_of_pieces u.bytes).mbufs + more → Good c h (set_bytes k bytes s)
   good_set h more k u bytes s good at is le = record {
     config = good.config;
@@ -464,13 +555,18 @@ module _ (c : Config) where
     few = good.few;
     distinct = good.distinct;
     unfinished = each-map (IsWaiting c) _ (λ x g. go x g (is_key k x)) s.unfinished good.unfinished;
-    keys = λ k'. let same = count-map (is_key k') (λ (x : Unfinished). cond (is_key k x) (record x { bytes = bytes }) x) (λ x. key_kept k' x (is_key k x)) s.unfinished in omega (arith, good.keys k');
+    keys =
+        λ k'. let same =
+        count-map (is_key k') (λ (x : Unfinished). cond (is_key k x) (record x { bytes = bytes }) x)
+        (λ x. key_kept k' x (is_key k x)) s.unfinished in omega (arith, good.keys k');
     output = good.output;
     short = good.short;
     last_port = good.last_port;
     next_id = good.next_id;
     mbufs =
-        let now = mbufs-replaced weight_of_unfinished (is_key k) (λ x. record x { bytes = bytes }) (1 + (weight_of_pieces bytes).mbufs) (λ x. refl) s.unfinished u (good.keys k) at in
+        let now =
+        mbufs-replaced weight_of_unfinished (is_key k) (λ x. record x { bytes = bytes })
+        (1 + (weight_of_pieces bytes).mbufs) (λ x. refl) s.unfinished u (good.keys k) at in
         omega (arith, good.mbufs, le);
   }
     where
@@ -478,7 +574,8 @@ module _ (c : Config) where
       go x g true = record { some_ticks = g.some_ticks; ticks = g.ticks; bytes = is }
       go x g false = g
 
-      key_kept : (k' : Key) (x : Unfinished) (b : Bool) → is_key k' (cond b (record x { bytes = bytes }) x) ≡ is_key k' x
+      key_kept : (k' : Key) (x : Unfinished) (b : Bool)
+          → is_key k' (cond b (record x { bytes = bytes }) x) ≡ is_key k' x
       key_kept k' x true = refl
       key_kept k' x false = refl
 
@@ -490,7 +587,8 @@ module _ (c : Config) where
     few = good.few;
     distinct = good.distinct;
     unfinished = each-filter (IsWaiting c) (λ x. not (is_key k x)) s.unfinished good.unfinished;
-    keys = λ k'. let fewer = count-filter (is_key k') (λ x. not (is_key k x)) s.unfinished in omega (arith, good.keys k');
+    keys = λ k'. let fewer = count-filter (is_key k') (λ x. not (is_key k x)) s.unfinished in
+        omega (arith, good.keys k');
     output = good.output;
     short = good.short;
     last_port = good.last_port;
@@ -500,7 +598,8 @@ module _ (c : Config) where
 
   -- ---- who receives
 
-  still_there : (old mid : State) (fd : ℕ) (me : Socket) → ((mid ≡ old) ⊎ (mid ≡ reclaimed old)) → socket_at fd old ≡ Some me → socket_at fd mid ≡ Some me
+  still_there : (old mid : State) (fd : ℕ) (me : Socket) → ((mid ≡ old) ⊎ (mid ≡ reclaimed old))
+      → socket_at fd old ≡ Some me → socket_at fd mid ≡ Some me
   still_there old mid fd me (inl is) e = ap (socket_at fd) is ∙ e
   still_there old mid fd me (inr is) e = ap (socket_at fd) is ∙ e
 
@@ -510,73 +609,101 @@ module _ (c : Config) where
   memory_least (d ∷ ds) h =
       let weight : d.item.weight.mbufs ≡ 1 + h.0.own.mbufs = ap (λ (w : Weight). w.mbufs) h.0.with_address in
       let rest = memory_least ds h.1 in
-      omega (arith, sum_by-cons (λ (x : Datagram). 128 * x.item.weight.mbufs + 2048 * length x.item.weight.bag) d ds, h.0.carries.covers.some)
+      omega (
+        arith,
+        sum_by-cons (λ (x : Datagram). 128 * x.item.weight.mbufs + 2048 * length x.item.weight.bag) d ds,
+        h.0.carries.covers.some,
+      )
 
   -- what comes into one queue leaves the other sockets
   others_stay : (held : Weight) (sender : Addr) (item : Item) (to : Socket) (old after : State)
-      → Arrival.Tests exact_ledger old (held ⊕ item.weight) item.weight.mbufs after (λ mid. Arrival.Appends exact_ledger (held ⊕ item.weight) sender item to mid after)
+      → Arrival.Tests exact_ledger old (held ⊕ item.weight) item.weight.mbufs after
+      (λ mid. Arrival.Appends exact_ledger (held ⊕ item.weight) sender item to mid after)
       → (y : Socket) → (y.fd == to.fd) ≡ false → socket_at y.fd old ≡ Some y → socket_at y.fd after ≡ Some y
-  others_stay held sender item to old after t y other in_old = tested old (held ⊕ item.weight) item.weight.mbufs _ t (λ mid a in_mid. appended mid a in_mid) in_old
+  others_stay held sender item to old after t y other in_old =
+      tested old (held ⊕ item.weight) item.weight.mbufs _ t (λ mid a in_mid. appended mid a in_mid) in_old
     where
-      had_buffers : (s new : State) (h : Weight) (n : Need) (b : Bool) → HasBuffers exact_ledger s h n b new → socket_at y.fd s ≡ Some y → socket_at y.fd new ≡ Some y
+      had_buffers : (s new : State) (h : Weight) (n : Need) (b : Bool) → HasBuffers exact_ledger s h n b new
+          → socket_at y.fd s ≡ Some y → socket_at y.fd new ≡ Some y
       had_buffers s new h n true (inl a) e = ap (socket_at y.fd) a.1 ∙ e
       had_buffers s new h n true (inr a) e = ap (socket_at y.fd) a.1 ∙ e
       had_buffers s new h n false a e = ap (socket_at y.fd) a.1 ∙ e
 
-      tested : (s : State) (h : Weight) (n : ℕ) (Then : State → Type 0) → Arrival.Tests exact_ledger s h n after Then → ((mid : State) → Then mid → socket_at y.fd mid ≡ Some y → socket_at y.fd after ≡ Some y)
+      tested : (s : State) (h : Weight) (n : ℕ) (Then : State → Type 0) → Arrival.Tests exact_ledger s h n after Then
+          → ((mid : State) → Then mid → socket_at y.fd mid ≡ Some y → socket_at y.fd after ≡ Some y)
           → socket_at y.fd s ≡ Some y → socket_at y.fd after ≡ Some y
       tested s h n Then t goes e =
           let at = had_buffers s t.mid h (need_mbufs n) t.answer t.has_buffers e in
           by_choice t.goes_on (λ p r. goes t.mid r at) (λ p r. ap (socket_at y.fd) r ∙ at)
 
-      queued_at : (d : Datagram) (s : State) → after ≡ change_socket to.fd (Arrival.queued d) s → socket_at y.fd s ≡ Some y → socket_at y.fd after ≡ Some y
+      queued_at : (d : Datagram) (s : State) → after ≡ change_socket to.fd (Arrival.queued d) s
+          → socket_at y.fd s ≡ Some y → socket_at y.fd after ≡ Some y
       queued_at d s e at =
           ap (socket_at y.fd) e
           ∙ find-changed y.fd to.fd (Arrival.queued d) s.sockets y (λ x. refl) at
           ∙ ap (λ b. Some (cond b (Arrival.queued d y) y)) other
 
-      appended : (mid : State) → Arrival.Appends exact_ledger (held ⊕ item.weight) sender item to mid after → socket_at y.fd mid ≡ Some y → socket_at y.fd after ≡ Some y
+      appended : (mid : State) → Arrival.Appends exact_ledger (held ⊕ item.weight) sender item to mid after
+          → socket_at y.fd mid ≡ Some y → socket_at y.fd after ≡ Some y
       appended mid a at = by_choice a
           (λ p t. tested mid (held ⊕ item.weight ⊕ item.weight) 1 _ t (λ s r in_s. queued_at _ s r in_s) at)
           (λ p r. ap (socket_at y.fd) r ∙ at)
 
   -- ---- an arrival; the step holds the item beside `held`, and afterwards `held` alone
 
-  good_appends : (held : Weight) (sender : Addr) (item : Item) (to : Socket) (old new : State) → Good c (held.mbufs + item.weight.mbufs) old → Carries c item.weight (length item.bytes) → socket_at to.fd old ≡ Some to
+  good_appends : (held : Weight) (sender : Addr) (item : Item) (to : Socket) (old new : State)
+      → Good c (held.mbufs + item.weight.mbufs) old → Carries c item.weight (length item.bytes)
+      → socket_at to.fd old ≡ Some to
       → Arrival.Appends exact_ledger held sender item to old new → Good c held.mbufs new
   good_appends held sender item to old new good is there h = by_choice h
-      (λ e t. good_tests old (held ⊕ item.weight) 1 new _ held.mbufs (omega arith) good (λ mid at from r. subst (Good c held.mbufs) (sym r) (fits mid at (still_there old mid to.fd to from there) e)) t)
+      (λ e t. good_tests old (held ⊕ item.weight) 1 new _ held.mbufs (omega arith) good
+      (λ mid at from r. subst (Good c held.mbufs) (sym r) (fits mid at (still_there old mid to.fd to from there) e))
+      t)
       (λ e t. good_ends held.mbufs (held.mbufs + item.weight.mbufs) old new UdpFullSocket (omega arith) good t)
     where
       d : Datagram
       d = record { sender = sender; item = record item { weight = mbuf ⊕ item.weight } }
 
-      fits : (mid : State) → Good c (held.mbufs + item.weight.mbufs + 1) mid → socket_at to.fd mid ≡ Some to → Fits.fits to.queue (length item.bytes) ≡ true → Good c held.mbufs (change_socket to.fd (Arrival.queued (record { sender = sender; item = record item { weight = mbuf ⊕ item.weight } })) mid)
+      fits : (mid : State) → Good c (held.mbufs + item.weight.mbufs + 1) mid → socket_at to.fd mid ≡ Some to
+          → Fits.fits to.queue (length item.bytes) ≡ true
+          → Good c held.mbufs (change_socket to.fd
+          (Arrival.queued (record { sender = sender; item = record item { weight = mbuf ⊕ item.weight } })) mid)
       fits mid at found e =
           let limits = and_parts _ _ e in
           let memory = leb-true _ _ limits.1 in
           let me_is = (each-find (IsSocket c) (λ socket. socket.fd == to.fd) mid.sockets to at.sockets found).0 in
           let least = memory_least to.queue me_is.queue in
-          good_queued held.mbufs to.fd (record { sender = sender; item = record item { weight = mbuf ⊕ item.weight } }) to mid
+          good_queued held.mbufs to.fd (record { sender = sender; item = record item { weight = mbuf ⊕ item.weight } })
+          to mid
           (less_held (held.mbufs + (1 + item.weight.mbufs)) (held.mbufs + item.weight.mbufs + 1) mid (omega arith) at)
           (record { own = item.weight; with_address = refl; carries = is }) found (leb-true _ _ limits.0) (omega arith)
 
-  good_delivers : (held : Weight) (sender : Addr) (item : Item) (tos : List Socket) (old new : State) → Good c (held.mbufs + item.weight.mbufs) old → Carries c item.weight (length item.bytes)
-      → Each (AreIn old) tos → Apart tos → Arrival.Delivers exact_ledger held sender item tos old new → Good c held.mbufs new
+  good_delivers : (held : Weight) (sender : Addr) (item : Item) (tos : List Socket) (old new : State)
+      → Good c (held.mbufs + item.weight.mbufs) old → Carries c item.weight (length item.bytes)
+      → Each (AreIn old) tos → Apart tos → Arrival.Delivers exact_ledger held sender item tos old new
+      → Good c held.mbufs new
   good_delivers held sender item [] old new good is there apart h = absurd h
-  good_delivers held sender item (last ∷ []) old new good is there apart h = good_appends held sender item last old new good is there.0 h
+  good_delivers held sender item (last ∷ []) old new good is there apart h =
+      good_appends held sender item last old new good is there.0 h
   good_delivers held sender item (to ∷ next ∷ more) old new good is there apart (after, tests, later) =
       good_delivers held sender item (next ∷ more) after new
       (good_tests old (held ⊕ item.weight) item.weight.mbufs after _ (held.mbufs + item.weight.mbufs) (omega arith) good
-      (λ mid at from a. good_appends (held ⊕ item.weight) sender item to mid after at is (still_there old mid to.fd to from there.0) a) tests) is
-      (each-both (λ y in_old other. others_stay held sender item to old after tests y other in_old) (next ∷ more) there.1 apart.0) apart.1 later
+      (λ mid at from a. good_appends (held ⊕ item.weight) sender item to mid after at is
+      (still_there old mid to.fd to from there.0) a) tests) is
+      (each-both (λ y in_old other. others_stay held sender item to old after tests y other in_old) (next ∷ more)
+      there.1 apart.0) apart.1 later
 
-  good_goes : (held : Weight) (sender : Addr) (item : Item) (destination : ℕ) (tos : List Socket) (old new : State) → Good c (held.mbufs + item.weight.mbufs) old → Carries c item.weight (length item.bytes)
-      → Each (AreIn old) tos → Apart tos → Arrival.GoesTo exact_ledger held sender item destination tos old new → Good c held.mbufs new
-  good_goes held sender item destination [] old new good is there apart h = good_ends held.mbufs (held.mbufs + item.weight.mbufs) old new _ (omega arith) good h
-  good_goes held sender item destination (to ∷ more) old new good is there apart h = good_delivers held sender item (to ∷ more) old new good is there apart h
+  good_goes : (held : Weight) (sender : Addr) (item : Item) (destination : ℕ) (tos : List Socket) (old new : State)
+      → Good c (held.mbufs + item.weight.mbufs) old → Carries c item.weight (length item.bytes)
+      → Each (AreIn old) tos → Apart tos → Arrival.GoesTo exact_ledger held sender item destination tos old new
+      → Good c held.mbufs new
+  good_goes held sender item destination [] old new good is there apart h =
+      good_ends held.mbufs (held.mbufs + item.weight.mbufs) old new _ (omega arith) good h
+  good_goes held sender item destination (to ∷ more) old new good is there apart h =
+      good_delivers held sender item (to ∷ more) old new good is there apart h
 
-  good_whole : (held : Weight) (source destination protocol : ℕ) (item : Item) (old new : State) → Good c (held.mbufs + item.weight.mbufs) old → Carries c item.weight (length item.bytes)
+  good_whole : (held : Weight) (source destination protocol : ℕ) (item : Item) (old new : State)
+      → Good c (held.mbufs + item.weight.mbufs) old → Carries c item.weight (length item.bytes)
       → Arrival.WholeArrives exact_ledger held source destination protocol item old new → Good c held.mbufs new
   good_whole held source destination protocol item old new good is h = by_choice h
       (λ e x. by_case x
@@ -584,19 +711,25 @@ module _ (c : Config) where
       let sender : Addr = record { ip = source; port = u16_at 0 item.bytes } in
       let q : LookupKey = record { local = Some destination; port = Some (u16_at 2 item.bytes); peer = Some sender } in
       let heard = hearers_in old destination q (good.distinct) in
-      good_goes held sender (record item { bytes = udp_bytes item.bytes }) destination (Arrival.hearers old destination q) old new good shorter heard.0 heard.1 g)
+      good_goes held sender (record item { bytes = udp_bytes item.bytes }) destination
+      (Arrival.hearers old destination q) old new good shorter heard.0 heard.1 g)
       (λ why e g. good_ends held.mbufs (held.mbufs + item.weight.mbufs) old new why (omega arith) good g))
       (λ e g. good_ends held.mbufs (held.mbufs + item.weight.mbufs) old new _ (omega arith) good g)
     where
       shorter : Carries c item.weight (length (udp_bytes item.bytes))
       shorter = carries_less c item.weight (length (udp_bytes item.bytes)) (length item.bytes)
-          (omega (arith, length-drop 8 (take (u16_at 4 item.bytes) item.bytes), length-take (u16_at 4 item.bytes) item.bytes)) is
+          (omega (
+            arith,
+            length-drop 8 (take (u16_at 4 item.bytes) item.bytes),
+            length-take (u16_at 4 item.bytes) item.bytes,
+          )) is
 
   pub record FragmentFits (f : Fragment) : Type 0 where
     pub carries : Carries c f.weight (length f.bytes)
     pub inside : fragment_end f ≤ 65515
 
-  good_lays : (held : Weight) (k : Key) (f : Fragment) (u : Unfinished) (old new : State) → Good c (held.mbufs + f.weight.mbufs) old → unfinished_at k old ≡ Some u → FragmentFits f
+  good_lays : (held : Weight) (k : Key) (f : Fragment) (u : Unfinished) (old new : State)
+      → Good c (held.mbufs + f.weight.mbufs) old → unfinished_at k old ≡ Some u → FragmentFits f
       → Arrival.Lays exact_ledger held k f u old new → Good c held.mbufs new
   good_lays held k f u old new good at fits h = by_choice h
       (λ e g. good_ends held.mbufs (held.mbufs + f.weight.mbufs) old new _ (omega arith) good g)
@@ -617,25 +750,41 @@ module _ (c : Config) where
       go : Arrival.Settles exact_ledger held k (overlay u.bytes f) old new → Good c held.mbufs new
       go (inl (n, w, joined, j, arrives)) =
           let done = good_finishes (held.mbufs + f.weight.mbufs) k u old good at in
-          let less : held.mbufs + joined.mbufs ≤ held.mbufs + f.weight.mbufs + (1 + (weight_of_pieces u.bytes).mbufs) = omega (arith, j.mbufs, weighs) in
-          good_whole held k.source k.destination k.protocol (record { bytes = bytes_below (overlay u.bytes f) n; weight = joined }) _ new
-          (less_held (held.mbufs + joined.mbufs) (held.mbufs + f.weight.mbufs + (1 + (weight_of_pieces u.bytes).mbufs)) _ less done)
-          (subst (Carries c joined) (sym (length-map-range_with_len (λ offset. byte_of (overlay u.bytes f offset)) 0 n)) (record { covers = j.covers; exist = each_sub_bag (λ i. i < c.clusters) joined.bag (weight_of_pieces (overlay u.bytes f)).bag j.bag exist }))
+          let less : held.mbufs + joined.mbufs ≤ held.mbufs + f.weight.mbufs + (1 + (weight_of_pieces u.bytes).mbufs) =
+          omega (arith, j.mbufs, weighs) in
+          good_whole held k.source k.destination k.protocol
+          (record { bytes = bytes_below (overlay u.bytes f) n; weight = joined }) _ new
+          (less_held (held.mbufs + joined.mbufs) (held.mbufs + f.weight.mbufs + (1 + (weight_of_pieces u.bytes).mbufs))
+          _ less done)
+          (subst (Carries c joined) (sym (length-map-range_with_len (λ offset. byte_of (overlay u.bytes f offset)) 0 n))
+          (record {
+            covers = j.covers;
+            exist = each_sub_bag (λ i. i < c.clusters) joined.bag
+                (weight_of_pieces (overlay u.bytes f)).bag j.bag exist;
+          }))
           arrives
-      go (inr (unwhole, e)) = subst (Good c held.mbufs) (sym e) (good_set held.mbufs f.weight.mbufs k u (overlay u.bytes f) old good at laid weighs)
+      go (inr (unwhole, e)) =
+          subst (Good c held.mbufs) (sym e)
+          (good_set held.mbufs f.weight.mbufs k u (overlay u.bytes f) old good at laid weighs)
 
   key_itself : (k : Key) → is_key k (begun k) ≡ true
-  key_itself k = and_from _ _ (and_from _ _ (and_from _ _ (eq-eqb k.source k.source refl) (eq-eqb k.destination k.destination refl)) (eq-eqb k.id k.id refl)) (eq-eqb k.protocol k.protocol refl)
+  key_itself k =
+      and_from _ _ (and_from _ _ (and_from _ _ (eq-eqb k.source k.source refl)
+      (eq-eqb k.destination k.destination refl)) (eq-eqb k.id k.id refl)) (eq-eqb k.protocol k.protocol refl)
 
-  good_joins : (held : Weight) (k : Key) (f : Fragment) (old new : State) → Good c (held.mbufs + f.weight.mbufs) old → FragmentFits f → Arrival.Joins exact_ledger held k f old new → Good c held.mbufs new
+  good_joins : (held : Weight) (k : Key) (f : Fragment) (old new : State) → Good c (held.mbufs + f.weight.mbufs) old
+      → FragmentFits f → Arrival.Joins exact_ledger held k f old new → Good c held.mbufs new
   good_joins held k f old new good fits h = by_case h
       (λ e t. good_tests old (held ⊕ f.weight) 1 new _ held.mbufs (omega arith) good
       (λ mid at from l.
       let none : unfinished_at k mid ≡ None = still_none mid e from in
-      good_lays held k f (begun k) (begin_unfinished k mid) new (good_begins (held.mbufs + f.weight.mbufs) k mid at none) (find_after (is_key k) mid.unfinished (begun k) none (key_itself k)) fits l) t)
+      good_lays held k f (begun k) (begin_unfinished k mid) new
+      (good_begins (held.mbufs + f.weight.mbufs) k mid at none)
+      (find_after (is_key k) mid.unfinished (begun k) none (key_itself k)) fits l) t)
       (λ u e l. good_lays held k f u old new good e fits l)
     where
-      still_none : (mid : State) → unfinished_at k old ≡ None → ((mid ≡ old) ⊎ (mid ≡ reclaimed old)) → unfinished_at k mid ≡ None
+      still_none : (mid : State) → unfinished_at k old ≡ None → ((mid ≡ old) ⊎ (mid ≡ reclaimed old))
+          → unfinished_at k mid ≡ None
       still_none mid e (inl is) = ap (unfinished_at k) is ∙ e
       still_none mid e (inr is) = ap (unfinished_at k) is
 
@@ -647,64 +796,98 @@ module _ (c : Config) where
   pulled : (total n : ℕ) (w : Weight) → total ≡ 20 + n → Carries c w n → Carries c (Arrival.pulled_up total w) n
   pulled total n w e is = go (nat_lt 40 total) refl
     where
-      go : (b : Bool) → nat_lt 40 total ≡ b → Carries c (cond b (record w { mbufs = w.mbufs + 1 }) (record w { bag = drop 1 w.bag })) n
-      go true t = record { covers = record { some = omega arith; references = omega (arith, is.covers.references); room = omega (arith, is.covers.room, is.covers.references) }; exist = is.exist }
+      go : (b : Bool) → nat_lt 40 total ≡ b
+          → Carries c (cond b (record w { mbufs = w.mbufs + 1 }) (record w { bag = drop 1 w.bag })) n
+      go true t =
+          record {
+            covers = record {
+              some = omega arith;
+              references = omega (arith, is.covers.references);
+              room = omega (arith, is.covers.room, is.covers.references);
+            };
+            exist = is.exist;
+          }
       go false t =
           let few : total ≤ 40 = ltb-false 40 total t in
           let size = length-drop 1 w.bag in
           record {
-            covers = record { some = is.covers.some; references = omega (arith, is.covers.references); room = omega (arith, is.covers.some, is.covers.references) };
+            covers =
+                record {
+                  some = is.covers.some;
+                  references = omega (arith, is.covers.references);
+                  room = omega (arith, is.covers.some, is.covers.references);
+                };
             exist = each_drop (λ i. i < c.clusters) w.bag is.exist;
           }
 
   pulled_mbufs : (total : ℕ) (w : Weight) → (Arrival.pulled_up total w).mbufs ≤ w.mbufs + 1
   pulled_mbufs total w = go (nat_lt 40 total)
     where
-      go : (b : Bool) → (cond b (record w { mbufs = w.mbufs + 1 }) (record w { bag = drop 1 w.bag })).mbufs ≤ w.mbufs + 1
+      go : (b : Bool) → (cond b (record w { mbufs = w.mbufs + 1 }) (record w { bag = drop 1 w.bag })).mbufs
+          ≤ w.mbufs + 1
       go true = omega arith
       go false = omega arith
 
-  good_pulls : (origin : Origin) (held w : Weight) (n : ℕ) (old new : State) (Then : Weight → State → Type 0) → Good c (held.mbufs + w.mbufs) old → Carries c w n
-      → ((v : Weight) (mid : State) → Good c (held.mbufs + v.mbufs) mid → Carries c v n → Then v mid → Good c held.mbufs new)
+  good_pulls : (origin : Origin) (held w : Weight) (n : ℕ) (old new : State) (Then : Weight → State → Type 0)
+      → Good c (held.mbufs + w.mbufs) old → Carries c w n
+      → ((v : Weight) (mid : State) → Good c (held.mbufs + v.mbufs) mid → Carries c v n → Then v mid
+      → Good c held.mbufs new)
       → Arrival.PullsUp exact_ledger origin held w (20 + n) old new Then → Good c held.mbufs new
   good_pulls Looped held w n old new Then good is goes h = goes w old good is h
   good_pulls (By_wire received) held w n old new Then good is goes h = by_choice h
       (λ e t. good_tests old (held ⊕ w) 1 new _ held.mbufs (omega arith) good
       (λ mid at from r.
       let le = pulled_mbufs (20 + n) w in
-      goes (Arrival.pulled_up (20 + n) w) mid (less_held (held.mbufs + (Arrival.pulled_up (20 + n) w).mbufs) (held.mbufs + w.mbufs + 1) mid (omega arith) at) (pulled (20 + n) n w refl is) r) t)
+      goes (Arrival.pulled_up (20 + n) w) mid
+      (less_held (held.mbufs + (Arrival.pulled_up (20 + n) w).mbufs) (held.mbufs + w.mbufs + 1) mid (omega arith) at)
+      (pulled (20 + n) n w refl is) r) t)
       (λ e r. goes w old good is r)
 
-  good_fragment : (origin : Origin) (held : Weight) (head : Head) (item : Item) (old new : State) → Good c (held.mbufs + item.weight.mbufs) old → Carries c item.weight (length item.bytes)
+  good_fragment : (origin : Origin) (held : Weight) (head : Head) (item : Item) (old new : State)
+      → Good c (held.mbufs + item.weight.mbufs) old → Carries c item.weight (length item.bytes)
       → Arrival.FragmentArrives exact_ledger origin held head item old new → Good c held.mbufs new
   good_fragment origin held head item old new good is h = by_choice h
       (λ e g. good_ends held.mbufs (held.mbufs + item.weight.mbufs) old new _ (omega arith) good g)
       (λ e p. good_pulls origin held item.weight (length item.bytes) (Arrival.counts_fragment old) new _
-      (same_rest (held.mbufs + item.weight.mbufs) old (Arrival.counts_fragment old) refl refl refl refl refl refl good) is
-      (λ v mid at carries j. good_joins held _ _ mid new at (record { carries = carries; inside = ltb-false _ _ (or_parts _ _ e).1 }) j) p)
+      (same_rest (held.mbufs + item.weight.mbufs) old (Arrival.counts_fragment old) refl refl refl refl refl refl good)
+      is
+      (λ v mid at carries j. good_joins held _ _ mid new at
+      (record { carries = carries; inside = ltb-false _ _ (or_parts _ _ e).1 }) j) p)
 
-  good_passes : (origin : Origin) (held : Weight) (item : Item) (old new : State) → Good c (held.mbufs + item.weight.mbufs) old → Carries c item.weight (length item.bytes)
+  good_passes : (origin : Origin) (held : Weight) (item : Item) (old new : State)
+      → Good c (held.mbufs + item.weight.mbufs) old → Carries c item.weight (length item.bytes)
       → Arrival.Passes exact_ledger origin held item old new → Good c held.mbufs new
   good_passes origin held item old new good is h = by_choice h
       (λ e x. by_choice x
       (λ t f. good_fragment origin held (head_of item.bytes) (Arrival.carried item) old new good shorter f)
-      (λ t w. good_whole held (head_of item.bytes).source (head_of item.bytes).destination (head_of item.bytes).protocol (Arrival.carried item) old new good shorter w))
+      (λ t w. good_whole held (head_of item.bytes).source (head_of item.bytes).destination (head_of item.bytes).protocol
+      (Arrival.carried item) old new good shorter w))
       (λ e g. good_ends held.mbufs (held.mbufs + item.weight.mbufs) old new _ (omega arith) good g)
     where
       shorter : Carries c item.weight (length (drop 20 (take (total_of item.bytes) item.bytes)))
-      shorter = carries_less c item.weight (length (drop 20 (take (total_of item.bytes) item.bytes))) (length item.bytes)
-          (omega (arith, length-drop 20 (take (total_of item.bytes) item.bytes), length-take (total_of item.bytes) item.bytes)) is
+      shorter =
+          carries_less c item.weight (length (drop 20 (take (total_of item.bytes) item.bytes))) (length item.bytes)
+          (omega (
+            arith,
+            length-drop 20 (take (total_of item.bytes) item.bytes),
+            length-take (total_of item.bytes) item.bytes,
+          )) is
 
-  pub good_arrives : (origin : Origin) (held : Weight) (item : Item) (old new : State) → Good c (held.mbufs + item.weight.mbufs) old → Carries c item.weight (length item.bytes)
+  pub good_arrives : (origin : Origin) (held : Weight) (item : Item) (old new : State)
+      → Good c (held.mbufs + item.weight.mbufs) old → Carries c item.weight (length item.bytes)
       → Arrival.Arrives exact_ledger origin held item old new → Good c held.mbufs new
   good_arrives origin held item old new good is h =
-      let counted = same_rest (held.mbufs + item.weight.mbufs) old (Arrival.counts_packet old) refl refl refl refl refl refl good in
+      let counted =
+      same_rest (held.mbufs + item.weight.mbufs) old (Arrival.counts_packet old) refl refl refl refl refl refl good in
       by_case h
       (λ e p. good_passes origin held item (Arrival.counts_packet old) new counted is p)
-      (λ why e g. good_ends held.mbufs (held.mbufs + item.weight.mbufs) (Arrival.counts_packet old) new why (omega arith) counted g)
+      (λ why e g. good_ends held.mbufs (held.mbufs + item.weight.mbufs) (Arrival.counts_packet old) new why
+      (omega arith) counted g)
 
-  pub good_all_arrive : (items : List Item) (old new : State) → Good c (all_of weight_of_item items).mbufs old → Each (λ (item : Item). Carries c item.weight (length item.bytes)) items
+  pub good_all_arrive : (items : List Item) (old new : State) → Good c (all_of weight_of_item items).mbufs old
+      → Each (λ (item : Item). Carries c item.weight (length item.bytes)) items
       → Arrival.AllArrive exact_ledger items old new → Good c 0 new
   good_all_arrive [] old new good is e = subst (Good c 0) (sym e) good
   good_all_arrive (item ∷ items) old new good is (mid, a, later) =
-      good_all_arrive items mid new (good_arrives Looped (all_of weight_of_item items) item old mid (less_held _ _ old (omega arith) good) is.0 a) is.1 later
+      good_all_arrive items mid new (good_arrives Looped (all_of weight_of_item items) item old mid
+      (less_held _ _ old (omega arith) good) is.0 a) is.1 later

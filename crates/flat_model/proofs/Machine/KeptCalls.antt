@@ -34,10 +34,13 @@ unfolding total
 ones at zero = refl
 ones at (suc n) = let rest = ones (at + 1) n in omega arith
 
-count_fds : (sockets : List Socket) (at n : ℕ) → total (λ k. count_by (λ (socket : Socket). socket.fd == k) sockets) at n ≤ length sockets
+count_fds : (sockets : List Socket) (at n : ℕ)
+    → total (λ k. count_by (λ (socket : Socket). socket.fd == k) sockets) at n ≤ length sockets
 count_fds [] at n = let z = zeros at n in omega arith
 count_fds (x ∷ xs) at n =
-    let le = total_le (λ k. count_by (λ (socket : Socket). socket.fd == k) (x ∷ xs)) (λ k. spike x.fd 1 k + count_by (λ (socket : Socket). socket.fd == k) xs) at n (λ k low high. each k) in
+    let le =
+    total_le (λ k. count_by (λ (socket : Socket). socket.fd == k) (x ∷ xs))
+    (λ k. spike x.fd 1 k + count_by (λ (socket : Socket). socket.fd == k) xs) at n (λ k low high. each k) in
     let both = total_add (spike x.fd 1) (λ k. count_by (λ (socket : Socket). socket.fd == k) xs) at n in
     let one = total_spike_most x.fd 1 at n in
     let rest = count_fds xs at n in
@@ -48,8 +51,10 @@ count_fds (x ∷ xs) at n =
     turn k true true e t = omega arith
     turn k true false e t = absurd (eqb-false _ _ t (sym (eqb-true _ _ e)))
 
-    each : (k : ℕ) → count_by (λ (socket : Socket). socket.fd == k) (x ∷ xs) ≤ spike x.fd 1 k + count_by (λ (socket : Socket). socket.fd == k) xs
-    each k = let le = turn k (x.fd == k) (k == x.fd) refl refl in omega (arith, count_cons (λ (socket : Socket). socket.fd == k) x xs)
+    each : (k : ℕ) → count_by (λ (socket : Socket). socket.fd == k) (x ∷ xs)
+        ≤ spike x.fd 1 k + count_by (λ (socket : Socket). socket.fd == k) xs
+    each k = let le = turn k (x.fd == k) (k == x.fd) refl refl in
+        omega (arith, count_cons (λ (socket : Socket). socket.fd == k) x xs)
 
 found_some : {X : Type 0} (p : X → Bool) (xs : List X) → IsSome (find p xs) → 1 ≤ count_by p xs
 found_some p [] e = absurd (never e)
@@ -58,7 +63,8 @@ found_some p [] e = absurd (never e)
     never e = cc
 found_some p (x ∷ xs) e = go (p x) refl (found_some p xs) e (count_cons p x xs)
   where
-    go : (b : Bool) → p x ≡ b → (IsSome (find p xs) → 1 ≤ count_by p xs) → IsSome (cond b (Some x) (find p xs)) → count_by p (x ∷ xs) ≡ cond {A = ℕ} (p x) 1 0 + count_by p xs → 1 ≤ count_by p (x ∷ xs)
+    go : (b : Bool) → p x ≡ b → (IsSome (find p xs) → 1 ≤ count_by p xs) → IsSome (cond b (Some x) (find p xs))
+        → count_by p (x ∷ xs) ≡ cond {A = ℕ} (p x) 1 0 + count_by p xs → 1 ≤ count_by p (x ∷ xs)
     go true t rest e n = let one : cond {A = ℕ} (p x) 1 0 ≡ 1 = ap (λ b. cond {A = ℕ} b 1 0) t in omega arith
     go false t rest e n = let later = rest e in omega arith
 
@@ -69,23 +75,38 @@ module _ (c : Config) (host : is_ours c c.addr ≡ true) (lo : is_ours c loopbac
       go : (66 < fd) ⊎ (fd ≤ 66) → fd ≤ 66
       go (inr le) = le
       go (inl lt) =
-          let all = total_le (λ k. 1) (λ k. count_by (λ (socket : Socket). socket.fd == k) s.sockets) 3 64 (λ k low high. found_some (λ (socket : Socket). socket.fd == k) s.sockets (least.passed k low (omega arith))) in
+          let all =
+          total_le (λ k. 1) (λ k. count_by (λ (socket : Socket). socket.fd == k) s.sockets) 3 64
+          (λ k low high. found_some (λ (socket : Socket). socket.fd == k) s.sockets
+          (least.passed k low (omega arith))) in
           let n = ones 3 64 in
           let most = count_fds s.sockets 3 64 in
           absurd (omega arith)
 
-  pub refused : (old new : State) (errno : Errno) (reply : Reply) → Good c 0 old → Refuses errno old reply new → Good c 0 new
+  pub refused : (old new : State) (errno : Errno) (reply : Reply) → Good c 0 old → Refuses errno old reply new
+      → Good c 0 new
   refused old new errno reply good h = subst (Good c 0) (sym h.1) good
 
   -- the sockets with a descriptor change, and keep their descriptor and their queue's weight
-  pub changes : (h fd : ℕ) (change : Socket → Socket) (s : State) → Good c h s → ((socket : Socket) → IsSocket c socket → IsSocket c (change socket))
+  pub changes : (h fd : ℕ) (change : Socket → Socket) (s : State) → Good c h s
+      → ((socket : Socket) → IsSocket c socket → IsSocket c (change socket))
       → ((socket : Socket) → (change socket).fd ≡ socket.fd)
-      → (all_of weight_of_socket (map (λ (socket : Socket). cond (socket.fd == fd) (change socket) socket) s.sockets)).mbufs ≤ (all_of weight_of_socket s.sockets).mbufs → Good c h (change_socket fd change s)
+      → (all_of weight_of_socket (map (λ (socket : Socket). cond (socket.fd == fd) (change socket) socket)
+      s.sockets)).mbufs ≤ (all_of weight_of_socket s.sockets).mbufs → Good c h (change_socket fd change s)
   changes h fd change s good keeps same less = record {
     config = good.config;
     sockets = each-map (IsSocket c) _ (λ socket g. go socket g (socket.fd == fd)) s.sockets good.sockets;
-    few = omega (arith, good.few, length-map s.sockets (λ (socket : Socket). cond (socket.fd == fd) (change socket) socket));
-    distinct = λ k. let equal = count-map (λ (socket : Socket). socket.fd == k) (λ socket. cond (socket.fd == fd) (change socket) socket) (λ socket. fd_same socket k (socket.fd == fd)) s.sockets in omega (arith, good.distinct k);
+    few =
+        omega (
+          arith,
+          good.few,
+          length-map s.sockets
+              (λ (socket : Socket). cond (socket.fd == fd) (change socket) socket),
+        );
+    distinct =
+        λ k. let equal =
+        count-map (λ (socket : Socket). socket.fd == k) (λ socket. cond (socket.fd == fd) (change socket) socket)
+        (λ socket. fd_same socket k (socket.fd == fd)) s.sockets in omega (arith, good.distinct k);
     unfinished = good.unfinished;
     keys = good.keys;
     output = good.output;
@@ -104,12 +125,20 @@ module _ (c : Config) (host : is_ours c c.addr ≡ true) (lo : is_ours c loopbac
       go socket g false = g
 
   -- the same where the queues stay
-  pub renames : (h fd : ℕ) (change : Socket → Socket) (s : State) → Good c h s → ((socket : Socket) → IsSocket c socket → IsSocket c (change socket))
-      → ((socket : Socket) → (change socket).fd ≡ socket.fd) → ((socket : Socket) → (weight_of_socket (change socket)).mbufs ≡ (weight_of_socket socket).mbufs) → Good c h (change_socket fd change s)
+  pub renames : (h fd : ℕ) (change : Socket → Socket) (s : State) → Good c h s
+      → ((socket : Socket) → IsSocket c socket → IsSocket c (change socket))
+      → ((socket : Socket) → (change socket).fd ≡ socket.fd)
+      → ((socket : Socket) → (weight_of_socket (change socket)).mbufs ≡ (weight_of_socket socket).mbufs)
+      → Good c h (change_socket fd change s)
   renames h fd change s good keeps same equal = changes h fd change s good keeps same
-      (omega (arith, mbufs-map weight_of_socket (λ (socket : Socket). cond (socket.fd == fd) (change socket) socket) (λ socket. go socket (socket.fd == fd)) s.sockets))
+      (omega (
+        arith,
+        mbufs-map weight_of_socket (λ (socket : Socket). cond (socket.fd == fd) (change socket) socket)
+            (λ socket. go socket (socket.fd == fd)) s.sockets,
+      ))
     where
-      go : (socket : Socket) (b : Bool) → (weight_of_socket (cond b (change socket) socket)).mbufs ≡ (weight_of_socket socket).mbufs
+      go : (socket : Socket) (b : Bool)
+          → (weight_of_socket (cond b (change socket) socket)).mbufs ≡ (weight_of_socket socket).mbufs
       go socket true = equal socket
       go socket false = refl
 
@@ -121,8 +150,10 @@ module _ (c : Config) (host : is_ours c c.addr ≡ true) (lo : is_ours c loopbac
   port_range None k = (omega arith, omega arith)
   port_range (Some last) k = (omega arith, omega arith)
 
-  pub gets : (h : ℕ) (old new : State) (local asked : Option ℕ) (port : ℕ) → Good c h old → ((p : ℕ) → asked ≡ Some p → IsPort p) → GetsPort old local asked port new → Good c h new × IsPort port
-  gets h old new local (Some q) port good small g = (subst (Good c h) (sym g.1) good, subst IsPort (sym g.0) (small q refl))
+  pub gets : (h : ℕ) (old new : State) (local asked : Option ℕ) (port : ℕ) → Good c h old
+      → ((p : ℕ) → asked ≡ Some p → IsPort p) → GetsPort old local asked port new → Good c h new × IsPort port
+  gets h old new local (Some q) port good small g =
+      (subst (Good c h) (sym g.1) good, subst IsPort (sym g.0) (small q refl))
   gets h old new local None port good small g =
       let here : port ≡ port_after old.last_port g.0.turns = g.0.here in
       let range = port_range old.last_port g.0.turns in (
@@ -135,7 +166,8 @@ module _ (c : Config) (host : is_ours c c.addr ≡ true) (lo : is_ours c loopbac
           keys = good.keys;
           output = good.output;
           short = good.short;
-          last_port = λ p e. let same : port ≡ p = same_Some port p e in (omega (arith, range.0), omega (arith, range.1));
+          last_port = λ p e. let same : port ≡ p = same_Some port p e in
+              (omega (arith, range.0), omega (arith, range.1));
           next_id = good.next_id;
           mbufs = good.mbufs;
         }),
@@ -190,10 +222,13 @@ module _ (c : Config) (host : is_ours c c.addr ≡ true) (lo : is_ours c loopbac
               never : true ≡ false → ⊥
               never e = cc
 
-      one : (fd : ℕ) → IsLowestFree old fd → (k : ℕ) (b : Bool) → (fd == k) ≡ b → count_by (λ (socket : Socket). socket.fd == k) (fresh fd ∷ old.sockets) ≤ 1
+      one : (fd : ℕ) → IsLowestFree old fd → (k : ℕ) (b : Bool) → (fd == k) ≡ b
+          → count_by (λ (socket : Socket). socket.fd == k) (fresh fd ∷ old.sockets) ≤ 1
       one fd least k true e =
           let none = none_found (λ (socket : Socket). socket.fd == fd) old.sockets (nothing_at fd least.free) in
-          let same : count_by (λ (socket : Socket). socket.fd == k) old.sockets ≡ count_by (λ (socket : Socket). socket.fd == fd) old.sockets = ap (λ j. count_by (λ (socket : Socket). socket.fd == j) old.sockets) (sym (eqb-true fd k e)) in
+          let same : count_by (λ (socket : Socket). socket.fd == k) old.sockets
+          ≡ count_by (λ (socket : Socket). socket.fd == fd) old.sockets =
+          ap (λ j. count_by (λ (socket : Socket). socket.fd == j) old.sockets) (sym (eqb-true fd k e)) in
           let here : cond {A = ℕ} (fd == k) 1 0 ≡ 1 = ap (λ b. cond {A = ℕ} b 1 0) e in
           omega (arith, count_cons (λ (socket : Socket). socket.fd == k) (fresh fd) old.sockets)
       one fd least k false e =
@@ -204,18 +239,28 @@ module _ (c : Config) (host : is_ours c c.addr ≡ true) (lo : is_ours c loopbac
   closes fd old new reply good h = subst (Good c 0) (sym h.1) (record {
     config = good.config;
     sockets = each-filter (IsSocket c) (λ socket. not (socket.fd == fd)) old.sockets good.sockets;
-    few = omega (arith, good.few, length-filter (λ (socket : Socket). not (socket.fd == fd)) old.sockets, count_by-le-length (λ (socket : Socket). not (socket.fd == fd)) old.sockets);
-    distinct = λ k. let le = count-filter (λ (socket : Socket). socket.fd == k) (λ socket. not (socket.fd == fd)) old.sockets in omega (arith, good.distinct k);
+    few =
+        omega (
+          arith,
+          good.few,
+          length-filter (λ (socket : Socket). not (socket.fd == fd)) old.sockets,
+          count_by-le-length (λ (socket : Socket). not (socket.fd == fd)) old.sockets,
+        );
+    distinct =
+        λ k. let le = count-filter (λ (socket : Socket). socket.fd == k) (λ socket. not (socket.fd == fd)) old.sockets in
+        omega (arith, good.distinct k);
     unfinished = good.unfinished;
     keys = good.keys;
     output = good.output;
     short = good.short;
     last_port = good.last_port;
     next_id = good.next_id;
-    mbufs = let le = mbufs-filter weight_of_socket (λ (socket : Socket). not (socket.fd == fd)) old.sockets in omega (arith, good.mbufs);
+    mbufs = let le = mbufs-filter weight_of_socket (λ (socket : Socket). not (socket.fd == fd)) old.sockets in
+        omega (arith, good.mbufs);
   })
 
-  pub binds : (fd : ℕ) (a : Addr) (me : Socket) (old new : State) (reply : Reply) → Good c 0 old → IsAddr a → Calls.Binds fd a me old reply new → Good c 0 new
+  pub binds : (fd : ℕ) (a : Addr) (me : Socket) (old new : State) (reply : Reply) → Good c 0 old → IsAddr a
+      → Calls.Binds fd a me old reply new → Good c 0 new
   binds fd a me old new reply good is h = by_case h
       (λ e (port, chosen, g, answer, n).
       let passed = none_passed (Calls.bind_faults old me a) e in
@@ -224,7 +269,8 @@ module _ (c : Config) (host : is_ours c c.addr ≡ true) (lo : is_ours c loopbac
         least_fd = s.least_fd;
         greatest_fd = s.greatest_fd;
         local = λ ip t. subst (λ cc. is_ours cc ip ≡ true) good.config (address ip a.ip (not-false _ passed.1.0) t);
-        port = λ p t. let same : port ≡ p = same_Some port p t in (omega (arith, got.1.some), omega (arith, got.1.small));
+        port = λ p t. let same : port ≡ p = same_Some port p t in
+            (omega (arith, got.1.some), omega (arith, got.1.small));
         peer = s.peer;
         unbound = λ t. absurd (none-some port (sym t));
         queue = s.queue;
@@ -237,7 +283,8 @@ module _ (c : Config) (host : is_ours c c.addr ≡ true) (lo : is_ours c loopbac
       asked zero p l e = absurd (none-some p e)
       asked (suc q) p l e = let same : suc q ≡ p = same_Some _ p e in record { some = omega arith; small = omega arith }
 
-      address : (ip b : ℕ) → ((b == 0) || is_ours old.config b) ≡ true → unless_zero b ≡ Some ip → is_ours old.config ip ≡ true
+      address : (ip b : ℕ) → ((b == 0) || is_ours old.config b) ≡ true → unless_zero b ≡ Some ip
+          → is_ours old.config ip ≡ true
       address ip zero ours e = absurd (none-some ip e)
       address ip (suc b) ours e = go (or_cases (suc b == 0) _ ours)
         where
@@ -248,7 +295,8 @@ module _ (c : Config) (host : is_ours c c.addr ≡ true) (lo : is_ours c loopbac
           go (inl z) = absurd (omega (arith, eqb-true (suc b) 0 z))
           go (inr o) = subst (λ i. is_ours old.config i ≡ true) same o
 
-  source_ours : (me : Socket) (to : ℕ) → ((ip : ℕ) → me.local ≡ Some ip → is_ours c ip ≡ true) → is_ours c (source_for c me to) ≡ true
+  source_ours : (me : Socket) (to : ℕ) → ((ip : ℕ) → me.local ≡ Some ip → is_ours c ip ≡ true)
+      → is_ours c (source_for c me to) ≡ true
   source_ours me to local = go me.local refl
     where
       default : (b : Bool) → is_ours c (cond b loopback c.addr) ≡ true
@@ -259,11 +307,27 @@ module _ (c : Config) (host : is_ours c c.addr ≡ true) (lo : is_ours c loopbac
       go (Some ip) e = local ip e
       go None e = default (to == loopback)
 
-  apart : (socket : Socket) → IsSocket c socket → (b : Bool) → IsSocket c (cond b (record socket { local = None; peer = None }) socket)
-  apart socket s true = record { least_fd = s.least_fd; greatest_fd = s.greatest_fd; local = λ ip e. absurd (none-some ip e); port = s.port; peer = λ a e. absurd (none-some a e); unbound = λ e. (refl, refl); queue = s.queue; queued_bytes = s.queued_bytes; queued = s.queued }
+  apart : (socket : Socket) → IsSocket c socket → (b : Bool)
+      → IsSocket c (cond b (record socket { local = None; peer = None }) socket)
+  apart socket s true =
+      record {
+        least_fd = s.least_fd;
+        greatest_fd = s.greatest_fd;
+        local = λ ip e. absurd (none-some ip e);
+        port =
+            s.port;
+        peer =
+            λ a e. absurd (none-some a e);
+        unbound =
+            λ e. (refl, refl);
+        queue = s.queue;
+        queued_bytes = s.queued_bytes;
+        queued = s.queued;
+      }
   apart socket s false = s
 
-  pub connects : (fd : ℕ) (a : Addr) (me : Socket) (old new : State) (reply : Reply) → Good c 0 old → IsAddr a → IsSocket c me → Calls.Connects fd a me old reply new → Good c 0 new
+  pub connects : (fd : ℕ) (a : Addr) (me : Socket) (old new : State) (reply : Reply) → Good c 0 old → IsAddr a
+      → IsSocket c me → Calls.Connects fd a me old reply new → Good c 0 new
   connects fd a me before new reply good is sound h = by_case h
       (λ e (port, chosen, g, answer, n).
       let passed = none_passed (Calls.connect_faults old (disconnected me) to) e in
@@ -271,9 +335,19 @@ module _ (c : Config) (host : is_ours c c.addr ≡ true) (lo : is_ours c loopbac
       subst (Good c 0) (sym n) (renames 0 fd _ chosen got.0 (λ socket s. record {
         least_fd = s.least_fd;
         greatest_fd = s.greatest_fd;
-        local = λ ip t. subst (λ i. is_ours c i ≡ true) (same_Some _ ip t) (subst (λ cc. is_ours c (source_for cc (disconnected me) to.ip) ≡ true) (sym good.config) (source_ours (disconnected me) to.ip me_is.local));
-        port = λ p t. let same : port ≡ p = same_Some port p t in (omega (arith, got.1.some), omega (arith, got.1.small));
-        peer = λ b t. subst IsPeer (same_Some _ b t) (record { is_there = not-false _ passed.1.0; some_port = some_number a.port passed.0; port = omega (arith, is.port) });
+        local =
+            λ ip t. subst (λ i. is_ours c i ≡ true) (same_Some _ ip t)
+            (subst (λ cc. is_ours c (source_for cc (disconnected me) to.ip) ≡ true) (sym good.config)
+            (source_ours (disconnected me) to.ip me_is.local));
+        port = λ p t. let same : port ≡ p = same_Some port p t in
+            (omega (arith, got.1.some), omega (arith, got.1.small));
+        peer =
+            λ b t. subst IsPeer (same_Some _ b t)
+            (record {
+              is_there = not-false _ passed.1.0;
+              some_port = some_number a.port passed.0;
+              port = omega (arith, is.port);
+            });
         unbound = λ t. absurd (none-some port (sym t));
         queue = s.queue;
         queued_bytes = s.queued_bytes;
@@ -287,16 +361,21 @@ module _ (c : Config) (host : is_ours c c.addr ≡ true) (lo : is_ours c loopbac
       old : State
       old = change_socket fd disconnected before
 
-      fd_kept : (socket : Socket) (b : Bool) → (cond b (record socket { local = None; peer = None }) socket).fd ≡ socket.fd
+      fd_kept : (socket : Socket) (b : Bool)
+          → (cond b (record socket { local = None; peer = None }) socket).fd ≡ socket.fd
       fd_kept socket true = refl
       fd_kept socket false = refl
 
-      queue_kept : (socket : Socket) (b : Bool) → (weight_of_socket (cond b (record socket { local = None; peer = None }) socket)).mbufs ≡ (weight_of_socket socket).mbufs
+      queue_kept : (socket : Socket) (b : Bool)
+          → (weight_of_socket (cond b (record socket { local = None; peer = None }) socket)).mbufs
+          ≡ (weight_of_socket socket).mbufs
       queue_kept socket true = refl
       queue_kept socket false = refl
 
       let_go : Good c 0 (change_socket fd disconnected before)
-      let_go = renames 0 fd disconnected before good (λ socket s. apart socket s (is_some socket.peer)) (λ socket. fd_kept socket (is_some socket.peer)) (λ socket. queue_kept socket (is_some socket.peer))
+      let_go =
+          renames 0 fd disconnected before good (λ socket s. apart socket s (is_some socket.peer))
+          (λ socket. fd_kept socket (is_some socket.peer)) (λ socket. queue_kept socket (is_some socket.peer))
 
       me_is : IsSocket c (disconnected me)
       me_is = apart me sound (is_some me.peer)
@@ -305,33 +384,80 @@ module _ (c : Config) (host : is_ours c c.addr ≡ true) (lo : is_ours c loopbac
       some_number zero e = absurd (eqb-false 0 0 e refl)
       some_number (suc p) e = omega arith
 
-  pub receives : (fd most : ℕ) (me : Socket) (old new : State) (reply : Reply) → Good c 0 old → socket_at fd old ≡ Some me → (queue : List Datagram) → me.queue ≡ queue → Calls.Receives fd most queue old reply new → Good c 0 new
+  pub receives : (fd most : ℕ) (me : Socket) (old new : State) (reply : Reply) → Good c 0 old
+      → socket_at fd old ≡ Some me → (queue : List Datagram) → me.queue ≡ queue
+      → Calls.Receives fd most queue old reply new → Good c 0 new
   receives fd most me old new reply good at [] e h = refused old new _ reply good h
   receives fd most me old new reply good at (d ∷ later) e h =
       let me_is = found 0 fd old me good at in
       let rest : Each (IsQueued c) later = (subst (Each (IsQueued c)) e me_is.queue).1 in
-      let limits : (bytes_queued later ≤ 41600) × (length later ≤ 325) = shorter later (subst (λ q. bytes_queued q ≤ 41600) e me_is.queued_bytes) (subst (λ (q : List Datagram). length q ≤ 325) e me_is.queued) in
+      let limits : (bytes_queued later ≤ 41600) × (length later ≤ 325) =
+      shorter later (subst (λ q. bytes_queued q ≤ 41600) e me_is.queued_bytes)
+      (subst (λ (q : List Datagram). length q ≤ 325) e me_is.queued) in
       subst (Good c 0) (sym h.1) (changes 0 fd (λ socket. record socket { queue = later }) old good
-      (λ socket s. record { least_fd = s.least_fd; greatest_fd = s.greatest_fd; local = s.local; port = s.port; peer = s.peer; unbound = s.unbound; queue = rest; queued_bytes = omega (arith, limits.0); queued = omega (arith, limits.1) })
+      (λ socket s. record {
+        least_fd = s.least_fd;
+        greatest_fd = s.greatest_fd;
+        local = s.local;
+        port = s.port;
+        peer =
+            s.peer;
+        unbound =
+            s.unbound;
+        queue = rest;
+        queued_bytes = omega (arith, limits.0);
+        queued = omega (arith, limits.1);
+      })
       (λ socket. refl)
-      (let now = mbufs-replaced weight_of_socket (λ (socket : Socket). socket.fd == fd) (λ socket. record socket { queue = later }) (all_of (λ (x : Datagram). x.item.weight) later).mbufs (λ x. refl) old.sockets me (good.distinct fd) at in
-      let all : (weight_of_socket me).mbufs ≡ d.item.weight.mbufs + (all_of (λ (x : Datagram). x.item.weight) later).mbufs = ap (λ q. (all_of (λ (x : Datagram). x.item.weight) q).mbufs) e in
+      (let now = mbufs-replaced weight_of_socket (λ (socket : Socket). socket.fd == fd)
+      (λ socket. record socket { queue = later }) (all_of (λ (x : Datagram). x.item.weight) later).mbufs (λ x. refl)
+      old.sockets me (good.distinct fd) at in
+      let all : (weight_of_socket me).mbufs
+      ≡ d.item.weight.mbufs + (all_of (λ (x : Datagram). x.item.weight) later).mbufs =
+      ap (λ q. (all_of (λ (x : Datagram). x.item.weight) q).mbufs) e in
       omega arith))
     where
-      shorter : (ds : List Datagram) → bytes_queued (d ∷ ds) ≤ 41600 → length (d ∷ ds) ≤ 325 → (bytes_queued ds ≤ 41600) × (length ds ≤ 325)
+      shorter : (ds : List Datagram) → bytes_queued (d ∷ ds) ≤ 41600 → length (d ∷ ds) ≤ 325
+          → (bytes_queued ds ≤ 41600) × (length ds ≤ 325)
       shorter ds b l = (omega (arith, sum_by-cons (λ (x : Datagram). 16 + length x.item.bytes) d ds), omega arith)
 
-  pub sets : (fd : ℕ) (option : Opt) (on : Bool) (old new : State) (reply : Reply) → Good c 0 old → Calls.SetsOption fd option on old reply new → Good c 0 new
-  sets fd option on old new reply good h = subst (Good c 0) (sym h.1) (renames 0 fd _ old good (λ socket s. go option socket s) (λ socket. fd_kept option socket) (λ socket. queue_kept option socket))
+  pub sets : (fd : ℕ) (option : Opt) (on : Bool) (old new : State) (reply : Reply) → Good c 0 old
+      → Calls.SetsOption fd option on old reply new → Good c 0 new
+  sets fd option on old new reply good h =
+      subst (Good c 0) (sym h.1) (renames 0 fd _ old good (λ socket s. go option socket s)
+      (λ socket. fd_kept option socket) (λ socket. queue_kept option socket))
     where
       go : (option : Opt) (socket : Socket) → IsSocket c socket → IsSocket c (set_option option on socket)
-      go Broadcast socket s = record { least_fd = s.least_fd; greatest_fd = s.greatest_fd; local = s.local; port = s.port; peer = s.peer; unbound = s.unbound; queue = s.queue; queued_bytes = s.queued_bytes; queued = s.queued }
-      go ReusePort socket s = record { least_fd = s.least_fd; greatest_fd = s.greatest_fd; local = s.local; port = s.port; peer = s.peer; unbound = s.unbound; queue = s.queue; queued_bytes = s.queued_bytes; queued = s.queued }
+      go Broadcast socket s =
+          record {
+            least_fd = s.least_fd;
+            greatest_fd = s.greatest_fd;
+            local = s.local;
+            port = s.port;
+            peer = s.peer;
+            unbound = s.unbound;
+            queue = s.queue;
+            queued_bytes = s.queued_bytes;
+            queued = s.queued;
+          }
+      go ReusePort socket s =
+          record {
+            least_fd = s.least_fd;
+            greatest_fd = s.greatest_fd;
+            local = s.local;
+            port = s.port;
+            peer = s.peer;
+            unbound = s.unbound;
+            queue = s.queue;
+            queued_bytes = s.queued_bytes;
+            queued = s.queued;
+          }
 
       fd_kept : (option : Opt) (socket : Socket) → (set_option option on socket).fd ≡ socket.fd
       fd_kept Broadcast socket = refl
       fd_kept ReusePort socket = refl
 
-      queue_kept : (option : Opt) (socket : Socket) → (weight_of_socket (set_option option on socket)).mbufs ≡ (weight_of_socket socket).mbufs
+      queue_kept : (option : Opt) (socket : Socket)
+          → (weight_of_socket (set_option option on socket)).mbufs ≡ (weight_of_socket socket).mbufs
       queue_kept Broadcast socket = refl
       queue_kept ReusePort socket = refl

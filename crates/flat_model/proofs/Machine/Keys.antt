@@ -22,6 +22,7 @@ whole_key k u = (same, found)
     found e =
         and_from _ _
         (and_from _ _
-        (and_from (u.key.source == k.source) (u.key.destination == k.destination) (eq-eqb _ _ (ap (λ (x : Key). x.source) e)) (eq-eqb _ _ (ap (λ (x : Key). x.destination) e)))
+        (and_from (u.key.source == k.source) (u.key.destination == k.destination)
+        (eq-eqb _ _ (ap (λ (x : Key). x.source) e)) (eq-eqb _ _ (ap (λ (x : Key). x.destination) e)))
         (eq-eqb _ _ (ap (λ (x : Key). x.id) e)))
         (eq-eqb _ _ (ap (λ (x : Key). x.protocol) e))

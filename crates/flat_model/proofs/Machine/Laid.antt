@@ -32,7 +32,8 @@ record IsNext (room : Room) (left : ℕ) : Type 0 where
   some : 0 < left → 1 ≤ size_of room
   most : size_of room ≤ left
 
-next_is : (large small left : ℕ) → 1 ≤ large → large ≤ 2048 → 1 ≤ small → small ≤ 108 → IsNext (next_room large small left) left
+next_is : (large small left : ℕ) → 1 ≤ large → large ≤ 2048 → 1 ≤ small → small ≤ 108
+    → IsNext (next_room large small left) left
 next_is large small left l1 l2 s1 s2 = go (nat_le 208 left)
   where
     go : (b : Bool) → IsNext (cond b (Cluster (min left large)) (Plain (min left small))) left
@@ -43,7 +44,8 @@ pub record IsFilled (rooms : List Room) (n : ℕ) : Type 0 where
   pub fit : Each RoomFits rooms
   pub bytes : bytes_in rooms ≡ n
 
-filled_is : (most large small left : ℕ) → 1 ≤ large → large ≤ 2048 → 1 ≤ small → small ≤ 108 → left ≤ most → IsFilled (filled most large small left) left
+filled_is : (most large small left : ℕ) → 1 ≤ large → large ≤ 2048 → 1 ≤ small → small ≤ 108 → left ≤ most
+    → IsFilled (filled most large small left) left
 unfolding filled bytes_in
 filled_is zero large small left l1 l2 s1 s2 h = record { fit = tt; bytes = omega arith }
 filled_is (suc most) large small zero l1 l2 s1 s2 h = record { fit = tt; bytes = refl }
@@ -51,7 +53,9 @@ filled_is (suc most) large small (suc less) l1 l2 s1 s2 h =
     let room : Room = next_room large small (suc less) in
     let n = next_is large small (suc less) l1 l2 s1 s2 in
     let some : 1 ≤ size_of room = n.some (omega arith) in
-    let rest = filled_is most 2048 108 (suc less - size_of room) (omega arith) (omega arith) (omega arith) (omega arith) (omega arith) in
+    let rest =
+    filled_is most 2048 108 (suc less - size_of room) (omega arith) (omega arith) (omega arith) (omega arith)
+    (omega arith) in
     record { fit = (n.fits, rest.fit); bytes = omega (arith, rest.bytes, n.most) }
 
 or_empty_is : (rooms : List Room) (n : ℕ) → IsFilled rooms n → IsFilled (or_empty rooms) n
@@ -60,10 +64,12 @@ or_empty_is [] n f = record { fit = (omega arith, tt); bytes = omega (arith, f.b
 or_empty_is (room ∷ rooms) n f = f
 
 pub wire_is : (n : ℕ) → IsFilled (wire n) n
-wire_is n = or_empty_is _ n (filled_is n 2048 100 n (omega arith) (omega arith) (omega arith) (omega arith) (omega arith))
+wire_is n =
+    or_empty_is _ n (filled_is n 2048 100 n (omega arith) (omega arith) (omega arith) (omega arith) (omega arith))
 
 user_is : (n : ℕ) → IsFilled (user n) n
-user_is n = or_empty_is _ n (filled_is n 1992 100 n (omega arith) (omega arith) (omega arith) (omega arith) (omega arith))
+user_is n =
+    or_empty_is _ n (filled_is n 1992 100 n (omega arith) (omega arith) (omega arith) (omega arith) (omega arith))
 
 pub sent_is : (n : ℕ) → IsFilled (sent n) (28 + n)
 unfolding bytes_in
@@ -92,23 +98,34 @@ sent_some n = go (nat_le n 72)
 record IsLaid (rooms : List Room) (entries : List Entry) : Type 0 where
   number : length entries ≡ length rooms
   references : length (weight_of entries).bag ≤ length entries
-  room : bytes_in rooms ≤ 108 * (length entries - length (weight_of entries).bag) + 2048 * length (weight_of entries).bag
+  room : bytes_in rooms ≤ 108 * (length entries - length (weight_of entries).bag)
+      + 2048 * length (weight_of entries).bag
 
-laid_is : (clusters : List ℕ) (rooms : List Room) → length clusters ≡ count_by is_cluster rooms → Each RoomFits rooms → IsLaid rooms (laid_on clusters rooms)
+laid_is : (clusters : List ℕ) (rooms : List Room) → length clusters ≡ count_by is_cluster rooms → Each RoomFits rooms
+    → IsLaid rooms (laid_on clusters rooms)
 unfolding laid_on bytes_in
 laid_is clusters [] e fit = record { number = refl; references = omega arith; room = omega arith }
 laid_is clusters (Plain n ∷ rooms) e fit =
     let count = count_cons is_cluster (Plain n) rooms in
     let rest = laid_is clusters rooms (omega arith) fit.1 in
-    record { number = omega (arith, rest.number); references = omega (arith, rest.references); room = omega (arith, rest.room, rest.references, fit.0) }
+    record {
+      number = omega (arith, rest.number);
+      references = omega (arith, rest.references);
+      room = omega (arith, rest.room, rest.references, fit.0);
+    }
 laid_is [] (Cluster n ∷ rooms) e fit = let count = count_cons is_cluster (Cluster n) rooms in absurd (omega arith)
 laid_is (c ∷ clusters) (Cluster n ∷ rooms) e fit =
     let count = count_cons is_cluster (Cluster n) rooms in
     let rest = laid_is clusters rooms (omega arith) fit.1 in
-    record { number = omega (arith, rest.number); references = omega (arith, rest.references); room = omega (arith, rest.room, rest.references, fit.0) }
+    record {
+      number = omega (arith, rest.number);
+      references = omega (arith, rest.references);
+      room = omega (arith, rest.room, rest.references, fit.0);
+    }
 
 -- the clusters of a layout are those that it was given
-each_laid : (P : ℕ → Type 0) (clusters : List ℕ) (rooms : List Room) → Each P clusters → Each P (weight_of (laid_on clusters rooms)).bag
+each_laid : (P : ℕ → Type 0) (clusters : List ℕ) (rooms : List Room) → Each P clusters
+    → Each P (weight_of (laid_on clusters rooms)).bag
 unfolding laid_on
 each_laid P clusters [] h = tt
 each_laid P clusters (Plain n ∷ rooms) h = each_laid P clusters rooms h
@@ -122,12 +139,14 @@ laid_mbufs clusters (Plain n ∷ rooms) = ap suc (laid_mbufs clusters rooms)
 laid_mbufs [] (Cluster n ∷ rooms) = ap suc (laid_mbufs [] rooms)
 laid_mbufs (c ∷ clusters) (Cluster n ∷ rooms) = ap suc (laid_mbufs clusters rooms)
 
-pub laid_carries : (c : Config) (clusters : List ℕ) (rooms : List Room) (n : ℕ) → IsFilled rooms n → 1 ≤ length rooms → length clusters ≡ count_by is_cluster rooms
+pub laid_carries : (c : Config) (clusters : List ℕ) (rooms : List Room) (n : ℕ) → IsFilled rooms n → 1 ≤ length rooms
+    → length clusters ≡ count_by is_cluster rooms
     → Each (λ k. k < c.clusters) clusters → Carries c (weight_of (laid_on clusters rooms)) n
 laid_carries c clusters rooms n f some e exist =
     let l = laid_is clusters rooms e f.fit in
     record {
-      covers = record { some = omega (arith, l.number); references = l.references; room = omega (arith, l.room, f.bytes) };
+      covers =
+          record { some = omega (arith, l.number); references = l.references; room = omega (arith, l.room, f.bytes) };
       exist = each_laid (λ k. k < c.clusters) clusters rooms exist;
     }
 
@@ -152,9 +171,11 @@ shared_past at n size a b none = omega arith
 
 record IsMet (at : ℕ) (rooms : List Room) (a b : ℕ) (met : List Entry) : Type 0 where
   references : length (weight_of met).bag ≤ length met
-  room : shared at (bytes_in rooms) a b ≤ 108 * (length met - length (weight_of met).bag) + 2048 * length (weight_of met).bag
+  room : shared at (bytes_in rooms) a b
+      ≤ 108 * (length met - length (weight_of met).bag) + 2048 * length (weight_of met).bag
 
-met_is : (clusters : List ℕ) (rooms : List Room) (at a b : ℕ) → length clusters ≡ count_by is_cluster rooms → Each RoomFits rooms
+met_is : (clusters : List ℕ) (rooms : List Room) (at a b : ℕ) → length clusters ≡ count_by is_cluster rooms
+    → Each RoomFits rooms
     → IsMet at rooms a b (meets_from (λ (entry : Entry). entry.size) at (laid_on clusters rooms) a b)
 unfolding laid_on bytes_in meets_from
 met_is clusters [] at a b e fit = record { references = omega arith; room = omega (arith, shared_none at a b) }
@@ -165,53 +186,88 @@ met_is clusters (Plain n ∷ rooms) at a b e fit =
     later : List Entry
     later = meets_from (λ (entry : Entry). entry.size) (at + n) (laid_on clusters rooms) a b
 
-    go : IsMet (at + n) rooms a b (meets_from (λ (entry : Entry). entry.size) (at + n) (laid_on clusters rooms) a b) → (t : Bool) → nat_lt (max at a) (min (at + n) b) ≡ t
-        → IsMet at (Plain n ∷ rooms) a b (cond t (record { size = n; cluster = None } ∷ meets_from (λ (entry : Entry). entry.size) (at + n) (laid_on clusters rooms) a b) (meets_from (λ (entry : Entry). entry.size) (at + n) (laid_on clusters rooms) a b))
-    go rest true t = record { references = omega (arith, rest.references); room = omega (arith, shared_more at n (bytes_in rooms) a b, rest.room, rest.references, fit.0) }
-    go rest false t = record { references = rest.references; room = omega (arith, shared_past at n (bytes_in rooms) a b (ltb-false _ _ t), rest.room) }
+    go : IsMet (at + n) rooms a b (meets_from (λ (entry : Entry). entry.size) (at + n) (laid_on clusters rooms) a b)
+        → (t : Bool) → nat_lt (max at a) (min (at + n) b) ≡ t
+        → IsMet at (Plain n ∷ rooms) a b
+        (cond t (record { size = n; cluster = None }
+        ∷ meets_from (λ (entry : Entry). entry.size) (at + n) (laid_on clusters rooms) a b) (meets_from
+        (λ (entry : Entry). entry.size) (at + n) (laid_on clusters rooms) a b))
+    go rest true t =
+        record {
+          references = omega (arith, rest.references);
+          room = omega (arith, shared_more at n (bytes_in rooms) a b, rest.room, rest.references, fit.0);
+        }
+    go rest false t =
+        record {
+          references = rest.references;
+          room = omega (arith, shared_past at n (bytes_in rooms) a b (ltb-false _ _ t), rest.room);
+        }
 met_is [] (Cluster n ∷ rooms) at a b e fit = let count = count_cons is_cluster (Cluster n) rooms in absurd (omega arith)
 met_is (c ∷ clusters) (Cluster n ∷ rooms) at a b e fit =
     let count = count_cons is_cluster (Cluster n) rooms in
     go (met_is clusters rooms (at + n) a b (omega arith) fit.1) (nat_lt (max at a) (min (at + n) b)) refl
   where
-    go : IsMet (at + n) rooms a b (meets_from (λ (entry : Entry). entry.size) (at + n) (laid_on clusters rooms) a b) → (t : Bool) → nat_lt (max at a) (min (at + n) b) ≡ t
-        → IsMet at (Cluster n ∷ rooms) a b (cond t (record { size = n; cluster = Some c } ∷ meets_from (λ (entry : Entry). entry.size) (at + n) (laid_on clusters rooms) a b) (meets_from (λ (entry : Entry). entry.size) (at + n) (laid_on clusters rooms) a b))
-    go rest true t = record { references = omega (arith, rest.references); room = omega (arith, shared_more at n (bytes_in rooms) a b, rest.room, rest.references, fit.0) }
-    go rest false t = record { references = rest.references; room = omega (arith, shared_past at n (bytes_in rooms) a b (ltb-false _ _ t), rest.room) }
+    go : IsMet (at + n) rooms a b (meets_from (λ (entry : Entry). entry.size) (at + n) (laid_on clusters rooms) a b)
+        → (t : Bool) → nat_lt (max at a) (min (at + n) b) ≡ t
+        → IsMet at (Cluster n ∷ rooms) a b
+        (cond t (record { size = n; cluster = Some c }
+        ∷ meets_from (λ (entry : Entry). entry.size) (at + n) (laid_on clusters rooms) a b) (meets_from
+        (λ (entry : Entry). entry.size) (at + n) (laid_on clusters rooms) a b))
+    go rest true t =
+        record {
+          references = omega (arith, rest.references);
+          room = omega (arith, shared_more at n (bytes_in rooms) a b, rest.room, rest.references, fit.0);
+        }
+    go rest false t =
+        record {
+          references = rest.references;
+          room = omega (arith, shared_past at n (bytes_in rooms) a b (ltb-false _ _ t), rest.room);
+        }
 
 met_number : (clusters : List ℕ) (rooms : List Room) (at a b : ℕ)
-    → length (meets_from (λ (entry : Entry). entry.size) at (laid_on clusters rooms) a b) ≡ length (meets_from size_of at rooms a b)
+    → length (meets_from (λ (entry : Entry). entry.size) at (laid_on clusters rooms) a b)
+    ≡ length (meets_from size_of at rooms a b)
 unfolding laid_on meets_from
 met_number clusters [] at a b = refl
-met_number clusters (Plain n ∷ rooms) at a b = go (nat_lt (max at a) (min (at + n) b)) _ _ (met_number clusters rooms (at + n) a b)
+met_number clusters (Plain n ∷ rooms) at a b =
+    go (nat_lt (max at a) (min (at + n) b)) _ _ (met_number clusters rooms (at + n) a b)
   where
-    go : (t : Bool) (xs : List Entry) (ys : List Room) → length xs ≡ length ys → length (cond t (record { size = n; cluster = None } ∷ xs) xs) ≡ length (cond t (Plain n ∷ ys) ys)
+    go : (t : Bool) (xs : List Entry) (ys : List Room) → length xs ≡ length ys
+        → length (cond t (record { size = n; cluster = None } ∷ xs) xs) ≡ length (cond t (Plain n ∷ ys) ys)
     go true xs ys e = ap suc e
     go false xs ys e = e
-met_number [] (Cluster n ∷ rooms) at a b = go (nat_lt (max at a) (min (at + n) b)) _ _ (met_number [] rooms (at + n) a b)
+met_number [] (Cluster n ∷ rooms) at a b =
+    go (nat_lt (max at a) (min (at + n) b)) _ _ (met_number [] rooms (at + n) a b)
   where
-    go : (t : Bool) (xs : List Entry) (ys : List Room) → length xs ≡ length ys → length (cond t (record { size = n; cluster = None } ∷ xs) xs) ≡ length (cond t (Cluster n ∷ ys) ys)
+    go : (t : Bool) (xs : List Entry) (ys : List Room) → length xs ≡ length ys
+        → length (cond t (record { size = n; cluster = None } ∷ xs) xs) ≡ length (cond t (Cluster n ∷ ys) ys)
     go true xs ys e = ap suc e
     go false xs ys e = e
-met_number (c ∷ clusters) (Cluster n ∷ rooms) at a b = go (nat_lt (max at a) (min (at + n) b)) _ _ (met_number clusters rooms (at + n) a b)
+met_number (c ∷ clusters) (Cluster n ∷ rooms) at a b =
+    go (nat_lt (max at a) (min (at + n) b)) _ _ (met_number clusters rooms (at + n) a b)
   where
-    go : (t : Bool) (xs : List Entry) (ys : List Room) → length xs ≡ length ys → length (cond t (record { size = n; cluster = Some c } ∷ xs) xs) ≡ length (cond t (Cluster n ∷ ys) ys)
+    go : (t : Bool) (xs : List Entry) (ys : List Room) → length xs ≡ length ys
+        → length (cond t (record { size = n; cluster = Some c } ∷ xs) xs) ≡ length (cond t (Cluster n ∷ ys) ys)
     go true xs ys e = ap suc e
     go false xs ys e = e
 
-each_met : (P : ℕ → Type 0) (entries : List Entry) (at a b : ℕ) → Each P (weight_of entries).bag → Each P (weight_of (meets_from (λ (entry : Entry). entry.size) at entries a b)).bag
+each_met : (P : ℕ → Type 0) (entries : List Entry) (at a b : ℕ) → Each P (weight_of entries).bag
+    → Each P (weight_of (meets_from (λ (entry : Entry). entry.size) at entries a b)).bag
 unfolding meets_from
 each_met P [] at a b h = tt
-each_met P (x ∷ xs) at a b h = go (nat_lt (max at a) (min (at + x.size) b)) x.cluster _ (each_met P xs (at + x.size) a b) h
+each_met P (x ∷ xs) at a b h =
+    go (nat_lt (max at a) (min (at + x.size) b)) x.cluster _ (each_met P xs (at + x.size) a b) h
   where
     rest : List Entry
     rest = meets_from (λ (entry : Entry). entry.size) (at + x.size) xs a b
 
-    with_it : (o : Option ℕ) (ks ms : List ℕ) → (Each P ks → Each P ms) → Each P (cons_option o ks) → Each P (cons_option o ms) × Each P ms
+    with_it : (o : Option ℕ) (ks ms : List ℕ) → (Each P ks → Each P ms) → Each P (cons_option o ks)
+        → Each P (cons_option o ms) × Each P ms
     with_it None ks ms f h = (f h, f h)
     with_it (Some k) ks ms f h = ((h.0, f h.1), f h.1)
 
-    go : (t : Bool) (o : Option ℕ) (ys : List Entry) → (Each P (weight_of xs).bag → Each P (weight_of ys).bag) → Each P (cons_option o (weight_of xs).bag)
+    go : (t : Bool) (o : Option ℕ) (ys : List Entry) → (Each P (weight_of xs).bag → Each P (weight_of ys).bag)
+        → Each P (cons_option o (weight_of xs).bag)
         → Each P (weight_of (cond t (record { size = x.size; cluster = o } ∷ ys) ys)).bag
     go true o ys f h = (with_it o _ _ f h).0
     go false o ys f h = (with_it o _ _ f h).1
@@ -223,7 +279,8 @@ pub record PartFits (n mtu : ℕ) (p : Part) : Type 0 where
   pub inside : p.offset + p.size ≤ n
   pub within : 20 + p.size ≤ mtu
 
-grid_fits : (n mtu c i k : ℕ) → ((j : ℕ) → j < i + k → j * c < n) → 20 + c ≤ mtu → Each (PartFits n mtu) (map (part n c) (range_with_len i k))
+grid_fits : (n mtu c i k : ℕ) → ((j : ℕ) → j < i + k → j * c < n) → 20 + c ≤ mtu
+    → Each (PartFits n mtu) (map (part n c) (range_with_len i k))
 grid_fits n mtu c i zero h le = tt
 grid_fits n mtu c i (suc k) h le =
     let below : i * c < n = h i (omega arith) in
@@ -233,9 +290,11 @@ pub parts_fit : (n mtu : ℕ) → 28 ≤ mtu → Each (PartFits n mtu) (cuts n m
 parts_fit n mtu low = go (cases_lt mtu (20 + n))
   where
     go : (mtu < 20 + n) ⊎ (20 + n ≤ mtu) → Each (PartFits n mtu) (cuts n mtu)
-    go (inr h) = subst (Each (PartFits n mtu)) (sym (cuts_short n mtu h)) (record { inside = omega arith; within = h }, tt)
+    go (inr h) =
+        subst (Each (PartFits n mtu)) (sym (cuts_short n mtu h)) (record { inside = omega arith; within = h }, tt)
     go (inl h) = subst (Each (PartFits n mtu)) (sym (cuts_long n mtu h))
-        (grid_fits n mtu (chunk mtu) 0 (chunks n (chunk mtu)) (λ j l. chunks_needed n (chunk mtu) j (omega (arith, chunk_some mtu low)) (omega arith)) (chunk_fits mtu low))
+        (grid_fits n mtu (chunk mtu) 0 (chunks n (chunk mtu))
+        (λ j l. chunks_needed n (chunk mtu) j (omega (arith, chunk_some mtu low)) (omega arith)) (chunk_fits mtu low))
 
 pub length-packet : (h : Flat.Head) (t : List ℕ) → length (packet h t) ≡ 20 + length t
 unfolding packet
@@ -246,36 +305,54 @@ pub record ItemFits (c : Config) (mtu : ℕ) (item : Item) : Type 0 where
   pub carries : Carries c item.weight (length item.bytes)
   pub fits : length item.bytes ≤ mtu
 
-module _ (c : Config) (clusters : List ℕ) (n mtu : ℕ) (number : length clusters ≡ count_by is_cluster (sent n)) (exist : Each (λ k. k < c.clusters) clusters)
+module _ (c : Config) (clusters : List ℕ) (n mtu : ℕ) (number : length clusters ≡ count_by is_cluster (sent n))
+    (exist : Each (λ k. k < c.clusters) clusters)
     (bytes : Part → List ℕ) (sizes : (p : Part) → length (bytes p) ≤ 20 + p.size) where
-  later_fits : (p : Part) → PartFits (n + 8) mtu p → ItemFits c mtu (record { bytes = bytes p; weight = later_weight (laid_on clusters (sent n)) p })
+  later_fits : (p : Part) → PartFits (n + 8) mtu p
+      → ItemFits c mtu (record { bytes = bytes p; weight = later_weight (laid_on clusters (sent n)) p })
   unfolding shared
   later_fits p fit =
       let f = sent_is n in
       let met = met_is clusters (sent n) 0 (20 + p.offset) (20 + p.offset + p.size) number f.fit in
       record {
         carries = record {
-          covers = record { some = omega arith; references = omega (arith, met.references); room = omega (arith, met.room, met.references, f.bytes, fit.inside, sizes p) };
-          exist = each_met (λ k. k < c.clusters) (laid_on clusters (sent n)) 0 (20 + p.offset) (20 + p.offset + p.size) (each_laid (λ k. k < c.clusters) clusters (sent n) exist);
+          covers =
+              record {
+                some = omega arith;
+                references = omega (arith, met.references);
+                room = omega (arith, met.room, met.references, f.bytes, fit.inside, sizes p);
+              };
+          exist =
+              each_met (λ k. k < c.clusters) (laid_on clusters (sent n)) 0 (20 + p.offset) (20 + p.offset + p.size)
+              (each_laid (λ k. k < c.clusters) clusters (sent n) exist);
         };
         fits = omega (arith, sizes p, fit.within);
       }
 
-  pub items_fit : (parts : List Part) → Each (PartFits (n + 8) mtu) parts → Each (ItemFits c mtu) (items (laid_on clusters (sent n)) bytes parts)
+  pub items_fit : (parts : List Part) → Each (PartFits (n + 8) mtu) parts
+      → Each (ItemFits c mtu) (items (laid_on clusters (sent n)) bytes parts)
   items_fit [] h = tt
   items_fit (p ∷ later) h = (
     record {
-      carries = carries_less c (weight_of (laid_on clusters (sent n))) (length (bytes p)) (28 + n) (omega (arith, sizes p, h.0.inside)) (laid_carries c clusters (sent n) (28 + n) (sent_is n) (sent_some n) number exist);
+      carries =
+          carries_less c (weight_of (laid_on clusters (sent n))) (length (bytes p)) (28 + n)
+          (omega (arith, sizes p, h.0.inside))
+          (laid_carries c clusters (sent n) (28 + n) (sent_is n) (sent_some n) number exist);
       fits = omega (arith, sizes p, h.0.within);
     },
     rest later h.1,
   )
     where
-      rest : (parts : List Part) → Each (PartFits (n + 8) mtu) parts → Each (ItemFits c mtu) (map (λ q. record { bytes = bytes q; weight = later_weight (laid_on clusters (sent n)) q }) parts)
+      rest : (parts : List Part) → Each (PartFits (n + 8) mtu) parts
+          → Each (ItemFits c mtu) (map (λ q. record
+          { bytes = bytes q; weight = later_weight (laid_on clusters (sent n)) q }) parts)
       rest [] h = tt
       rest (q ∷ qs) h = (later_fits q h.0, rest qs h.1)
 
-  later_mbufs : (parts : List Part) → (all_of (λ (item : Item). item.weight) (map (λ q. record { bytes = bytes q; weight = later_weight (laid_on clusters (sent n)) q }) parts)).mbufs ≡ sum_by (need_of_part (sent n)) parts
+  later_mbufs : (parts : List Part)
+      → (all_of (λ (item : Item). item.weight)
+      (map (λ q. record { bytes = bytes q; weight = later_weight (laid_on clusters (sent n)) q })
+      parts)).mbufs ≡ sum_by (need_of_part (sent n)) parts
   later_mbufs [] = refl
   later_mbufs (q ∷ qs) =
       let here = met_number clusters (sent n) 0 (20 + q.offset) (20 + q.offset + q.size) in
@@ -283,7 +360,9 @@ module _ (c : Config) (clusters : List ℕ) (n mtu : ℕ) (number : length clust
       let sum = sum_by-cons (need_of_part (sent n)) q qs in
       omega arith
 
-  pub items_mbufs : (parts : List Part) → (all_of (λ (item : Item). item.weight) (items (laid_on clusters (sent n)) bytes parts)).mbufs ≤ length (sent n) + sum_by (need_of_part (sent n)) (drop 1 parts)
+  pub items_mbufs : (parts : List Part)
+      → (all_of (λ (item : Item). item.weight) (items (laid_on clusters (sent n)) bytes parts)).mbufs
+      ≤ length (sent n) + sum_by (need_of_part (sent n)) (drop 1 parts)
   items_mbufs [] = omega arith
   items_mbufs (p ∷ later) =
       let first = laid_mbufs clusters (sent n) in

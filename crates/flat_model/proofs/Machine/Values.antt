@@ -49,18 +49,29 @@ fold_rfc = refl
 hi : List ℕ
 hi = udp 167772161 167772162 1024 7 (104 ∷ 105 ∷ [])
 
-sent_packet : packet (record { id = 1; more = false; offset = 0; protocol = 17; source = 167772161; destination = 167772162 }) hi
-    ≡ 69 ∷ 0 ∷ 0 ∷ 30 ∷ 0 ∷ 1 ∷ 0 ∷ 0 ∷ 64 ∷ 17 ∷ 102 ∷ 204 ∷ 10 ∷ 0 ∷ 0 ∷ 1 ∷ 10 ∷ 0 ∷ 0 ∷ 2 ∷ 4 ∷ 0 ∷ 0 ∷ 7 ∷ 0 ∷ 10 ∷ 127 ∷ 103 ∷ 104 ∷ 105 ∷ []
+sent_packet : packet (record {
+  id = 1;
+  more = false;
+  offset = 0;
+  protocol = 17;
+  source = 167772161;
+  destination = 167772162;
+}) hi
+    ≡ 69 ∷ 0 ∷ 0 ∷ 30 ∷ 0 ∷ 1 ∷ 0 ∷ 0 ∷ 64 ∷ 17 ∷ 102 ∷ 204 ∷ 10 ∷ 0 ∷ 0 ∷ 1 ∷ 10 ∷ 0 ∷ 0 ∷ 2 ∷ 4 ∷ 0 ∷ 0 ∷ 7 ∷ 0 ∷ 10
+    ∷ 127 ∷ 103 ∷ 104 ∷ 105 ∷ []
 unfolding packet hi udp
 sent_packet = refl
 
 -- its header is read back, and has no fault
-sent_packet_read : head_of (packet (record { id = 1; more = false; offset = 0; protocol = 17; source = 167772161; destination = 167772162 }) hi)
+sent_packet_read : head_of (packet
+    (record { id = 1; more = false; offset = 0; protocol = 17; source = 167772161; destination = 167772162 }) hi)
     ≡ record { id = 1; more = false; offset = 0; protocol = 17; source = 167772161; destination = 167772162 }
 unfolding packet hi udp
 sent_packet_read = refl
 
-sent_packet_fault : head_fault (packet (record { id = 1; more = false; offset = 0; protocol = 17; source = 167772161; destination = 167772162 }) hi) ≡ None
+sent_packet_fault : head_fault
+    (packet (record { id = 1; more = false; offset = 0; protocol = 17; source = 167772161; destination = 167772162 })
+    hi) ≡ None
 unfolding packet hi udp
 sent_packet_fault = refl
 
@@ -86,13 +97,16 @@ piece_at (Some held) = held.piece.first
 
 -- c at 16, d at 8, e at 0, each 16 bytes long
 three_pieces : Map
-three_pieces = overlay (overlay (overlay empty (of_bytes 16 false (eight 99 ++ eight 99))) (of_bytes 8 true (eight 100 ++ eight 100))) (of_bytes 0 true (eight 1 ++ eight 101))
+three_pieces =
+    overlay (overlay (overlay empty (of_bytes 16 false (eight 99 ++ eight 99)))
+    (of_bytes 8 true (eight 100 ++ eight 100))) (of_bytes 0 true (eight 1 ++ eight 101))
 
 three_pieces_bytes : bytes_below three_pieces 32 ≡ eight 1 ++ eight 101 ++ eight 100 ++ eight 99
 unfolding three_pieces of_bytes eight overlay first_owned
 three_pieces_bytes = refl
 
-three_pieces_first : map (λ offset. piece_at (three_pieces offset)) (0 ∷ 15 ∷ 16 ∷ 23 ∷ 24 ∷ 31 ∷ 32 ∷ []) ≡ 0 ∷ 0 ∷ 16 ∷ 16 ∷ 24 ∷ 24 ∷ 99 ∷ []
+three_pieces_first : map (λ offset. piece_at (three_pieces offset)) (0 ∷ 15 ∷ 16 ∷ 23 ∷ 24 ∷ 31 ∷ 32 ∷ [])
+    ≡ 0 ∷ 0 ∷ 16 ∷ 16 ∷ 24 ∷ 24 ∷ 99 ∷ []
 unfolding three_pieces of_bytes eight overlay first_owned piece_at
 three_pieces_first = refl
 
@@ -104,7 +118,8 @@ front_piece_covers : is_covered front_piece (of_bytes 8 false (eight 99)) ≡ tr
 unfolding front_piece of_bytes eight overlay first_owned
 front_piece_covers = refl
 
-front_piece_bytes : bytes_below (overlay front_piece (of_bytes 16 false (eight 98))) 24 ≡ eight 1 ++ eight 97 ++ eight 98
+front_piece_bytes : bytes_below (overlay front_piece (of_bytes 16 false (eight 98))) 24
+    ≡ eight 1 ++ eight 97 ++ eight 98
 unfolding front_piece of_bytes eight overlay first_owned
 front_piece_bytes = refl
 
@@ -128,7 +143,8 @@ best_youngest : found (best from_other (bound 5 None None ∷ bound 4 None None 
 unfolding found bound from_other other
 best_youngest = refl
 
-best_fewest : found (best from_other (bound 6 None None ∷ bound 5 (Some 167772161) (Some other) ∷ bound 4 (Some 167772161) None ∷ [])) ≡ 5
+best_fewest : found (best from_other
+    (bound 6 None None ∷ bound 5 (Some 167772161) (Some other) ∷ bound 4 (Some 167772161) None ∷ [])) ≡ 5
 unfolding found bound from_other other
 best_fewest = refl
 
@@ -139,7 +155,8 @@ best_none = refl
 share : Socket → Socket
 share socket = record socket { reuse_port = true }
 
-receivers_two : map (λ socket. socket.fd) (receivers from_other (share (bound 6 None None) ∷ bound 5 None None ∷ bound 4 None None ∷ [])) ≡ 6 ∷ 5 ∷ []
+receivers_two : map (λ socket. socket.fd)
+    (receivers from_other (share (bound 6 None None) ∷ bound 5 None None ∷ bound 4 None None ∷ [])) ≡ 6 ∷ 5 ∷ []
 unfolding bound from_other other share
 receivers_two = refl
 
@@ -152,6 +169,7 @@ largest_mbufs : map (λ item. item.weight.mbufs) largest ≡ 6 ∷ 3 ∷ 3 ∷ 2
 unfolding largest laid_on filled cuts meets_from
 largest_mbufs = refl
 
-largest_counts : map (λ c. times c (all_of (λ item. item.weight) largest).bag) (10 ∷ 11 ∷ 12 ∷ 13 ∷ 14 ∷ []) ≡ 2 ∷ 3 ∷ 4 ∷ 3 ∷ 3 ∷ []
+largest_counts : map (λ c. times c (all_of (λ item. item.weight) largest).bag) (10 ∷ 11 ∷ 12 ∷ 13 ∷ 14 ∷ [])
+    ≡ 2 ∷ 3 ∷ 4 ∷ 3 ∷ 3 ∷ []
 unfolding largest laid_on filled cuts meets_from
 largest_counts = refl

@@ -62,7 +62,8 @@ pub fold16-high : (a b : ℕ) → fold16 (65536 * a + b) ≡ fold16 (a + b)
 fold16-high a b =
     elim (eq-zero-or-pos (a + b)) [
       | inl none ↦ let same : 65536 * a + b ≡ a + b = omega arith in ap fold16 same
-      | inr some ↦ let parts : 65536 * a + b ≡ 65535 * a + (a + b) = omega arith in ap fold16 parts ∙ fold16-more a (a + b) some
+      | inr some ↦ let parts : 65536 * a + b ≡ 65535 * a + (a + b) = omega arith in
+          ap fold16 parts ∙ fold16-more a (a + b) some
     ]
 
 pub fold16-halves : (n : ℕ) → fold16 (n / 65536 + n % 65536) ≡ fold16 n

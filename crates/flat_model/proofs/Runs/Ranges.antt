@@ -8,7 +8,8 @@ use Rattle.flat_model.specs.Machine.Event.{Event, IsEvent, IsAddr, IsBytes, Open
 use Rattle.flat_model.specs.Scripts.Grammar.{IsLine, IsEnd, IsHex}
 
 bytes-all : (xs : List ℕ) → ((i : ℕ) → get_or xs i 0 < 256) → IsBytes xs
-bytes-all xs small = λ k d below. let same : get_or xs k d ≡ get_or xs k 0 = get_or_default xs k d 0 below in rw same (small k)
+bytes-all xs small = λ k d below. let same : get_or xs k d ≡ get_or xs k 0 = get_or_default xs k d 0 below in
+    rw same (small k)
 
 hex-bytes : (word bytes : List ℕ) → IsHex word bytes → IsBytes bytes × (length bytes ≤ IP_MAX_PACKET)
 hex-bytes word bytes (inl dash) = rw dash.1 (search rules, omega arith)

@@ -9,13 +9,16 @@ use Rattle.flat_model.specs.Scripts.Script.{AnswersAll, Prints, AreTurns, IsPrin
 use Rattle.flat_model.proofs.Runs.Ranges.{in_range}
 
 pub one_more_turn : (L : Ledger) (old mid new : State) (turns : List Turn) (turn : Turn)
-    → Leads L old turns mid → IsEvent turn.event → StepBy L mid turn.event turn.reply new → Leads L old (turns ++ turn ∷ []) new
-one_more_turn L old mid new [] turn run is step = (is, new, subst (λ s. StepBy L s turn.event turn.reply new) run step, refl)
+    → Leads L old turns mid → IsEvent turn.event → StepBy L mid turn.event turn.reply new
+    → Leads L old (turns ++ turn ∷ []) new
+one_more_turn L old mid new [] turn run is step =
+    (is, new, subst (λ s. StepBy L s turn.event turn.reply new) run step, refl)
 one_more_turn L old mid new (first ∷ turns) turn (range, next, taken, later) is step =
     (range, next, taken, one_more_turn L next mid new turns turn later is step)
 
 -- the turns of lines that were answered so
-record Told (L : Ledger) (serves : Event → Bool) (old : State) (lines : List (List ℕ)) (answers : List (Option Reply)) (new : State) : Type 0 where
+record Told (L : Ledger) (serves : Event → Bool) (old : State) (lines : List (List ℕ)) (answers : List (Option Reply))
+    (new : State) : Type 0 where
   turns : List Turn
   are : AreTurns serves lines answers turns
   leads : Leads L old turns new
@@ -33,7 +36,8 @@ told L serves old new (line ∷ lines) (Some reply ∷ answers) (mid, (event, as
       leads = (in_range line event asks.form, mid, step, rest.leads);
     }
 told L serves old new (line ∷ lines) (None ∷ answers) (mid, (nothing, same), later) =
-    let rest = told L serves old new lines answers (subst (λ s. AnswersAll serves (StepBy L) s lines answers new) same later) in
+    let rest =
+    told L serves old new lines answers (subst (λ s. AnswersAll serves (StepBy L) s lines answers new) same later) in
     record { turns = rest.turns; are = (nothing, rest.are); leads = rest.leads }
 
 -- what is printed for lines is of a run

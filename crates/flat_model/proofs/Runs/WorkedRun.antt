@@ -20,7 +20,8 @@ plain = record { addr = 167772161; bcast = 167772415; mtu = 1500; mbufs = 512; c
 
 -- from 10.0.0.2 port 5000 to 10.0.0.1 port 7, with the bytes 104 and 105
 abbrev w : List ℕ
-w = 69 ∷ 0 ∷ 0 ∷ 30 ∷ 0 ∷ 1 ∷ 0 ∷ 0 ∷ 64 ∷ 17 ∷ 102 ∷ 204 ∷ 10 ∷ 0 ∷ 0 ∷ 2 ∷ 10 ∷ 0 ∷ 0 ∷ 1 ∷ 19 ∷ 136 ∷ 0 ∷ 7 ∷ 0 ∷ 10 ∷ 111 ∷ 223 ∷ 104 ∷ 105 ∷ []
+w = 69 ∷ 0 ∷ 0 ∷ 30 ∷ 0 ∷ 1 ∷ 0 ∷ 0 ∷ 64 ∷ 17 ∷ 102 ∷ 204 ∷ 10 ∷ 0 ∷ 0 ∷ 2 ∷ 10 ∷ 0 ∷ 0 ∷ 1 ∷ 19 ∷ 136 ∷ 0 ∷ 7 ∷ 0 ∷ 10
+    ∷ 111 ∷ 223 ∷ 104 ∷ 105 ∷ []
 
 abbrev s1 : State
 s1 = record (boot plain) { sockets = fresh 3 ∷ [] }
@@ -56,14 +57,23 @@ at_some : {T : Type 0} {P : Type 0} {Q : T → Type 0} (x : T) → Q x → Case 
 at_some {Q = Q} x q = record { none = λ e. absurd (none-some x (sym e)); some = λ y e. subst Q (same_Some x y e) q }
 
 opens : Step (boot plain) Open (Opened 3) s1
-opens = when refl (3, record { least = omega arith; free = refl; passed = λ k low high. absurd (omega arith) }, refl, refl)
+opens =
+    when refl (3, record { least = omega arith; free = refl; passed = λ k low high. absurd (omega arith) }, refl, refl)
 
 binds : Step s1 (Bind 3 (record { ip = 0; port = 7 })) Done s2
 binds = at_some _ (at_none (7, s1, (refl, refl), refl, refl))
 
 s3 : State
 s3 = record s2 {
-  sockets = record (fresh 3) { port = Some 7; queue = record { sender = record { ip = 167772162; port = 5000 }; item = record { bytes = 104 ∷ 105 ∷ []; weight = record { mbufs = 2; bag = [] } } } ∷ [] } ∷ [];
+  sockets =
+      record (fresh 3) {
+        port = Some 7;
+        queue =
+            record {
+              sender = record { ip = 167772162; port = 5000 };
+              item = record { bytes = 104 ∷ 105 ∷ []; weight = record { mbufs = 2; bag = [] } };
+            } ∷ [];
+      } ∷ [];
   counters = counts_more IpTotal 1 s2.counters;
 }
 
@@ -79,19 +89,33 @@ comes = (
     when refl (
       [],
       record { number = refl; distinct = λ c. omega arith; free = λ k d h. absurd (omega arith) },
-      at_none (when refl (unless refl (when refl (at_none (when refl (record { answer = true; mid = _; has_buffers = inl (refl, refl); goes_on = when refl refl })))))),
+      at_none (when refl (unless refl
+          (when refl (at_none (when refl
+          (record { answer = true; mid = _; has_buffers = inl (refl, refl); goes_on = when refl refl })))))),
     ),
   ),
 )
 
-receives : Step s3 (Receive 3 100) (Received (record { ip = 167772162; port = 5000 }) (104 ∷ 105 ∷ [])) (record s2 { counters = counts_more IpTotal 1 s2.counters })
+receives : Step s3 (Receive 3 100) (Received (record { ip = 167772162; port = 5000 }) (104 ∷ 105 ∷ []))
+    (record s2 { counters = counts_more IpTotal 1 s2.counters })
 unfolding s3
 receives = at_some _ (refl, refl)
 
 -- the four turns are a run
-a_run : Run plain (turn Open (Opened 3) ∷ turn (Bind 3 (record { ip = 0; port = 7 })) Done ∷ turn (Comes w) Done ∷ turn (Receive 3 100) (Received (record { ip = 167772162; port = 5000 }) (104 ∷ 105 ∷ [])) ∷ [])
+a_run : Run plain (turn Open (Opened 3) ∷ turn (Bind 3 (record { ip = 0; port = 7 })) Done ∷ turn (Comes w) Done
+    ∷ turn (Receive 3 100) (Received (record { ip = 167772162; port = 5000 }) (104 ∷ 105 ∷ [])) ∷ [])
     (record s2 { counters = counts_more IpTotal 1 s2.counters })
-a_run = (tt, s1, opens, (record { ip = omega arith; port = omega arith }, s2, binds, ((small, omega arith), s3, comes, (tt, _, receives, refl))))
+a_run = (
+  tt,
+  s1,
+  opens,
+  (
+    record { ip = omega arith; port = omega arith },
+    s2,
+    binds,
+    ((small, omega arith), s3, comes, (tt, _, receives, refl)),
+  ),
+)
   where
     small : IsBytes w
     small = All-from_recursion (λ byte. byte < 256) w (search arith)

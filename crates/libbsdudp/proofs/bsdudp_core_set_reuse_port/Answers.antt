@@ -7,6 +7,9 @@ use Rattle.libbsdudp.proofs.Answered.{answered_by}
 use Rattle.libbsdudp.proofs.bsdudp_core_set_reuse_port.Goals as goal
 
 pub returns-in-Some : goal.returns-in-Some
-returns-in-Some c = answered_by c.set-answer.result _ (λ z. IsDone (Set_option c.args.fd ReusePort c.args.on) z) _ _ (record { sfits = c.set-answer.type_inv }) c.in-Some.ensures.taken c.put.ensures
-    (subst (λ (x : Boxed). (IsDone (Set_option c.args.fd ReusePort c.args.on) c.set-answer.result) x.stack c.set-answer.new.stack) c.deref_mut.ensures.value
+returns-in-Some c =
+    answered_by c.set-answer.result _ (λ z. IsDone (Set_option c.args.fd ReusePort c.args.on) z) _ _
+    (record { sfits = c.set-answer.type_inv }) c.in-Some.ensures.taken c.put.ensures
+    (subst (λ (x : Boxed). (IsDone (Set_option c.args.fd ReusePort c.args.on) c.set-answer.result) x.stack
+    c.set-answer.new.stack) c.deref_mut.ensures.value
     c.set-answer.ensures)

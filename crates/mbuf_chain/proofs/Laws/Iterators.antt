@@ -16,7 +16,13 @@ concat_pieces v = concat_of v.entries
 
 sum_of : (es : List Entry) → sum_by (λ (p : ℕ × Option ℕ). p.0) (layout_of es) ≡ length (flat_bytes es)
 sum_of [] = refl
-sum_of (e ∷ es) = omega (arith, sum_of es, length-append e.bytes (flat_bytes es), sum_by-cons (λ (p : ℕ × Option ℕ). p.0) (length e.bytes, e.cluster) (layout_of es))
+sum_of (e ∷ es) =
+    omega (
+      arith,
+      sum_of es,
+      length-append e.bytes (flat_bytes es),
+      sum_by-cons (λ (p : ℕ × Option ℕ). p.0) (length e.bytes, e.cluster) (layout_of es),
+    )
 
 -- their lengths add up to the chain's
 pub sum_layout : (v : ChainView) → sum_by (λ (p : ℕ × Option ℕ). p.0) (layout v) ≡ length (string v)

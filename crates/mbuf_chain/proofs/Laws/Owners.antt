@@ -27,7 +27,9 @@ pub live_none : (p : PoolView) (k : ℕ) → finmap.get p.chains k ≡ None → 
 live_none p k e = ap (λ (o : Option ChainView). cond {A = ℕ} (is_some o) 1 0) e
 
 pub live_at_most : (p : PoolView) (k : ℕ) → live_at p k ≤ 1
-live_at_most p k = elim (finmap.get p.chains k) as (λ (o : Option ChainView). cond {A = ℕ} (is_some o) 1 0 ≤ 1) [ None ↦ omega arith | Some v ↦ omega arith ]
+live_at_most p k =
+    elim (finmap.get p.chains k) as (λ (o : Option ChainView). cond {A = ℕ} (is_some o) 1 0 ≤ 1)
+    [ None ↦ omega arith | Some v ↦ omega arith ]
 
 pub live_one : (p : PoolView) (k : ℕ) → IsLive p k → live_at p k ≡ 1
 live_one p k l = live_some p k (chain_of p k) l
@@ -60,7 +62,8 @@ apart_first p c xs o = omega (arith, o c, times_same c xs, live_at_most p c)
 -- a live chain that an owner hasn't comes to the others
 pub owned_more : (p : PoolView) (c : ℕ) (xs : List ℕ) → IsOwned p xs → IsLive p c → times c xs ≡ 0 → IsOwned p (c ∷ xs)
 owned_more p c xs o l apart = λ k. elim (cases_eq k c) [
-  | inl e ↦ subst (λ (j : ℕ). times j (c ∷ xs) ≤ live_at p j) (sym e) (omega (arith, times_same c xs, apart, live_one p c l))
+  | inl e ↦ subst (λ (j : ℕ). times j (c ∷ xs) ≤ live_at p j) (sym e)
+      (omega (arith, times_same c xs, apart, live_one p c l))
   | inr ne ↦ omega (arith, o k, times_other k c xs ne)
 ]
 
@@ -72,19 +75,22 @@ pub chain_there : (p : PoolView) (c k : ℕ) (v : ChainView) → k ≢ c → cha
 chain_there p c k v ne = ap (λ o. unwrap_or o no_chain) (get_there p.chains c v k ne)
 
 pub live_here : (p : PoolView) (c : ℕ) (v : ChainView) → IsLive (with_chain p c v) c
-live_here p c v = live_from (with_chain p c v) c (omega (arith, live_some (with_chain p c v) c v (get_here p.chains c v)))
+live_here p c v =
+    live_from (with_chain p c v) c (omega (arith, live_some (with_chain p c v) c v (get_here p.chains c v)))
 
 -- the same, by the equation of the step
 pub shown_with : (p q : PoolView) (c : ℕ) (v : ChainView) → q ≡ with_chain p c v → chain_of q c ≡ v
 shown_with p q c v e = ap (λ (r : PoolView). chain_of r c) e ∙ chain_here p c v
 
-pub kept_with : (p q : PoolView) (c : ℕ) (v : ChainView) (k : ℕ) → q ≡ with_chain p c v → k ≢ c → chain_of q k ≡ chain_of p k
+pub kept_with : (p q : PoolView) (c : ℕ) (v : ChainView) (k : ℕ) → q ≡ with_chain p c v → k ≢ c
+    → chain_of q k ≡ chain_of p k
 kept_with p q c v k e ne = ap (λ (r : PoolView). chain_of r k) e ∙ chain_there p c k v ne
 
 pub live_with : (p q : PoolView) (c : ℕ) (v : ChainView) (k : ℕ) → q ≡ with_chain p c v → IsLive p k → IsLive q k
 live_with p q c v k e l = subst (λ (r : PoolView). IsLive r k) (sym e) (elim (cases_eq k c) [
   | inl is ↦ subst (λ (j : ℕ). IsLive (with_chain p c v) j) (sym is) (live_here p c v)
-  | inr ne ↦ live_from (with_chain p c v) k (omega (arith, live_same p (with_chain p c v) k (get_there p.chains c v k ne), live_one p k l))
+  | inr ne ↦ live_from (with_chain p c v) k
+      (omega (arith, live_same p (with_chain p c v) k (get_there p.chains c v k ne), live_one p k l))
 ])
 
 pub chain_left : (p : PoolView) (c k : ℕ) → k ≢ c → chain_of (without p c) k ≡ chain_of p k
@@ -106,7 +112,9 @@ moves_trans {p} {q} {r} {xs} {ys} {zs} m n = record {
 }
 
 -- the owner has other chains beside those of the step
-pub moves_beside : {p q : PoolView} {xs ys : List ℕ} (us vs zs : List ℕ) → Moves p xs q ys → ((k : ℕ) → times k us ≡ times k zs + times k xs) → ((k : ℕ) → times k vs ≡ times k zs + times k ys) → Moves p us q vs
+pub moves_beside : {p q : PoolView} {xs ys : List ℕ} (us vs zs : List ℕ) → Moves p xs q ys
+    → ((k : ℕ) → times k us ≡ times k zs + times k xs) → ((k : ℕ) → times k vs ≡ times k zs + times k ys)
+    → Moves p us q vs
 moves_beside us vs zs m a b = record {
   mbufs = m.mbufs;
   clusters = m.clusters;
@@ -116,30 +124,39 @@ moves_beside us vs zs m a b = record {
 
 -- they stand in front, or after
 pub moves_after : {p q : PoolView} {xs ys : List ℕ} (zs : List ℕ) → Moves p xs q ys → Moves p (zs ++ xs) q (zs ++ ys)
-moves_after {p} {q} {xs} {ys} zs m = moves_beside (zs ++ xs) (zs ++ ys) zs m (λ k. times-append k zs xs) (λ k. times-append k zs ys)
+moves_after {p} {q} {xs} {ys} zs m =
+    moves_beside (zs ++ xs) (zs ++ ys) zs m (λ k. times-append k zs xs) (λ k. times-append k zs ys)
 
 pub moves_before : {p q : PoolView} {xs ys : List ℕ} (zs : List ℕ) → Moves p xs q ys → Moves p (xs ++ zs) q (ys ++ zs)
-moves_before {p} {q} {xs} {ys} zs m = moves_beside (xs ++ zs) (ys ++ zs) zs m (λ k. omega (arith, times-append k xs zs)) (λ k. omega (arith, times-append k ys zs))
+moves_before {p} {q} {xs} {ys} zs m =
+    moves_beside (xs ++ zs) (ys ++ zs) zs m (λ k. omega (arith, times-append k xs zs))
+    (λ k. omega (arith, times-append k ys zs))
 
 -- the order of an owner's list says nothing
-pub moves_reordered : {p q : PoolView} {xs ys : List ℕ} (us vs : List ℕ) → Moves p xs q ys → ((k : ℕ) → times k us ≡ times k xs) → ((k : ℕ) → times k vs ≡ times k ys) → Moves p us q vs
+pub moves_reordered : {p q : PoolView} {xs ys : List ℕ} (us vs : List ℕ) → Moves p xs q ys
+    → ((k : ℕ) → times k us ≡ times k xs) → ((k : ℕ) → times k vs ≡ times k ys) → Moves p us q vs
 moves_reordered us vs m a b = moves_beside us vs [] m (λ k. omega (arith, a k)) (λ k. omega (arith, b k))
 
 pub owned_after : {p q : PoolView} {xs ys : List ℕ} → Moves p xs q ys → IsOwned p xs → IsOwned q ys
 owned_after m o = λ k. omega (arith, m.owned k, o k)
 
 -- what else is owned beside stays owned
-pub owned_beside : {p q : PoolView} {xs ys : List ℕ} (zs : List ℕ) → Moves p xs q ys → IsOwned p (zs ++ xs) → IsOwned q (zs ++ ys)
+pub owned_beside : {p q : PoolView} {xs ys : List ℕ} (zs : List ℕ) → Moves p xs q ys → IsOwned p (zs ++ xs)
+    → IsOwned q (zs ++ ys)
 owned_beside {p} {q} {xs} {ys} zs m o = λ k. omega (arith, m.owned k, o k, times-append k zs xs, times-append k zs ys)
 
 -- a step leaves the chains of an owner who has none of its own
-pub same_beside : {p q : PoolView} {xs ys : List ℕ} (zs : List ℕ) → Moves p xs q ys → IsOwned p zs → ((k : ℕ) → 0 < times k zs → times k xs ≡ 0) → SameAt p q zs
-same_beside {p} {q} {xs} {ys} zs m o h = record { mbufs = m.mbufs; same = λ k l. m.others k (live_owned p zs k o l) (h k l) }
+pub same_beside : {p q : PoolView} {xs ys : List ℕ} (zs : List ℕ) → Moves p xs q ys → IsOwned p zs
+    → ((k : ℕ) → 0 < times k zs → times k xs ≡ 0) → SameAt p q zs
+same_beside {p} {q} {xs} {ys} zs m o h =
+    record { mbufs = m.mbufs; same = λ k l. m.others k (live_owned p zs k o l) (h k l) }
 
 -- the same, where both are owned together
-pub same_after : {p q : PoolView} {xs ys : List ℕ} (zs : List ℕ) → Moves p xs q ys → IsOwned p (zs ++ xs) → SameAt p q zs
+pub same_after : {p q : PoolView} {xs ys : List ℕ} (zs : List ℕ) → Moves p xs q ys → IsOwned p (zs ++ xs)
+    → SameAt p q zs
 same_after {p} {q} {xs} {ys} zs m o =
-    same_beside zs m (λ k. omega (arith, o k, times-append k zs xs)) (λ k h. omega (arith, o k, times-append k zs xs, live_at_most p k))
+    same_beside zs m (λ k. omega (arith, o k, times-append k zs xs))
+    (λ k h. omega (arith, o k, times-append k zs xs, live_at_most p k))
 
 pub same_nothing : (p q : PoolView) (xs : List ℕ) → xs ≡ [] → q.mbufs ≡ p.mbufs → SameAt p q xs
 same_nothing p q xs e m = record { mbufs = m; same = λ k h. absurd (omega (arith, h, ap (times k) e)) }
@@ -155,20 +172,27 @@ pub moves_without : (p q : PoolView) (c : ℕ) → IsLive p c → q ≡ without 
 moves_without p q c l e = subst (λ (r : PoolView). Moves p (c ∷ []) r []) (sym e) (record {
   mbufs = refl;
   clusters = refl;
-  others = λ k l' h. get_left p.chains c k (λ e. absurd (omega (arith, times_same c [], ap (λ (j : ℕ). times j (c ∷ [])) e)));
+  others =
+      λ k l' h. get_left p.chains c k
+      (λ e. absurd (omega (arith, times_same c [], ap (λ (j : ℕ). times j (c ∷ [])) e)));
   owned = λ k. elim (cases_eq k c) [
-    | inl e ↦ subst (λ (j : ℕ). live_at (without p c) j + times j (c ∷ []) ≡ live_at p j + 0) (sym e) (omega (arith, live_none (without p c) c (get_gone p.chains c), live_one p c l, times_same c []))
+    | inl e ↦ subst (λ (j : ℕ). live_at (without p c) j + times j (c ∷ []) ≡ live_at p j + 0) (sym e)
+        (omega (arith, live_none (without p c) c (get_gone p.chains c), live_one p c l, times_same c []))
     | inr ne ↦ omega (arith, live_same p (without p c) k (get_left p.chains c k ne), times_other k c [] ne)
   ];
 })
 
-pub moves_with : (p q : PoolView) (c : ℕ) (v : ChainView) → IsLive p c → q ≡ with_chain p c v → Moves p (c ∷ []) q (c ∷ [])
+pub moves_with : (p q : PoolView) (c : ℕ) (v : ChainView) → IsLive p c → q ≡ with_chain p c v
+    → Moves p (c ∷ []) q (c ∷ [])
 moves_with p q c v l e = subst (λ (r : PoolView). Moves p (c ∷ []) r (c ∷ [])) (sym e) (record {
   mbufs = refl;
   clusters = refl;
-  others = λ k l' h. get_there p.chains c v k (λ e. absurd (omega (arith, times_same c [], ap (λ (j : ℕ). times j (c ∷ [])) e)));
+  others =
+      λ k l' h. get_there p.chains c v k
+      (λ e. absurd (omega (arith, times_same c [], ap (λ (j : ℕ). times j (c ∷ [])) e)));
   owned = λ k. elim (cases_eq k c) [
-    | inl e ↦ subst (λ (j : ℕ). live_at (with_chain p c v) j + times j (c ∷ []) ≡ live_at p j + times j (c ∷ [])) (sym e) (omega (arith, live_some (with_chain p c v) c v (get_here p.chains c v), live_one p c l))
+    | inl e ↦ subst (λ (j : ℕ). live_at (with_chain p c v) j + times j (c ∷ []) ≡ live_at p j + times j (c ∷ []))
+        (sym e) (omega (arith, live_some (with_chain p c v) c v (get_here p.chains c v), live_one p c l))
     | inr ne ↦ omega (arith, live_same p (with_chain p c v) k (get_there p.chains c v k ne))
   ];
 })
@@ -177,21 +201,26 @@ pub moves_adds : {p q : PoolView} {c : ℕ} {v : ChainView} → Adds p q c v →
 moves_adds {p} {q} {c} {v} a = subst (λ (r : PoolView). Moves p [] r (c ∷ [])) (sym a.pool) (record {
   mbufs = refl;
   clusters = refl;
-  others = λ k l h. get_there p.chains c v k (λ e. absurd (omega (arith, live_one p k l, ap (live_at p) e, live_none p c a.fresh)));
+  others =
+      λ k l h. get_there p.chains c v k
+      (λ e. absurd (omega (arith, live_one p k l, ap (live_at p) e, live_none p c a.fresh)));
   owned = λ k. elim (cases_eq k c) [
-    | inl e ↦ subst (λ (j : ℕ). live_at (with_chain p c v) j + 0 ≡ live_at p j + times j (c ∷ [])) (sym e) (omega (arith, live_some (with_chain p c v) c v (get_here p.chains c v), live_none p c a.fresh, times_same c []))
+    | inl e ↦ subst (λ (j : ℕ). live_at (with_chain p c v) j + 0 ≡ live_at p j + times j (c ∷ [])) (sym e)
+        (omega (arith, live_some (with_chain p c v) c v (get_here p.chains c v), live_none p c a.fresh, times_same c []))
     | inr ne ↦ omega (arith, live_same p (with_chain p c v) k (get_there p.chains c v k ne), times_other k c [] ne)
   ];
 })
 
 -- an owner changes one of its chains
-pub moves_within : (p q : PoolView) (c : ℕ) (v : ChainView) (xs : List ℕ) → IsLive p c → 0 < times c xs → q ≡ with_chain p c v → Moves p xs q xs
+pub moves_within : (p q : PoolView) (c : ℕ) (v : ChainView) (xs : List ℕ) → IsLive p c → 0 < times c xs
+    → q ≡ with_chain p c v → Moves p xs q xs
 moves_within p q c v xs l h e = subst (λ (r : PoolView). Moves p xs r xs) (sym e) (record {
   mbufs = refl;
   clusters = refl;
   others = λ k l' none. get_there p.chains c v k (λ is. absurd (omega (arith, ap (λ (j : ℕ). times j xs) is)));
   owned = λ k. elim (cases_eq k c) [
-    | inl e ↦ subst (λ (j : ℕ). live_at (with_chain p c v) j + times j xs ≡ live_at p j + times j xs) (sym e) (omega (arith, live_some (with_chain p c v) c v (get_here p.chains c v), live_one p c l))
+    | inl e ↦ subst (λ (j : ℕ). live_at (with_chain p c v) j + times j xs ≡ live_at p j + times j xs) (sym e)
+        (omega (arith, live_some (with_chain p c v) c v (get_here p.chains c v), live_one p c l))
     | inr ne ↦ omega (arith, live_same p (with_chain p c v) k (get_there p.chains c v k ne))
   ];
 })
@@ -205,16 +234,22 @@ pub same_adds : {p q : PoolView} {c : ℕ} {v : ChainView} (xs : List ℕ) → A
 same_adds xs a o = same_beside xs (moves_adds a) o (λ k h. refl)
 
 -- ---- a step of one chain after others
-pub then_without : {p q : PoolView} {xs : List ℕ} (r : PoolView) (c : ℕ) (ys : List ℕ) → Moves p xs q (c ∷ ys) → IsOwned p xs → r ≡ without q c → Moves p xs r ys
+pub then_without : {p q : PoolView} {xs : List ℕ} (r : PoolView) (c : ℕ) (ys : List ℕ) → Moves p xs q (c ∷ ys)
+    → IsOwned p xs → r ≡ without q c → Moves p xs r ys
 then_without {p} {q} {xs} r c ys m o e =
-    moves_trans m (moves_beside (c ∷ ys) ys ys (moves_without q r c (live_first q c ys (owned_after m o)) e) (λ k. omega arith) (λ k. omega arith))
+    moves_trans m (moves_beside (c ∷ ys) ys ys (moves_without q r c (live_first q c ys (owned_after m o)) e)
+    (λ k. omega arith) (λ k. omega arith))
 
-pub then_with : {p q : PoolView} {xs : List ℕ} (r : PoolView) (c : ℕ) (v : ChainView) (ys : List ℕ) → Moves p xs q (c ∷ ys) → IsOwned p xs → r ≡ with_chain q c v → Moves p xs r (c ∷ ys)
+pub then_with : {p q : PoolView} {xs : List ℕ} (r : PoolView) (c : ℕ) (v : ChainView) (ys : List ℕ)
+    → Moves p xs q (c ∷ ys) → IsOwned p xs → r ≡ with_chain q c v → Moves p xs r (c ∷ ys)
 then_with {p} {q} {xs} r c v ys m o e =
-    moves_trans m (moves_beside (c ∷ ys) (c ∷ ys) ys (moves_with q r c v (live_first q c ys (owned_after m o)) e) (λ k. omega arith) (λ k. omega arith))
+    moves_trans m (moves_beside (c ∷ ys) (c ∷ ys) ys (moves_with q r c v (live_first q c ys (owned_after m o)) e)
+    (λ k. omega arith) (λ k. omega arith))
 
-pub then_adds : {p q r : PoolView} {xs ys : List ℕ} {c : ℕ} {v : ChainView} → Moves p xs q ys → Adds q r c v → Moves p xs r (c ∷ ys)
-then_adds {p} {q} {r} {xs} {ys} {c} {v} m a = moves_trans m (moves_beside ys (c ∷ ys) ys (moves_adds a) (λ k. omega arith) (λ k. omega arith))
+pub then_adds : {p q r : PoolView} {xs ys : List ℕ} {c : ℕ} {v : ChainView} → Moves p xs q ys → Adds q r c v
+    → Moves p xs r (c ∷ ys)
+then_adds {p} {q} {r} {xs} {ys} {c} {v} m a =
+    moves_trans m (moves_beside ys (c ∷ ys) ys (moves_adds a) (λ k. omega arith) (λ k. omega arith))
 
 -- what a new chain is
 pub live_adds : {p q : PoolView} {c : ℕ} {v : ChainView} → Adds p q c v → IsLive q c
@@ -224,13 +259,22 @@ pub shown_adds : {p q : PoolView} {c : ℕ} {v : ChainView} → Adds p q c v →
 shown_adds {p} {q} {c} {v} a = shown_with p q c v a.pool
 
 -- a step of one chain leaves the others of its owner
-pub same_with : (p q : PoolView) (c : ℕ) (v : ChainView) (xs : List ℕ) → times c xs ≡ 0 → q ≡ with_chain p c v → SameAt p q xs
+pub same_with : (p q : PoolView) (c : ℕ) (v : ChainView) (xs : List ℕ) → times c xs ≡ 0 → q ≡ with_chain p c v
+    → SameAt p q xs
 same_with p q c v xs h e = subst (λ (r : PoolView). SameAt p r xs) (sym e)
-    (record { mbufs = refl; same = λ k l. get_there p.chains c v k (λ is. absurd (omega (arith, ap (λ (j : ℕ). times j xs) is))) })
+    (record {
+      mbufs = refl;
+      same = λ k l. get_there p.chains c v k
+          (λ is. absurd (omega (arith, ap (λ (j : ℕ). times j xs) is)));
+    })
 
 pub same_without : (p q : PoolView) (c : ℕ) (xs : List ℕ) → times c xs ≡ 0 → q ≡ without p c → SameAt p q xs
 same_without p q c xs h e = subst (λ (r : PoolView). SameAt p r xs) (sym e)
-    (record { mbufs = refl; same = λ k l. get_left p.chains c k (λ is. absurd (omega (arith, ap (λ (j : ℕ). times j xs) is))) })
+    (record {
+      mbufs = refl;
+      same = λ k l. get_left p.chains c k
+          (λ is. absurd (omega (arith, ap (λ (j : ℕ). times j xs) is)));
+    })
 
 -- ---- an owner of nothing changes nothing
 pub moves_nothing : {p q : PoolView} → Moves p [] q [] → q ≡ p

@@ -29,14 +29,17 @@ live_is : (p : PoolView) (k : ℕ) (v : ChainView) → finmap.get p.chains k ≡
 live_is p k v is = is ∙ ap (λ (w : ChainView). Some w) (sym (ap (λ (o : Option ChainView). unwrap_or o no_chain) is))
 
 pub live_without : (p q : PoolView) (c : ℕ) → q ≡ without p c → (k : ℕ) → k ≢ c → IsLive p k → IsLive q k
-live_without p q c is k ne live = live_is q k (chain_of p k) (ap (λ (r : PoolView). finmap.get r.chains k) is ∙ get_left p.chains c k ne ∙ live)
+live_without p q c is k ne live =
+    live_is q k (chain_of p k) (ap (λ (r : PoolView). finmap.get r.chains k) is ∙ get_left p.chains c k ne ∙ live)
 
 -- how many mbufs a chain has with another after it
-pub count_joined : (p q r : PoolView) (c d : ℕ) (w : ChainView) → Adds p q d w → r ≡ with_chain (without q d) c (joined (chain_of q c) (chain_of q d)) → c ≢ d
+pub count_joined : (p q r : PoolView) (c d : ℕ) (w : ChainView) → Adds p q d w
+    → r ≡ with_chain (without q d) c (joined (chain_of q c) (chain_of q d)) → c ≢ d
     → length (chain_of r c).entries ≡ length (chain_of p c).entries + length w.entries
 count_joined p q r c d w a is ne =
     let front : chain_of q c ≡ chain_of p c =
-    ap (λ (o : Option ChainView). unwrap_or o no_chain) (ap (λ (s : PoolView). finmap.get s.chains c) a.pool ∙ get_there p.chains d w c ne) in
+    ap (λ (o : Option ChainView). unwrap_or o no_chain)
+    (ap (λ (s : PoolView). finmap.get s.chains c) a.pool ∙ get_there p.chains d w c ne) in
     ap (λ (v : ChainView). length v.entries) (shown_with (without q d) r c (joined (chain_of q c) (chain_of q d)) is)
     ∙ length-append (chain_of q c).entries (chain_of q d).entries
     ∙ (λ i. length (front i).entries + length (shown_with p q d w a.pool i).entries)
@@ -46,24 +49,34 @@ pub place_kept : (v : ChainView) (i : ℕ) (e : Entry) (at : Place) → IsPlace 
 place_kept v i e at is = record { within = omega (arith, is.within, length-set v.entries i e); cell = is.cell }
 
 -- the place in a chain after its entry was changed, and every live chain
-pub place_after : (p q : PoolView) (c i : ℕ) (e : Entry) (at : Place) → q ≡ with_chain p c (with_entry (chain_of p c) i e) → IsPlace (chain_of p c) at → IsPlace (chain_of q c) at
-place_after p q c i e at is place = subst (λ (v : ChainView). IsPlace v at) (sym (shown_with p q c (with_entry (chain_of p c) i e) is)) (place_kept (chain_of p c) i e at place)
+pub place_after : (p q : PoolView) (c i : ℕ) (e : Entry) (at : Place)
+    → q ≡ with_chain p c (with_entry (chain_of p c) i e) → IsPlace (chain_of p c) at → IsPlace (chain_of q c) at
+place_after p q c i e at is place =
+    subst (λ (v : ChainView). IsPlace v at) (sym (shown_with p q c (with_entry (chain_of p c) i e) is))
+    (place_kept (chain_of p c) i e at place)
 
 -- the chain that a call made, where the call can't have been refused
-pub made : {E : Type 0} (p q : PoolView) (r : Result ℕ E) (d : ℕ) (w : ℕ → ChainView) → r ≡ Ok d → IfOk r (λ c. Adds p q c (w c)) → Adds p q d (w d)
+pub made : {E : Type 0} (p q : PoolView) (r : Result ℕ E) (d : ℕ) (w : ℕ → ChainView) → r ≡ Ok d
+    → IfOk r (λ c. Adds p q c (w c)) → Adds p q d (w d)
 made p q r d w is a = subst (λ x. IfOk x (λ c. Adds p q c (w c))) is a
 
-pub place_beside : (p q : PoolView) (c k : ℕ) (v : ChainView) (at : Place) → Adds p q c v → IsLive p k → IsPlace (chain_of p k) at → IsPlace (chain_of q k) at
-place_beside p q c k v at a live place = subst (λ (w : ChainView). IsPlace w at) (sym (kept_with p q c v k a.pool (apart p q c v a k live))) place
+pub place_beside : (p q : PoolView) (c k : ℕ) (v : ChainView) (at : Place) → Adds p q c v → IsLive p k
+    → IsPlace (chain_of p k) at → IsPlace (chain_of q k) at
+place_beside p q c k v at a live place =
+    subst (λ (w : ChainView). IsPlace w at) (sym (kept_with p q c v k a.pool (apart p q c v a k live))) place
 
 -- ---- what stands beside a step
-pub kept_adds : {p q : PoolView} {d : ℕ} {w : ChainView} (k : ℕ) → Adds p q d w → IsLive p k → finmap.get q.chains k ≡ finmap.get p.chains k
-kept_adds {p} {q} {d} {w} k a live = ap (λ (s : PoolView). finmap.get s.chains k) a.pool ∙ get_there p.chains d w k (apart p q d w a k live)
+pub kept_adds : {p q : PoolView} {d : ℕ} {w : ChainView} (k : ℕ) → Adds p q d w → IsLive p k
+    → finmap.get q.chains k ≡ finmap.get p.chains k
+kept_adds {p} {q} {d} {w} k a live =
+    ap (λ (s : PoolView). finmap.get s.chains k) a.pool ∙ get_there p.chains d w k (apart p q d w a k live)
 
 -- a new chain was linked after c
-pub kept_link : (p q r : PoolView) (k c d : ℕ) (v w : ChainView) → Adds p q d w → r ≡ with_chain (without q d) c v → IsLive p k → k ≢ c → finmap.get r.chains k ≡ finmap.get p.chains k
+pub kept_link : (p q r : PoolView) (k c d : ℕ) (v w : ChainView) → Adds p q d w → r ≡ with_chain (without q d) c v
+    → IsLive p k → k ≢ c → finmap.get r.chains k ≡ finmap.get p.chains k
 kept_link p q r k c d v w a is live ne =
-    ap (λ (s : PoolView). finmap.get s.chains k) is ∙ get_there (finmap.remove q.chains d) c v k ne ∙ get_left q.chains d k (apart p q d w a k live) ∙ kept_adds k a live
+    ap (λ (s : PoolView). finmap.get s.chains k) is ∙ get_there (finmap.remove q.chains d) c v k ne
+    ∙ get_left q.chains d k (apart p q d w a k live) ∙ kept_adds k a live
 
 -- what the map has at a number, a chain shows
 pub kept_chain : (p r : PoolView) (k : ℕ) → finmap.get r.chains k ≡ finmap.get p.chains k → chain_of r k ≡ chain_of p k
@@ -72,38 +85,52 @@ kept_chain p r k is = ap (λ (o : Option ChainView). unwrap_or o no_chain) is
 pub kept_live : (p r : PoolView) (k : ℕ) → finmap.get r.chains k ≡ finmap.get p.chains k → IsLive p k → IsLive r k
 kept_live p r k is live = is ∙ live ∙ ap (λ (v : ChainView). Some v) (sym (kept_chain p r k is))
 
-pub kept_place : (p r : PoolView) (k : ℕ) (at : Place) → finmap.get r.chains k ≡ finmap.get p.chains k → IsPlace (chain_of p k) at → IsPlace (chain_of r k) at
+pub kept_place : (p r : PoolView) (k : ℕ) (at : Place) → finmap.get r.chains k ≡ finmap.get p.chains k
+    → IsPlace (chain_of p k) at → IsPlace (chain_of r k) at
 kept_place p r k at is place = subst (λ (v : ChainView). IsPlace v at) (sym (kept_chain p r k is)) place
 
 -- ---- a new chain of one mbuf
-pub count_new : (p q : PoolView) (c : ℕ) (header : Bool) (e : Entry) → Adds p q c (one_mbuf header e c) → length (chain_of q c).entries ≡ 1
+pub count_new : (p q : PoolView) (c : ℕ) (header : Bool) (e : Entry) → Adds p q c (one_mbuf header e c)
+    → length (chain_of q c).entries ≡ 1
 count_new p q c header e a = ap (λ (v : ChainView). length v.entries) (shown_with p q c (one_mbuf header e c) a.pool)
 
-pub new_entry : (p q : PoolView) (c i : ℕ) (header : Bool) (e : Entry) → Adds p q c (one_mbuf header e c) → i ≡ 0 → entry_of (chain_of q c) i ≡ e
-new_entry p q c i header e a zero = ap (λ (v : ChainView). entry_of v i) (shown_with p q c (one_mbuf header e c) a.pool) ∙ ap (entry_of (one_mbuf header e c)) zero
+pub new_entry : (p q : PoolView) (c i : ℕ) (header : Bool) (e : Entry) → Adds p q c (one_mbuf header e c) → i ≡ 0
+    → entry_of (chain_of q c) i ≡ e
+new_entry p q c i header e a zero =
+    ap (λ (v : ChainView). entry_of v i) (shown_with p q c (one_mbuf header e c) a.pool)
+    ∙ ap (entry_of (one_mbuf header e c)) zero
 
 -- a chain that was made, and then changed, was made as it is now
-pub adds_then : {p q : PoolView} {c : ℕ} {v : ChainView} (r : PoolView) (w : ChainView) → Adds p q c v → r ≡ with_chain q c w → Adds p r c w
+pub adds_then : {p q : PoolView} {c : ℕ} {v : ChainView} (r : PoolView) (w : ChainView) → Adds p q c v
+    → r ≡ with_chain q c w → Adds p r c w
 adds_then {p} {q} {c} {v} r w a is = record {
   fresh = a.fresh;
-  pool = is ∙ ap (λ (s : PoolView). with_chain s c w) a.pool ∙ (λ i. record { mbufs = p.mbufs; clusters = p.clusters; chains = insert-insert p.chains c v w i });
+  pool =
+      is ∙ ap (λ (s : PoolView). with_chain s c w) a.pool
+      ∙ (λ i. record { mbufs = p.mbufs; clusters = p.clusters; chains = insert-insert p.chains c v w i });
 }
 
 -- and where its only entry was changed
-pub filled : (p q r : PoolView) (c i : ℕ) (header : Bool) (old new : Entry) → Adds p q c (one_mbuf header old c) → i ≡ 0 → r ≡ with_chain q c (with_entry (chain_of q c) i new) → Adds p r c (one_mbuf header new c)
+pub filled : (p q r : PoolView) (c i : ℕ) (header : Bool) (old new : Entry) → Adds p q c (one_mbuf header old c) → i ≡ 0
+    → r ≡ with_chain q c (with_entry (chain_of q c) i new) → Adds p r c (one_mbuf header new c)
 filled p q r c i header old new a zero is =
     adds_then r (one_mbuf header new c) a
-    (is ∙ ap (with_chain q c) (ap (λ (v : ChainView). with_entry v i new) (shown_with p q c (one_mbuf header old c) a.pool) ∙ ap (λ (j : ℕ). with_entry (one_mbuf header old c) j new) zero))
+    (is ∙ ap (with_chain q c) (ap (λ (v : ChainView). with_entry v i new)
+    (shown_with p q c (one_mbuf header old c) a.pool)
+    ∙ ap (λ (j : ℕ). with_entry (one_mbuf header old c) j new) zero))
 
 -- a chain that was made and freed leaves the pool as it was
 pub adds_undone : {p q : PoolView} {c : ℕ} {v : ChainView} (r : PoolView) → Adds p q c v → r ≡ without q c → r ≡ p
 adds_undone {p} {q} {c} {v} r a is =
-    is ∙ ap (λ (s : PoolView). without s c) a.pool ∙ (λ i. record { mbufs = p.mbufs; clusters = p.clusters; chains = remove-insert p.chains c v a.fresh i })
+    is ∙ ap (λ (s : PoolView). without s c) a.pool
+    ∙ (λ i. record { mbufs = p.mbufs; clusters = p.clusters; chains = remove-insert p.chains c v a.fresh i })
 
 -- ---- one chain in the place of another: c is gone, and a chain under its number or a new one came
-removed-insert : {X : Type 0} (m : FinMap nat_cmp X) (c : ℕ) (v : X) → finmap.insert m c v ≡ finmap.insert (finmap.remove m c) c v
+removed-insert : {X : Type 0} (m : FinMap nat_cmp X) (c : ℕ) (v : X)
+    → finmap.insert m c v ≡ finmap.insert (finmap.remove m c) c v
 removed-insert m c v = same _ _ (λ q. elim (cases_eq q c) [
-  | inl e ↦ subst (λ (j : ℕ). finmap.get (finmap.insert m c v) j ≡ finmap.get (finmap.insert (finmap.remove m c) c v) j) (sym e) (get_here m c v ∙ sym (get_here _ c v))
+  | inl e ↦ subst (λ (j : ℕ). finmap.get (finmap.insert m c v) j ≡ finmap.get (finmap.insert (finmap.remove m c) c v) j)
+      (sym e) (get_here m c v ∙ sym (get_here _ c v))
   | inr ne ↦ get_there m c v q ne ∙ sym (get_there _ c v q ne ∙ get_left m c q ne)
 ])
 
@@ -115,21 +142,29 @@ adds_in_place p q c w is = record {
 }
 
 -- a new chain was linked after it
-pub linked_new : (p q r : PoolView) (c d : ℕ) (w : ChainView) → IsLive p c → Adds p q d w → r ≡ with_chain (without q d) c (joined (chain_of q c) (chain_of q d)) → r ≡ with_chain p c (joined (chain_of p c) w)
+pub linked_new : (p q r : PoolView) (c d : ℕ) (w : ChainView) → IsLive p c → Adds p q d w
+    → r ≡ with_chain (without q d) c (joined (chain_of q c) (chain_of q d))
+    → r ≡ with_chain p c (joined (chain_of p c) w)
 linked_new p q r c d w live a is =
-    is ∙ (λ i. with_chain (adds_undone (without q d) a (λ _. without q d) i) c (joined (kept_with p q d w c a.pool (apart p q d w a c live) i) (shown_adds a i)))
+    is ∙ (λ i. with_chain (adds_undone (without q d) a (λ _. without q d) i) c
+    (joined (kept_with p q d w c a.pool (apart p q d w a c live) i) (shown_adds a i)))
 
 -- it was linked after a new chain
-replaced : {X : Type 0} (m : FinMap nat_cmp X) (c d : ℕ) (w u : X) → finmap.insert (finmap.remove (finmap.insert m d w) c) d u ≡ finmap.insert (finmap.remove m c) d u
+replaced : {X : Type 0} (m : FinMap nat_cmp X) (c d : ℕ) (w u : X)
+    → finmap.insert (finmap.remove (finmap.insert m d w) c) d u ≡ finmap.insert (finmap.remove m c) d u
 replaced m c d w u = same _ _ (λ q. elim (cases_eq q d) [
-  | inl e ↦ subst (λ (j : ℕ). finmap.get (finmap.insert (finmap.remove (finmap.insert m d w) c) d u) j ≡ finmap.get (finmap.insert (finmap.remove m c) d u) j) (sym e) (get_here _ d u ∙ sym (get_here _ d u))
+  | inl e ↦ subst (λ (j : ℕ). finmap.get (finmap.insert (finmap.remove (finmap.insert m d w) c) d u) j
+      ≡ finmap.get (finmap.insert (finmap.remove m c) d u) j) (sym e) (get_here _ d u ∙ sym (get_here _ d u))
   | inr nd ↦ get_there _ d u q nd ∙ elim (cases_eq q c) [
-    | inl e ↦ subst (λ (j : ℕ). finmap.get (finmap.remove (finmap.insert m d w) c) j ≡ finmap.get (finmap.remove m c) j) (sym e) (get_gone _ c ∙ sym (get_gone m c))
+    | inl e ↦ subst (λ (j : ℕ). finmap.get (finmap.remove (finmap.insert m d w) c) j ≡ finmap.get (finmap.remove m c) j)
+        (sym e) (get_gone _ c ∙ sym (get_gone m c))
     | inr nc ↦ get_left _ c q nc ∙ get_there m d w q nd ∙ sym (get_left m c q nc)
   ] ∙ sym (get_there _ d u q nd)
 ])
 
-pub linked_front : (p q r : PoolView) (c d : ℕ) (w : ChainView) → IsLive p c → Adds p q d w → r ≡ with_chain (without q c) d (joined (chain_of q d) (chain_of q c)) → Adds (without p c) r d (joined w (chain_of p c))
+pub linked_front : (p q r : PoolView) (c d : ℕ) (w : ChainView) → IsLive p c → Adds p q d w
+    → r ≡ with_chain (without q c) d (joined (chain_of q d) (chain_of q c))
+    → Adds (without p c) r d (joined w (chain_of p c))
 linked_front p q r c d w live a is =
     let ne : c ≢ d = apart p q d w a c live in
     record {
@@ -137,16 +172,23 @@ linked_front p q r c d w live a is =
       pool = is
           ∙ (λ i. with_chain (without q c) d (joined (shown_adds a i) (kept_with p q d w c a.pool ne i)))
           ∙ ap (λ (s : PoolView). with_chain (without s c) d (joined w (chain_of p c))) a.pool
-          ∙ (λ i. record { mbufs = p.mbufs; clusters = p.clusters; chains = replaced p.chains c d w (joined w (chain_of p c)) i });
+          ∙ (λ i. record {
+            mbufs = p.mbufs;
+            clusters = p.clusters;
+            chains = replaced p.chains c d w (joined w (chain_of p c)) i;
+          });
     }
 
 -- its front was cut off and freed
-cut_left : {X : Type 0} (m : FinMap nat_cmp X) (c d : ℕ) (v w : X) → d ≢ c → finmap.remove (finmap.insert (finmap.insert m c v) d w) c ≡ finmap.insert (finmap.remove m c) d w
+cut_left : {X : Type 0} (m : FinMap nat_cmp X) (c d : ℕ) (v w : X) → d ≢ c
+    → finmap.remove (finmap.insert (finmap.insert m c v) d w) c ≡ finmap.insert (finmap.remove m c) d w
 cut_left m c d v w ne = same _ _ (λ q. elim (cases_eq q c) [
-  | inl e ↦ subst (λ (j : ℕ). finmap.get (finmap.remove (finmap.insert (finmap.insert m c v) d w) c) j ≡ finmap.get (finmap.insert (finmap.remove m c) d w) j) (sym e)
+  | inl e ↦ subst (λ (j : ℕ). finmap.get (finmap.remove (finmap.insert (finmap.insert m c v) d w) c) j
+      ≡ finmap.get (finmap.insert (finmap.remove m c) d w) j) (sym e)
       (get_gone _ c ∙ sym (get_there _ d w c (λ is. ne (sym is)) ∙ get_gone m c))
   | inr nc ↦ get_left _ c q nc ∙ elim (cases_eq q d) [
-    | inl e ↦ subst (λ (j : ℕ). finmap.get (finmap.insert (finmap.insert m c v) d w) j ≡ finmap.get (finmap.insert (finmap.remove m c) d w) j) (sym e) (get_here _ d w ∙ sym (get_here _ d w))
+    | inl e ↦ subst (λ (j : ℕ). finmap.get (finmap.insert (finmap.insert m c v) d w) j
+        ≡ finmap.get (finmap.insert (finmap.remove m c) d w) j) (sym e) (get_here _ d w ∙ sym (get_here _ d w))
     | inr nd ↦ get_there _ d w q nd ∙ get_there m c v q nc ∙ sym (get_there _ d w q nd ∙ get_left m c q nc)
   ]
 ])
@@ -155,29 +197,42 @@ cut_left m c d v w ne = same _ _ (λ q. elim (cases_eq q c) [
 pub apart_cut : (p q : PoolView) (c d : ℕ) (v w : ChainView) → Adds (with_chain p c v) q d w → c ≢ d
 apart_cut p q c d v w a = apart (with_chain p c v) q d w a c (live_here p c v)
 
-pub cut_freed : (p q r : PoolView) (c d : ℕ) (v w : ChainView) → Adds (with_chain p c v) q d w → r ≡ without q c → Adds (without p c) r d w
+pub cut_freed : (p q r : PoolView) (c d : ℕ) (v w : ChainView) → Adds (with_chain p c v) q d w → r ≡ without q c
+    → Adds (without p c) r d w
 cut_freed p q r c d v w a is =
     let ne : d ≢ c = λ e. apart_cut p q c d v w a (sym e) in
     record {
       fresh = get_left p.chains c d ne ∙ sym (get_there p.chains c v d ne) ∙ a.fresh;
-      pool = is ∙ ap (λ (s : PoolView). without s c) a.pool ∙ (λ i. record { mbufs = p.mbufs; clusters = p.clusters; chains = cut_left p.chains c d v w ne i });
+      pool =
+          is ∙ ap (λ (s : PoolView). without s c) a.pool
+          ∙ (λ i. record { mbufs = p.mbufs; clusters = p.clusters; chains = cut_left p.chains c d v w ne i });
     }
 
 -- what there is beside a chain and the rest that was cut off it, and beside a chain and a new one
-pub base_cut : (p q : PoolView) (c d : ℕ) (v w : ChainView) → Adds (with_chain p c v) q d w → without (without q d) c ≡ without p c
+pub base_cut : (p q : PoolView) (c d : ℕ) (v w : ChainView) → Adds (with_chain p c v) q d w
+    → without (without q d) c ≡ without p c
 base_cut p q c d v w a =
-    ap (λ (s : PoolView). without s c) (adds_undone (without q d) a (λ _. without q d)) ∙ (λ i. record { mbufs = p.mbufs; clusters = p.clusters; chains = remove-insert_any p.chains c v i })
+    ap (λ (s : PoolView). without s c) (adds_undone (without q d) a (λ _. without q d))
+    ∙ (λ i. record { mbufs = p.mbufs; clusters = p.clusters; chains = remove-insert_any p.chains c v i })
 
-new_gone : {X : Type 0} (m : FinMap nat_cmp X) (c d : ℕ) (w : X) → finmap.get m d ≡ None → d ≢ c → finmap.remove (finmap.remove (finmap.insert m d w) c) d ≡ finmap.remove m c
+new_gone : {X : Type 0} (m : FinMap nat_cmp X) (c d : ℕ) (w : X) → finmap.get m d ≡ None → d ≢ c
+    → finmap.remove (finmap.remove (finmap.insert m d w) c) d ≡ finmap.remove m c
 new_gone m c d w none ne = same _ _ (λ q. elim (cases_eq q d) [
-  | inl e ↦ subst (λ (j : ℕ). finmap.get (finmap.remove (finmap.remove (finmap.insert m d w) c) d) j ≡ finmap.get (finmap.remove m c) j) (sym e) (get_gone _ d ∙ sym (get_left m c d ne ∙ none))
+  | inl e ↦ subst (λ (j : ℕ). finmap.get (finmap.remove (finmap.remove (finmap.insert m d w) c) d) j
+      ≡ finmap.get (finmap.remove m c) j) (sym e) (get_gone _ d ∙ sym (get_left m c d ne ∙ none))
   | inr nd ↦ get_left _ d q nd ∙ elim (cases_eq q c) [
-    | inl e ↦ subst (λ (j : ℕ). finmap.get (finmap.remove (finmap.insert m d w) c) j ≡ finmap.get (finmap.remove m c) j) (sym e) (get_gone _ c ∙ sym (get_gone m c))
+    | inl e ↦ subst (λ (j : ℕ). finmap.get (finmap.remove (finmap.insert m d w) c) j ≡ finmap.get (finmap.remove m c) j)
+        (sym e) (get_gone _ c ∙ sym (get_gone m c))
     | inr nc ↦ get_left _ c q nc ∙ get_there m d w q nd ∙ sym (get_left m c q nc)
   ]
 ])
 
-pub base_new : (p q : PoolView) (c d : ℕ) (w : ChainView) → IsLive p c → Adds p q d w → without (without q c) d ≡ without p c
+pub base_new : (p q : PoolView) (c d : ℕ) (w : ChainView) → IsLive p c → Adds p q d w
+    → without (without q c) d ≡ without p c
 base_new p q c d w live a =
     ap (λ (s : PoolView). without (without s c) d) a.pool
-    ∙ (λ i. record { mbufs = p.mbufs; clusters = p.clusters; chains = new_gone p.chains c d w a.fresh (λ e. apart p q d w a c live (sym e)) i })
+    ∙ (λ i. record {
+      mbufs = p.mbufs;
+      clusters = p.clusters;
+      chains = new_gone p.chains c d w a.fresh (λ e. apart p q d w a c live (sym e)) i;
+    })

@@ -15,5 +15,12 @@ clusters-preserved c =
     record {
       live = live_shown _ _ _ _ c.link-last.ensures.change;
       place = c.link-last.ensures.place;
-      last = omega (arith, c.link-last.ensures.index, c.clusters.invariant.last, count_joined _ _ _ _ _ _ c.in-Ok.ensures.ok.1 c.link-last.ensures.change (apart _ _ _ _ c.in-Ok.ensures.ok.1 _ c.clusters.invariant.live));
+      last =
+          omega (
+            arith,
+            c.link-last.ensures.index,
+            c.clusters.invariant.last,
+            count_joined _ _ _ _ _ _ c.in-Ok.ensures.ok.1 c.link-last.ensures.change
+                (apart _ _ _ _ c.in-Ok.ensures.ok.1 _ c.clusters.invariant.live),
+          );
     }

@@ -7,6 +7,7 @@ pub pairs-preserved : goal.pairs-preserved
 pairs-preserved c =
     let k = c.in-Ok-get_cluster.cluster in
     let two : count_of c.hold.new.store k ≡ count_of c.pairs.store k + 1 =
-    ap (λ (s : StoreView). count_of s k) c.hold.ensures ∙ count_held c.pairs.store k (omega (arith, c.pairs.invariant)) in
+    ap (λ (s : StoreView). count_of s k) c.hold.ensures
+    ∙ count_held c.pairs.store k (omega (arith, c.pairs.invariant)) in
     let less = count_released c.hold.new.store k (omega arith) in
     omega (arith, ap (λ (s : StoreView). count_of s k) c.release.ensures, less, two, c.pairs.invariant)

@@ -24,5 +24,6 @@ pub turns-preserved : goal.turns-preserved
 turns-preserved c =
     record {
       live = live_shown _ _ _ _ c.build.ensures.chain;
-      room = subst HasRoom (sym (shown_with _ _ _ _ c.build.ensures.chain)) (room_kept _ _ _ _ _ c.turns.invariant.room);
+      room =
+          subst HasRoom (sym (shown_with _ _ _ _ c.build.ensures.chain)) (room_kept _ _ _ _ _ c.turns.invariant.room);
     }

@@ -9,10 +9,13 @@ pub release-requires-in-Ok : goal.release-requires-in-Ok
 release-requires-in-Ok c =
     let k = c.in-Ok.cluster in
     let taken = c.in-Ok.ensures.ok in
-    let within : k < length c.in_ok-store.store.clusters = slice_get_within c.in_ok-store.store.clusters k _ taken.was_free in
+    let within : k < length c.in_ok-store.store.clusters =
+    slice_get_within c.in_ok-store.store.clusters k _ taken.was_free in
     let one : count_of c.get_cluster.new.self k ≡ 1 =
-    ap (λ (s : StoreView). count_of s k) taken.change ∙ ap (λ (v : ClusterView). v.count) (cluster_here c.in_ok-store.store k _ within) in
+    ap (λ (s : StoreView). count_of s k) taken.change
+    ∙ ap (λ (v : ClusterView). v.count) (cluster_here c.in_ok-store.store k _ within) in
     let two : count_of c.hold.new.self k ≡ count_of c.get_cluster.new.self k + 1 =
-    ap (λ (s : StoreView). count_of s k) c.hold.ensures.change ∙ count_held c.get_cluster.new.self k (omega (arith, one)) in
+    ap (λ (s : StoreView). count_of s k) c.hold.ensures.change
+    ∙ count_held c.get_cluster.new.self k (omega (arith, one)) in
     let less = count_released c.hold.new.self k (omega (arith, one, two)) in
     omega (arith, ap (λ (s : StoreView). count_of s k) c.release.ensures.change, less, two, one)

@@ -27,12 +27,19 @@ mbufs-init c =
 pub mbufs-preserved : goal.mbufs-preserved
 mbufs-preserved c = record {
   step = changed_step _ _ _ _ _ _ c.mbufs.invariant.step c.narrow.ensures;
-  all = keep_all _ _ _ _ _ _ _ _ c.mbufs.invariant.place (ap (λ (x : Segment). x.len) c.segment-len.ensures.value) c.min-kept.ensures c.narrow.ensures c.in-Some.ensures.1 ∙ c.mbufs.invariant.all;
+  all =
+      keep_all _ _ _ _ _ _ _ _ c.mbufs.invariant.place (ap (λ (x : Segment). x.len) c.segment-len.ensures.value)
+      c.min-kept.ensures c.narrow.ensures c.in-Some.ensures.1 ∙ c.mbufs.invariant.all;
   place = c.in-Some.ensures.0;
 }
 
 pub returns-in_default : goal.returns-in_default
 returns-in_default c =
-    let end = walk_end (chain_of c.narrow.new.self c.args.chain.now).entries (only_first (c.mbufs.left - c.min-kept.result)) c.mbufs.at.index c.in_default.ensures refl in
-    let all = keep_all _ _ _ _ _ _ _ _ c.mbufs.invariant.place (ap (λ (x : Segment). x.len) c.segment-len.ensures.value) c.min-kept.ensures c.narrow.ensures refl in
-    changed_step _ _ _ _ _ _ c.mbufs.invariant.step c.narrow.ensures ∙ ap (changed c.args.pool.now c.args.chain.now) (sym end ∙ all ∙ c.mbufs.invariant.all)
+    let end =
+    walk_end (chain_of c.narrow.new.self c.args.chain.now).entries (only_first (c.mbufs.left - c.min-kept.result))
+    c.mbufs.at.index c.in_default.ensures refl in
+    let all =
+    keep_all _ _ _ _ _ _ _ _ c.mbufs.invariant.place (ap (λ (x : Segment). x.len) c.segment-len.ensures.value)
+    c.min-kept.ensures c.narrow.ensures refl in
+    changed_step _ _ _ _ _ _ c.mbufs.invariant.step c.narrow.ensures
+    ∙ ap (changed c.args.pool.now c.args.chain.now) (sym end ∙ all ∙ c.mbufs.invariant.all)

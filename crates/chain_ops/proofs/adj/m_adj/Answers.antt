@@ -9,11 +9,15 @@ use Rattle.chain_ops.proofs.adj.m_adj.Goals as goal
 pub returns-then-n-ge0-clause-string : goal.returns-then-n-ge0-clause-string
 returns-then-n-ge0-clause-string c =
     let v : ChainView = chain_of c.args.pool.now c.args.chain.now in
-    let change : c.trim_front.new.pool ≡ with_chain c.args.pool.now c.args.chain.now (record v { entries = adjusted c.args.n v.entries }) = first_of (search rules, grind (arith, common_steps)) in
+    let change : c.trim_front.new.pool
+    ≡ with_chain c.args.pool.now c.args.chain.now (record v { entries = adjusted c.args.n v.entries }) =
+    first_of (search rules, grind (arith, common_steps)) in
     ap string (shown_with _ _ _ _ change) ∙ adjusted_are c.args.n v.entries
 
 pub returns-else-n-ge0-clause-string : goal.returns-else-n-ge0-clause-string
 returns-else-n-ge0-clause-string c =
     let v : ChainView = chain_of c.args.pool.now c.args.chain.now in
-    let change : c.trim_back.new.pool ≡ with_chain c.args.pool.now c.args.chain.now (record v { entries = adjusted c.args.n v.entries }) = first_of (search rules, grind (arith, common_steps)) in
+    let change : c.trim_back.new.pool
+    ≡ with_chain c.args.pool.now c.args.chain.now (record v { entries = adjusted c.args.n v.entries }) =
+    first_of (search rules, grind (arith, common_steps)) in
     ap string (shown_with _ _ _ _ change) ∙ adjusted_are c.args.n v.entries

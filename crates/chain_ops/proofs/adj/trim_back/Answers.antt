@@ -7,4 +7,5 @@ use Rattle.chain_ops.proofs.adj.trim_back.Goals as goal
 pub returns-else-keep-len : goal.returns-else-keep-len
 returns-else-keep-len c =
     changed_none _ _ c.requires
-    ∙ ap (changed c.args.pool.now c.args.chain.now) (sym (keep_enough c.args.keep (chain_of c.args.pool.now c.args.chain.now).entries (omega arith)))
+    ∙ ap (changed c.args.pool.now c.args.chain.now)
+    (sym (keep_enough c.args.keep (chain_of c.args.pool.now c.args.chain.now).entries (omega arith)))

@@ -28,15 +28,22 @@ mbufs-init c =
 pub mbufs-preserved : goal.mbufs-preserved
 mbufs-preserved c = record {
   step = changed_step _ _ _ _ _ _ c.mbufs.invariant.step c.narrow.ensures;
-  all = trim_all _ _ _ _ _ _ _ _ c.mbufs.invariant.place (ap (λ (x : Segment). x.len) c.segment-len.ensures.value) c.min-skip.ensures c.narrow.ensures c.in-Some.ensures.1 ∙ c.mbufs.invariant.all;
+  all =
+      trim_all _ _ _ _ _ _ _ _ c.mbufs.invariant.place (ap (λ (x : Segment). x.len) c.segment-len.ensures.value)
+      c.min-skip.ensures c.narrow.ensures c.in-Some.ensures.1 ∙ c.mbufs.invariant.all;
   place = c.in-Some.ensures.0;
 }
 
 pub returns-in_default : goal.returns-in_default
 returns-in_default c =
-    let end = walk_end (chain_of c.narrow.new.self c.args.chain.now).entries (without_first (c.mbufs.left - c.min-skip.result)) c.mbufs.at.index c.in_default.ensures refl in
-    let all = trim_all _ _ _ _ _ _ _ _ c.mbufs.invariant.place (ap (λ (x : Segment). x.len) c.segment-len.ensures.value) c.min-skip.ensures c.narrow.ensures refl in
-    changed_step _ _ _ _ _ _ c.mbufs.invariant.step c.narrow.ensures ∙ ap (changed c.args.pool.now c.args.chain.now) (sym end ∙ all ∙ c.mbufs.invariant.all)
+    let end =
+    walk_end (chain_of c.narrow.new.self c.args.chain.now).entries (without_first (c.mbufs.left - c.min-skip.result))
+    c.mbufs.at.index c.in_default.ensures refl in
+    let all =
+    trim_all _ _ _ _ _ _ _ _ c.mbufs.invariant.place (ap (λ (x : Segment). x.len) c.segment-len.ensures.value)
+    c.min-skip.ensures c.narrow.ensures refl in
+    changed_step _ _ _ _ _ _ c.mbufs.invariant.step c.narrow.ensures
+    ∙ ap (changed c.args.pool.now c.args.chain.now) (sym end ∙ all ∙ c.mbufs.invariant.all)
 
 pub returns : goal.returns
 returns c =
@@ -45,4 +52,5 @@ returns c =
     let none : 0 ≡ c.mbufs.left = omega arith in
     c.mbufs.invariant.step
     ∙ ap (changed c.args.pool.now c.args.chain.now)
-    (sym (take-append-drop i es) ∙ ap (λ (xs : List Entry). take i es ++ xs) (sym (trim_nothing (drop i es))) ∙ ap (λ (n : ℕ). take i es ++ without_first n (drop i es)) none ∙ c.mbufs.invariant.all)
+    (sym (take-append-drop i es) ∙ ap (λ (xs : List Entry). take i es ++ xs) (sym (trim_nothing (drop i es)))
+    ∙ ap (λ (n : ℕ). take i es ++ without_first n (drop i es)) none ∙ c.mbufs.invariant.all)

@@ -5,8 +5,10 @@ use Rattle.chain_ops.proofs.adj.trim_walk.Given as goal
 
 abbrev pub invariant-mbufs : goal.invariant-mbufs
 invariant-mbufs l = record {
-  step : l.pool ≡ with_chain l.fn.pool l.chain (record (chain_of l.fn.pool l.chain) { entries = (chain_of l.pool l.chain).entries });
-  all : take l.at.index (chain_of l.pool l.chain).entries ++ without_first l.left (drop l.at.index (chain_of l.pool l.chain).entries)
+  step : l.pool ≡ with_chain l.fn.pool l.chain
+      (record (chain_of l.fn.pool l.chain) { entries = (chain_of l.pool l.chain).entries });
+  all : take l.at.index (chain_of l.pool l.chain).entries
+      ++ without_first l.left (drop l.at.index (chain_of l.pool l.chain).entries)
       ≡ without_first l.n (chain_of l.fn.pool l.chain).entries;
   place : IsPlace (chain_of l.pool l.chain) l.at;
 }

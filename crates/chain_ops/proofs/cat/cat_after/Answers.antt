@@ -5,4 +5,5 @@ use Rattle.chain_ops.proofs.cat.cat_after.Goals as goal
 
 pub returns-clause-string : goal.returns-clause-string
 returns-clause-string c =
-    ap flat_bytes c.join-from.ensures.makes.entries ∙ cat_bytes (chain_of c.args.pool.now c.args.chain.now).entries (chain_of c.args.pool.now c.args.second).entries
+    ap flat_bytes c.join-from.ensures.makes.entries
+    ∙ cat_bytes (chain_of c.args.pool.now c.args.chain.now).entries (chain_of c.args.pool.now c.args.second).entries

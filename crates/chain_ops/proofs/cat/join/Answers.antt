@@ -16,7 +16,9 @@ pub mbufs-init : goal.mbufs-init
 mbufs-init c = record {
   two = two_start _ _ _ c.requires.front c.requires.back c.requires.apart;
   front = refl;
-  all = sym (cat_last (chain_of c.args.pool.now c.args.chain.now).entries (chain_of c.args.pool.now c.args.second).entries c.args.last.index c.requires.last);
+  all =
+      sym (cat_last (chain_of c.args.pool.now c.args.chain.now).entries (chain_of c.args.pool.now c.args.second).entries
+      c.args.last.index c.requires.last);
   place = c.requires.place;
   end = c.requires.last;
 }
@@ -34,8 +36,10 @@ returns-then-trailing_space-len-clause-makes c =
       front = ap (λ (x : ChainView). x.front) shown ∙ c.mbufs.invariant.front;
       entries = ap (λ (x : ChainView). x.entries) shown
           ∙ ap (λ (es : List Entry). v.entries ++ es) split
-          ∙ fill_end v.entries c.args.last.index (entry_of w c.first-from.result.index) (drop 1 w.entries) c.mbufs.invariant.end (omega (arith, c.if-trailing_space-len.true, c.trailing_space.ensures.value, len))
-          ∙ ap (λ (es : List Entry). take c.args.last.index v.entries ++ filled_up (entry_of v c.args.last.index) es) (sym split)
+          ∙ fill_end v.entries c.args.last.index (entry_of w c.first-from.result.index) (drop 1 w.entries)
+          c.mbufs.invariant.end (omega (arith, c.if-trailing_space-len.true, c.trailing_space.ensures.value, len))
+          ∙ ap (λ (es : List Entry). take c.args.last.index v.entries ++ filled_up (entry_of v c.args.last.index) es)
+          (sym split)
           ∙ c.mbufs.invariant.all;
     }
 
@@ -53,15 +57,27 @@ returns-in_default-clause-makes c =
     let m = makes_new (two_freed c.drop_first.new.pool two c.in_default.ensures.1) in
     let len = ap (λ (x : Segment). x.len) c.segment-len.ensures.value in
     let now : ChainView = chain_of c.append.new.self c.args.chain.now in
-    let same : chain_of c.drop_first.new.pool c.args.chain.now ≡ now = ap (λ (s : PoolView). chain_of s c.args.chain.now) c.in_default.ensures.1 ∙ chain_left c.append.new.self c.mbufs.back c.args.chain.now two.apart in
-    let kept = kept_with c.mbufs.pool c.append.new.self c.args.chain.now _ c.mbufs.back c.append.ensures (λ e. c.mbufs.invariant.two.apart (sym e)) in
+    let same : chain_of c.drop_first.new.pool c.args.chain.now ≡ now =
+    ap (λ (s : PoolView). chain_of s c.args.chain.now) c.in_default.ensures.1
+    ∙ chain_left c.append.new.self c.mbufs.back c.args.chain.now two.apart in
+    let kept =
+    kept_with c.mbufs.pool c.append.new.self c.args.chain.now _ c.mbufs.back c.append.ensures
+    (λ e. c.mbufs.invariant.two.apart (sym e)) in
     let split = first_split w c.first-from.result c.first-from.ensures.place c.first-from.ensures.index in
-    let none : drop 1 w.entries ≡ [] = one_entry w.entries _ (drop 1 w.entries) split (sym (ap (λ (x : ChainView). length x.entries) kept) ∙ c.in_default.ensures.0) in
-    let moved = cat_moved c.mbufs.pool c.append.new.self c.args.chain.now c.mbufs.back c.args.last c.first-from.result c.segment-len.result.len c.append.ensures c.mbufs.invariant.place c.first-from.ensures.place c.first-from.ensures.index len (omega (arith, c.if-trailing_space-len.false, c.trailing_space.ensures.value)) in
+    let none : drop 1 w.entries ≡ [] =
+    one_entry w.entries _ (drop 1 w.entries) split
+    (sym (ap (λ (x : ChainView). length x.entries) kept) ∙ c.in_default.ensures.0) in
+    let moved =
+    cat_moved c.mbufs.pool c.append.new.self c.args.chain.now c.mbufs.back c.args.last c.first-from.result
+    c.segment-len.result.len c.append.ensures c.mbufs.invariant.place c.first-from.ensures.place
+    c.first-from.ensures.index len (omega (arith, c.if-trailing_space-len.false, c.trailing_space.ensures.value))
+    in
     let end = length_now _ _ _ _ _ c.append.ensures in
     record {
       adds = m.adds;
-      front = ap (λ (x : ChainView). x.front) (same ∙ shown_with c.mbufs.pool _ _ _ c.append.ensures) ∙ c.mbufs.invariant.front;
+      front =
+          ap (λ (x : ChainView). x.front) (same ∙ shown_with c.mbufs.pool _ _ _ c.append.ensures)
+          ∙ c.mbufs.invariant.front;
       entries = ap (λ (x : ChainView). x.entries) same
           ∙ sym (last_split now.entries i (c.mbufs.invariant.end ∙ sym end))
           ∙ ap (λ (es : List Entry). take i now.entries ++ filled_up (entry_of now i) es) (sym none)
@@ -71,8 +87,16 @@ returns-in_default-clause-makes c =
 pub mbufs-smaller : goal.mbufs-smaller
 mbufs-smaller c =
     let w : ChainView = chain_of c.mbufs.pool c.mbufs.back in
-    let kept = kept_with c.mbufs.pool c.append.new.self c.args.chain.now _ c.mbufs.back c.append.ensures (λ e. c.mbufs.invariant.two.apart (sym e)) in
-    omega (arith, ap (λ (es : List Entry). length es) c.in-Some.ensures.entries, ap (λ (x : ChainView). length (drop 1 x.entries)) kept, length-drop 1 w.entries, c.first-from.ensures.place.within)
+    let kept =
+    kept_with c.mbufs.pool c.append.new.self c.args.chain.now _ c.mbufs.back c.append.ensures
+    (λ e. c.mbufs.invariant.two.apart (sym e)) in
+    omega (
+      arith,
+      ap (λ (es : List Entry). length es) c.in-Some.ensures.entries,
+      ap (λ (x : ChainView). length (drop 1 x.entries)) kept,
+      length-drop 1 w.entries,
+      c.first-from.ensures.place.within,
+    )
 
 pub mbufs-preserved : goal.mbufs-preserved
 mbufs-preserved c =
@@ -81,19 +105,34 @@ mbufs-preserved c =
     let next = two_next c.drop_first.new.pool c.in-Some.rest two c.in-Some.ensures.adds in
     let same = kept_next c.drop_first.new.pool c.in-Some.rest two c.in-Some.ensures.adds in
     let len = ap (λ (x : Segment). x.len) c.segment-len.ensures.value in
-    let kept = kept_with c.mbufs.pool c.append.new.self c.args.chain.now _ c.mbufs.back c.append.ensures (λ e. c.mbufs.invariant.two.apart (sym e)) in
-    let moved = cat_moved c.mbufs.pool c.append.new.self c.args.chain.now c.mbufs.back c.args.last c.first-from.result c.segment-len.result.len c.append.ensures c.mbufs.invariant.place c.first-from.ensures.place c.first-from.ensures.index len (omega (arith, c.if-trailing_space-len.false, c.trailing_space.ensures.value)) in
+    let kept =
+    kept_with c.mbufs.pool c.append.new.self c.args.chain.now _ c.mbufs.back c.append.ensures
+    (λ e. c.mbufs.invariant.two.apart (sym e)) in
+    let moved =
+    cat_moved c.mbufs.pool c.append.new.self c.args.chain.now c.mbufs.back c.args.last c.first-from.result
+    c.segment-len.result.len c.append.ensures c.mbufs.invariant.place c.first-from.ensures.place
+    c.first-from.ensures.index len (omega (arith, c.if-trailing_space-len.false, c.trailing_space.ensures.value))
+    in
     let rest = c.in-Some.ensures.entries ∙ ap (λ (x : ChainView). drop 1 x.entries) kept in
     record {
       two = next;
-      front = ap (λ (x : ChainView). x.front) (same ∙ shown_with c.mbufs.pool _ _ _ c.append.ensures) ∙ c.mbufs.invariant.front;
+      front =
+          ap (λ (x : ChainView). x.front) (same ∙ shown_with c.mbufs.pool _ _ _ c.append.ensures)
+          ∙ c.mbufs.invariant.front;
       all = (λ j. take i (same j).entries ++ filled_up (entry_of (same j) i) (rest j)) ∙ moved ∙ c.mbufs.invariant.all;
-      place = place_in c.append.new.self c.drop_first.new.pool _ _ same (place_after _ _ _ _ _ _ c.append.ensures c.mbufs.invariant.place);
-      end = c.mbufs.invariant.end ∙ sym (ap (λ (x : ChainView). length x.entries) same ∙ length_now _ _ _ _ _ c.append.ensures);
+      place =
+          place_in c.append.new.self c.drop_first.new.pool _ _ same
+          (place_after _ _ _ _ _ _ c.append.ensures c.mbufs.invariant.place);
+      end =
+          c.mbufs.invariant.end ∙ sym (ap (λ (x : ChainView). length x.entries) same
+          ∙ length_now _ _ _ _ _ c.append.ensures);
     }
 
 pub returns-in_default-clause-place : goal.returns-in_default-clause-place
 returns-in_default-clause-place c =
     let two = two_first c.append.new.self _ c.mbufs.invariant.two c.append.ensures in
-    let same : chain_of c.drop_first.new.pool c.args.chain.now ≡ chain_of c.append.new.self c.args.chain.now = ap (λ (s : PoolView). chain_of s c.args.chain.now) c.in_default.ensures.1 ∙ chain_left c.append.new.self c.mbufs.back c.args.chain.now two.apart in
-    place_in c.append.new.self c.drop_first.new.pool _ _ same (place_after _ _ _ _ _ _ c.append.ensures c.mbufs.invariant.place)
+    let same : chain_of c.drop_first.new.pool c.args.chain.now ≡ chain_of c.append.new.self c.args.chain.now =
+    ap (λ (s : PoolView). chain_of s c.args.chain.now) c.in_default.ensures.1
+    ∙ chain_left c.append.new.self c.mbufs.back c.args.chain.now two.apart in
+    place_in c.append.new.self c.drop_first.new.pool _ _ same
+    (place_after _ _ _ _ _ _ c.append.ensures c.mbufs.invariant.place)

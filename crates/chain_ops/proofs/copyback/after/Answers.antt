@@ -10,4 +10,6 @@ drop_to m xs = elim (cases_lt m (length xs)) [
 ]
 
 pub returns : goal.returns
-returns c = take_rest c.args.bytes.now c.min.result ∙ ap (λ (k : ℕ). drop k c.args.bytes.now) c.min.ensures ∙ drop_to c.args.count c.args.bytes.now
+returns c =
+    take_rest c.args.bytes.now c.min.result ∙ ap (λ (k : ℕ). drop k c.args.bytes.now) c.min.ensures
+    ∙ drop_to c.args.count c.args.bytes.now

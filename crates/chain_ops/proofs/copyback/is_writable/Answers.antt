@@ -8,4 +8,5 @@ pub returns : goal.returns
 returns c =
     let es : List Entry = drop c.mbufs.at.index (chain_of c.args.pool.now c.args.chain.now).entries in
     let none : c.mbufs.left ≡ 0 = omega arith in
-    sym (c.mbufs.invariant.same ∙ ap (is_writable (references c.args.pool.now) es c.mbufs.skip) none ∙ writable-none (references c.args.pool.now) es c.mbufs.skip)
+    sym (c.mbufs.invariant.same ∙ ap (is_writable (references c.args.pool.now) es c.mbufs.skip) none
+    ∙ writable-none (references c.args.pool.now) es c.mbufs.skip)

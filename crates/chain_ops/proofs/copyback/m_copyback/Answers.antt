@@ -11,7 +11,14 @@ use Rattle.chain_ops.proofs.copyback.m_copyback.Goals as goal
 
 -- nothing lies after the end
 inside : (n off : ℕ) (xs : List ℕ) → off + length xs ≤ n → length (tail_of n off xs) ≡ 0
-inside n off xs h = omega (arith, h, length-append (replicate (off - n) 0) (drop (n - off) xs), length-replicate {A = ℕ} (off - n) 0, length-drop (n - off) xs)
+inside n off xs h =
+    omega (
+      arith,
+      h,
+      length-append (replicate (off - n) 0) (drop (n - off) xs),
+      length-replicate {A = ℕ} (off - n) 0,
+      length-drop (n - off) xs,
+    )
 
 pub returns-then-end-len-clause-ok : goal.returns-then-end-len-clause-ok
 returns-then-end-len-clause-ok c =
@@ -24,21 +31,27 @@ returns-then-end-len-clause-ok c =
       adds = m.adds;
       front = m.front;
       entries = m.entries ∙ sym (append-nil es)
-          ∙ ap (λ (fs : List Entry). es ++ fs) (sym (in_plain-none _ (inside (length (flat_bytes v.entries)) c.args.off c.args.bytes.now (omega (arith, c.if-end-len.true, c.len-len.ensures)))));
+          ∙ ap (λ (fs : List Entry). es ++ fs)
+          (sym (in_plain-none _ (inside (length (flat_bytes v.entries)) c.args.off c.args.bytes.now
+          (omega (arith, c.if-end-len.true, c.len-len.ensures)))));
     }
 
 pub returns-then-end-len-clause-string : goal.returns-then-end-len-clause-string
 returns-then-end-len-clause-string c =
     let m = returns-then-end-len-clause-ok c in
-    ap flat_bytes m.entries ∙ copied_back_bytes (chain_of c.args.pool.now c.args.chain.now).entries c.args.off c.args.bytes.now
+    ap flat_bytes m.entries ∙ copied_back_bytes (chain_of c.args.pool.now c.args.chain.now).entries c.args.off
+    c.args.bytes.now
 
 pub overlay-requires-2-clause-live : goal.overlay-requires-2-clause-live
-overlay-requires-2-clause-live c = let two = two_new c.args.chain.now c.requires.live c.in_ok-tail.ensures.ok.adds in two.live_first
+overlay-requires-2-clause-live c = let two = two_new c.args.chain.now c.requires.live c.in_ok-tail.ensures.ok.adds in
+    two.live_first
 
 pub overlay-requires-2-clause-writable : goal.overlay-requires-2-clause-writable
 overlay-requires-2-clause-writable c =
     let rest : List ℕ = replicate c.saturating_sub-2.result 0 ++ c.after-rest.result.now in
-    (λ j. is_writable (λ n. plain_counts rest n c.in_ok-tail.ensures.ok j) (makes_kept c.args.chain.now c.in_ok-tail.ensures.ok c.requires.live j).entries c.args.off (length c.args.bytes.now))
+    (λ j. is_writable (λ n. plain_counts rest n c.in_ok-tail.ensures.ok j)
+    (makes_kept c.args.chain.now c.in_ok-tail.ensures.ok c.requires.live j).entries c.args.off
+    (length c.args.bytes.now))
     ∙ c.requires.writable
 
 pub last-last-requires : goal.last-last-requires
@@ -46,7 +59,9 @@ last-last-requires c = live_shown _ _ _ _ c.overlay-2.ensures
 
 pub link_counted-requires-clause-back : goal.link_counted-requires-clause-back
 link_counted-requires-clause-back c =
-    let two = two_first c.overlay-2.new.pool _ (two_new c.args.chain.now c.requires.live c.in_ok-tail.ensures.ok.adds) c.overlay-2.ensures in
+    let two =
+    two_first c.overlay-2.new.pool _ (two_new c.args.chain.now c.requires.live c.in_ok-tail.ensures.ok.adds)
+    c.overlay-2.ensures in
     two.live_second
 
 pub link_counted-requires-clause-len : goal.link_counted-requires-clause-len
@@ -55,8 +70,13 @@ link_counted-requires-clause-len c =
     let two = two_new c.args.chain.now c.requires.live c.in_ok-tail.ensures.ok.adds in
     let xs : List ℕ = c.after-rest.result.now in
     let z : ℕ = c.saturating_sub-2.result in
-    let kept = kept_with q c.overlay-2.new.pool c.args.chain.now _ c.in_ok-tail.tail c.overlay-2.ensures (λ e. two.apart (sym e)) in
-    let bytes = ap (λ (v : ChainView). length (flat_bytes v.entries)) kept ∙ ap (λ (es : List Entry). length (flat_bytes es)) c.in_ok-tail.ensures.ok.entries ∙ ap (λ (ys : List ℕ). length ys) (in_plain_bytes (replicate z 0 ++ xs)) in
+    let kept =
+    kept_with q c.overlay-2.new.pool c.args.chain.now _ c.in_ok-tail.tail c.overlay-2.ensures (λ e. two.apart (sym e))
+    in
+    let bytes =
+    ap (λ (v : ChainView). length (flat_bytes v.entries)) kept
+    ∙ ap (λ (es : List Entry). length (flat_bytes es)) c.in_ok-tail.ensures.ok.entries
+    ∙ ap (λ (ys : List ℕ). length ys) (in_plain_bytes (replicate z 0 ++ xs)) in
     omega (
       arith,
       bytes,
@@ -87,11 +107,16 @@ returns-clause-ok c =
     let front = shown_with q r k _ c.overlay-2.ensures in
     let was = makes_kept k c.in_ok-tail.ensures.ok c.requires.live in
     let back = kept_with q r k _ d c.overlay-2.ensures (λ e. two.apart (sym e)) in
-    let gap : c.saturating_sub-2.result ≡ off - length (flat_bytes v.entries) = c.saturating_sub-2.ensures ∙ ap (λ (n : ℕ). off - n) c.len-len.ensures in
-    let rest : c.after-rest.result.now ≡ drop (length (flat_bytes v.entries) - off) xs = c.after-rest.ensures ∙ ap (λ (n : ℕ). drop n xs) (c.saturating_sub.ensures ∙ ap (λ (n : ℕ). n - off) c.len-len.ensures) in
+    let gap : c.saturating_sub-2.result ≡ off - length (flat_bytes v.entries) =
+    c.saturating_sub-2.ensures ∙ ap (λ (n : ℕ). off - n) c.len-len.ensures in
+    let rest : c.after-rest.result.now ≡ drop (length (flat_bytes v.entries) - off) xs =
+    c.after-rest.ensures ∙ ap (λ (n : ℕ). drop n xs)
+    (c.saturating_sub.ensures ∙ ap (λ (n : ℕ). n - off) c.len-len.ensures) in
     record {
       adds = m.adds;
-      front = ap (λ (x : ChainView). x.front) shown ∙ ap (λ (x : ChainView). x.front) front ∙ ap (λ (x : ChainView). x.front) was;
+      front =
+          ap (λ (x : ChainView). x.front) shown ∙ ap (λ (x : ChainView). x.front) front
+          ∙ ap (λ (x : ChainView). x.front) was;
       entries = ap (λ (x : ChainView). x.entries) shown
           ∙ (λ j. (front j).entries ++ (back j).entries)
           ∙ (λ j. overlaid (was j).entries off xs ++ c.in_ok-tail.ensures.ok.entries j)
@@ -101,4 +126,5 @@ returns-clause-ok c =
 pub returns-clause-string : goal.returns-clause-string
 returns-clause-string c =
     let m = returns-clause-ok c in
-    ap flat_bytes m.entries ∙ copied_back_bytes (chain_of c.args.pool.now c.args.chain.now).entries c.args.off c.args.bytes.now
+    ap flat_bytes m.entries ∙ copied_back_bytes (chain_of c.args.pool.now c.args.chain.now).entries c.args.off
+    c.args.bytes.now

@@ -13,35 +13,64 @@ first-at-requires c = live_adds c.in_ok-chain.ensures.ok
 
 pub put_back-requires-clause-unshared : goal.put_back-requires-clause-unshared
 put_back-requires-clause-unshared c =
-    plain_unshared c.new_plain.new.self (entry_in c.new_plain.new.self c.in_ok-chain.chain c.first-at.result) (ap (λ (e : Entry). e.cluster) (new_entry c.args.pool.now c.new_plain.new.self c.in_ok-chain.chain c.first-at.result.index _ _ c.in_ok-chain.ensures.ok c.first-at.ensures.index))
+    plain_unshared c.new_plain.new.self (entry_in c.new_plain.new.self c.in_ok-chain.chain c.first-at.result)
+    (ap (λ (e : Entry). e.cluster)
+    (new_entry c.args.pool.now c.new_plain.new.self c.in_ok-chain.chain c.first-at.result.index _ _
+    c.in_ok-chain.ensures.ok c.first-at.ensures.index))
 
 pub put_back-requires-clause-fits : goal.put_back-requires-clause-fits
 put_back-requires-clause-fits c =
-    subst (λ (e : Entry). HasTrailingSpace e (length c.zeros.result.now)) (sym (new_entry c.args.pool.now c.new_plain.new.self c.in_ok-chain.chain c.first-at.result.index _ _ c.in_ok-chain.ensures.ok c.first-at.ensures.index))
-    (omega (arith, ap (λ (xs : List ℕ). length xs) c.zeros.ensures, length-replicate {A = ℕ} c.min-blank.result 0, c.min-blank.ensures))
+    subst (λ (e : Entry). HasTrailingSpace e (length c.zeros.result.now))
+    (sym (new_entry c.args.pool.now c.new_plain.new.self c.in_ok-chain.chain c.first-at.result.index _ _
+    c.in_ok-chain.ensures.ok c.first-at.ensures.index))
+    (omega (
+      arith,
+      ap (λ (xs : List ℕ). length xs) c.zeros.ensures,
+      length-replicate {A = ℕ} c.min-blank.result 0,
+      c.min-blank.ensures,
+    ))
 
 pub put_back-requires-2-clause-live : goal.put_back-requires-2-clause-live
-put_back-requires-2-clause-live c = live_adds (filled _ _ _ _ _ _ _ _ c.in_ok-chain.ensures.ok c.first-at.ensures.index c.put_back.ensures)
+put_back-requires-2-clause-live c =
+    live_adds (filled _ _ _ _ _ _ _ _ c.in_ok-chain.ensures.ok c.first-at.ensures.index c.put_back.ensures)
 
 pub put_back-requires-2-clause-place : goal.put_back-requires-2-clause-place
 put_back-requires-2-clause-place c = place_after _ _ _ _ _ _ c.put_back.ensures c.first-at.ensures.place
 
-first_filled : (p q r : PoolView) (d i : ℕ) (xs : List ℕ) → Adds p q d (one_mbuf false (empty_entry 20 None) d) → i ≡ 0 → r ≡ with_chain q d (with_entry (chain_of q d) i (with_back (entry_of (chain_of q d) i) xs))
+first_filled : (p q r : PoolView) (d i : ℕ) (xs : List ℕ) → Adds p q d (one_mbuf false (empty_entry 20 None) d) → i ≡ 0
+    → r ≡ with_chain q d (with_entry (chain_of q d) i (with_back (entry_of (chain_of q d) i) xs))
     → Adds p r d (one_mbuf false (with_back (empty_entry 20 None) xs) d)
 first_filled p q r d i xs a first is =
     filled p q r d i false (empty_entry 20 None) (with_back (empty_entry 20 None) xs) a first
-    (is ∙ ap (λ (e : Entry). with_chain q d (with_entry (chain_of q d) i (with_back e xs))) (new_entry p q d i false (empty_entry 20 None) a first))
+    (is ∙ ap (λ (e : Entry). with_chain q d (with_entry (chain_of q d) i (with_back e xs)))
+    (new_entry p q d i false (empty_entry 20 None) a first))
 
 pub put_back-requires-2-clause-unshared : goal.put_back-requires-2-clause-unshared
 put_back-requires-2-clause-unshared c =
-    let a = first_filled c.args.pool.now c.new_plain.new.self c.put_back.new.self c.in_ok-chain.chain c.first-at.result.index c.zeros.result.now c.in_ok-chain.ensures.ok c.first-at.ensures.index c.put_back.ensures in
-    plain_unshared c.put_back.new.self (entry_in c.put_back.new.self c.in_ok-chain.chain c.first-at.result) (ap (λ (e : Entry). e.cluster) (new_entry c.args.pool.now c.put_back.new.self c.in_ok-chain.chain c.first-at.result.index _ _ a c.first-at.ensures.index))
+    let a =
+    first_filled c.args.pool.now c.new_plain.new.self c.put_back.new.self c.in_ok-chain.chain c.first-at.result.index
+    c.zeros.result.now c.in_ok-chain.ensures.ok c.first-at.ensures.index c.put_back.ensures in
+    plain_unshared c.put_back.new.self (entry_in c.put_back.new.self c.in_ok-chain.chain c.first-at.result)
+    (ap (λ (e : Entry). e.cluster)
+    (new_entry c.args.pool.now c.put_back.new.self c.in_ok-chain.chain c.first-at.result.index _ _ a
+    c.first-at.ensures.index))
 
 pub put_back-requires-2-clause-fits : goal.put_back-requires-2-clause-fits
 put_back-requires-2-clause-fits c =
-    let a = first_filled c.args.pool.now c.new_plain.new.self c.put_back.new.self c.in_ok-chain.chain c.first-at.result.index c.zeros.result.now c.in_ok-chain.ensures.ok c.first-at.ensures.index c.put_back.ensures in
-    subst (λ (e : Entry). HasTrailingSpace e (length (take c.min-count.result c.args.bytes.now))) (sym (new_entry c.args.pool.now c.put_back.new.self c.in_ok-chain.chain c.first-at.result.index _ _ a c.first-at.ensures.index))
-    (omega (arith, ap (λ (xs : List ℕ). length xs) c.zeros.ensures, length-replicate {A = ℕ} c.min-blank.result 0, c.min-blank.ensures, c.min-count.ensures, length-take c.min-count.result c.args.bytes.now))
+    let a =
+    first_filled c.args.pool.now c.new_plain.new.self c.put_back.new.self c.in_ok-chain.chain c.first-at.result.index
+    c.zeros.result.now c.in_ok-chain.ensures.ok c.first-at.ensures.index c.put_back.ensures in
+    subst (λ (e : Entry). HasTrailingSpace e (length (take c.min-count.result c.args.bytes.now)))
+    (sym (new_entry c.args.pool.now c.put_back.new.self c.in_ok-chain.chain c.first-at.result.index _ _ a
+    c.first-at.ensures.index))
+    (omega (
+      arith,
+      ap (λ (xs : List ℕ). length xs) c.zeros.ensures,
+      length-replicate {A = ℕ} c.min-blank.result 0,
+      c.min-blank.ensures,
+      c.min-count.ensures,
+      length-take c.min-count.result c.args.bytes.now,
+    ))
 
 pub returns-clause-ok : goal.returns-clause-ok
 returns-clause-ok c =
@@ -51,9 +80,17 @@ returns-clause-ok c =
     let i : ℕ = c.first-at.result.index in
     let xs : List ℕ = c.zeros.result.now in
     let ys : List ℕ = take c.min-count.result c.args.bytes.now in
-    let a = first_filled p c.new_plain.new.self q d i xs c.in_ok-chain.ensures.ok c.first-at.ensures.index c.put_back.ensures in
+    let a =
+    first_filled p c.new_plain.new.self q d i xs c.in_ok-chain.ensures.ok c.first-at.ensures.index c.put_back.ensures
+    in
     let all : xs ++ ys ≡ take 108 (replicate c.args.gap 0 ++ c.args.bytes.now) =
-    ap (λ (zs : List ℕ). zs ++ ys) c.zeros.ensures ∙ tail_first c.args.gap c.min-blank.result c.min-count.result c.args.bytes.now c.min-blank.ensures c.min-count.ensures in
-    filled p q c.put_back-2.new.self d i false (with_back (empty_entry 20 None) xs) (record { bytes = take 108 (replicate c.args.gap 0 ++ c.args.bytes.now); start = 20; cluster = None }) a c.first-at.ensures.index
-    (c.put_back-2.ensures ∙ ap (λ (e : Entry). with_chain q d (with_entry (chain_of q d) i (with_back e ys))) (new_entry p q d i false _ a c.first-at.ensures.index)
-    ∙ ap (λ (zs : List ℕ). let e : Entry = record { bytes = zs; start = 20; cluster = None } in with_chain q d (with_entry (chain_of q d) i e)) all)
+    ap (λ (zs : List ℕ). zs ++ ys) c.zeros.ensures
+    ∙ tail_first c.args.gap c.min-blank.result c.min-count.result c.args.bytes.now c.min-blank.ensures
+    c.min-count.ensures in
+    filled p q c.put_back-2.new.self d i false (with_back (empty_entry 20 None) xs)
+    (record { bytes = take 108 (replicate c.args.gap 0 ++ c.args.bytes.now); start = 20; cluster = None }) a
+    c.first-at.ensures.index
+    (c.put_back-2.ensures ∙ ap (λ (e : Entry). with_chain q d (with_entry (chain_of q d) i (with_back e ys)))
+    (new_entry p q d i false _ a c.first-at.ensures.index)
+    ∙ ap (λ (zs : List ℕ). let e : Entry = record { bytes = zs; start = 20; cluster = None } in
+    with_chain q d (with_entry (chain_of q d) i e)) all)

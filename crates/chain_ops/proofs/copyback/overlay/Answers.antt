@@ -21,7 +21,8 @@ pub next-requires-clause-place : goal.next-requires-clause-place
 next-requires-clause-place c = place_after _ _ _ _ _ _ c.overlay_mbuf.ensures c.mbufs.invariant.place
 
 pub mbufs-smaller : goal.mbufs-smaller
-mbufs-smaller c = omega (arith, c.in-Some.ensures.1, c.in-Some.ensures.0.within, length_now _ _ _ _ _ c.overlay_mbuf.ensures)
+mbufs-smaller c =
+    omega (arith, c.in-Some.ensures.1, c.in-Some.ensures.0.within, length_now _ _ _ _ _ c.overlay_mbuf.ensures)
 
 pub mbufs-init : goal.mbufs-init
 mbufs-init c =
@@ -32,7 +33,9 @@ mbufs-init c =
       all = ap (λ (i : ℕ). take i es ++ overlaid (drop i es) c.args.off c.args.bytes.now) c.first-at.ensures.index;
       place = c.first-at.ensures.place;
       counts = λ k. refl;
-      writable = ap (λ (i : ℕ). is_writable (references p) (drop i es) c.args.off (length c.args.bytes.now)) c.first-at.ensures.index ∙ c.requires.writable;
+      writable =
+          ap (λ (i : ℕ). is_writable (references p) (drop i es) c.args.off (length c.args.bytes.now))
+          c.first-at.ensures.index ∙ c.requires.writable;
     }
 
 some_bytes : (xs : List ℕ) (b : Bool) → b ≡ (length xs == 0) → b ≡ false → 0 < length xs
@@ -47,8 +50,11 @@ overlay_mbuf-requires-clause-unshared c =
     let xs : List ℕ = c.mbufs.rest.now in
     let inv = c.mbufs.invariant in
     let e : Entry = entry_of v at.index in
-    let parts = writable_parts (references c.args.pool.now) e (drop (at.index + 1) v.entries) c.mbufs.skip (length xs) (some_bytes xs _ c.is_empty.ensures c.mbufs-test.true)
-    (ap (λ (es : List Entry). is_writable (references c.args.pool.now) es c.mbufs.skip (length xs)) (sym (at_entry v at inv.place)) ∙ inv.writable) in
+    let parts =
+    writable_parts (references c.args.pool.now) e (drop (at.index + 1) v.entries) c.mbufs.skip (length xs)
+    (some_bytes xs _ c.is_empty.ensures c.mbufs-test.true)
+    (ap (λ (es : List Entry). is_writable (references c.args.pool.now) es c.mbufs.skip (length xs))
+    (sym (at_entry v at inv.place)) ∙ inv.writable) in
     λ l. (λ j. is_shared (λ k. inv.counts k j) e.cluster) ∙ parts.0 l
 
 pub mbufs-preserved : goal.mbufs-preserved
@@ -63,19 +69,32 @@ mbufs-preserved c =
     let later : List ℕ = c.after-rest.result.now in
     let inv = c.mbufs.invariant in
     let len = ap (λ (x : Segment). x.len) c.segment-len.ensures.value in
-    let rest : later ≡ drop (c.segment-len.result.len - c.mbufs.skip) xs = c.after-rest.ensures ∙ ap (λ (n : ℕ). drop n xs) c.saturating_sub.ensures in
-    let parts = writable_parts (references c.args.pool.now) e (drop (at.index + 1) v.entries) c.mbufs.skip (length xs) (some_bytes xs _ c.is_empty.ensures c.mbufs-test.true)
-    (ap (λ (es : List Entry). is_writable (references c.args.pool.now) es c.mbufs.skip (length xs)) (sym (at_entry v at inv.place)) ∙ inv.writable) in
-    let skip : c.saturating_sub-skip.result ≡ c.mbufs.skip - length e.bytes = c.saturating_sub-skip.ensures ∙ ap (λ (n : ℕ). c.mbufs.skip - n) len in
-    let size : length later ≡ length xs - (length e.bytes - c.mbufs.skip) = omega (arith, ap (λ (ys : List ℕ). length ys) rest, length-drop (c.segment-len.result.len - c.mbufs.skip) xs, len) in
+    let rest : later ≡ drop (c.segment-len.result.len - c.mbufs.skip) xs =
+    c.after-rest.ensures ∙ ap (λ (n : ℕ). drop n xs) c.saturating_sub.ensures in
+    let parts =
+    writable_parts (references c.args.pool.now) e (drop (at.index + 1) v.entries) c.mbufs.skip (length xs)
+    (some_bytes xs _ c.is_empty.ensures c.mbufs-test.true)
+    (ap (λ (es : List Entry). is_writable (references c.args.pool.now) es c.mbufs.skip (length xs))
+    (sym (at_entry v at inv.place)) ∙ inv.writable) in
+    let skip : c.saturating_sub-skip.result ≡ c.mbufs.skip - length e.bytes =
+    c.saturating_sub-skip.ensures ∙ ap (λ (n : ℕ). c.mbufs.skip - n) len in
+    let size : length later ≡ length xs - (length e.bytes - c.mbufs.skip) =
+    omega (arith, ap (λ (ys : List ℕ). length ys) rest, length-drop (c.segment-len.result.len - c.mbufs.skip) xs, len)
+    in
     let after : drop c.in-Some.place.index (chain_of r k).entries ≡ drop (at.index + 1) v.entries =
-    (λ j. drop (c.in-Some.ensures.1 j) (entries_now q r k at.index _ c.overlay_mbuf.ensures j)) ∙ drop-set-lt (at.index + 1) v.entries at.index _ (omega arith) in
+    (λ j. drop (c.in-Some.ensures.1 j) (entries_now q r k at.index _ c.overlay_mbuf.ensures j))
+    ∙ drop-set-lt (at.index + 1) v.entries at.index _ (omega arith) in
     record {
       step = changed_step _ _ _ _ _ _ inv.step c.overlay_mbuf.ensures;
-      all = ap (λ (n : ℕ). take c.in-Some.place.index (chain_of r k).entries ++ overlaid (drop c.in-Some.place.index (chain_of r k).entries) n later) c.saturating_sub-skip.ensures
-          ∙ overlay_all q r k at c.mbufs.skip c.in-Some.place.index c.segment-len.result.len xs later inv.place len rest c.overlay_mbuf.ensures c.in-Some.ensures.1 ∙ inv.all;
+      all =
+          ap (λ (n : ℕ). take c.in-Some.place.index (chain_of r k).entries
+          ++ overlaid (drop c.in-Some.place.index (chain_of r k).entries) n later) c.saturating_sub-skip.ensures
+          ∙ overlay_all q r k at c.mbufs.skip c.in-Some.place.index c.segment-len.result.len xs later inv.place len rest
+          c.overlay_mbuf.ensures c.in-Some.ensures.1 ∙ inv.all;
       place = c.in-Some.ensures.0;
-      counts = λ n. counts_stay q r k at.index n _ (live_shown _ _ _ _ inv.step) inv.place.within refl c.overlay_mbuf.ensures ∙ inv.counts n;
+      counts =
+          λ n. counts_stay q r k at.index n _ (live_shown _ _ _ _ inv.step) inv.place.within refl c.overlay_mbuf.ensures
+          ∙ inv.counts n;
       writable = (λ j. is_writable (references c.args.pool.now) (after j) (skip j) (size j)) ∙ parts.1;
     }
 
@@ -89,9 +108,14 @@ returns-in_default c =
     let later : List ℕ = c.after-rest.result.now in
     let inv = c.mbufs.invariant in
     let len = ap (λ (x : Segment). x.len) c.segment-len.ensures.value in
-    let rest : later ≡ drop (c.segment-len.result.len - c.mbufs.skip) xs = c.after-rest.ensures ∙ ap (λ (n : ℕ). drop n xs) c.saturating_sub.ensures in
-    let end = walk_end (chain_of r k).entries (λ es. overlaid es (c.mbufs.skip - c.segment-len.result.len) later) at.index c.in_default.ensures refl in
-    let all = overlay_all q r k at c.mbufs.skip (at.index + 1) c.segment-len.result.len xs later inv.place len rest c.overlay_mbuf.ensures refl in
+    let rest : later ≡ drop (c.segment-len.result.len - c.mbufs.skip) xs =
+    c.after-rest.ensures ∙ ap (λ (n : ℕ). drop n xs) c.saturating_sub.ensures in
+    let end =
+    walk_end (chain_of r k).entries (λ es. overlaid es (c.mbufs.skip - c.segment-len.result.len) later) at.index
+    c.in_default.ensures refl in
+    let all =
+    overlay_all q r k at c.mbufs.skip (at.index + 1) c.segment-len.result.len xs later inv.place len rest
+    c.overlay_mbuf.ensures refl in
     changed_step _ _ _ _ _ _ inv.step c.overlay_mbuf.ensures ∙ ap (changed c.args.pool.now k) (sym end ∙ all ∙ inv.all)
 
 pub returns : goal.returns
@@ -102,4 +126,6 @@ returns c =
     let none : xs ≡ [] = no_bytes xs (eqb-true (length xs) 0 (sym c.is_empty.ensures ∙ c.mbufs-test.false)) in
     c.mbufs.invariant.step
     ∙ ap (changed c.args.pool.now c.args.chain.now)
-    (sym (take-append-drop i es) ∙ ap (λ (fs : List Entry). take i es ++ fs) (sym (overlaid-none (drop i es) c.mbufs.skip)) ∙ ap (λ (ys : List ℕ). take i es ++ overlaid (drop i es) c.mbufs.skip ys) (sym none) ∙ c.mbufs.invariant.all)
+    (sym (take-append-drop i es) ∙ ap (λ (fs : List Entry). take i es ++ fs)
+    (sym (overlaid-none (drop i es) c.mbufs.skip))
+    ∙ ap (λ (ys : List ℕ). take i es ++ overlaid (drop i es) c.mbufs.skip ys) (sym none) ∙ c.mbufs.invariant.all)

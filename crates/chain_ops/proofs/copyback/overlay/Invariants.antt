@@ -5,12 +5,15 @@ use Rattle.chain_ops.proofs.copyback.overlay.Given as goal
 
 abbrev pub invariant-mbufs : goal.invariant-mbufs
 invariant-mbufs l = record {
-  step : l.pool ≡ with_chain l.fn.pool l.chain (record (chain_of l.fn.pool l.chain) { entries = (chain_of l.pool l.chain).entries });
-  all : take l.at.index (chain_of l.pool l.chain).entries ++ overlaid (drop l.at.index (chain_of l.pool l.chain).entries) l.skip l.rest
+  step : l.pool ≡ with_chain l.fn.pool l.chain
+      (record (chain_of l.fn.pool l.chain) { entries = (chain_of l.pool l.chain).entries });
+  all : take l.at.index (chain_of l.pool l.chain).entries
+      ++ overlaid (drop l.at.index (chain_of l.pool l.chain).entries) l.skip l.rest
       ≡ overlaid (chain_of l.fn.pool l.chain).entries l.fn.off l.bytes;
   place : IsPlace (chain_of l.pool l.chain) l.at;
   counts : (k : ℕ) → references l.pool k ≡ references l.fn.pool k;
-  writable : is_writable (references l.fn.pool) (drop l.at.index (chain_of l.pool l.chain).entries) l.skip (length l.rest) ≡ true;
+  writable : is_writable (references l.fn.pool) (drop l.at.index (chain_of l.pool l.chain).entries) l.skip
+      (length l.rest) ≡ true;
 }
 
 abbrev pub decreases-mbufs : goal.decreases-mbufs

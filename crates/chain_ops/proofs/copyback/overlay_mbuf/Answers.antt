@@ -8,7 +8,8 @@ use Rattle.chain_ops.proofs.copyback.overlay_mbuf.Goals as goal
 
 pub overwrite-requires-clause-unshared : goal.overwrite-requires-clause-unshared
 overwrite-requires-clause-unshared c =
-    unshared_at c.args.pool.now c.args.chain.now c.args.at.index c.requires.live c.requires.place.within (c.requires.unshared (omega (arith, c.if-skip-len.true, ap (λ (x : Segment). x.len) c.segment-len.ensures.value)))
+    unshared_at c.args.pool.now c.args.chain.now c.args.at.index c.requires.live c.requires.place.within
+    (c.requires.unshared (omega (arith, c.if-skip-len.true, ap (λ (x : Segment). x.len) c.segment-len.ensures.value)))
 
 pub returns-else-skip-len : goal.returns-else-skip-len
 returns-else-skip-len c =
@@ -17,4 +18,10 @@ returns-else-skip-len c =
     let i : ℕ = c.args.at.index in
     let e : Entry = entry_of (chain_of p k) i in
     changed_none p k c.requires.live
-    ∙ ap (with_chain p k) (sym (ap (with_entry (chain_of p k) i) (overwritten-past e c.args.skip c.args.bytes.now (omega (arith, c.if-skip-len.false, ap (λ (x : Segment). x.len) c.segment-len.ensures.value))) ∙ with_entry-same (chain_of p k) i))
+    ∙ ap (with_chain p k) (sym (ap (with_entry (chain_of p k) i)
+    (overwritten-past e c.args.skip c.args.bytes.now
+    (omega (
+      arith,
+      c.if-skip-len.false,
+      ap (λ (x : Segment). x.len) c.segment-len.ensures.value,
+    ))) ∙ with_entry-same (chain_of p k) i))

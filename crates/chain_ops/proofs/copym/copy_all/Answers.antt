@@ -20,7 +20,9 @@ mbufs-init c =
     let len = ap (λ (x : Segment). x.len) c.segment-len.ensures.value in
     record {
       made = record { adds = m.adds; front = m.front; entries = refl };
-      all = all_start v c.first-at.result c.has_header-header.result c.segment-len.result.len _ c.first-at.ensures.place c.first-at.ensures.index len m.entries;
+      all =
+          all_start v c.first-at.result c.has_header-header.result c.segment-len.result.len _ c.first-at.ensures.place
+          c.first-at.ensures.index len m.entries;
       place = c.first-at.ensures.place;
       last = c.first-last.ensures.place;
       end = omega (arith, c.first-last.ensures.index, ap (λ (es : List Entry). length es) m.entries);
@@ -30,7 +32,8 @@ pub next-requires-clause-live : goal.next-requires-clause-live
 next-requires-clause-live c = makes_live _ c.mbufs.invariant.made c.requires
 
 pub next-requires-clause-place : goal.next-requires-clause-place
-next-requires-clause-place c = place_in c.args.pool.now c.mbufs.pool _ _ (makes_kept _ c.mbufs.invariant.made c.requires) c.mbufs.invariant.place
+next-requires-clause-place c =
+    place_in c.args.pool.now c.mbufs.pool _ _ (makes_kept _ c.mbufs.invariant.made c.requires) c.mbufs.invariant.place
 
 pub returns-in_default-append_copy-clause-err : goal.returns-in_default-append_copy-clause-err
 returns-in_default-append_copy-clause-err c =
@@ -44,13 +47,15 @@ returns-in_default-append_copy-clause-err c =
       makes_held m,
       makes_mbufs m,
       ap (λ (es : List Entry). length es) c.mbufs.invariant.all,
-      length-append (chain_of c.mbufs.pool c.in_ok-copy.copy).entries (copied_all 20 (drop (c.mbufs.at.index + 1) v.entries)),
+      length-append (chain_of c.mbufs.pool c.in_ok-copy.copy).entries
+          (copied_all 20 (drop (c.mbufs.at.index + 1) v.entries)),
       ap (λ (h : Bool). length (copied_all (room_low h) v.entries)) c.has_header-header.ensures,
     )
 
 pub returns-in_default-append_copy-clause-same : goal.returns-in_default-append_copy-clause-same
 returns-in_default-append_copy-clause-same c =
-    makes_undone _ c.mbufs.invariant.made (c.free_chain.ensures ∙ ap (λ (s : PoolView). without s c.in_ok-copy.copy) c.in_default-append_copy.ensures.same)
+    makes_undone _ c.mbufs.invariant.made
+    (c.free_chain.ensures ∙ ap (λ (s : PoolView). without s c.in_ok-copy.copy) c.in_default-append_copy.ensures.same)
 
 pub mbufs-preserved : goal.mbufs-preserved
 mbufs-preserved c =
@@ -59,15 +64,28 @@ mbufs-preserved c =
     let kept = makes_kept c.args.chain.now was c.requires in
     let m = makes_then c.append_copy.new.pool _ was c.in-Ok.ensures.ok.1 in
     let place = place_in c.mbufs.pool c.args.pool.now _ _ (sym kept) c.in-Some.ensures.0 in
-    let len = ap (λ (x : Segment). x.len) c.segment-n.ensures.value ∙ ap (λ (w : ChainView). length (entry_of w c.in-Some.place.index).bytes) kept in
+    let len =
+    ap (λ (x : Segment). x.len) c.segment-n.ensures.value
+    ∙ ap (λ (w : ChainView). length (entry_of w c.in-Some.place.index).bytes) kept in
     let done : List Entry = (chain_of c.mbufs.pool c.in_ok-copy.copy).entries in
-    let now = m.entries ∙ ap (λ (w : ChainView). done ++ (copied_entry 20 (entry_of w c.in-Some.place.index) 0 c.segment-n.result.len ∷ [])) kept in
+    let now =
+    m.entries ∙ ap (λ (w : ChainView). done
+    ++ (copied_entry 20 (entry_of w c.in-Some.place.index) 0 c.segment-n.result.len ∷ [])) kept in
     record {
       made = record { adds = m.adds; front = m.front ∙ was.front; entries = refl };
-      all = all_step v c.in-Some.place c.mbufs.at.index c.segment-n.result.len done _ place c.in-Some.ensures.1 len now ∙ c.mbufs.invariant.all;
+      all =
+          all_step v c.in-Some.place c.mbufs.at.index c.segment-n.result.len done _ place c.in-Some.ensures.1 len now
+          ∙ c.mbufs.invariant.all;
       place = place;
       last = c.in-Ok.ensures.ok.2;
-      end = omega (arith, c.in-Ok.ensures.ok.3, c.mbufs.invariant.end, ap (λ (es : List Entry). length es) now, length-append done (copied_entry 20 (entry_of v c.in-Some.place.index) 0 c.segment-n.result.len ∷ []));
+      end =
+          omega (
+            arith,
+            c.in-Ok.ensures.ok.3,
+            c.mbufs.invariant.end,
+            ap (λ (es : List Entry). length es) now,
+            length-append done (copied_entry 20 (entry_of v c.in-Some.place.index) 0 c.segment-n.result.len ∷ []),
+          );
     }
 
 pub returns-clause-ok : goal.returns-clause-ok
@@ -75,11 +93,14 @@ returns-clause-ok c =
     let v : ChainView = chain_of c.args.pool.now c.args.chain.now in
     let m = c.mbufs.invariant.made in
     let done : List Entry = (chain_of c.mbufs.pool c.in_ok-copy.copy).entries in
-    let end = c.in_default.ensures ∙ ap (λ (w : ChainView). length w.entries) (makes_kept c.args.chain.now m c.requires) in
+    let end =
+    c.in_default.ensures ∙ ap (λ (w : ChainView). length w.entries) (makes_kept c.args.chain.now m c.requires) in
     record {
       adds = m.adds;
       front = m.front ∙ ap alone c.has_header-header.ensures;
-      entries = sym (append-nil done) ∙ ap (λ (es : List Entry). done ++ copied_all 20 es) (sym (none_after v.entries c.mbufs.at.index end))
+      entries =
+          sym (append-nil done) ∙ ap (λ (es : List Entry). done ++ copied_all 20 es)
+          (sym (none_after v.entries c.mbufs.at.index end))
           ∙ c.mbufs.invariant.all ∙ ap (λ (h : Bool). copied_all (room_low h) v.entries) c.has_header-header.ensures;
     }
 

@@ -10,7 +10,9 @@ overflow_add-skip c = omega (arith, cursor_most _ _ c.requires.cursor, c.require
 pub mbufs-init : goal.mbufs-init
 mbufs-init c = record {
   place = c.requires.cursor.place;
-  position = position_on (chain_of c.args.pool.now c.args.chain.now).entries c.args.from.off c.args.by ∙ ap (λ (s : Position). position_of s.entries (s.skip + c.args.by)) c.requires.cursor.position;
+  position =
+      position_on (chain_of c.args.pool.now c.args.chain.now).entries c.args.from.off c.args.by
+      ∙ ap (λ (s : Position). position_of s.entries (s.skip + c.args.by)) c.requires.cursor.position;
   left = omega (arith, cursor_left _ _ c.requires.cursor);
 }
 

@@ -13,11 +13,20 @@ use Rattle.chain_ops.proofs.cursor.copy_at.Goals as goal
 
 pub overflow_sub-segment : goal.overflow_sub-segment
 overflow_sub-segment c =
-    omega (arith, cursor_inside (chain_of c.args.pool.now c.args.chain.now) c.args.from c.requires.cursor, ap (λ (x : Segment). x.len) c.segment.ensures.value)
+    omega (
+      arith,
+      cursor_inside (chain_of c.args.pool.now c.args.chain.now) c.args.from c.requires.cursor,
+      ap (λ (x : Segment). x.len) c.segment.ensures.value,
+    )
 
 pub new_copy-requires-clause-within : goal.new_copy-requires-clause-within
 new_copy-requires-clause-within c =
-    omega (arith, cursor_inside (chain_of c.args.pool.now c.args.chain.now) c.args.from c.requires.cursor, ap (λ (x : Segment). x.len) c.segment.ensures.value, c.min-first.ensures)
+    omega (
+      arith,
+      cursor_inside (chain_of c.args.pool.now c.args.chain.now) c.args.from c.requires.cursor,
+      ap (λ (x : Segment). x.len) c.segment.ensures.value,
+      c.min-first.ensures,
+    )
 
 pub new_copy-requires-clause-headed : goal.new_copy-requires-clause-headed
 new_copy-requires-clause-headed c = λ t.
@@ -35,10 +44,21 @@ mbufs-init c =
     let len = ap (λ (x : Segment). x.len) c.segment.ensures.value in
     record {
       made = record { adds = m.adds; front = m.front; entries = refl };
-      all = copied_start v c.args.from.place c.copy_header-header.result c.args.from.off c.args.len c.args.from.skip c.min-first.result c.segment.result.len _
+      all =
+          copied_start v c.args.from.place c.copy_header-header.result c.args.from.off c.args.len c.args.from.skip
+          c.min-first.result c.segment.result.len _
           c.requires.cursor.place c.requires.cursor.position c.requires.some len c.min-first.ensures m.entries;
       place = c.requires.cursor.place;
-      within = omega (arith, cursor_left v c.args.from c.requires.cursor, cursor_inside v c.args.from c.requires.cursor, flat_at v c.args.from.place c.requires.cursor.place, len, c.min-first.ensures, c.requires.within);
+      within =
+          omega (
+            arith,
+            cursor_left v c.args.from c.requires.cursor,
+            cursor_inside v c.args.from c.requires.cursor,
+            flat_at v c.args.from.place c.requires.cursor.place,
+            len,
+            c.min-first.ensures,
+            c.requires.within,
+          );
       last = c.first-last.ensures.place;
       end = omega (arith, c.first-last.ensures.index, ap (λ (es : List Entry). length es) m.entries);
     }
@@ -47,13 +67,21 @@ pub next-requires-clause-live : goal.next-requires-clause-live
 next-requires-clause-live c = makes_live _ c.mbufs.invariant.made c.requires.live
 
 pub next-requires-clause-place : goal.next-requires-clause-place
-next-requires-clause-place c = place_in c.args.pool.now c.mbufs.pool _ _ (makes_kept _ c.mbufs.invariant.made c.requires.live) c.mbufs.invariant.place
+next-requires-clause-place c =
+    place_in c.args.pool.now c.mbufs.pool _ _ (makes_kept _ c.mbufs.invariant.made c.requires.live)
+    c.mbufs.invariant.place
 
 pub unwrap-at-requires : goal.unwrap-at-requires
 unwrap-at-requires c =
     let v : ChainView = chain_of c.args.pool.now c.args.chain.now in
     some_since _ _ _ c.next.ensures
-    (λ e. omega (arith, flat_after v.entries c.mbufs.at.index (e ∙ ap (λ (w : ChainView). length w.entries) (makes_kept _ c.mbufs.invariant.made c.requires.live)), c.mbufs.invariant.within, c.mbufs-test.true))
+    (λ e. omega (
+      arith,
+      flat_after v.entries c.mbufs.at.index
+          (e ∙ ap (λ (w : ChainView). length w.entries) (makes_kept _ c.mbufs.invariant.made c.requires.live)),
+      c.mbufs.invariant.within,
+      c.mbufs-test.true,
+    ))
 
 pub returns-in_default-clause-err : goal.returns-in_default-clause-err
 returns-in_default-clause-err c =
@@ -62,7 +90,11 @@ returns-in_default-clause-err c =
     let next = MatchOption-at_some _ _ _ c.unwrap-at.ensures c.next.ensures in
     let place = place_in c.mbufs.pool c.args.pool.now _ _ (sym (makes_kept _ m c.requires.live)) next.0 in
     let some : 0 < length (copied_from 20 (drop (c.mbufs.at.index + 1) v.entries) 0 c.mbufs.left) =
-    omega (arith, copied_some 20 v c.unwrap-at.result 0 c.mbufs.left place c.mbufs-test.true, ap (λ (i : ℕ). length (copied_from 20 (drop i v.entries) 0 c.mbufs.left)) next.1) in
+    omega (
+      arith,
+      copied_some 20 v c.unwrap-at.result 0 c.mbufs.left place c.mbufs-test.true,
+      ap (λ (i : ℕ). length (copied_from 20 (drop i v.entries) 0 c.mbufs.left)) next.1,
+    ) in
     omega (
       arith,
       some,
@@ -70,13 +102,15 @@ returns-in_default-clause-err c =
       makes_held m,
       makes_mbufs m,
       ap (λ (es : List Entry). length es) c.mbufs.invariant.all,
-      length-append (chain_of c.mbufs.pool c.in_ok-copy.copy).entries (copied_from 20 (drop (c.mbufs.at.index + 1) v.entries) 0 c.mbufs.left),
+      length-append (chain_of c.mbufs.pool c.in_ok-copy.copy).entries
+          (copied_from 20 (drop (c.mbufs.at.index + 1) v.entries) 0 c.mbufs.left),
       ap (λ (h : Bool). length (copied h v.entries c.args.from.off c.args.len)) c.copy_header-header.ensures,
     )
 
 pub returns-in_default-clause-same : goal.returns-in_default-clause-same
 returns-in_default-clause-same c =
-    makes_undone _ c.mbufs.invariant.made (c.free_chain.ensures ∙ ap (λ (s : PoolView). without s c.in_ok-copy.copy) c.in_default.ensures.same)
+    makes_undone _ c.mbufs.invariant.made
+    (c.free_chain.ensures ∙ ap (λ (s : PoolView). without s c.in_ok-copy.copy) c.in_default.ensures.same)
 
 pub mbufs-preserved : goal.mbufs-preserved
 mbufs-preserved c =
@@ -86,17 +120,38 @@ mbufs-preserved c =
     let m = makes_then c.append_copy.new.pool _ was c.in-Ok.ensures.ok.1 in
     let next = MatchOption-at_some _ _ _ c.unwrap-at.ensures c.next.ensures in
     let place = place_in c.mbufs.pool c.args.pool.now _ _ (sym kept) next.0 in
-    let len = ap (λ (x : Segment). x.len) c.segment-in-mbufs.ensures.value ∙ ap (λ (w : ChainView). length (entry_of w c.unwrap-at.result.index).bytes) kept in
+    let len =
+    ap (λ (x : Segment). x.len) c.segment-in-mbufs.ensures.value
+    ∙ ap (λ (w : ChainView). length (entry_of w c.unwrap-at.result.index).bytes) kept in
     let done : List Entry = (chain_of c.mbufs.pool c.in_ok-copy.copy).entries in
-    let now = m.entries ∙ ap (λ (w : ChainView). done ++ (copied_entry 20 (entry_of w c.unwrap-at.result.index) 0 c.min-n.result ∷ [])) kept in
+    let now =
+    m.entries ∙ ap (λ (w : ChainView). done
+    ++ (copied_entry 20 (entry_of w c.unwrap-at.result.index) 0 c.min-n.result ∷ [])) kept in
     record {
       made = record { adds = m.adds; front = m.front ∙ was.front; entries = refl };
-      all = copied_step v c.unwrap-at.result c.mbufs.at.index c.mbufs.left c.min-n.result c.segment-in-mbufs.result.len done _ place next.1 c.mbufs-test.true len c.min-n.ensures now
+      all =
+          copied_step v c.unwrap-at.result c.mbufs.at.index c.mbufs.left c.min-n.result c.segment-in-mbufs.result.len done
+          _ place next.1 c.mbufs-test.true len c.min-n.ensures now
           ∙ c.mbufs.invariant.all;
       place = place;
-      within = omega (arith, flat_at v c.unwrap-at.result place, len, c.min-n.ensures, c.mbufs.invariant.within, ap (λ (i : ℕ). length (Rattle.mbuf_chain.specs.Chain.flat_bytes (drop i v.entries))) next.1);
+      within =
+          omega (
+            arith,
+            flat_at v c.unwrap-at.result place,
+            len,
+            c.min-n.ensures,
+            c.mbufs.invariant.within,
+            ap (λ (i : ℕ). length (Rattle.mbuf_chain.specs.Chain.flat_bytes (drop i v.entries))) next.1,
+          );
       last = c.in-Ok.ensures.ok.2;
-      end = omega (arith, c.in-Ok.ensures.ok.3, c.mbufs.invariant.end, ap (λ (es : List Entry). length es) now, length-append done (copied_entry 20 (entry_of v c.unwrap-at.result.index) 0 c.min-n.result ∷ []));
+      end =
+          omega (
+            arith,
+            c.in-Ok.ensures.ok.3,
+            c.mbufs.invariant.end,
+            ap (λ (es : List Entry). length es) now,
+            length-append done (copied_entry 20 (entry_of v c.unwrap-at.result.index) 0 c.min-n.result ∷ []),
+          );
     }
 
 pub returns-clause-ok : goal.returns-clause-ok
@@ -109,8 +164,11 @@ returns-clause-ok c =
     record {
       adds = m.adds;
       front = m.front ∙ ap alone c.copy_header-header.ensures;
-      entries = sym (append-nil done) ∙ ap (λ (es : List Entry). done ++ es) (sym (copied_none 20 rest 0)) ∙ ap (λ (n : ℕ). done ++ copied_from 20 rest 0 n) none
-          ∙ c.mbufs.invariant.all ∙ ap (λ (h : Bool). copied h v.entries c.args.from.off c.args.len) c.copy_header-header.ensures;
+      entries =
+          sym (append-nil done) ∙ ap (λ (es : List Entry). done ++ es) (sym (copied_none 20 rest 0))
+          ∙ ap (λ (n : ℕ). done ++ copied_from 20 rest 0 n) none
+          ∙ c.mbufs.invariant.all ∙ ap (λ (h : Bool). copied h v.entries c.args.from.off c.args.len)
+          c.copy_header-header.ensures;
     }
 
 pub returns-clause-enough : goal.returns-clause-enough

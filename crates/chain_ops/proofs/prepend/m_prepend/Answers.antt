@@ -10,46 +10,90 @@ use Rattle.chain_ops.proofs.prepend.m_prepend.Goals as goal
 
 pub returns-then-len-leading_space-clause-ok : goal.returns-then-len-leading_space-clause-ok
 returns-then-len-leading_space-clause-ok c =
-    prepended_in _ _ _ _ c.args.bytes.now c.first-first.ensures.place c.first-first.ensures.index (omega (arith, c.if-len-leading_space.true, c.leading_space.ensures.value)) c.put_front.ensures
+    prepended_in _ _ _ _ c.args.bytes.now c.first-first.ensures.place c.first-first.ensures.index
+    (omega (arith, c.if-len-leading_space.true, c.leading_space.ensures.value)) c.put_front.ensures
 
 pub first-at-requires : goal.first-at-requires
 first-at-requires c = live_adds c.in_ok-new.ensures.ok
 
 pub new_plain_with-requires-clause-high : goal.new_plain_with-requires-clause-high
-new_plain_with-requires-clause-high c = omega (arith, c.at_end.ensures, at_end_fits (room_low c.has_header-header.result) (length c.args.bytes.now) (omega (arith, low_at_most c.has_header-header.result, c.requires.most)))
+new_plain_with-requires-clause-high c =
+    omega (
+      arith,
+      c.at_end.ensures,
+      at_end_fits (room_low c.has_header-header.result) (length c.args.bytes.now)
+          (omega (arith, low_at_most c.has_header-header.result, c.requires.most)),
+    )
 
 pub link-requires-clause-front : goal.link-requires-clause-front
-link-requires-clause-front c = subst (IsLive c.new_plain_with.new.self) (sym c.replace-old.ensures.after) (live_adds c.in_ok-new.ensures.ok)
+link-requires-clause-front c =
+    subst (IsLive c.new_plain_with.new.self) (sym c.replace-old.ensures.after) (live_adds c.in_ok-new.ensures.ok)
 
 pub link-requires-clause-back : goal.link-requires-clause-back
-link-requires-clause-back c = subst (IsLive c.new_plain_with.new.self) (sym c.replace-old.ensures.value) (live_beside _ _ _ _ c.in_ok-new.ensures.ok _ c.requires.live)
+link-requires-clause-back c =
+    subst (IsLive c.new_plain_with.new.self) (sym c.replace-old.ensures.value)
+    (live_beside _ _ _ _ c.in_ok-new.ensures.ok _ c.requires.live)
 
 pub link-requires-clause-place : goal.link-requires-clause-place
 link-requires-clause-place c =
-    subst (λ (k : ℕ). IsPlace (chain_of c.new_plain_with.new.self k) c.first-at.result) (sym c.replace-old.ensures.after) c.first-at.ensures.place
+    subst (λ (k : ℕ). IsPlace (chain_of c.new_plain_with.new.self k) c.first-at.result)
+    (sym c.replace-old.ensures.after) c.first-at.ensures.place
 
 pub link-requires-clause-last : goal.link-requires-clause-last
 link-requires-clause-last c =
-    omega (arith, c.first-at.ensures.index, ap (λ (k : ℕ). length (chain_of c.new_plain_with.new.self k).entries) c.replace-old.ensures.after, ap (λ (v : ChainView). length v.entries) (shown_adds c.in_ok-new.ensures.ok))
+    omega (
+      arith,
+      c.first-at.ensures.index,
+      ap (λ (k : ℕ). length (chain_of c.new_plain_with.new.self k).entries) c.replace-old.ensures.after,
+      ap (λ (v : ChainView). length v.entries) (shown_adds c.in_ok-new.ensures.ok),
+    )
 
 pub returns-clause-ok : goal.returns-clause-ok
 returns-clause-ok c =
     let v : ChainView = chain_of c.args.pool.now c.args.chain.now in
     let d : ℕ = c.in_ok-new.new in
-    prepended_new c.args.pool.now c.new_plain_with.new.self _ c.args.chain.now c.replace-old.result d _ _ _ c.args.bytes.now
-    c.has_header-header.ensures (omega (arith, c.if-len-leading_space.false, c.leading_space.ensures.value, ap (leading_space v) c.first-first.ensures.index)) c.at_end.ensures c.replace-old.ensures.value c.replace-old.ensures.after c.requires.live
+    prepended_new c.args.pool.now c.new_plain_with.new.self _ c.args.chain.now c.replace-old.result d _ _ _
+    c.args.bytes.now
+    c.has_header-header.ensures (omega (
+      arith,
+      c.if-len-leading_space.false,
+      c.leading_space.ensures.value,
+      ap (leading_space v) c.first-first.ensures.index,
+    )) c.at_end.ensures c.replace-old.ensures.value c.replace-old.ensures.after c.requires.live
     c.in_ok-new.ensures.ok
     c.link.ensures.change
 
 pub returns-then-len-leading_space-clause-enough : goal.returns-then-len-leading_space-clause-enough
 returns-then-len-leading_space-clause-enough c =
     let v : ChainView = chain_of c.args.pool.now c.args.chain.now in
-    omega (arith, c.laws.ensures.few, need_none v (length c.args.bytes.now) (omega (arith, c.if-len-leading_space.true, c.leading_space.ensures.value, ap (leading_space v) c.first-first.ensures.index)))
+    omega (
+      arith,
+      c.laws.ensures.few,
+      need_none v (length c.args.bytes.now)
+          (omega (
+            arith,
+            c.if-len-leading_space.true,
+            c.leading_space.ensures.value,
+            ap (leading_space v) c.first-first.ensures.index,
+          )),
+    )
 
 pub returns-clause-enough : goal.returns-clause-enough
 returns-clause-enough c =
     let v : ChainView = chain_of c.args.pool.now c.args.chain.now in
-    omega (arith, c.laws-2.ensures.few, held-adds c.in_ok-new.ensures.ok, ap (λ (s : PoolView). s.mbufs) c.in_ok-new.ensures.ok.pool, need_one v (length c.args.bytes.now) (omega (arith, c.if-len-leading_space.false, c.leading_space.ensures.value, ap (leading_space v) c.first-first.ensures.index)))
+    omega (
+      arith,
+      c.laws-2.ensures.few,
+      held-adds c.in_ok-new.ensures.ok,
+      ap (λ (s : PoolView). s.mbufs) c.in_ok-new.ensures.ok.pool,
+      need_one v (length c.args.bytes.now)
+          (omega (
+            arith,
+            c.if-len-leading_space.false,
+            c.leading_space.ensures.value,
+            ap (leading_space v) c.first-first.ensures.index,
+          )),
+    )
 
 pub returns-then-len-leading_space-clause-string : goal.returns-then-len-leading_space-clause-string
 returns-then-len-leading_space-clause-string c =

@@ -6,7 +6,8 @@ abbrev pub invariant-mbufs : goal.invariant-mbufs
 invariant-mbufs l = record {
   place : IsPlace (chain_of l.pool l.chain) l.at;
   most : l.left ≤ l.most;
-  seen : l.most - l.left + length (flat_bytes (drop l.at.index (chain_of l.pool l.chain).entries)) ≡ length (flat_bytes (chain_of l.pool l.chain).entries);
+  seen : l.most - l.left + length (flat_bytes (drop l.at.index (chain_of l.pool l.chain).entries))
+      ≡ length (flat_bytes (chain_of l.pool l.chain).entries);
 }
 
 abbrev pub decreases-mbufs : goal.decreases-mbufs

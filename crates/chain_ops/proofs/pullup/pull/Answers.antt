@@ -27,17 +27,27 @@ mbufs-init c = record {
 }
 
 pub narrow-requires-clause-live : goal.narrow-requires-clause-live
-narrow-requires-clause-live c = let two = two_first c.append.new.self _ c.mbufs.invariant.two c.append.ensures in two.live_second
+narrow-requires-clause-live c = let two = two_first c.append.new.self _ c.mbufs.invariant.two c.append.ensures in
+    two.live_second
 
 pub narrow-requires-clause-place : goal.narrow-requires-clause-place
 narrow-requires-clause-place c =
-    let kept = kept_with c.mbufs.pool c.append.new.self c.args.into.now _ c.mbufs.back c.append.ensures (λ e. c.mbufs.invariant.two.apart (sym e)) in
+    let kept =
+    kept_with c.mbufs.pool c.append.new.self c.args.into.now _ c.mbufs.back c.append.ensures
+    (λ e. c.mbufs.invariant.two.apart (sym e)) in
     place_in c.mbufs.pool c.append.new.self _ _ kept c.first-from.ensures.place
 
 pub narrow-requires-clause-within : goal.narrow-requires-clause-within
 narrow-requires-clause-within c =
-    let kept = kept_with c.mbufs.pool c.append.new.self c.args.into.now _ c.mbufs.back c.append.ensures (λ e. c.mbufs.invariant.two.apart (sym e)) in
-    omega (arith, c.if-left-size.true, ap (λ (x : Segment). x.len) c.segment-size.ensures.value, ap (λ (v : ChainView). length (entry_of v c.first-from.result.index).bytes) kept)
+    let kept =
+    kept_with c.mbufs.pool c.append.new.self c.args.into.now _ c.mbufs.back c.append.ensures
+    (λ e. c.mbufs.invariant.two.apart (sym e)) in
+    omega (
+      arith,
+      c.if-left-size.true,
+      ap (λ (x : Segment). x.len) c.segment-size.ensures.value,
+      ap (λ (v : ChainView). length (entry_of v c.first-from.result.index).bytes) kept,
+    )
 
 pub link_rest-requires-clause-front : goal.link_rest-requires-clause-front
 link_rest-requires-clause-front c =
@@ -53,12 +63,17 @@ link_rest-requires-clause-back c =
 
 pub link_rest-requires-clause-place : goal.link_rest-requires-clause-place
 link_rest-requires-clause-place c =
-    let kept = kept_with c.append.new.self c.narrow.new.self c.mbufs.back _ c.args.into.now c.narrow.ensures c.mbufs.invariant.two.apart in
-    place_in c.append.new.self c.narrow.new.self _ _ kept (place_after _ _ _ _ _ _ c.append.ensures c.mbufs.invariant.place)
+    let kept =
+    kept_with c.append.new.self c.narrow.new.self c.mbufs.back _ c.args.into.now c.narrow.ensures
+    c.mbufs.invariant.two.apart in
+    place_in c.append.new.self c.narrow.new.self _ _ kept
+    (place_after _ _ _ _ _ _ c.append.ensures c.mbufs.invariant.place)
 
 pub link_rest-requires-clause-last : goal.link_rest-requires-clause-last
 link_rest-requires-clause-last c =
-    let kept = kept_with c.append.new.self c.narrow.new.self c.mbufs.back _ c.args.into.now c.narrow.ensures c.mbufs.invariant.two.apart in
+    let kept =
+    kept_with c.append.new.self c.narrow.new.self c.mbufs.back _ c.args.into.now c.narrow.ensures
+    c.mbufs.invariant.two.apart in
     c.mbufs.invariant.end ∙ sym (ap (λ (v : ChainView). length v.entries) kept ∙ length_now _ _ _ _ _ c.append.ensures)
 
 pub link_rest-requires-clause-len : goal.link_rest-requires-clause-len
@@ -66,9 +81,15 @@ link_rest-requires-clause-len c = λ t.
     let w : ChainView = chain_of c.mbufs.pool c.mbufs.back in
     let j : ℕ = c.first-from.result.index in
     let g : Entry = narrowed (entry_of w j) c.mbufs.left (c.segment-size.result.len - c.mbufs.left) in
-    let kept = kept_with c.mbufs.pool c.append.new.self c.args.into.now _ c.mbufs.back c.append.ensures (λ e. c.mbufs.invariant.two.apart (sym e)) in
-    let back = entries_now _ _ _ _ _ c.narrow.ensures ∙ ap (λ (x : ChainView). slice_set x.entries j (narrowed (entry_of x j) c.mbufs.left (c.segment-size.result.len - c.mbufs.left))) kept
-    ∙ ap (λ (i : ℕ). slice_set w.entries i g) c.first-from.ensures.index ∙ set_first w.entries g (omega (arith, c.first-from.ensures.place.within)) in
+    let kept =
+    kept_with c.mbufs.pool c.append.new.self c.args.into.now _ c.mbufs.back c.append.ensures
+    (λ e. c.mbufs.invariant.two.apart (sym e)) in
+    let back =
+    entries_now _ _ _ _ _ c.narrow.ensures
+    ∙ ap (λ (x : ChainView). slice_set x.entries j
+    (narrowed (entry_of x j) c.mbufs.left (c.segment-size.result.len - c.mbufs.left))) kept
+    ∙ ap (λ (i : ℕ). slice_set w.entries i g) c.first-from.ensures.index
+    ∙ set_first w.entries g (omega (arith, c.first-from.ensures.place.within)) in
     omega (
       arith,
       c.mbufs.invariant.bytes t,
@@ -91,23 +112,36 @@ returns-then-left-size c =
     let two = two_first c.append.new.self _ c.mbufs.invariant.two c.append.ensures in
     let two' = two_second c.narrow.new.self _ two c.narrow.ensures in
     let m = makes_new (two_linked c.link_rest.new.pool _ two' c.link_rest.ensures) in
-    let kept = kept_with c.mbufs.pool c.append.new.self c.args.into.now _ c.mbufs.back c.append.ensures (λ e. c.mbufs.invariant.two.apart (sym e)) in
-    let kept' = kept_with c.append.new.self c.narrow.new.self c.mbufs.back _ c.args.into.now c.narrow.ensures c.mbufs.invariant.two.apart in
+    let kept =
+    kept_with c.mbufs.pool c.append.new.self c.args.into.now _ c.mbufs.back c.append.ensures
+    (λ e. c.mbufs.invariant.two.apart (sym e)) in
+    let kept' =
+    kept_with c.append.new.self c.narrow.new.self c.mbufs.back _ c.args.into.now c.narrow.ensures
+    c.mbufs.invariant.two.apart in
     let shown = shown_with _ c.link_rest.new.pool _ _ c.link_rest.ensures in
     let len = ap (λ (x : Segment). x.len) c.segment-size.ensures.value in
     let front = ap (λ (x : ChainView). x.entries) kept' ∙ entries_now _ _ _ _ _ c.append.ensures in
-    let back = entries_now _ _ _ _ _ c.narrow.ensures ∙ ap (λ (x : ChainView). slice_set x.entries j (narrowed (entry_of x j) c.mbufs.left (c.segment-size.result.len - c.mbufs.left))) kept in
+    let back =
+    entries_now _ _ _ _ _ c.narrow.ensures
+    ∙ ap (λ (x : ChainView). slice_set x.entries j
+    (narrowed (entry_of x j) c.mbufs.left (c.segment-size.result.len - c.mbufs.left))) kept in
     record {
       adds = m.adds;
-      front = ap (λ (x : ChainView). x.front) (shown) ∙ ap (λ (x : ChainView). x.front) (kept' ∙ shown_with c.mbufs.pool _ _ _ c.append.ensures) ∙ c.mbufs.invariant.front;
+      front =
+          ap (λ (x : ChainView). x.front) (shown)
+          ∙ ap (λ (x : ChainView). x.front) (kept' ∙ shown_with c.mbufs.pool _ _ _ c.append.ensures)
+          ∙ c.mbufs.invariant.front;
       entries = ap (λ (x : ChainView). x.entries) shown ∙ (λ k. front k ++ back k)
-          ∙ part_step v.entries w.entries i j c.mbufs.left c.segment-size.result.len (entry_of w j) (drop 1 w.entries) c.mbufs.invariant.end c.first-from.ensures.index
-          (first_split w c.first-from.result c.first-from.ensures.place c.first-from.ensures.index) len c.mbufs-test.true c.if-left-size.true
+          ∙ part_step v.entries w.entries i j c.mbufs.left c.segment-size.result.len (entry_of w j) (drop 1 w.entries)
+          c.mbufs.invariant.end c.first-from.ensures.index
+          (first_split w c.first-from.result c.first-from.ensures.place c.first-from.ensures.index) len
+          c.mbufs-test.true c.if-left-size.true
           ∙ c.mbufs.invariant.all;
     }
 
 pub drop_first-requires : goal.drop_first-requires
-drop_first-requires c = let two = two_first c.append-in-mbufs.new.self _ c.mbufs.invariant.two c.append-in-mbufs.ensures in two.live_second
+drop_first-requires c =
+    let two = two_first c.append-in-mbufs.new.self _ c.mbufs.invariant.two c.append-in-mbufs.ensures in two.live_second
 
 pub returns-in_default : goal.returns-in_default
 returns-in_default c =
@@ -117,26 +151,46 @@ returns-in_default c =
     let m = makes_new (two_freed c.drop_first.new.pool two c.in_default.ensures.1) in
     let len = ap (λ (x : Segment). x.len) c.segment-size.ensures.value in
     let now : ChainView = chain_of c.append-in-mbufs.new.self c.args.into.now in
-    let same : chain_of c.drop_first.new.pool c.args.into.now ≡ now = ap (λ (s : PoolView). chain_of s c.args.into.now) c.in_default.ensures.1 ∙ chain_left c.append-in-mbufs.new.self c.mbufs.back c.args.into.now two.apart in
-    let kept = kept_with c.mbufs.pool c.append-in-mbufs.new.self c.args.into.now _ c.mbufs.back c.append-in-mbufs.ensures (λ e. c.mbufs.invariant.two.apart (sym e)) in
+    let same : chain_of c.drop_first.new.pool c.args.into.now ≡ now =
+    ap (λ (s : PoolView). chain_of s c.args.into.now) c.in_default.ensures.1
+    ∙ chain_left c.append-in-mbufs.new.self c.mbufs.back c.args.into.now two.apart in
+    let kept =
+    kept_with c.mbufs.pool c.append-in-mbufs.new.self c.args.into.now _ c.mbufs.back c.append-in-mbufs.ensures
+    (λ e. c.mbufs.invariant.two.apart (sym e)) in
     let split = first_split w c.first-from.result c.first-from.ensures.place c.first-from.ensures.index in
-    let none : drop 1 w.entries ≡ [] = one_entry w.entries _ (drop 1 w.entries) split (sym (ap (λ (x : ChainView). length x.entries) kept) ∙ c.in_default.ensures.0) in
-    let step = pull_moved c.mbufs.pool c.append-in-mbufs.new.self c.args.into.now c.mbufs.back c.args.last c.first-from.result c.segment-size.result.len c.mbufs.left c.append-in-mbufs.ensures c.mbufs.invariant.place c.first-from.ensures.place c.first-from.ensures.index len c.mbufs-test.true c.if-left-size.false in
+    let none : drop 1 w.entries ≡ [] =
+    one_entry w.entries _ (drop 1 w.entries) split
+    (sym (ap (λ (x : ChainView). length x.entries) kept) ∙ c.in_default.ensures.0) in
+    let step =
+    pull_moved c.mbufs.pool c.append-in-mbufs.new.self c.args.into.now c.mbufs.back c.args.last c.first-from.result
+    c.segment-size.result.len c.mbufs.left c.append-in-mbufs.ensures c.mbufs.invariant.place
+    c.first-from.ensures.place c.first-from.ensures.index len c.mbufs-test.true c.if-left-size.false in
     let end = length_now _ _ _ _ _ c.append-in-mbufs.ensures in
     record {
       adds = m.adds;
-      front = ap (λ (x : ChainView). x.front) (same ∙ shown_with c.mbufs.pool _ _ _ c.append-in-mbufs.ensures) ∙ c.mbufs.invariant.front;
+      front =
+          ap (λ (x : ChainView). x.front) (same ∙ shown_with c.mbufs.pool _ _ _ c.append-in-mbufs.ensures)
+          ∙ c.mbufs.invariant.front;
       entries = ap (λ (x : ChainView). x.entries) same
           ∙ sym (last_split now.entries i (c.mbufs.invariant.end ∙ sym end))
-          ∙ ap (λ (es : List Entry). take i now.entries ++ moved (c.mbufs.left - c.segment-size.result.len) (entry_of now i) es) (sym none)
+          ∙ ap (λ (es : List Entry). take i now.entries
+          ++ moved (c.mbufs.left - c.segment-size.result.len) (entry_of now i) es) (sym none)
           ∙ step ∙ c.mbufs.invariant.all;
     }
 
 pub mbufs-smaller : goal.mbufs-smaller
 mbufs-smaller c =
     let w : ChainView = chain_of c.mbufs.pool c.mbufs.back in
-    let kept = kept_with c.mbufs.pool c.append-in-mbufs.new.self c.args.into.now _ c.mbufs.back c.append-in-mbufs.ensures (λ e. c.mbufs.invariant.two.apart (sym e)) in
-    omega (arith, ap (λ (es : List Entry). length es) c.in-Some.ensures.entries, ap (λ (x : ChainView). length (drop 1 x.entries)) kept, length-drop 1 w.entries, c.first-from.ensures.place.within)
+    let kept =
+    kept_with c.mbufs.pool c.append-in-mbufs.new.self c.args.into.now _ c.mbufs.back c.append-in-mbufs.ensures
+    (λ e. c.mbufs.invariant.two.apart (sym e)) in
+    omega (
+      arith,
+      ap (λ (es : List Entry). length es) c.in-Some.ensures.entries,
+      ap (λ (x : ChainView). length (drop 1 x.entries)) kept,
+      length-drop 1 w.entries,
+      c.first-from.ensures.place.within,
+    )
 
 pub mbufs-preserved : goal.mbufs-preserved
 mbufs-preserved c =
@@ -146,28 +200,45 @@ mbufs-preserved c =
     let next = two_next c.drop_first.new.pool c.in-Some.rest two c.in-Some.ensures.adds in
     let same = kept_next c.drop_first.new.pool c.in-Some.rest two c.in-Some.ensures.adds in
     let len = ap (λ (x : Segment). x.len) c.segment-size.ensures.value in
-    let kept = kept_with c.mbufs.pool c.append-in-mbufs.new.self c.args.into.now _ c.mbufs.back c.append-in-mbufs.ensures (λ e. c.mbufs.invariant.two.apart (sym e)) in
-    let step = pull_moved c.mbufs.pool c.append-in-mbufs.new.self c.args.into.now c.mbufs.back c.args.last c.first-from.result c.segment-size.result.len c.mbufs.left c.append-in-mbufs.ensures c.mbufs.invariant.place c.first-from.ensures.place c.first-from.ensures.index len c.mbufs-test.true c.if-left-size.false in
+    let kept =
+    kept_with c.mbufs.pool c.append-in-mbufs.new.self c.args.into.now _ c.mbufs.back c.append-in-mbufs.ensures
+    (λ e. c.mbufs.invariant.two.apart (sym e)) in
+    let step =
+    pull_moved c.mbufs.pool c.append-in-mbufs.new.self c.args.into.now c.mbufs.back c.args.last c.first-from.result
+    c.segment-size.result.len c.mbufs.left c.append-in-mbufs.ensures c.mbufs.invariant.place
+    c.first-from.ensures.place c.first-from.ensures.index len c.mbufs-test.true c.if-left-size.false in
     let rest = c.in-Some.ensures.entries ∙ ap (λ (x : ChainView). drop 1 x.entries) kept in
-    let entry = ap (λ (x : ChainView). entry_of x i) same ∙ entry_now _ _ _ _ _ c.mbufs.invariant.place.within c.append-in-mbufs.ensures in
+    let entry =
+    ap (λ (x : ChainView). entry_of x i) same
+    ∙ entry_now _ _ _ _ _ c.mbufs.invariant.place.within c.append-in-mbufs.ensures in
     let left : ℕ = c.mbufs.left - c.segment-size.result.len in
     record {
       two = next;
-      front = ap (λ (x : ChainView). x.front) (same ∙ shown_with c.mbufs.pool _ _ _ c.append-in-mbufs.ensures) ∙ c.mbufs.invariant.front;
+      front =
+          ap (λ (x : ChainView). x.front) (same ∙ shown_with c.mbufs.pool _ _ _ c.append-in-mbufs.ensures)
+          ∙ c.mbufs.invariant.front;
       all = (λ j. take i (same j).entries ++ moved left (entry_of (same j) i) (rest j)) ∙ step ∙ c.mbufs.invariant.all;
-      place = place_in c.append-in-mbufs.new.self c.drop_first.new.pool _ _ same (place_after _ _ _ _ _ _ c.append-in-mbufs.ensures c.mbufs.invariant.place);
-      end = c.mbufs.invariant.end ∙ sym (ap (λ (x : ChainView). length x.entries) same ∙ length_now _ _ _ _ _ c.append-in-mbufs.ensures);
+      place =
+          place_in c.append-in-mbufs.new.self c.drop_first.new.pool _ _ same
+          (place_after _ _ _ _ _ _ c.append-in-mbufs.ensures c.mbufs.invariant.place);
+      end =
+          c.mbufs.invariant.end ∙ sym (ap (λ (x : ChainView). length x.entries) same
+          ∙ length_now _ _ _ _ _ c.append-in-mbufs.ensures);
       plain = ap (λ (e : Entry). e.cluster) entry ∙ c.mbufs.invariant.plain;
       bytes = λ t.
           omega (
             arith,
             c.mbufs.invariant.bytes t,
-            first_bytes (chain_of c.mbufs.pool c.mbufs.back) c.first-from.result c.first-from.ensures.place c.first-from.ensures.index,
+            first_bytes (chain_of c.mbufs.pool c.mbufs.back) c.first-from.result c.first-from.ensures.place
+                c.first-from.ensures.index,
             len,
             ap (λ (es : List Entry). length (flat_bytes es)) rest,
             c.saturating_sub-bytes.ensures,
           );
-      room = subst (λ (e : Entry). HasTrailingSpace e left) (sym entry) (room_left (entry_of v i) (entry_of (chain_of c.mbufs.pool c.mbufs.back) c.first-from.result.index) c.segment-size.result.len c.mbufs.left c.mbufs.invariant.room len c.if-left-size.false);
+      room =
+          subst (λ (e : Entry). HasTrailingSpace e left) (sym entry)
+          (room_left (entry_of v i) (entry_of (chain_of c.mbufs.pool c.mbufs.back) c.first-from.result.index)
+          c.segment-size.result.len c.mbufs.left c.mbufs.invariant.room len c.if-left-size.false);
     }
 
 pub returns : goal.returns
@@ -179,5 +250,8 @@ returns c =
     record {
       adds = m.adds;
       front = ap (λ (x : ChainView). x.front) shown ∙ c.mbufs.invariant.front;
-      entries = ap (λ (x : ChainView). x.entries) shown ∙ stop_step v.entries w.entries c.args.last.index c.mbufs.left c.mbufs.invariant.end (omega arith) ∙ c.mbufs.invariant.all;
+      entries =
+          ap (λ (x : ChainView). x.entries) shown
+          ∙ stop_step v.entries w.entries c.args.last.index c.mbufs.left c.mbufs.invariant.end (omega arith)
+          ∙ c.mbufs.invariant.all;
     }

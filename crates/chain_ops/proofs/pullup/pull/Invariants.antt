@@ -8,8 +8,10 @@ abbrev pub invariant-mbufs : goal.invariant-mbufs
 invariant-mbufs l = record {
   two : HasTwo (without (without l.fn.pool l.fn.second) l.into) l.pool l.into l.back;
   front : (chain_of l.pool l.into).front ≡ (chain_of l.fn.pool l.into).front;
-  all : take l.last.index (chain_of l.pool l.into).entries ++ moved l.left (entry_of (chain_of l.pool l.into) l.last.index) (chain_of l.pool l.back).entries
-      ≡ take l.last.index (chain_of l.fn.pool l.into).entries ++ moved l.n (entry_of (chain_of l.fn.pool l.into) l.last.index) (chain_of l.fn.pool l.fn.second).entries;
+  all : take l.last.index (chain_of l.pool l.into).entries
+      ++ moved l.left (entry_of (chain_of l.pool l.into) l.last.index) (chain_of l.pool l.back).entries
+      ≡ take l.last.index (chain_of l.fn.pool l.into).entries
+      ++ moved l.n (entry_of (chain_of l.fn.pool l.into) l.last.index) (chain_of l.fn.pool l.fn.second).entries;
   place : IsPlace (chain_of l.pool l.into) l.last;
   end : l.last.index + 1 ≡ length (chain_of l.pool l.into).entries;
   plain : (entry_of (chain_of l.pool l.into) l.last.index).cluster ≡ None;

@@ -24,29 +24,50 @@ no_next (Some x) b e t = absurd (true≢false (e ∙ ap not t))
 
 pub overflow_add-place : goal.overflow_add-place
 overflow_add-place c =
-    omega (arith, c.find_cut-off.ensures.place.within, held-without c.args.pool.now _ c.args.chain.now c.requires.live refl, c.laws.ensures.few, c.laws.ensures.small)
+    omega (
+      arith,
+      c.find_cut-off.ensures.place.within,
+      held-without c.args.pool.now _ c.args.chain.now c.requires.live refl,
+      c.laws.ensures.few,
+      c.laws.ensures.small,
+    )
 
 pub cut-requires-clause-within : goal.cut-requires-clause-within
 cut-requires-clause-within c =
     another_follows (chain_of c.args.pool.now c.args.chain.now) c.find_cut-off.result.0 c.find_cut-off.ensures.place
-    (omega (arith, c.find_cut-off.ensures.after, c.if-off-len.true, ap (λ (x : Segment). x.len) c.segment-len.ensures.value))
+    (omega (
+      arith,
+      c.find_cut-off.ensures.after,
+      c.if-off-len.true,
+      ap (λ (x : Segment). x.len) c.segment-len.ensures.value,
+    ))
 
 pub narrow-requires-clause-live : goal.narrow-requires-clause-live
-narrow-requires-clause-live c = let two = two_new c.args.chain.now c.requires.live c.in_ok-head.ensures.ok.adds in two.live_first
+narrow-requires-clause-live c = let two = two_new c.args.chain.now c.requires.live c.in_ok-head.ensures.ok.adds in
+    two.live_first
 
 pub narrow-requires-clause-place : goal.narrow-requires-clause-place
-narrow-requires-clause-place c = place_in c.args.pool.now c.new_head.new.pool _ _ (makes_kept c.args.chain.now c.in_ok-head.ensures.ok c.requires.live) c.find_cut-off.ensures.place
+narrow-requires-clause-place c =
+    place_in c.args.pool.now c.new_head.new.pool _ _
+    (makes_kept c.args.chain.now c.in_ok-head.ensures.ok c.requires.live) c.find_cut-off.ensures.place
 
 pub narrow-requires-clause-within : goal.narrow-requires-clause-within
 narrow-requires-clause-within c =
-    omega (arith, c.find_cut-off.ensures.within, ap (λ (v : ChainView). length (entry_of v c.find_cut-off.result.0.index).bytes) (makes_kept c.args.chain.now c.in_ok-head.ensures.ok c.requires.live))
+    omega (
+      arith,
+      c.find_cut-off.ensures.within,
+      ap (λ (v : ChainView). length (entry_of v c.find_cut-off.result.0.index).bytes)
+          (makes_kept c.args.chain.now c.in_ok-head.ensures.ok c.requires.live),
+    )
 
 pub next-requires-clause-live : goal.next-requires-clause-live
 next-requires-clause-live c = live_shown _ _ _ _ c.narrow.ensures
 
 pub next-requires-clause-place : goal.next-requires-clause-place
 next-requires-clause-place c =
-    place_after _ _ _ _ _ _ c.narrow.ensures (place_in c.args.pool.now c.new_head.new.pool _ _ (makes_kept c.args.chain.now c.in_ok-head.ensures.ok c.requires.live) c.find_cut-off.ensures.place)
+    place_after _ _ _ _ _ _ c.narrow.ensures
+    (place_in c.args.pool.now c.new_head.new.pool _ _
+    (makes_kept c.args.chain.now c.in_ok-head.ensures.ok c.requires.live) c.find_cut-off.ensures.place)
 
 pub returns-then-off-len-clause-ok : goal.returns-then-off-len-clause-ok
 returns-then-off-len-clause-ok c =
@@ -60,15 +81,24 @@ returns-then-off-len-clause-ok c =
     let z : off ≡ length e.bytes = c.if-off-len.true ∙ ap (λ (x : Segment). x.len) c.segment-len.ensures.value in
     let h : v.front.header ≡ false = sym c.has_header-header.ensures ∙ c.if-not-header.true in
     let here : chain_of c.cut.new.self k ≡ first_part (i + 1) v =
-    kept_adds _ c.cut.new.self c.cut.result k _ c.cut.ensures (live_here p k (first_part (i + 1) v)) ∙ chain_here p k (first_part (i + 1) v) in
+    kept_adds _ c.cut.new.self c.cut.result k _ c.cut.ensures (live_here p k (first_part (i + 1) v))
+    ∙ chain_here p k (first_part (i + 1) v) in
     let m = makes_new c.cut.ensures in
     record {
-      made = makes_as (with_chain p k (chain_of c.cut.new.self k)) (alone v.front.header) (split_back v.front.header v.entries c.args.at) m (ap (with_chain p k) (sym here)) (ap alone (sym h))
-          (sym (c.find_cut-off.ensures.back v.front.header ∙ sym (back_done v c.find_cut-off.result.0 off v.front.header place c.find_cut-off.ensures.within)
-          ∙ ap (λ (b : Bool). rest_of b e off ++ drop (i + 1) v.entries) h ∙ ap (λ (es : List Entry). es ++ drop (i + 1) v.entries) (rest-none e off z)));
+      made =
+          makes_as (with_chain p k (chain_of c.cut.new.self k)) (alone v.front.header)
+          (split_back v.front.header v.entries c.args.at) m (ap (with_chain p k) (sym here)) (ap alone (sym h))
+          (sym (c.find_cut-off.ensures.back v.front.header
+          ∙ sym (back_done v c.find_cut-off.result.0 off v.front.header place c.find_cut-off.ensures.within)
+          ∙ ap (λ (b : Bool). rest_of b e off ++ drop (i + 1) v.entries) h
+          ∙ ap (λ (es : List Entry). es ++ drop (i + 1) v.entries) (rest-none e off z)));
       front = ap (λ (x : ChainView). x.front) here;
-      entries = ap (λ (x : ChainView). x.entries) here ∙ take_more v.entries i no_entry place.within ∙ ap (λ (f : Entry). take i v.entries ++ (f ∷ [])) (sym (whole_entry e off z))
-          ∙ sym (Rattle.std.proofs.lemmas.List.take_more_set v.entries i (narrowed e 0 off) place.within) ∙ front_done v c.find_cut-off.result.0 off place c.find_cut-off.ensures.within ∙ sym c.find_cut-off.ensures.front;
+      entries =
+          ap (λ (x : ChainView). x.entries) here ∙ take_more v.entries i no_entry place.within
+          ∙ ap (λ (f : Entry). take i v.entries ++ (f ∷ [])) (sym (whole_entry e off z))
+          ∙ sym (Rattle.std.proofs.lemmas.List.take_more_set v.entries i (narrowed e 0 off) place.within)
+          ∙ front_done v c.find_cut-off.result.0 off place c.find_cut-off.ensures.within
+          ∙ sym c.find_cut-off.ensures.front;
     }
 
 pub returns-then-is_none-clause-enough : goal.returns-then-is_none-clause-enough
@@ -79,7 +109,8 @@ returns-then-is_none-clause-enough c =
       makes_held c.in_ok-head.ensures.ok,
       makes_mbufs c.in_ok-head.ensures.ok,
       c.laws-2.ensures.few,
-      need_done v c.find_cut-off.result.0 c.find_cut-off.result.1 c.has_header-header.result c.find_cut-off.ensures.place c.find_cut-off.ensures.within,
+      need_done v c.find_cut-off.result.0 c.find_cut-off.result.1 c.has_header-header.result
+          c.find_cut-off.ensures.place c.find_cut-off.ensures.within,
       c.find_cut-off.ensures.need c.has_header-header.result,
       ap (λ (h : Bool). split_need h v.entries c.args.at) c.has_header-header.ensures,
     )
@@ -92,15 +123,20 @@ returns-clause-enough c =
       makes_held c.in_ok-head.ensures.ok,
       makes_mbufs c.in_ok-head.ensures.ok,
       c.laws-2.ensures.few,
-      need_done v c.find_cut-off.result.0 c.find_cut-off.result.1 c.has_header-header.result c.find_cut-off.ensures.place c.find_cut-off.ensures.within,
+      need_done v c.find_cut-off.result.0 c.find_cut-off.result.1 c.has_header-header.result
+          c.find_cut-off.ensures.place c.find_cut-off.ensures.within,
       c.find_cut-off.ensures.need c.has_header-header.result,
       ap (λ (h : Bool). split_need h v.entries c.args.at) c.has_header-header.ensures,
     )
 
 pub last-last-requires : goal.last-last-requires
 last-last-requires c =
-    let two = two_first c.narrow.new.self _ (two_new c.args.chain.now c.requires.live c.in_ok-head.ensures.ok.adds) c.narrow.ensures in
-    let cut = two_first _ (first_part (c.find_cut-off.result.0.index + 1) (chain_of c.narrow.new.self c.args.chain.now)) two refl in
+    let two =
+    two_first c.narrow.new.self _ (two_new c.args.chain.now c.requires.live c.in_ok-head.ensures.ok.adds)
+    c.narrow.ensures in
+    let cut =
+    two_first _ (first_part (c.find_cut-off.result.0.index + 1) (chain_of c.narrow.new.self c.args.chain.now)) two
+    refl in
     live_beside _ _ _ _ c.cut-back.ensures _ cut.live_second
 
 pub link_rest-requires-clause-back : goal.link_rest-requires-clause-back
@@ -108,8 +144,12 @@ link_rest-requires-clause-back c = live_adds c.cut-back.ensures
 
 pub link_rest-requires-clause-apart : goal.link_rest-requires-clause-apart
 link_rest-requires-clause-apart c =
-    let two = two_first c.narrow.new.self _ (two_new c.args.chain.now c.requires.live c.in_ok-head.ensures.ok.adds) c.narrow.ensures in
-    let cut = two_first _ (first_part (c.find_cut-off.result.0.index + 1) (chain_of c.narrow.new.self c.args.chain.now)) two refl in
+    let two =
+    two_first c.narrow.new.self _ (two_new c.args.chain.now c.requires.live c.in_ok-head.ensures.ok.adds)
+    c.narrow.ensures in
+    let cut =
+    two_first _ (first_part (c.find_cut-off.result.0.index + 1) (chain_of c.narrow.new.self c.args.chain.now)) two
+    refl in
     apart _ _ _ _ c.cut-back.ensures _ cut.live_second
 
 pub returns-then-is_none-clause-ok : goal.returns-then-is_none-clause-ok
@@ -130,14 +170,31 @@ returns-then-is_none-clause-ok c =
     let fin = makes_new (two_parts p r k d two) in
     let kept_q = makes_kept k m c.requires.live in
     let kept_d = kept_with q r k _ d c.narrow.ensures (λ x. two.apart (sym x)) in
-    let now = entries_now q r k i _ c.narrow.ensures ∙ ap (λ (x : ChainView). slice_set x.entries i (narrowed (entry_of x i) 0 off)) kept_q in
-    let end = is_end _ _ _ c.next.ensures (no_next c.next.result c.is_none.result c.is_none.ensures c.if-is_none.true) ∙ length_now q r k i _ c.narrow.ensures ∙ ap (λ (x : ChainView). length x.entries) kept_q in
+    let now =
+    entries_now q r k i _ c.narrow.ensures
+    ∙ ap (λ (x : ChainView). slice_set x.entries i (narrowed (entry_of x i) 0 off)) kept_q in
+    let end =
+    is_end _ _ _ c.next.ensures (no_next c.next.result c.is_none.result c.is_none.ensures c.if-is_none.true)
+    ∙ length_now q r k i _ c.narrow.ensures ∙ ap (λ (x : ChainView). length x.entries) kept_q in
     record {
-      made = makes_as (with_chain p k (chain_of r k)) (alone v.front.header) (split_back v.front.header v.entries c.args.at) fin refl (ap (λ (x : ChainView). x.front) kept_d ∙ m.front ∙ ap alone c.has_header-header.ensures)
-          (ap (λ (x : ChainView). x.entries) kept_d ∙ m.entries ∙ sym (append-nil (rest_of h e off)) ∙ ap (λ (es : List Entry). rest_of h e off ++ es) (sym (none_after v.entries i end))
-          ∙ back_done v c.find_cut-off.result.0 off h place c.find_cut-off.ensures.within ∙ sym (c.find_cut-off.ensures.back h) ∙ ap (λ (b : Bool). split_back b v.entries c.args.at) c.has_header-header.ensures);
-      front = ap (λ (x : ChainView). x.front) (shown_with q r k _ c.narrow.ensures) ∙ ap (λ (x : ChainView). x.front) kept_q;
-      entries = now ∙ sym (take_all (i + 1) (slice_set v.entries i (narrowed e 0 off)) (omega (arith, end, length-set v.entries i (narrowed e 0 off)))) ∙ front_done v c.find_cut-off.result.0 off place c.find_cut-off.ensures.within ∙ sym c.find_cut-off.ensures.front;
+      made =
+          makes_as (with_chain p k (chain_of r k)) (alone v.front.header) (split_back v.front.header v.entries c.args.at)
+          fin refl (ap (λ (x : ChainView). x.front) kept_d ∙ m.front ∙ ap alone c.has_header-header.ensures)
+          (ap (λ (x : ChainView). x.entries) kept_d ∙ m.entries ∙ sym (append-nil (rest_of h e off))
+          ∙ ap (λ (es : List Entry). rest_of h e off ++ es) (sym (none_after v.entries i end))
+          ∙ back_done v c.find_cut-off.result.0 off h place c.find_cut-off.ensures.within
+          ∙ sym (c.find_cut-off.ensures.back h)
+          ∙ ap (λ (b : Bool). split_back b v.entries c.args.at) c.has_header-header.ensures);
+      front =
+          ap (λ (x : ChainView). x.front) (shown_with q r k _ c.narrow.ensures) ∙ ap (λ (x : ChainView). x.front) kept_q;
+      entries =
+          now ∙ sym (take_all (i + 1) (slice_set v.entries i (narrowed e 0 off))
+          (omega (
+            arith,
+            end,
+            length-set v.entries i
+                (narrowed e 0 off),
+          ))) ∙ front_done v c.find_cut-off.result.0 off place c.find_cut-off.ensures.within ∙ sym c.find_cut-off.ensures.front;
     }
 
 pub link_rest-requires-clause-len : goal.link_rest-requires-clause-len
@@ -153,8 +210,12 @@ link_rest-requires-clause-len c = λ counted.
     let place = c.find_cut-off.ensures.place in
     let m = c.in_ok-head.ensures.ok in
     let kept_q = makes_kept k m c.requires.live in
-    let now = entries_now q r k i _ c.narrow.ensures ∙ ap (λ (x : ChainView). slice_set x.entries i (narrowed (entry_of x i) 0 off)) kept_q in
-    let back = ap (λ (x : ChainView). x.entries) (shown_adds c.cut-back.ensures) ∙ ap (λ (es : List Entry). drop (i + 1) es) now ∙ drop-set-lt (i + 1) v.entries i (narrowed e 0 off) (omega arith) in
+    let now =
+    entries_now q r k i _ c.narrow.ensures
+    ∙ ap (λ (x : ChainView). slice_set x.entries i (narrowed (entry_of x i) 0 off)) kept_q in
+    let back =
+    ap (λ (x : ChainView). x.entries) (shown_adds c.cut-back.ensures) ∙ ap (λ (es : List Entry). drop (i + 1) es) now
+    ∙ drop-set-lt (i + 1) v.entries i (narrowed e 0 off) (omega arith) in
     omega (
       arith,
       c.counted_len-counted.ensures counted,
@@ -190,20 +251,38 @@ returns-clause-ok c =
     let part : ChainView = first_part (i + 1) (chain_of r k) in
     let cut = two_first (with_chain r k part) part two refl in
     let fin = makes_new (two_parts p t k d (two_moved s t b part _ _ two c.cut-back.ensures c.link_rest.ensures)) in
-    let now = entries_now q r k i _ c.narrow.ensures ∙ ap (λ (x : ChainView). slice_set x.entries i (narrowed (entry_of x i) 0 off)) kept_q in
+    let now =
+    entries_now q r k i _ c.narrow.ensures
+    ∙ ap (λ (x : ChainView). slice_set x.entries i (narrowed (entry_of x i) 0 off)) kept_q in
     let here : chain_of t k ≡ part =
-    kept_with _ t d _ k c.link_rest.ensures two.apart ∙ chain_left s b k (apart _ _ _ _ c.cut-back.ensures k cut.live_first) ∙ kept_adds _ s b k _ c.cut-back.ensures cut.live_first ∙ chain_here r k part in
+    kept_with _ t d _ k c.link_rest.ensures two.apart
+    ∙ chain_left s b k (apart _ _ _ _ c.cut-back.ensures k cut.live_first)
+    ∙ kept_adds _ s b k _ c.cut-back.ensures cut.live_first ∙ chain_here r k part in
     let head : chain_of s d ≡ chain_of q d =
-    kept_adds _ s b d _ c.cut-back.ensures cut.live_second ∙ kept_with r (with_chain r k part) k part d refl (λ x. two.apart (sym x)) ∙ kept_with q r k _ d c.narrow.ensures (λ x. two.apart (sym x)) in
+    kept_adds _ s b d _ c.cut-back.ensures cut.live_second
+    ∙ kept_with r (with_chain r k part) k part d refl (λ x. two.apart (sym x))
+    ∙ kept_with q r k _ d c.narrow.ensures (λ x. two.apart (sym x)) in
     let shown = shown_with _ t d _ c.link_rest.ensures in
-    let back = ap (λ (x : ChainView). x.entries) (shown_adds c.cut-back.ensures) ∙ ap (λ (es : List Entry). drop (i + 1) es) now ∙ drop-set-lt (i + 1) v.entries i (narrowed e 0 off) (omega arith) in
+    let back =
+    ap (λ (x : ChainView). x.entries) (shown_adds c.cut-back.ensures) ∙ ap (λ (es : List Entry). drop (i + 1) es) now
+    ∙ drop-set-lt (i + 1) v.entries i (narrowed e 0 off) (omega arith) in
     let front' = ap (λ (x : ChainView). x.entries) head ∙ m.entries in
     record {
-      made = makes_as (with_chain p k (chain_of t k)) (alone v.front.header) (split_back v.front.header v.entries c.args.at) fin refl (ap (λ (x : ChainView). x.front) shown ∙ ap (λ (x : ChainView). x.front) head ∙ m.front ∙ ap alone c.has_header-header.ensures)
+      made =
+          makes_as (with_chain p k (chain_of t k)) (alone v.front.header) (split_back v.front.header v.entries c.args.at)
+          fin refl (ap (λ (x : ChainView). x.front) shown ∙ ap (λ (x : ChainView). x.front) head ∙ m.front
+          ∙ ap alone c.has_header-header.ensures)
           (ap (λ (x : ChainView). x.entries) shown ∙ (λ j. front' j ++ back j)
-          ∙ back_done v c.find_cut-off.result.0 off h place c.find_cut-off.ensures.within ∙ sym (c.find_cut-off.ensures.back h) ∙ ap (λ (x : Bool). split_back x v.entries c.args.at) c.has_header-header.ensures);
-      front = ap (λ (x : ChainView). x.front) here ∙ ap (λ (x : ChainView). x.front) (shown_with q r k _ c.narrow.ensures) ∙ ap (λ (x : ChainView). x.front) kept_q;
-      entries = ap (λ (x : ChainView). x.entries) here ∙ ap (λ (es : List Entry). take (i + 1) es) now ∙ front_done v c.find_cut-off.result.0 off place c.find_cut-off.ensures.within ∙ sym c.find_cut-off.ensures.front;
+          ∙ back_done v c.find_cut-off.result.0 off h place c.find_cut-off.ensures.within
+          ∙ sym (c.find_cut-off.ensures.back h)
+          ∙ ap (λ (x : Bool). split_back x v.entries c.args.at) c.has_header-header.ensures);
+      front =
+          ap (λ (x : ChainView). x.front) here ∙ ap (λ (x : ChainView). x.front) (shown_with q r k _ c.narrow.ensures)
+          ∙ ap (λ (x : ChainView). x.front) kept_q;
+      entries =
+          ap (λ (x : ChainView). x.entries) here ∙ ap (λ (es : List Entry). take (i + 1) es) now
+          ∙ front_done v c.find_cut-off.result.0 off place c.find_cut-off.ensures.within
+          ∙ sym c.find_cut-off.ensures.front;
     }
 
 pub returns-then-off-len-clause-front : goal.returns-then-off-len-clause-front

@@ -12,11 +12,15 @@ first-to-requires c = live_adds c.in_ok-head.ensures.ok
 
 pub append-requires-clause-unshared : goal.append-requires-clause-unshared
 append-requires-clause-unshared c =
-    plain_unshared c.new_plain.new.self (entry_in c.new_plain.new.self c.in_ok-head.head c.first-to.result) (ap (λ (e : Entry). e.cluster) (new_entry c.args.pool.now c.new_plain.new.self c.in_ok-head.head c.first-to.result.index _ _ c.in_ok-head.ensures.ok c.first-to.ensures.index))
+    plain_unshared c.new_plain.new.self (entry_in c.new_plain.new.self c.in_ok-head.head c.first-to.result)
+    (ap (λ (e : Entry). e.cluster)
+    (new_entry c.args.pool.now c.new_plain.new.self c.in_ok-head.head c.first-to.result.index _ _
+    c.in_ok-head.ensures.ok c.first-to.ensures.index))
 
 pub append-requires-clause-fits : goal.append-requires-clause-fits
 append-requires-clause-fits c =
-    subst (λ (e : Entry). HasTrailingSpace e c.args.n) (sym (new_entry c.args.pool.now c.new_plain.new.self _ _ _ _ c.in_ok-head.ensures.ok c.first-to.ensures.index))
+    subst (λ (e : Entry). HasTrailingSpace e c.args.n)
+    (sym (new_entry c.args.pool.now c.new_plain.new.self _ _ _ _ c.in_ok-head.ensures.ok c.first-to.ensures.index))
     (omega (arith, c.at_end.ensures, at_end_fits 28 c.args.n (omega (arith, c.requires.most))))
 
 pub append-requires-clause-other : goal.append-requires-clause-other
@@ -27,7 +31,12 @@ append-requires-clause-from c = place_beside _ _ _ _ _ _ c.in_ok-head.ensures.ok
 
 pub append-requires-clause-within : goal.append-requires-clause-within
 append-requires-clause-within c =
-    omega (arith, c.requires.whole, ap (λ (v : ChainView). length (entry_of v c.args.at.index).bytes) (kept_adds _ _ _ _ _ c.in_ok-head.ensures.ok c.requires.live))
+    omega (
+      arith,
+      c.requires.whole,
+      ap (λ (v : ChainView). length (entry_of v c.args.at.index).bytes)
+          (kept_adds _ _ _ _ _ c.in_ok-head.ensures.ok c.requires.live),
+    )
 
 pub returns-clause-ok : goal.returns-clause-ok
 returns-clause-ok c =

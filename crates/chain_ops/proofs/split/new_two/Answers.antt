@@ -11,7 +11,12 @@ pub first-last-requires : goal.first-last-requires
 first-last-requires c = live_adds c.in_ok-head.ensures.ok
 
 pub append_copy-requires-clause-end : goal.append_copy-requires-clause-end
-append_copy-requires-clause-end c = omega (arith, c.first-last.ensures.index, ap (λ (v : ChainView). length v.entries) (shown_adds c.in_ok-head.ensures.ok))
+append_copy-requires-clause-end c =
+    omega (
+      arith,
+      c.first-last.ensures.index,
+      ap (λ (v : ChainView). length v.entries) (shown_adds c.in_ok-head.ensures.ok),
+    )
 
 pub append_copy-requires-clause-live : goal.append_copy-requires-clause-live
 append_copy-requires-clause-live c = live_beside _ _ _ _ c.in_ok-head.ensures.ok _ c.requires.live
@@ -21,14 +26,26 @@ append_copy-requires-clause-place c = place_beside _ _ _ _ _ _ c.in_ok-head.ensu
 
 pub append_copy-requires-clause-within : goal.append_copy-requires-clause-within
 append_copy-requires-clause-within c =
-    omega (arith, c.requires.within, ap (λ (v : ChainView). length (entry_of v c.args.at.index).bytes) (kept_adds _ _ _ _ _ c.in_ok-head.ensures.ok c.requires.live))
+    omega (
+      arith,
+      c.requires.within,
+      ap (λ (v : ChainView). length (entry_of v c.args.at.index).bytes)
+          (kept_adds _ _ _ _ _ c.in_ok-head.ensures.ok c.requires.live),
+    )
 
 pub returns-in_default-clause-err : goal.returns-in_default-clause-err
-returns-in_default-clause-err c = omega (arith, c.in_default.ensures.err, makes_held (makes_new c.in_ok-head.ensures.ok), makes_mbufs (makes_new c.in_ok-head.ensures.ok))
+returns-in_default-clause-err c =
+    omega (
+      arith,
+      c.in_default.ensures.err,
+      makes_held (makes_new c.in_ok-head.ensures.ok),
+      makes_mbufs (makes_new c.in_ok-head.ensures.ok),
+    )
 
 pub returns-in_default-clause-same : goal.returns-in_default-clause-same
 returns-in_default-clause-same c =
-    makes_undone _ (makes_new c.in_ok-head.ensures.ok) (c.free_chain.ensures ∙ ap (λ (s : PoolView). without s c.in_ok-head.head) c.in_default.ensures.same)
+    makes_undone _ (makes_new c.in_ok-head.ensures.ok)
+    (c.free_chain.ensures ∙ ap (λ (s : PoolView). without s c.in_ok-head.head) c.in_default.ensures.same)
 
 pub returns-clause-ok : goal.returns-clause-ok
 returns-clause-ok c =

@@ -12,16 +12,24 @@ pub link_counted-place-requires-clause-back : goal.link_counted-place-requires-c
 link_counted-place-requires-clause-back c = live_adds c.in_ok-back.ensures.ok
 
 pub link_counted-place-requires-clause-place : goal.link_counted-place-requires-clause-place
-link_counted-place-requires-clause-place c = place_beside _ _ _ _ _ _ c.in_ok-back.ensures.ok c.requires.copy c.requires.last
+link_counted-place-requires-clause-place c =
+    place_beside _ _ _ _ _ _ c.in_ok-back.ensures.ok c.requires.copy c.requires.last
 
 pub link_counted-place-requires-clause-last : goal.link_counted-place-requires-clause-last
 link_counted-place-requires-clause-last c =
-    c.requires.end ∙ ap (λ (v : ChainView). length v.entries) (sym (kept_adds _ _ _ _ _ c.in_ok-back.ensures.ok c.requires.copy))
+    c.requires.end ∙ ap (λ (v : ChainView). length v.entries)
+    (sym (kept_adds _ _ _ _ _ c.in_ok-back.ensures.ok c.requires.copy))
 
 pub link_counted-place-requires-clause-len : goal.link_counted-place-requires-clause-len
 link_counted-place-requires-clause-len c =
-    sym (string_one _ _ _ _ _ c.in_ok-back.ensures.ok ∙ copied_length 20 (entry_in c.args.pool.now c.args.chain.now c.args.at) _ _ c.requires.within)
+    sym (string_one _ _ _ _ _ c.in_ok-back.ensures.ok
+    ∙ copied_length 20 (entry_in c.args.pool.now c.args.chain.now c.args.at) _ _ c.requires.within)
 
 pub returns-clause-ok : goal.returns-clause-ok
-returns-clause-ok c =
-    (c.in_ok-back.back, linked_new _ _ _ _ _ _ c.requires.copy c.in_ok-back.ensures.ok c.link_counted-place.ensures.change, c.link_counted-place.ensures.place, c.link_counted-place.ensures.index)
+returns-clause-ok c = (
+  c.in_ok-back.back,
+  linked_new _ _ _ _ _ _ c.requires.copy c.in_ok-back.ensures.ok
+      c.link_counted-place.ensures.change,
+  c.link_counted-place.ensures.place,
+  c.link_counted-place.ensures.index,
+)

@@ -8,5 +8,7 @@ use Rattle.chain_ops.proofs.store.from_user.Goals as goal
 pub returns-clause-string : goal.returns-clause-string
 returns-clause-string c =
     IfOk-weaker c.store.result _ _
-    (λ d t. ap flat_bytes t.3.entries ∙ first_bytes 56 true t.0 (user (length c.args.bytes.now)) c.args.bytes.now t.2 (rooms_sum 56 (length c.args.bytes.now) (omega arith)))
+    (λ d t. ap flat_bytes t.3.entries
+    ∙ first_bytes 56 true t.0 (user (length c.args.bytes.now)) c.args.bytes.now t.2
+    (rooms_sum 56 (length c.args.bytes.now) (omega arith)))
     c.store.ensures.ok

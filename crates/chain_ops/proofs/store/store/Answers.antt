@@ -14,8 +14,18 @@ returns-then-bytes-clause-ok c =
     let m = makes_new a in (
       [],
       none_free c.args.pool.now,
-      omega (arith, ap (count_by is_cluster) rooms, sum_by-cons (λ (r : Room). cond {A = ℕ} (is_cluster r) 1 0) (Plain size) []),
-      record { adds = m.adds; front = m.front; entries = m.entries ∙ few_stored c.args.large c.args.ends c.first_start-start.result c.args.bytes.now c.requires.large (omega arith) c.first_start-start.ensures.value },
+      omega (
+        arith,
+        ap (count_by is_cluster) rooms,
+        sum_by-cons (λ (r : Room). cond {A = ℕ} (is_cluster r) 1 0) (Plain size) [],
+      ),
+      record {
+        adds = m.adds;
+        front = m.front;
+        entries =
+            m.entries ∙ few_stored c.args.large c.args.ends c.first_start-start.result c.args.bytes.now c.requires.large
+            (omega arith) c.first_start-start.ensures.value;
+      },
     )) c.new_plain_with.ensures.ok
 
 pub returns-then-bytes-clause-enough : goal.returns-then-bytes-clause-enough
@@ -24,5 +34,9 @@ returns-then-bytes-clause-enough c =
     let rooms = few_rooms c.args.large size c.requires.large (omega arith) in
     on_ok_weaker c.new_plain_with.result (λ less. (
       omega (arith, less, ap (λ (rs : List Room). length rs) rooms),
-      omega (arith, ap (count_by is_cluster) rooms, sum_by-cons (λ (r : Room). cond {A = ℕ} (is_cluster r) 1 0) (Plain size) []),
+      omega (
+        arith,
+        ap (count_by is_cluster) rooms,
+        sum_by-cons (λ (r : Room). cond {A = ℕ} (is_cluster r) 1 0) (Plain size) [],
+      ),
     )) c.new_plain_with.ensures.free

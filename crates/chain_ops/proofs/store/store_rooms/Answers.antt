@@ -33,18 +33,34 @@ rooms-init c =
     let a = c.in_ok-chain.ensures.ok.2 in
     let m = makes_new a in
     let size = length c.args.bytes.now in
-    let e : Entry = record { bytes = c.split_at.result.0.now; start = cond c.next_room-len.result.1 c.args.large c.first_start-start.result; cluster = o } in
-    let splits = begin_splits p c.args.large size c.next_room-len.result.0 c.split_at.result.1.now _ o c.requires.large (sym c.next_room-len.ensures.cluster) taken c.next_room-len.ensures.len (omega (arith, c.split_at.ensures.back_len)) in
+    let e : Entry =
+    record {
+      bytes = c.split_at.result.0.now;
+      start = cond c.next_room-len.result.1 c.args.large c.first_start-start.result;
+      cluster = o;
+    } in
+    let splits =
+    begin_splits p c.args.large size c.next_room-len.result.0 c.split_at.result.1.now _ o c.requires.large
+    (sym c.next_room-len.ensures.cluster) taken c.next_room-len.ensures.len
+    (omega (arith, c.split_at.ensures.back_len)) in
     record {
       clusters = option_to_list o;
       made = record { adds = m.adds; front = m.front; entries = refl };
-      all = begin_all p c.args.large c.args.ends o size c.args.bytes.now _ c.next_room-len.result.0 c.first_start-start.result c.split_at.result.0.now c.split_at.result.1.now _ c.requires.large (sym c.next_room-len.ensures.cluster) taken
-          c.next_room-len.ensures.len c.first_start-start.ensures.value c.split_at.ensures.front c.split_at.ensures.back (omega (arith, c.split_at.ensures.back_len)) m.entries;
+      all =
+          begin_all p c.args.large c.args.ends o size c.args.bytes.now _ c.next_room-len.result.0
+          c.first_start-start.result c.split_at.result.0.now c.split_at.result.1.now _ c.requires.large
+          (sym c.next_room-len.ensures.cluster) taken
+          c.next_room-len.ensures.len c.first_start-start.ensures.value c.split_at.ensures.front c.split_at.ensures.back
+          (omega (arith, c.split_at.ensures.back_len)) m.entries;
       count = sym splits.count;
       number = omega (arith, splits.number, ap (λ (es : List Entry). length es) m.entries);
       refs = λ k. sym (ap (references_of k) (shown_adds a) ∙ refs_one k d true e);
-      frees = ledger_step p q c.next_room-len.result.1 o (ap (λ (s : PoolView). s.clusters) a.pool) (λ k. references-adds k a ∙ ap (λ (n : ℕ). references p k + n) (refs_one k d true e)) taken;
-      taken = free_more p [] true o (none_free p) (λ k e. let t = taken_is p c.next_room-len.result.1 o taken k e in (t.0, t.1, refl));
+      frees =
+          ledger_step p q c.next_room-len.result.1 o (ap (λ (s : PoolView). s.clusters) a.pool)
+          (λ k. references-adds k a ∙ ap (λ (n : ℕ). references p k + n) (refs_one k d true e)) taken;
+      taken =
+          free_more p [] true o (none_free p)
+          (λ k e. let t = taken_is p c.next_room-len.result.1 o taken k e in (t.0, t.1, refl));
       few = omega (arith, c.split_at.ensures.back_len);
       last = c.first-last.ensures.place;
       end = omega (arith, c.first-last.ensures.index, ap (λ (es : List Entry). length es) m.entries);
@@ -52,23 +68,29 @@ rooms-init c =
 
 pub returns-in_default-clause-same : goal.returns-in_default-clause-same
 returns-in_default-clause-same c =
-    makes_undone _ c.rooms.invariant.made (c.free_chain.ensures ∙ ap (λ (s : PoolView). without s c.in_ok-chain.chain) c.in_default.ensures.same)
+    makes_undone _ c.rooms.invariant.made
+    (c.free_chain.ensures ∙ ap (λ (s : PoolView). without s c.in_ok-chain.chain) c.in_default.ensures.same)
 
 pub link_counted-last-requires-clause-front : goal.link_counted-last-requires-clause-front
-link_counted-last-requires-clause-front c = live_beside _ _ _ _ c.in-Ok.ensures.ok.2 _ (live_shown _ _ _ _ c.rooms.invariant.made.adds.pool)
+link_counted-last-requires-clause-front c =
+    live_beside _ _ _ _ c.in-Ok.ensures.ok.2 _ (live_shown _ _ _ _ c.rooms.invariant.made.adds.pool)
 
 pub link_counted-last-requires-clause-back : goal.link_counted-last-requires-clause-back
 link_counted-last-requires-clause-back c = live_adds c.in-Ok.ensures.ok.2
 
 pub link_counted-last-requires-clause-place : goal.link_counted-last-requires-clause-place
-link_counted-last-requires-clause-place c = place_beside _ _ _ _ _ _ c.in-Ok.ensures.ok.2 (live_shown _ _ _ _ c.rooms.invariant.made.adds.pool) c.rooms.invariant.last
+link_counted-last-requires-clause-place c =
+    place_beside _ _ _ _ _ _ c.in-Ok.ensures.ok.2 (live_shown _ _ _ _ c.rooms.invariant.made.adds.pool)
+    c.rooms.invariant.last
 
 pub link_counted-last-requires-clause-last : goal.link_counted-last-requires-clause-last
 link_counted-last-requires-clause-last c =
-    c.rooms.invariant.end ∙ ap (λ (v : ChainView). length v.entries) (sym (kept_adds _ _ _ _ _ c.in-Ok.ensures.ok.2 (live_shown _ _ _ _ c.rooms.invariant.made.adds.pool)))
+    c.rooms.invariant.end ∙ ap (λ (v : ChainView). length v.entries)
+    (sym (kept_adds _ _ _ _ _ c.in-Ok.ensures.ok.2 (live_shown _ _ _ _ c.rooms.invariant.made.adds.pool)))
 
 pub link_counted-last-requires-clause-len : goal.link_counted-last-requires-clause-len
-link_counted-last-requires-clause-len c = sym (string_one _ _ _ _ _ c.in-Ok.ensures.ok.2 ∙ c.split_at-in-rooms.ensures.front_len)
+link_counted-last-requires-clause-len c =
+    sym (string_one _ _ _ _ _ c.in-Ok.ensures.ok.2 ∙ c.split_at-in-rooms.ensures.front_len)
 
 pub rooms-preserved : goal.rooms-preserved
 rooms-preserved c =
@@ -87,29 +109,62 @@ rooms-preserved c =
     let size : ℕ = length c.rooms.rest.now in
     let some : 0 < size = filled_some c.rooms.rest.now _ c.is_empty.ensures c.rooms-test.true in
     let later : List ℕ = c.split_at-in-rooms.result.1.now in
-    let e : Entry = record { bytes = c.split_at-in-rooms.result.0.now; start = cond c.next_room-next.result.1 0 20; cluster = o } in
+    let e : Entry =
+    record { bytes = c.split_at-in-rooms.result.0.now; start = cond c.next_room-next.result.1 0 20; cluster = o } in
     let v : ChainView = chain_of p d in
     let w : ChainView = one_mbuf false e c.in-Ok.back in
     let left : length later ≡ size - c.next_room-next.result.0 = omega (arith, c.split_at-in-rooms.ensures.back_len) in
-    let splits = more_splits p size c.next_room-next.result.0 later c.next_room-next.result.1 o some (sym c.next_room-next.ensures.cluster) taken c.next_room-next.ensures.len left in
+    let splits =
+    more_splits p size c.next_room-next.result.0 later c.next_room-next.result.1 o some
+    (sym c.next_room-next.ensures.cluster) taken c.next_room-next.ensures.len left in
     let one : (k : ℕ) → references_of k w ≡ times k (option_to_list o) = λ k. refs_one k c.in-Ok.back false e in
-    let frees = ledger_step p r c.next_room-next.result.1 o (ap (λ (s : PoolView). s.clusters) is) (λ k. refs_linked p r d k w live is ∙ ap (λ (n : ℕ). references p k + n) (one k)) taken in
+    let frees =
+    ledger_step p r c.next_room-next.result.1 o (ap (λ (s : PoolView). s.clusters) is)
+    (λ k. refs_linked p r d k w live is ∙ ap (λ (n : ℕ). references p k + n) (one k)) taken in
     record {
       clusters = cs ++ option_to_list o;
       made = record { adds = m.adds; front = m.front ∙ was.front; entries = refl };
-      all = more_all p (λ es. stored_first c.args.large c.args.ends es (rooms_for c.args.large (length c.args.bytes.now)) c.args.bytes.now) o cs size c.rooms.rest.now later c.next_room-next.result.1 c.next_room-next.result.0 c.split_at-in-rooms.result.0.now
-          v.entries _ some (sym c.next_room-next.ensures.cluster) taken c.next_room-next.ensures.len c.split_at-in-rooms.ensures.front c.split_at-in-rooms.ensures.back left m.entries inv.all;
+      all =
+          more_all p (λ es. stored_first c.args.large c.args.ends es (rooms_for c.args.large (length c.args.bytes.now))
+          c.args.bytes.now) o cs size c.rooms.rest.now later c.next_room-next.result.1 c.next_room-next.result.0 c.split_at-in-rooms.result.0.now
+          v.entries _ some (sym c.next_room-next.ensures.cluster) taken c.next_room-next.ensures.len
+          c.split_at-in-rooms.ensures.front c.split_at-in-rooms.ensures.back left m.entries inv.all;
       count = omega (arith, inv.count, splits.count, length-append cs (option_to_list o));
-      number = omega (arith, inv.number, splits.number, ap (λ (es : List Entry). length es) m.entries, length-append v.entries (e ∷ []));
-      refs = λ k. omega (arith, times-append k cs (option_to_list o), inv.refs k, ap (references_of k) (shown_with p r d (joined v w) is), refs_joined k v w, one k);
+      number =
+          omega (
+            arith,
+            inv.number,
+            splits.number,
+            ap (λ (es : List Entry). length es) m.entries,
+            length-append v.entries (e ∷ []),
+          );
+      refs =
+          λ k. omega (
+            arith,
+            times-append k cs (option_to_list o),
+            inv.refs k,
+            ap (references_of k) (shown_with p r d (joined v w) is),
+            refs_joined k v w,
+            one k,
+          );
       frees = omega (arith, frees, inv.frees, length-append cs (option_to_list o));
       taken = free_more c.args.pool.now cs true o inv.taken
           (λ k is'. let t = taken_is p c.next_room-next.result.1 o taken k is' in
-          let n = references-adds k was.adds in
-          (omega (arith, t.0, ap (λ (s : PoolView). s.clusters) was.adds.pool), omega (arith, t.1, n), omega (arith, t.1, n, inv.refs k)));
+          let n = references-adds k was.adds in (
+            omega (arith, t.0, ap (λ (s : PoolView). s.clusters) was.adds.pool),
+            omega (arith, t.1, n),
+            omega (arith, t.1, n, inv.refs k),
+          ));
       few = omega (arith, inv.few, left);
       last = c.link_counted-last.ensures.place;
-      end = omega (arith, c.link_counted-last.ensures.index, inv.end, ap (λ (es : List Entry). length es) m.entries, length-append v.entries (e ∷ []));
+      end =
+          omega (
+            arith,
+            c.link_counted-last.ensures.index,
+            inv.end,
+            ap (λ (es : List Entry). length es) m.entries,
+            length-append v.entries (e ∷ []),
+          );
     }
 
 pub returns-in_default-clause-err : goal.returns-in_default-clause-err
@@ -129,7 +184,8 @@ on_err (Err y) h = h
 pub returns-in_err-chain-clause-err : goal.returns-in_err-chain-clause-err
 returns-in_err-chain-clause-err c =
     let first = lacks_first c.args.large (length c.args.bytes.now) c.requires.large in
-    let lacks : Lacks c.args.pool.now (rooms_for c.args.large (length c.args.bytes.now)) = elim c.in_err-chain.ensures.err [
+    let lacks : Lacks c.args.pool.now (rooms_for c.args.large (length c.args.bytes.now)) =
+    elim c.in_err-chain.ensures.err [
       | inl e ↦ inl (omega (arith, e, first.0))
       | inr t ↦ inr (omega (arith, t.1, first.1 (sym c.next_room-len.ensures.cluster ∙ t.0)))
     ] in
@@ -140,7 +196,8 @@ returns-clause-ok c =
     let inv = c.rooms.invariant in
     let cs : List ℕ = c.rooms.invariant.clusters in
     let done : List Entry = (chain_of c.rooms.pool c.in_ok-chain.chain).entries in
-    let z : length c.rooms.rest.now ≡ 0 = eqb-true (length c.rooms.rest.now) 0 (sym c.is_empty.ensures ∙ c.rooms-test.false) in
+    let z : length c.rooms.rest.now ≡ 0 =
+    eqb-true (length c.rooms.rest.now) 0 (sym c.is_empty.ensures ∙ c.rooms-test.false) in
     let none : rest_rooms (length c.rooms.rest.now) ≡ [] = ap rest_rooms z ∙ rest_none in (
       cs,
       inv.taken,
@@ -148,16 +205,27 @@ returns-clause-ok c =
       record {
         adds = inv.made.adds;
         front = inv.made.front;
-        entries = sym (append-nil done) ∙ ap (λ (rooms : List Room). done ++ stored [] rooms c.rooms.rest.now) (sym none) ∙ inv.all []
-            ∙ ap (λ (es : List ℕ). stored_first c.args.large c.args.ends es (rooms_for c.args.large (length c.args.bytes.now)) c.args.bytes.now) (append-nil cs);
+        entries =
+            sym (append-nil done) ∙ ap (λ (rooms : List Room). done ++ stored [] rooms c.rooms.rest.now) (sym none)
+            ∙ inv.all []
+            ∙ ap (λ (es : List ℕ). stored_first c.args.large c.args.ends es
+            (rooms_for c.args.large (length c.args.bytes.now)) c.args.bytes.now) (append-nil cs);
       },
     )
 
 pub returns-clause-enough : goal.returns-clause-enough
 returns-clause-enough c =
     let inv = c.rooms.invariant in
-    let z : length c.rooms.rest.now ≡ 0 = eqb-true (length c.rooms.rest.now) 0 (sym c.is_empty.ensures ∙ c.rooms-test.false) in
+    let z : length c.rooms.rest.now ≡ 0 =
+    eqb-true (length c.rooms.rest.now) 0 (sym c.is_empty.ensures ∙ c.rooms-test.false) in
     let none : rest_rooms (length c.rooms.rest.now) ≡ [] = ap rest_rooms z ∙ rest_none in (
-      omega (arith, makes_held inv.made, makes_mbufs inv.made, inv.number, ap (λ (rooms : List Room). length rooms) none, c.laws.ensures.few),
+      omega (
+        arith,
+        makes_held inv.made,
+        makes_mbufs inv.made,
+        inv.number,
+        ap (λ (rooms : List Room). length rooms) none,
+        c.laws.ensures.few,
+      ),
       omega (arith, inv.count, inv.frees, ap (count_by is_cluster) none),
     )

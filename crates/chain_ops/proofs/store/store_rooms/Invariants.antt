@@ -11,9 +11,12 @@ abbrev pub invariant-rooms : goal.invariant-rooms
 invariant-rooms l = record {
   clusters : List ℕ;
   made : Makes l.fn.pool l.pool l.chain (alone true) (chain_of l.pool l.chain).entries;
-  all : (ds : List ℕ) → (chain_of l.pool l.chain).entries ++ stored ds (rest_rooms (length l.rest)) l.rest ≡ stored_first l.large l.ends (clusters ++ ds) (rooms_for l.large (length l.bytes)) l.bytes;
-  count : length clusters + count_by is_cluster (rest_rooms (length l.rest)) ≡ count_by is_cluster (rooms_for l.large (length l.bytes));
-  number : length (chain_of l.pool l.chain).entries + length (rest_rooms (length l.rest)) ≡ length (rooms_for l.large (length l.bytes));
+  all : (ds : List ℕ) → (chain_of l.pool l.chain).entries ++ stored ds (rest_rooms (length l.rest)) l.rest
+      ≡ stored_first l.large l.ends (clusters ++ ds) (rooms_for l.large (length l.bytes)) l.bytes;
+  count : length clusters + count_by is_cluster (rest_rooms (length l.rest))
+      ≡ count_by is_cluster (rooms_for l.large (length l.bytes));
+  number : length (chain_of l.pool l.chain).entries + length (rest_rooms (length l.rest))
+      ≡ length (rooms_for l.large (length l.bytes));
   refs : (k : ℕ) → times k clusters ≡ references_of k (chain_of l.pool l.chain);
   frees : free_clusters l.pool + length clusters ≡ free_clusters l.fn.pool;
   taken : AreFree l.fn.pool clusters;

@@ -10,7 +10,10 @@ returns-then-n-le-MHLEN c = sym (small_need c.args.n (omega arith))
 pub rooms-preserved : goal.rooms-preserved
 rooms-preserved c =
     let inv = c.rooms.invariant in
-    let next = next_is c.rooms.small c.rooms.left c.next_room-size.result.0 c.from-clusters.result inv.small (omega arith) c.next_room-size.ensures.len (c.from-clusters.ensures ∙ cluster_is c.rooms.small c.rooms.left c.next_room-size.result.1 c.next_room-size.ensures.cluster) in
+    let next =
+    next_is c.rooms.small c.rooms.left c.next_room-size.result.0 c.from-clusters.result inv.small (omega arith)
+    c.next_room-size.ensures.len (c.from-clusters.ensures
+    ∙ cluster_is c.rooms.small c.rooms.left c.next_room-size.result.1 c.next_room-size.ensures.cluster) in
     record {
       small = omega arith;
       mbufs = omega (arith, inv.mbufs, next.mbufs);
@@ -23,8 +26,12 @@ pub returns : goal.returns
 returns c =
     let inv = c.rooms.invariant in
     let z : c.rooms.left ≡ 0 = omega arith in
-    let none : filled c.rooms.left 2048 c.rooms.small c.rooms.left ≡ [] = ap (λ (k : ℕ). filled k 2048 c.rooms.small k) z ∙ none_left c.rooms.small in
-    let all : c.rooms.mbufs ≡ length (filled c.args.n 2048 100 c.args.n) = omega (arith, inv.mbufs, ap (λ (rooms : List Room). length rooms) none) in
-    let mbufs : c.rooms.mbufs ≡ max (length (filled c.args.n 2048 100 c.args.n)) 1 = omega (arith, all, some_mbuf c.args.n (omega arith)) in
-    let clusters : c.rooms.clusters ≡ count_by is_cluster (filled c.args.n 2048 100 c.args.n) = omega (arith, inv.clusters, ap (count_by is_cluster) none) in
+    let none : filled c.rooms.left 2048 c.rooms.small c.rooms.left ≡ [] =
+    ap (λ (k : ℕ). filled k 2048 c.rooms.small k) z ∙ none_left c.rooms.small in
+    let all : c.rooms.mbufs ≡ length (filled c.args.n 2048 100 c.args.n) =
+    omega (arith, inv.mbufs, ap (λ (rooms : List Room). length rooms) none) in
+    let mbufs : c.rooms.mbufs ≡ max (length (filled c.args.n 2048 100 c.args.n)) 1 =
+    omega (arith, all, some_mbuf c.args.n (omega arith)) in
+    let clusters : c.rooms.clusters ≡ count_by is_cluster (filled c.args.n 2048 100 c.args.n) =
+    omega (arith, inv.clusters, ap (count_by is_cluster) none) in
     (λ i. record { mbufs = mbufs i; clusters = clusters i }) ∙ sym (need_is c.args.n)

@@ -10,7 +10,8 @@ laid_length : (es : List Entry) → length (laid es) ≡ length es
 laid_length es = length-map es _
 
 pub returns-clause-mbufs : goal.returns-clause-mbufs
-returns-clause-mbufs c = λ es fs. omega (arith, cat_length es fs, laid_length es, laid_length fs, laid_length (cat es fs))
+returns-clause-mbufs c =
+    λ es fs. omega (arith, cat_length es fs, laid_length es, laid_length fs, laid_length (cat es fs))
 
 pub returns-clause-bag : goal.returns-clause-bag
 returns-clause-bag c = cat_bag

@@ -10,7 +10,11 @@ returns-in-Some-clause-says c =
     let len : length c.call_of.new.room ≡ c.args.buffers.now.bytes.len = omega arith in
     let same = take-written _ c.call_of.new.room c.args.buffers.now.bytes.items len in (
       answer_text (Some called.0),
-      (Some called.0, (request_of c.in-Some.call c.call_of.new.room, c.in-Some.ensures.call, rw same at called.1), refl),
+      (
+        Some called.0,
+        (request_of c.in-Some.call c.call_of.new.room, c.in-Some.ensures.call, rw same at called.1),
+        refl,
+      ),
       called.2,
     )
 

@@ -16,11 +16,14 @@ m_adj-requires c =
 pub returns-clause-fits : goal.returns-clause-fits
 returns-clause-fits c =
     let is = slot_is c.args.chains.now c.args.slot _ (Some c.in-Some.chain) c.requires.slot c.in-Some.is in
-    (adjust_done c.args.pool.now _ c.args.chains.now c.args.slot c.in-Some.chain _ c.requires.fits c.requires.slot is c.m_adj.ensures.change).0
+    (adjust_done c.args.pool.now _ c.args.chains.now c.args.slot c.in-Some.chain _ c.requires.fits c.requires.slot is
+    c.m_adj.ensures.change).0
 
 pub returns-clause-step : goal.returns-clause-step
 returns-clause-step c =
     let is = slot_is c.args.chains.now c.args.slot _ (Some c.in-Some.chain) c.requires.slot c.in-Some.is in
-    subst (λ (z : ℤ). Step (machine_of c.args.pool.now c.args.chains.now) (Adjust c.args.slot z) Ready (machine_of c.m_adj.new.pool c.args.chains.now))
+    subst (λ (z : ℤ). Step (machine_of c.args.pool.now c.args.chains.now) (Adjust c.args.slot z) Ready
+    (machine_of c.m_adj.new.pool c.args.chains.now))
     (to_z-of_z w32 c.args.n c.ranges.n)
-    (adjust_done c.args.pool.now _ c.args.chains.now c.args.slot c.in-Some.chain _ c.requires.fits c.requires.slot is c.m_adj.ensures.change).1
+    (adjust_done c.args.pool.now _ c.args.chains.now c.args.slot c.in-Some.chain _ c.requires.fits c.requires.slot is
+    c.m_adj.ensures.change).1

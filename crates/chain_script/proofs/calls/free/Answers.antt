@@ -3,12 +3,16 @@ use Rattle.chain_script.proofs.SlotLemmas.{live_slot}
 use Rattle.chain_script.proofs.calls.free.Goals as goal
 
 pub free_chain-requires : goal.free_chain-requires
-free_chain-requires c = live_slot c.args.pool.now c.args.chains.now c.args.slot c.take-chain.result c.requires.fits c.requires.slot c.take-chain.ensures.value
+free_chain-requires c =
+    live_slot c.args.pool.now c.args.chains.now c.args.slot c.take-chain.result c.requires.fits c.requires.slot
+    c.take-chain.ensures.value
 
 pub returns-clause-fits : goal.returns-clause-fits
 returns-clause-fits c =
-    rw c.take-chain.ensures.after (free_done c.args.pool.now c.free_chain.new.self c.args.chains.now c.args.slot c.take-chain.result c.requires.fits c.requires.slot c.take-chain.ensures.value c.free_chain.ensures).0
+    rw c.take-chain.ensures.after (free_done c.args.pool.now c.free_chain.new.self c.args.chains.now c.args.slot
+    c.take-chain.result c.requires.fits c.requires.slot c.take-chain.ensures.value c.free_chain.ensures).0
 
 pub returns-clause-step : goal.returns-clause-step
 returns-clause-step c =
-    rw c.take-chain.ensures.after (free_done c.args.pool.now c.free_chain.new.self c.args.chains.now c.args.slot c.take-chain.result c.requires.fits c.requires.slot c.take-chain.ensures.value c.free_chain.ensures).1
+    rw c.take-chain.ensures.after (free_done c.args.pool.now c.free_chain.new.self c.args.chains.now c.args.slot
+    c.take-chain.result c.requires.fits c.requires.slot c.take-chain.ensures.value c.free_chain.ensures).1

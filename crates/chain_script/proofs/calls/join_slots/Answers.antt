@@ -7,44 +7,75 @@ use Rattle.chain_script.proofs.calls.join_slots.Goals as goal
 
 pub len-requires : goal.len-requires
 len-requires c =
-    let first = slot_is c.args.chains.now c.args.slot _ (Some c.in-Some.first) c.requires.slot (sym c.index-chains-slot.is ∙ c.in-Some.is) in
+    let first =
+    slot_is c.args.chains.now c.args.slot _ (Some c.in-Some.first) c.requires.slot
+    (sym c.index-chains-slot.is ∙ c.in-Some.is) in
     live_slot c.args.pool.now c.args.chains.now c.args.slot c.in-Some.first c.requires.fits c.requires.slot first
 
 pub len-requires-2 : goal.len-requires-2
 len-requires-2 c =
-    let second = slot_is c.args.chains.now c.args.other _ (Some c.in-Some-chains.second) c.requires.other (sym c.index-chains-other.is ∙ c.in-Some-chains.is) in
-    live_slot c.args.pool.now c.args.chains.now c.args.other c.in-Some-chains.second c.requires.fits c.requires.other second
+    let second =
+    slot_is c.args.chains.now c.args.other _ (Some c.in-Some-chains.second) c.requires.other
+    (sym c.index-chains-other.is ∙ c.in-Some-chains.is) in
+    live_slot c.args.pool.now c.args.chains.now c.args.other c.in-Some-chains.second c.requires.fits c.requires.other
+    second
 
 pub join-requires-clause-held : goal.join-requires-clause-held
 join-requires-clause-held c =
-    let first = slot_is c.args.chains.now c.args.slot _ (Some c.in-Some.first) c.requires.slot (sym c.index-chains-slot.is ∙ c.in-Some.is) in
+    let first =
+    slot_is c.args.chains.now c.args.slot _ (Some c.in-Some.first) c.requires.slot
+    (sym c.index-chains-slot.is ∙ c.in-Some.is) in
     let ne : c.args.slot ≢ c.args.other = omega arith in
     let second = c.take-second.ensures.value in (
       c.in-Some.first,
       rw c.take-second.ensures.after (get_or-set_other c.args.chains.now c.args.other c.args.slot None None ne ∙ first),
       live_slot c.args.pool.now c.args.chains.now c.args.slot c.in-Some.first c.requires.fits c.requires.slot first,
-      live_slot c.args.pool.now c.args.chains.now c.args.other c.take-second.result c.requires.fits c.requires.other second,
-      apart_chains c.args.pool.now c.args.chains.now c.args.slot c.args.other c.in-Some.first c.take-second.result c.requires.fits c.requires.slot c.requires.other ne first second,
+      live_slot c.args.pool.now c.args.chains.now c.args.other c.take-second.result c.requires.fits c.requires.other
+          second,
+      apart_chains c.args.pool.now c.args.chains.now c.args.slot c.args.other c.in-Some.first c.take-second.result
+          c.requires.fits c.requires.slot c.requires.other ne first second,
     )
 
 pub returns-clause-fits : goal.returns-clause-fits
 returns-clause-fits c =
-    let first = slot_is c.args.chains.now c.args.slot _ (Some c.in-Some.first) c.requires.slot (sym c.index-chains-slot.is ∙ c.in-Some.is) in
+    let first =
+    slot_is c.args.chains.now c.args.slot _ (Some c.in-Some.first) c.requires.slot
+    (sym c.index-chains-slot.is ∙ c.in-Some.is) in
     let ne : c.args.slot ≢ c.args.other = omega arith in
     let second = c.take-second.ensures.value in
-    let still : get_or c.take-second.new.chains c.args.slot None ≡ Some c.in-Some.first = rw c.take-second.ensures.after (get_or-set_other c.args.chains.now c.args.other c.args.slot None None ne ∙ first) in
-    let same : c.in-Some-chains.second ≡ c.take-second.result = cc (sym (slot_is c.args.chains.now c.args.other _ (Some c.in-Some-chains.second) c.requires.other (sym c.index-chains-other.is ∙ c.in-Some-chains.is)) ∙ second) in
-    let inside : length (string (chain_of c.args.pool.now c.in-Some.first)) + length (string (chain_of c.args.pool.now c.take-second.result)) ≤ 65535 = omega (arith, c.len.ensures, c.len-2.ensures, ap (λ (k : ℕ). length (string (chain_of c.args.pool.now k))) same) in
+    let still : get_or c.take-second.new.chains c.args.slot None ≡ Some c.in-Some.first =
+    rw c.take-second.ensures.after (get_or-set_other c.args.chains.now c.args.other c.args.slot None None ne ∙ first)
+    in
+    let same : c.in-Some-chains.second ≡ c.take-second.result =
+    cc (sym (slot_is c.args.chains.now c.args.other _ (Some c.in-Some-chains.second) c.requires.other
+    (sym c.index-chains-other.is ∙ c.in-Some-chains.is)) ∙ second) in
+    let inside : length (string (chain_of c.args.pool.now c.in-Some.first))
+    + length (string (chain_of c.args.pool.now c.take-second.result)) ≤ 65535 =
+    omega (arith, c.len.ensures, c.len-2.ensures, ap (λ (k : ℕ). length (string (chain_of c.args.pool.now k))) same)
+    in
     rw c.take-second.ensures.after
-    (join_done c.args.pool.now c.join.new.pool c.args.chains.now c.args.slot c.args.other c.in-Some.first c.take-second.result c.requires.fits c.requires.slot c.requires.other ne first second inside (c.join.ensures c.in-Some.first still)).0
+    (join_done c.args.pool.now c.join.new.pool c.args.chains.now c.args.slot c.args.other c.in-Some.first
+    c.take-second.result c.requires.fits c.requires.slot c.requires.other ne first second inside
+    (c.join.ensures c.in-Some.first still)).0
 
 pub returns-clause-step : goal.returns-clause-step
 returns-clause-step c =
-    let first = slot_is c.args.chains.now c.args.slot _ (Some c.in-Some.first) c.requires.slot (sym c.index-chains-slot.is ∙ c.in-Some.is) in
+    let first =
+    slot_is c.args.chains.now c.args.slot _ (Some c.in-Some.first) c.requires.slot
+    (sym c.index-chains-slot.is ∙ c.in-Some.is) in
     let ne : c.args.slot ≢ c.args.other = omega arith in
     let second = c.take-second.ensures.value in
-    let still : get_or c.take-second.new.chains c.args.slot None ≡ Some c.in-Some.first = rw c.take-second.ensures.after (get_or-set_other c.args.chains.now c.args.other c.args.slot None None ne ∙ first) in
-    let same : c.in-Some-chains.second ≡ c.take-second.result = cc (sym (slot_is c.args.chains.now c.args.other _ (Some c.in-Some-chains.second) c.requires.other (sym c.index-chains-other.is ∙ c.in-Some-chains.is)) ∙ second) in
-    let inside : length (string (chain_of c.args.pool.now c.in-Some.first)) + length (string (chain_of c.args.pool.now c.take-second.result)) ≤ 65535 = omega (arith, c.len.ensures, c.len-2.ensures, ap (λ (k : ℕ). length (string (chain_of c.args.pool.now k))) same) in
+    let still : get_or c.take-second.new.chains c.args.slot None ≡ Some c.in-Some.first =
+    rw c.take-second.ensures.after (get_or-set_other c.args.chains.now c.args.other c.args.slot None None ne ∙ first)
+    in
+    let same : c.in-Some-chains.second ≡ c.take-second.result =
+    cc (sym (slot_is c.args.chains.now c.args.other _ (Some c.in-Some-chains.second) c.requires.other
+    (sym c.index-chains-other.is ∙ c.in-Some-chains.is)) ∙ second) in
+    let inside : length (string (chain_of c.args.pool.now c.in-Some.first))
+    + length (string (chain_of c.args.pool.now c.take-second.result)) ≤ 65535 =
+    omega (arith, c.len.ensures, c.len-2.ensures, ap (λ (k : ℕ). length (string (chain_of c.args.pool.now k))) same)
+    in
     rw c.take-second.ensures.after
-    (join_done c.args.pool.now c.join.new.pool c.args.chains.now c.args.slot c.args.other c.in-Some.first c.take-second.result c.requires.fits c.requires.slot c.requires.other ne first second inside (c.join.ensures c.in-Some.first still)).1
+    (join_done c.args.pool.now c.join.new.pool c.args.chains.now c.args.slot c.args.other c.in-Some.first
+    c.take-second.result c.requires.fits c.requires.slot c.requires.other ne first second inside
+    (c.join.ensures c.in-Some.first still)).1

@@ -15,17 +15,30 @@ m_pullup-requires c =
 pub returns-in-Ok-clause-fits : goal.returns-in-Ok-clause-fits
 returns-in-Ok-clause-fits c =
     let is = slot_is c.args.chains.now c.args.slot _ (Some c.in-Some.chain) c.requires.slot c.in-Some.is in
-    let live = live_slot c.args.pool.now c.args.chains.now c.args.slot c.in-Some.chain c.requires.fits c.requires.slot is in
-    changed_fits c.args.pool.now c.m_pullup.new.pool c.args.chains.now c.args.slot c.in-Some.chain c.m_pullup.new.chain c.requires.fits c.requires.slot is (moves_changed c.args.pool.now c.m_pullup.new.pool c.in-Some.chain c.m_pullup.new.chain _ _ live c.in-Ok.ensures.ok)
+    let live =
+    live_slot c.args.pool.now c.args.chains.now c.args.slot c.in-Some.chain c.requires.fits c.requires.slot is in
+    changed_fits c.args.pool.now c.m_pullup.new.pool c.args.chains.now c.args.slot c.in-Some.chain c.m_pullup.new.chain
+    c.requires.fits c.requires.slot is
+    (moves_changed c.args.pool.now c.m_pullup.new.pool c.in-Some.chain c.m_pullup.new.chain _ _ live
+    c.in-Ok.ensures.ok)
 
 pub returns-in-Ok-clause-step : goal.returns-in-Ok-clause-step
 returns-in-Ok-clause-step c =
     let is = slot_is c.args.chains.now c.args.slot _ (Some c.in-Some.chain) c.requires.slot c.in-Some.is in
-    pull_done c.args.pool.now c.m_pullup.new.pool c.args.chains.now c.args.slot c.in-Some.chain c.m_pullup.new.chain c.args.n c.requires.fits c.requires.slot is c.in-Ok.ensures.fits.0 c.in-Ok.ensures.fits.1 c.in-Ok.ensures.enough c.in-Ok.ensures.ok
+    pull_done c.args.pool.now c.m_pullup.new.pool c.args.chains.now c.args.slot c.in-Some.chain c.m_pullup.new.chain
+    c.args.n c.requires.fits c.requires.slot is c.in-Ok.ensures.fits.0 c.in-Ok.ensures.fits.1 c.in-Ok.ensures.enough
+    c.in-Ok.ensures.ok
 
 pub returns-in-Err-NoBufs-clause-step : goal.returns-in-Err-NoBufs-clause-step
 returns-in-Err-NoBufs-clause-step c =
     let is = slot_is c.args.chains.now c.args.slot _ (Some c.in-Some.chain) c.requires.slot c.in-Some.is in
-    let err = subst (λ (r : Refusal). IsRefused c.args.pool.now (chain_of c.args.pool.now c.in-Some.chain) c.args.n r) c.in-Err-NoBufs.field-0-is c.in-Err-NoBufs.ensures.err in
-    rw (c.in-Err-NoBufs.ensures.same.0, c.in-Err-NoBufs.ensures.same.1, same_slot c.args.chains.now c.args.slot c.in-Some.chain is)
-    (pull_lacks c.args.pool.now c.args.chains.now c.args.slot c.in-Some.chain c.args.n c.requires.fits is err.0 err.1 err.2)
+    let err =
+    subst (λ (r : Refusal). IsRefused c.args.pool.now (chain_of c.args.pool.now c.in-Some.chain) c.args.n r)
+    c.in-Err-NoBufs.field-0-is c.in-Err-NoBufs.ensures.err in
+    rw (
+      c.in-Err-NoBufs.ensures.same.0,
+      c.in-Err-NoBufs.ensures.same.1,
+      same_slot c.args.chains.now c.args.slot c.in-Some.chain is,
+    )
+    (pull_lacks c.args.pool.now c.args.chains.now c.args.slot c.in-Some.chain c.args.n c.requires.fits is err.0 err.1
+    err.2)

@@ -6,7 +6,8 @@ use Rattle.chain_script.proofs.draw.note_chain.Given as goal
 abbrev pub invariant-mbufs : goal.invariant-mbufs
 invariant-mbufs l = record {
   place : IsPlace (chain_of l.pool l.chain) l.at;
-  items : noted_all l.seen.items (drop l.at.index (chain_of l.pool l.chain).entries) ≡ noted_all l.fn.seen.items (chain_of l.pool l.chain).entries;
+  items : noted_all l.seen.items (drop l.at.index (chain_of l.pool l.chain).entries)
+      ≡ noted_all l.fn.seen.items (chain_of l.pool l.chain).entries;
 }
 
 abbrev pub decreases-mbufs : goal.decreases-mbufs

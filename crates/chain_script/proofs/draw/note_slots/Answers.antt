@@ -6,15 +6,33 @@ use Rattle.chain_script.proofs.draw.note_slots.Goals.{in-Some+in_ok-note_chain, 
 
 pub note_chain-requires : goal.note_chain-requires
 note_chain-requires c =
-    let is = slot_is c.args.chains.now c.slots.slot c.index-chains-slot.result (Some c.in-Some.chain) c.slots-test.true (sym c.index-chains-slot.is ∙ c.in-Some.is) in
+    let is =
+    slot_is c.args.chains.now c.slots.slot c.index-chains-slot.result (Some c.in-Some.chain) c.slots-test.true
+    (sym c.index-chains-slot.is ∙ c.in-Some.is) in
     live_slot c.args.pool.now c.args.chains.now c.slots.slot c.in-Some.chain c.requires c.slots-test.true is
 
 pub slots-preserved : goal.slots-preserved
 slots-preserved c = elim c.match-chains-slot.branch [
   | in-Some+in_ok-note_chain w ↦
-      let is = slot_is c.args.chains.now c.slots.slot c.index-chains-slot.result (Some w.in-Some.chain) c.slots-test.true (sym c.index-chains-slot.is ∙ w.in-Some.is) in
-      search (arith, noted_held c.args.pool.now c.slots.seen.items c.args.chains.now c.slots.slot w.in-Some.chain c.slots-test.true is, c.slots.invariant.items, w.seen-is, w.note_chain.ensures)
+      let is =
+      slot_is c.args.chains.now c.slots.slot c.index-chains-slot.result (Some w.in-Some.chain) c.slots-test.true
+      (sym c.index-chains-slot.is ∙ w.in-Some.is) in
+      search (
+        arith,
+        noted_held c.args.pool.now c.slots.seen.items c.args.chains.now c.slots.slot w.in-Some.chain
+            c.slots-test.true is,
+        c.slots.invariant.items,
+        w.seen-is,
+        w.note_chain.ensures,
+      )
   | in_default w ↦
-      let is = slot_is c.args.chains.now c.slots.slot c.index-chains-slot.result None c.slots-test.true (sym c.index-chains-slot.is ∙ w.in_default.is) in
-      search (arith, noted_none c.args.pool.now c.slots.seen.items c.args.chains.now c.slots.slot c.slots-test.true is, c.slots.invariant.items, w.seen-is)
+      let is =
+      slot_is c.args.chains.now c.slots.slot c.index-chains-slot.result None c.slots-test.true
+      (sym c.index-chains-slot.is ∙ w.in_default.is) in
+      search (
+        arith,
+        noted_none c.args.pool.now c.slots.seen.items c.args.chains.now c.slots.slot c.slots-test.true is,
+        c.slots.invariant.items,
+        w.seen-is,
+      )
 ]

@@ -7,7 +7,8 @@ use Rattle.chain_script.proofs.show.put_mbufs.Given as goal
 abbrev pub invariant-mbufs : goal.invariant-mbufs
 invariant-mbufs l = record {
   place : IsPlace (chain_of l.pool l.chain) l.at;
-  items : l.text ++ flat_map shape_text (shapes_of (references l.pool) (drop l.at.index (chain_of l.pool l.chain).entries))
+  items : l.text ++ flat_map shape_text
+      (shapes_of (references l.pool) (drop l.at.index (chain_of l.pool l.chain).entries))
       ≡ l.fn.text ++ flat_map shape_text (shapes_of (references l.pool) (chain_of l.pool l.chain).entries);
   len : length l.text ≤ length l.fn.text + 23 * l.at.index;
 }

@@ -9,7 +9,9 @@ use Rattle.chain_script.proofs.show.usage.Goals as goal
 pub returns : goal.returns
 returns c =
     let u = c.usage.ensures in
-    let same = usage_is c.args.pool.now c.args.chains.now c.usage.result c.requires.fits u.mbufs u.free_mbufs u.clusters u.free_clusters u.references u.greatest in (
+    let same =
+    usage_is c.args.pool.now c.args.chains.now c.usage.result c.requires.fits u.mbufs u.free_mbufs u.clusters
+    u.free_clusters u.references u.greatest in (
       Shown (usage_of (machine_of c.args.pool.now c.args.chains.now)),
       (refl, refl),
       c.put_usage.ensures ∙ ap (λ (s : Mbstat). c.args.text.now ++ answer_text (Some (Shown s))) same,

@@ -18,10 +18,12 @@ returns c =
     let first : take 20 c.put_bytes.new.room ≡ head =
     ap (take 20) c.put_bytes.ensures ∙ grown c.args.buffer.now.room [] head 0 20 (omega arith) refl (omega arith) in
     let second : take 24 c.put_bytes-2.new.room ≡ head ++ front =
-    ap (take 24) c.put_bytes-2.ensures ∙ grown c.put_bytes.new.room head front 20 24 (omega arith) first (omega arith) in
+    ap (take 24) c.put_bytes-2.ensures
+    ∙ grown c.put_bytes.new.room head front 20 24 (omega arith) first (omega arith) in
     ap (take n) c.put_bytes-3.ensures
     ∙ grown c.put_bytes-2.new.room (head ++ front) rest 24 n (omega arith) second refl
     ∙ append_assoc head front rest
     ∙ ap (λ (xs : List ℕ). xs ++ (front ++ rest)) c.head_back-head.ensures.is
-    ∙ ap (λ (xs : List ℕ). head_bytes (head_back c.args.config.now c.args.came.now n) ++ (xs ++ rest)) c.message_head-front.ensures.is
+    ∙ ap (λ (xs : List ℕ). head_bytes (head_back c.args.config.now c.args.came.now n) ++ (xs ++ rest))
+    c.message_head-front.ensures.is
     ∙ reflects c.args.config.now c.args.came.now body n (omega arith)

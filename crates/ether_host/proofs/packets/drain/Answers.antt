@@ -10,13 +10,15 @@ use Rattle.ether_host.proofs.packets.drain.Goals as goal
 pub returns-in-Some-send-clause-frame : goal.returns-in-Some-send-clause-frame
 returns-in-Some-send-clause-frame c =
     sym (ap (λ (d : Drained). d.frame)
-    (went _ (state_of c.loop-len.stack) (state_of c.take.new.stack) (take c.in-Some.len (drop 14 c.take.new.room)) (seen c.loop-len.layer) (seen c.send.new.self)
+    (went _ (state_of c.loop-len.stack) (state_of c.take.new.stack) (take c.in-Some.len (drop 14 c.take.new.room))
+    (seen c.loop-len.layer) (seen c.send.new.self)
     c.loop-len.invariant.same c.in-Some.ensures.step c.in-Some-send.ensures.link _ c.in-Some-send.ensures.frame))
 
 pub returns-in-Some-send-clause-link : goal.returns-in-Some-send-clause-link
 returns-in-Some-send-clause-link c =
     sym (ap (λ (d : Drained). d.link)
-    (went _ (state_of c.loop-len.stack) (state_of c.take.new.stack) (take c.in-Some.len (drop 14 c.take.new.room)) (seen c.loop-len.layer) (seen c.send.new.self)
+    (went _ (state_of c.loop-len.stack) (state_of c.take.new.stack) (take c.in-Some.len (drop 14 c.take.new.room))
+    (seen c.loop-len.layer) (seen c.send.new.self)
     c.loop-len.invariant.same c.in-Some.ensures.step c.in-Some-send.ensures.link _ c.in-Some-send.ensures.frame))
 
 pub returns-in-Some-send-clause-stack : goal.returns-in-Some-send-clause-stack
@@ -24,10 +26,12 @@ returns-in-Some-send-clause-stack c =
     let t : State = state_of c.take.new.stack in
     sym (
     ap (λ (d : Drained). with_output (state_of c.args.stack.now) d.output)
-    (went _ (state_of c.loop-len.stack) t (take c.in-Some.len (drop 14 c.take.new.room)) (seen c.loop-len.layer) (seen c.send.new.self)
+    (went _ (state_of c.loop-len.stack) t (take c.in-Some.len (drop 14 c.take.new.room)) (seen c.loop-len.layer)
+    (seen c.send.new.self)
     c.loop-len.invariant.same c.in-Some.ensures.step c.in-Some-send.ensures.link _ c.in-Some-send.ensures.frame)
     ∙ c.loop-len.invariant.rest t.output
-    ∙ same_rest (state_of c.loop-len.stack) t (take c.in-Some.len (drop 14 c.take.new.room)) c.in-Some.ensures.step t.output
+    ∙ same_rest (state_of c.loop-len.stack) t (take c.in-Some.len (drop 14 c.take.new.room)) c.in-Some.ensures.step
+    t.output
     )
 
 pub loop-len-preserved : goal.loop-len-preserved
@@ -35,11 +39,14 @@ loop-len-preserved c =
     let s : State = state_of c.loop-len.stack in
     let t : State = state_of c.take.new.stack in
     let p : List ℕ = take c.in-Some.len (drop 14 c.take.new.room) in
-    let config : t.config.mtu ≡ s.config.mtu = ap (λ (x : State). x.config.mtu) (sym (same_rest s t p c.in-Some.ensures.step [])) in
+    let config : t.config.mtu ≡ s.config.mtu =
+    ap (λ (x : State). x.config.mtu) (sym (same_rest s t p c.in-Some.ensures.step [])) in
     let mtu : s.config.mtu ≤ 1500 = c.loop-len.invariant.mtu in
     let room : 1514 ≤ _ = c.loop-len.invariant.room in
     record {
-      same = stayed _ s t p (seen c.loop-len.layer) (seen c.send.new.self) c.loop-len.invariant.same c.in-Some.ensures.step c.in_default-send.ensures.link c.in_default-send.ensures.frame;
+      same =
+          stayed _ s t p (seen c.loop-len.layer) (seen c.send.new.self) c.loop-len.invariant.same c.in-Some.ensures.step
+          c.in_default-send.ensures.link c.in_default-send.ensures.frame;
       rest = λ items. c.loop-len.invariant.rest items ∙ same_rest s t p c.in-Some.ensures.step items;
       mtu = omega arith;
       room = omega arith;
@@ -48,11 +55,13 @@ loop-len-preserved c =
 pub returns-clause-link : goal.returns-clause-link
 returns-clause-link c =
     let e = ended (state_of c.loop-len.stack) (state_of c.take.new.stack) c.in_default.ensures.step in
-    sym (ap (λ (d : Drained). d.link) (c.loop-len.invariant.same ∙ ap (λ (items : List Item). drained items (seen c.loop-len.layer)) e.1))
+    sym (ap (λ (d : Drained). d.link)
+    (c.loop-len.invariant.same ∙ ap (λ (items : List Item). drained items (seen c.loop-len.layer)) e.1))
 
 pub returns-clause-stack : goal.returns-clause-stack
 returns-clause-stack c =
     let s : State = state_of c.loop-len.stack in
     let e = ended s (state_of c.take.new.stack) c.in_default.ensures.step in
     e.0 ∙ ap (with_output s) e.1 ∙ sym (c.loop-len.invariant.rest [])
-    ∙ sym (ap (λ (d : Drained). with_output (state_of c.args.stack.now) d.output) (c.loop-len.invariant.same ∙ ap (λ (items : List Item). drained items (seen c.loop-len.layer)) e.1))
+    ∙ sym (ap (λ (d : Drained). with_output (state_of c.args.stack.now) d.output)
+    (c.loop-len.invariant.same ∙ ap (λ (items : List Item). drained items (seen c.loop-len.layer)) e.1))

@@ -9,9 +9,12 @@ pub walk-preserved : goal.walk-preserved
 walk-preserved c =
     let ps : List PacketBuffer = c.walk.held.items in
     let here : c.walk.at < length ps = omega (arith, c.walk.held.ok.0, c.len.ensures, c.walk-test.true) in
-    let hopeless : has_hope_in c.args.neighbours.now c.index.result.now ≡ false = ap is_some (sym c.place_of.ensures) ∙ sym c.is_some.ensures ∙ c.if-is_some.false in
+    let hopeless : has_hope_in c.args.neighbours.now c.index.result.now ≡ false =
+    ap is_some (sym c.place_of.ensures) ∙ sym c.is_some.ensures ∙ c.if-is_some.false in
     record {
-      kept = c.walk.invariant.kept ∙ kept_off c.args.neighbours.now ps c.walk.at c.index.result.now here c.index.ensures hopeless
+      kept =
+          c.walk.invariant.kept ∙ kept_off c.args.neighbours.now ps c.walk.at c.index.result.now here c.index.ensures
+          hopeless
           ∙ ap (λ (xs : List PacketBuffer). kept_from c.args.neighbours.now xs c.walk.at) (sym c.remove.ensures.items);
       within = omega (arith, here, c.remove.ensures.len, c.walk.held.ok.0, c.remove.new.self.ok.0);
       room = c.remove.ensures.capacity ∙ c.walk.invariant.room;
@@ -19,5 +22,6 @@ walk-preserved c =
 
 pub returns-clause-kept : goal.returns-clause-kept
 returns-clause-kept c =
-    let all : length c.walk.held.items ≤ c.walk.at = omega (arith, c.walk.held.ok.0, c.len.ensures, c.walk-test.false) in
+    let all : length c.walk.held.items ≤ c.walk.at =
+    omega (arith, c.walk.held.ok.0, c.len.ensures, c.walk-test.false) in
     sym (c.walk.invariant.kept ∙ kept_all c.args.neighbours.now c.walk.held.items c.walk.at all)

@@ -12,4 +12,5 @@ pub returns-clause-loose : goal.returns-clause-loose
 returns-clause-loose c = print_of_run loose_ledger
 
 pub returns-clause-whole : goal.returns-clause-whole
-returns-clause-whole c = λ config lines printed new. print_of_run exact_ledger all_events (boot config) new lines printed
+returns-clause-whole c =
+    λ config lines printed new. print_of_run exact_ledger all_events (boot config) new lines printed

@@ -10,4 +10,5 @@ pub returns-clause-step : goal.returns-clause-step
 returns-clause-step c = step_is_consistent
 
 pub returns-clause-run : goal.returns-clause-run
-returns-clause-run c = λ config turns new boots run. run_is_consistent (boot config) new turns (boot_is_consistent config boots) run
+returns-clause-run c =
+    λ config turns new boots run. run_is_consistent (boot config) new turns (boot_is_consistent config boots) run

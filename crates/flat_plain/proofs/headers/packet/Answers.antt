@@ -7,4 +7,5 @@ pub returns : goal.returns
 returns c =
     c.in_ok-extend_from_slice.ensures.items
     ∙ ap (λ xs. xs ++ c.args.carried.now) c.in_ok-bytes.ensures.items
-    ∙ packet_is (head_for c.args.head) c.args.carried.now c.header-blank.result c.header-full.result c.checksum.result c.header-blank.ensures c.checksum.ensures c.header-full.ensures
+    ∙ packet_is (head_for c.args.head) c.args.carried.now c.header-blank.result c.header-full.result c.checksum.result
+    c.header-blank.ensures c.checksum.ensures c.header-full.ensures

@@ -5,4 +5,6 @@ use Rattle.flat_plain.proofs.Placing.{count_next}
 use Rattle.flat_plain.proofs.maps.+staying.Goals as goal
 
 pub returns-then-stays-clause-number : goal.returns-then-stays-clause-number
-returns-then-stays-clause-number t c = count_next (λ k. stays c.args.offset (map_of c.args.cells.now k)) c.args.at c.args.n c.staying-later.result true (omega arith) (sym c.if-stays.ensures) c.staying-later.ensures.number
+returns-then-stays-clause-number t c =
+    count_next (λ k. stays c.args.offset (map_of c.args.cells.now k)) c.args.at c.args.n c.staying-later.result true
+    (omega arith) (sym c.if-stays.ensures) c.staying-later.ensures.number

@@ -6,11 +6,14 @@ use Rattle.flat_plain.proofs.Cutting.{cut_short, cut_long, cut_step}
 use Rattle.flat_plain.proofs.parts.cuts.Goals as goal
 
 pub returns-then-n-mtu-clause-parts : goal.returns-then-n-mtu-clause-parts
-returns-then-n-mtu-clause-parts c = ap (map part_of) c.in_ok-push.ensures.items ∙ rw c.new-parts.ensures.items (sym (cut_short c.args.n c.args.mtu (omega arith)))
+returns-then-n-mtu-clause-parts c =
+    ap (map part_of) c.in_ok-push.ensures.items
+    ∙ rw c.new-parts.ensures.items (sym (cut_short c.args.n c.args.mtu (omega arith)))
 
 pub loop-i-preserved : goal.loop-i-preserved
 loop-i-preserved c = (
-  cut_step c.loop-i.parts.items c.push-in-loop-i.new.self.items c.part_at.result c.args.n ((c.args.mtu - 20) / 8 * 8) c.loop-i.i c.loop-i.invariant.0 c.in_ok-push-2.ensures.items c.part_at.ensures,
+  cut_step c.loop-i.parts.items c.push-in-loop-i.new.self.items c.part_at.result c.args.n ((c.args.mtu - 20) / 8 * 8)
+      c.loop-i.i c.loop-i.invariant.0 c.in_ok-push-2.ensures.items c.part_at.ensures,
   c.in_ok-push-2.ensures.len ∙ ap (λ k. k + 1) c.loop-i.invariant.1,
 )
 

@@ -4,4 +4,5 @@ use Rattle.flat_plain.specs.Ports.{state_of}
 use Rattle.flat_plain.proofs.ports.next_port.Given as goal
 
 abbrev pub invariant-loop-k : goal.invariant-loop-k
-invariant-loop-k l = (j : ℕ) → j < l.k → Calls.is_in_use (state_of l.pcbs l.last) l.local (Calls.port_after l.last j) ≡ true
+invariant-loop-k l =
+    (j : ℕ) → j < l.k → Calls.is_in_use (state_of l.pcbs l.last) l.local (Calls.port_after l.last j) ≡ true

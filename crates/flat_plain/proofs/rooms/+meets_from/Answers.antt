@@ -8,8 +8,12 @@ returns-in-empty-clause-number t c = sym (meets_empty c.args.rooms.now c.args.at
 
 pub returns-then-max-min-clause-number : goal.returns-then-max-min-clause-number
 returns-then-max-min-clause-number t c =
-    sym (meets_at c.args.rooms.now _ c.args.at c.args.a c.args.b c.size.result c.meets_from-later.result true c.in-len1-up.len_at_least c.size.ensures (lt-ltb _ _ (omega (arith, c.max.ensures, c.min.ensures))) c.meets_from-later.ensures.number)
+    sym (meets_at c.args.rooms.now _ c.args.at c.args.a c.args.b c.size.result c.meets_from-later.result true
+    c.in-len1-up.len_at_least c.size.ensures (lt-ltb _ _ (omega (arith, c.max.ensures, c.min.ensures)))
+    c.meets_from-later.ensures.number)
 
 pub returns-else-max-min-clause-number : goal.returns-else-max-min-clause-number
 returns-else-max-min-clause-number t c =
-    sym (meets_at c.args.rooms.now _ c.args.at c.args.a c.args.b c.size.result c.meets_from-later.result false c.in-len1-up.len_at_least c.size.ensures (le-ltb _ _ (omega (arith, c.max.ensures, c.min.ensures))) c.meets_from-later.ensures.number)
+    sym (meets_at c.args.rooms.now _ c.args.at c.args.a c.args.b c.size.result c.meets_from-later.result false
+    c.in-len1-up.len_at_least c.size.ensures (le-ltb _ _ (omega (arith, c.max.ensures, c.min.ensures)))
+    c.meets_from-later.ensures.number)

@@ -11,6 +11,11 @@ returns-in-empty t c = met_none c.args.entries.now c.args.at c.args.a c.args.b _
 
 pub returns-in_ok-add_met-in-len1-up : goal.returns-in_ok-add_met-in-len1-up
 returns-in_ok-add_met-in-len1-up t c = elim c.if-max-min.branch [
-  | then-max-min+in_ok-add-in-len1-up w ↦ met_step c.args.entries.now _ c.args.at c.args.a c.args.b true _ _ _ c.in-len1-up.len_at_least (lt-ltb _ _ (omega (arith, w.if-max-min, c.max.ensures, c.min.ensures))) (ap weight_of w.weight-is ∙ w.in_ok-add-in-len1-up.ensures) c.in_ok-add_met-in-len1-up.ensures
-  | else-max-min w ↦ met_step c.args.entries.now _ c.args.at c.args.a c.args.b false _ _ _ c.in-len1-up.len_at_least (le-ltb _ _ (omega (arith, w.if-max-min, c.max.ensures, c.min.ensures))) (ap weight_of w.weight-is ∙ sym (both-nothing (weight_of c.args.weight.now))) c.in_ok-add_met-in-len1-up.ensures
+  | then-max-min+in_ok-add-in-len1-up w ↦
+      met_step c.args.entries.now _ c.args.at c.args.a c.args.b true _ _ _ c.in-len1-up.len_at_least
+      (lt-ltb _ _ (omega (arith, w.if-max-min, c.max.ensures, c.min.ensures)))
+      (ap weight_of w.weight-is ∙ w.in_ok-add-in-len1-up.ensures) c.in_ok-add_met-in-len1-up.ensures
+  | else-max-min w ↦ met_step c.args.entries.now _ c.args.at c.args.a c.args.b false _ _ _ c.in-len1-up.len_at_least
+      (le-ltb _ _ (omega (arith, w.if-max-min, c.max.ensures, c.min.ensures)))
+      (ap weight_of w.weight-is ∙ sym (both-nothing (weight_of c.args.weight.now))) c.in_ok-add_met-in-len1-up.ensures
 ]

@@ -11,4 +11,5 @@ pub record AreAdded (have pieces : flat.Weight) (k : ℕ) : Type 0 where
   pub most : have.mbufs ≤ 2 ^ 32 * k
 
 abbrev pub invariant-loop-k : goal.invariant-loop-k
-invariant-loop-k l = AreAdded (weight_of l.weight) (flat.all_of (λ piece. piece.weight) (pieces_below l.k (map_of l.cells))) l.k
+invariant-loop-k l =
+    AreAdded (weight_of l.weight) (flat.all_of (λ piece. piece.weight) (pieces_below l.k (map_of l.cells))) l.k

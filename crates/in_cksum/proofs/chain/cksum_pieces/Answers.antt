@@ -10,8 +10,11 @@ pub mbufs-init : goal.mbufs-init
 mbufs-init c = record {
   done = [];
   sum = λ before known. known ∙ ap sum_of (sym (append-nil before));
-  all = ap (λ (ps : List (List ℕ)). take c.args.len (drop c.args.off (concat ps))) (c.into_iter-piece-iterator.ensures.into_iter_gives ∙ c.pieces-piece-items.ensures)
-      ∙ ap (λ (xs : List ℕ). take c.args.len (drop c.args.off xs)) (concat_pieces (chain_of c.args.pool.now c.args.chain.now));
+  all =
+      ap (λ (ps : List (List ℕ)). take c.args.len (drop c.args.off (concat ps)))
+      (c.into_iter-piece-iterator.ensures.into_iter_gives ∙ c.pieces-piece-items.ensures)
+      ∙ ap (λ (xs : List ℕ). take c.args.len (drop c.args.off xs))
+      (concat_pieces (chain_of c.args.pool.now c.args.chain.now));
 }
 
 pub mbufs-preserved-then-skip-piece : goal.mbufs-preserved-then-skip-piece
@@ -31,8 +34,10 @@ mbufs-preserved-then-skip-piece c =
           ∙ ap sum_of (append_assoc before inv.done part);
       all =
           append_assoc inv.done part (take (c.mbufs.left - k) rest)
-          ∙ ap (λ (xs : List ℕ). inv.done ++ xs) (sym (piece_taken piece rest skip k c.mbufs.left (omega (arith, c.if-skip-piece.true)) c.min-count.ensures))
-          ∙ ap (λ (ps : List (List ℕ)). inv.done ++ take c.mbufs.left (drop skip (concat ps))) (sym c.in-Some.ensures.steps)
+          ∙ ap (λ (xs : List ℕ). inv.done ++ xs)
+          (sym (piece_taken piece rest skip k c.mbufs.left (omega (arith, c.if-skip-piece.true)) c.min-count.ensures))
+          ∙ ap (λ (ps : List (List ℕ)). inv.done ++ take c.mbufs.left (drop skip (concat ps)))
+          (sym c.in-Some.ensures.steps)
           ∙ inv.all;
     }
 
@@ -45,7 +50,9 @@ mbufs-preserved c =
       done = inv.done;
       sum = inv.sum;
       all =
-          ap (λ (xs : List ℕ). inv.done ++ take c.mbufs.left xs) (sym (drop_over c.mbufs.skip piece rest c.if-skip-piece.false))
-          ∙ ap (λ (ps : List (List ℕ)). inv.done ++ take c.mbufs.left (drop c.mbufs.skip (concat ps))) (sym c.in-Some.ensures.steps)
+          ap (λ (xs : List ℕ). inv.done ++ take c.mbufs.left xs)
+          (sym (drop_over c.mbufs.skip piece rest c.if-skip-piece.false))
+          ∙ ap (λ (ps : List (List ℕ)). inv.done ++ take c.mbufs.left (drop c.mbufs.skip (concat ps)))
+          (sym c.in-Some.ensures.steps)
           ∙ inv.all;
     }

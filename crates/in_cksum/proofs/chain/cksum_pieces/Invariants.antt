@@ -8,5 +8,6 @@ abbrev pub invariant-mbufs : goal.invariant-mbufs
 invariant-mbufs l = record {
   done : List ℕ;
   sum : (before : List ℕ) → l.fn.start ≡ sum_of before → l.sum ≡ sum_of (before ++ done);
-  all : done ++ take l.left (drop l.skip (concat l.piece-iterator)) ≡ take l.len (drop l.off (string (chain_of l.pool l.chain)));
+  all : done ++ take l.left (drop l.skip (concat l.piece-iterator))
+      ≡ take l.len (drop l.off (string (chain_of l.pool l.chain)));
 }

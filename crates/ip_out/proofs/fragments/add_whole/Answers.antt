@@ -32,39 +32,57 @@ overwrite-requires-clause-within c =
 
 pub insert-requires-clause-live : goal.insert-requires-clause-live
 insert-requires-clause-live c =
-    let w = headed_whole c.args.train.now c.args.chain c.args.len c.first-at.result c.write_head.new.bytes c.requires.held c.requires.apart c.requires.live c.requires.len c.first-at.ensures.index c.overwrite.ensures in
+    let w =
+    headed_whole c.args.train.now c.args.chain c.args.len c.first-at.result c.write_head.new.bytes c.requires.held
+    c.requires.apart c.requires.live c.requires.len c.first-at.ensures.index c.overwrite.ensures in
     w.live
 
 pub insert-requires-clause-headed : goal.insert-requires-clause-headed
 insert-requires-clause-headed c =
-    let w = headed_whole c.args.train.now c.args.chain c.args.len c.first-at.result c.write_head.new.bytes c.requires.held c.requires.apart c.requires.live c.requires.len c.first-at.ensures.index c.overwrite.ensures in
+    let w =
+    headed_whole c.args.train.now c.args.chain c.args.len c.first-at.result c.write_head.new.bytes c.requires.held
+    c.requires.apart c.requires.live c.requires.len c.first-at.ensures.index c.overwrite.ensures in
     ap (λ (x : ChainView). x.front.header) w.shown ∙ c.requires.datagram.headed
 
 pub insert-requires-clause-held : goal.insert-requires-clause-held
 insert-requires-clause-held c =
-    let w = headed_whole c.args.train.now c.args.chain c.args.len c.first-at.result c.write_head.new.bytes c.requires.held c.requires.apart c.requires.live c.requires.len c.first-at.ensures.index c.overwrite.ensures in
+    let w =
+    headed_whole c.args.train.now c.args.chain c.args.len c.first-at.result c.write_head.new.bytes c.requires.held
+    c.requires.apart c.requires.live c.requires.len c.first-at.ensures.index c.overwrite.ensures in
     w.beside.held
 
 pub insert-requires-clause-apart : goal.insert-requires-clause-apart
 insert-requires-clause-apart c =
-    let w = headed_whole c.args.train.now c.args.chain c.args.len c.first-at.result c.write_head.new.bytes c.requires.held c.requires.apart c.requires.live c.requires.len c.first-at.ensures.index c.overwrite.ensures in
+    let w =
+    headed_whole c.args.train.now c.args.chain c.args.len c.first-at.result c.write_head.new.bytes c.requires.held
+    c.requires.apart c.requires.live c.requires.len c.first-at.ensures.index c.overwrite.ensures in
     w.apart
 
 pub returns-clause-packets : goal.returns-clause-packets
 returns-clause-packets c mtu fits =
-    let w = headed_whole c.args.train.now c.args.chain c.args.len c.first-at.result c.write_head.new.bytes c.requires.held c.requires.apart c.requires.live c.requires.len c.first-at.ensures.index c.overwrite.ensures in
-    let x : QueuedPacket = record { number = c.args.chain; entries = (chain_of c.overwrite.new.self c.args.chain).entries; tag = 0 } in
+    let w =
+    headed_whole c.args.train.now c.args.chain c.args.len c.first-at.result c.write_head.new.bytes c.requires.held
+    c.requires.apart c.requires.live c.requires.len c.first-at.ensures.index c.overwrite.ensures in
+    let x : QueuedPacket =
+    record { number = c.args.chain; entries = (chain_of c.overwrite.new.self c.args.chain).entries; tag = 0 } in
     let end = ap (λ (k : ℕ). insert (queued_packets c.overwrite.new.self c.args.train.now) k x) c.len-end.ensures in
-    whole_added c.insert.new.pool c.insert.new.self c.args.chain c.args.len mtu c.args.head c.write_head.new.bytes c.requires.datagram c.requires.len fits c.write_head.ensures w (c.insert.ensures.queued_packets ∙ end)
+    whole_added c.insert.new.pool c.insert.new.self c.args.chain c.args.len mtu c.args.head c.write_head.new.bytes
+    c.requires.datagram c.requires.len fits c.write_head.ensures w (c.insert.ensures.queued_packets ∙ end)
 
 pub returns-clause-plain : goal.returns-clause-plain
 returns-clause-plain c before =
-    let w = headed_whole c.args.train.now c.args.chain c.args.len c.first-at.result c.write_head.new.bytes c.requires.held c.requires.apart c.requires.live c.requires.len c.first-at.ensures.index c.overwrite.ensures in
-    let x : QueuedPacket = record { number = c.args.chain; entries = (chain_of c.overwrite.new.self c.args.chain).entries; tag = 0 } in
+    let w =
+    headed_whole c.args.train.now c.args.chain c.args.len c.first-at.result c.write_head.new.bytes c.requires.held
+    c.requires.apart c.requires.live c.requires.len c.first-at.ensures.index c.overwrite.ensures in
+    let x : QueuedPacket =
+    record { number = c.args.chain; entries = (chain_of c.overwrite.new.self c.args.chain).entries; tag = 0 } in
     let end = ap (λ (k : ℕ). insert (queued_packets c.overwrite.new.self c.args.train.now) k x) c.len-end.ensures in
-    plain_added c.insert.new.pool c.insert.new.self c.args.chain c.args.len c.write_head.new.bytes c.requires.datagram w (c.insert.ensures.queued_packets ∙ end) before
+    plain_added c.insert.new.pool c.insert.new.self c.args.chain c.args.len c.write_head.new.bytes c.requires.datagram w
+    (c.insert.ensures.queued_packets ∙ end) before
 
 pub returns-clause-moves : goal.returns-clause-moves
 returns-clause-moves c =
-    let w = headed_whole c.args.train.now c.args.chain c.args.len c.first-at.result c.write_head.new.bytes c.requires.held c.requires.apart c.requires.live c.requires.len c.first-at.ensures.index c.overwrite.ensures in
+    let w =
+    headed_whole c.args.train.now c.args.chain c.args.len c.first-at.result c.write_head.new.bytes c.requires.held
+    c.requires.apart c.requires.live c.requires.len c.first-at.ensures.index c.overwrite.ensures in
     moves_trans w.moves c.insert.ensures.moves

@@ -14,15 +14,20 @@ pub overwrite-requires-clause-unshared : goal.overwrite-requires-clause-unshared
 overwrite-requires-clause-unshared c =
     let l = c.in-Ok.ensures.ok in
     let v : ChainView = chain_of c.args.pool.now c.args.chain in
-    let e = entry_trimmed c.args.chain (20 + c.min.result) c.first-at.result l.moves c.requires.live c.trim_back.ensures c.first-at.ensures.index in
+    let e =
+    entry_trimmed c.args.chain (20 + c.min.result) c.first-at.result l.moves c.requires.live c.trim_back.ensures
+    c.first-at.ensures.index in
     plain_unshared c.trim_back.new.pool (entry_in c.trim_back.new.pool c.args.chain c.first-at.result)
-    (ap (λ (x : Entry). x.cluster) e ∙ (only_some v.entries (20 + c.min.result) c.requires.datagram.room (omega arith)).1 ∙ c.requires.datagram.plain)
+    (ap (λ (x : Entry). x.cluster) e
+    ∙ (only_some v.entries (20 + c.min.result) c.requires.datagram.room (omega arith)).1 ∙ c.requires.datagram.plain)
 
 pub overwrite-requires-clause-within : goal.overwrite-requires-clause-within
 overwrite-requires-clause-within c =
     let l = c.in-Ok.ensures.ok in
     let v : ChainView = chain_of c.args.pool.now c.args.chain in
-    let e = entry_trimmed c.args.chain (20 + c.min.result) c.first-at.result l.moves c.requires.live c.trim_back.ensures c.first-at.ensures.index in
+    let e =
+    entry_trimmed c.args.chain (20 + c.min.result) c.first-at.result l.moves c.requires.live c.trim_back.ensures
+    c.first-at.ensures.index in
     omega (
       arith,
       ap (λ (x : Entry). length x.bytes) e,
@@ -34,52 +39,94 @@ overwrite-requires-clause-within c =
 pub insert-requires-clause-live : goal.insert-requires-clause-live
 insert-requires-clause-live c =
     let l = c.in-Ok.ensures.ok in
-    let w = written c.args.chain (20 + c.min.result) c.first-at.result c.write_head.new.bytes l.moves l.held c.requires.live c.trim_back.ensures c.first-at.ensures.index c.overwrite.ensures in
+    let w =
+    written c.args.chain (20 + c.min.result) c.first-at.result c.write_head.new.bytes l.moves l.held c.requires.live
+    c.trim_back.ensures c.first-at.ensures.index c.overwrite.ensures in
     w.live
 
 pub insert-requires-clause-headed : goal.insert-requires-clause-headed
 insert-requires-clause-headed c =
     let l = c.in-Ok.ensures.ok in
-    let w = written c.args.chain (20 + c.min.result) c.first-at.result c.write_head.new.bytes l.moves l.held c.requires.live c.trim_back.ensures c.first-at.ensures.index c.overwrite.ensures in
+    let w =
+    written c.args.chain (20 + c.min.result) c.first-at.result c.write_head.new.bytes l.moves l.held c.requires.live
+    c.trim_back.ensures c.first-at.ensures.index c.overwrite.ensures in
     ap (λ (x : ChainView). x.front.header) w.shown ∙ c.requires.datagram.headed
 
 pub insert-requires-clause-held : goal.insert-requires-clause-held
 insert-requires-clause-held c =
     let l = c.in-Ok.ensures.ok in
-    let w = written c.args.chain (20 + c.min.result) c.first-at.result c.write_head.new.bytes l.moves l.held c.requires.live c.trim_back.ensures c.first-at.ensures.index c.overwrite.ensures in
+    let w =
+    written c.args.chain (20 + c.min.result) c.first-at.result c.write_head.new.bytes l.moves l.held c.requires.live
+    c.trim_back.ensures c.first-at.ensures.index c.overwrite.ensures in
     w.beside.held
 
 pub insert-requires-clause-apart : goal.insert-requires-clause-apart
 insert-requires-clause-apart c =
     let l = c.in-Ok.ensures.ok in
-    let w = written c.args.chain (20 + c.min.result) c.first-at.result c.write_head.new.bytes l.moves l.held c.requires.live c.trim_back.ensures c.first-at.ensures.index c.overwrite.ensures in
+    let w =
+    written c.args.chain (20 + c.min.result) c.first-at.result c.write_head.new.bytes l.moves l.held c.requires.live
+    c.trim_back.ensures c.first-at.ensures.index c.overwrite.ensures in
     w.apart
 
 pub returns-clause-packets : goal.returns-clause-packets
 returns-clause-packets c =
     let l = c.in-Ok.ensures.ok in
-    let w = written c.args.chain (20 + c.min.result) c.first-at.result c.write_head.new.bytes l.moves l.held c.requires.live c.trim_back.ensures c.first-at.ensures.index c.overwrite.ensures in
-    let len : length c.write_head.new.bytes ≡ 20 = ap (λ (xs : List ℕ). length xs) c.write_head.ensures ∙ length_head c.head_of.result in
-    packets_are c.insert.new.pool c.insert.new.self c.args.chain _ _ (20 + c.min.result) _ c.args.mtu c.args.head c.head_of.result c.write_head.new.bytes c.requires.datagram (omega (arith, c.requires.len, string_long (chain_of c.args.pool.now c.args.chain).entries c.requires.datagram.room)) c.cut_of-cut.ensures.cut l
+    let w =
+    written c.args.chain (20 + c.min.result) c.first-at.result c.write_head.new.bytes l.moves l.held c.requires.live
+    c.trim_back.ensures c.first-at.ensures.index c.overwrite.ensures in
+    let len : length c.write_head.new.bytes ≡ 20 =
+    ap (λ (xs : List ℕ). length xs) c.write_head.ensures ∙ length_head c.head_of.result in
+    packets_are c.insert.new.pool c.insert.new.self c.args.chain _ _ (20 + c.min.result) _ c.args.mtu c.args.head
+    c.head_of.result c.write_head.new.bytes c.requires.datagram
+    (omega (
+      arith,
+      c.requires.len,
+      string_long (chain_of c.args.pool.now c.args.chain).entries
+          c.requires.datagram.room,
+    )) c.cut_of-cut.ensures.cut l
     (ap (λ (k : ℕ). 20 + k) c.min.ensures) c.head_of.ensures c.write_head.ensures len w c.insert.ensures.queued_packets
 
 pub returns-clause-plain : goal.returns-clause-plain
 returns-clause-plain c =
     let l = c.in-Ok.ensures.ok in
-    let w = written c.args.chain (20 + c.min.result) c.first-at.result c.write_head.new.bytes l.moves l.held c.requires.live c.trim_back.ensures c.first-at.ensures.index c.overwrite.ensures in
-    begun_plain c.insert.new.pool c.insert.new.self c.args.chain (20 + c.min.result) c.write_head.new.bytes c.requires.datagram l.plain w c.insert.ensures.queued_packets
+    let w =
+    written c.args.chain (20 + c.min.result) c.first-at.result c.write_head.new.bytes l.moves l.held c.requires.live
+    c.trim_back.ensures c.first-at.ensures.index c.overwrite.ensures in
+    begun_plain c.insert.new.pool c.insert.new.self c.args.chain (20 + c.min.result) c.write_head.new.bytes
+    c.requires.datagram l.plain w c.insert.ensures.queued_packets
 
 pub returns-clause-count : goal.returns-clause-count
 returns-clause-count c =
     let l = c.in-Ok.ensures.ok in
-    let w = written c.args.chain (20 + c.min.result) c.first-at.result c.write_head.new.bytes l.moves l.held c.requires.live c.trim_back.ensures c.first-at.ensures.index c.overwrite.ensures in
-    let len : length c.write_head.new.bytes ≡ 20 = ap (λ (xs : List ℕ). length xs) c.write_head.ensures ∙ length_head c.head_of.result in
-    let all = packets_are c.insert.new.pool c.insert.new.self c.args.chain _ _ (20 + c.min.result) _ c.args.mtu c.args.head c.head_of.result c.write_head.new.bytes c.requires.datagram (omega (arith, c.requires.len, string_long (chain_of c.args.pool.now c.args.chain).entries c.requires.datagram.room)) c.cut_of-cut.ensures.cut l
-    (ap (λ (k : ℕ). 20 + k) c.min.ensures) c.head_of.ensures c.write_head.ensures len w c.insert.ensures.queued_packets in
-    held_packets c.insert.new.self c.args.chain _ _ _ c.args.mtu c.args.head (moves_trans w.moves c.insert.ensures.moves) c.requires.live c.cut_of-cut.ensures.cut (omega (arith, c.requires.len, string_long (chain_of c.args.pool.now c.args.chain).entries c.requires.datagram.room)) all
+    let w =
+    written c.args.chain (20 + c.min.result) c.first-at.result c.write_head.new.bytes l.moves l.held c.requires.live
+    c.trim_back.ensures c.first-at.ensures.index c.overwrite.ensures in
+    let len : length c.write_head.new.bytes ≡ 20 =
+    ap (λ (xs : List ℕ). length xs) c.write_head.ensures ∙ length_head c.head_of.result in
+    let all =
+    packets_are c.insert.new.pool c.insert.new.self c.args.chain _ _ (20 + c.min.result) _ c.args.mtu c.args.head
+    c.head_of.result c.write_head.new.bytes c.requires.datagram
+    (omega (
+      arith,
+      c.requires.len,
+      string_long (chain_of c.args.pool.now c.args.chain).entries
+          c.requires.datagram.room,
+    )) c.cut_of-cut.ensures.cut l
+    (ap (λ (k : ℕ). 20 + k) c.min.ensures) c.head_of.ensures c.write_head.ensures len w c.insert.ensures.queued_packets
+    in
+    held_packets c.insert.new.self c.args.chain _ _ _ c.args.mtu c.args.head
+    (moves_trans w.moves c.insert.ensures.moves) c.requires.live c.cut_of-cut.ensures.cut
+    (omega (
+      arith,
+      c.requires.len,
+      string_long (chain_of c.args.pool.now c.args.chain).entries
+          c.requires.datagram.room,
+    )) all
 
 pub returns-clause-moves : goal.returns-clause-moves
 returns-clause-moves c =
     let l = c.in-Ok.ensures.ok in
-    let w = written c.args.chain (20 + c.min.result) c.first-at.result c.write_head.new.bytes l.moves l.held c.requires.live c.trim_back.ensures c.first-at.ensures.index c.overwrite.ensures in
+    let w =
+    written c.args.chain (20 + c.min.result) c.first-at.result c.write_head.new.bytes l.moves l.held c.requires.live
+    c.trim_back.ensures c.first-at.ensures.index c.overwrite.ensures in
     moves_trans w.moves c.insert.ensures.moves

@@ -8,7 +8,8 @@ use Rattle.ip_out.proofs.needs.count.Goals as goal
 
 pub returns-then-n-le-MAX_SHARED-clause-need : goal.returns-then-n-le-MAX_SHARED-clause-need
 returns-then-n-le-MAX_SHARED-clause-need c =
-    let mbufs = short_is c.args.n c.args.mtu _ _ _ (omega arith) c.later_of-chunk.ensures.counts c.later_met.ensures.value in
+    let mbufs =
+    short_is c.args.n c.args.mtu _ _ _ (omega arith) c.later_of-chunk.ensures.counts c.later_met.ensures.value in
     let clusters = short_clusters c.args.n c.args.mtu (omega arith) in
     λ i. record { mbufs = mbufs i; clusters = sym clusters i }
 
@@ -47,8 +48,17 @@ pub returns-clause-need : goal.returns-clause-need
 returns-clause-need c =
     let inv = c.rooms.invariant in
     let z : c.rooms.left ≡ 0 = omega arith in
-    let none : filled c.rooms.left c.rooms.large c.rooms.small c.rooms.left ≡ [] = ap (λ (k : ℕ). filled k c.rooms.large c.rooms.small k) z ∙ filled_none c.rooms.large c.rooms.small in
+    let none : filled c.rooms.left c.rooms.large c.rooms.small c.rooms.left ≡ [] =
+    ap (λ (k : ℕ). filled k c.rooms.large c.rooms.small k) z ∙ filled_none c.rooms.large c.rooms.small in
     let at : ℕ = 28 + (c.args.n - c.rooms.left) in
-    let mbufs : c.rooms.mbufs ≡ (Layout.need c.args.n c.args.mtu).mbufs = omega (arith, inv.mbufs, ap (λ (rooms : List Room). length rooms + over rooms at (later_parts c.args.n c.args.mtu)) none, over_none at (later_parts c.args.n c.args.mtu)) in
-    let clusters : c.rooms.clusters ≡ (Layout.need c.args.n c.args.mtu).clusters = omega (arith, inv.clusters, ap (count_by is_cluster) none) in
+    let mbufs : c.rooms.mbufs ≡ (Layout.need c.args.n c.args.mtu).mbufs =
+    omega (
+      arith,
+      inv.mbufs,
+      ap (λ (rooms : List Room). length rooms
+          + over rooms at (later_parts c.args.n c.args.mtu)) none,
+      over_none at (later_parts c.args.n c.args.mtu),
+    ) in
+    let clusters : c.rooms.clusters ≡ (Layout.need c.args.n c.args.mtu).clusters =
+    omega (arith, inv.clusters, ap (count_by is_cluster) none) in
     λ i. record { mbufs = mbufs i; clusters = clusters i }

@@ -11,7 +11,9 @@ invariant-rooms l = record {
   left : l.left ≤ l.n;
   large : 0 < l.large;
   small : 0 < l.small;
-  mbufs : l.mbufs + (length (filled l.left l.large l.small l.left) + over (filled l.left l.large l.small l.left) (28 + (l.n - l.left)) (later_parts l.n l.mtu)) ≡ (Layout.need l.n l.mtu).mbufs;
+  mbufs : l.mbufs + (length (filled l.left l.large l.small l.left)
+      + over (filled l.left l.large l.small l.left) (28 + (l.n - l.left)) (later_parts l.n l.mtu)) ≡ (Layout.need l.n
+      l.mtu).mbufs;
   clusters : l.clusters + count_by is_cluster (filled l.left l.large l.small l.left) ≡ (Layout.need l.n l.mtu).clusters;
   few : l.mbufs ≤ 70000 + 2732 * (l.n - l.left);
   some : l.clusters ≤ l.n - l.left;

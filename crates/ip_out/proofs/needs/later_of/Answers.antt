@@ -9,4 +9,5 @@ returns-then-n-mtu-clause-counts c = counts_none c.args.n c.args.mtu c.requires.
 pub returns-clause-counts : goal.returns-clause-counts
 returns-clause-counts c =
     subst (λ (k : ℕ). Counts c.args.n c.args.mtu c.cut_of-cut.result.chunk (k - 1)) (sym c.cut_of-cut.ensures.count)
-    (counts_some c.args.n c.args.mtu c.cut_of-cut.result.chunk c.requires.short c.requires.least (omega arith) c.cut_of-cut.ensures.chunk)
+    (counts_some c.args.n c.args.mtu c.cut_of-cut.result.chunk c.requires.short c.requires.least (omega arith)
+    c.cut_of-cut.ensures.chunk)

@@ -10,19 +10,33 @@ use Rattle.ip_out.proofs.queue.move_packets.Goals.{then-packets-test+else-len-gt
 
 pub insert-requires-clause-held : goal.insert-requires-clause-held
 insert-requires-clause-held c =
-    (takes _ _ _ _ _ _ _ _ _ _ c.packets.invariant (omega (arith, c.if-len-gt0.true, c.len-in-packets.ensures)) c.take-packet.ensures.queued_packets c.take-packet.ensures.taken c.take-packet.ensures.held c.take-packet.ensures.moves).beside
+    (takes _ _ _ _ _ _ _ _ _ _ c.packets.invariant (omega (arith, c.if-len-gt0.true, c.len-in-packets.ensures))
+    c.take-packet.ensures.queued_packets c.take-packet.ensures.taken c.take-packet.ensures.held
+    c.take-packet.ensures.moves).beside
 
 pub insert-requires-clause-apart : goal.insert-requires-clause-apart
 insert-requires-clause-apart c =
-    (takes _ _ _ _ _ _ _ _ _ _ c.packets.invariant (omega (arith, c.if-len-gt0.true, c.len-in-packets.ensures)) c.take-packet.ensures.queued_packets c.take-packet.ensures.taken c.take-packet.ensures.held c.take-packet.ensures.moves).apart
+    (takes _ _ _ _ _ _ _ _ _ _ c.packets.invariant (omega (arith, c.if-len-gt0.true, c.len-in-packets.ensures))
+    c.take-packet.ensures.queued_packets c.take-packet.ensures.taken c.take-packet.ensures.held
+    c.take-packet.ensures.moves).apart
 
 pub packets-preserved : goal.packets-preserved
 packets-preserved c =
-    let taken = takes _ _ _ _ _ _ _ _ _ _ c.packets.invariant (omega (arith, c.if-len-gt0.true, c.len-in-packets.ensures)) c.take-packet.ensures.queued_packets c.take-packet.ensures.taken c.take-packet.ensures.held c.take-packet.ensures.moves in
-    let new : QueuedPacket = record { number = c.take-packet.result.0; entries = (chain_of c.take-packet.new.pool c.take-packet.result.0).entries; tag = 0 } in
-    let end : insert (queued_packets c.take-packet.new.pool c.packets.train) c.len-end.result new ≡ insert (queued_packets c.take-packet.new.pool c.packets.train) c.packets.train.len new =
+    let taken =
+    takes _ _ _ _ _ _ _ _ _ _ c.packets.invariant (omega (arith, c.if-len-gt0.true, c.len-in-packets.ensures))
+    c.take-packet.ensures.queued_packets c.take-packet.ensures.taken c.take-packet.ensures.held
+    c.take-packet.ensures.moves in
+    let new : QueuedPacket =
+    record {
+      number = c.take-packet.result.0;
+      entries = (chain_of c.take-packet.new.pool c.take-packet.result.0).entries;
+      tag = 0;
+    } in
+    let end : insert (queued_packets c.take-packet.new.pool c.packets.train) c.len-end.result new
+    ≡ insert (queued_packets c.take-packet.new.pool c.packets.train) c.packets.train.len new =
     ap (λ (k : ℕ). insert (queued_packets c.take-packet.new.pool c.packets.train) k new) c.len-end.ensures in
-    puts _ _ _ _ _ _ _ _ _ taken (omega (arith, c.packets-test.true, c.len.ensures)) (c.insert.ensures.queued_packets ∙ end) c.insert.ensures.held c.insert.ensures.len c.insert.ensures.moves
+    puts _ _ _ _ _ _ _ _ _ taken (omega (arith, c.packets-test.true, c.len.ensures))
+    (c.insert.ensures.queued_packets ∙ end) c.insert.ensures.held c.insert.ensures.len c.insert.ensures.moves
 
 pub returns-clause-packets : goal.returns-clause-packets
 returns-clause-packets c =

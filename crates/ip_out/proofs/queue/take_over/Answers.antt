@@ -15,17 +15,27 @@ pub returns-clause-packets : goal.returns-clause-packets
 returns-clause-packets c =
     let ys : List Item = packets c.args.pool.now c.args.more in
     ap (packets c.args.pool.now) c.replace.ensures.after
-    ∙ sym (ap (λ (xs : List Item). take OUTPUT_QUEUE_PACKETS (xs ++ ys)) (none_wait c.args.pool.now c.args.train.now c.requires.none)
-    ∙ take_all OUTPUT_QUEUE_PACKETS ys (omega (arith, packets_len c.args.pool.now c.args.more c.requires.more, c.requires.few)))
+    ∙ sym (ap (λ (xs : List Item). take OUTPUT_QUEUE_PACKETS (xs ++ ys))
+    (none_wait c.args.pool.now c.args.train.now c.requires.none)
+    ∙ take_all OUTPUT_QUEUE_PACKETS ys
+    (omega (arith, packets_len c.args.pool.now c.args.more c.requires.more, c.requires.few)))
 
 pub returns-clause-lost : goal.returns-clause-lost
 returns-clause-lost c =
     let ys : List Item = packets c.args.pool.now c.args.more in
-    sym (le-ltb _ _ (omega (arith, ap (λ (xs : List Item). length (xs ++ ys)) (none_wait c.args.pool.now c.args.train.now c.requires.none), packets_len c.args.pool.now c.args.more c.requires.more, c.requires.few)))
+    sym (le-ltb _ _ (omega (
+      arith,
+      ap (λ (xs : List Item). length (xs ++ ys))
+          (none_wait c.args.pool.now c.args.train.now c.requires.none),
+      packets_len c.args.pool.now c.args.more c.requires.more,
+      c.requires.few,
+    )))
 
 pub returns-clause-moves : goal.returns-clause-moves
 returns-clause-moves c =
     let p = c.args.pool.now in
     let none : Moves p (numbers p c.args.train.now ++ numbers p c.args.more) p (numbers p c.args.more) =
-    subst (λ (xs : List ℕ). Moves p (xs ++ numbers p c.args.more) p (numbers p c.args.more)) (sym (none_left p c.args.train.now c.requires.none)) (moves_none _ _) in
-    subst (λ (t : TrainView). Moves p (numbers p c.args.train.now ++ numbers p c.args.more) p (numbers p t)) (sym c.replace.ensures.after) none
+    subst (λ (xs : List ℕ). Moves p (xs ++ numbers p c.args.more) p (numbers p c.args.more))
+    (sym (none_left p c.args.train.now c.requires.none)) (moves_none _ _) in
+    subst (λ (t : TrainView). Moves p (numbers p c.args.train.now ++ numbers p c.args.more) p (numbers p t))
+    (sym c.replace.ensures.after) none

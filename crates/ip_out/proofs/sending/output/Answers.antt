@@ -11,55 +11,91 @@ use Rattle.ip_out.proofs.sending.output.Goals as goal
 
 pub returns-in_default-clause-plain : goal.returns-in_default-clause-plain
 returns-in_default-clause-plain c = λ before.
-    let gone = moves_without c.args.pool.now c.fragments.new.pool c.args.chain c.requires.live c.in_default.ensures.freed in
-    subst AreBegunPlain (sym (aside c.args.chain c.args.queue.now gone c.requires.live c.requires.queue.held c.requires.apart).same_queued) before
+    let gone =
+    moves_without c.args.pool.now c.fragments.new.pool c.args.chain c.requires.live c.in_default.ensures.freed in
+    subst AreBegunPlain (sym (aside c.args.chain c.args.queue.now gone c.requires.live c.requires.queue.held
+    c.requires.apart).same_queued) before
 
 pub returns-in_default-clause-queue : goal.returns-in_default-clause-queue
 returns-in_default-clause-queue c = record {
-  held = (aside_gone c.args.chain c.args.queue.now c.in_default.ensures.freed c.requires.live c.requires.queue.held c.requires.apart).0;
+  held =
+      (aside_gone c.args.chain c.args.queue.now c.in_default.ensures.freed c.requires.live c.requires.queue.held
+      c.requires.apart).0;
   room = c.requires.queue.room;
 }
 
 pub returns-in_default-clause-moves : goal.returns-in_default-clause-moves
-returns-in_default-clause-moves c = (aside_gone c.args.chain c.args.queue.now c.in_default.ensures.freed c.requires.live c.requires.queue.held c.requires.apart).1
+returns-in_default-clause-moves c =
+    (aside_gone c.args.chain c.args.queue.now c.in_default.ensures.freed c.requires.live c.requires.queue.held
+    c.requires.apart).1
 
 pub push_all-requires-clause-queue : goal.push_all-requires-clause-queue
 push_all-requires-clause-queue c = record {
-  held = (aside c.args.chain c.args.queue.now c.in-Ok.ensures.moves c.requires.live c.requires.queue.held c.requires.apart).held;
+  held =
+      (aside c.args.chain c.args.queue.now c.in-Ok.ensures.moves c.requires.live c.requires.queue.held
+      c.requires.apart).held;
   room = c.requires.queue.room;
 }
 
 pub push_all-requires-clause-owned : goal.push_all-requires-clause-owned
-push_all-requires-clause-owned c = (aside c.args.chain c.args.queue.now c.in-Ok.ensures.moves c.requires.live c.requires.queue.held c.requires.apart).owned
+push_all-requires-clause-owned c =
+    (aside c.args.chain c.args.queue.now c.in-Ok.ensures.moves c.requires.live c.requires.queue.held
+    c.requires.apart).owned
 
 pub returns-then-push_all-clause-err : goal.returns-then-push_all-clause-err
 returns-then-push_all-clause-err c =
-    let a = aside c.args.chain c.args.queue.now c.in-Ok.ensures.moves c.requires.live c.requires.queue.held c.requires.apart in
-    let all : List Item = packets c.args.pool.now c.args.queue.now ++ packets_of (chain_of c.args.pool.now c.args.chain) c.args.head c.args.mtu in
-    let same : packets c.fragments.new.pool c.args.queue.now ++ packets c.fragments.new.pool c.in-Ok.packets ≡ all = λ i. a.same_packets i ++ c.in-Ok.ensures.packets i in
-    let over : nat_lt OUTPUT_QUEUE_PACKETS (length all) ≡ true = sym (ap (λ (xs : List Item). nat_lt OUTPUT_QUEUE_PACKETS (length xs)) same) ∙ sym c.push_all.ensures.lost ∙ c.if-push_all.true in
-    (c.in-Ok.ensures.enough, ltb-true OUTPUT_QUEUE_PACKETS (length all) over, c.push_all.ensures.packets ∙ ap (take OUTPUT_QUEUE_PACKETS) same)
+    let a =
+    aside c.args.chain c.args.queue.now c.in-Ok.ensures.moves c.requires.live c.requires.queue.held c.requires.apart
+    in
+    let all : List Item =
+    packets c.args.pool.now c.args.queue.now
+    ++ packets_of (chain_of c.args.pool.now c.args.chain) c.args.head c.args.mtu in
+    let same : packets c.fragments.new.pool c.args.queue.now ++ packets c.fragments.new.pool c.in-Ok.packets ≡ all =
+    λ i. a.same_packets i ++ c.in-Ok.ensures.packets i in
+    let over : nat_lt OUTPUT_QUEUE_PACKETS (length all) ≡ true =
+    sym (ap (λ (xs : List Item). nat_lt OUTPUT_QUEUE_PACKETS (length xs)) same) ∙ sym c.push_all.ensures.lost
+    ∙ c.if-push_all.true in (
+      c.in-Ok.ensures.enough,
+      ltb-true OUTPUT_QUEUE_PACKETS (length all) over,
+      c.push_all.ensures.packets
+          ∙ ap (take OUTPUT_QUEUE_PACKETS) same,
+    )
 
 pub returns-then-push_all-clause-plain : goal.returns-then-push_all-clause-plain
 returns-then-push_all-clause-plain c = λ before.
-    let a = aside c.args.chain c.args.queue.now c.in-Ok.ensures.moves c.requires.live c.requires.queue.held c.requires.apart in
+    let a =
+    aside c.args.chain c.args.queue.now c.in-Ok.ensures.moves c.requires.live c.requires.queue.held c.requires.apart
+    in
     c.push_all.ensures.plain (subst AreBegunPlain (sym a.same_queued) before) c.in-Ok.ensures.plain
 
 pub returns-then-push_all-clause-moves : goal.returns-then-push_all-clause-moves
-returns-then-push_all-clause-moves c = moves_trans (aside c.args.chain c.args.queue.now c.in-Ok.ensures.moves c.requires.live c.requires.queue.held c.requires.apart).moves c.push_all.ensures.moves
+returns-then-push_all-clause-moves c =
+    moves_trans (aside c.args.chain c.args.queue.now c.in-Ok.ensures.moves c.requires.live c.requires.queue.held
+    c.requires.apart).moves c.push_all.ensures.moves
 
 pub returns-clause-ok : goal.returns-clause-ok
 returns-clause-ok c =
-    let a = aside c.args.chain c.args.queue.now c.in-Ok.ensures.moves c.requires.live c.requires.queue.held c.requires.apart in
-    let all : List Item = packets c.args.pool.now c.args.queue.now ++ packets_of (chain_of c.args.pool.now c.args.chain) c.args.head c.args.mtu in
-    let same : packets c.fragments.new.pool c.args.queue.now ++ packets c.fragments.new.pool c.in-Ok.packets ≡ all = λ i. a.same_packets i ++ c.in-Ok.ensures.packets i in
-    let within : nat_lt OUTPUT_QUEUE_PACKETS (length all) ≡ false = sym (ap (λ (xs : List Item). nat_lt OUTPUT_QUEUE_PACKETS (length xs)) same) ∙ sym c.push_all.ensures.lost ∙ c.if-push_all.false in
+    let a =
+    aside c.args.chain c.args.queue.now c.in-Ok.ensures.moves c.requires.live c.requires.queue.held c.requires.apart
+    in
+    let all : List Item =
+    packets c.args.pool.now c.args.queue.now
+    ++ packets_of (chain_of c.args.pool.now c.args.chain) c.args.head c.args.mtu in
+    let same : packets c.fragments.new.pool c.args.queue.now ++ packets c.fragments.new.pool c.in-Ok.packets ≡ all =
+    λ i. a.same_packets i ++ c.in-Ok.ensures.packets i in
+    let within : nat_lt OUTPUT_QUEUE_PACKETS (length all) ≡ false =
+    sym (ap (λ (xs : List Item). nat_lt OUTPUT_QUEUE_PACKETS (length xs)) same) ∙ sym c.push_all.ensures.lost
+    ∙ c.if-push_all.false in
     (c.in-Ok.ensures.enough, c.push_all.ensures.packets ∙ ap (take OUTPUT_QUEUE_PACKETS) same ∙ all_fit all within)
 
 pub returns-clause-plain : goal.returns-clause-plain
 returns-clause-plain c = λ before.
-    let a = aside c.args.chain c.args.queue.now c.in-Ok.ensures.moves c.requires.live c.requires.queue.held c.requires.apart in
+    let a =
+    aside c.args.chain c.args.queue.now c.in-Ok.ensures.moves c.requires.live c.requires.queue.held c.requires.apart
+    in
     c.push_all.ensures.plain (subst AreBegunPlain (sym a.same_queued) before) c.in-Ok.ensures.plain
 
 pub returns-clause-moves : goal.returns-clause-moves
-returns-clause-moves c = moves_trans (aside c.args.chain c.args.queue.now c.in-Ok.ensures.moves c.requires.live c.requires.queue.held c.requires.apart).moves c.push_all.ensures.moves
+returns-clause-moves c =
+    moves_trans (aside c.args.chain c.args.queue.now c.in-Ok.ensures.moves c.requires.live c.requires.queue.held
+    c.requires.apart).moves c.push_all.ensures.moves

@@ -22,6 +22,8 @@ mbufs-preserved c =
           ∙ append_assoc (take at c.mbufs.room) piece rest
           ∙ ap (λ (ps : List (List ℕ)). take at c.mbufs.room ++ concat ps) (sym c.in-Some.ensures.steps)
           ∙ c.mbufs.invariant.copied;
-      kept = λ n le. drop-put_mid at _ c.mbufs.room c.copy_from_slice.new.self n (omega (arith, le)) room (omega (arith, size))
+      kept =
+          λ n le. drop-put_mid at _ c.mbufs.room c.copy_from_slice.new.self n (omega (arith, le)) room
+          (omega (arith, size))
           ∙ c.mbufs.invariant.kept n (omega (arith, le));
     }

@@ -12,5 +12,6 @@ copy_all-requires c =
 pub returns-clause-packet : goal.returns-clause-packet
 returns-clause-packet c =
     ap Some c.copy_all.ensures.copied
-    ∙ sym (nth_found c.args.pool.now c.args.train.now c.args.i c.place_at-at.result.index c.pieces_at.result c.requires.held
+    ∙ sym (nth_found c.args.pool.now c.args.train.now c.args.i c.place_at-at.result.index c.pieces_at.result
+    c.requires.held
     (omega (arith, c.len.ensures, c.if-i-len.false)) c.place_at-at.ensures.index c.pieces_at.ensures)

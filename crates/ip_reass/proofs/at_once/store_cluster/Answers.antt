@@ -9,7 +9,14 @@ use Rattle.ip_reass.proofs.AtOnce.{carried_are, put_before}
 use Rattle.ip_reass.proofs.at_once.store_cluster.Goals as goal
 
 pub unreachable-requires-in_default-new_plain_with : goal.unreachable-requires-in_default-new_plain_with
-unreachable-requires-in_default-new_plain_with c = omega (arith, c.in_default-new_plain_with.ensures.err, held-adds c.in-Ok.ensures.ok.3, ap (λ (q : PoolView). q.mbufs) c.in-Ok.ensures.ok.3.pool, c.requires.mbufs)
+unreachable-requires-in_default-new_plain_with c =
+    omega (
+      arith,
+      c.in_default-new_plain_with.ensures.err,
+      held-adds c.in-Ok.ensures.ok.3,
+      ap (λ (q : PoolView). q.mbufs) c.in-Ok.ensures.ok.3.pool,
+      c.requires.mbufs,
+    )
 
 pub first-last-requires : goal.first-last-requires
 first-last-requires c = live_adds c.in-Ok-new_plain_with.ensures.ok
@@ -18,17 +25,22 @@ pub link_counted-requires-clause-front : goal.link_counted-requires-clause-front
 link_counted-requires-clause-front c = live_adds c.in-Ok-new_plain_with.ensures.ok
 
 pub link_counted-requires-clause-back : goal.link_counted-requires-clause-back
-link_counted-requires-clause-back c = live_beside _ _ _ _ c.in-Ok-new_plain_with.ensures.ok _ (live_adds c.in-Ok.ensures.ok.3)
+link_counted-requires-clause-back c =
+    live_beside _ _ _ _ c.in-Ok-new_plain_with.ensures.ok _ (live_adds c.in-Ok.ensures.ok.3)
 
 pub link_counted-requires-clause-apart : goal.link_counted-requires-clause-apart
-link_counted-requires-clause-apart c = λ same. apart _ _ _ _ c.in-Ok-new_plain_with.ensures.ok _ (live_adds c.in-Ok.ensures.ok.3) (sym same)
+link_counted-requires-clause-apart c =
+    λ same. apart _ _ _ _ c.in-Ok-new_plain_with.ensures.ok _ (live_adds c.in-Ok.ensures.ok.3) (sym same)
 
 pub link_counted-requires-clause-last : goal.link_counted-requires-clause-last
-link_counted-requires-clause-last c = omega (arith, c.first-last.ensures.index, count_new _ _ _ _ _ c.in-Ok-new_plain_with.ensures.ok)
+link_counted-requires-clause-last c =
+    omega (arith, c.first-last.ensures.index, count_new _ _ _ _ _ c.in-Ok-new_plain_with.ensures.ok)
 
 pub link_counted-requires-clause-len : goal.link_counted-requires-clause-len
 link_counted-requires-clause-len c =
-    sym (ap (λ v. length (Rattle.mbuf_chain.specs.Chain.string v)) (kept_adds _ _ _ _ _ c.in-Ok-new_plain_with.ensures.ok (live_adds c.in-Ok.ensures.ok.3)) ∙ string_one _ _ _ _ _ c.in-Ok.ensures.ok.3)
+    sym (ap (λ v. length (Rattle.mbuf_chain.specs.Chain.string v))
+    (kept_adds _ _ _ _ _ c.in-Ok-new_plain_with.ensures.ok (live_adds c.in-Ok.ensures.ok.3))
+    ∙ string_one _ _ _ _ _ c.in-Ok.ensures.ok.3)
 
 pub returns : goal.returns
 returns c =
@@ -37,6 +49,8 @@ returns c =
       k,
       c.in-Ok.ensures.ok.1,
       c.in-Ok.ensures.ok.2,
-      makes_as _ _ _ (put_before _ _ _ _ _ _ _ _ c.in-Ok.ensures.ok.3 c.in-Ok-new_plain_with.ensures.ok c.link_counted.ensures.change)
-          Rattle.std.proofs.Common.refl Rattle.std.proofs.Common.refl (carried_are packet k (omega (arith, c.requires.many))),
+      makes_as _ _ _ (put_before _ _ _ _ _ _ _ _ c.in-Ok.ensures.ok.3 c.in-Ok-new_plain_with.ensures.ok
+          c.link_counted.ensures.change)
+          Rattle.std.proofs.Common.refl Rattle.std.proofs.Common.refl
+          (carried_are packet k (omega (arith, c.requires.many))),
     )

@@ -17,6 +17,10 @@ pub rows-preserved : goal.rows-preserved
 rows-preserved c =
     let d : Row = record { bucket = 0; before = 0 } in
     let b = (get_or c.rows.rows (c.rows.k + 1) d).bucket in
-    let more = closed_more c.rows.lasts c.args.rows.now c.rows.rows c.args.place c.rows.k c.args.len d (record { bucket = b; before = get_or c.rows.lasts b 0 })
-    c.rows.invariant.linked c.rows.invariant.done c.rows.invariant.rest (λ j e lt. omega (arith, c.requires.inside j e lt, c.rows.auto.lasts)) (omega (arith, c.rows.auto.k)) (omega (arith, c.rows-test.true)) c.requires.len c.rows.auto.rows refl refl in
+    let more =
+    closed_more c.rows.lasts c.args.rows.now c.rows.rows c.args.place c.rows.k c.args.len d
+    (record { bucket = b; before = get_or c.rows.lasts b 0 })
+    c.rows.invariant.linked c.rows.invariant.done c.rows.invariant.rest
+    (λ j e lt. omega (arith, c.requires.inside j e lt, c.rows.auto.lasts)) (omega (arith, c.rows.auto.k))
+    (omega (arith, c.rows-test.true)) c.requires.len c.rows.auto.rows refl refl in
     record { linked = more.0; done = more.1; rest = more.2 }

@@ -7,8 +7,13 @@ use Rattle.ip_reass.proofs.lay.take_out.Goals as goal
 
 pub returns-clause-takes : goal.returns-clause-takes
 returns-clause-takes c =
-    subst (λ (ds : List Datagram). TakesOut c.args.pool.now c.args.table.now.items c.args.i c.join_all.result c.join_all.new.pool ds) (sym c.remove-holder.ensures.items)
-    (taken_out c.args.pool.now c.free_chain.new.self c.join_all.new.pool c.args.table.now.items c.args.i c.join_all.result c.remove-holder.result c.requires.table c.requires.place c.remove-holder.ensures.value c.free_chain.ensures c.join_all.ensures.entries c.join_all.ensures.front c.join_all.ensures.moves)
+    subst (λ (ds : List Datagram). TakesOut c.args.pool.now c.args.table.now.items c.args.i c.join_all.result
+    c.join_all.new.pool ds) (sym c.remove-holder.ensures.items)
+    (taken_out c.args.pool.now c.free_chain.new.self c.join_all.new.pool c.args.table.now.items c.args.i
+    c.join_all.result c.remove-holder.result c.requires.table c.requires.place c.remove-holder.ensures.value
+    c.free_chain.ensures c.join_all.ensures.entries c.join_all.ensures.front c.join_all.ensures.moves)
 
 pub join_all-requires-clause-held : goal.join_all-requires-clause-held
-join_all-requires-clause-held c = held_then c.args.pool.now c.free_chain.new.self c.args.table.now.items c.args.i c.remove-holder.result c.requires.table c.requires.place c.remove-holder.ensures.value c.free_chain.ensures
+join_all-requires-clause-held c =
+    held_then c.args.pool.now c.free_chain.new.self c.args.table.now.items c.args.i c.remove-holder.result
+    c.requires.table c.requires.place c.remove-holder.ensures.value c.free_chain.ensures

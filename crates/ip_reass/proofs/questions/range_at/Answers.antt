@@ -10,15 +10,29 @@ use Rattle.ip_reass.proofs.questions.range_at.Goals as goal
 pub returns-then-k-len : goal.returns-then-k-len
 returns-then-k-len c =
     let fs : List Fragment = fragments c.args.pool.now c.args.train.now in
-    sym (nth_past fs c.args.k c.requires.apart c.requires.small (omega (arith, length-fragments c.args.pool.now c.args.train.now c.requires.held, c.len.ensures, c.if-k-len.true)))
+    sym (nth_past fs c.args.k c.requires.apart c.requires.small
+    (omega (
+      arith,
+      length-fragments c.args.pool.now c.args.train.now c.requires.held,
+      c.len.ensures,
+      c.if-k-len.true,
+    )))
 
 pub returns : goal.returns
 returns c =
     let fs : List Fragment = fragments c.args.pool.now c.args.train.now in
     let within : c.args.k < c.args.train.now.len = omega (arith, c.len.ensures, c.if-k-len.false) in
-    let offset = c.offset.ensures ∙ starts_at c.args.pool.now c.args.train.now c.args.k c.tag.result c.requires.held within c.tag.ensures in
-    let len = c.chain_len.ensures ∙ ap (λ (f : Fragment). length f.bytes) (sym (fragment_is c.args.pool.now c.args.train.now c.args.k c.requires.held within)) in
-    let more = c.more.ensures ∙ more_at c.args.pool.now c.args.train.now c.args.k c.tag.result c.requires.held within c.tag.ensures in
+    let offset =
+    c.offset.ensures ∙ starts_at c.args.pool.now c.args.train.now c.args.k c.tag.result c.requires.held within
+    c.tag.ensures in
+    let len =
+    c.chain_len.ensures ∙ ap (λ (f : Fragment). length f.bytes)
+    (sym (fragment_is c.args.pool.now c.args.train.now c.args.k c.requires.held within)) in
+    let more =
+    c.more.ensures ∙ more_at c.args.pool.now c.args.train.now c.args.k c.tag.result c.requires.held within
+    c.tag.ensures in
     let told : HeldRange = record { offset = c.offset.result; len = c.chain_len.result; more = c.more.result } in
-    let same : told ≡ held_by (fragment_at fs c.args.k) = λ i. record { offset = offset i; len = len i; more = more i } in
-    ap Some same ∙ sym (nth_is fs c.args.k c.requires.apart c.requires.small (omega (arith, within, length-fragments c.args.pool.now c.args.train.now c.requires.held)))
+    let same : told ≡ held_by (fragment_at fs c.args.k) =
+    λ i. record { offset = offset i; len = len i; more = more i } in
+    ap Some same ∙ sym (nth_is fs c.args.k c.requires.apart c.requires.small
+    (omega (arith, within, length-fragments c.args.pool.now c.args.train.now c.requires.held)))

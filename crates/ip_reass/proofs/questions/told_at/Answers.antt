@@ -9,6 +9,9 @@ pub returns : goal.returns
 returns c =
     let d : Datagram = c.index-table-i.result in
     let within : c.args.i < length c.args.table.now = omega (arith, c.if-i-table.false) in
-    let told : UnfinishedDatagram = record { key = d.key; ticks = d.ticks; bytes = c.from.result; ranges = c.len-ranges.result } in
-    let same : told ≡ told_from d = λ j. record { key = d.key; ticks = d.ticks; bytes = c.from.ensures j; ranges = c.len-ranges.ensures j } in
-    ap Some same ∙ sym (unfinished_here c.args.pool.now c.args.table.now c.args.i d c.requires.each (slice_get_read c.args.table.now (length c.args.table.now) c.args.i d refl within c.index-table-i.is))
+    let told : UnfinishedDatagram =
+    record { key = d.key; ticks = d.ticks; bytes = c.from.result; ranges = c.len-ranges.result } in
+    let same : told ≡ told_from d =
+    λ j. record { key = d.key; ticks = d.ticks; bytes = c.from.ensures j; ranges = c.len-ranges.ensures j } in
+    ap Some same ∙ sym (unfinished_here c.args.pool.now c.args.table.now c.args.i d c.requires.each
+    (slice_get_read c.args.table.now (length c.args.table.now) c.args.i d refl within c.index-table-i.is))

@@ -12,38 +12,64 @@ use Rattle.ip_reass.proofs.Whole.{held_most, held_within, open_stops, gap_stops,
 use Rattle.ip_reass.proofs.queue.append.Goals.{After-insert}
 use Rattle.ip_reass.proofs.queue.append.Goals as goal
 
-all : (c : After-insert) → Settled c.args.pool.now c.args.datagram.now.fragments c.args.datagram.now.fragments.len 0 c.args.chain (arrived c.args.pool.now c.args.chain c.args.span.offset c.args.span.more) c.insert.new.pool c.insert.new.self
+all : (c : After-insert) → Settled c.args.pool.now c.args.datagram.now.fragments c.args.datagram.now.fragments.len 0
+    c.args.chain (arrived c.args.pool.now c.args.chain c.args.span.offset c.args.span.more) c.insert.new.pool
+    c.insert.new.self
 all c =
-    appended c.args.pool.now c.insert.new.pool c.args.datagram.now.fragments c.insert.new.self c.args.chain c.len-place.result c.args.span.offset c.new-tag.result.bits c.args.span.more c.len-place.ensures
-    c.requires.queue.held c.new-tag.ensures.half c.new-tag.ensures.odd c.insert.ensures.queued_packets c.insert.ensures.moves
+    appended c.args.pool.now c.insert.new.pool c.args.datagram.now.fragments c.insert.new.self c.args.chain
+    c.len-place.result c.args.span.offset c.new-tag.result.bits c.args.span.more c.len-place.ensures
+    c.requires.queue.held c.new-tag.ensures.half c.new-tag.ensures.odd c.insert.ensures.queued_packets
+    c.insert.ensures.moves
 
-laid : (c : After-insert) → Laid c.args.pool.now c.args.datagram.now.fragments (arrived c.args.pool.now c.args.chain c.args.span.offset c.args.span.more) c.insert.new.pool c.insert.new.self
+laid : (c : After-insert) → Laid c.args.pool.now c.args.datagram.now.fragments
+    (arrived c.args.pool.now c.args.chain c.args.span.offset c.args.span.more) c.insert.new.pool c.insert.new.self
 laid c =
     let l = length-fragments c.args.pool.now c.args.datagram.now.fragments c.requires.queue.held in
     let fs : List Fragment = fragments c.args.pool.now c.args.datagram.now.fragments in
-    let whole : Rattle.std.proofs.Common.take c.args.datagram.now.fragments.len (fragments c.args.pool.now c.args.datagram.now.fragments) ≡ fragments c.args.pool.now c.args.datagram.now.fragments = take_all c.args.datagram.now.fragments.len (fragments c.args.pool.now c.args.datagram.now.fragments) (omega (arith, l)) in
-    let none : Rattle.std.proofs.Common.drop c.args.datagram.now.fragments.len (fragments c.args.pool.now c.args.datagram.now.fragments) ≡ Rattle.std.proofs.Common.[] = drop_all c.args.datagram.now.fragments.len (fragments c.args.pool.now c.args.datagram.now.fragments) (omega (arith, l)) in
-    laid_in c.args.pool.now c.insert.new.pool c.args.datagram.now.fragments c.insert.new.self c.args.datagram.now.fragments.len 0 c.args.chain (arrived c.args.pool.now c.args.chain c.args.span.offset c.args.span.more) c.requires.queue
-    (subst (AllUpto c.args.span.offset) (sym whole) (upto_reach c.args.span.offset 0 (fragments c.args.pool.now c.args.datagram.now.fragments) c.requires.queue.apart c.requires.past))
+    let whole : Rattle.std.proofs.Common.take c.args.datagram.now.fragments.len
+    (fragments c.args.pool.now c.args.datagram.now.fragments)
+    ≡ fragments c.args.pool.now c.args.datagram.now.fragments =
+    take_all c.args.datagram.now.fragments.len (fragments c.args.pool.now c.args.datagram.now.fragments)
+    (omega (arith, l)) in
+    let none : Rattle.std.proofs.Common.drop c.args.datagram.now.fragments.len
+    (fragments c.args.pool.now c.args.datagram.now.fragments) ≡ Rattle.std.proofs.Common.[] =
+    drop_all c.args.datagram.now.fragments.len (fragments c.args.pool.now c.args.datagram.now.fragments)
+    (omega (arith, l)) in
+    laid_in c.args.pool.now c.insert.new.pool c.args.datagram.now.fragments c.insert.new.self
+    c.args.datagram.now.fragments.len 0 c.args.chain
+    (arrived c.args.pool.now c.args.chain c.args.span.offset c.args.span.more) c.requires.queue
+    (subst (AllUpto c.args.span.offset) (sym whole)
+    (upto_reach c.args.span.offset 0 (fragments c.args.pool.now c.args.datagram.now.fragments) c.requires.queue.apart
+    c.requires.past))
     (subst (AllAbove c.args.span.offset) (sym none) tt)
     (omega (arith, c.requires.past, ap (reach 0) whole)) c.requires.some c.requires.small (all c)
 
-whole_of : (c : After-insert) → IsLast c.insert.new.pool c.insert.new.self c.len-place.result (fragment_of (arrived c.args.pool.now c.args.chain c.args.span.offset c.args.span.more))
+whole_of : (c : After-insert) → IsLast c.insert.new.pool c.insert.new.self c.len-place.result
+    (fragment_of (arrived c.args.pool.now c.args.chain c.args.span.offset c.args.span.more))
 whole_of c =
-    is_last c.args.pool.now c.insert.new.pool c.args.datagram.now.fragments c.insert.new.self c.len-place.result c.args.chain (arrived c.args.pool.now c.args.chain c.args.span.offset c.args.span.more) c.requires.queue.held c.len-place.ensures
-    (subst (λ (n : ℕ). Settled c.args.pool.now c.args.datagram.now.fragments n 0 c.args.chain (arrived c.args.pool.now c.args.chain c.args.span.offset c.args.span.more) c.insert.new.pool c.insert.new.self) (sym c.len-place.ensures) (all c))
+    is_last c.args.pool.now c.insert.new.pool c.args.datagram.now.fragments c.insert.new.self c.len-place.result
+    c.args.chain (arrived c.args.pool.now c.args.chain c.args.span.offset c.args.span.more) c.requires.queue.held
+    c.len-place.ensures
+    (subst (λ (n : ℕ). Settled c.args.pool.now c.args.datagram.now.fragments n 0 c.args.chain
+    (arrived c.args.pool.now c.args.chain c.args.span.offset c.args.span.more) c.insert.new.pool
+    c.insert.new.self) (sym c.len-place.ensures) (all c))
 
-counted : (c : After-insert) → c.from.result + c.len-len.result ≡ bytes_held (fragments c.insert.new.pool c.insert.new.self)
+counted : (c : After-insert) → c.from.result + c.len-len.result
+    ≡ bytes_held (fragments c.insert.new.pool c.insert.new.self)
 counted c =
     omega (
       arith,
       c.from.ensures,
       c.requires.counted,
       c.len-len.ensures,
-      held_after c.args.pool.now c.insert.new.pool c.args.datagram.now.fragments c.insert.new.self c.args.datagram.now.fragments.len (arrived c.args.pool.now c.args.chain c.args.span.offset c.args.span.more) c.requires.queue.held (all c).queue_is refl,
+      held_after c.args.pool.now c.insert.new.pool c.args.datagram.now.fragments c.insert.new.self
+          c.args.datagram.now.fragments.len (arrived c.args.pool.now c.args.chain c.args.span.offset c.args.span.more)
+          c.requires.queue.held (all c).queue_is refl,
     )
 
-is_laid : (c : After-insert) → IsLaid c.args.pool.now c.args.datagram.now c.args.chain (arrived c.args.pool.now c.args.chain c.args.span.offset c.args.span.more) true c.insert.new.pool (record (c.args.datagram.now) { fragments = c.insert.new.self; bytes = c.from.result + c.len-len.result })
+is_laid : (c : After-insert) → IsLaid c.args.pool.now c.args.datagram.now c.args.chain
+    (arrived c.args.pool.now c.args.chain c.args.span.offset c.args.span.more) true c.insert.new.pool
+    (record (c.args.datagram.now) { fragments = c.insert.new.self; bytes = c.from.result + c.len-len.result })
 is_laid c = record {
   same = refl;
   covered = (laid c).covered;
@@ -60,26 +86,60 @@ returns-then-span-clause-laid c = is_laid c.before
 
 pub returns-then-span-clause-whole : goal.returns-then-span-clause-whole
 returns-then-span-clause-whole c =
-    open_stops (fragments c.insert.new.pool c.insert.new.self) c.len-place.result (laid c.before).apart (whole_of c.before).len ((whole_of c.before).more ∙ c.if-span.true)
+    open_stops (fragments c.insert.new.pool c.insert.new.self) c.len-place.result (laid c.before).apart
+    (whole_of c.before).len ((whole_of c.before).more ∙ c.if-span.true)
 
 pub returns-then-bytes-span-clause-laid : goal.returns-then-bytes-span-clause-laid
 returns-then-bytes-span-clause-laid c = is_laid c.before.before.before
 
 pub returns-then-bytes-span-clause-whole : goal.returns-then-bytes-span-clause-whole
 returns-then-bytes-span-clause-whole c =
-    gap_stops (fragments c.insert.new.pool c.insert.new.self) (laid c.before.before.before).apart (omega (arith, counted c.before.before.before, (whole_of c.before.before.before).end, c.len-len.ensures, c.if-bytes-span.true))
+    gap_stops (fragments c.insert.new.pool c.insert.new.self) (laid c.before.before.before).apart
+    (omega (
+      arith,
+      counted c.before.before.before,
+      (whole_of c.before.before.before).end,
+      c.len-len.ensures,
+      c.if-bytes-span.true,
+    ))
 
 pub returns-clause-laid : goal.returns-clause-laid
 returns-clause-laid c = is_laid c.before.before.before
 
 pub returns-clause-whole : goal.returns-clause-whole
 returns-clause-whole c =
-    subst (λ (n : ℕ). IsWhole (map_of (fragments c.insert.new.pool c.insert.new.self)) n) (sym (counted c.before.before.before))
-    (whole_held (fragments c.insert.new.pool c.insert.new.self) c.len-place.result (laid c.before.before.before).apart (whole_of c.before.before.before).len ((whole_of c.before.before.before).more ∙ c.if-span.false)
-    (omega (arith, counted c.before.before.before, (whole_of c.before.before.before).end, c.len-len.ensures, c.if-bytes-span.false)))
+    subst (λ (n : ℕ). IsWhole (map_of (fragments c.insert.new.pool c.insert.new.self)) n)
+    (sym (counted c.before.before.before))
+    (whole_held (fragments c.insert.new.pool c.insert.new.self) c.len-place.result (laid c.before.before.before).apart
+    (whole_of c.before.before.before).len ((whole_of c.before.before.before).more ∙ c.if-span.false)
+    (omega (
+      arith,
+      counted c.before.before.before,
+      (whole_of c.before.before.before).end,
+      c.len-len.ensures,
+      c.if-bytes-span.false,
+    )))
 
 pub overflow_add-bytes : goal.overflow_add-bytes
-overflow_add-bytes c = omega (arith, c.from.ensures, c.requires.counted, held_within (fragments c.args.pool.now c.args.datagram.now.fragments) c.requires.queue.apart c.requires.queue.small, c.len-len.ensures, c.requires.small)
+overflow_add-bytes c =
+    omega (
+      arith,
+      c.from.ensures,
+      c.requires.counted,
+      held_within (fragments c.args.pool.now c.args.datagram.now.fragments) c.requires.queue.apart
+          c.requires.queue.small,
+      c.len-len.ensures,
+      c.requires.small,
+    )
 
 pub overflow_cast-datagram : goal.overflow_cast-datagram
-overflow_cast-datagram c = omega (arith, c.from.ensures, c.requires.counted, held_most 0 (fragments c.args.pool.now c.args.datagram.now.fragments) c.requires.queue.apart, c.requires.past, c.len-len.ensures, c.requires.small)
+overflow_cast-datagram c =
+    omega (
+      arith,
+      c.from.ensures,
+      c.requires.counted,
+      held_most 0 (fragments c.args.pool.now c.args.datagram.now.fragments) c.requires.queue.apart,
+      c.requires.past,
+      c.len-len.ensures,
+      c.requires.small,
+    )

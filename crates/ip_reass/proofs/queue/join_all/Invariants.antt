@@ -11,7 +11,8 @@ invariant-fragments l = record {
   held : IsHeld l.pool l.rest;
   apart : times l.chain (numbers l.pool l.rest) ≡ 0;
   front : (chain_of l.pool l.chain).front ≡ alone true;
-  entries : joined_after (chain_of l.pool l.chain).entries (queued l.pool l.rest) ≡ joined (queued l.fn.pool l.fn.train);
+  entries : joined_after (chain_of l.pool l.chain).entries (queued l.pool l.rest)
+      ≡ joined (queued l.fn.pool l.fn.train);
   place : IsPlace (chain_of l.pool l.chain) l.last;
   end : l.last.index + 1 ≡ length (chain_of l.pool l.chain).entries;
   moves : Moves l.fn.pool (numbers l.fn.pool l.fn.train) l.pool (l.chain ∷ numbers l.pool l.rest);

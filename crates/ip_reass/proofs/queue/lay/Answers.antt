@@ -5,5 +5,13 @@ use Rattle.ip_reass.proofs.queue.lay.Goals as goal
 
 pub returns-then-bytes-end-clause-whole : goal.returns-then-bytes-end-clause-whole
 returns-then-bytes-end-clause-whole c =
-    gap_stops (fragments c.lay_between.new.pool c.lay_between.new.datagram.fragments) c.lay_between.ensures.laid.queue.apart
-    (omega (arith, c.lay_between.ensures.laid.counted, c.lay_between.ensures.reach, c.end_of_last-end.ensures, c.if-bytes-end.true, c.from-bytes.ensures))
+    gap_stops (fragments c.lay_between.new.pool c.lay_between.new.datagram.fragments)
+    c.lay_between.ensures.laid.queue.apart
+    (omega (
+      arith,
+      c.lay_between.ensures.laid.counted,
+      c.lay_between.ensures.reach,
+      c.end_of_last-end.ensures,
+      c.if-bytes-end.true,
+      c.from-bytes.ensures,
+    ))

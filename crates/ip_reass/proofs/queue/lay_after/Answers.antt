@@ -11,26 +11,43 @@ use Rattle.ip_reass.proofs.Lays.{Waits, waits, Settled, settled}
 use Rattle.ip_reass.proofs.queue.lay_after.Goals as goal
 
 -- the chain trimmed: what clear needs
-change : (c : goal.After-clear-arg-2-1) → Changed c.args.pool.now c.args.train.now c.args.chain (record (chain_of c.args.pool.now c.args.chain) { entries = without_first c.saturating_sub-skip.result (chain_of c.args.pool.now c.args.chain).entries }) c.trim_front.new.pool
-change c = changed c.args.pool.now c.trim_front.new.pool c.args.train.now c.args.chain _ c.requires.live c.requires.apart c.requires.held c.trim_front.ensures
+change : (c : goal.After-clear-arg-2-1)
+    → Changed c.args.pool.now c.args.train.now c.args.chain
+    (record (chain_of c.args.pool.now c.args.chain) {
+      entries = without_first c.saturating_sub-skip.result (chain_of c.args.pool.now c.args.chain).entries;
+    }) c.trim_front.new.pool
+change c =
+    changed c.args.pool.now c.trim_front.new.pool c.args.train.now c.args.chain _ c.requires.live c.requires.apart
+    c.requires.held c.trim_front.ensures
 
 pub clear-gone-requires-clause-held : goal.clear-gone-requires-clause-held
 clear-gone-requires-clause-held c = (change c).held
 
 pub clear-gone-requires-clause-small : goal.clear-gone-requires-clause-small
-clear-gone-requires-clause-small c = subst (AllEnd 65515) (sym (ap (map fragment_in) (change c).queued_packets_are)) c.requires.small
+clear-gone-requires-clause-small c =
+    subst (AllEnd 65515) (sym (ap (map fragment_in) (change c).queued_packets_are)) c.requires.small
 
-wait : (c : goal.After-insert_after-arg-2-1) → Waits c.args.chain (record (chain_of c.args.pool.now c.args.chain) { entries = without_first c.saturating_sub-skip.result (chain_of c.args.pool.now c.args.chain).entries }) c.clear-gone.new.pool c.clear-gone.new.train
+wait : (c : goal.After-insert_after-arg-2-1)
+    → Waits c.args.chain (record (chain_of c.args.pool.now c.args.chain) {
+      entries = without_first c.saturating_sub-skip.result (chain_of c.args.pool.now c.args.chain).entries;
+    }) c.clear-gone.new.pool c.clear-gone.new.train
 wait c =
-    let v : ChainView = record (chain_of c.args.pool.now c.args.chain) { entries = without_first c.saturating_sub-skip.result (chain_of c.args.pool.now c.args.chain).entries } in
-    let change = changed c.args.pool.now c.trim_front.new.pool c.args.train.now c.args.chain v c.requires.live c.requires.apart c.requires.held c.trim_front.ensures in
-    waits c.trim_front.new.pool c.clear-gone.new.pool c.args.train.now c.clear-gone.new.train c.args.chain v change.live change.shown change.apart c.clear-gone.ensures.moves
+    let v : ChainView =
+    record (chain_of c.args.pool.now c.args.chain)
+    { entries = without_first c.saturating_sub-skip.result (chain_of c.args.pool.now c.args.chain).entries } in
+    let change =
+    changed c.args.pool.now c.trim_front.new.pool c.args.train.now c.args.chain v c.requires.live c.requires.apart
+    c.requires.held c.trim_front.ensures in
+    waits c.trim_front.new.pool c.clear-gone.new.pool c.args.train.now c.clear-gone.new.train c.args.chain v change.live
+    change.shown change.apart c.clear-gone.ensures.moves
 
 pub insert_after-requires-clause-front : goal.insert_after-requires-clause-front
 insert_after-requires-clause-front c = c.clear-gone.ensures.front
 
 pub clear-gone-requires-clause-front : goal.clear-gone-requires-clause-front
-clear-gone-requires-clause-front c = front_beside c.args.pool.now c.trim_front.new.pool c.args.train.now c.args.before.front ((change c).queued_packets_are) c.requires.front
+clear-gone-requires-clause-front c =
+    front_beside c.args.pool.now c.trim_front.new.pool c.args.train.now c.args.before.front
+    ((change c).queued_packets_are) c.requires.front
 
 pub insert_after-requires-clause-live : goal.insert_after-requires-clause-live
 insert_after-requires-clause-live c = (wait c).live
@@ -41,35 +58,53 @@ insert_after-requires-clause-headed c = ap (λ (v : ChainView). v.front.header) 
 pub insert_after-requires-clause-apart : goal.insert_after-requires-clause-apart
 insert_after-requires-clause-apart c = (wait c).apart
 
-all : (c : goal.After-insert_after) → Settled c.args.pool.now c.args.train.now (after c.args.before.front) c.saturating_sub-skip.result c.args.chain (arrived c.args.pool.now c.args.chain c.args.span.offset c.args.span.more) c.insert_after.new.pool c.insert_after.new.train
+all : (c : goal.After-insert_after)
+    → Settled c.args.pool.now c.args.train.now (after c.args.before.front) c.saturating_sub-skip.result c.args.chain
+    (arrived c.args.pool.now c.args.chain c.args.span.offset c.args.span.more) c.insert_after.new.pool
+    c.insert_after.new.train
 all c =
-    settled c.args.pool.now c.trim_front.new.pool c.clear-gone.new.pool c.insert_after.new.pool c.args.train.now c.clear-gone.new.train c.insert_after.new.train c.args.chain (after c.args.before.front) c.saturating_sub-skip.result c.args.span.offset (c.args.span.offset + c.len.result) c.new-tag.result.bits c.args.span.more
+    settled c.args.pool.now c.trim_front.new.pool c.clear-gone.new.pool c.insert_after.new.pool c.args.train.now
+    c.clear-gone.new.train c.insert_after.new.train c.args.chain (after c.args.before.front)
+    c.saturating_sub-skip.result c.args.span.offset (c.args.span.offset + c.len.result) c.new-tag.result.bits
+    c.args.span.more
     (front_within c.args.pool.now c.args.train.now c.args.before.front c.requires.front) c.requires.held
-    (changed c.args.pool.now c.trim_front.new.pool c.args.train.now c.args.chain _ c.requires.live c.requires.apart c.requires.held c.trim_front.ensures)
-    c.clear-gone.ensures.queue c.clear-gone.ensures.moves (ap (λ (n : ℕ). c.args.span.offset + n) c.len.ensures) c.new-tag.ensures.half c.new-tag.ensures.odd c.insert_after.ensures.queued_packets c.insert_after.ensures.moves
+    (changed c.args.pool.now c.trim_front.new.pool c.args.train.now c.args.chain _ c.requires.live c.requires.apart
+    c.requires.held c.trim_front.ensures)
+    c.clear-gone.ensures.queue c.clear-gone.ensures.moves (ap (λ (n : ℕ). c.args.span.offset + n) c.len.ensures)
+    c.new-tag.ensures.half c.new-tag.ensures.odd c.insert_after.ensures.queued_packets c.insert_after.ensures.moves
 
 pub returns-clause-queue : goal.returns-clause-queue
 returns-clause-queue c =
     let here = arrived c.args.pool.now c.args.chain c.args.span.offset c.args.span.more in
     let i = after c.args.before.front in
     let were = queued c.args.pool.now c.args.train.now in
-    (all c).queue_is ∙ ap (λ (n : ℕ). take i were ++ cut n here ∷ cut_to (queued_end here) (drop i were)) c.saturating_sub-skip.ensures
+    (all c).queue_is ∙ ap (λ (n : ℕ). take i were ++ cut n here ∷ cut_to (queued_end here) (drop i were))
+    c.saturating_sub-skip.ensures
 
 pub returns-clause-moves : goal.returns-clause-moves
 returns-clause-moves c = (all c).moves
 
-counted : (c : goal.After-insert_after) → bytes_held (fragments c.insert_after.new.pool c.insert_after.new.train) ≡ bytes_held (fragments c.clear-gone.new.pool c.clear-gone.new.train) + (length (flat_bytes (chain_of c.args.pool.now c.args.chain).entries) - c.saturating_sub-skip.result)
+counted : (c : goal.After-insert_after)
+    → bytes_held (fragments c.insert_after.new.pool c.insert_after.new.train)
+    ≡ bytes_held (fragments c.clear-gone.new.pool c.clear-gone.new.train)
+    + (length (flat_bytes (chain_of c.args.pool.now c.args.chain).entries) - c.saturating_sub-skip.result)
 counted c =
     let here = arrived c.args.pool.now c.args.chain c.args.span.offset c.args.span.more in
     let i = after c.args.before.front in
     let were = queued c.args.pool.now c.args.train.now in
-    let is : queued c.trim_front.new.pool c.args.train.now ≡ queued c.args.pool.now c.args.train.now = ap (map queued_of) (changed c.args.pool.now c.trim_front.new.pool c.args.train.now c.args.chain _ c.requires.live c.requires.apart c.requires.held c.trim_front.ensures).queued_packets_are in
-    held_between c.clear-gone.new.pool c.insert_after.new.pool c.clear-gone.new.train c.insert_after.new.train c.saturating_sub-skip.result (take i were) (cut_to (c.args.span.offset + c.len.result) (drop i were))
+    let is : queued c.trim_front.new.pool c.args.train.now ≡ queued c.args.pool.now c.args.train.now =
+    ap (map queued_of) (changed c.args.pool.now c.trim_front.new.pool c.args.train.now c.args.chain _ c.requires.live
+    c.requires.apart c.requires.held c.trim_front.ensures).queued_packets_are in
+    held_between c.clear-gone.new.pool c.insert_after.new.pool c.clear-gone.new.train c.insert_after.new.train
+    c.saturating_sub-skip.result (take i were) (cut_to (c.args.span.offset + c.len.result) (drop i were))
     here (c.clear-gone.ensures.queue ∙ λ j. take i (is j) ++ cut_to (c.args.span.offset + c.len.result) (drop i (is j)))
-    ((all c).queue_is ∙ ap (λ (n : ℕ). take i were ++ cut c.saturating_sub-skip.result here ∷ cut_to (c.args.span.offset + n) (drop i were)) (sym c.len.ensures))
+    ((all c).queue_is ∙ ap (λ (n : ℕ). take i were ++ cut c.saturating_sub-skip.result here
+    ∷ cut_to (c.args.span.offset + n) (drop i were)) (sym c.len.ensures))
 
 -- the fragments held weren't touched when the chain was trimmed
-kept : (c : goal.After-clear-arg-2-1) → bytes_held (fragments c.trim_front.new.pool c.args.train.now) ≡ bytes_held (fragments c.args.pool.now c.args.train.now)
+kept : (c : goal.After-clear-arg-2-1)
+    → bytes_held (fragments c.trim_front.new.pool c.args.train.now)
+    ≡ bytes_held (fragments c.args.pool.now c.args.train.now)
 kept c = ap (λ (cs : List QueuedPacket). bytes_held (map fragment_in cs)) (change c).queued_packets_are
 
 pub clear-gone-requires-clause-few : goal.clear-gone-requires-clause-few
@@ -81,7 +116,9 @@ returns-clause-gone c =
       arith,
       counted c,
       c.clear-gone.ensures.gone,
-      ap (λ (cs : List QueuedPacket). bytes_held (map fragment_in cs)) (changed c.args.pool.now c.trim_front.new.pool c.args.train.now c.args.chain _ c.requires.live c.requires.apart c.requires.held c.trim_front.ensures).queued_packets_are,
+      ap (λ (cs : List QueuedPacket). bytes_held (map fragment_in cs))
+          (changed c.args.pool.now c.trim_front.new.pool c.args.train.now c.args.chain _ c.requires.live c.requires.apart
+          c.requires.held c.trim_front.ensures).queued_packets_are,
       c.len.ensures,
       c.saturating_sub-skip.ensures,
     )

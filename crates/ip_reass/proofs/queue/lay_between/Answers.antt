@@ -7,9 +7,13 @@ use Rattle.ip_reass.proofs.Whole.{held_within}
 use Rattle.ip_reass.proofs.queue.lay_between.Goals.{After-lay_after-gone}
 use Rattle.ip_reass.proofs.queue.lay_between.Goals as goal
 
-none : (c : goal.After-free_chain) → Covered c.args.pool.now c.args.datagram.now.fragments c.args.chain (fragment_of (arrived c.args.pool.now c.args.chain c.args.span.offset c.args.span.more)) c.free_chain.new.self
+none : (c : goal.After-free_chain)
+    → Covered c.args.pool.now c.args.datagram.now.fragments c.args.chain
+    (fragment_of (arrived c.args.pool.now c.args.chain c.args.span.offset c.args.span.more)) c.free_chain.new.self
 none c =
-    covered_in c.args.pool.now c.free_chain.new.self c.args.datagram.now.fragments (after c.walk_to-before.result.front) c.args.chain (fragment_of (arrived c.args.pool.now c.args.chain c.args.span.offset c.args.span.more)) c.requires.queue c.requires.live c.requires.apart
+    covered_in c.args.pool.now c.free_chain.new.self c.args.datagram.now.fragments (after c.walk_to-before.result.front)
+    c.args.chain (fragment_of (arrived c.args.pool.now c.args.chain c.args.span.offset c.args.span.more))
+    c.requires.queue c.requires.live c.requires.apart
     c.walk_to-before.ensures.upto c.walk_to-before.ensures.above (omega arith) c.free_chain.ensures
 
 pub returns-then-len-lost-clause-laid : goal.returns-then-len-lost-clause-laid
@@ -20,26 +24,41 @@ returns-then-len-lost-clause-laid c = record {
   laid = tt;
   none = (none c).queue_is;
   queue = (none c).is;
-  counted = c.requires.counted ∙ sym (held_as c.args.pool.now c.free_chain.new.self c.args.datagram.now.fragments c.args.datagram.now.fragments (none c).queue_is);
+  counted =
+      c.requires.counted ∙ sym (held_as c.args.pool.now c.free_chain.new.self c.args.datagram.now.fragments
+      c.args.datagram.now.fragments (none c).queue_is);
   moves = (none c).moves;
 }
 
 pub lay_after-gone-requires-clause-few : goal.lay_after-gone-requires-clause-few
-lay_after-gone-requires-clause-few c = held_within (fragments c.args.pool.now c.args.datagram.now.fragments) c.requires.queue.apart c.requires.queue.small
+lay_after-gone-requires-clause-few c =
+    held_within (fragments c.args.pool.now c.args.datagram.now.fragments) c.requires.queue.apart c.requires.queue.small
 
-done : (c : After-lay_after-gone) → Settled c.args.pool.now c.args.datagram.now.fragments (after c.walk_to-before.result.front) c.saturating_sub-lost.result c.args.chain (arrived c.args.pool.now c.args.chain c.args.span.offset c.args.span.more) c.lay_after-gone.new.pool c.lay_after-gone.new.train
+done : (c : After-lay_after-gone)
+    → Settled c.args.pool.now c.args.datagram.now.fragments (after c.walk_to-before.result.front)
+    c.saturating_sub-lost.result c.args.chain
+    (arrived c.args.pool.now c.args.chain c.args.span.offset c.args.span.more) c.lay_after-gone.new.pool
+    c.lay_after-gone.new.train
 done c =
     let here = arrived c.args.pool.now c.args.chain c.args.span.offset c.args.span.more in
     let i = after c.walk_to-before.result.front in
     let were = queued c.args.pool.now c.args.datagram.now.fragments in
     record {
-      queue_is = c.lay_after-gone.ensures.queue ∙ ap (λ (n : ℕ). take i were ++ cut n here ∷ cut_to (queued_end here) (drop i were)) (sym c.saturating_sub-lost.ensures);
+      queue_is =
+          c.lay_after-gone.ensures.queue
+          ∙ ap (λ (n : ℕ). take i were ++ cut n here ∷ cut_to (queued_end here) (drop i were))
+          (sym c.saturating_sub-lost.ensures);
       moves = c.lay_after-gone.ensures.moves;
     }
 
-some : (c : After-lay_after-gone) → Laid c.args.pool.now c.args.datagram.now.fragments (arrived c.args.pool.now c.args.chain c.args.span.offset c.args.span.more) c.lay_after-gone.new.pool c.lay_after-gone.new.train
+some : (c : After-lay_after-gone)
+    → Laid c.args.pool.now c.args.datagram.now.fragments
+    (arrived c.args.pool.now c.args.chain c.args.span.offset c.args.span.more) c.lay_after-gone.new.pool
+    c.lay_after-gone.new.train
 some c =
-    laid_in c.args.pool.now c.lay_after-gone.new.pool c.args.datagram.now.fragments c.lay_after-gone.new.train (after c.walk_to-before.result.front) c.saturating_sub-lost.result c.args.chain (arrived c.args.pool.now c.args.chain c.args.span.offset c.args.span.more) c.requires.queue
+    laid_in c.args.pool.now c.lay_after-gone.new.pool c.args.datagram.now.fragments c.lay_after-gone.new.train
+    (after c.walk_to-before.result.front) c.saturating_sub-lost.result c.args.chain
+    (arrived c.args.pool.now c.args.chain c.args.span.offset c.args.span.more) c.requires.queue
     c.walk_to-before.ensures.upto c.walk_to-before.ensures.above (omega arith) (omega arith) c.requires.small (done c)
 
 pub returns-clause-laid : goal.returns-clause-laid
@@ -49,21 +68,58 @@ returns-clause-laid c = record {
   map = (some c.before.before).map_is;
   laid = (some c.before.before).queue_is;
   none = tt;
-  queue = record { held = c.lay_after-gone.ensures.held; apart = (some c.before.before).apart; small = (some c.before.before).small };
-  counted = omega (arith, c.from.ensures, c.requires.counted, c.lay_after-gone.ensures.gone, c.saturating_sub-lost.ensures, c.len-len.ensures);
+  queue =
+      record {
+        held = c.lay_after-gone.ensures.held;
+        apart = (some c.before.before).apart;
+        small = (some c.before.before).small;
+      };
+  counted =
+      omega (
+        arith,
+        c.from.ensures,
+        c.requires.counted,
+        c.lay_after-gone.ensures.gone,
+        c.saturating_sub-lost.ensures,
+        c.len-len.ensures,
+      );
   moves = c.lay_after-gone.ensures.moves;
 }
 
 pub overflow_cast-datagram : goal.overflow_cast-datagram
-overflow_cast-datagram c = omega (arith, c.from.ensures, c.requires.counted, c.lay_after-gone.ensures.gone, c.saturating_sub-lost.ensures, c.len-len.ensures, held_within (fragments c.lay_after-gone.new.pool c.lay_after-gone.new.train) (some c.before).apart (some c.before).small)
+overflow_cast-datagram c =
+    omega (
+      arith,
+      c.from.ensures,
+      c.requires.counted,
+      c.lay_after-gone.ensures.gone,
+      c.saturating_sub-lost.ensures,
+      c.len-len.ensures,
+      held_within (fragments c.lay_after-gone.new.pool c.lay_after-gone.new.train)
+          (some c.before).apart (some c.before).small,
+    )
 
 pub overflow_add-bytes : goal.overflow_add-bytes
-overflow_add-bytes c = omega (arith, c.from.ensures, c.requires.counted, held_within (fragments c.args.pool.now c.args.datagram.now.fragments) c.requires.queue.apart c.requires.queue.small, c.len-len.ensures, c.requires.small)
+overflow_add-bytes c =
+    omega (
+      arith,
+      c.from.ensures,
+      c.requires.counted,
+      held_within (fragments c.args.pool.now c.args.datagram.now.fragments) c.requires.queue.apart
+          c.requires.queue.small,
+      c.len-len.ensures,
+      c.requires.small,
+    )
 
 pub returns-then-len-lost-clause-reach : goal.returns-then-len-lost-clause-reach
 returns-then-len-lost-clause-reach c =
-    let same : fragments c.free_chain.new.self c.args.datagram.now.fragments ≡ fragments c.args.pool.now c.args.datagram.now.fragments = fragments_as c.args.pool.now c.free_chain.new.self c.args.datagram.now.fragments c.args.datagram.now.fragments (none c).queue_is in
+    let same : fragments c.free_chain.new.self c.args.datagram.now.fragments
+    ≡ fragments c.args.pool.now c.args.datagram.now.fragments =
+    fragments_as c.args.pool.now c.free_chain.new.self c.args.datagram.now.fragments c.args.datagram.now.fragments
+    (none c).queue_is in
     omega (arith, ap (reach 0) same)
 
 pub returns-clause-reach : goal.returns-clause-reach
-returns-clause-reach c = reaches _ _ _ _ _ _ _ _ (omega (arith, c.saturating_sub-lost.ensures, c.walk_to-before.ensures.end)) (omega (arith, c.len-len.ensures)) (done c.before.before)
+returns-clause-reach c =
+    reaches _ _ _ _ _ _ _ _ (omega (arith, c.saturating_sub-lost.ensures, c.walk_to-before.ensures.end))
+    (omega (arith, c.len-len.ensures)) (done c.before.before)

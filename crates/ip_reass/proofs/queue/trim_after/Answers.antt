@@ -12,21 +12,37 @@ use Rattle.ip_reass.proofs.queue.trim_after.Goals as goal
 
 pub moved-moved-requires : goal.moved-moved-requires
 moved-moved-requires c =
-    let was = queued_is c.args.pool.now c.args.train.now (after c.args.front) c.requires.held c.requires.more ∙ ap queued_of c.take_after-chain.ensures.taken in
-    let ends = end_at 65515 (queued c.args.pool.now c.args.train.now) (after c.args.front) (within_of 65515 c.args.pool.now c.args.train.now c.requires.small) (omega (arith, length-queued c.args.pool.now c.args.train.now c.requires.held)) in
+    let was =
+    queued_is c.args.pool.now c.args.train.now (after c.args.front) c.requires.held c.requires.more
+    ∙ ap queued_of c.take_after-chain.ensures.taken in
+    let ends =
+    end_at 65515 (queued c.args.pool.now c.args.train.now) (after c.args.front)
+    (within_of 65515 c.args.pool.now c.args.train.now c.requires.small)
+    (omega (arith, length-queued c.args.pool.now c.args.train.now c.requires.held)) in
     omega (arith, ends, ap (λ (p : QueuedFragment). p.offset) was, c.requires.within)
 
-change : (c : goal.After-insert_after-arg-2-1) → Changed c.take_after-chain.new.pool c.take_after-chain.new.train c.take_after-chain.result.0 (record (chain_of c.take_after-chain.new.pool c.take_after-chain.result.0) { entries = without_first c.args.n (chain_of c.take_after-chain.new.pool c.take_after-chain.result.0).entries }) c.trim_front.new.pool
+change : (c : goal.After-insert_after-arg-2-1)
+    → Changed c.take_after-chain.new.pool c.take_after-chain.new.train c.take_after-chain.result.0
+    (record (chain_of c.take_after-chain.new.pool c.take_after-chain.result.0) {
+      entries = without_first c.args.n (chain_of c.take_after-chain.new.pool c.take_after-chain.result.0).entries;
+    }) c.trim_front.new.pool
 change c =
-    let o : IsOwned c.take_after-chain.new.pool (c.take_after-chain.result.0 ∷ numbers c.take_after-chain.new.pool c.take_after-chain.new.train) = owned_after c.take_after-chain.ensures.moves c.requires.held.owned in
-    changed c.take_after-chain.new.pool c.trim_front.new.pool c.take_after-chain.new.train c.take_after-chain.result.0 _ (live_first c.take_after-chain.new.pool c.take_after-chain.result.0 (numbers c.take_after-chain.new.pool c.take_after-chain.new.train) o)
-    (apart_first c.take_after-chain.new.pool c.take_after-chain.result.0 (numbers c.take_after-chain.new.pool c.take_after-chain.new.train) o) c.take_after-chain.ensures.held c.trim_front.ensures
+    let o : IsOwned c.take_after-chain.new.pool
+    (c.take_after-chain.result.0 ∷ numbers c.take_after-chain.new.pool c.take_after-chain.new.train) =
+    owned_after c.take_after-chain.ensures.moves c.requires.held.owned in
+    changed c.take_after-chain.new.pool c.trim_front.new.pool c.take_after-chain.new.train c.take_after-chain.result.0 _
+    (live_first c.take_after-chain.new.pool c.take_after-chain.result.0
+    (numbers c.take_after-chain.new.pool c.take_after-chain.new.train) o)
+    (apart_first c.take_after-chain.new.pool c.take_after-chain.result.0
+    (numbers c.take_after-chain.new.pool c.take_after-chain.new.train)
+    o) c.take_after-chain.ensures.held c.trim_front.ensures
 
 pub insert_after-requires-clause-live : goal.insert_after-requires-clause-live
 insert_after-requires-clause-live c = (change c).live
 
 pub insert_after-requires-clause-headed : goal.insert_after-requires-clause-headed
-insert_after-requires-clause-headed c = ap (λ (v : ChainView). v.front.header) ((change c).shown) ∙ ap (λ f. f.header) c.take_after-chain.ensures.alone
+insert_after-requires-clause-headed c =
+    ap (λ (v : ChainView). v.front.header) ((change c).shown) ∙ ap (λ f. f.header) c.take_after-chain.ensures.alone
 
 pub insert_after-requires-clause-held : goal.insert_after-requires-clause-held
 insert_after-requires-clause-held c = (change c).held
@@ -34,14 +50,33 @@ insert_after-requires-clause-held c = (change c).held
 pub insert_after-requires-clause-apart : goal.insert_after-requires-clause-apart
 insert_after-requires-clause-apart c = (change c).apart
 
-all : (c : goal.After-insert_after) → Trimmed c.args.pool.now c.args.train.now (after c.args.front) c.args.n c.insert_after.new.pool c.insert_after.new.train
+all : (c : goal.After-insert_after)
+    → Trimmed c.args.pool.now c.args.train.now (after c.args.front) c.args.n c.insert_after.new.pool
+    c.insert_after.new.train
 all c =
-    let o : IsOwned c.take_after-chain.new.pool (c.take_after-chain.result.0 ∷ numbers c.take_after-chain.new.pool c.take_after-chain.new.train) = owned_after c.take_after-chain.ensures.moves c.requires.held.owned in
-    trimmed_at c.args.pool.now c.take_after-chain.new.pool c.trim_front.new.pool c.insert_after.new.pool c.args.train.now c.take_after-chain.new.train c.insert_after.new.train c.take_after-chain.result.0 (after c.args.front) c.args.n c.take_after-chain.result.1
-    c.requires.more c.requires.held c.take_after-chain.ensures.queued_packets c.take_after-chain.ensures.taken c.take_after-chain.ensures.moves
-    (changed c.take_after-chain.new.pool c.trim_front.new.pool c.take_after-chain.new.train c.take_after-chain.result.0 _ (live_first c.take_after-chain.new.pool c.take_after-chain.result.0 (numbers c.take_after-chain.new.pool c.take_after-chain.new.train) o)
-    (apart_first c.take_after-chain.new.pool c.take_after-chain.result.0 (numbers c.take_after-chain.new.pool c.take_after-chain.new.train) o) c.take_after-chain.ensures.held c.trim_front.ensures)
-    (c.insert_after.ensures.queued_packets ∙ ap (λ (n : ℕ). insert (queued_packets c.trim_front.new.pool c.take_after-chain.new.train) (after c.args.front) (record { number = c.take_after-chain.result.0; entries = (chain_of c.trim_front.new.pool c.take_after-chain.result.0).entries; tag = n })) c.moved-moved.ensures) c.insert_after.ensures.moves
+    let o : IsOwned c.take_after-chain.new.pool
+    (c.take_after-chain.result.0 ∷ numbers c.take_after-chain.new.pool c.take_after-chain.new.train) =
+    owned_after c.take_after-chain.ensures.moves c.requires.held.owned in
+    trimmed_at c.args.pool.now c.take_after-chain.new.pool c.trim_front.new.pool c.insert_after.new.pool
+    c.args.train.now c.take_after-chain.new.train c.insert_after.new.train c.take_after-chain.result.0
+    (after c.args.front) c.args.n c.take_after-chain.result.1
+    c.requires.more c.requires.held c.take_after-chain.ensures.queued_packets c.take_after-chain.ensures.taken
+    c.take_after-chain.ensures.moves
+    (changed c.take_after-chain.new.pool c.trim_front.new.pool c.take_after-chain.new.train c.take_after-chain.result.0
+    _ (live_first c.take_after-chain.new.pool c.take_after-chain.result.0
+    (numbers c.take_after-chain.new.pool c.take_after-chain.new.train) o)
+    (apart_first c.take_after-chain.new.pool c.take_after-chain.result.0
+    (numbers c.take_after-chain.new.pool c.take_after-chain.new.train)
+    o) c.take_after-chain.ensures.held c.trim_front.ensures)
+    (c.insert_after.ensures.queued_packets
+    ∙ ap (λ (n : ℕ). insert (queued_packets c.trim_front.new.pool c.take_after-chain.new.train) (after c.args.front)
+    (record {
+      number = c.take_after-chain.result.0;
+      entries =
+          (chain_of c.trim_front.new.pool c.take_after-chain.result.0).entries;
+      tag =
+          n;
+    })) c.moved-moved.ensures) c.insert_after.ensures.moves
 
 pub returns-clause-queue : goal.returns-clause-queue
 returns-clause-queue c = (all c).queue_is
@@ -50,4 +85,6 @@ pub returns-clause-moves : goal.returns-clause-moves
 returns-clause-moves c = (all c).moves
 
 pub insert_after-requires-clause-front : goal.insert_after-requires-clause-front
-insert_after-requires-clause-front c = front_beside c.take_after-chain.new.pool c.trim_front.new.pool c.take_after-chain.new.train c.args.front ((change c).queued_packets_are) c.take_after-chain.ensures.front
+insert_after-requires-clause-front c =
+    front_beside c.take_after-chain.new.pool c.trim_front.new.pool c.take_after-chain.new.train c.args.front
+    ((change c).queued_packets_are) c.take_after-chain.ensures.front

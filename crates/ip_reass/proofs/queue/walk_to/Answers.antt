@@ -6,24 +6,39 @@ use Rattle.ip_reass.proofs.Walks.{Found, found_none, found_more, length-fragment
 use Rattle.ip_reass.proofs.queue.walk_to.Goals as goal
 
 pub fragments-init : goal.fragments-init
-fragments-init c = record { place = tt; found = found_none c.args.offset 0 (fragments c.args.pool.now c.args.train.now) refl }
+fragments-init c =
+    record { place = tt; found = found_none c.args.offset 0 (fragments c.args.pool.now c.args.train.now) refl }
 
 pub returns-then-begin-offset-clause-above : goal.returns-then-begin-offset-clause-above
 returns-then-begin-offset-clause-above c =
     let l = length-fragments c.args.pool.now c.args.train.now c.requires.held in
     let more = c.in-Some.ensures.1.within in
     subst (λ (n : ℕ). AllAbove c.args.offset (drop n (fragments c.args.pool.now c.args.train.now))) c.in-Some.ensures.0
-    (above_from c.args.offset 0 c.in-Some.at.index (fragments c.args.pool.now c.args.train.now) c.requires.apart (omega arith)
-    (omega (arith, begin_is c.args.pool.now c.args.train.now c.in-Some.at.index c.requires.held more, c.begins-begin.ensures)))
+    (above_from c.args.offset 0 c.in-Some.at.index (fragments c.args.pool.now c.args.train.now) c.requires.apart
+    (omega arith)
+    (omega (
+      arith,
+      begin_is c.args.pool.now c.args.train.now c.in-Some.at.index c.requires.held more,
+      c.begins-begin.ensures,
+    )))
 
-ended : (c : goal.After-len_at) → c.begins-begin.result + c.len_at.result ≡ end_of (fragment_at (fragments c.args.pool.now c.args.train.now) c.in-Some.at.index)
-ended c = end_is c.args.pool.now c.args.train.now c.in-Some.at.index c.begins-begin.result c.len_at.result c.requires.held c.in-Some.ensures.1.within c.begins-begin.ensures c.len_at.ensures
+ended : (c : goal.After-len_at)
+    → c.begins-begin.result + c.len_at.result
+    ≡ end_of (fragment_at (fragments c.args.pool.now c.args.train.now) c.in-Some.at.index)
+ended c =
+    end_is c.args.pool.now c.args.train.now c.in-Some.at.index c.begins-begin.result c.len_at.result c.requires.held
+    c.in-Some.ensures.1.within c.begins-begin.ensures c.len_at.ensures
 
 pub overflow_add-found : goal.overflow_add-found
 overflow_add-found c =
     let l = length-fragments c.args.pool.now c.args.train.now c.requires.held in
     let more = c.in-Some.ensures.1.within in
-    omega (arith, ended c, end_at 65515 (fragments c.args.pool.now c.args.train.now) c.in-Some.at.index c.requires.small (omega arith))
+    omega (
+      arith,
+      ended c,
+      end_at 65515 (fragments c.args.pool.now c.args.train.now) c.in-Some.at.index c.requires.small
+          (omega arith),
+    )
 
 pub fragments-preserved : goal.fragments-preserved
 fragments-preserved c =
@@ -31,8 +46,12 @@ fragments-preserved c =
     let more = c.in-Some.ensures.1.within in
     record {
       place = c.in-Some.ensures.1;
-      found = found_more c.args.offset c.in-Some.at.index (c.in-Some.at.index + 1) c.begins-begin.result c.fragments.found.end (c.begins-begin.result + c.len_at.result) (fragments c.args.pool.now c.args.train.now)
-          (subst (λ (n : ℕ). Found c.args.offset n c.fragments.found.end (fragments c.args.pool.now c.args.train.now)) (sym c.in-Some.ensures.0) c.fragments.invariant.found) (omega arith)
-          (c.begins-begin.ensures ∙ begin_is c.args.pool.now c.args.train.now c.in-Some.at.index c.requires.held more) c.if-begin-offset.false
+      found =
+          found_more c.args.offset c.in-Some.at.index (c.in-Some.at.index + 1) c.begins-begin.result c.fragments.found.end
+          (c.begins-begin.result + c.len_at.result) (fragments c.args.pool.now c.args.train.now)
+          (subst (λ (n : ℕ). Found c.args.offset n c.fragments.found.end (fragments c.args.pool.now c.args.train.now))
+          (sym c.in-Some.ensures.0) c.fragments.invariant.found) (omega arith)
+          (c.begins-begin.ensures ∙ begin_is c.args.pool.now c.args.train.now c.in-Some.at.index c.requires.held more)
+          c.if-begin-offset.false
           (ended c) refl;
     }

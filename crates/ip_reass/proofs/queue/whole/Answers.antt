@@ -7,15 +7,34 @@ use Rattle.ip_reass.proofs.queue.whole.Goals as goal
 
 pub returns-then-more-clause-whole : goal.returns-then-more-clause-whole
 returns-then-more-clause-whole c =
-    open_stops (fragments c.args.pool.now c.args.datagram.now.fragments) (c.len.result - 1) c.requires.queue.apart (omega (arith, c.len.ensures, c.requires.some, length-fragments c.args.pool.now c.args.datagram.now.fragments c.requires.queue.held))
-    (sym (more_at c.args.pool.now c.args.datagram.now.fragments (c.len.result - 1) c.tag_of.result.bits c.requires.queue.held (omega (arith, c.len.ensures, c.requires.some)) c.tag_of.ensures) ∙ (sym c.more.ensures ∙ c.if-more.true))
+    open_stops (fragments c.args.pool.now c.args.datagram.now.fragments) (c.len.result - 1) c.requires.queue.apart
+    (omega (
+      arith,
+      c.len.ensures,
+      c.requires.some,
+      length-fragments c.args.pool.now c.args.datagram.now.fragments c.requires.queue.held,
+    ))
+    (sym (more_at c.args.pool.now c.args.datagram.now.fragments (c.len.result - 1) c.tag_of.result.bits
+    c.requires.queue.held (omega (arith, c.len.ensures, c.requires.some)) c.tag_of.ensures) ∙ (sym c.more.ensures
+    ∙ c.if-more.true))
 
 pub returns-then-bytes-end_of_last-clause-whole : goal.returns-then-bytes-end_of_last-clause-whole
-returns-then-bytes-end_of_last-clause-whole c = gap_stops (fragments c.args.pool.now c.args.datagram.now.fragments) c.requires.queue.apart (omega (arith, c.from-bytes.ensures, c.requires.counted, c.end_of_last.ensures, c.if-bytes-end_of_last.true))
+returns-then-bytes-end_of_last-clause-whole c =
+    gap_stops (fragments c.args.pool.now c.args.datagram.now.fragments) c.requires.queue.apart
+    (omega (arith, c.from-bytes.ensures, c.requires.counted, c.end_of_last.ensures, c.if-bytes-end_of_last.true))
 
 pub returns-clause-whole : goal.returns-clause-whole
 returns-clause-whole c =
-    subst (λ (n : ℕ). IsWhole (map_of (fragments c.args.pool.now c.args.datagram.now.fragments)) n) (sym (c.from-bytes.ensures ∙ c.requires.counted))
-    (whole_held (fragments c.args.pool.now c.args.datagram.now.fragments) (c.len.result - 1) c.requires.queue.apart (omega (arith, c.len.ensures, c.requires.some, length-fragments c.args.pool.now c.args.datagram.now.fragments c.requires.queue.held))
-    (sym (more_at c.args.pool.now c.args.datagram.now.fragments (c.len.result - 1) c.tag_of.result.bits c.requires.queue.held (omega (arith, c.len.ensures, c.requires.some)) c.tag_of.ensures) ∙ (sym c.more.ensures ∙ c.if-more.false))
+    subst (λ (n : ℕ). IsWhole (map_of (fragments c.args.pool.now c.args.datagram.now.fragments)) n)
+    (sym (c.from-bytes.ensures ∙ c.requires.counted))
+    (whole_held (fragments c.args.pool.now c.args.datagram.now.fragments) (c.len.result - 1) c.requires.queue.apart
+    (omega (
+      arith,
+      c.len.ensures,
+      c.requires.some,
+      length-fragments c.args.pool.now c.args.datagram.now.fragments c.requires.queue.held,
+    ))
+    (sym (more_at c.args.pool.now c.args.datagram.now.fragments (c.len.result - 1) c.tag_of.result.bits
+    c.requires.queue.held (omega (arith, c.len.ensures, c.requires.some)) c.tag_of.ensures) ∙ (sym c.more.ensures
+    ∙ c.if-more.false))
     (omega (arith, c.from-bytes.ensures, c.requires.counted, c.end_of_last.ensures, c.if-bytes-end_of_last.false)))

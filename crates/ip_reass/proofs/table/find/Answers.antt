@@ -10,5 +10,7 @@ returns-then-eq c =
     let x : Datagram = c.index-table-len.result in
     let d : Datagram = get_or c.args.table.now i x in
     let lt : i < length c.args.table.now = omega (arith, c.if-len-gt0.true) in
-    let found = only_found (has_key c.args.key) c.args.table.now i x lt (sym (compared c.args.key d) ∙ (sym c.eq.ensures ∙ c.if-eq.true)) c.requires.once in
+    let found =
+    only_found (has_key c.args.key) c.args.table.now i x lt
+    (sym (compared c.args.key d) ∙ (sym c.eq.ensures ∙ c.if-eq.true)) c.requires.once in
     (lt, found.0, found.1)

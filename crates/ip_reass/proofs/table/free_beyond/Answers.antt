@@ -5,20 +5,31 @@ use Rattle.ip_reass.proofs.Tables.{last_of, shorter, same_more, same_none}
 use Rattle.ip_reass.proofs.table.free_beyond.Goals as goal
 
 pub free_datagram-requires-clause-owned : goal.free_datagram-requires-clause-owned
-free_datagram-requires-clause-owned c = (last_of c.table.pool c.table.table.items c.pop.new.self.items c.in-Some.datagram c.in-Some.ensures.items c.table.invariant.table).owned
+free_datagram-requires-clause-owned c =
+    (last_of c.table.pool c.table.table.items c.pop.new.self.items c.in-Some.datagram c.in-Some.ensures.items
+    c.table.invariant.table).owned
 
 pub free_datagram-requires-clause-fragments : goal.free_datagram-requires-clause-fragments
-free_datagram-requires-clause-fragments c = (last_of c.table.pool c.table.table.items c.pop.new.self.items c.in-Some.datagram c.in-Some.ensures.items c.table.invariant.table).held
+free_datagram-requires-clause-fragments c =
+    (last_of c.table.pool c.table.table.items c.pop.new.self.items c.in-Some.datagram c.in-Some.ensures.items
+    c.table.invariant.table).held
 
 pub table-preserved-in-Some : goal.table-preserved-in-Some
 table-preserved-in-Some c =
-    let less = shorter c.table.pool c.free_datagram.new.pool c.table.table.items c.pop.new.self.items c.in-Some.datagram c.in-Some.ensures.items c.table.invariant.table c.free_datagram.ensures in
+    let less =
+    shorter c.table.pool c.free_datagram.new.pool c.table.table.items c.pop.new.self.items c.in-Some.datagram
+    c.in-Some.ensures.items c.table.invariant.table c.free_datagram.ensures in
     record {
       place = omega (arith, c.in-Some.ensures.cases);
-      items = ap (take c.args.kept) c.in-Some.ensures.rest ∙ (take-take c.args.kept (vec_len c.table.table - 1) c.table.table.items (omega arith) ∙ c.table.invariant.items);
+      items =
+          ap (take c.args.kept) c.in-Some.ensures.rest
+          ∙ (take-take c.args.kept (vec_len c.table.table - 1) c.table.table.items (omega arith)
+          ∙ c.table.invariant.items);
       capacity = c.in-Some.ensures.capacity ∙ c.table.invariant.capacity;
       table = less.table;
-      same = same_more c.args.pool.now c.table.pool c.free_datagram.new.pool c.table.table.items c.pop.new.self.items c.in-Some.datagram c.in-Some.ensures.items c.table.invariant.same less.same;
+      same =
+          same_more c.args.pool.now c.table.pool c.free_datagram.new.pool c.table.table.items c.pop.new.self.items
+          c.in-Some.datagram c.in-Some.ensures.items c.table.invariant.same less.same;
       moves = moves_trans c.table.invariant.moves less.moves;
     }
 

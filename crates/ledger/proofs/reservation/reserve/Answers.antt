@@ -14,8 +14,10 @@ returns-clause-reserves g c = λ s held is_us is_c a.
     let base = g.met.R.Reclaim in
     let p = c.args.pool.now in
     let w = c.args.waiting.now in
-    let count : c.from.result ≡ length (g.R.Waiting.unfinished p w) = omega (arith, c.from.ensures, c.reclaim-datagrams.ensures.count, law.counts p w c.requires) in
-    reserves_again {vs = g.R.Waiting.unfinished c.reclaim-datagrams.new.pool c.reclaim-datagrams.new.self} s held _ (record {
+    let count : c.from.result ≡ length (g.R.Waiting.unfinished p w) =
+    omega (arith, c.from.ensures, c.reclaim-datagrams.ensures.count, law.counts p w c.requires) in
+    reserves_again {vs = g.R.Waiting.unfinished c.reclaim-datagrams.new.pool c.reclaim-datagrams.new.self} s held _
+    (record {
       moves = c.reclaim-datagrams.ensures.moves;
       owned = base.is_owner p w c.requires;
       weighs = law.weighs p w c.requires;

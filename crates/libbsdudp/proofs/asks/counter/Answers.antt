@@ -8,9 +8,13 @@ use Rattle.libbsdudp.proofs.asks.counter.Goals as goal
 pub returns-in-None : goal.returns-in-None
 returns-in-None c =
     let past : length c.all.result ≤ c.args.which = search (rules, c.in-None.ensures.lookup) in
-    let none = slice_get_past all_counters c.args.which (subst (λ (all : List Counter). length all ≤ c.args.which) c.all.ensures past) in
+    let none =
+    slice_get_past all_counters c.args.which
+    (subst (λ (all : List Counter). length all ≤ c.args.which) c.all.ensures past) in
     record {
       told = c.counters-counters.result;
       step = c.counters-counters.ensures;
-      value = subst (λ (o : Option Counter). IsValue o c.counters-counters.result (lib.IntN.negsuc 21) c.args.value.now c.args.value.now) (sym none) (refl, refl);
+      value =
+          subst (λ (o : Option Counter). IsValue o c.counters-counters.result (lib.IntN.negsuc 21) c.args.value.now
+          c.args.value.now) (sym none) (refl, refl);
     }

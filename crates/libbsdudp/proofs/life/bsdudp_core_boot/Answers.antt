@@ -8,5 +8,12 @@ use Rattle.libbsdudp.specs.Calls.{stack_in}
 use Rattle.libbsdudp.proofs.life.bsdudp_core_boot.Goals as goal
 
 pub returns : goal.returns
-returns c = subst (λ (b : Option StackView). IsBooted b c.args.config.now (lib.IntN.negsuc 11) (stack_in c.take.new.self)) (sym c.in_default.ensures.taken)
-    (record { told = Err Memory; boots = subst (λ (k : Config). IsConfig k) c.config.ensures c.in-Ok.ensures.booted.0; is = refl; leaves = c.take.ensures.left })
+returns c =
+    subst (λ (b : Option StackView). IsBooted b c.args.config.now (lib.IntN.negsuc 11) (stack_in c.take.new.self))
+    (sym c.in_default.ensures.taken)
+    (record {
+      told = Err Memory;
+      boots = subst (λ (k : Config). IsConfig k) c.config.ensures c.in-Ok.ensures.booted.0;
+      is = refl;
+      leaves = c.take.ensures.left;
+    })

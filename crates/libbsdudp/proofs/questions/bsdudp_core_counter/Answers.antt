@@ -6,9 +6,13 @@ use Rattle.libbsdudp.proofs.Answered.{answered_by}
 use Rattle.libbsdudp.proofs.questions.bsdudp_core_counter.Goals as goal
 
 pub returns-in-Some : goal.returns-in-Some
-returns-in-Some c = answered_by c.counter-answer.result _ (λ z. IsAsked (TellsCounter c.args.which z c.args.value.now c.counter-answer.new.value)) _ _
+returns-in-Some c =
+    answered_by c.counter-answer.result _
+    (λ z. IsAsked (TellsCounter c.args.which z c.args.value.now c.counter-answer.new.value)) _ _
     (record { sfits = c.counter-answer.type_inv }) c.in-Some.ensures.taken c.put.ensures
     (record {
       same = refl;
-      says = subst (λ (x : Boxed). TellsCounter c.args.which c.counter-answer.result c.args.value.now c.counter-answer.new.value x.stack) c.deref.ensures c.counter-answer.ensures;
+      says =
+          subst (λ (x : Boxed). TellsCounter c.args.which c.counter-answer.result c.args.value.now
+          c.counter-answer.new.value x.stack) c.deref.ensures c.counter-answer.ensures;
     })

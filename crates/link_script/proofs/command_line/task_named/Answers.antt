@@ -4,4 +4,5 @@ use Rattle.link_script.proofs.ProgramLemmas.{Asked-words}
 use Rattle.link_script.proofs.command_line.task_named.Goals as goal
 
 pub returns-in-Ok : goal.returns-in-Ok
-returns-in-Ok c = Asked-words _ _ _ _ _ _ c.in-Ok.is (ap (map string_bytes) (sym c.as_slice.ensures.value)) c.read_words.ensures
+returns-in-Ok c =
+    Asked-words _ _ _ _ _ _ c.in-Ok.is (ap (map string_bytes) (sym c.as_slice.ensures.value)) c.read_words.ensures

@@ -11,7 +11,9 @@ returns-in-Some c =
     let whole = c.in_ok-command.ensures in
     let matches = c.in_ok-matches.ensures.matches (ap is_simple whole) in
     let faults = c.in_ok-matches.ensures.kinds (ap is_simple_and_free whole) in
-    let own = both-of _ _ _ c.in-Some.name.now (rows_of (found_of c.in-Some.found.now)) c.in-Some.ensures.name c.in-Some.ensures.rows in
+    let own =
+    both-of _ _ _ c.in-Some.name.now (rows_of (found_of c.in-Some.found.now)) c.in-Some.ensures.name
+    c.in-Some.ensures.rows in
     Gives-names _ words c.in-Some.name.now _ (rows_of (found_of c.in-Some.found.now)) c.task_of.result
     (sym (ap (λ (a : App). fault_of a words) whole) ∙ faults)
     (sym (matches.1 ∙ ap (λ (a : App). subcommand_of a words) whole) ∙ own)

@@ -5,7 +5,8 @@ use Rattle.mbuf_chain.proofs.cells.bytes_from.Given as goal
 abbrev pub invariant-mbufs : goal.invariant-mbufs
 invariant-mbufs l = record {
   whole : IsWhole l.store l.at;
-  sum : l.total + weigh (len_at l.store) (cells_from l.store l.at) ≡ weigh (len_at l.store) (cells_from l.store (Some l.fn.first));
+  sum : l.total + weigh (len_at l.store) (cells_from l.store l.at)
+      ≡ weigh (len_at l.store) (cells_from l.store (Some l.fn.first));
 }
 
 abbrev pub decreases-mbufs : goal.decreases-mbufs

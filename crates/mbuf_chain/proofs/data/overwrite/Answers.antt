@@ -17,7 +17,12 @@ overflow_add-head c =
     omega (arith, place.small, place.long, c.requires.within, ap (λ (h : Head). h.start) c.head-head.ensures.value)
 
 pub write_in-requires-clause-low : goal.write_in-requires-clause-low
-write_in-requires-clause-low c = omega (arith, (shown_at _ _ _ c.requires.pool c.requires.live c.requires.place).fit.low, ap (λ (h : Head). h.start) c.head-head.ensures.value)
+write_in-requires-clause-low c =
+    omega (
+      arith,
+      (shown_at _ _ _ c.requires.pool c.requires.live c.requires.place).fit.low,
+      ap (λ (h : Head). h.start) c.head-head.ensures.value,
+    )
 
 pub write_in-requires-clause-high : goal.write_in-requires-clause-high
 write_in-requires-clause-high c =
@@ -30,6 +35,10 @@ returns-clause-change c =
     let at = c.args.at in
     let place = shown_at _ _ _ c.requires.pool c.requires.live c.requires.place in
     c.write_in.ensures.writes.map_is
-    ∙ ap (λ (h : Head). with_chain (pool_of s) c.args.first (with_entry (chain_of (pool_of s) c.args.first) at.index (entry_over s at.cell (h.start + c.args.offset) c.args.bytes.now))) c.head-head.ensures.value
-    ∙ ap (λ (e : Entry). with_chain (pool_of s) c.args.first (with_entry (chain_of (pool_of s) c.args.first) at.index e))
-    (overwritten_is s c.args.first c.args.offset c.args.bytes.now at place (omega (arith, place.long, c.requires.within)))
+    ∙ ap (λ (h : Head). with_chain (pool_of s) c.args.first
+    (with_entry (chain_of (pool_of s) c.args.first) at.index
+    (entry_over s at.cell (h.start + c.args.offset) c.args.bytes.now))) c.head-head.ensures.value
+    ∙ ap (λ (e : Entry). with_chain (pool_of s) c.args.first
+    (with_entry (chain_of (pool_of s) c.args.first) at.index e))
+    (overwritten_is s c.args.first c.args.offset c.args.bytes.now at place
+    (omega (arith, place.long, c.requires.within)))

@@ -9,27 +9,46 @@ head-head-requires c = (total_known _ _ _ _ c.requires.off c.requires.live).out
 
 pub overflow_add-len : goal.overflow_add-len
 overflow_add-len c =
-    omega (arith, ((total_known _ _ _ _ c.requires.off c.requires.live).fits c.in-Some.packet (ap (λ (h : Head). h.packet) (sym c.head-head.ensures.value) ∙ c.in-Some.is)).0, c.requires.few)
+    omega (
+      arith,
+      ((total_known _ _ _ _ c.requires.off c.requires.live).fits c.in-Some.packet
+          (ap (λ (h : Head). h.packet) (sym c.head-head.ensures.value) ∙ c.in-Some.is)).0,
+      c.requires.few,
+    )
 
 pub overflow_sub-len : goal.overflow_sub-len
 overflow_sub-len c =
-    omega (arith, ((total_known _ _ _ _ c.requires.off c.requires.live).fits c.in-Some.packet (ap (λ (h : Head). h.packet) (sym c.head-head.ensures.value) ∙ c.in-Some.is)).1)
+    omega (
+      arith,
+      ((total_known _ _ _ _ c.requires.off c.requires.live).fits c.in-Some.packet
+          (ap (λ (h : Head). h.packet) (sym c.head-head.ensures.value) ∙ c.in-Some.is)).1,
+    )
 
 pub set_packet_len-requires-clause-out : goal.set_packet_len-requires-clause-out
 set_packet_len-requires-clause-out c = (total_known _ _ _ _ c.requires.off c.requires.live).out
 
 pub set_packet_len-requires-clause-packet : goal.set_packet_len-requires-clause-packet
-set_packet_len-requires-clause-packet c = subst (λ (o : Option PacketHeader). IsSome o) (sym (ap (λ (h : Head). h.packet) (sym c.head-head.ensures.value) ∙ c.in-Some.is)) refl
+set_packet_len-requires-clause-packet c =
+    subst (λ (o : Option PacketHeader). IsSome o)
+    (sym (ap (λ (h : Head). h.packet) (sym c.head-head.ensures.value) ∙ c.in-Some.is)) refl
 
 pub returns-in-Some-clause-pool : goal.returns-in-Some-clause-pool
 returns-in-Some-clause-pool c =
-    (total_set _ _ _ _ _ c.in-Some.packet c.requires.off c.requires.live (ap (λ (h : Head). h.packet) (sym c.head-head.ensures.value) ∙ c.in-Some.is)
-    (total_sets _ _ _ c.args.added c.args.removed c.in-Some.packet (ap (λ (h : Head). h.packet) (sym c.head-head.ensures.value) ∙ c.in-Some.is) c.set_packet_len.ensures.change) c.set_packet_len.ensures.store).pool
+    (total_set _ _ _ _ _ c.in-Some.packet c.requires.off c.requires.live
+    (ap (λ (h : Head). h.packet) (sym c.head-head.ensures.value) ∙ c.in-Some.is)
+    (total_sets _ _ _ c.args.added c.args.removed c.in-Some.packet
+    (ap (λ (h : Head). h.packet) (sym c.head-head.ensures.value) ∙ c.in-Some.is)
+    c.set_packet_len.ensures.change) c.set_packet_len.ensures.store).pool
 
 pub returns-in-Some-clause-same : goal.returns-in-Some-clause-same
 returns-in-Some-clause-same c =
-    (total_set _ _ _ _ _ c.in-Some.packet c.requires.off c.requires.live (ap (λ (h : Head). h.packet) (sym c.head-head.ensures.value) ∙ c.in-Some.is)
-    (total_sets _ _ _ c.args.added c.args.removed c.in-Some.packet (ap (λ (h : Head). h.packet) (sym c.head-head.ensures.value) ∙ c.in-Some.is) c.set_packet_len.ensures.change) c.set_packet_len.ensures.store).same
+    (total_set _ _ _ _ _ c.in-Some.packet c.requires.off c.requires.live
+    (ap (λ (h : Head). h.packet) (sym c.head-head.ensures.value) ∙ c.in-Some.is)
+    (total_sets _ _ _ c.args.added c.args.removed c.in-Some.packet
+    (ap (λ (h : Head). h.packet) (sym c.head-head.ensures.value) ∙ c.in-Some.is)
+    c.set_packet_len.ensures.change) c.set_packet_len.ensures.store).same
 
 pub returns-in_default-clause-pool : goal.returns-in_default-clause-pool
-returns-in_default-clause-pool c = total_right _ _ _ _ c.requires.off c.requires.live (ap (λ (h : Head). h.packet) (sym c.head-head.ensures.value) ∙ c.in_default.is)
+returns-in_default-clause-pool c =
+    total_right _ _ _ _ c.requires.off c.requires.live
+    (ap (λ (h : Head). h.packet) (sym c.head-head.ensures.value) ∙ c.in_default.is)

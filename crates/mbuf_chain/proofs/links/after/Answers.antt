@@ -9,4 +9,6 @@ pub head-requires : goal.head-requires
 head-requires c = first_out _ _ (open_on _ _ c.requires.pool c.requires.live).at
 
 pub returns : goal.returns
-returns c = ap (λ (h : Head). h.next_packet) c.head.ensures.value ∙ ap (λ (f : Front). f.after) (front_is _ _ c.requires.pool c.requires.live)
+returns c =
+    ap (λ (h : Head). h.next_packet) c.head.ensures.value
+    ∙ ap (λ (f : Front). f.after) (front_is _ _ c.requires.pool c.requires.live)

@@ -11,7 +11,9 @@ pub bytes_from-requires-clause-whole : goal.bytes_from-requires-clause-whole
 bytes_from-requires-clause-whole c = whole_of _ _ (open_on _ _ c.requires.pool c.requires.live).at
 
 pub returns-in-Some : goal.returns-in-Some
-returns-in-Some c = total_is _ _ c.in-Some.packet c.requires.pool c.requires.live (ap (λ (h : Head). h.packet) (sym c.head.ensures.value) ∙ c.in-Some.is)
+returns-in-Some c =
+    total_is _ _ c.in-Some.packet c.requires.pool c.requires.live
+    (ap (λ (h : Head). h.packet) (sym c.head.ensures.value) ∙ c.in-Some.is)
 
 pub returns-in-None : goal.returns-in-None
 returns-in-None c = c.bytes_from.ensures ∙ sum_is _ _ c.requires.pool c.requires.live

@@ -19,20 +19,31 @@ end_of-last-requires-clause-within c =
     omega (arith, ap (weigh one) o.at.walks, count_cells c.args.store.now c.args.first o.at, c.requires.within)
 
 pub head-head-requires : goal.head-head-requires
-head-head-requires c = (cut_place c.args.first c.requires.pool c.requires.live c.requires.some c.requires.within c.end_of-last.ensures.cell).out
+head-head-requires c =
+    (cut_place c.args.first c.requires.pool c.requires.live c.requires.some c.requires.within
+    c.end_of-last.ensures.cell).out
 
 pub set_next-requires-clause-out : goal.set_next-requires-clause-out
-set_next-requires-clause-out c = (cut_place c.args.first c.requires.pool c.requires.live c.requires.some c.requires.within c.end_of-last.ensures.cell).out
+set_next-requires-clause-out c =
+    (cut_place c.args.first c.requires.pool c.requires.live c.requires.some c.requires.within
+    c.end_of-last.ensures.cell).out
 
 pub unwrap-rest-requires : goal.unwrap-rest-requires
-unwrap-rest-requires c = (cut_place c.args.first c.requires.pool c.requires.live c.requires.some c.requires.within c.end_of-last.ensures.cell).some c.head-head.result c.head-head.ensures.value
+unwrap-rest-requires c =
+    (cut_place c.args.first c.requires.pool c.requires.live c.requires.some c.requires.within
+    c.end_of-last.ensures.cell).some c.head-head.result c.head-head.ensures.value
 
 -- both chains, once the first one's last mbuf is its end
-made : (c : goal.After-set_total-arg-1) → IsCut c.args.store.now c.set_next.new.self c.args.first c.unwrap-rest.result c.args.keep c.end_of-last.result.1 c.packet_len-whole.result
+made : (c : goal.After-set_total-arg-1)
+    → IsCut c.args.store.now c.set_next.new.self c.args.first c.unwrap-rest.result c.args.keep c.end_of-last.result.1
+    c.packet_len-whole.result
 made c =
-    let place = cut_place c.args.first c.requires.pool c.requires.live c.requires.some c.requires.within c.end_of-last.ensures.cell in
+    let place =
+    cut_place c.args.first c.requires.pool c.requires.live c.requires.some c.requires.within
+    c.end_of-last.ensures.cell in
     let next = ap (λ (h : Head). h.next) (sym c.head-head.ensures.value) ∙ c.unwrap-rest.ensures in
-    cut_made c.args.first c.requires.pool c.requires.live c.requires.some c.requires.within c.end_of-last.ensures.cell c.end_of-last.ensures.bytes
+    cut_made c.args.first c.requires.pool c.requires.live c.requires.some c.requires.within c.end_of-last.ensures.cell
+    c.end_of-last.ensures.bytes
     c.packet_len-whole.ensures next place.out place.fit c.set_next.ensures.change c.set_next.ensures.store
 
 pub set_total-requires-clause-off : goal.set_total-requires-clause-off
@@ -46,5 +57,7 @@ set_total-requires-clause-few c = omega (arith, (made c).few)
 
 pub returns-clause-change : goal.returns-clause-change
 returns-clause-change c =
-    subst (λ (p : PoolView). Adds (with_chain (pool_of c.args.store.now) c.args.first (first_part c.args.keep (chain_of (pool_of c.args.store.now) c.args.first))) p c.unwrap-rest.result (second_part c.args.keep (chain_of (pool_of c.args.store.now) c.args.first))) (sym c.set_total.ensures.same)
+    subst (λ (p : PoolView). Adds (with_chain (pool_of c.args.store.now) c.args.first
+    (first_part c.args.keep (chain_of (pool_of c.args.store.now) c.args.first))) p c.unwrap-rest.result (second_part
+    c.args.keep (chain_of (pool_of c.args.store.now) c.args.first))) (sym c.set_total.ensures.same)
     (made c.before).adds

@@ -9,5 +9,6 @@ invariant-mbufs l = record {
   head : l.head ≡ head_of l.store l.at;
   whole : IsWhole l.store (Some l.at);
   rest : cells_from l.store (Some l.at) ≡ drop (l.counter - 1) (cells_from l.store (Some l.first));
-  sum : l.bytes + weigh (len_at l.store) (drop l.counter (cells_from l.store (Some l.first))) ≡ weigh (len_at l.store) (cells_from l.store (Some l.first));
+  sum : l.bytes + weigh (len_at l.store) (drop l.counter (cells_from l.store (Some l.first)))
+      ≡ weigh (len_at l.store) (cells_from l.store (Some l.first));
 }

@@ -12,13 +12,18 @@ pub free_mbuf-requires-clause-known : goal.free_mbuf-requires-clause-known
 free_mbuf-requires-clause-known c = (first_ready c.args.store.now c.args.first c.requires.pool c.requires.live).known
 
 pub unwrap-requires : goal.unwrap-requires
-unwrap-requires c = subst (λ (n : Option ℕ). IsSome n) (sym c.free_mbuf.ensures.next) (next_some c.args.store.now c.args.first c.requires.pool c.requires.live c.requires.several)
+unwrap-requires c =
+    subst (λ (n : Option ℕ). IsSome n) (sym c.free_mbuf.ensures.next)
+    (next_some c.args.store.now c.args.first c.requires.pool c.requires.live c.requires.several)
 
 -- what is left of the chain
 left : (c : goal.After-unwrap) → Dropped c.args.store.now c.free_mbuf.new.store c.args.first c.unwrap.result
 left c =
-    dropped c.args.store.now c.free_mbuf.new.store c.args.first c.unwrap.result c.requires.pool c.requires.live (sym c.free_mbuf.ensures.next ∙ c.unwrap.ensures)
-    (subst (λ (t : StoreView). Freed c.args.store.now t (cells_from c.args.store.now (Some c.args.first)) (cells_from c.args.store.now (head_of c.args.store.now c.args.first).next)) (sym c.free_mbuf.ensures.freed) (first_ready c.args.store.now c.args.first c.requires.pool c.requires.live).freed)
+    dropped c.args.store.now c.free_mbuf.new.store c.args.first c.unwrap.result c.requires.pool c.requires.live
+    (sym c.free_mbuf.ensures.next ∙ c.unwrap.ensures)
+    (subst (λ (t : StoreView). Freed c.args.store.now t (cells_from c.args.store.now (Some c.args.first))
+    (cells_from c.args.store.now (head_of c.args.store.now c.args.first).next)) (sym
+    c.free_mbuf.ensures.freed) (first_ready c.args.store.now c.args.first c.requires.pool c.requires.live).freed)
     c.free_mbuf.ensures.store
 
 pub returns-clause-pool : goal.returns-clause-pool

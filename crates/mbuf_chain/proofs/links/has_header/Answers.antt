@@ -8,4 +8,6 @@ pub head-requires : goal.head-requires
 head-requires c = first_out _ _ (open_on _ _ c.requires.pool c.requires.live).at
 
 pub returns : goal.returns
-returns c = c.is_some.ensures ∙ ap (λ (h : Head). is_some h.packet) c.head.ensures.value ∙ header_is _ _ c.requires.pool c.requires.live
+returns c =
+    c.is_some.ensures ∙ ap (λ (h : Head). is_some h.packet) c.head.ensures.value
+    ∙ header_is _ _ c.requires.pool c.requires.live

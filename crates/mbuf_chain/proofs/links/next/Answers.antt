@@ -7,10 +7,16 @@ pub head-requires : goal.head-requires
 head-requires c = (shown_at _ _ _ c.requires.pool c.requires.live c.requires.place).out
 
 pub overflow_add-result : goal.overflow_add-result
-overflow_add-result c = omega (arith, (live_cells c.args.store.now c.args.first c.requires.pool c.requires.live).few, c.requires.place.within)
+overflow_add-result c =
+    omega (
+      arith,
+      (live_cells c.args.store.now c.args.first c.requires.pool c.requires.live).few,
+      c.requires.place.within,
+    )
 
 pub returns-in-Some : goal.returns-in-Some
-returns-in-Some c = (next_place _ _ _ _ _ c.requires.pool c.requires.live c.requires.place c.head.ensures.value c.in-Some.is, refl)
+returns-in-Some c =
+    (next_place _ _ _ _ _ c.requires.pool c.requires.live c.requires.place c.head.ensures.value c.in-Some.is, refl)
 
 pub returns-in-None : goal.returns-in-None
 returns-in-None c = next_none _ _ _ _ c.requires.pool c.requires.live c.requires.place c.head.ensures.value c.in-None.is

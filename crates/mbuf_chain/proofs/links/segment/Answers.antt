@@ -9,17 +9,22 @@ pub head-head-requires : goal.head-head-requires
 head-head-requires c = (shown_at _ _ _ c.requires.pool c.requires.live c.requires.place).out
 
 pub returns-clause-value : goal.returns-clause-value
-returns-clause-value c = segment_is _ _ _ _ (shown_at _ _ _ c.requires.pool c.requires.live c.requires.place) c.head-head.ensures.value
+returns-clause-value c =
+    segment_is _ _ _ _ (shown_at _ _ _ c.requires.pool c.requires.live c.requires.place) c.head-head.ensures.value
 
 pub returns-clause-known : goal.returns-clause-known
 returns-clause-known c = cluster_known _ _ _ c.requires.pool c.requires.live c.requires.place
 
 pub returns-clause-low : goal.returns-clause-low
 returns-clause-low c =
-    let r = rooms_at c.args.store.now c.args.first c.args.at c.head-head.result c.requires.pool c.requires.live c.requires.place c.head-head.ensures.value in
+    let r =
+    rooms_at c.args.store.now c.args.first c.args.at c.head-head.result c.requires.pool c.requires.live
+    c.requires.place c.head-head.ensures.value in
     omega (arith, r.low, r.low_is)
 
 pub returns-clause-high : goal.returns-clause-high
 returns-clause-high c =
-    let r = rooms_at c.args.store.now c.args.first c.args.at c.head-head.result c.requires.pool c.requires.live c.requires.place c.head-head.ensures.value in
+    let r =
+    rooms_at c.args.store.now c.args.first c.args.at c.head-head.result c.requires.pool c.requires.live
+    c.requires.place c.head-head.ensures.value in
     omega (arith, r.high, r.high_is)

@@ -13,7 +13,9 @@ head-head-requires c = (shown_at _ _ _ c.requires.pool c.requires.live c.require
 pub unwrap-cluster-requires : goal.unwrap-cluster-requires
 unwrap-cluster-requires c =
     let k = shown_at _ _ _ c.requires.pool c.requires.live c.requires.place in
-    subst (λ (o : Option ℕ). IsSome o) (ap (λ (e : Entry). e.cluster) k.entry ∙ ap (λ (h : Head). h.cluster) (sym c.head-head.ensures.value)) c.requires.refers
+    subst (λ (o : Option ℕ). IsSome o)
+    (ap (λ (e : Entry). e.cluster) k.entry ∙ ap (λ (h : Head). h.cluster) (sym c.head-head.ensures.value))
+    c.requires.refers
 
 pub overflow_add-head : goal.overflow_add-head
 overflow_add-head c =
@@ -21,22 +23,40 @@ overflow_add-head c =
     omega (arith, k.small, k.long, c.requires.within, ap (λ (h : Head). h.start) c.head-head.ensures.value)
 
 pub hold-requires-clause-counted : goal.hold-requires-clause-counted
-hold-requires-clause-counted c = (can_hold _ _ _ _ _ c.requires.pool c.in-Ok.ensures.ok (counted_at _ _ _ _ c.requires.pool c.requires.live c.requires.place (ap (λ (h : Head). h.cluster) (sym c.head-head.ensures.value) ∙ c.unwrap-cluster.ensures))).some
+hold-requires-clause-counted c =
+    (can_hold _ _ _ _ _ c.requires.pool c.in-Ok.ensures.ok
+    (counted_at _ _ _ _ c.requires.pool c.requires.live c.requires.place
+    (ap (λ (h : Head). h.cluster) (sym c.head-head.ensures.value) ∙ c.unwrap-cluster.ensures))).some
 
 pub hold-requires-clause-below : goal.hold-requires-clause-below
-hold-requires-clause-below c = (can_hold _ _ _ _ _ c.requires.pool c.in-Ok.ensures.ok (counted_at _ _ _ _ c.requires.pool c.requires.live c.requires.place (ap (λ (h : Head). h.cluster) (sym c.head-head.ensures.value) ∙ c.unwrap-cluster.ensures))).few
+hold-requires-clause-below c =
+    (can_hold _ _ _ _ _ c.requires.pool c.in-Ok.ensures.ok
+    (counted_at _ _ _ _ c.requires.pool c.requires.live c.requires.place
+    (ap (λ (h : Head). h.cluster) (sym c.head-head.ensures.value) ∙ c.unwrap-cluster.ensures))).few
 
 pub returns-in-Ok-clause-pool : goal.returns-in-Ok-clause-pool
 returns-in-Ok-clause-pool c =
-    (shared_made _ _ _ _ _ c.unwrap-cluster.result c.args.skip c.args.keep c.args.at c.args.header (c.head-head.result.start + c.args.skip) c.requires.pool (shown_at _ _ _ c.requires.pool c.requires.live c.requires.place) (ap (λ (h : Head). h.cluster) (sym c.head-head.ensures.value) ∙ c.unwrap-cluster.ensures)
-    (counted_at _ _ _ _ c.requires.pool c.requires.live c.requires.place (ap (λ (h : Head). h.cluster) (sym c.head-head.ensures.value) ∙ c.unwrap-cluster.ensures)) c.requires.within (ap (λ (h : Head). h.start + c.args.skip) c.head-head.ensures.value)
-    (subst (λ (h : Head). Taken c.args.store.now c.take.new.store c.in-Ok.cell h) c.head_for.ensures c.in-Ok.ensures.ok) c.hold.ensures.change c.hold.ensures.store).pool
+    (shared_made _ _ _ _ _ c.unwrap-cluster.result c.args.skip c.args.keep c.args.at c.args.header
+    (c.head-head.result.start + c.args.skip) c.requires.pool
+    (shown_at _ _ _ c.requires.pool c.requires.live c.requires.place)
+    (ap (λ (h : Head). h.cluster) (sym c.head-head.ensures.value) ∙ c.unwrap-cluster.ensures)
+    (counted_at _ _ _ _ c.requires.pool c.requires.live c.requires.place
+    (ap (λ (h : Head). h.cluster) (sym c.head-head.ensures.value) ∙ c.unwrap-cluster.ensures)) c.requires.within (ap
+    (λ (h : Head). h.start + c.args.skip) c.head-head.ensures.value)
+    (subst (λ (h : Head). Taken c.args.store.now c.take.new.store c.in-Ok.cell h) c.head_for.ensures c.in-Ok.ensures.ok)
+    c.hold.ensures.change c.hold.ensures.store).pool
 
 pub returns-in-Ok-clause-ok : goal.returns-in-Ok-clause-ok
 returns-in-Ok-clause-ok c =
-    (shared_made _ _ _ _ _ c.unwrap-cluster.result c.args.skip c.args.keep c.args.at c.args.header (c.head-head.result.start + c.args.skip) c.requires.pool (shown_at _ _ _ c.requires.pool c.requires.live c.requires.place) (ap (λ (h : Head). h.cluster) (sym c.head-head.ensures.value) ∙ c.unwrap-cluster.ensures)
-    (counted_at _ _ _ _ c.requires.pool c.requires.live c.requires.place (ap (λ (h : Head). h.cluster) (sym c.head-head.ensures.value) ∙ c.unwrap-cluster.ensures)) c.requires.within (ap (λ (h : Head). h.start + c.args.skip) c.head-head.ensures.value)
-    (subst (λ (h : Head). Taken c.args.store.now c.take.new.store c.in-Ok.cell h) c.head_for.ensures c.in-Ok.ensures.ok) c.hold.ensures.change c.hold.ensures.store).adds
+    (shared_made _ _ _ _ _ c.unwrap-cluster.result c.args.skip c.args.keep c.args.at c.args.header
+    (c.head-head.result.start + c.args.skip) c.requires.pool
+    (shown_at _ _ _ c.requires.pool c.requires.live c.requires.place)
+    (ap (λ (h : Head). h.cluster) (sym c.head-head.ensures.value) ∙ c.unwrap-cluster.ensures)
+    (counted_at _ _ _ _ c.requires.pool c.requires.live c.requires.place
+    (ap (λ (h : Head). h.cluster) (sym c.head-head.ensures.value) ∙ c.unwrap-cluster.ensures)) c.requires.within (ap
+    (λ (h : Head). h.start + c.args.skip) c.head-head.ensures.value)
+    (subst (λ (h : Head). Taken c.args.store.now c.take.new.store c.in-Ok.cell h) c.head_for.ensures c.in-Ok.ensures.ok)
+    c.hold.ensures.change c.hold.ensures.store).adds
 
 pub returns-in-Err-clause-err : goal.returns-in-Err-clause-err
 returns-in-Err-clause-err c = none_free _ c.requires.pool c.in-Err.ensures.err

@@ -10,7 +10,8 @@ loop-index-init c = (Rattle.std.proofs.Common.refl, λ k low below. all_out c.ar
 pub loop-index-preserved : goal.loop-index-preserved
 loop-index-preserved c =
     let s = c.loop-index.store in let i = c.loop-index.index in (
-      ap (λ (v : StoreView). length v.mbufs) c.put.ensures.change ∙ length-set s.mbufs i None ∙ c.loop-index.invariant.0,
+      ap (λ (v : StoreView). length v.mbufs) c.put.ensures.change ∙ length-set s.mbufs i None
+          ∙ c.loop-index.invariant.0,
       λ k low below.
           let ne : k ≢ i = omega arith in
           ap (λ (v : StoreView). is_out v k) c.put.ensures.change

@@ -4,4 +4,6 @@ use Rattle.memory_tests.proofs.pool.release_all.Given as goal
 
 -- the clusters that are not released yet are counted
 abbrev pub invariant-loop-cluster : goal.invariant-loop-cluster
-invariant-loop-cluster l = (length l.store.clusters ≡ length l.fn.store.clusters) × ((k : ℕ) → l.cluster ≤ k → k < length l.fn.store.clusters → 0 < count_of l.store k)
+invariant-loop-cluster l =
+    (length l.store.clusters ≡ length l.fn.store.clusters)
+    × ((k : ℕ) → l.cluster ≤ k → k < length l.fn.store.clusters → 0 < count_of l.store k)

@@ -7,10 +7,12 @@ use Rattle.pcb_table.proofs.ports.lowest_free.Goals as goal
 
 -- else each descriptor would be in use
 pub unreachable-requires : goal.unreachable-requires
-unreachable-requires c = some_fd_free _ c.requires.few (λ k least most. c.loop-fd.invariant k least (omega (arith, c.loop-fd-test.false)))
+unreachable-requires c =
+    some_fd_free _ c.requires.few (λ k least most. c.loop-fd.invariant k least (omega (arith, c.loop-fd-test.false)))
 
 pub loop-fd-preserved : goal.loop-fd-preserved
 loop-fd-preserved c = λ k least less. elim (cases_eq k c.loop-fd.fd) [
-  | inl e ↦ subst (λ j. is_some (find (has_fd j) c.args.blocks.now) ≡ true) (sym e) (located_some c.loop-fd.fd c.in-Some._at.index c.args.blocks.now c.in-Some._at.block c.in-Some.ensures)
+  | inl e ↦ subst (λ j. is_some (find (has_fd j) c.args.blocks.now) ≡ true) (sym e)
+      (located_some c.loop-fd.fd c.in-Some._at.index c.args.blocks.now c.in-Some._at.block c.in-Some.ensures)
   | inr ne ↦ c.loop-fd.invariant k least (omega arith)
 ]

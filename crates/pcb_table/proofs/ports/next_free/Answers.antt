@@ -4,4 +4,7 @@ use Rattle.pcb_table.proofs.ports.next_free.Goals as goal
 
 -- else each port of the circle would be in use
 pub unreachable-requires : goal.unreachable-requires
-unreachable-requires c = some_port_free c.args.blocks.now c.args.last c.args.local (omega (arith, c.len-few.ensures.value, c.len-few.ensures.few)) (λ k lt. c.loop-turns.invariant k (omega (arith, c.loop-turns-test.false)))
+unreachable-requires c =
+    some_port_free c.args.blocks.now c.args.last c.args.local
+    (omega (arith, c.len-few.ensures.value, c.len-few.ensures.few))
+    (λ k lt. c.loop-turns.invariant k (omega (arith, c.loop-turns-test.false)))

@@ -8,32 +8,54 @@ pub returns-in_default : goal.returns-in_default
 returns-in_default c = none_best c.args.key c.args.blocks.now c.in_default.is
 
 pub loop-key-init : goal.loop-key-init
-loop-key-init c = subst (λ (bs : List Block). Walked c.args.key c.args.blocks.now bs None 3) (sym c.as_slice-rest.ensures.value) (walk_begins c.args.key c.args.blocks.now)
+loop-key-init c =
+    subst (λ (bs : List Block). Walked c.args.key c.args.blocks.now bs None 3) (sym c.as_slice-rest.ensures.value)
+    (walk_begins c.args.key c.args.blocks.now)
 
 pub returns-then-wildcards-eq0 : goal.returns-then-wildcards-eq0
 returns-then-wildcards-eq0 c =
-    best_here _ _ _ _ _ _ _ _ c.in-Some.is (c.from_port.ensures ∙ walked_from _ _ _ _ _ _ _ c.as_slice-rest.ensures.value c.loop-key.invariant) c.in-len1-up.len_at_least (sym c.agrees.ensures ∙ c.if-agrees.true) (sym c.wildcards-wildcards.ensures ∙ c.if-wildcards-eq0.true) c.loop-key.invariant
+    best_here _ _ _ _ _ _ _ _ c.in-Some.is
+    (c.from_port.ensures ∙ walked_from _ _ _ _ _ _ _ c.as_slice-rest.ensures.value c.loop-key.invariant)
+    c.in-len1-up.len_at_least (sym c.agrees.ensures ∙ c.if-agrees.true)
+    (sym c.wildcards-wildcards.ensures ∙ c.if-wildcards-eq0.true) c.loop-key.invariant
 
 pub loop-key-smaller-then-wildcards-fewest : goal.loop-key-smaller-then-wildcards-fewest
-loop-key-smaller-then-wildcards-fewest c = walk_shortens _ _ _ _ (c.from_port.ensures ∙ walked_from _ _ _ _ _ _ _ c.as_slice-rest.ensures.value c.loop-key.invariant) c.in-len1-up.len_at_least refl
+loop-key-smaller-then-wildcards-fewest c =
+    walk_shortens _ _ _ _ (c.from_port.ensures
+    ∙ walked_from _ _ _ _ _ _ _ c.as_slice-rest.ensures.value c.loop-key.invariant) c.in-len1-up.len_at_least refl
 
 pub loop-key-smaller-else-wildcards-fewest : goal.loop-key-smaller-else-wildcards-fewest
-loop-key-smaller-else-wildcards-fewest c = walk_shortens _ _ _ _ (c.from_port.ensures ∙ walked_from _ _ _ _ _ _ _ c.as_slice-rest.ensures.value c.loop-key.invariant) c.in-len1-up.len_at_least refl
+loop-key-smaller-else-wildcards-fewest c =
+    walk_shortens _ _ _ _ (c.from_port.ensures
+    ∙ walked_from _ _ _ _ _ _ _ c.as_slice-rest.ensures.value c.loop-key.invariant) c.in-len1-up.len_at_least refl
 
 pub loop-key-smaller : goal.loop-key-smaller
-loop-key-smaller c = walk_shortens _ _ _ _ (c.from_port.ensures ∙ walked_from _ _ _ _ _ _ _ c.as_slice-rest.ensures.value c.loop-key.invariant) c.in-len1-up.len_at_least refl
+loop-key-smaller c =
+    walk_shortens _ _ _ _ (c.from_port.ensures
+    ∙ walked_from _ _ _ _ _ _ _ c.as_slice-rest.ensures.value c.loop-key.invariant) c.in-len1-up.len_at_least refl
 
 pub loop-key-preserved-then-wildcards-fewest : goal.loop-key-preserved-then-wildcards-fewest
 loop-key-preserved-then-wildcards-fewest c =
-    walk_gets _ _ _ _ _ _ _ _ _ _ _ _ c.in-Some.is (c.from_port.ensures ∙ walked_from _ _ _ _ _ _ _ c.as_slice-rest.ensures.value c.loop-key.invariant) c.in-len1-up.len_at_least refl (sym c.agrees.ensures ∙ c.if-agrees.true) c.wildcards-wildcards.ensures c.if-wildcards-eq0.false c.if-wildcards-fewest.true refl refl c.loop-key.invariant
+    walk_gets _ _ _ _ _ _ _ _ _ _ _ _ c.in-Some.is
+    (c.from_port.ensures ∙ walked_from _ _ _ _ _ _ _ c.as_slice-rest.ensures.value c.loop-key.invariant)
+    c.in-len1-up.len_at_least refl (sym c.agrees.ensures ∙ c.if-agrees.true) c.wildcards-wildcards.ensures
+    c.if-wildcards-eq0.false c.if-wildcards-fewest.true refl refl c.loop-key.invariant
 
 pub loop-key-preserved-else-wildcards-fewest : goal.loop-key-preserved-else-wildcards-fewest
 loop-key-preserved-else-wildcards-fewest c =
-    walk_stays _ _ _ _ _ _ _ _ _ _ _ _ c.in-Some.is (c.from_port.ensures ∙ walked_from _ _ _ _ _ _ _ c.as_slice-rest.ensures.value c.loop-key.invariant) c.in-len1-up.len_at_least refl (sym c.agrees.ensures ∙ c.if-agrees.true) c.wildcards-wildcards.ensures c.if-wildcards-eq0.false c.if-wildcards-fewest.false refl refl c.loop-key.invariant
+    walk_stays _ _ _ _ _ _ _ _ _ _ _ _ c.in-Some.is
+    (c.from_port.ensures ∙ walked_from _ _ _ _ _ _ _ c.as_slice-rest.ensures.value c.loop-key.invariant)
+    c.in-len1-up.len_at_least refl (sym c.agrees.ensures ∙ c.if-agrees.true) c.wildcards-wildcards.ensures
+    c.if-wildcards-eq0.false c.if-wildcards-fewest.false refl refl c.loop-key.invariant
 
 pub loop-key-preserved : goal.loop-key-preserved
 loop-key-preserved c =
-    walk_skips _ _ _ _ _ _ _ _ _ _ _ c.in-Some.is (c.from_port.ensures ∙ walked_from _ _ _ _ _ _ _ c.as_slice-rest.ensures.value c.loop-key.invariant) c.in-len1-up.len_at_least refl (sym c.agrees.ensures ∙ c.if-agrees.false) refl refl c.loop-key.invariant
+    walk_skips _ _ _ _ _ _ _ _ _ _ _ c.in-Some.is
+    (c.from_port.ensures ∙ walked_from _ _ _ _ _ _ _ c.as_slice-rest.ensures.value c.loop-key.invariant)
+    c.in-len1-up.len_at_least refl (sym c.agrees.ensures ∙ c.if-agrees.false) refl refl c.loop-key.invariant
 
 pub returns : goal.returns
-returns c = best_seen _ _ _ _ _ _ _ c.in-Some.is (c.from_port.ensures ∙ walked_from _ _ _ _ _ _ _ c.as_slice-rest.ensures.value c.loop-key.invariant) c.in_default-from_port.len_below c.loop-key.invariant
+returns c =
+    best_seen _ _ _ _ _ _ _ c.in-Some.is
+    (c.from_port.ensures ∙ walked_from _ _ _ _ _ _ _ c.as_slice-rest.ensures.value c.loop-key.invariant)
+    c.in_default-from_port.len_below c.loop-key.invariant

@@ -8,12 +8,15 @@ pub returns-then-all-le-FEW : goal.returns-then-all-le-FEW
 returns-then-all-le-FEW c = c.exact_by_walk.ensures ∙ ap (youngest_block 0 c.args.key) c.as_slice-all.ensures.value
 
 pub returns-in_default : goal.returns-in_default
-returns-in_default c = sym (exact_none c.args.key c.args.blocks.now (sym c.best.ensures ∙ ap option_copied c.in_default.is))
+returns-in_default c =
+    sym (exact_none c.args.key c.args.blocks.now (sym c.best.ensures ∙ ap option_copied c.in_default.is))
 
 pub returns-then-wildcards-eq0 : goal.returns-then-wildcards-eq0
 returns-then-wildcards-eq0 c =
-    sym (exact_is c.args.key c.args.blocks.now c.in-Some.block.now (sym c.best.ensures ∙ ap option_copied c.in-Some.is) (sym c.wildcards.ensures ∙ c.if-wildcards-eq0.true))
+    sym (exact_is c.args.key c.args.blocks.now c.in-Some.block.now (sym c.best.ensures ∙ ap option_copied c.in-Some.is)
+    (sym c.wildcards.ensures ∙ c.if-wildcards-eq0.true))
 
 pub returns-else-wildcards-eq0 : goal.returns-else-wildcards-eq0
 returns-else-wildcards-eq0 c =
-    sym (exact_not c.args.key c.args.blocks.now c.in-Some.block.now (sym c.best.ensures ∙ ap option_copied c.in-Some.is) (λ e. c.if-wildcards-eq0.false (c.wildcards.ensures ∙ e)))
+    sym (exact_not c.args.key c.args.blocks.now c.in-Some.block.now (sym c.best.ensures ∙ ap option_copied c.in-Some.is)
+    (λ e. c.if-wildcards-eq0.false (c.wildcards.ensures ∙ e)))

@@ -9,7 +9,8 @@ returns-in-Some-clause-is c =
     let at : ℕ = c.in-Some.at in
     let front : List ℕ = take at c.args.word.now in
     ranged c.args.word.now at c.range_from.result c.in-Some.ensures
-    (subst (λ (back : List ℕ). MatchOption c.range_from.result ((r : Range) → IsPair front back r → ⊥) (IsPair front back))
+    (subst (λ (back : List ℕ). MatchOption c.range_from.result ((r : Range) → IsPair front back r → ⊥)
+    (IsPair front back))
     (tail_all (at + 1) c.args.word.now) c.range_from.ensures.is)
 
 pub returns-in-None-clause-is : goal.returns-in-None-clause-is

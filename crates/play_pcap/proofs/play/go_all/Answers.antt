@@ -16,7 +16,8 @@ loop-next-preserved g c =
     let old = length-map c.loop-next.moves.rest.now captured in
     let new = length-map c.next_move.new.self.rest.now captured in record {
       goes = λ end rest. c.loop-next.invariant.goes end
-          (goes_move g.X.Wire.may_go n c.in-Some.next.packet.now _ _ _ _ _ end is.0 c.tick_all.ensures c.rx.ensures rest);
+          (goes_move g.X.Wire.may_go n c.in-Some.next.packet.now _ _ _ _ _ end is.0 c.tick_all.ensures c.rx.ensures
+          rest);
       packets = omega (arith, came, packets);
       ticks = omega (arith, ticked, ticks, is.2);
       passed = c.next_move.ensures.passed;

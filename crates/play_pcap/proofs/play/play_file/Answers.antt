@@ -7,7 +7,8 @@ pub returns-in_default : goal.returns-in_default
 returns-in_default g c = (
   whole c.in-Ok.capture,
   c.in-Ok.ensures.found,
-  λ h. c.in_default.ensures (range_back c.args.details.range c.in-Ok.capture.records.items _ c.as_slice.ensures.value h),
+  λ h. c.in_default.ensures (range_back c.args.details.range c.in-Ok.capture.records.items _ c.as_slice.ensures.value
+      h),
   refl,
 )
 

@@ -7,7 +7,8 @@ use Rattle.play_read.proofs.settings.settings_of.Given as goal
 
 abbrev pub invariant-pairs : goal.invariant-pairs
 invariant-pairs l =
-    (outcome : Result Config SettingFault) → SetsAll l.draft (words l.text) outcome → SetsAll (drafted l.fn.config) (words l.fn.plain) outcome
+    (outcome : Result Config SettingFault) → SetsAll l.draft (words l.text) outcome
+    → SetsAll (drafted l.fn.config) (words l.fn.plain) outcome
 
 abbrev pub decreases-pairs : goal.decreases-pairs
 decreases-pairs l = length (words l.text)

@@ -5,7 +5,8 @@ use Rattle.play_script.proofs.capture.note_call.Goals as goal
 
 pub returns-in-Packet : goal.returns-in-Packet
 returns-in-Packet g c = rw c.in-Packet.is
-    (Captures-comes c.args.capture.now.line c.args.capture.now.trace c.keep.new.self c.in-Packet.packet.now (reply_of c.args.reply.now)
+    (Captures-comes c.args.capture.now.line c.args.capture.now.trace c.keep.new.self c.in-Packet.packet.now
+    (reply_of c.args.reply.now)
     c.keep.ensures.kept c.keep.ensures.ticks)
 
 pub returns-in-Tick : goal.returns-in-Tick

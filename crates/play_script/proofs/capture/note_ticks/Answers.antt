@@ -11,4 +11,5 @@ loop-left-preserved g c = λ number reply end rest.
 
 pub returns : goal.returns
 returns g c = λ number reply.
-    c.loop-left.invariant number reply c.loop-left.trace (Captures-no_ticks number c.loop-left.left c.loop-left.trace reply (omega arith))
+    c.loop-left.invariant number reply c.loop-left.trace
+    (Captures-no_ticks number c.loop-left.left c.loop-left.trace reply (omega arith))

@@ -9,7 +9,10 @@ unfolding Moves
 loop-left-preserved c = λ end rest.
     let left : ℕ = c.loop-left.left in
     c.loop-left.invariant end
-    (Does-ticks Moves left (left - 1) (state_of c.loop-left.stack) (state_of c.tick.new.self) end (omega arith) refl c.tick.ensures rest)
+    (Does-ticks Moves left (left - 1) (state_of c.loop-left.stack) (state_of c.tick.new.self) end (omega arith) refl
+    c.tick.ensures rest)
 
 pub returns : goal.returns
-returns c = c.loop-left.invariant (state_of c.loop-left.stack) (Does-no_ticks Moves c.loop-left.left (state_of c.loop-left.stack) (omega arith))
+returns c =
+    c.loop-left.invariant (state_of c.loop-left.stack)
+    (Does-no_ticks Moves c.loop-left.left (state_of c.loop-left.stack) (omega arith))

@@ -9,8 +9,10 @@ returns-in-Some-None c =
     let word : List ℕ = c.first_word.result.0.now in
     let got : List ℕ = c.first_word-2.result.0.now in
     let number : List ℕ = c.first_word-3.result.0.now in
-    let wanted : words c.args.wanted.now ≡ word ∷ words c.in-Some-None.field-0-0.now = c.first_word.ensures ∙ ap (λ r. word ∷ left r) c.in-Some-None.is-0 in
-    let rest : words c.in-Some.rest.now ≡ number ∷ [] = c.first_word-3.ensures ∙ ap (λ r. number ∷ left r) c.in-Some-None.is-1 in
+    let wanted : words c.args.wanted.now ≡ word ∷ words c.in-Some-None.field-0-0.now =
+    c.first_word.ensures ∙ ap (λ r. word ∷ left r) c.in-Some-None.is-0 in
+    let rest : words c.in-Some.rest.now ≡ number ∷ [] =
+    c.first_word-3.ensures ∙ ap (λ r. number ∷ left r) c.in-Some-None.is-1 in
     let told : words c.args.told.now ≡ got ∷ number ∷ [] =
     c.first_word-2.ensures ∙ ap (λ r. got ∷ left r) c.in-Some.is ∙ ap (λ (t : List (List ℕ)). got ∷ t) rest in
     sym (unnumbered-longer _ _ _ word got number wanted told (words-some c.in-Some-None.field-0-0.now))
@@ -20,8 +22,10 @@ returns-in-Some-None-2 c =
     let word : List ℕ = c.first_word.result.0.now in
     let got : List ℕ = c.first_word-2.result.0.now in
     let number : List ℕ = c.first_word-3.result.0.now in
-    let wanted : words c.args.wanted.now ≡ word ∷ [] = c.first_word.ensures ∙ ap (λ r. word ∷ left r) c.in-Some-None.is-0 in
-    let rest : words c.in-Some.rest.now ≡ number ∷ words c.in-Some-None.field-0-1.now = c.first_word-3.ensures ∙ ap (λ r. number ∷ left r) c.in-Some-None.is-1 in
+    let wanted : words c.args.wanted.now ≡ word ∷ [] =
+    c.first_word.ensures ∙ ap (λ r. word ∷ left r) c.in-Some-None.is-0 in
+    let rest : words c.in-Some.rest.now ≡ number ∷ words c.in-Some-None.field-0-1.now =
+    c.first_word-3.ensures ∙ ap (λ r. number ∷ left r) c.in-Some-None.is-1 in
     let told : words c.args.told.now ≡ got ∷ number ∷ words c.in-Some-None.field-0-1.now =
     c.first_word-2.ensures ∙ ap (λ r. got ∷ left r) c.in-Some.is ∙ ap (λ (t : List (List ℕ)). got ∷ t) rest in
     sym (unnumbered-shorter _ _ _ word got number wanted told (words-some c.in-Some-None.field-0-1.now))

@@ -7,6 +7,9 @@ use Rattle.play_script.proofs.runs.play_machine.Goals as goal
 pub returns-clause-served : goal.returns-clause-served
 returns-clause-served g c =
     let printer = c.in-Ok.parts.printer in
-    Serves-started Moves g.F.Folder.may_have (state_of c.args.booted.0) c.args.booted.1.trace c.end-trace.result c.args.booted.1.config
-    printer.number printer.sound printer.form c.args.style.form printer.name _ _ _ _ _ _ c.serve_script-outcome.result (sym c.requires)
-    c.in-Ok.ensures.0 c.in-Ok.ensures.1 c.in-Ok.ensures.2 c.in-Ok.ensures.3 c.end-trace.ensures c.serve_script-outcome.ensures.served
+    Serves-started Moves g.F.Folder.may_have (state_of c.args.booted.0) c.args.booted.1.trace c.end-trace.result
+    c.args.booted.1.config
+    printer.number printer.sound printer.form c.args.style.form printer.name _ _ _ _ _ _ c.serve_script-outcome.result
+    (sym c.requires)
+    c.in-Ok.ensures.0 c.in-Ok.ensures.1 c.in-Ok.ensures.2 c.in-Ok.ensures.3 c.end-trace.ensures
+    c.serve_script-outcome.ensures.served

@@ -5,8 +5,10 @@ use Rattle.play_script.proofs.runs.play_on.Goals as goal
 
 pub returns-in-Err-clause-served : goal.returns-in-Err-clause-served
 returns-in-Err-clause-served g c =
-    Serves-unbooted Moves g.F.Folder.may_have c.args.start.config c.in-Err.fault c.args.start.trace c.args.style.form _ _ _ c.in-Err.ensures
+    Serves-unbooted Moves g.F.Folder.may_have c.args.start.config c.in-Err.fault c.args.start.trace c.args.style.form _
+    _ _ c.in-Err.ensures
 
 pub returns-in-Ok-clause-served : goal.returns-in-Ok-clause-served
 returns-in-Ok-clause-served g c =
-    Serves-captured Moves g.F.Folder.may_have (state_of c.in-Ok.machine) _ _ _ _ _ _ _ _ _ _ _ c.in-Ok.ensures.1 c.play_machine.ensures.served
+    Serves-captured Moves g.F.Folder.may_have (state_of c.in-Ok.machine) _ _ _ _ _ _ _ _ _ _ _ c.in-Ok.ensures.1
+    c.play_machine.ensures.served

@@ -4,7 +4,8 @@ use Rattle.net_stack.specs.Stack.{state_of}
 use Rattle.play_script.proofs.runs.play_plainly.Goals as goal
 
 pub returns-in-Err-clause-served : goal.returns-in-Err-clause-served
-returns-in-Err-clause-served g c = Serves-untraced Moves c.args.config c.in-Err.fault c.args.style.form _ _ _ c.in-Err.ensures
+returns-in-Err-clause-served g c =
+    Serves-untraced Moves c.args.config c.in-Err.fault c.args.style.form _ _ _ c.in-Err.ensures
 
 pub returns-in-Ok-clause-served : goal.returns-in-Ok-clause-served
 returns-in-Ok-clause-served g c =

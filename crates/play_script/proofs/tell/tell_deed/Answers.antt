@@ -18,5 +18,8 @@ returns-clause-done g c =
       was = c.snapshot_of-before.ensures;
       now = c.snapshot_of-after.ensures;
       tells = c.tell_reply.ensures.told;
-      shows = c.tell_reply.ensures.below ∙ c.put_below.ensures ∙ ap (λ (m : Option (List ℕ)). below_text c.args.report.now.quiet m before after output) c.moved_by-moved.ensures.packet;
+      shows =
+          c.tell_reply.ensures.below ∙ c.put_below.ensures
+          ∙ ap (λ (m : Option (List ℕ)). below_text c.args.report.now.quiet m before after output)
+          c.moved_by-moved.ensures.packet;
     }

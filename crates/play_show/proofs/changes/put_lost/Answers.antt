@@ -7,4 +7,5 @@ pub returns-clause-items : goal.returns-clause-items
 returns-clause-items c =
     c.put_if.ensures.items
     ∙ ap (λ (n : ℕ). c.args.text.now ++ (if nat_lt c.args.before c.args.after then
-    codes "    unfinished datagrams " ++ c.args.what.now ++ codes ": " ++ decimal n ++ codes "\n" else [])) c.saturating_sub-count.ensures
+    codes "    unfinished datagrams " ++ c.args.what.now ++ codes ": " ++ decimal n ++ codes "\n"
+    else [])) c.saturating_sub-count.ensures

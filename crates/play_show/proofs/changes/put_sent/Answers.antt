@@ -17,7 +17,9 @@ returns-then-before-after-clause-items c =
     (joined_three c.args.text.now c.put.new.text c.put_all_waiting.new.text c.put_if.new.text
     (sent_line all) (packets_below (min all MOST_SENT) c.args.before output) (more_line all)
     c.put.ensures.items
-    (c.put_all_waiting.ensures.items ∙ ap (λ (k : ℕ). c.put.new.text ++ packets_below k c.args.before output) c.min.ensures)
+    (c.put_all_waiting.ensures.items
+    ∙ ap (λ (k : ℕ). c.put.new.text ++ packets_below k c.args.before output) c.min.ensures)
     (c.put_if.ensures.items
-    ∙ ap (λ (n : ℕ). c.put_all_waiting.new.text ++ (if nat_lt MOST_SENT all then codes "    and " ++ decimal n ++ codes " more\n" else []))
+    ∙ ap (λ (n : ℕ). c.put_all_waiting.new.text
+    ++ (if nat_lt MOST_SENT all then codes "    and " ++ decimal n ++ codes " more\n" else []))
     c.saturating_sub-more.ensures))

@@ -8,5 +8,6 @@ use Rattle.play_show.proofs.snapshot.snapshot_of.Given as goal
 abbrev pub invariant-places : goal.invariant-places
 invariant-places l = record {
   len : length l.waiting ≡ MAX_SOCKETS;
-  counts : (k : ℕ) → k < l.place → get_or l.waiting k 0 ≡ waiting_of (next_datagram (FIRST_DESCRIPTOR + k) (state_of l.machine));
+  counts : (k : ℕ) → k < l.place
+      → get_or l.waiting k 0 ≡ waiting_of (next_datagram (FIRST_DESCRIPTOR + k) (state_of l.machine));
 }

@@ -10,9 +10,11 @@ use Rattle.play_show.proofs.unfinished.put_datagram.Goals as goal
 pub returns-clause-items : goal.returns-clause-items
 returns-clause-items c =
     joined_four c.args.text.now c.put_head.new.text c.put_ranges.new.text c.put_if.new.text c.append.new.self
-    (head_text c.args.datagram) (ranges_below MOST_RANGES c.args.i (state_of c.args.machine.now)) (rest_text c.args.datagram.ranges) (codes "\n")
+    (head_text c.args.datagram) (ranges_below MOST_RANGES c.args.i (state_of c.args.machine.now))
+    (rest_text c.args.datagram.ranges) (codes "\n")
     c.put_head.ensures.items c.put_ranges.ensures.items
     (c.put_if.ensures.items
-    ∙ ap (λ (n : ℕ). c.put_ranges.new.text ++ (if nat_lt MOST_RANGES c.args.datagram.ranges then codes " and " ++ decimal n ++ codes " more" else []))
+    ∙ ap (λ (n : ℕ). c.put_ranges.new.text
+    ++ (if nat_lt MOST_RANGES c.args.datagram.ranges then codes " and " ++ decimal n ++ codes " more" else []))
     c.saturating_sub-rest.ensures)
     c.append.ensures.items

@@ -8,7 +8,9 @@ places-init c = record { items = no_ranges c.args.text.now c.args.i (state_of c.
 
 pub places-preserved : goal.places-preserved
 places-preserved c = record {
-  items = one_more_range c.places.k c.args.i (state_of c.args.machine.now) c.args.text.now c.places.text c.put_range_at.new.text
+  items =
+      one_more_range c.places.k c.args.i (state_of c.args.machine.now) c.args.text.now c.places.text
+      c.put_range_at.new.text
       c.places.invariant.items c.put_range_at.ensures.items;
   len = omega (arith, c.put_range_at.ensures.len, c.places.invariant.len);
 }

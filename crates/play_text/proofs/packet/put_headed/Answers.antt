@@ -7,4 +7,5 @@ use Rattle.play_text.proofs.packet.put_headed.Goals as goal
 pub returns-then-is_fragment-clause-items : goal.returns-then-is_fragment-clause-items
 returns-then-is_fragment-clause-items g c =
     headed_fragment (head_for c.args.head) c.args.packet.now _ _ (sym c.is_fragment.ensures ∙ c.if-is_fragment.true)
-    (c.put_fragment.ensures.items ∙ ap (λ (n : ℕ). c.args.text.now ++ fragment_text (head_for c.args.head) n) c.carried_by.ensures)
+    (c.put_fragment.ensures.items ∙ ap (λ (n : ℕ). c.args.text.now ++ fragment_text (head_for c.args.head) n)
+    c.carried_by.ensures)

@@ -8,4 +8,5 @@ loop-init g c = moves_not (view c.args.segment.now) (view c.args.segment.now) re
 
 pub loop-preserved : goal.loop-preserved
 loop-preserved g c =
-    moves_on (view c.args.segment.now) (view c.loop.segment) (view c.carry_once.new.segment) c.loop.invariant c.carry_once.ensures
+    moves_on (view c.args.segment.now) (view c.loop.segment) (view c.carry_once.new.segment) c.loop.invariant
+    c.carry_once.ensures

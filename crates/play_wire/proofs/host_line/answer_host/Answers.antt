@@ -10,10 +10,13 @@ returns-then-exchange c =
     let said = c.answer_stack-outcome.ensures in (
       map (Calls c.args.place) said.0,
       inl (host_line c.args.place c.args.words.now (view c.args.segment.now) (view c.exchange.new.segment)
-          (view c.exchange-then-exchange.new.segment) c.args.spare.now.stack c.exchange.new.stack c.answer_stack-outcome.new.stack
+          (view c.exchange-then-exchange.new.segment) c.args.spare.now.stack c.exchange.new.stack
+          c.answer_stack-outcome.new.stack
           c.exchange-then-exchange.new.stack
-          (came_of c.answer_stack-outcome.result c.answer_stack-outcome.new.report.told c.answer_stack-outcome.new.report.below) said.0
-          c.exchange-then-exchange.result (c.exchange.ensures.yes c.if-exchange.true) said.1 c.exchange-then-exchange.ensures),
+          (came_of c.answer_stack-outcome.result c.answer_stack-outcome.new.report.told
+          c.answer_stack-outcome.new.report.below) said.0
+          c.exchange-then-exchange.result (c.exchange.ensures.yes c.if-exchange.true) said.1
+          c.exchange-then-exchange.ensures),
     )
 
 pub returns-else-exchange : goal.returns-else-exchange

@@ -20,11 +20,13 @@ unfolding Moves
 returns-in-Call c =
     let asked : AsksFor c.args.words.now (Some (asks.Call (event_of c.in-Call.request))) =
     subst (λ (a : Ask). AsksFor c.args.words.now (Some (ask_of a))) c.in-Call.is c.in-Some.ensures.asks in
-    answered_by_call c.args.words.now c.args.stack.now c.call-reply.new.stack c.tell_reply.new.self.told c.tell_reply.new.self.below
+    answered_by_call c.args.words.now c.args.stack.now c.call-reply.new.stack c.tell_reply.new.self.told
+    c.tell_reply.new.self.below
     (event_of c.in-Call.request) (reply_of c.call-reply.result) asked c.call-reply.ensures.step
     (c.tell_reply.ensures.told
     ∙ ap₂ (λ (a b : Counters). told (reply_text (reply_of c.call-reply.result)) (drops_text a b))
-    (counted_is _ _ c.counters-before.ensures.0) (counted_is _ _ c.counters-after.ensures.0)) (c.tell_reply.ensures.below ∙ c.clear.ensures)
+    (counted_is _ _ c.counters-before.ensures.0)
+    (counted_is _ _ c.counters-after.ensures.0)) (c.tell_reply.ensures.below ∙ c.clear.ensures)
 
 pub returns-in-Ticks : goal.returns-in-Ticks
 returns-in-Ticks c =
@@ -32,7 +34,12 @@ returns-in-Ticks c =
     let asked : AsksFor c.args.words.now (Some (asks.Ticks c.in-Ticks.count)) =
     subst (λ (a : Ask). AsksFor c.args.words.now (Some (ask_of a))) c.in-Ticks.is c.in-Some.ensures.asks in (
       replicate n (turn_of Tick Done),
-      (Some (asks.Ticks n), asked, c.tick_stack.ensures, (refl, ap₂ Told c.tell_ok.ensures.told c.tell_ok.ensures.below)),
+      (
+        Some (asks.Ticks n),
+        asked,
+        c.tick_stack.ensures,
+        (refl, ap₂ Told c.tell_ok.ensures.told c.tell_ok.ensures.below),
+      ),
     )
 
 pub returns-in-Show : goal.returns-in-Show
@@ -41,13 +48,19 @@ returns-in-Show c =
     let asked : AsksFor c.args.words.now (Some (asks.Show c.in-Show.topic)) =
     subst (λ (a : Ask). AsksFor c.args.words.now (Some (ask_of a))) c.in-Show.is c.in-Some.ensures.asks in (
       [],
-      (Some (asks.Show c.in-Show.topic), asked, refl, (c.tell_topic.new.self.told, c.tell_topic.new.self.below, c.tell_topic.ensures.shows, refl, refl)),
+      (
+        Some (asks.Show c.in-Show.topic),
+        asked,
+        refl,
+        (c.tell_topic.new.self.told, c.tell_topic.new.self.below, c.tell_topic.ensures.shows, refl, refl),
+      ),
     )
 
 pub returns-in-Capture : goal.returns-in-Capture
 returns-in-Capture c =
     let capture = c.in-Capture.field-0 in
-    let asked : AsksFor c.args.words.now (Some (asks.Capture c.in-Capture.field-0.name.now c.in-Capture.field-0.details)) =
+    let asked : AsksFor c.args.words.now
+    (Some (asks.Capture c.in-Capture.field-0.name.now c.in-Capture.field-0.details)) =
     subst (λ (a : Ask). AsksFor c.args.words.now (Some (ask_of a))) c.in-Capture.is c.in-Some.ensures.asks in
     ([], (Some (asks.Capture capture.name.now capture.details), asked, refl, (refl, refl)))
 

@@ -7,8 +7,10 @@ use Rattle.play_wire.proofs.player.answer_words.Goals as goal
 pub returns-in-Some : goal.returns-in-Some
 returns-in-Some g c play e f =
     done_by_host play c.args.target.now.named c.args.target.now.host c.args.words.now c.args.words.now
-    (came_of c.answer_host.result c.answer_host.new.report.told c.answer_host.new.report.below) (view c.args.hosts.now.segment)
-    (view c.answer_host.new.segment) c.args.hosts.now.names.items c.in-Some.place e f c.if-target.true c.in-Some.ensures refl c.answer_host.ensures
+    (came_of c.answer_host.result c.answer_host.new.report.told c.answer_host.new.report.below)
+    (view c.args.hosts.now.segment)
+    (view c.answer_host.new.segment) c.args.hosts.now.names.items c.in-Some.place e f c.if-target.true c.in-Some.ensures
+    refl c.answer_host.ensures
 
 pub returns-in-None : goal.returns-in-None
 returns-in-None g c play e f =
@@ -18,8 +20,11 @@ returns-in-None g c play e f =
 pub returns-else-target : goal.returns-else-target
 returns-else-target g c play e f =
     done_by_wire play c.args.target.now.named c.args.target.now.host c.args.words.now
-    (came_of c.answer_wire.result c.answer_wire.new.report.told c.answer_wire.new.report.below) (view c.args.hosts.now.segment)
-    (view c.answer_wire.new.self.segment) c.args.hosts.now.names.items c.answer_wire.new.self.names.items e f c.if-target.false
+    (came_of c.answer_wire.result c.answer_wire.new.report.told c.answer_wire.new.report.below)
+    (view c.args.hosts.now.segment)
+    (view c.answer_wire.new.self.segment) c.args.hosts.now.names.items c.answer_wire.new.self.names.items e f
+    c.if-target.false
     c.answer_wire.ensures.moves c.answer_wire.ensures.names
-    (tells_left c.answer_wire.result c.args.words.now c.args.words.now c.answer_wire.new.report.told c.answer_wire.new.report.below
+    (tells_left c.answer_wire.result c.args.words.now c.args.words.now c.answer_wire.new.report.told
+    c.answer_wire.new.report.below
     (view c.answer_wire.new.self.segment) refl c.answer_wire.ensures.left)

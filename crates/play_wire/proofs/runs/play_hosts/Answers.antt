@@ -11,14 +11,18 @@ pub returns-in_default-clause-lawful : goal.returns-in_default-clause-lawful
 returns-in_default-clause-lawful g c new lines printed prints =
     played _ _ _ new lines printed
     (λ acts i j first second s t before after fd most sender bytes on is from.
-    c.hosts_on_a_segment.ensures PACKETS i j first second s t acts new.segment before after fd most sender bytes on is from)
+    c.hosts_on_a_segment.ensures PACKETS i j first second s t acts new.segment before after fd most sender bytes on is
+    from)
     prints
 
 pub returns-clause-served : goal.returns-clause-served
 returns-clause-served g c = (
   (let m = c.serve_script-outcome.new.machine in play_with (view m.hosts.segment) m.hosts.names.items m.printer),
-  subst (λ (p : Play). Serves Tells p ((let m = c.serve_script-outcome.new.machine in play_with (view m.hosts.segment) m.hosts.names.items m.printer)) (g.R.Read.remaining c.args.reader.now) (g.R.Read.remaining c.serve_script-outcome.new.reader)
-      (g.W.Write.contents c.args.writer.now) (g.W.Write.contents c.serve_script-outcome.new.writer) c.serve_script-outcome.result)
+  subst (λ (p : Play). Serves Tells p
+      ((let m = c.serve_script-outcome.new.machine in play_with (view m.hosts.segment) m.hosts.names.items m.printer))
+      (g.R.Read.remaining c.args.reader.now) (g.R.Read.remaining c.serve_script-outcome.new.reader)
+      (g.W.Write.contents c.args.writer.now) (g.W.Write.contents c.serve_script-outcome.new.writer)
+      c.serve_script-outcome.result)
       c.in-Some.ensures c.serve_script-outcome.ensures.served,
   refl,
 )
@@ -27,5 +31,6 @@ pub returns-clause-lawful : goal.returns-clause-lawful
 returns-clause-lawful g c new lines printed prints =
     played _ _ _ new lines printed
     (λ acts i j first second s t before after fd most sender bytes on is from.
-    c.hosts_on_a_segment.ensures PACKETS i j first second s t acts new.segment before after fd most sender bytes on is from)
+    c.hosts_on_a_segment.ensures PACKETS i j first second s t acts new.segment before after fd most sender bytes on is
+    from)
     prints

@@ -8,4 +8,5 @@ loop-place-init c = moves_not (view c.args.segment.now) (view c.args.segment.now
 
 pub loop-place-preserved : goal.loop-place-preserved
 loop-place-preserved c =
-    moves_on (view c.args.segment.now) (view c.loop-place.segment) (view c.tick_host.new.segment) c.loop-place.invariant c.tick_host.ensures
+    moves_on (view c.args.segment.now) (view c.loop-place.segment) (view c.tick_host.new.segment) c.loop-place.invariant
+    c.tick_host.ensures

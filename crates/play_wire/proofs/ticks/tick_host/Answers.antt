@@ -7,6 +7,9 @@ use Rattle.play_wire.proofs.ticks.tick_host.Goals as goal
 
 pub returns-then-exchange : goal.returns-then-exchange
 returns-then-exchange c =
-    calls_move c.args.place (view c.args.segment.now) (view c.exchange.new.segment) (view c.exchange-then-exchange.new.segment)
-    c.args.spare.now c.exchange.new.stack c.tick_stack.new.stack c.exchange-then-exchange.new.stack c.exchange-then-exchange.result
-    (replicate c.args.count (turn_of Tick Done)) (c.exchange.ensures.yes c.if-exchange.true) c.tick_stack.ensures c.exchange-then-exchange.ensures
+    calls_move c.args.place (view c.args.segment.now) (view c.exchange.new.segment)
+    (view c.exchange-then-exchange.new.segment)
+    c.args.spare.now c.exchange.new.stack c.tick_stack.new.stack c.exchange-then-exchange.new.stack
+    c.exchange-then-exchange.result
+    (replicate c.args.count (turn_of Tick Done)) (c.exchange.ensures.yes c.if-exchange.true) c.tick_stack.ensures
+    c.exchange-then-exchange.ensures

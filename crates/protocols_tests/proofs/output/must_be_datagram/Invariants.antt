@@ -5,4 +5,5 @@ use Rattle.chain_ops.specs.Weights.{HaveBytes}
 use Rattle.protocols_tests.proofs.output.must_be_datagram.Given as goal
 
 abbrev pub invariant-mbufs : goal.invariant-mbufs
-invariant-mbufs g l = AllByRecursion (λ (p : ℕ × Option ℕ). 0 < p.0) l.len-iterator → HaveBytes (chain_of l.pool l.chain).entries
+invariant-mbufs g l =
+    AllByRecursion (λ (p : ℕ × Option ℕ). 0 < p.0) l.len-iterator → HaveBytes (chain_of l.pool l.chain).entries

@@ -12,7 +12,9 @@ returns-clause-decoded c =
     let packet = packet_back h.packet _ _ _ _ (ap (λ f. f / 2 % 2) flags ∙ high_bit a b)
     (c.bytes_u32-total.ensures ∙ ap (λ (p : PacketHeader). p.len) c.unwrap_or-packet.ensures)
     (c.bytes_u32-arrival.ensures ∙ ap (λ (p : PacketHeader). p.arrival) c.unwrap_or-packet.ensures) in
-    let cluster = cluster_back h.cluster _ _ _ (ap (λ f. f % 2) flags ∙ low_bit a b) (c.bytes_u32-cluster.ensures ∙ c.unwrap_or.ensures) in
+    let cluster =
+    cluster_back h.cluster _ _ _ (ap (λ f. f % 2) flags ∙ low_bit a b)
+    (c.bytes_u32-cluster.ensures ∙ c.unwrap_or.ensures) in
     λ t. record {
       next = c.bytes_link-next.ensures t;
       next_packet = c.bytes_link-next_packet.ensures t;

@@ -8,4 +8,5 @@ returns-clause-event c =
     Asks-form _ _ c.in_ok-word.word _ _ short c.first_word.ensures c.in_ok-word.ensures c.form_of.ensures.form
 
 pub returns-in_err-word-clause-event : goal.returns-in_err-word-clause-event
-returns-in_err-word-clause-event c = rw c.from_residual.ensures (Asks-none _ _ _ c.first_word.ensures c.in_err-word.ensures)
+returns-in_err-word-clause-event c =
+    rw c.from_residual.ensures (Asks-none _ _ _ c.first_word.ensures c.in_err-word.ensures)

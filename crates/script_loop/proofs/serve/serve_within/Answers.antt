@@ -32,7 +32,8 @@ chunks-preserved g c =
       short = c.in_ok-count-in-Ok.ensures.within.1;
       read = MoreBy-then 0 0 0 _ _ _ (omega arith) c.chunks.invariant.read c.in-Ok.ensures.count;
       wrote = MoreBy-then 0 0 0 _ _ _ (omega arith) c.chunks.invariant.wrote c.in_ok-count-in-Ok.ensures.told;
-      served = (_, _, Moves-then _ _ _ _ _ _ _ _ _ _ kept.2 c.in-Ok.ensures.bytes.0 taken.1, rw (append-nil _) at taken.2);
+      served =
+          (_, _, Moves-then _ _ _ _ _ _ _ _ _ _ kept.2 c.in-Ok.ensures.bytes.0 taken.1, rw (append-nil _) at taken.2);
     }
 
 pub returns-clause-served : goal.returns-clause-served
@@ -42,13 +43,16 @@ returns-clause-served g c =
     let read = rw zero at c.in-Ok-eq0.ensures.bytes in
     let room : 0 < length c.read_some.new.buf = omega arith in
     let sent = c.answer_line.ensures.sent in
-    Serves-last _ _ _ _ _ _ _ _ _ _ _ c.chunks.line _ _ sent.0 _ kept.2 read.0 (read.1 refl room) kept.3 (λ e. cc (c.if-is_empty.ensures.1 e))
+    Serves-last _ _ _ _ _ _ _ _ _ _ _ c.chunks.line _ _ sent.0 _ kept.2 read.0 (read.1 refl room) kept.3
+    (λ e. cc (c.if-is_empty.ensures.1 e))
     (rw c.as_slice.ensures at sent.1) sent.2
 
 pub returns-in_err-count-in-Ok-clause-read : goal.returns-in_err-count-in-Ok-clause-read
 returns-in_err-count-in-Ok-clause-read g c =
     let p = err_from_is_err_and c.from_residual.result c.from_residual.ensures.1 in
-    let fault = chunk-fault _ _ _ _ _ _ _ _ c.take_chunk.new.line _ (c.in_err-count-in-Ok.ensures.taken _ _ _ c.chunks.invariant.served.3) in
+    let fault =
+    chunk-fault _ _ _ _ _ _ _ _ c.take_chunk.new.line _
+    (c.in_err-count-in-Ok.ensures.taken _ _ _ c.chunks.invariant.served.3) in
     rw (p.1, p.2, fault.0) (MoreBy-then 0 0 0 _ _ _ (omega arith) c.chunks.invariant.read c.in-Ok.ensures.count)
 
 pub returns-in_err-count-in-Ok-clause-wrote : goal.returns-in_err-count-in-Ok-clause-wrote
@@ -59,5 +63,7 @@ returns-in_err-count-in-Ok-clause-wrote g c =
 pub returns-in_err-count-in-Ok-clause-started : goal.returns-in_err-count-in-Ok-clause-started
 returns-in_err-count-in-Ok-clause-started g c =
     let p = err_from_is_err_and c.from_residual.result c.from_residual.ensures.1 in
-    let fault = chunk-fault _ _ _ _ _ _ _ _ c.take_chunk.new.line _ (c.in_err-count-in-Ok.ensures.taken _ _ _ c.chunks.invariant.served.3) in
+    let fault =
+    chunk-fault _ _ _ _ _ _ _ _ c.take_chunk.new.line _
+    (c.in_err-count-in-Ok.ensures.taken _ _ _ c.chunks.invariant.served.3) in
     rw (p.1, p.2) fault.1

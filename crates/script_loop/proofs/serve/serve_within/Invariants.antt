@@ -14,7 +14,8 @@ invariant-chunks g l = record {
   served : (seen : List ℕ) × (written : List ℕ)
       × Moves (g.R.Read.remaining l.fn.reader) (g.R.Read.remaining l.reader) seen
       (g.W.Write.contents l.fn.writer) (g.W.Write.contents l.writer) written
-      × Answered g.A.Answers.may_answer (g.A.Answers.state l.fn.machine) (g.A.Answers.state l.machine) seen l.line l.count written;
+      × Answered g.A.Answers.may_answer (g.A.Answers.state l.fn.machine) (g.A.Answers.state l.machine) seen l.line
+      l.count written;
 }
 
 abbrev pub decreases-chunks : goal.decreases-chunks

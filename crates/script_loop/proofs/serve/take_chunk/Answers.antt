@@ -14,14 +14,27 @@ loop-at-init g c = record {
   short = c.requires.short;
   fewer = omega arith;
   told = MoreBy-none _;
-  taken = ([], refl, λ begin seen written h. ([], Appends-nil _, rw (append-nil seen, c.requires.text, append-nil (written ++ []), append-nil written) h));
+  taken = (
+    [],
+    refl,
+    λ begin seen written h.
+        ([], Appends-nil _, rw (append-nil seen, c.requires.text, append-nil (written ++ []), append-nil written) h),
+  );
 }
 
 pub take_line-requires : goal.take_line-requires
 take_line-requires g c =
     let kept = c.loop-at.invariant in
-    let rest : List ℕ = c.loop-at.rest.now in
-    (omega arith, (kept.within, (kept.short, (kept.room, no_end-take rest c.in-Some.at (first-none rest c.in-Some.at c.in-Some.ensures.0.before)))))
+    let rest : List ℕ = c.loop-at.rest.now in (
+      omega arith,
+      (
+        kept.within,
+        (
+          kept.short,
+          (kept.room, no_end-take rest c.in-Some.at (first-none rest c.in-Some.at c.in-Some.ensures.0.before)),
+        ),
+      ),
+    )
 
 pub returns-in_err-now-clause-taken : goal.returns-in_err-now-clause-taken
 returns-in_err-now-clause-taken g c = λ begin seen written h.
@@ -30,9 +43,11 @@ returns-in_err-now-clause-taken g c = λ begin seen written h.
     let kept = taken.2 begin seen written h in
     let rest : List ℕ = c.loop-at.rest.now in
     let at : ℕ = c.in-Some.at in
-    let cut : rest ≡ (take at rest ++ 10 ∷ []) ++ drop (suc at) rest = cut-at rest at c.in-Some.ensures.0.high c.in-Some.ensures.1 in
+    let cut : rest ≡ (take at rest ++ 10 ∷ []) ++ drop (suc at) rest =
+    cut-at rest at c.in-Some.ensures.0.high c.in-Some.ensures.1 in
     rw (p.1, p.2)
-    (Takes-stop _ _ _ _ taken.0 (take at rest ++ 10 ∷ []) (drop (suc at) rest) _ _ kept.0 _ _ _ c.take_line.new.text [] c.take_line.new.line _
+    (Takes-stop _ _ _ _ taken.0 (take at rest ++ 10 ∷ []) (drop (suc at) rest) _ _ kept.0 _ _ _ c.take_line.new.text []
+    c.take_line.new.line _
     (taken.1 ∙ ap (λ (t : List ℕ). taken.0 ++ t) cut) kept.1
     (c.in_err-now.ensures.taken begin _ (written ++ kept.0) kept.2))
 
@@ -44,12 +59,19 @@ loop-at-preserved g c =
     let piece : List ℕ = take at rest ++ 10 ∷ [] in
     let place : at + 1 ≡ suc at = omega arith in
     let after : c.split_at.result.1.now ≡ drop (suc at) rest = rw place at c.split_at.ensures.back in
-    let cut : rest ≡ piece ++ c.split_at.result.1.now = rw after (cut-at rest at c.in-Some.ensures.0.high c.in-Some.ensures.1) in
+    let cut : rest ≡ piece ++ c.split_at.result.1.now =
+    rw after (cut-at rest at c.in-Some.ensures.0.high c.in-Some.ensures.1) in
     record {
       room = c.in_ok-now.ensures.room;
       within = c.in_ok-now.ensures.within.0;
       short = c.in_ok-now.ensures.within.1;
-      fewer = omega (arith, c.loop-at.invariant.fewer, c.in_ok-now.ensures.fewer, cut-length rest (take at rest) c.split_at.result.1.now cut);
+      fewer =
+          omega (
+            arith,
+            c.loop-at.invariant.fewer,
+            c.in_ok-now.ensures.fewer,
+            cut-length rest (take at rest) c.split_at.result.1.now cut,
+          );
       told = MoreBy-then 0 0 0 _ _ _ (omega arith) c.loop-at.invariant.told c.in_ok-now.ensures.told;
       taken = (
         taken.0 ++ piece,
@@ -67,8 +89,10 @@ returns-in_err-flush-clause-taken g c = λ begin seen written h.
     let taken = c.loop-at.invariant.taken in
     let kept = taken.2 begin seen written h in
     rw (p.1, p.2)
-    (Takes-longer g.A.Answers.may_answer begin _ seen taken.0 c.loop-at.rest.now c.args.chunk.now written _ _ [] [] c.take_part-fits.new.line _ taken.1
-    (Takes-unsent g.A.Answers.may_answer begin _ seen taken.0 c.loop-at.line c.loop-at.now written c.loop-at.text c.take_part-fits.new.line _ _ _ _
+    (Takes-longer g.A.Answers.may_answer begin _ seen taken.0 c.loop-at.rest.now c.args.chunk.now written _ _ [] []
+    c.take_part-fits.new.line _ taken.1
+    (Takes-unsent g.A.Answers.may_answer begin _ seen taken.0 c.loop-at.line c.loop-at.now written c.loop-at.text
+    c.take_part-fits.new.line _ _ _ _
     kept c.in_err-flush.ensures.sent))
 
 pub returns-then-fits-clause-taken : goal.returns-then-fits-clause-taken
@@ -80,8 +104,13 @@ returns-then-fits-clause-taken g c = λ begin seen written h.
     let part = Answered-part _ begin _ _ _ _ _ rest kept.2 none (c.if-fits.ensures.room.0 refl) in
     let whole = append_assoc seen taken.0 rest ∙ ap (λ (t : List ℕ). seen ++ t) (sym taken.1) in
     rw (c.if-fits.ensures.line refl)
-    (Takes-sent g.A.Answers.may_answer begin _ seen c.args.chunk.now (c.loop-at.line ++ rest) c.loop-at.now written c.loop-at.text _ _ _
-    (kept.0, kept.1, subst (λ (s : List ℕ). Answered g.A.Answers.may_answer begin (g.A.Answers.state c.loop-at.machine) s (c.loop-at.line ++ rest) c.loop-at.now ((written ++ kept.0) ++ c.loop-at.text)) whole part)
+    (Takes-sent g.A.Answers.may_answer begin _ seen c.args.chunk.now (c.loop-at.line ++ rest) c.loop-at.now written
+    c.loop-at.text _ _ _ (
+      kept.0,
+      kept.1,
+      subst (λ (s : List ℕ). Answered g.A.Answers.may_answer begin (g.A.Answers.state c.loop-at.machine)
+          s (c.loop-at.line ++ rest) c.loop-at.now ((written ++ kept.0) ++ c.loop-at.text)) whole part,
+    )
     c.in_ok-flush.ensures.sent)
 
 pub returns-else-fits-clause-taken : goal.returns-else-fits-clause-taken
@@ -90,6 +119,10 @@ returns-else-fits-clause-taken g c = λ begin seen written h.
     let kept = taken.2 begin seen written h in
     let rest : List ℕ = c.loop-at.rest.now in
     let none = no_end-all rest (first-none rest (length rest) c.in_default.ensures) in
-    let broken = Breaks-part _ begin _ _ _ _ _ rest [] kept.2 none c.loop-at.invariant.short (λ room. false≢true (c.if-fits.ensures.room.1 room)) in
-    Takes-broken g.A.Answers.may_answer begin _ seen taken.0 rest c.args.chunk.now c.loop-at.line c.loop-at.now written kept.0 c.loop-at.text [] c.take_part-fits.new.line _ _ _
-    taken.1 kept.2 (subst (λ (t : List ℕ). BreaksLimit (seen ++ taken.0) t) (append-nil rest) broken) kept.1 c.in_ok-flush.ensures.sent
+    let broken =
+    Breaks-part _ begin _ _ _ _ _ rest [] kept.2 none c.loop-at.invariant.short
+    (λ room. false≢true (c.if-fits.ensures.room.1 room)) in
+    Takes-broken g.A.Answers.may_answer begin _ seen taken.0 rest c.args.chunk.now c.loop-at.line c.loop-at.now written
+    kept.0 c.loop-at.text [] c.take_part-fits.new.line _ _ _
+    taken.1 kept.2 (subst (λ (t : List ℕ). BreaksLimit (seen ++ taken.0) t) (append-nil rest) broken) kept.1
+    c.in_ok-flush.ensures.sent

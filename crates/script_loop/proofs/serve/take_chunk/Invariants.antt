@@ -15,7 +15,8 @@ invariant-loop-at g l = record {
       × ((begin : g.A.Answers.State) (seen written : List ℕ)
       → Answered g.A.Answers.may_answer begin (g.A.Answers.state l.fn.machine) seen l.fn.line l.fn.count written
       → (more : List ℕ) × Appends (g.W.Write.contents l.fn.writer) (g.W.Write.contents l.writer) more
-      × Answered g.A.Answers.may_answer begin (g.A.Answers.state l.machine) (seen ++ front) l.line l.now ((written ++ more) ++ l.text));
+      × Answered g.A.Answers.may_answer begin (g.A.Answers.state l.machine) (seen ++ front) l.line l.now
+      ((written ++ more) ++ l.text));
 }
 
 abbrev pub decreases-loop-at : goal.decreases-loop-at

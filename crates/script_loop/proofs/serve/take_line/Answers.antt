@@ -7,15 +7,18 @@ pub returns-in_err-make_room-in-Some-clause-taken : goal.returns-in_err-make_roo
 returns-in_err-make_room-in-Some-clause-taken g c = λ begin seen written h.
     let p = err_from_is_err_and c.from_residual.result c.from_residual.ensures.1 in
     rw (p.1, p.2)
-    (Takes-no_room g.A.Answers.may_answer begin _ seen c.take_end.new.line c.in-Some.now written c.args.text.now c.take_end.new.text c.make_room.new.text
+    (Takes-no_room g.A.Answers.may_answer begin _ seen c.take_end.new.line c.in-Some.now written c.args.text.now
+    c.take_end.new.text c.make_room.new.text
     c.make_room.new.text c.take_end.new.line _ _ _ _
     (c.in-Some.ensures.taken begin seen (written ++ c.args.text.now) h) c.in_err-make_room-in-Some.ensures.flushed)
 
 pub returns-in_err-flush-in-None-clause-taken : goal.returns-in_err-flush-in-None-clause-taken
 returns-in_err-flush-in-None-clause-taken g c = λ begin seen written h.
-    let p = err_from_is_err_and c.from_residual-in_err-flush-in-None.result c.from_residual-in_err-flush-in-None.ensures.1 in
+    let p =
+    err_from_is_err_and c.from_residual-in_err-flush-in-None.result c.from_residual-in_err-flush-in-None.ensures.1 in
     rw (p.1, p.2)
-    (Takes-too_far-cut g.A.Answers.may_answer begin _ seen c.take_end.new.line written c.args.text.now c.take_end.new.text
+    (Takes-too_far-cut g.A.Answers.may_answer begin _ seen c.take_end.new.line written c.args.text.now
+    c.take_end.new.text
     c.flush.new.text c.take_end.new.line _ _ _ _ h.within
     (c.in-None.ensures.taken begin seen (written ++ c.args.text.now) h) c.in_err-flush-in-None.ensures.sent)
 

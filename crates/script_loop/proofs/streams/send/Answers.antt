@@ -17,5 +17,7 @@ loop-rest-preserved g c =
         let e = kept.1 in grind (arith, common_steps, e),
         Appends-trans _ _ _ kept.0 (take n rest) kept.2 c.in-Ok.ensures.bytes,
       );
-      told = MoreBy-then 0 0 0 _ _ _ (omega arith) c.loop-rest.invariant.told (MoreBy-some c.in-Ok.n _ _ (omega arith) c.in-Ok.ensures.count);
+      told =
+          MoreBy-then 0 0 0 _ _ _ (omega arith) c.loop-rest.invariant.told
+          (MoreBy-some c.in-Ok.n _ _ (omega arith) c.in-Ok.ensures.count);
     }

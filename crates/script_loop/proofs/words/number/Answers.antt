@@ -17,13 +17,16 @@ returns-in_default-parse c = λ n h.
     let small : n < 2 ^ 32 = omega (arith, h) in
     let wide : n < 2 ^ 64 = omega arith in
     c.in_default-parse.not-Ok n
-    (parse-decimal 32 n c.in-Ok.text.now c.parse.result small wide (c.in-Ok.ensures.cases.0 ∙ h.1) c.parse.ensures.value.0)
+    (parse-decimal 32 n c.in-Ok.text.now c.parse.result small wide (c.in-Ok.ensures.cases.0 ∙ h.1)
+    c.parse.ensures.value.0)
 
 pub returns-then-value-most : goal.returns-then-value-most
 returns-then-value-most c = λ n h.
     let small : n < 2 ^ 32 = omega (arith, h) in
     let wide : n < 2 ^ 64 = omega arith in
-    let read = parse-decimal 32 n c.in-Ok.text.now c.parse.result small wide (c.in-Ok.ensures.cases.0 ∙ h.1) c.parse.ensures.value.0 in
+    let read =
+    parse-decimal 32 n c.in-Ok.text.now c.parse.result small wide (c.in-Ok.ensures.cases.0 ∙ h.1)
+    c.parse.ensures.value.0 in
     let same : c.in-Ok-parse.value ≡ n = cc (sym c.in-Ok-parse.is ∙ read) in
     elim c.then-value-most.branch [
       | then-value-most-via-then-value-most w ↦ omega (arith, h, same)

@@ -11,7 +11,9 @@ use Rattle.segment.proofs.carry.collect_all.Given as goal
 abbrev pub invariant-loop-place : goal.invariant-loop-place
 invariant-loop-place l = record {
   walked : IsWalked (λ place s t. AreCalls s (gives (waiting s)) t) l.fn.stacks.items l.stacks.items l.place;
-  entered : Entered (vec_capacity l.fn.flight.frames) l.fn.impairment.chances.items (under_way l.fn.flight) (under_way l.flight) l.fn.impairment.random l.impairment.random l.fn.impairment.tallies.items l.impairment.tallies.items (given_below l.fn.stacks.items l.place);
+  entered : Entered (vec_capacity l.fn.flight.frames) l.fn.impairment.chances.items (under_way l.fn.flight)
+      (under_way l.flight) l.fn.impairment.random l.impairment.random l.fn.impairment.tallies.items
+      l.impairment.tallies.items (given_below l.fn.stacks.items l.place);
   chances : l.impairment.chances ≡ l.fn.impairment.chances;
   room : vec_capacity l.flight.frames ≡ vec_capacity l.fn.flight.frames;
 }

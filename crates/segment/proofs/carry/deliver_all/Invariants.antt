@@ -8,4 +8,5 @@ use Rattle.segment.proofs.carry.deliver_all.Given as goal
 
 abbrev pub invariant-loop-place : goal.invariant-loop-place
 invariant-loop-place l =
-    IsWalked (λ place s t. AreCalls s (comes (received_in place (slice_get l.configs place) (map flying l.due))) t) l.fn.stacks.items l.stacks.items l.place
+    IsWalked (λ place s t. AreCalls s (comes (received_in place (slice_get l.configs place) (map flying l.due))) t)
+    l.fn.stacks.items l.stacks.items l.place

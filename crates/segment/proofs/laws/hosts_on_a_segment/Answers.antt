@@ -13,12 +13,15 @@ use Rattle.segment.proofs.Hosts.{AreApart, AreFine, acts_fine, none_fine}
 use Rattle.segment.proofs.Wires.{wires}
 use Rattle.segment.proofs.laws.hosts_on_a_segment.Goals as goal
 
-on_one_wire : (room i j : ℕ) (first second : Config) (s t : StackView) (acts : List Act) (last : SegmentView) → AreOnSegment room i j first second s t acts last
+on_one_wire : (room i j : ℕ) (first second : Config) (s t : StackView) (acts : List Act) (last : SegmentView)
+    → AreOnSegment room i j first second s t acts last
     → AreOnOneWire first second (turns_of i acts) (turns_of j acts) s t
 on_one_wire room i j first second s t acts last w =
     let start : SegmentView = no_hosts room in
-    let one : Started first (turns_of i acts) s = began i first s acts start last refl w.done w.first_is w.first_stack in
-    let two : Started second (turns_of j acts) t = began j second t acts start last refl w.done w.second_is w.second_stack in
+    let one : Started first (turns_of i acts) s =
+    began i first s acts start last refl w.done w.first_is w.first_stack in
+    let two : Started second (turns_of j acts) t =
+    began j second t acts start last refl w.done w.second_is w.second_stack in
     let fine : AreFine last = acts_fine acts start last (none_fine room) w.done in
     let apart : AreApart first second = fine.apart i j first second w.two w.first_is w.second_is in
     record {
@@ -33,11 +36,15 @@ on_one_wire room i j first second s t acts last w =
       not_addr = apart.addr;
       not_bcast = apart.bcast;
       few = w.few;
-      wire = All-from_recursion _ _ (wires i j first.addr (λ packet. Contains (filter_map packet_out (turns_of i acts)) packet) first refl one.1 last fine w.first_is acts start w.done (none_fine room) tt (λ packet h. h)
+      wire =
+          All-from_recursion _ _ (wires i j first.addr
+          (λ packet. Contains (filter_map packet_out (turns_of i acts)) packet) first refl one.1 last fine w.first_is
+          acts start w.done (none_fine room) tt (λ packet h. h)
           (recursion_from_All _ _ w.outside));
     }
 
 pub returns : goal.returns
 returns c room i j first second s t acts last before after fd most sender bytes w is from =
     c.stacks_on_a_wire.ensures.received first second (turns_of i acts) before after s t fd most sender bytes
-    (subst (λ (turns : List Turn). AreOnOneWire first second (turns_of i acts) turns s t) is (on_one_wire room i j first second s t acts last w)) from
+    (subst (λ (turns : List Turn). AreOnOneWire first second (turns_of i acts) turns s t) is
+    (on_one_wire room i j first second s t acts last w)) from

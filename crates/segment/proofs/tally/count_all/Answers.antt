@@ -9,9 +9,15 @@ use Rattle.segment.proofs.tally.count_all.Goals as goal
 pub loop-place-preserved : goal.loop-place-preserved
 loop-place-preserved c =
     let s = c.index.result.now in
-    walk_on (λ place t u. u ≡ hears (length (received_in place (slice_get c.args.configs.now place) (map flying c.args.due.now))) t) c.args.tallies.now.items c.loop-place.tallies.items c.loop-place.place
-    s c.hears.result s c.loop-place.invariant (omega arith) c.index.ensures (c.hears.ensures ∙ ap (λ n. hears n s) c.heard-packets.ensures)
+    walk_on (λ place t u. u ≡ hears
+    (length (received_in place (slice_get c.args.configs.now place) (map flying c.args.due.now)))
+    t) c.args.tallies.now.items c.loop-place.tallies.items c.loop-place.place
+    s c.hears.result s c.loop-place.invariant (omega arith) c.index.ensures
+    (c.hears.ensures ∙ ap (λ n. hears n s) c.heard-packets.ensures)
 
 pub returns : goal.returns
-returns c = walk_ends (λ place t u. u ≡ hears (length (received_in place (slice_get c.args.configs.now place) (map flying c.args.due.now))) t) c.args.tallies.now.items c.loop-place.tallies.items c.loop-place.place
+returns c =
+    walk_ends (λ place t u. u ≡ hears
+    (length (received_in place (slice_get c.args.configs.now place) (map flying c.args.due.now)))
+    t) c.args.tallies.now.items c.loop-place.tallies.items c.loop-place.place
     c.loop-place.invariant (omega arith)

@@ -9,12 +9,16 @@ loop-at-preserved c =
     let n = c.loop-at.packets in
     elim c.if-goes_to.branch [
       | then-goes_to w ↦ record {
-        counted = counted_next c.args.place c.args.config.now c.loop-at.at c.args.due.now c.index-due-at.result n c.if-goes_to.packets c.goes_to.result (omega arith) c.index-due-at.is inv.counted c.goes_to.ensures
+        counted =
+            counted_next c.args.place c.args.config.now c.loop-at.at c.args.due.now c.index-due-at.result n
+            c.if-goes_to.packets c.goes_to.result (omega arith) c.index-due-at.is inv.counted c.goes_to.ensures
             (w.packets-is ∙ ap (λ b. cond b (n + 1) n) (sym w.if-goes_to.true));
         few = omega (arith, w.packets-is, inv.few);
       }
       | else-goes_to w ↦ record {
-        counted = counted_next c.args.place c.args.config.now c.loop-at.at c.args.due.now c.index-due-at.result n c.if-goes_to.packets c.goes_to.result (omega arith) c.index-due-at.is inv.counted c.goes_to.ensures
+        counted =
+            counted_next c.args.place c.args.config.now c.loop-at.at c.args.due.now c.index-due-at.result n
+            c.if-goes_to.packets c.goes_to.result (omega arith) c.index-due-at.is inv.counted c.goes_to.ensures
             (w.packets-is ∙ ap (λ b. cond b (n + 1) n) (sym w.if-goes_to.false));
         few = omega (arith, w.packets-is, inv.few);
       }

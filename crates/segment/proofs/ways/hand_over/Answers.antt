@@ -3,4 +3,9 @@ use Rattle.segment.proofs.Taking.{are_bytes}
 use Rattle.segment.proofs.ways.hand_over.Goals as goal
 
 pub returns : goal.returns
-returns c = ((are_bytes c.args.packet.now (λ k. omega (arith, c.type_inv.packet k)), omega arith), c.rx.new.self, c.rx.ensures, refl)
+returns c = (
+  (are_bytes c.args.packet.now (λ k. omega (arith, c.type_inv.packet k)), omega arith),
+  c.rx.new.self,
+  c.rx.ensures,
+  refl,
+)

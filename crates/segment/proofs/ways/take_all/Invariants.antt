@@ -10,7 +10,9 @@ abbrev pub invariant-loop : goal.invariant-loop
 invariant-loop l = record {
   calls : AreCalls l.fn.stack (gives (take l.counter (waiting l.fn.stack))) l.stack;
   waits : waiting l.stack ≡ drop l.counter (waiting l.fn.stack);
-  entered : Entered (vec_capacity l.fn.flight.frames) l.fn.impairment.chances.items (under_way l.fn.flight) (under_way l.flight) l.fn.impairment.random l.impairment.random l.fn.impairment.tallies.items l.impairment.tallies.items (sent_by l.sender (take l.counter (waiting l.fn.stack)));
+  entered : Entered (vec_capacity l.fn.flight.frames) l.fn.impairment.chances.items (under_way l.fn.flight)
+      (under_way l.flight) l.fn.impairment.random l.impairment.random l.fn.impairment.tallies.items
+      l.impairment.tallies.items (sent_by l.sender (take l.counter (waiting l.fn.stack)));
   chances : l.impairment.chances ≡ l.fn.impairment.chances;
   room : vec_capacity l.flight.frames ≡ vec_capacity l.fn.flight.frames;
   end : l.end ≡ length (waiting l.fn.stack);

@@ -17,13 +17,20 @@ link_counted-requires-clause-last c = omega (arith, c.first-at.ensures.index, co
 pub link_counted-requires-clause-len : goal.link_counted-requires-clause-len
 link_counted-requires-clause-len c =
     let a = c.in-Ok.ensures.ok in
-    c.requires.len ∙ ap (λ (v : ChainView). length (string v)) (sym (kept_with _ _ _ _ _ a.pool (apart _ _ _ _ a _ c.requires.live)))
+    c.requires.len ∙ ap (λ (v : ChainView). length (string v))
+    (sym (kept_with _ _ _ _ _ a.pool (apart _ _ _ _ a _ c.requires.live)))
 
 pub returns-clause-entries : goal.returns-clause-entries
-returns-clause-entries c = (addressed _ _ _ (with_bytes c.args.sender _ c.in-Ok.ensures.ok c.sockaddr_bytes.ensures) c.requires.live c.link_counted.ensures.change).entries
+returns-clause-entries c =
+    (addressed _ _ _ (with_bytes c.args.sender _ c.in-Ok.ensures.ok c.sockaddr_bytes.ensures) c.requires.live
+    c.link_counted.ensures.change).entries
 
 pub returns-clause-headed : goal.returns-clause-headed
-returns-clause-headed c = (addressed _ _ _ (with_bytes c.args.sender _ c.in-Ok.ensures.ok c.sockaddr_bytes.ensures) c.requires.live c.link_counted.ensures.change).headed
+returns-clause-headed c =
+    (addressed _ _ _ (with_bytes c.args.sender _ c.in-Ok.ensures.ok c.sockaddr_bytes.ensures) c.requires.live
+    c.link_counted.ensures.change).headed
 
 pub returns-clause-moves : goal.returns-clause-moves
-returns-clause-moves c = (addressed _ _ _ (with_bytes c.args.sender _ c.in-Ok.ensures.ok c.sockaddr_bytes.ensures) c.requires.live c.link_counted.ensures.change).moves
+returns-clause-moves c =
+    (addressed _ _ _ (with_bytes c.args.sender _ c.in-Ok.ensures.ok c.sockaddr_bytes.ensures) c.requires.live
+    c.link_counted.ensures.change).moves

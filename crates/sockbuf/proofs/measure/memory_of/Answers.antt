@@ -5,36 +5,100 @@ use Rattle.sockbuf.proofs.measure.memory_of.Goals as goal
 
 pub mbufs-init : goal.mbufs-init
 mbufs-init c = record {
-  seen = omega (arith, ap length (c.into_iter-cluster-iterator.ensures.into_iter_gives ∙ c.layout-cluster-items.ensures), layout_long (chain_of c.args.pool.now c.args.chain.now).entries);
-  count = omega (arith, ap references_in (c.into_iter-cluster-iterator.ensures.into_iter_gives ∙ c.layout-cluster-items.ensures), references_are (chain_of c.args.pool.now c.args.chain.now).entries);
+  seen =
+      omega (
+        arith,
+        ap length (c.into_iter-cluster-iterator.ensures.into_iter_gives ∙ c.layout-cluster-items.ensures),
+        layout_long (chain_of c.args.pool.now c.args.chain.now).entries,
+      );
+  count =
+      omega (
+        arith,
+        ap references_in
+            (c.into_iter-cluster-iterator.ensures.into_iter_gives ∙ c.layout-cluster-items.ensures),
+        references_are (chain_of c.args.pool.now c.args.chain.now).entries,
+      );
 }
 
 pub overflow_add-clusters : goal.overflow_add-clusters
 overflow_add-clusters c =
-    omega (arith, c.mbufs.invariant.count, bag_few (chain_of c.args.pool.now c.args.chain.now).entries, chain_few _ _ c.requires c.laws.ensures, ap references_in c.in-Some.ensures.steps, ap (λ (b : Bool). cond {A = ℕ} b 1 0) (sym c.is_some.ensures ∙ c.if-is_some.true))
+    omega (
+      arith,
+      c.mbufs.invariant.count,
+      bag_few (chain_of c.args.pool.now c.args.chain.now).entries,
+      chain_few _ _ c.requires c.laws.ensures,
+      ap references_in c.in-Some.ensures.steps,
+      ap (λ (b : Bool). cond {A = ℕ} b 1 0) (sym c.is_some.ensures ∙ c.if-is_some.true),
+    )
 
 pub mbufs-preserved-then-is_some : goal.mbufs-preserved-then-is_some
 mbufs-preserved-then-is_some c =
-    record { seen = omega (arith, c.mbufs.invariant.seen, ap length c.in-Some.ensures.steps); count = omega (arith, c.mbufs.invariant.count, ap references_in c.in-Some.ensures.steps, ap (λ (b : Bool). cond {A = ℕ} b 1 0) (sym c.is_some.ensures ∙ c.if-is_some.true)) }
+    record {
+      seen = omega (arith, c.mbufs.invariant.seen, ap length c.in-Some.ensures.steps);
+      count =
+          omega (
+            arith,
+            c.mbufs.invariant.count,
+            ap references_in c.in-Some.ensures.steps,
+            ap (λ (b : Bool). cond {A = ℕ} b 1 0) (sym c.is_some.ensures ∙ c.if-is_some.true),
+          );
+    }
 
 pub mbufs-preserved : goal.mbufs-preserved
 mbufs-preserved c =
-    record { seen = omega (arith, c.mbufs.invariant.seen, ap length c.in-Some.ensures.steps); count = omega (arith, c.mbufs.invariant.count, ap references_in c.in-Some.ensures.steps, ap (λ (b : Bool). cond {A = ℕ} b 1 0) (sym c.is_some.ensures ∙ c.if-is_some.false)) }
+    record {
+      seen = omega (arith, c.mbufs.invariant.seen, ap length c.in-Some.ensures.steps);
+      count =
+          omega (
+            arith,
+            c.mbufs.invariant.count,
+            ap references_in c.in-Some.ensures.steps,
+            ap (λ (b : Bool). cond {A = ℕ} b 1 0) (sym c.is_some.ensures ∙ c.if-is_some.false),
+          );
+    }
 
 pub overflow_add-mbufs : goal.overflow_add-mbufs
-overflow_add-mbufs c = omega (arith, c.mbufs.invariant.seen, ap length c.in-Some.ensures.steps, chain_few _ _ c.requires c.laws.ensures)
+overflow_add-mbufs c =
+    omega (arith, c.mbufs.invariant.seen, ap length c.in-Some.ensures.steps, chain_few _ _ c.requires c.laws.ensures)
 
 pub overflow_mul-result : goal.overflow_mul-result
 overflow_mul-result c = omega (arith, c.mbufs.invariant.seen, chain_few _ _ c.requires c.laws.ensures)
 
 pub overflow_mul-result-2 : goal.overflow_mul-result-2
-overflow_mul-result-2 c = omega (arith, c.mbufs.invariant.count, bag_few (chain_of c.args.pool.now c.args.chain.now).entries, chain_few _ _ c.requires c.laws.ensures)
+overflow_mul-result-2 c =
+    omega (
+      arith,
+      c.mbufs.invariant.count,
+      bag_few (chain_of c.args.pool.now c.args.chain.now).entries,
+      chain_few _ _ c.requires c.laws.ensures,
+    )
 
 pub overflow_add-result : goal.overflow_add-result
-overflow_add-result c = omega (arith, c.mbufs.invariant.seen, c.mbufs.invariant.count, bag_few (chain_of c.args.pool.now c.args.chain.now).entries, chain_few _ _ c.requires c.laws.ensures)
+overflow_add-result c =
+    omega (
+      arith,
+      c.mbufs.invariant.seen,
+      c.mbufs.invariant.count,
+      bag_few (chain_of c.args.pool.now c.args.chain.now).entries,
+      chain_few _ _ c.requires c.laws.ensures,
+    )
 
 pub returns-clause-value : goal.returns-clause-value
-returns-clause-value c = omega (arith, c.mbufs.invariant.seen, ap length c.in-None.ensures.steps.0, c.mbufs.invariant.count, ap references_in c.in-None.ensures.steps.0)
+returns-clause-value c =
+    omega (
+      arith,
+      c.mbufs.invariant.seen,
+      ap length c.in-None.ensures.steps.0,
+      c.mbufs.invariant.count,
+      ap references_in c.in-None.ensures.steps.0,
+    )
 
 pub returns-clause-bound : goal.returns-clause-bound
-returns-clause-bound c = omega (arith, c.mbufs.invariant.seen, c.mbufs.invariant.count, bag_few (chain_of c.args.pool.now c.args.chain.now).entries, chain_few _ _ c.requires c.laws.ensures)
+returns-clause-bound c =
+    omega (
+      arith,
+      c.mbufs.invariant.seen,
+      c.mbufs.invariant.count,
+      bag_few (chain_of c.args.pool.now c.args.chain.now).entries,
+      chain_few _ _ c.requires c.laws.ensures,
+    )

@@ -3,4 +3,9 @@ use Rattle.stack_tests.proofs.Calls.{are_bytes}
 use Rattle.stack_tests.proofs.wire.hand_over.Goals as goal
 
 pub returns : goal.returns
-returns c = ((are_bytes c.args.packet.now (λ k. omega (arith, c.type_inv.packet k)), c.requires), c.rx.new.self, c.rx.ensures, refl)
+returns c = (
+  (are_bytes c.args.packet.now (λ k. omega (arith, c.type_inv.packet k)), c.requires),
+  c.rx.new.self,
+  c.rx.ensures,
+  refl,
+)

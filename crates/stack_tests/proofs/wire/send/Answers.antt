@@ -4,4 +4,15 @@ use Rattle.stack_tests.proofs.Calls.{are_bytes}
 use Rattle.stack_tests.proofs.wire.send.Goals as goal
 
 pub returns : goal.returns
-returns c = (sent_reply c.sendto.result, ((record { ip = omega arith; port = omega arith }, are_bytes c.args.bytes.now (λ k. omega (arith, c.type_inv.bytes k))), c.sendto.new.self, c.sendto.ensures, refl))
+returns c = (
+  sent_reply c.sendto.result,
+  (
+    (
+      record { ip = omega arith; port = omega arith },
+      are_bytes c.args.bytes.now (λ k. omega (arith, c.type_inv.bytes k)),
+    ),
+    c.sendto.new.self,
+    c.sendto.ensures,
+    refl,
+  ),
+)

@@ -5,10 +5,12 @@ use Rattle.udp.proofs.arrival.find_hearers.Goals as goal
 
 pub returns-in-Some-clause-found : goal.returns-in-Some-clause-found
 returns-in-Some-clause-found c =
-    one_hearer c.args.pcbs.now c.args.destination (packet_key c.args.destination c.args.port c.args.source) (sym c.is_broadcast.ensures ∙ c.if-is_broadcast.false)
+    one_hearer c.args.pcbs.now c.args.destination (packet_key c.args.destination c.args.port c.args.source)
+    (sym c.is_broadcast.ensures ∙ c.if-is_broadcast.false)
     c.in-Some.fd _ c.in-Some.ensures.found (c.push.ensures.items ∙ ap (λ fds. fds ++ c.in-Some.fd ∷ []) c.requires)
 
 pub returns-in_default-clause-found : goal.returns-in_default-clause-found
 returns-in_default-clause-found c =
-    no_hearer c.args.pcbs.now c.args.destination (packet_key c.args.destination c.args.port c.args.source) (sym c.is_broadcast.ensures ∙ c.if-is_broadcast.false)
+    no_hearer c.args.pcbs.now c.args.destination (packet_key c.args.destination c.args.port c.args.source)
+    (sym c.is_broadcast.ensures ∙ c.if-is_broadcast.false)
     _ c.in_default.ensures.found c.requires

@@ -17,4 +17,5 @@ returns c =
     let cut : c.trim_back.new.pool ≡ with_chain p k v =
     c.trim_back.ensures ∙ ap (λ (n : ℕ). with_chain p k (cut_to n (chain_of p k))) c.from.ensures in
     with_twice p c.trim_back.new.pool c.trim_front.new.pool k v _ cut c.trim_front.ensures
-    ∙ ap (λ (w : ChainView). with_chain p k (record w { entries = without_first 8 w.entries })) (shown_with p c.trim_back.new.pool k v cut)
+    ∙ ap (λ (w : ChainView). with_chain p k (record w { entries = without_first 8 w.entries }))
+    (shown_with p c.trim_back.new.pool k v cut)

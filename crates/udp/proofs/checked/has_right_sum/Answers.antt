@@ -12,5 +12,7 @@ returns c =
     let s : List ℕ = c.args.datagram.now in
     let all : take c.args.header.len s ≡ s = take_all c.args.header.len s (omega (arith, c.requires.whole)) in
     let is : c.finish.result ≡ checksum (front ++ take c.args.header.len s) =
-    c.finish.ensures (front ++ s) (c.add.ensures front c.pseudo_sum-sum.ensures) ∙ ap (λ (xs : List ℕ). checksum (front ++ xs)) (sym all) in
-    λ e. sym (right_sum c.args.from c.args.to s c.finish.result c.args.header c.requires.said (ne_eqb c.args.header.sum 0 c.if-header-eq0.false) is) ∙ e
+    c.finish.ensures (front ++ s) (c.add.ensures front c.pseudo_sum-sum.ensures)
+    ∙ ap (λ (xs : List ℕ). checksum (front ++ xs)) (sym all) in
+    λ e. sym (right_sum c.args.from c.args.to s c.finish.result c.args.header c.requires.said
+    (ne_eqb c.args.header.sum 0 c.if-header-eq0.false) is) ∙ e

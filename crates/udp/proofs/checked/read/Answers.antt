@@ -16,7 +16,8 @@ invariant_of-result c =
     let eight : 8 ≤ length s = omega (arith, c.in_ok-front.ensures.cases.2) in
     let said : c.header_of-header.result ≡ header_in s = c.header_of-header.ensures s c.in_ok-front.ensures.cases.0 in
     let whole : u16_at 4 s ≡ length s = omega (arith, ap (λ (h : Header). h.len) said, c.if-header-datagram.false) in
-    let at_32 : (at n : ℕ) → n ≡ u32_at at c.in_ok-head.head.now → at + 4 ≤ 20 → u32_at at packet ≡ n = λ at n is within.
+    let at_32 : (at n : ℕ) → n ≡ u32_at at c.in_ok-head.head.now → at + 4 ≤ 20 → u32_at at packet ≡ n =
+    λ at n is within.
     sym (is ∙ ap (u32_at at) head ∙ said_32 at 20 packet within) in
     record {
       is_checked = record {
@@ -28,6 +29,7 @@ invariant_of-result c =
         port = sym (ap (λ (h : Header). h.destination) said ∙ ap (u16_at 2) after);
         len = subst (λ (xs : List ℕ). u16_at 4 xs ≡ length xs) after whole;
         faultless = subst (λ (xs : List ℕ). udp_fault c.u32_at.result c.u32_at-2.result xs ≡ None) after
-            (no_fault c.u32_at.result c.u32_at-2.result s eight whole (c.has_right_sum.ensures c.if-not-has_right_sum.false));
+            (no_fault c.u32_at.result c.u32_at-2.result s eight whole
+            (c.has_right_sum.ensures c.if-not-has_right_sum.false));
       };
     }

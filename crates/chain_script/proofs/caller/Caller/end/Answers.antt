@@ -6,7 +6,8 @@ use Rattle.chain_script.proofs.caller.Caller.end.Goals as goal
 
 pub end_empty-requires : goal.end_empty-requires
 end_empty-requires c =
-    ap numbers (items-with_items c.args.self.chains c.free_all.new.chains (omega (arith, c.free_all.ensures.len, ap length c.as_mut_slice.ensures.value)))
+    ap numbers (items-with_items c.args.self.chains c.free_all.new.chains
+    (omega (arith, c.free_all.ensures.len, ap length c.as_mut_slice.ensures.value)))
     ∙ c.free_all.ensures.empty
 
 pub returns : goal.returns

@@ -15,12 +15,15 @@ returns-clause-link c =
     let ps : List PacketBuffer = c.args.self.now.held.items in
     let found : first_ready s.neighbours s.held ≡ Some (c.in_ok-at.at, c.in_ok-at.mac) =
     ap (λ (ns : List Neighbour). first_ready ns (map held_in ps)) (sym c.as_slice.ensures.value)
-    ∙ ap (λ (hs : List PacketBuffer). first_ready c.as_slice.result.now (map held_in hs)) (sym c.as_slice-2.ensures.value) ∙ sym c.first_ready.ensures.is ∙ c.in_ok-at.was in
+    ∙ ap (λ (hs : List PacketBuffer). first_ready c.as_slice.result.now (map held_in hs))
+    (sym c.as_slice-2.ensures.value) ∙ sym c.first_ready.ensures.is ∙ c.in_ok-at.was in
     let long : length c.as_slice-2.result.now ≡ length ps = ap length c.as_slice-2.ensures.value in
     let within : c.in_ok-at.at < length ps = omega (arith, c.in_ok-at.ensures.within) in
-    let left : map held_in c.remove.new.self.items ≡ _ = ap (map held_in) c.remove.ensures.items ∙ held_remove ps c.in_ok-at.at in
+    let left : map held_in c.remove.new.self.items ≡ _ =
+    ap (map held_in) c.remove.ensures.items ∙ held_remove ps c.in_ok-at.at in
     ap (λ (hs : List Held). record s { held = hs }) left
-    ∙ sym (ap (λ (g : Gives). g.1) (held_given s ps c.in_ok-at.at c.in_ok-at.mac c.index-buffer.result.now refl found within c.index-buffer.ensures))
+    ∙ sym (ap (λ (g : Gives). g.1)
+    (held_given s ps c.in_ok-at.at c.in_ok-at.mac c.index-buffer.result.now refl found within c.index-buffer.ensures))
 
 pub returns-clause-frame : goal.returns-clause-frame
 returns-clause-frame c =
@@ -28,8 +31,11 @@ returns-clause-frame c =
     let ps : List PacketBuffer = c.args.self.now.held.items in
     let found : first_ready s.neighbours s.held ≡ Some (c.in_ok-at.at, c.in_ok-at.mac) =
     ap (λ (ns : List Neighbour). first_ready ns (map held_in ps)) (sym c.as_slice.ensures.value)
-    ∙ ap (λ (hs : List PacketBuffer). first_ready c.as_slice.result.now (map held_in hs)) (sym c.as_slice-2.ensures.value) ∙ sym c.first_ready.ensures.is ∙ c.in_ok-at.was in
+    ∙ ap (λ (hs : List PacketBuffer). first_ready c.as_slice.result.now (map held_in hs))
+    (sym c.as_slice-2.ensures.value) ∙ sym c.first_ready.ensures.is ∙ c.in_ok-at.was in
     let long : length c.as_slice-2.result.now ≡ length ps = ap length c.as_slice-2.ensures.value in
     let within : c.in_ok-at.at < length ps = omega (arith, c.in_ok-at.ensures.within) in
-    ap (λ (f : List ℕ). Some f) (c.framed.ensures.frame ∙ ap (frame c.in_ok-at.mac s.link.mac 0x0800) (c.put_body.ensures ∙ c.bytes-bytes.ensures.is))
-    ∙ sym (ap (λ (g : Gives). g.0) (held_given s ps c.in_ok-at.at c.in_ok-at.mac c.index-buffer.result.now refl found within c.index-buffer.ensures))
+    ap (λ (f : List ℕ). Some f) (c.framed.ensures.frame
+    ∙ ap (frame c.in_ok-at.mac s.link.mac 0x0800) (c.put_body.ensures ∙ c.bytes-bytes.ensures.is))
+    ∙ sym (ap (λ (g : Gives). g.0)
+    (held_given s ps c.in_ok-at.at c.in_ok-at.mac c.index-buffer.result.now refl found within c.index-buffer.ensures))

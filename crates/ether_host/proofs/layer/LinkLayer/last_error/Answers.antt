@@ -12,8 +12,11 @@ pub returns-in-Ok : goal.returns-in-Ok
 returns-in-Ok c =
     let h : Host = halves c.args.stack.now (seen c.args.self.now) in
     ap (λ (f : Option NetFault). (Ok f, record h { link = seen c.take_error.new.self })) c.take_error.ensures.fault
-    ∙ ap (λ (l : LinkState). (Ok (takes_error c.in-Ok.name.port c.in-Ok.name.peer h.link).0, record h { link = l })) c.take_error.ensures.link
+    ∙ ap (λ (l : LinkState). (Ok (takes_error c.in-Ok.name.port c.in-Ok.name.peer h.link).0, record h { link = l }))
+    c.take_error.ensures.link
     ∙ sym (asked_ok h c.args.fd c.in-Ok.name (sym c.socket_name.ensures ∙ c.in-Ok.is))
 
 pub returns-in-Err : goal.returns-in-Err
-returns-in-Err c = sym (asked_err (halves c.args.stack.now (seen c.args.self.now)) c.args.fd c.in-Err.errno (sym c.socket_name.ensures ∙ c.in-Err.is))
+returns-in-Err c =
+    sym (asked_err (halves c.args.stack.now (seen c.args.self.now)) c.args.fd c.in-Err.errno
+    (sym c.socket_name.ensures ∙ c.in-Err.is))

@@ -15,21 +15,37 @@ use Rattle.ether_host.proofs.layer.LinkLayer.tick.Goals as goal
 
 pub returns : goal.returns
 returns c =
-    let s : LinkState = record (seen c.args.self.now) { claim = claim_ticks c.args.self.now.claim; unreachables = UNREACHABLES } in
+    let s : LinkState =
+    record (seen c.args.self.now) { claim = claim_ticks c.args.self.now.claim; unreachables = UNREACHABLES } in
     let ps : List PacketBuffer = c.args.self.now.held.items in
     let ns : List Neighbour = filter stays (map aged s.neighbours) in
     let later : List Held = filter (has_hope ns) s.held in
-    let known : c.age-self.result.items ≡ ns = c.age-self.ensures ∙ ap (λ (xs : List Neighbour). filter stays (map aged xs)) c.as_slice.ensures.value in
+    let known : c.age-self.result.items ≡ ns =
+    c.age-self.ensures ∙ ap (λ (xs : List Neighbour). filter stays (map aged xs)) c.as_slice.ensures.value in
     let kept : map held_in c.keep.new.held.items ≡ later =
     ap (map held_in) c.keep.ensures.kept
     ∙ ap (λ (xs : List Neighbour). map held_in (filter (has_hope_in xs) ps)) (c.as_slice-2.ensures.value ∙ known)
     ∙ held_filter ns ps in
     let before : length s.held ≡ length ps = length-map ps held_in in
-    let after : length later ≡ length c.keep.new.held.items = ap length (sym kept) ∙ length-map c.keep.new.held.items held_in in
-    let lost : c.saturating_sub-lost.result ≡ length s.held - length later = omega (arith, c.args.self.now.held.ok.0, c.keep.new.held.ok.0) in
+    let after : length later ≡ length c.keep.new.held.items =
+    ap length (sym kept) ∙ length-map c.keep.new.held.items held_in in
+    let lost : c.saturating_sub-lost.result ≡ length s.held - length later =
+    omega (arith, c.args.self.now.held.ok.0, c.keep.new.held.ok.0) in
     let more : c.saturating_add-self.result ≡ more_by (length s.held - length later) s.tallies.unresolved =
     c.saturating_add-self.ensures ∙ ap (λ (n : ℕ). more_by n s.tallies.unresolved) lost in
-    ap (λ (k : Claim). record s { claim = k; neighbours = c.age-self.result.items; held = map held_in c.keep.new.held.items; tallies = record s.tallies { unresolved = c.saturating_add-self.result } }) c.ticked-self.ensures
-    ∙ ap (λ (xs : List Neighbour). record s { neighbours = xs; held = map held_in c.keep.new.held.items; tallies = record s.tallies { unresolved = c.saturating_add-self.result } }) known
-    ∙ ap (λ (hs : List Held). record s { neighbours = ns; held = hs; tallies = record s.tallies { unresolved = c.saturating_add-self.result } }) kept
+    ap (λ (k : Claim). record s {
+      claim = k;
+      neighbours = c.age-self.result.items;
+      held =
+          map held_in c.keep.new.held.items;
+      tallies =
+          record s.tallies { unresolved = c.saturating_add-self.result };
+    }) c.ticked-self.ensures
+    ∙ ap (λ (xs : List Neighbour). record s {
+      neighbours = xs;
+      held = map held_in c.keep.new.held.items;
+      tallies = record s.tallies { unresolved = c.saturating_add-self.result };
+    }) known
+    ∙ ap (λ (hs : List Held). record s
+    { neighbours = ns; held = hs; tallies = record s.tallies { unresolved = c.saturating_add-self.result } }) kept
     ∙ ap (λ (n : ℕ). record s { neighbours = ns; held = later; tallies = record s.tallies { unresolved = n } }) more

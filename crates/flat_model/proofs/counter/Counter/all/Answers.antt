@@ -22,4 +22,5 @@ pub returns : goal.returns
 returns c =
     let at : COUNTERS ≡ c.loop-i.i = omega (arith, c.loop-i-test.false, c.loop-i.auto.i-end) in
     sym (take_all COUNTERS c.loop-i.all (omega (arith, c.loop-i.invariant.0)))
-    ∙ ap (λ (n : ℕ). take n c.loop-i.all) at ∙ c.loop-i.invariant.1 ∙ take_all c.loop-i.i all_counters c.loop-i-test.false
+    ∙ ap (λ (n : ℕ). take n c.loop-i.all) at ∙ c.loop-i.invariant.1
+    ∙ take_all c.loop-i.i all_counters c.loop-i-test.false

@@ -10,17 +10,26 @@ use Rattle.ip_out.proofs.queue.Queue.push_one.Goals as goal
 pub returns-clause-packets : goal.returns-clause-packets
 returns-clause-packets c mtu fits =
     let some = packets_of (chain_of c.args.pool.now c.args.chain) c.args.head mtu in
-    let one = one_packet (chain_of c.args.pool.now c.args.chain) c.args.head c.args.len mtu c.requires.datagram c.requires.len fits in
-    let added = c.add_whole.ensures.packets mtu fits ∙ ap (λ (t : TrainView). packets c.args.pool.now t ++ some) c.self.view_is in
-    (room c.args.pool.now c.add_whole.new.pool c.args.self.now c.add_whole.new.train some c.requires.queue c.requires.room one added).items
+    let one =
+    one_packet (chain_of c.args.pool.now c.args.chain) c.args.head c.args.len mtu c.requires.datagram c.requires.len
+    fits in
+    let added =
+    c.add_whole.ensures.packets mtu fits ∙ ap (λ (t : TrainView). packets c.args.pool.now t ++ some) c.self.view_is in
+    (room c.args.pool.now c.add_whole.new.pool c.args.self.now c.add_whole.new.train some c.requires.queue
+    c.requires.room one added).items
 
 pub returns-clause-lost : goal.returns-clause-lost
 returns-clause-lost c mtu fits =
     let some = packets_of (chain_of c.args.pool.now c.args.chain) c.args.head mtu in
-    let one = one_packet (chain_of c.args.pool.now c.args.chain) c.args.head c.args.len mtu c.requires.datagram c.requires.len fits in
-    let added = c.add_whole.ensures.packets mtu fits ∙ ap (λ (t : TrainView). packets c.args.pool.now t ++ some) c.self.view_is in
-    (room c.args.pool.now c.add_whole.new.pool c.args.self.now c.add_whole.new.train some c.requires.queue c.requires.room one added).is_lost
+    let one =
+    one_packet (chain_of c.args.pool.now c.args.chain) c.args.head c.args.len mtu c.requires.datagram c.requires.len
+    fits in
+    let added =
+    c.add_whole.ensures.packets mtu fits ∙ ap (λ (t : TrainView). packets c.args.pool.now t ++ some) c.self.view_is in
+    (room c.args.pool.now c.add_whole.new.pool c.args.self.now c.add_whole.new.train some c.requires.queue
+    c.requires.room one added).is_lost
 
 pub returns-clause-cut : goal.returns-clause-cut
 returns-clause-cut c mtu fits =
-    sym (ap (λ (ps : List Part). nat_lt 1 (length ps)) (one_part (chain_of c.args.pool.now c.args.chain) c.args.len mtu c.requires.datagram c.requires.len fits))
+    sym (ap (λ (ps : List Part). nat_lt 1 (length ps))
+    (one_part (chain_of c.args.pool.now c.args.chain) c.args.len mtu c.requires.datagram c.requires.len fits))

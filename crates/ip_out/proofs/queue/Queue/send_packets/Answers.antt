@@ -13,24 +13,32 @@ use Rattle.ip_out.proofs.queue.Queue.send_packets.Goals as goal
 
 pub returns-in_err-link-in_default-clause-queue : goal.returns-in_err-link-in_default-clause-queue
 returns-in_err-link-in_default-clause-queue c = record {
-  held = (aside_gone c.args.chain c.args.self.now c.in_err-link-in_default.ensures.freed c.requires.live c.requires.queue.held c.requires.apart).0;
+  held =
+      (aside_gone c.args.chain c.args.self.now c.in_err-link-in_default.ensures.freed c.requires.live
+      c.requires.queue.held c.requires.apart).0;
   room = c.requires.queue.room;
 }
 
 pub push_all-is_lost-requires-clause-queue : goal.push_all-is_lost-requires-clause-queue
 push_all-is_lost-requires-clause-queue c = record {
-  held = (aside c.args.chain c.args.self.now c.in_ok-link-in_default.ensures.moves c.requires.live c.requires.queue.held c.requires.apart).held;
+  held =
+      (aside c.args.chain c.args.self.now c.in_ok-link-in_default.ensures.moves c.requires.live c.requires.queue.held
+      c.requires.apart).held;
   room = c.requires.queue.room;
 }
 
 pub push_all-is_lost-requires-clause-owned : goal.push_all-is_lost-requires-clause-owned
 push_all-is_lost-requires-clause-owned c =
-    let a = aside c.args.chain c.args.self.now c.in_ok-link-in_default.ensures.moves c.requires.live c.requires.queue.held c.requires.apart in
+    let a =
+    aside c.args.chain c.args.self.now c.in_ok-link-in_default.ensures.moves c.requires.live c.requires.queue.held
+    c.requires.apart in
     link_owned c.args.self.now c.in_ok-link-in_default.field-0.link c.in_ok-link-in_default.field-0.looped a
 
 pub returns-in-Link-clause-cut : goal.returns-in-Link-clause-cut
 returns-in-Link-clause-cut c =
-    sym (ap (λ (ps : List Part). nat_lt 1 (length ps)) (one_part (chain_of c.args.pool.now c.args.chain) c.len-len.result c.args.mtu c.requires.datagram c.len-len.ensures (omega (arith, c.if-len-mtu.true))))
+    sym (ap (λ (ps : List Part). nat_lt 1 (length ps))
+    (one_part (chain_of c.args.pool.now c.args.chain) c.len-len.result c.args.mtu c.requires.datagram
+    c.len-len.ensures (omega (arith, c.if-len-mtu.true))))
 
 pub returns-in-Link-clause-enough : goal.returns-in-Link-clause-enough
 returns-in-Link-clause-enough c =
@@ -38,48 +46,82 @@ returns-in-Link-clause-enough c =
     omega (
       arith,
       ap (λ (way : Way). way_need way v c.args.mtu) c.in-Link.is,
-      ap (λ (ps : List Part). sum_by (part_need v) (drop 1 ps)) (one_part v c.len-len.result c.args.mtu c.requires.datagram c.len-len.ensures (omega (arith, c.if-len-mtu.true))),
+      ap (λ (ps : List Part). sum_by (part_need v) (drop 1 ps))
+          (one_part v c.len-len.result c.args.mtu c.requires.datagram c.len-len.ensures
+          (omega (arith, c.if-len-mtu.true))),
       c.laws.ensures.few,
     )
 
 pub returns-in_ok-link-in_default-clause-link : goal.returns-in_ok-link-in_default-clause-link
 returns-in_ok-link-in_default-clause-link c =
-    let a = aside c.args.chain c.args.self.now c.in_ok-link-in_default.ensures.moves c.requires.live c.requires.queue.held c.requires.apart in
-    let same : packets c.make_packets.new.pool c.args.self.now ++ packets c.make_packets.new.pool c.in_ok-link-in_default.field-0.link ≡ packets c.args.pool.now c.args.self.now ++ to_link c.args.way (packets_of (chain_of c.args.pool.now c.args.chain) c.args.head c.args.mtu) = λ i. a.same_packets i ++ c.in_ok-link-in_default.ensures.link i in
+    let a =
+    aside c.args.chain c.args.self.now c.in_ok-link-in_default.ensures.moves c.requires.live c.requires.queue.held
+    c.requires.apart in
+    let same : packets c.make_packets.new.pool c.args.self.now
+    ++ packets c.make_packets.new.pool c.in_ok-link-in_default.field-0.link
+    ≡ packets c.args.pool.now c.args.self.now
+    ++ to_link c.args.way (packets_of (chain_of c.args.pool.now c.args.chain) c.args.head c.args.mtu) =
+    λ i. a.same_packets i ++ c.in_ok-link-in_default.ensures.link i in
     c.push_all-is_lost.ensures.packets ∙ ap (take OUTPUT_QUEUE_PACKETS) same
 
 pub returns-in_ok-link-in_default-clause-lost : goal.returns-in_ok-link-in_default-clause-lost
 returns-in_ok-link-in_default-clause-lost c =
-    let a = aside c.args.chain c.args.self.now c.in_ok-link-in_default.ensures.moves c.requires.live c.requires.queue.held c.requires.apart in
-    let same : packets c.make_packets.new.pool c.args.self.now ++ packets c.make_packets.new.pool c.in_ok-link-in_default.field-0.link ≡ packets c.args.pool.now c.args.self.now ++ to_link c.args.way (packets_of (chain_of c.args.pool.now c.args.chain) c.args.head c.args.mtu) = λ i. a.same_packets i ++ c.in_ok-link-in_default.ensures.link i in
+    let a =
+    aside c.args.chain c.args.self.now c.in_ok-link-in_default.ensures.moves c.requires.live c.requires.queue.held
+    c.requires.apart in
+    let same : packets c.make_packets.new.pool c.args.self.now
+    ++ packets c.make_packets.new.pool c.in_ok-link-in_default.field-0.link
+    ≡ packets c.args.pool.now c.args.self.now
+    ++ to_link c.args.way (packets_of (chain_of c.args.pool.now c.args.chain) c.args.head c.args.mtu) =
+    λ i. a.same_packets i ++ c.in_ok-link-in_default.ensures.link i in
     c.push_all-is_lost.ensures.lost ∙ ap (λ (xs : List Item). nat_lt OUTPUT_QUEUE_PACKETS (length xs)) same
 
 pub returns-in_ok-link-in_default-clause-looped : goal.returns-in_ok-link-in_default-clause-looped
 returns-in_ok-link-in_default-clause-looped c =
-    let a = aside c.args.chain c.args.self.now c.in_ok-link-in_default.ensures.moves c.requires.live c.requires.queue.held c.requires.apart in
-    (sent_out c.args.self.now c.in_ok-link-in_default.field-0.link c.in_ok-link-in_default.field-0.looped c.push_all-is_lost.new.self a c.in_ok-link-in_default.ensures.held.1 c.push_all-is_lost.ensures.moves).same_packets ∙ c.in_ok-link-in_default.ensures.looped
+    let a =
+    aside c.args.chain c.args.self.now c.in_ok-link-in_default.ensures.moves c.requires.live c.requires.queue.held
+    c.requires.apart in
+    (sent_out c.args.self.now c.in_ok-link-in_default.field-0.link c.in_ok-link-in_default.field-0.looped
+    c.push_all-is_lost.new.self a c.in_ok-link-in_default.ensures.held.1
+    c.push_all-is_lost.ensures.moves).same_packets ∙ c.in_ok-link-in_default.ensures.looped
 
 pub returns-in_ok-link-in_default-clause-held : goal.returns-in_ok-link-in_default-clause-held
 returns-in_ok-link-in_default-clause-held c =
-    let a = aside c.args.chain c.args.self.now c.in_ok-link-in_default.ensures.moves c.requires.live c.requires.queue.held c.requires.apart in
-    (sent_out c.args.self.now c.in_ok-link-in_default.field-0.link c.in_ok-link-in_default.field-0.looped c.push_all-is_lost.new.self a c.in_ok-link-in_default.ensures.held.1 c.push_all-is_lost.ensures.moves).held
+    let a =
+    aside c.args.chain c.args.self.now c.in_ok-link-in_default.ensures.moves c.requires.live c.requires.queue.held
+    c.requires.apart in
+    (sent_out c.args.self.now c.in_ok-link-in_default.field-0.link c.in_ok-link-in_default.field-0.looped
+    c.push_all-is_lost.new.self a c.in_ok-link-in_default.ensures.held.1 c.push_all-is_lost.ensures.moves).held
 
 pub returns-in_ok-link-in_default-clause-plain : goal.returns-in_ok-link-in_default-clause-plain
 returns-in_ok-link-in_default-clause-plain c =
-    let a = aside c.args.chain c.args.self.now c.in_ok-link-in_default.ensures.moves c.requires.live c.requires.queue.held c.requires.apart in
-    subst AreBegunPlain (sym (sent_out c.args.self.now c.in_ok-link-in_default.field-0.link c.in_ok-link-in_default.field-0.looped c.push_all-is_lost.new.self a c.in_ok-link-in_default.ensures.held.1 c.push_all-is_lost.ensures.moves).same_queued) c.in_ok-link-in_default.ensures.plain.1
+    let a =
+    aside c.args.chain c.args.self.now c.in_ok-link-in_default.ensures.moves c.requires.live c.requires.queue.held
+    c.requires.apart in
+    subst AreBegunPlain (sym (sent_out c.args.self.now c.in_ok-link-in_default.field-0.link
+    c.in_ok-link-in_default.field-0.looped c.push_all-is_lost.new.self a c.in_ok-link-in_default.ensures.held.1
+    c.push_all-is_lost.ensures.moves).same_queued) c.in_ok-link-in_default.ensures.plain.1
 
 pub returns-in_ok-link-in_default-clause-link_plain : goal.returns-in_ok-link-in_default-clause-link_plain
 returns-in_ok-link-in_default-clause-link_plain c = λ before.
-    let a = aside c.args.chain c.args.self.now c.in_ok-link-in_default.ensures.moves c.requires.live c.requires.queue.held c.requires.apart in
-    c.push_all-is_lost.ensures.plain (subst AreBegunPlain (sym a.same_queued) before) c.in_ok-link-in_default.ensures.plain.0
+    let a =
+    aside c.args.chain c.args.self.now c.in_ok-link-in_default.ensures.moves c.requires.live c.requires.queue.held
+    c.requires.apart in
+    c.push_all-is_lost.ensures.plain (subst AreBegunPlain (sym a.same_queued) before)
+    c.in_ok-link-in_default.ensures.plain.0
 
 pub returns-in_err-link-in_default-clause-link_plain : goal.returns-in_err-link-in_default-clause-link_plain
 returns-in_err-link-in_default-clause-link_plain c = λ before.
-    let gone = moves_without c.args.pool.now c.make_packets.new.pool c.args.chain c.requires.live c.in_err-link-in_default.ensures.freed in
-    subst AreBegunPlain (sym (aside c.args.chain c.args.self.now gone c.requires.live c.requires.queue.held c.requires.apart).same_queued) before
+    let gone =
+    moves_without c.args.pool.now c.make_packets.new.pool c.args.chain c.requires.live
+    c.in_err-link-in_default.ensures.freed in
+    subst AreBegunPlain (sym (aside c.args.chain c.args.self.now gone c.requires.live c.requires.queue.held
+    c.requires.apart).same_queued) before
 
 pub returns-in_ok-link-in_default-clause-moves : goal.returns-in_ok-link-in_default-clause-moves
 returns-in_ok-link-in_default-clause-moves c =
-    let a = aside c.args.chain c.args.self.now c.in_ok-link-in_default.ensures.moves c.requires.live c.requires.queue.held c.requires.apart in
-    (sent_out c.args.self.now c.in_ok-link-in_default.field-0.link c.in_ok-link-in_default.field-0.looped c.push_all-is_lost.new.self a c.in_ok-link-in_default.ensures.held.1 c.push_all-is_lost.ensures.moves).moves
+    let a =
+    aside c.args.chain c.args.self.now c.in_ok-link-in_default.ensures.moves c.requires.live c.requires.queue.held
+    c.requires.apart in
+    (sent_out c.args.self.now c.in_ok-link-in_default.field-0.link c.in_ok-link-in_default.field-0.looped
+    c.push_all-is_lost.new.self a c.in_ok-link-in_default.ensures.held.1 c.push_all-is_lost.ensures.moves).moves

@@ -20,118 +20,221 @@ use Rattle.ip_reass.proofs.table.Reass.arrive.Goals as goal
 
 pub returns-then-is_bad-clause-step : goal.returns-then-is_bad-clause-step
 returns-then-is_bad-clause-step c = λ rest held new acc is.
-    let fr = freed c.args.pool.now c.args.pool.now c.free_chain.new.self c.args.self.now.datagrams c.args.self.now.datagrams c.args.chain (stays c.args.pool.now c.args.pool.now c.args.self.now.datagrams c.args.self.now.datagrams c.args.chain c.requires.owned (moves_none _ _)) c.requires.ready.table c.free_chain.ensures in
-    arrives_bad held (machine c.args.pool.now c.args.self.now.datagrams c.args.counters.now rest) new c.args.head (chain_of c.args.pool.now c.args.chain)
-    (ap (λ (n : ℕ). is_bad_fragment (flat_head c.args.head) (n - 20)) (sym c.requires.total ∙ sym c.len-len.ensures) ∙ (sym c.is_bad.ensures ∙ c.if-is_bad.true)) (is ∙ (λ j. record rest { unfinished = fr.shows j; counters = c.count_ended.ensures j }))
+    let fr =
+    freed c.args.pool.now c.args.pool.now c.free_chain.new.self c.args.self.now.datagrams c.args.self.now.datagrams
+    c.args.chain (stays c.args.pool.now c.args.pool.now c.args.self.now.datagrams c.args.self.now.datagrams
+    c.args.chain c.requires.owned (moves_none _ _)) c.requires.ready.table c.free_chain.ensures in
+    arrives_bad held (machine c.args.pool.now c.args.self.now.datagrams c.args.counters.now rest) new c.args.head
+    (chain_of c.args.pool.now c.args.chain)
+    (ap (λ (n : ℕ). is_bad_fragment (flat_head c.args.head) (n - 20)) (sym c.requires.total ∙ sym c.len-len.ensures)
+    ∙ (sym c.is_bad.ensures ∙ c.if-is_bad.true)) (is
+    ∙ (λ j. record rest { unfinished = fr.shows j; counters = c.count_ended.ensures j }))
 
 pub returns-then-is_bad-clause-accounts : goal.returns-then-is_bad-clause-accounts
 returns-then-is_bad-clause-accounts c = λ rest held acc.
-    let fr = freed c.args.pool.now c.args.pool.now c.free_chain.new.self c.args.self.now.datagrams c.args.self.now.datagrams c.args.chain (stays c.args.pool.now c.args.pool.now c.args.self.now.datagrams c.args.self.now.datagrams c.args.chain c.requires.owned (moves_none _ _)) c.requires.ready.table c.free_chain.ensures in
-    accounts c.args.pool.now c.free_chain.new.self (c.args.chain ∷ []) [] rest held (weight_at c.args.pool.now c.args.chain) nothing c.args.self.now.datagrams c.args.self.now.datagrams c.args.counters.now c.count_ended.new.self acc fr.moves c.requires.owned c.requires.ready.table fr.table (one_weighs c.args.pool.now c.args.chain) (same_weight nothing)
+    let fr =
+    freed c.args.pool.now c.args.pool.now c.free_chain.new.self c.args.self.now.datagrams c.args.self.now.datagrams
+    c.args.chain (stays c.args.pool.now c.args.pool.now c.args.self.now.datagrams c.args.self.now.datagrams
+    c.args.chain c.requires.owned (moves_none _ _)) c.requires.ready.table c.free_chain.ensures in
+    accounts c.args.pool.now c.free_chain.new.self (c.args.chain ∷ []) [] rest held
+    (weight_at c.args.pool.now c.args.chain) nothing c.args.self.now.datagrams c.args.self.now.datagrams
+    c.args.counters.now c.count_ended.new.self acc fr.moves c.requires.owned c.requires.ready.table fr.table
+    (one_weighs c.args.pool.now c.args.chain) (same_weight nothing)
 
 pub returns-then-is_bad-clause-ready : goal.returns-then-is_bad-clause-ready
 returns-then-is_bad-clause-ready c = record {
-  table = (freed c.args.pool.now c.args.pool.now c.free_chain.new.self c.args.self.now.datagrams c.args.self.now.datagrams c.args.chain (stays c.args.pool.now c.args.pool.now c.args.self.now.datagrams c.args.self.now.datagrams c.args.chain c.requires.owned (moves_none _ _)) c.requires.ready.table c.free_chain.ensures).table;
+  table =
+      (freed c.args.pool.now c.args.pool.now c.free_chain.new.self c.args.self.now.datagrams c.args.self.now.datagrams
+      c.args.chain (stays c.args.pool.now c.args.pool.now c.args.self.now.datagrams c.args.self.now.datagrams
+      c.args.chain c.requires.owned (moves_none _ _)) c.requires.ready.table c.free_chain.ensures).table;
   fragments = c.requires.ready.fragments;
   room = omega (arith, c.requires.ready.room, ap (λ (q : PoolView). q.mbufs) c.free_chain.ensures);
   distinct = distinct_same c.args.pool.now c.free_chain.new.self c.args.self.now.datagrams c.args.self.now.datagrams
-      (freed c.args.pool.now c.args.pool.now c.free_chain.new.self c.args.self.now.datagrams c.args.self.now.datagrams c.args.chain (stays c.args.pool.now c.args.pool.now c.args.self.now.datagrams c.args.self.now.datagrams c.args.chain c.requires.owned (moves_none _ _)) c.requires.ready.table c.free_chain.ensures).shows c.requires.ready.distinct;
+      (freed c.args.pool.now c.args.pool.now c.free_chain.new.self c.args.self.now.datagrams c.args.self.now.datagrams
+      c.args.chain (stays c.args.pool.now c.args.pool.now c.args.self.now.datagrams c.args.self.now.datagrams
+      c.args.chain c.requires.owned (moves_none _
+      _)) c.requires.ready.table c.free_chain.ensures).shows c.requires.ready.distinct;
 }
 
 pub returns-then-is_bad-clause-moves : goal.returns-then-is_bad-clause-moves
 returns-then-is_bad-clause-moves c =
-    (freed c.args.pool.now c.args.pool.now c.free_chain.new.self c.args.self.now.datagrams c.args.self.now.datagrams c.args.chain (stays c.args.pool.now c.args.pool.now c.args.self.now.datagrams c.args.self.now.datagrams c.args.chain c.requires.owned (moves_none _ _)) c.requires.ready.table c.free_chain.ensures).moves
+    (freed c.args.pool.now c.args.pool.now c.free_chain.new.self c.args.self.now.datagrams c.args.self.now.datagrams
+    c.args.chain (stays c.args.pool.now c.args.pool.now c.args.self.now.datagrams c.args.self.now.datagrams
+    c.args.chain c.requires.owned (moves_none _ _)) c.requires.ready.table c.free_chain.ensures).moves
 
 pub returns-in_default-clause-step : goal.returns-in_default-clause-step
 returns-in_default-clause-step c = λ rest held new acc is.
-    let good : is_bad_fragment (flat_head c.args.head) (c.args.head.total - 20) ≡ false = ap (λ (n : ℕ). is_bad_fragment (flat_head c.args.head) (n - 20)) (sym c.requires.total ∙ sym c.len-len.ensures) ∙ (sym c.is_bad.ensures ∙ c.if-is_bad.false) in
+    let good : is_bad_fragment (flat_head c.args.head) (c.args.head.total - 20) ≡ false =
+    ap (λ (n : ℕ). is_bad_fragment (flat_head c.args.head) (n - 20)) (sym c.requires.total ∙ sym c.len-len.ensures)
+    ∙ (sym c.is_bad.ensures ∙ c.if-is_bad.false) in
     elim (cases_Bool (is_some (entry_of (chain_of c.args.pool.now c.args.chain) 0).cluster)) [
       | inr plain ↦ absurd (none-some c.args.chain (sym c.in_default.is ∙ (c.pull_up.ensures.plain plain).3))
       | inl cluster ↦
-          let tested = c.pull_up.ensures.tested cluster rest held (accounted_counters c.args.pool.now c.args.self.now.datagrams c.args.counters.now c.count.new.self rest (held ⊕ weight_at c.args.pool.now c.args.chain) acc) in
-          none_cluster rest held new c.args.head c.args.pool.now c.pull_up.new.pool c.args.self.now.datagrams c.pull_up.new.self.datagrams c.args.counters.now c.count.new.self c.pull_up.new.counters c.args.chain (is_some c.pull_up.result) good c.count.ensures cluster tested (ap is_some c.in_default.is) is
+          let tested =
+          c.pull_up.ensures.tested cluster rest held
+          (accounted_counters c.args.pool.now c.args.self.now.datagrams c.args.counters.now c.count.new.self rest
+          (held ⊕ weight_at c.args.pool.now c.args.chain) acc) in
+          none_cluster rest held new c.args.head c.args.pool.now c.pull_up.new.pool c.args.self.now.datagrams
+          c.pull_up.new.self.datagrams c.args.counters.now c.count.new.self c.pull_up.new.counters c.args.chain
+          (is_some c.pull_up.result) good c.count.ensures cluster tested (ap is_some c.in_default.is) is
     ]
 
 pub returns-in_default-clause-accounts : goal.returns-in_default-clause-accounts
 returns-in_default-clause-accounts c = λ rest held acc.
-    let m = subst (λ (o : Option ℕ). Moves c.args.pool.now (c.args.chain ∷ held_all c.args.pool.now c.args.self.now.datagrams) c.pull_up.new.pool (option_to_list o ++ held_all c.pull_up.new.pool c.pull_up.new.self.datagrams)) c.in_default.is c.pull_up.ensures.moves in
-    accounts c.args.pool.now c.pull_up.new.pool (c.args.chain ∷ []) [] rest held (weight_at c.args.pool.now c.args.chain) nothing c.args.self.now.datagrams c.pull_up.new.self.datagrams c.args.counters.now c.pull_up.new.counters acc m c.requires.owned c.requires.ready.table c.pull_up.ensures.ready.table (one_weighs c.args.pool.now c.args.chain) (same_weight nothing)
+    let m =
+    subst (λ (o : Option ℕ). Moves c.args.pool.now (c.args.chain ∷ held_all c.args.pool.now c.args.self.now.datagrams)
+    c.pull_up.new.pool (option_to_list o
+    ++ held_all c.pull_up.new.pool c.pull_up.new.self.datagrams)) c.in_default.is c.pull_up.ensures.moves in
+    accounts c.args.pool.now c.pull_up.new.pool (c.args.chain ∷ []) [] rest held
+    (weight_at c.args.pool.now c.args.chain) nothing c.args.self.now.datagrams c.pull_up.new.self.datagrams
+    c.args.counters.now c.pull_up.new.counters acc m c.requires.owned c.requires.ready.table
+    c.pull_up.ensures.ready.table (one_weighs c.args.pool.now c.args.chain) (same_weight nothing)
 
 pub lay_or_begin-requires-clause-ready : goal.lay_or_begin-requires-clause-ready
 lay_or_begin-requires-clause-ready c =
-    let m = subst (λ (o : Option ℕ). Moves c.args.pool.now (c.args.chain ∷ held_all c.args.pool.now c.args.self.now.datagrams) c.pull_up.new.pool (option_to_list o ++ held_all c.pull_up.new.pool c.pull_up.new.self.datagrams)) c.in-Some.is c.pull_up.ensures.moves in
-    let t = trimmed_off c.pull_up.new.pool c.trim_front.new.pool c.pull_up.new.self.datagrams c.in-Some.chain c.pull_up.ensures.ready.table (owned_after m c.requires.owned) c.trim_front.ensures in
+    let m =
+    subst (λ (o : Option ℕ). Moves c.args.pool.now (c.args.chain ∷ held_all c.args.pool.now c.args.self.now.datagrams)
+    c.pull_up.new.pool (option_to_list o
+    ++ held_all c.pull_up.new.pool c.pull_up.new.self.datagrams)) c.in-Some.is c.pull_up.ensures.moves in
+    let t =
+    trimmed_off c.pull_up.new.pool c.trim_front.new.pool c.pull_up.new.self.datagrams c.in-Some.chain
+    c.pull_up.ensures.ready.table (owned_after m c.requires.owned) c.trim_front.ensures in
     record {
       table = t.table;
       fragments = c.pull_up.ensures.ready.fragments;
       room = omega (arith, c.pull_up.ensures.ready.room, t.moves.mbufs);
-      distinct = distinct_same c.pull_up.new.pool c.trim_front.new.pool c.pull_up.new.self.datagrams c.pull_up.new.self.datagrams t.shows c.pull_up.ensures.ready.distinct;
+      distinct =
+          distinct_same c.pull_up.new.pool c.trim_front.new.pool c.pull_up.new.self.datagrams c.pull_up.new.self.datagrams
+          t.shows c.pull_up.ensures.ready.distinct;
     }
 
 pub lay_or_begin-requires-clause-owned : goal.lay_or_begin-requires-clause-owned
 lay_or_begin-requires-clause-owned c =
-    let m = subst (λ (o : Option ℕ). Moves c.args.pool.now (c.args.chain ∷ held_all c.args.pool.now c.args.self.now.datagrams) c.pull_up.new.pool (option_to_list o ++ held_all c.pull_up.new.pool c.pull_up.new.self.datagrams)) c.in-Some.is c.pull_up.ensures.moves in
-    let t = trimmed_off c.pull_up.new.pool c.trim_front.new.pool c.pull_up.new.self.datagrams c.in-Some.chain c.pull_up.ensures.ready.table (owned_after m c.requires.owned) c.trim_front.ensures in
+    let m =
+    subst (λ (o : Option ℕ). Moves c.args.pool.now (c.args.chain ∷ held_all c.args.pool.now c.args.self.now.datagrams)
+    c.pull_up.new.pool (option_to_list o
+    ++ held_all c.pull_up.new.pool c.pull_up.new.self.datagrams)) c.in-Some.is c.pull_up.ensures.moves in
+    let t =
+    trimmed_off c.pull_up.new.pool c.trim_front.new.pool c.pull_up.new.self.datagrams c.in-Some.chain
+    c.pull_up.ensures.ready.table (owned_after m c.requires.owned) c.trim_front.ensures in
     t.owned
 
 pub lay_or_begin-requires-clause-headed : goal.lay_or_begin-requires-clause-headed
 lay_or_begin-requires-clause-headed c =
-    let m = subst (λ (o : Option ℕ). Moves c.args.pool.now (c.args.chain ∷ held_all c.args.pool.now c.args.self.now.datagrams) c.pull_up.new.pool (option_to_list o ++ held_all c.pull_up.new.pool c.pull_up.new.self.datagrams)) c.in-Some.is c.pull_up.ensures.moves in
-    let t = trimmed_off c.pull_up.new.pool c.trim_front.new.pool c.pull_up.new.self.datagrams c.in-Some.chain c.pull_up.ensures.ready.table (owned_after m c.requires.owned) c.trim_front.ensures in
+    let m =
+    subst (λ (o : Option ℕ). Moves c.args.pool.now (c.args.chain ∷ held_all c.args.pool.now c.args.self.now.datagrams)
+    c.pull_up.new.pool (option_to_list o
+    ++ held_all c.pull_up.new.pool c.pull_up.new.self.datagrams)) c.in-Some.is c.pull_up.ensures.moves in
+    let t =
+    trimmed_off c.pull_up.new.pool c.trim_front.new.pool c.pull_up.new.self.datagrams c.in-Some.chain
+    c.pull_up.ensures.ready.table (owned_after m c.requires.owned) c.trim_front.ensures in
     ap (λ (v : ChainView). v.front.header) t.chain ∙ c.in-Some.ensures.headed
 
 pub lay_or_begin-requires-clause-some : goal.lay_or_begin-requires-clause-some
 lay_or_begin-requires-clause-some c =
-    let m = subst (λ (o : Option ℕ). Moves c.args.pool.now (c.args.chain ∷ held_all c.args.pool.now c.args.self.now.datagrams) c.pull_up.new.pool (option_to_list o ++ held_all c.pull_up.new.pool c.pull_up.new.self.datagrams)) c.in-Some.is c.pull_up.ensures.moves in
-    let t = trimmed_off c.pull_up.new.pool c.trim_front.new.pool c.pull_up.new.self.datagrams c.in-Some.chain c.pull_up.ensures.ready.table (owned_after m c.requires.owned) c.trim_front.ensures in
-    let long : length (string (chain_of c.args.pool.now c.args.chain)) ≡ 20 + (c.len-len.result - 20) = omega (arith, c.len-len.ensures, c.requires.total, c.requires.header) in
-    let good : is_bad_fragment (flat_head c.args.head) (c.len-len.result - 20) ≡ false = sym c.is_bad.ensures ∙ c.if-is_bad.false in
-    let size = carried_len c.args.pool.now c.trim_front.new.pool c.args.chain c.in-Some.chain (c.len-len.result - 20) long (ap (λ (v : ChainView). v.entries) t.chain ∙ ap (without_first 20) c.in-Some.ensures.entries) in
+    let m =
+    subst (λ (o : Option ℕ). Moves c.args.pool.now (c.args.chain ∷ held_all c.args.pool.now c.args.self.now.datagrams)
+    c.pull_up.new.pool (option_to_list o
+    ++ held_all c.pull_up.new.pool c.pull_up.new.self.datagrams)) c.in-Some.is c.pull_up.ensures.moves in
+    let t =
+    trimmed_off c.pull_up.new.pool c.trim_front.new.pool c.pull_up.new.self.datagrams c.in-Some.chain
+    c.pull_up.ensures.ready.table (owned_after m c.requires.owned) c.trim_front.ensures in
+    let long : length (string (chain_of c.args.pool.now c.args.chain)) ≡ 20 + (c.len-len.result - 20) =
+    omega (arith, c.len-len.ensures, c.requires.total, c.requires.header) in
+    let good : is_bad_fragment (flat_head c.args.head) (c.len-len.result - 20) ≡ false =
+    sym c.is_bad.ensures ∙ c.if-is_bad.false in
+    let size =
+    carried_len c.args.pool.now c.trim_front.new.pool c.args.chain c.in-Some.chain (c.len-len.result - 20) long
+    (ap (λ (v : ChainView). v.entries) t.chain ∙ ap (without_first 20) c.in-Some.ensures.entries) in
     let some = good_some c.args.head (c.len-len.result - 20) good in
     omega (arith, size, some)
 
 pub lay_or_begin-requires-clause-small : goal.lay_or_begin-requires-clause-small
 lay_or_begin-requires-clause-small c =
-    let m = subst (λ (o : Option ℕ). Moves c.args.pool.now (c.args.chain ∷ held_all c.args.pool.now c.args.self.now.datagrams) c.pull_up.new.pool (option_to_list o ++ held_all c.pull_up.new.pool c.pull_up.new.self.datagrams)) c.in-Some.is c.pull_up.ensures.moves in
-    let t = trimmed_off c.pull_up.new.pool c.trim_front.new.pool c.pull_up.new.self.datagrams c.in-Some.chain c.pull_up.ensures.ready.table (owned_after m c.requires.owned) c.trim_front.ensures in
-    let long : length (string (chain_of c.args.pool.now c.args.chain)) ≡ 20 + (c.len-len.result - 20) = omega (arith, c.len-len.ensures, c.requires.total, c.requires.header) in
-    let good : is_bad_fragment (flat_head c.args.head) (c.len-len.result - 20) ≡ false = sym c.is_bad.ensures ∙ c.if-is_bad.false in
-    let size = carried_len c.args.pool.now c.trim_front.new.pool c.args.chain c.in-Some.chain (c.len-len.result - 20) long (ap (λ (v : ChainView). v.entries) t.chain ∙ ap (without_first 20) c.in-Some.ensures.entries) in
+    let m =
+    subst (λ (o : Option ℕ). Moves c.args.pool.now (c.args.chain ∷ held_all c.args.pool.now c.args.self.now.datagrams)
+    c.pull_up.new.pool (option_to_list o
+    ++ held_all c.pull_up.new.pool c.pull_up.new.self.datagrams)) c.in-Some.is c.pull_up.ensures.moves in
+    let t =
+    trimmed_off c.pull_up.new.pool c.trim_front.new.pool c.pull_up.new.self.datagrams c.in-Some.chain
+    c.pull_up.ensures.ready.table (owned_after m c.requires.owned) c.trim_front.ensures in
+    let long : length (string (chain_of c.args.pool.now c.args.chain)) ≡ 20 + (c.len-len.result - 20) =
+    omega (arith, c.len-len.ensures, c.requires.total, c.requires.header) in
+    let good : is_bad_fragment (flat_head c.args.head) (c.len-len.result - 20) ≡ false =
+    sym c.is_bad.ensures ∙ c.if-is_bad.false in
+    let size =
+    carried_len c.args.pool.now c.trim_front.new.pool c.args.chain c.in-Some.chain (c.len-len.result - 20) long
+    (ap (λ (v : ChainView). v.entries) t.chain ∙ ap (without_first 20) c.in-Some.ensures.entries) in
     let small = good_small c.args.head (c.len-len.result - 20) good in
     omega (arith, size, small)
 
 pub returns-clause-step : goal.returns-clause-step
 returns-clause-step c = λ rest held new acc goes.
-    let m = subst (λ (o : Option ℕ). Moves c.args.pool.now (c.args.chain ∷ held_all c.args.pool.now c.args.self.now.datagrams) c.pull_up.new.pool (option_to_list o ++ held_all c.pull_up.new.pool c.pull_up.new.self.datagrams)) c.in-Some.is c.pull_up.ensures.moves in
-    let t = trimmed_off c.pull_up.new.pool c.trim_front.new.pool c.pull_up.new.self.datagrams c.in-Some.chain c.pull_up.ensures.ready.table (owned_after m c.requires.owned) c.trim_front.ensures in
-    let good : is_bad_fragment (flat_head c.args.head) (c.args.head.total - 20) ≡ false = ap (λ (n : ℕ). is_bad_fragment (flat_head c.args.head) (n - 20)) (sym c.requires.total ∙ sym c.len-len.ensures) ∙ (sym c.is_bad.ensures ∙ c.if-is_bad.false) in
-    let acc' = accounts c.args.pool.now c.trim_front.new.pool (c.args.chain ∷ []) (c.in-Some.chain ∷ []) rest held (weight_at c.args.pool.now c.args.chain) (weight_at c.trim_front.new.pool c.in-Some.chain) c.args.self.now.datagrams c.pull_up.new.self.datagrams c.args.counters.now c.pull_up.new.counters acc
-    (moves_trans m t.moves) c.requires.owned c.requires.ready.table t.table (one_weighs c.args.pool.now c.args.chain) (one_weighs c.trim_front.new.pool c.in-Some.chain) in
+    let m =
+    subst (λ (o : Option ℕ). Moves c.args.pool.now (c.args.chain ∷ held_all c.args.pool.now c.args.self.now.datagrams)
+    c.pull_up.new.pool (option_to_list o
+    ++ held_all c.pull_up.new.pool c.pull_up.new.self.datagrams)) c.in-Some.is c.pull_up.ensures.moves in
+    let t =
+    trimmed_off c.pull_up.new.pool c.trim_front.new.pool c.pull_up.new.self.datagrams c.in-Some.chain
+    c.pull_up.ensures.ready.table (owned_after m c.requires.owned) c.trim_front.ensures in
+    let good : is_bad_fragment (flat_head c.args.head) (c.args.head.total - 20) ≡ false =
+    ap (λ (n : ℕ). is_bad_fragment (flat_head c.args.head) (n - 20)) (sym c.requires.total ∙ sym c.len-len.ensures)
+    ∙ (sym c.is_bad.ensures ∙ c.if-is_bad.false) in
+    let acc' =
+    accounts c.args.pool.now c.trim_front.new.pool (c.args.chain ∷ []) (c.in-Some.chain ∷ []) rest held
+    (weight_at c.args.pool.now c.args.chain) (weight_at c.trim_front.new.pool c.in-Some.chain)
+    c.args.self.now.datagrams c.pull_up.new.self.datagrams c.args.counters.now c.pull_up.new.counters acc
+    (moves_trans m t.moves) c.requires.owned c.requires.ready.table t.table (one_weighs c.args.pool.now c.args.chain)
+    (one_weighs c.trim_front.new.pool c.in-Some.chain) in
     let joins = c.lay_or_begin.ensures.step rest held new acc' goes in
     elim (cases_Bool (is_some (entry_of (chain_of c.args.pool.now c.args.chain) 0).cluster)) [
       | inr plain ↦
           let same = c.pull_up.ensures.plain plain in
-          some_plain rest held new c.args.head c.args.pool.now c.pull_up.new.pool c.trim_front.new.pool c.args.self.now.datagrams c.pull_up.new.self.datagrams c.args.counters.now c.count.new.self c.pull_up.new.counters c.args.chain c.in-Some.chain good c.count.ensures c.in-Some.ensures.entries t joins plain
+          some_plain rest held new c.args.head c.args.pool.now c.pull_up.new.pool c.trim_front.new.pool
+          c.args.self.now.datagrams c.pull_up.new.self.datagrams c.args.counters.now c.count.new.self
+          c.pull_up.new.counters c.args.chain c.in-Some.chain good c.count.ensures c.in-Some.ensures.entries t joins
+          plain
           same.0 (ap (λ (r : TableView). r.datagrams) same.1) same.2
       | inl cluster ↦
-          let tested = subst (λ (b : Bool). IsPulled c.args.pool.now c.args.self.now.datagrams c.count.new.self (weight_at c.args.pool.now c.args.chain) b c.pull_up.new.pool c.pull_up.new.self.datagrams c.pull_up.new.counters rest held) (ap is_some c.in-Some.is)
-          (c.pull_up.ensures.tested cluster rest held (accounted_counters c.args.pool.now c.args.self.now.datagrams c.args.counters.now c.count.new.self rest (held ⊕ weight_at c.args.pool.now c.args.chain) acc)) in
-          some_cluster rest held new c.args.head c.args.pool.now c.pull_up.new.pool c.trim_front.new.pool c.args.self.now.datagrams c.pull_up.new.self.datagrams c.args.counters.now c.count.new.self c.pull_up.new.counters c.args.chain c.in-Some.chain good c.count.ensures c.in-Some.ensures.entries t joins cluster
+          let tested =
+          subst (λ (b : Bool). IsPulled c.args.pool.now c.args.self.now.datagrams c.count.new.self
+          (weight_at c.args.pool.now c.args.chain) b c.pull_up.new.pool c.pull_up.new.self.datagrams
+          c.pull_up.new.counters rest held) (ap is_some c.in-Some.is)
+          (c.pull_up.ensures.tested cluster rest held
+          (accounted_counters c.args.pool.now c.args.self.now.datagrams c.args.counters.now c.count.new.self rest
+          (held ⊕ weight_at c.args.pool.now c.args.chain) acc)) in
+          some_cluster rest held new c.args.head c.args.pool.now c.pull_up.new.pool c.trim_front.new.pool
+          c.args.self.now.datagrams c.pull_up.new.self.datagrams c.args.counters.now c.count.new.self
+          c.pull_up.new.counters c.args.chain c.in-Some.chain good c.count.ensures c.in-Some.ensures.entries t joins
+          cluster
           tested
     ]
 
 pub returns-clause-moves : goal.returns-clause-moves
 returns-clause-moves c =
-    let m = subst (λ (o : Option ℕ). Moves c.args.pool.now (c.args.chain ∷ held_all c.args.pool.now c.args.self.now.datagrams) c.pull_up.new.pool (option_to_list o ++ held_all c.pull_up.new.pool c.pull_up.new.self.datagrams)) c.in-Some.is c.pull_up.ensures.moves in
-    let t = trimmed_off c.pull_up.new.pool c.trim_front.new.pool c.pull_up.new.self.datagrams c.in-Some.chain c.pull_up.ensures.ready.table (owned_after m c.requires.owned) c.trim_front.ensures in
+    let m =
+    subst (λ (o : Option ℕ). Moves c.args.pool.now (c.args.chain ∷ held_all c.args.pool.now c.args.self.now.datagrams)
+    c.pull_up.new.pool (option_to_list o
+    ++ held_all c.pull_up.new.pool c.pull_up.new.self.datagrams)) c.in-Some.is c.pull_up.ensures.moves in
+    let t =
+    trimmed_off c.pull_up.new.pool c.trim_front.new.pool c.pull_up.new.self.datagrams c.in-Some.chain
+    c.pull_up.ensures.ready.table (owned_after m c.requires.owned) c.trim_front.ensures in
     moves_trans m (moves_trans t.moves c.lay_or_begin.ensures.moves)
 
 pub returns-clause-accounts : goal.returns-clause-accounts
 returns-clause-accounts c = λ rest held acc.
-    let m = subst (λ (o : Option ℕ). Moves c.args.pool.now (c.args.chain ∷ held_all c.args.pool.now c.args.self.now.datagrams) c.pull_up.new.pool (option_to_list o ++ held_all c.pull_up.new.pool c.pull_up.new.self.datagrams)) c.in-Some.is c.pull_up.ensures.moves in
-    let t = trimmed_off c.pull_up.new.pool c.trim_front.new.pool c.pull_up.new.self.datagrams c.in-Some.chain c.pull_up.ensures.ready.table (owned_after m c.requires.owned) c.trim_front.ensures in
-    accounts c.args.pool.now c.lay_or_begin.new.pool (c.args.chain ∷ []) (in_hand c.lay_or_begin.result) rest held (weight_at c.args.pool.now c.args.chain) (weight_owned c.lay_or_begin.new.pool (in_hand c.lay_or_begin.result)) c.args.self.now.datagrams c.lay_or_begin.new.self.datagrams c.args.counters.now c.lay_or_begin.new.counters acc
-    (moves_trans m (moves_trans t.moves c.lay_or_begin.ensures.moves)) c.requires.owned c.requires.ready.table c.lay_or_begin.ensures.ready.table (one_weighs c.args.pool.now c.args.chain) (same_weight _)
+    let m =
+    subst (λ (o : Option ℕ). Moves c.args.pool.now (c.args.chain ∷ held_all c.args.pool.now c.args.self.now.datagrams)
+    c.pull_up.new.pool (option_to_list o
+    ++ held_all c.pull_up.new.pool c.pull_up.new.self.datagrams)) c.in-Some.is c.pull_up.ensures.moves in
+    let t =
+    trimmed_off c.pull_up.new.pool c.trim_front.new.pool c.pull_up.new.self.datagrams c.in-Some.chain
+    c.pull_up.ensures.ready.table (owned_after m c.requires.owned) c.trim_front.ensures in
+    accounts c.args.pool.now c.lay_or_begin.new.pool (c.args.chain ∷ []) (in_hand c.lay_or_begin.result) rest held
+    (weight_at c.args.pool.now c.args.chain) (weight_owned c.lay_or_begin.new.pool (in_hand c.lay_or_begin.result))
+    c.args.self.now.datagrams c.lay_or_begin.new.self.datagrams c.args.counters.now c.lay_or_begin.new.counters acc
+    (moves_trans m (moves_trans t.moves c.lay_or_begin.ensures.moves)) c.requires.owned c.requires.ready.table
+    c.lay_or_begin.ensures.ready.table (one_weighs c.args.pool.now c.args.chain) (same_weight _)
 
 pub returns-clause-whole : goal.returns-clause-whole
 returns-clause-whole c = c.lay_or_begin.ensures.whole
@@ -140,33 +243,64 @@ pub returns-then-is_bad-clause-layout : goal.returns-then-is_bad-clause-layout
 returns-then-is_bad-clause-layout c = record {
   waited = queues c.args.pool.now c.args.self.now.datagrams;
   before = inl refl;
-  leaves = (freed c.args.pool.now c.args.pool.now c.free_chain.new.self c.args.self.now.datagrams c.args.self.now.datagrams c.args.chain (stays c.args.pool.now c.args.pool.now c.args.self.now.datagrams c.args.self.now.datagrams c.args.chain c.requires.owned (moves_none _ _)) c.requires.ready.table c.free_chain.ensures).rows;
+  leaves =
+      (freed c.args.pool.now c.args.pool.now c.free_chain.new.self c.args.self.now.datagrams c.args.self.now.datagrams
+      c.args.chain (stays c.args.pool.now c.args.pool.now c.args.self.now.datagrams c.args.self.now.datagrams
+      c.args.chain c.requires.owned (moves_none _ _)) c.requires.ready.table c.free_chain.ensures).rows;
 }
 
 pub returns-clause-layout : goal.returns-clause-layout
 returns-clause-layout c =
-    let m = subst (λ (o : Option ℕ). Moves c.args.pool.now (c.args.chain ∷ held_all c.args.pool.now c.args.self.now.datagrams) c.pull_up.new.pool (option_to_list o ++ held_all c.pull_up.new.pool c.pull_up.new.self.datagrams)) c.in-Some.is c.pull_up.ensures.moves in
-    let t = trimmed_off c.pull_up.new.pool c.trim_front.new.pool c.pull_up.new.self.datagrams c.in-Some.chain c.pull_up.ensures.ready.table (owned_after m c.requires.owned) c.trim_front.ensures in
-    arrived_layout c.args.pool.now c.pull_up.new.pool c.trim_front.new.pool c.lay_or_begin.new.pool c.args.self.now.datagrams c.pull_up.new.self.datagrams c.lay_or_begin.new.self.datagrams c.args.chain c.in-Some.chain c.args.head c.lay_or_begin.result
-    c.pull_up.ensures.waits t.rows (ap (λ (v : ChainView). v.entries) t.chain ∙ ap (without_first 20) c.in-Some.ensures.entries) c.lay_or_begin.ensures.layout
+    let m =
+    subst (λ (o : Option ℕ). Moves c.args.pool.now (c.args.chain ∷ held_all c.args.pool.now c.args.self.now.datagrams)
+    c.pull_up.new.pool (option_to_list o
+    ++ held_all c.pull_up.new.pool c.pull_up.new.self.datagrams)) c.in-Some.is c.pull_up.ensures.moves in
+    let t =
+    trimmed_off c.pull_up.new.pool c.trim_front.new.pool c.pull_up.new.self.datagrams c.in-Some.chain
+    c.pull_up.ensures.ready.table (owned_after m c.requires.owned) c.trim_front.ensures in
+    arrived_layout c.args.pool.now c.pull_up.new.pool c.trim_front.new.pool c.lay_or_begin.new.pool
+    c.args.self.now.datagrams c.pull_up.new.self.datagrams c.lay_or_begin.new.self.datagrams c.args.chain
+    c.in-Some.chain c.args.head c.lay_or_begin.result
+    c.pull_up.ensures.waits t.rows
+    (ap (λ (v : ChainView). v.entries) t.chain ∙ ap (without_first 20) c.in-Some.ensures.entries)
+    c.lay_or_begin.ensures.layout
 
 pub returns-then-is_bad-clause-cause : goal.returns-then-is_bad-clause-cause
 returns-then-is_bad-clause-cause c =
-    sym (cond-true _ _ _ (ap (λ (n : ℕ). is_bad_fragment (flat_head c.args.head) (n - 20)) (sym c.requires.total ∙ sym c.len-len.ensures) ∙ (sym c.is_bad.ensures ∙ c.if-is_bad.true)))
+    sym (cond-true _ _ _ (ap (λ (n : ℕ). is_bad_fragment (flat_head c.args.head) (n - 20))
+    (sym c.requires.total ∙ sym c.len-len.ensures) ∙ (sym c.is_bad.ensures ∙ c.if-is_bad.true)))
 
 pub returns-in_default-clause-cause : goal.returns-in_default-clause-cause
 returns-in_default-clause-cause c =
-    let long : length (string (chain_of c.args.pool.now c.args.chain)) ≡ 20 + (c.len-len.result - 20) = omega (arith, c.len-len.ensures, c.requires.total, c.requires.header) in
-    let good : is_bad_fragment (flat_head c.args.head) (c.len-len.result - 20) ≡ false = sym c.is_bad.ensures ∙ c.if-is_bad.false in
+    let long : length (string (chain_of c.args.pool.now c.args.chain)) ≡ 20 + (c.len-len.result - 20) =
+    omega (arith, c.len-len.ensures, c.requires.total, c.requires.header) in
+    let good : is_bad_fragment (flat_head c.args.head) (c.len-len.result - 20) ≡ false =
+    sym c.is_bad.ensures ∙ c.if-is_bad.false in
     let some : 0 < length (flat_bytes (carried_entries (chain_of c.args.pool.now c.args.chain))) =
-    omega (arith, carried_size c.args.pool.now c.args.chain (c.len-len.result - 20) long, good_some c.args.head (c.len-len.result - 20) good) in
-    cause_lacking (key_in c.args.head) (fragment_carried (chain_of c.args.pool.now c.args.chain) c.args.head) (queues c.pull_up.new.pool c.pull_up.new.self.datagrams) some (c.pull_up.ensures.none (ap is_some c.in_default.is))
-    ∙ sym (cond-false _ _ _ (ap (λ (n : ℕ). is_bad_fragment (flat_head c.args.head) (n - 20)) (sym c.requires.total ∙ sym c.len-len.ensures) ∙ good))
+    omega (
+      arith,
+      carried_size c.args.pool.now c.args.chain (c.len-len.result - 20) long,
+      good_some c.args.head (c.len-len.result - 20) good,
+    ) in
+    cause_lacking (key_in c.args.head) (fragment_carried (chain_of c.args.pool.now c.args.chain) c.args.head)
+    (queues c.pull_up.new.pool c.pull_up.new.self.datagrams) some
+    (c.pull_up.ensures.none (ap is_some c.in_default.is))
+    ∙ sym (cond-false _ _ _ (ap (λ (n : ℕ). is_bad_fragment (flat_head c.args.head) (n - 20))
+    (sym c.requires.total ∙ sym c.len-len.ensures) ∙ good))
 
 pub returns-clause-cause : goal.returns-clause-cause
 returns-clause-cause c =
-    let m = subst (λ (o : Option ℕ). Moves c.args.pool.now (c.args.chain ∷ held_all c.args.pool.now c.args.self.now.datagrams) c.pull_up.new.pool (option_to_list o ++ held_all c.pull_up.new.pool c.pull_up.new.self.datagrams)) c.in-Some.is c.pull_up.ensures.moves in
-    let t = trimmed_off c.pull_up.new.pool c.trim_front.new.pool c.pull_up.new.self.datagrams c.in-Some.chain c.pull_up.ensures.ready.table (owned_after m c.requires.owned) c.trim_front.ensures in
-    arrived_cause c.args.pool.now c.trim_front.new.pool c.args.chain c.in-Some.chain c.args.head (under (key_in c.args.head) (queues c.lay_or_begin.new.pool c.lay_or_begin.new.self.datagrams)) c.lay_or_begin.result
-    (ap (λ (n : ℕ). is_bad_fragment (flat_head c.args.head) (n - 20)) (sym c.requires.total ∙ sym c.len-len.ensures) ∙ (sym c.is_bad.ensures ∙ c.if-is_bad.false))
-    (ap (λ (v : ChainView). v.entries) t.chain ∙ ap (without_first 20) c.in-Some.ensures.entries) c.lay_or_begin.ensures.cause
+    let m =
+    subst (λ (o : Option ℕ). Moves c.args.pool.now (c.args.chain ∷ held_all c.args.pool.now c.args.self.now.datagrams)
+    c.pull_up.new.pool (option_to_list o
+    ++ held_all c.pull_up.new.pool c.pull_up.new.self.datagrams)) c.in-Some.is c.pull_up.ensures.moves in
+    let t =
+    trimmed_off c.pull_up.new.pool c.trim_front.new.pool c.pull_up.new.self.datagrams c.in-Some.chain
+    c.pull_up.ensures.ready.table (owned_after m c.requires.owned) c.trim_front.ensures in
+    arrived_cause c.args.pool.now c.trim_front.new.pool c.args.chain c.in-Some.chain c.args.head
+    (under (key_in c.args.head) (queues c.lay_or_begin.new.pool c.lay_or_begin.new.self.datagrams))
+    c.lay_or_begin.result
+    (ap (λ (n : ℕ). is_bad_fragment (flat_head c.args.head) (n - 20)) (sym c.requires.total ∙ sym c.len-len.ensures)
+    ∙ (sym c.is_bad.ensures ∙ c.if-is_bad.false))
+    (ap (λ (v : ChainView). v.entries) t.chain ∙ ap (without_first 20) c.in-Some.ensures.entries)
+    c.lay_or_begin.ensures.cause

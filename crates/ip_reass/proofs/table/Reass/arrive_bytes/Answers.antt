@@ -5,32 +5,55 @@ use Rattle.ip_reass.proofs.AtOnce.{Fits, at_once, end_accounts, fits_is, laid_le
 use Rattle.ip_reass.proofs.table.Reass.arrive_bytes.Goals as goal
 
 pub lay_or_begin-requires-clause-ready : goal.lay_or_begin-requires-clause-ready
-lay_or_begin-requires-clause-ready c = (stored c.args.self.now c.requires.ready c.store_carried-chain.ensures.2.adds).ready
+lay_or_begin-requires-clause-ready c =
+    (stored c.args.self.now c.requires.ready c.store_carried-chain.ensures.2.adds).ready
 
 pub lay_or_begin-requires-clause-owned : goal.lay_or_begin-requires-clause-owned
-lay_or_begin-requires-clause-owned c = (stored c.args.self.now c.requires.ready c.store_carried-chain.ensures.2.adds).owned
+lay_or_begin-requires-clause-owned c =
+    (stored c.args.self.now c.requires.ready c.store_carried-chain.ensures.2.adds).owned
 
 pub lay_or_begin-requires-clause-some : goal.lay_or_begin-requires-clause-some
 lay_or_begin-requires-clause-some c =
-    let fits : Fits c.args.pool.now c.args.head c.args.packet.now = fits_is c.args.pool.now c.args.head c.args.packet.now c.requires.fits in
-    omega (arith, laid_len c.args.packet.now c.store_carried-chain.ensures.0 fits.many c.store_carried-chain.ensures.2, fits.many)
+    let fits : Fits c.args.pool.now c.args.head c.args.packet.now =
+    fits_is c.args.pool.now c.args.head c.args.packet.now c.requires.fits in
+    omega (
+      arith,
+      laid_len c.args.packet.now c.store_carried-chain.ensures.0 fits.many c.store_carried-chain.ensures.2,
+      fits.many,
+    )
 
 pub lay_or_begin-requires-clause-small : goal.lay_or_begin-requires-clause-small
 lay_or_begin-requires-clause-small c =
-    let fits : Fits c.args.pool.now c.args.head c.args.packet.now = fits_is c.args.pool.now c.args.head c.args.packet.now c.requires.fits in
-    omega (arith, laid_len c.args.packet.now c.store_carried-chain.ensures.0 fits.many c.store_carried-chain.ensures.2, fits.total, good_small c.args.head (c.args.head.total - 20) fits.good)
+    let fits : Fits c.args.pool.now c.args.head c.args.packet.now =
+    fits_is c.args.pool.now c.args.head c.args.packet.now c.requires.fits in
+    omega (
+      arith,
+      laid_len c.args.packet.now c.store_carried-chain.ensures.0 fits.many c.store_carried-chain.ensures.2,
+      fits.total,
+      good_small c.args.head (c.args.head.total - 20) fits.good,
+    )
 
 pub returns-clause-arrives : goal.returns-clause-arrives
 returns-clause-arrives c =
-    let fits : Fits c.args.pool.now c.args.head c.args.packet.now = fits_is c.args.pool.now c.args.head c.args.packet.now c.requires.fits in
-    at_once c.args.pool.now c.store_carried-chain.new.pool c.args.self.now c.args.counters.now c.count.new.self c.args.packet.now c.args.head c.store_carried-chain.ensures.0 c.store_carried-chain.result c.lay_or_begin.result c.lay_or_begin.new.pool c.lay_or_begin.new.self c.lay_or_begin.new.counters
-    c.requires.ready fits c.store_carried-chain.ensures.2 c.count.ensures c.store_carried-chain.ensures.1 c.lay_or_begin.ensures.step c.lay_or_begin.ensures.layout c.lay_or_begin.ensures.cause
+    let fits : Fits c.args.pool.now c.args.head c.args.packet.now =
+    fits_is c.args.pool.now c.args.head c.args.packet.now c.requires.fits in
+    at_once c.args.pool.now c.store_carried-chain.new.pool c.args.self.now c.args.counters.now c.count.new.self
+    c.args.packet.now c.args.head c.store_carried-chain.ensures.0 c.store_carried-chain.result c.lay_or_begin.result
+    c.lay_or_begin.new.pool c.lay_or_begin.new.self c.lay_or_begin.new.counters
+    c.requires.ready fits c.store_carried-chain.ensures.2 c.count.ensures c.store_carried-chain.ensures.1
+    c.lay_or_begin.ensures.step c.lay_or_begin.ensures.layout c.lay_or_begin.ensures.cause
 
 pub returns-clause-accounts : goal.returns-clause-accounts
 returns-clause-accounts c =
-    let fits : Fits c.args.pool.now c.args.head c.args.packet.now = fits_is c.args.pool.now c.args.head c.args.packet.now c.requires.fits in
-    end_accounts c.args.pool.now c.store_carried-chain.new.pool c.args.self.now c.args.counters.now c.count.new.self c.args.packet.now c.args.head c.store_carried-chain.ensures.0 c.store_carried-chain.result c.lay_or_begin.result c.lay_or_begin.new.pool c.lay_or_begin.new.self c.lay_or_begin.new.counters
-    c.requires.ready fits c.store_carried-chain.ensures.2 c.count.ensures c.lay_or_begin.ensures.ready c.lay_or_begin.ensures.moves
+    let fits : Fits c.args.pool.now c.args.head c.args.packet.now =
+    fits_is c.args.pool.now c.args.head c.args.packet.now c.requires.fits in
+    end_accounts c.args.pool.now c.store_carried-chain.new.pool c.args.self.now c.args.counters.now c.count.new.self
+    c.args.packet.now c.args.head c.store_carried-chain.ensures.0 c.store_carried-chain.result c.lay_or_begin.result
+    c.lay_or_begin.new.pool c.lay_or_begin.new.self c.lay_or_begin.new.counters
+    c.requires.ready fits c.store_carried-chain.ensures.2 c.count.ensures c.lay_or_begin.ensures.ready
+    c.lay_or_begin.ensures.moves
 
 pub returns-clause-moves : goal.returns-clause-moves
-returns-clause-moves c = moves_trans (stored c.args.self.now c.requires.ready c.store_carried-chain.ensures.2.adds).moves c.lay_or_begin.ensures.moves
+returns-clause-moves c =
+    moves_trans (stored c.args.self.now c.requires.ready c.store_carried-chain.ensures.2.adds).moves
+    c.lay_or_begin.ensures.moves

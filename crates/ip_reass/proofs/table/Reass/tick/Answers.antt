@@ -14,38 +14,60 @@ pub free_beyond-requires-clause-table : goal.free_beyond-requires-clause-table
 free_beyond-requires-clause-table c =
     let long : length c.age-kept.new.table ≡ c.self.inside.datagrams.len = omega arith in
     let was = c.as_mut_slice.ensures.value ∙ (ap (λ (r : TableView). r.datagrams) c.self.view_is) in
-    subst (IsTable c.args.pool.now) (sym (lent c.self.inside.datagrams.len c.self.inside.datagrams.items c.age-kept.new.table long))
-    (reordered c.args.pool.now c.args.self.now.datagrams c.age-kept.new.table c.requires.table (λ k. c.age-kept.ensures.holds c.args.pool.now k ∙ ap (sum_by (holds c.args.pool.now k)) was)
-    (c.age-kept.ensures.each c.args.pool.now (subst (AllUnfinished c.args.pool.now) (sym was) c.requires.table.each)) (omega (arith, ap (λ (xs : List Datagram). length xs) was)))
+    subst (IsTable c.args.pool.now)
+    (sym (lent c.self.inside.datagrams.len c.self.inside.datagrams.items c.age-kept.new.table long))
+    (reordered c.args.pool.now c.args.self.now.datagrams c.age-kept.new.table c.requires.table
+    (λ k. c.age-kept.ensures.holds c.args.pool.now k ∙ ap (sum_by (holds c.args.pool.now k)) was)
+    (c.age-kept.ensures.each c.args.pool.now (subst (AllUnfinished c.args.pool.now) (sym was) c.requires.table.each))
+    (omega (arith, ap (λ (xs : List Datagram). length xs) was)))
 
 pub returns-clause-moves : goal.returns-clause-moves
 returns-clause-moves c =
     let long : length c.age-kept.new.table ≡ c.self.inside.datagrams.len = omega arith in
     let was = c.as_mut_slice.ensures.value ∙ (ap (λ (r : TableView). r.datagrams) c.self.view_is) in
-    table_reordered c.args.pool.now c.free_beyond.new.pool c.args.self.now.datagrams c.age-kept.new.table (held_all c.free_beyond.new.pool c.free_beyond.new.table.items)
+    table_reordered c.args.pool.now c.free_beyond.new.pool c.args.self.now.datagrams c.age-kept.new.table
+    (held_all c.free_beyond.new.pool c.free_beyond.new.table.items)
     (λ k. c.age-kept.ensures.holds c.args.pool.now k ∙ ap (sum_by (holds c.args.pool.now k)) was)
-    (subst (λ (ds : List Datagram). Moves c.args.pool.now (held_all c.args.pool.now ds) c.free_beyond.new.pool (held_all c.free_beyond.new.pool c.free_beyond.new.table.items)) (lent c.self.inside.datagrams.len c.self.inside.datagrams.items c.age-kept.new.table long)
+    (subst (λ (ds : List Datagram). Moves c.args.pool.now (held_all c.args.pool.now ds) c.free_beyond.new.pool
+    (held_all c.free_beyond.new.pool c.free_beyond.new.table.items)) (lent c.self.inside.datagrams.len
+    c.self.inside.datagrams.items c.age-kept.new.table long)
     c.free_beyond.ensures.moves)
 
 aged_now : (c : goal.After-renew) → c.free_beyond.new.table.items ≡ aged c.args.self.now.datagrams
 aged_now c =
     let long : length c.age-kept.new.table ≡ c.self.inside.datagrams.len = omega arith in
     let was = c.as_mut_slice.ensures.value ∙ (ap (λ (r : TableView). r.datagrams) c.self.view_is) in
-    c.free_beyond.ensures.items ∙ (ap (take c.age-kept.result) (lent c.self.inside.datagrams.len c.self.inside.datagrams.items c.age-kept.new.table long) ∙ (c.age-kept.ensures.kept ∙ ap aged was))
+    c.free_beyond.ensures.items ∙ (ap (take c.age-kept.result)
+    (lent c.self.inside.datagrams.len c.self.inside.datagrams.items c.age-kept.new.table long)
+    ∙ (c.age-kept.ensures.kept ∙ ap aged was))
 
 pub returns-clause-step : goal.returns-clause-step
 returns-clause-step c = λ rest d.
     let was = c.as_mut_slice.ensures.value ∙ (ap (λ (r : TableView). r.datagrams) c.self.view_is) in
-    let kept : length (aged c.args.self.now.datagrams) ≡ c.age-kept.result = ap (λ (xs : List Datagram). length xs) (sym (c.age-kept.ensures.kept ∙ ap aged was)) ∙ length-take-le c.age-kept.result c.age-kept.new.table c.age-kept.ensures.within in
-    let size : length c.args.self.now.datagrams ≡ c.self.inside.datagrams.len = omega (arith, c.as_mut_slice.ensures.len, ap (λ (xs : List Datagram). length xs) was) in
-    tick_step rest d c.args.pool.now c.free_beyond.new.pool c.args.self.now.datagrams c.free_beyond.new.table.items (c.len-before.result - c.age-kept.result) (aged_now c) c.free_beyond.ensures.same (omega (arith, kept, size, c.len-before.ensures, c.age-kept.ensures.within))
+    let kept : length (aged c.args.self.now.datagrams) ≡ c.age-kept.result =
+    ap (λ (xs : List Datagram). length xs) (sym (c.age-kept.ensures.kept ∙ ap aged was))
+    ∙ length-take-le c.age-kept.result c.age-kept.new.table c.age-kept.ensures.within in
+    let size : length c.args.self.now.datagrams ≡ c.self.inside.datagrams.len =
+    omega (arith, c.as_mut_slice.ensures.len, ap (λ (xs : List Datagram). length xs) was) in
+    tick_step rest d c.args.pool.now c.free_beyond.new.pool c.args.self.now.datagrams c.free_beyond.new.table.items
+    (c.len-before.result - c.age-kept.result) (aged_now c) c.free_beyond.ensures.same
+    (omega (arith, kept, size, c.len-before.ensures, c.age-kept.ensures.within))
 
 pub returns-clause-ready : goal.returns-clause-ready
 returns-clause-ready c = record {
   table = c.free_beyond.ensures.table;
   fragments = aged_fragments c.args.self.now.datagrams c.free_beyond.new.table.items (aged_now c) c.requires.fragments;
-  room = omega (arith, c.free_beyond.ensures.capacity, ap (λ (r : TableView). r.room) c.self.view_is, c.requires.room, c.free_beyond.ensures.moves.mbufs);
-  distinct = aged_distinct c.args.pool.now c.free_beyond.new.pool c.args.self.now.datagrams c.free_beyond.new.table.items (aged_now c) c.free_beyond.ensures.same c.requires.distinct;
+  room =
+      omega (
+        arith,
+        c.free_beyond.ensures.capacity,
+        ap (λ (r : TableView). r.room) c.self.view_is,
+        c.requires.room,
+        c.free_beyond.ensures.moves.mbufs,
+      );
+  distinct =
+      aged_distinct c.args.pool.now c.free_beyond.new.pool c.args.self.now.datagrams c.free_beyond.new.table.items
+      (aged_now c) c.free_beyond.ensures.same c.requires.distinct;
 }
 
 pub renew-requires-clause-same : goal.renew-requires-clause-same
@@ -54,6 +76,18 @@ renew-requires-clause-same c = λ e.
     let was = ap (λ (r : TableView). r.datagrams) c.self.view_is in
     let size : length c.age-kept.new.table ≡ c.self.inside.datagrams.len = omega arith in
     let old = c.as_mut_slice.ensures.value ∙ was in
-    let now = c.as_slice-table.ensures.value ∙ c.free_beyond.ensures.items ∙ ap (take c.age-kept.result) (lent c.self.inside.datagrams.len c.self.inside.datagrams.items c.age-kept.new.table size) ∙ c.age-kept.ensures.kept ∙ ap aged old in
-    let long : length c.args.self.now.datagrams ≡ length (aged c.args.self.now.datagrams) = omega (arith, e, ap (λ (bs : List ℕ). length bs) c.self.invariant.2.rows, length_buckets n c.self.inside.datagrams.items, ap (λ (xs : List Datagram). length xs) was, ap (λ (xs : List Datagram). length xs) now) in
-    c.self.invariant.2.rows ∙ ap (buckets_of n) was ∙ aged_same n c.args.self.now.datagrams long ∙ ap (buckets_of n) (sym now)
+    let now =
+    c.as_slice-table.ensures.value ∙ c.free_beyond.ensures.items
+    ∙ ap (take c.age-kept.result) (lent c.self.inside.datagrams.len c.self.inside.datagrams.items
+    c.age-kept.new.table size) ∙ c.age-kept.ensures.kept ∙ ap aged old in
+    let long : length c.args.self.now.datagrams ≡ length (aged c.args.self.now.datagrams) =
+    omega (
+      arith,
+      e,
+      ap (λ (bs : List ℕ). length bs) c.self.invariant.2.rows,
+      length_buckets n c.self.inside.datagrams.items,
+      ap (λ (xs : List Datagram). length xs) was,
+      ap (λ (xs : List Datagram). length xs) now,
+    ) in
+    c.self.invariant.2.rows ∙ ap (buckets_of n) was ∙ aged_same n c.args.self.now.datagrams long
+    ∙ ap (buckets_of n) (sym now)

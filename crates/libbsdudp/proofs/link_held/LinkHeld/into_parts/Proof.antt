@@ -38,15 +38,20 @@ stayed = (stay_dropped (plain (λ _. held.the_row)) yes, tt)
 pub into_parts_spec : {M : Type 1} → statement M
 into_parts_spec 𝓤 𝓛 𝓜 𝓡 wired =
     let E = link_box in let H = 𝓛.H in let 𝓣 = tables 𝓤 H 𝓜 𝓡 𝓡.env in let c = f.clauses 𝓛 𝓜.mem 𝓡.returns in
-    proved_at 𝓛 f.ended stayed c 𝓜 𝓡 (Goes-dropped 𝓛 0 (plain (λ _. held.the_row)) yes (λ κs x f. refl), tt) f.Key.name code.function (code.unfolded 𝓤 H 𝓜 𝓡 wired) (λ z are.
-    let p = z.0.3.0 in let Out : Val → SProp 𝓤 = (walk_of 𝓛 f.ended stayed c).post z in let Run : List Val → SProp 𝓤 = λ us. WpFn 𝓤 H 𝓣.C 𝓣.Λ code.function us Out in
-    qed 𝓛 ((‵ ftrue ⊛ ‵ (fsep (held.the_row.own_val p z.0.4.0) ftrue)) ∷ raw (fact 𝓤 (IsFull p.kept)) ∷ []) ∵ move ! (1 ∷ []) $ heard ! (IsFull p.kept) (λ full. split ! $ drop ! $ fsplit ! $
+    proved_at 𝓛 f.ended stayed c 𝓜 𝓡 (Goes-dropped 𝓛 0 (plain (λ _. held.the_row)) yes (λ κs x f. refl), tt) f.Key.name
+    code.function (code.unfolded 𝓤 H 𝓜 𝓡 wired) (λ z are.
+    let p = z.0.3.0 in let Out : Val → SProp 𝓤 = (walk_of 𝓛 f.ended stayed c).post z in
+    let Run : List Val → SProp 𝓤 = λ us. WpFn 𝓤 H 𝓣.C 𝓣.Λ code.function us Out in
+    qed 𝓛 ((‵ ftrue ⊛ ‵ (fsep (held.the_row.own_val p z.0.4.0) ftrue)) ∷ raw (fact 𝓤 (IsFull p.kept)) ∷ []) ∵ move !
+    (1 ∷ []) $ heard ! (IsFull p.kept) (λ full. split ! $ drop ! $ fsplit ! $
     let is = has p.kept full in let d : D E = record { ptr = p.at; alloc = p.alloc; value = is.0 } in
     let made : Into.Denot = record { at = p.at; alloc = p.alloc; value = is.0 } in
-    rewrite ! 0 (λ (k : Kept). ‵ (held.the_row.own_val (record { at = p.at; alloc = p.alloc; kept = k }) z.0.4.0)) is.1 refl $ use1 𝓛 (‵ ((B E).own_val d z.0.4.0)) (id⊢ 𝓤 _) $
+    rewrite ! 0 (λ (k : Kept). ‵ (held.the_row.own_val (record { at = p.at; alloc = p.alloc; kept = k }) z.0.4.0)) is.1
+    refl $ use1 𝓛 (‵ ((B E).own_val d z.0.4.0)) (id⊢ 𝓤 _) $
     box_out E ! d z.0.4.0 (λ b o h at us fits. let w = word E h b o in let typed = box_typed E h b o fits in
     box_in E ! d b o d.value at refl $ use1 𝓛 (‵ (Into.own_val made (w ∷ []))) (id⊢ 𝓤 _) $ move ! (1 ∷ []) $ drop ! $
-    suffices ! (Run (w ∷ [])) (subst (λ (vs : List Val). ent 𝓤 (Run (w ∷ [])) (Run (vs ++ []))) (sym us) (id⊢ 𝓤 (Run (w ∷ [])))) $
+    suffices ! (Run (w ∷ [])) (subst (λ (vs : List Val). ent 𝓤 (Run (w ∷ [])) (Run (vs ++ []))) (sym us)
+    (id⊢ 𝓤 (Run (w ∷ [])))) $
     enter ! 𝓣.C 𝓣.Λ code.function (w ∷ []) Out $ alloc_all ! (λ l. pass_all ! refl (typed, tt) $
     sets ! (of_opd ! (get_in ! (fld ! refl (stop !)) (sub ! 0 refl (whole !)))) refl (tt, tt) $
     sets ! (of_opd ! (get_in ! (fld ! refl (stop !)) (sub ! 1 refl (whole !)))) refl fits $

@@ -36,20 +36,29 @@ stayed = (stay_dropped (plain (λ _. heap.the_row)) yes, tt)
 pub nothing_spec : {M : Type 1} → statement M
 nothing_spec 𝓤 𝓛 𝓜 𝓡 wired =
     let H = 𝓛.H in let 𝓣 = tables 𝓤 H 𝓜 𝓡 𝓡.env in let c = f.clauses 𝓛 𝓜.mem 𝓡.returns in
-    proved_at 𝓛 f.ended stayed c 𝓜 𝓡 (Goes-dropped 𝓛 0 (plain (λ _. heap.the_row)) yes (λ κs x f. refl), tt) f.Key.name code.function (code.unfolded 𝓤 H 𝓜 𝓡 wired) (λ z are.
-    let a = z.0.3.0 in let Out : Val → SProp 𝓤 = (walk_of 𝓛 f.ended stayed c).post z in let Run : List Val → SProp 𝓤 = λ us. WpFn 𝓤 H 𝓣.C 𝓣.Λ code.function us Out in
-    let only_one = one (layout heap.the_row) z.0.4.0 ((heap_laws.the_row_laws.lawful 𝓛).typed a z.0.4.0 are.0) in let h : Val = only_one.0 in
-    let w : Val = vstruct (of_list (ptr_val null_ptr ∷ h ∷ [])) in let made : held.the_row.Denot = record { at = null_ptr; alloc = a; kept = None } in
-    qed 𝓛 ((‵ ftrue ⊛ ‵ (fsep (heap.the_row.own_val a z.0.4.0) ftrue)) ∷ raw (emp 𝓤) ∷ []) ∵ split ! $ drop ! $ fsplit ! $ move ! (1 ∷ 2 ∷ []) $ drop ! $ drop ! $
+    proved_at 𝓛 f.ended stayed c 𝓜 𝓡 (Goes-dropped 𝓛 0 (plain (λ _. heap.the_row)) yes (λ κs x f. refl), tt) f.Key.name
+    code.function (code.unfolded 𝓤 H 𝓜 𝓡 wired) (λ z are.
+    let a = z.0.3.0 in let Out : Val → SProp 𝓤 = (walk_of 𝓛 f.ended stayed c).post z in
+    let Run : List Val → SProp 𝓤 = λ us. WpFn 𝓤 H 𝓣.C 𝓣.Λ code.function us Out in
+    let only_one = one (layout heap.the_row) z.0.4.0 ((heap_laws.the_row_laws.lawful 𝓛).typed a z.0.4.0 are.0) in
+    let h : Val = only_one.0 in
+    let w : Val = vstruct (of_list (ptr_val null_ptr ∷ h ∷ [])) in
+    let made : held.the_row.Denot = record { at = null_ptr; alloc = a; kept = None } in
+    qed 𝓛 ((‵ ftrue ⊛ ‵ (fsep (heap.the_row.own_val a z.0.4.0) ftrue)) ∷ raw (emp 𝓤) ∷ []) ∵ split ! $ drop ! $
+    fsplit ! $ move ! (1 ∷ 2 ∷ []) $ drop ! $ drop ! $
     rewrite ! 0 (λ (us : List Val). ‵ (heap.the_row.own_val a us)) only_one.1 refl $
     -- [the allocator's]
-    nothing ! $ nothing ! $ move ! (2 ∷ 0 ∷ []) $ fjoin ! $ feq_i ! (List Val) (ptr_val null_ptr ∷ []) (ptr_val null_ptr ∷ []) refl $ fjoin ! $
+    nothing ! $ nothing ! $ move ! (2 ∷ 0 ∷ []) $ fjoin ! $
+    feq_i ! (List Val) (ptr_val null_ptr ∷ []) (ptr_val null_ptr ∷ []) refl $ fjoin ! $
     feq_i ! (List Val) (w ∷ []) (w ∷ []) refl $ fjoin ! $
-    fpack ! (Valss (RawPtr ∷ P link_box ∷ [])) (within (shape (owning link_box)) (null_ptr, (a, tt)) (w ∷ [])) (ptr_val null_ptr ∷ [], (h ∷ [], tt)) $ fjoin ! $
+    fpack ! (Valss (RawPtr ∷ P link_box ∷ [])) (within (shape (owning link_box)) (null_ptr, (a, tt)) (w ∷ []))
+    (ptr_val null_ptr ∷ [], (h ∷ [], tt)) $ fjoin ! $
     use1 𝓛 (‵ (held.the_row.own_val made (w ∷ []))) (id⊢ 𝓤 _) $
-    suffices ! (Run (h ∷ [])) (subst (λ (vs : List Val). ent 𝓤 (Run (h ∷ [])) (Run (vs ++ []))) (sym only_one.1) (id⊢ 𝓤 (Run (h ∷ [])))) $
+    suffices ! (Run (h ∷ [])) (subst (λ (vs : List Val). ent 𝓤 (Run (h ∷ [])) (Run (vs ++ []))) (sym only_one.1)
+    (id⊢ 𝓤 (Run (h ∷ [])))) $
     enter ! 𝓣.C 𝓣.Λ code.function (h ∷ []) Out $ alloc_all ! (λ l. pass_all ! refl (only_one.2, tt) $
-    sets ! (agg ! (and_then ! (lit ! tt) (and_then ! (get ! refl) (no_more !)))) refl (and_tt (has_ty (layout heap.the_row) h) only_one.2.0, (record { fits = lit< tt }, (only_one.2.1, tt))) $
+    sets ! (agg ! (and_then ! (lit ! tt) (and_then ! (get ! refl) (no_more !)))) refl
+    (and_tt (has_ty (layout heap.the_row) h) only_one.2.0, (record { fits = lit< tt }, (only_one.2.1, tt))) $
     returns ! (look_at ! 0 refl) $ free_all ! refl $
     suffices ! _ (ends_at 𝓛 f.ended stayed c z w made (tt, tt) (tt, tt)) $ says ! refl $
     nothing ! $ nothing ! $ fjoin ! $ join ! $ nothing ! $ join ! $ done !))

@@ -7,12 +7,22 @@ pub invariant_of-self : goal.invariant_of-self
 invariant_of-self c = (reads _ _ _ _ c.in_ok-cell.was c.self.invariant c.head-head.ensures.value).rest
 
 pub returns-clause-steps : goal.returns-clause-steps
-returns-clause-steps c = sym c.self.view_is ∙ next_piece _ _ _ _ _ (reads _ _ _ _ c.in_ok-cell.was c.self.invariant c.head-head.ensures.value) (c.bytes.ensures.value ∙ ap (read c.self.inside.store.now) c.data_of.ensures)
+returns-clause-steps c =
+    sym c.self.view_is ∙ next_piece _ _ _ _ _
+    (reads _ _ _ _ c.in_ok-cell.was c.self.invariant c.head-head.ensures.value)
+    (c.bytes.ensures.value ∙ ap (read c.self.inside.store.now) c.data_of.ensures)
 
 pub returns-clause-goes : goal.returns-clause-goes
 returns-clause-goes c =
     record {
-      on = λ _. (tt, tt, one_less _ _ _ (sym c.self.view_is ∙ next_piece _ _ _ _ _ (reads _ _ _ _ c.in_ok-cell.was c.self.invariant c.head-head.ensures.value) (c.bytes.ensures.value ∙ ap (read c.self.inside.store.now) c.data_of.ensures)));
+      on = λ _. (
+        tt,
+        tt,
+        one_less _ _ _
+            (sym c.self.view_is ∙ next_piece _ _ _ _ _
+            (reads _ _ _ _ c.in_ok-cell.was c.self.invariant c.head-head.ensures.value)
+            (c.bytes.ensures.value ∙ ap (read c.self.inside.store.now) c.data_of.ensures)),
+      );
       keeps = tt;
       rests = λ _. tt;
     }

@@ -4,4 +4,6 @@ use Rattle.mbuf_chain.proofs.Made.{unreferenced}
 use Rattle.mbuf_chain.proofs.pool.Pool.count.Goals as goal
 
 pub returns : goal.returns
-returns c = c.count.ensures.value ∙ sym (unreferenced c.self.inside.store c.self.invariant c.args.cluster) ∙ ap (λ (p : PoolView). references p c.args.cluster) c.self.view_is
+returns c =
+    c.count.ensures.value ∙ sym (unreferenced c.self.inside.store c.self.invariant c.args.cluster)
+    ∙ ap (λ (p : PoolView). references p c.args.cluster) c.self.view_is

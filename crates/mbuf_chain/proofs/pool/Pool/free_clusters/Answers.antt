@@ -4,4 +4,5 @@ use Rattle.mbuf_chain.proofs.Made.{free_are}
 use Rattle.mbuf_chain.proofs.pool.Pool.free_clusters.Goals as goal
 
 pub returns : goal.returns
-returns c = c.free_clusters.ensures ∙ sym (free_are c.self.inside.store c.self.invariant) ∙ ap free_clusters c.self.view_is
+returns c =
+    c.free_clusters.ensures ∙ sym (free_are c.self.inside.store c.self.invariant) ∙ ap free_clusters c.self.view_is

@@ -5,8 +5,10 @@ use Rattle.mbuf_chain.proofs.Trains.{live_queued, queued_packet_is}
 use Rattle.mbuf_chain.proofs.train.Train.chain_len.Goals as goal
 
 pub len_of-requires : goal.len_of-requires
-len_of-requires c = live_queued c.args.pool.now c.args.self.now c.args.i c.number.result c.requires.held c.number.ensures
+len_of-requires c =
+    live_queued c.args.pool.now c.args.self.now c.args.i c.number.result c.requires.held c.number.ensures
 
 pub returns : goal.returns
 returns c =
-    c.len_of.ensures ∙ sym (ap (λ (queued_packet : QueuedPacket). length (flat_bytes queued_packet.entries)) (queued_packet_is c.args.pool.now c.args.self.now c.args.i c.number.result c.number.ensures))
+    c.len_of.ensures ∙ sym (ap (λ (queued_packet : QueuedPacket). length (flat_bytes queued_packet.entries))
+    (queued_packet_is c.args.pool.now c.args.self.now c.args.i c.number.result c.number.ensures))

@@ -16,8 +16,12 @@ chains-smaller c = omega (arith, c.take-chain.ensures.len)
 
 pub chains-preserved : goal.chains-preserved
 chains-preserved c =
-    let freed = freed_packet c.chains.invariant.held c.take-chain.ensures.held c.take-chain.ensures.moves c.free_chain.ensures in
+    let freed =
+    freed_packet c.chains.invariant.held c.take-chain.ensures.held c.take-chain.ensures.moves c.free_chain.ensures in
     record { held = freed.held; moves = moves_trans c.chains.invariant.moves freed.moves }
 
 pub returns : goal.returns
-returns c = subst (Moves c.args.pool.now (numbers c.args.pool.now c.args.self) c.chains.pool) (none_left c.chains.pool c.chains.self (omega (arith, c.len.ensures, c.chains-test.false))) c.chains.invariant.moves
+returns c =
+    subst (Moves c.args.pool.now (numbers c.args.pool.now c.args.self) c.chains.pool)
+    (none_left c.chains.pool c.chains.self (omega (arith, c.len.ensures, c.chains-test.false)))
+    c.chains.invariant.moves

@@ -10,7 +10,10 @@ use Rattle.mbuf_chain.proofs.train.Train.insert_first.Goals.{then-is_only, else-
 
 pub overflow_add-self : goal.overflow_add-self
 overflow_add-self c =
-    let room = room_for c.args.pool.now c.args.self.now c.args.number (placed (chain_of c.args.pool.now c.args.number) c.first_number-first.result c.args.tag) c.place.new.pool c.requires.held c.requires.live c.requires.apart c.place.ensures.placed c.place.ensures.bounds in
+    let room =
+    room_for c.args.pool.now c.args.self.now c.args.number
+    (placed (chain_of c.args.pool.now c.args.number) c.first_number-first.result c.args.tag) c.place.new.pool
+    c.requires.held c.requires.live c.requires.apart c.place.ensures.placed c.place.ensures.bounds in
     let len = ap (λ (t : TrainView). t.len) c.self.view_is in
     elim c.if-is_only.branch [
       | then-is_only w ↦ omega (arith, room, len, ap (λ (s : Inside). s.len) w.self-inside-is)
@@ -20,15 +23,23 @@ overflow_add-self c =
 pub returns : goal.returns
 returns c =
     let len = ap (λ (t : TrainView). t.len) c.self.view_is in
-    let step = c.place.ensures.placed ∙ ap (λ o. with_chain c.args.pool.now c.args.number (placed (chain_of c.args.pool.now c.args.number) o c.args.tag)) c.first_number-first.ensures in
+    let step =
+    c.place.ensures.placed ∙ ap (λ o. with_chain c.args.pool.now c.args.number
+    (placed (chain_of c.args.pool.now c.args.number) o c.args.tag)) c.first_number-first.ensures in
     elim c.if-is_only.branch [
       | then-is_only w ↦
-          inserted_first c.args.pool.now c.args.self.now c.args.number c.args.tag c.place.new.pool _ c.requires.held c.requires.live c.requires.headed c.requires.apart step
-          (end_there _ _ (omega arith) ∙ ap (λ (s : Inside). Some s.first) w.self-inside-is) (ap (λ (s : Inside). s.len + 1) w.self-inside-is ∙ ap (λ n. n + 1) len) (λ _. end_there _ _ (omega arith) ∙ ap (λ (s : Inside). Some s.last) w.self-inside-is)
+          inserted_first c.args.pool.now c.args.self.now c.args.number c.args.tag c.place.new.pool _ c.requires.held
+          c.requires.live c.requires.headed c.requires.apart step
+          (end_there _ _ (omega arith) ∙ ap (λ (s : Inside). Some s.first) w.self-inside-is)
+          (ap (λ (s : Inside). s.len + 1) w.self-inside-is ∙ ap (λ n. n + 1) len)
+          (λ _. end_there _ _ (omega arith) ∙ ap (λ (s : Inside). Some s.last) w.self-inside-is)
           (λ h. absurd (omega (arith, h, len, eqb-true _ _ (sym c.is_empty-is_only.ensures ∙ w.if-is_only.true))))
       | else-is_only w ↦
-          inserted_first c.args.pool.now c.args.self.now c.args.number c.args.tag c.place.new.pool _ c.requires.held c.requires.live c.requires.headed c.requires.apart step
-          (end_there _ _ (omega arith) ∙ ap (λ (s : Inside). Some s.first) w.self-inside-is) (ap (λ (s : Inside). s.len + 1) w.self-inside-is ∙ ap (λ n. n + 1) len) (λ h. absurd (omega (arith, h, len, eqb-false _ _ (sym c.is_empty-is_only.ensures ∙ w.if-is_only.false))))
+          inserted_first c.args.pool.now c.args.self.now c.args.number c.args.tag c.place.new.pool _ c.requires.held
+          c.requires.live c.requires.headed c.requires.apart step
+          (end_there _ _ (omega arith) ∙ ap (λ (s : Inside). Some s.first) w.self-inside-is)
+          (ap (λ (s : Inside). s.len + 1) w.self-inside-is ∙ ap (λ n. n + 1) len)
+          (λ h. absurd (omega (arith, h, len, eqb-false _ _ (sym c.is_empty-is_only.ensures ∙ w.if-is_only.false))))
           (λ h.
           end_there _ _ (omega arith)
           ∙ ap (λ (s : Inside). Some s.last) w.self-inside-is

@@ -10,35 +10,54 @@ use Rattle.mbuf_chain.proofs.train.Train.take_next.Goals as goal
 use Rattle.mbuf_chain.proofs.train.Train.take_next.Goals.{then-self-before, else-self-before}
 
 pub after-requires : goal.after-requires
-after-requires c = live_queued c.args.pool.now c.args.self.now c.args.before.index c.args.before.number c.requires.held c.requires.before.number
+after-requires c =
+    live_queued c.args.pool.now c.args.self.now c.args.before.index c.args.before.number c.requires.held
+    c.requires.before.number
 
 pub unreachable-requires : goal.unreachable-requires
 unreachable-requires c =
-    let next = after_queued c.args.pool.now c.args.self.now c.args.before.index c.args.before.number c.requires.held c.requires.before.number (omega arith) in
+    let next =
+    after_queued c.args.pool.now c.args.self.now c.args.before.index c.args.before.number c.requires.held
+    c.requires.before.number (omega arith) in
     c.in_default.not-Some next.0 (c.after.ensures ∙ next.1)
 
 pub after-rest-requires : goal.after-rest-requires
 after-rest-requires c =
-    live_queued c.args.pool.now c.args.self.now (suc c.args.before.index) c.in-Some.number c.requires.held (next_queued c.args.pool.now c.args.self.now c.args.before.index c.args.before.number c.in-Some.number c.requires.held c.requires.before.number (omega arith) (sym c.after.ensures ∙ c.in-Some.is))
+    live_queued c.args.pool.now c.args.self.now (suc c.args.before.index) c.in-Some.number c.requires.held
+    (next_queued c.args.pool.now c.args.self.now c.args.before.index c.args.before.number c.in-Some.number
+    c.requires.held c.requires.before.number (omega arith) (sym c.after.ensures ∙ c.in-Some.is))
 
 pub tag_of-tag-requires : goal.tag_of-tag-requires
 tag_of-tag-requires c =
-    live_queued c.args.pool.now c.args.self.now (suc c.args.before.index) c.in-Some.number c.requires.held (next_queued c.args.pool.now c.args.self.now c.args.before.index c.args.before.number c.in-Some.number c.requires.held c.requires.before.number (omega arith) (sym c.after.ensures ∙ c.in-Some.is))
+    live_queued c.args.pool.now c.args.self.now (suc c.args.before.index) c.in-Some.number c.requires.held
+    (next_queued c.args.pool.now c.args.self.now c.args.before.index c.args.before.number c.in-Some.number
+    c.requires.held c.requires.before.number (omega arith) (sym c.after.ensures ∙ c.in-Some.is))
 
 pub place-requires-clause-headed : goal.place-requires-clause-headed
-place-requires-clause-headed c = headed_packet c.args.pool.now c.args.self.now c.args.before.index c.args.before.number c.requires.held c.requires.before.number
+place-requires-clause-headed c =
+    headed_packet c.args.pool.now c.args.self.now c.args.before.index c.args.before.number c.requires.held
+    c.requires.before.number
 
 pub place-requires-2-clause-live : goal.place-requires-2-clause-live
 place-requires-2-clause-live c =
-    live_with c.args.pool.now c.place.new.pool c.args.before.number (placed (chain_of c.args.pool.now c.args.before.number) c.after-rest.result c.tag_of-kept.result) c.in-Some.number c.place.ensures.placed
-    (live_queued c.args.pool.now c.args.self.now (suc c.args.before.index) c.in-Some.number c.requires.held (next_queued c.args.pool.now c.args.self.now c.args.before.index c.args.before.number c.in-Some.number c.requires.held c.requires.before.number (omega arith) (sym c.after.ensures ∙ c.in-Some.is)))
+    live_with c.args.pool.now c.place.new.pool c.args.before.number
+    (placed (chain_of c.args.pool.now c.args.before.number) c.after-rest.result c.tag_of-kept.result) c.in-Some.number
+    c.place.ensures.placed
+    (live_queued c.args.pool.now c.args.self.now (suc c.args.before.index) c.in-Some.number c.requires.held
+    (next_queued c.args.pool.now c.args.self.now c.args.before.index c.args.before.number c.in-Some.number
+    c.requires.held c.requires.before.number (omega arith) (sym c.after.ensures ∙ c.in-Some.is)))
 
 pub place-requires-2-clause-headed : goal.place-requires-2-clause-headed
 place-requires-2-clause-headed c =
     ap (λ (v : ChainView). v.front.header)
-    (kept_with c.args.pool.now c.place.new.pool c.args.before.number (placed (chain_of c.args.pool.now c.args.before.number) c.after-rest.result c.tag_of-kept.result) c.in-Some.number c.place.ensures.placed
-    (next_apart c.args.pool.now c.args.self.now c.args.before.index c.args.before.number c.in-Some.number c.requires.held c.requires.before.number (omega arith) (sym c.after.ensures ∙ c.in-Some.is)))
-    ∙ headed_packet c.args.pool.now c.args.self.now (suc c.args.before.index) c.in-Some.number c.requires.held (next_queued c.args.pool.now c.args.self.now c.args.before.index c.args.before.number c.in-Some.number c.requires.held c.requires.before.number (omega arith) (sym c.after.ensures ∙ c.in-Some.is))
+    (kept_with c.args.pool.now c.place.new.pool c.args.before.number
+    (placed (chain_of c.args.pool.now c.args.before.number) c.after-rest.result c.tag_of-kept.result) c.in-Some.number
+    c.place.ensures.placed
+    (next_apart c.args.pool.now c.args.self.now c.args.before.index c.args.before.number c.in-Some.number
+    c.requires.held c.requires.before.number (omega arith) (sym c.after.ensures ∙ c.in-Some.is)))
+    ∙ headed_packet c.args.pool.now c.args.self.now (suc c.args.before.index) c.in-Some.number c.requires.held
+    (next_queued c.args.pool.now c.args.self.now c.args.before.index c.args.before.number c.in-Some.number
+    c.requires.held c.requires.before.number (omega arith) (sym c.after.ensures ∙ c.in-Some.is))
 
 pub overflow_add-before : goal.overflow_add-before
 overflow_add-before c = omega (arith, c.requires.more, ap (λ (t : TrainView). t.len) c.self.view_is)
@@ -47,22 +66,42 @@ pub returns : goal.returns
 returns c =
     let len = ap (λ (t : TrainView). t.len) c.self.view_is in
     let some : 0 < c.self.inside.len = omega (arith, len, c.requires.more) in
-    let first = sym (end_there c.self.inside.len c.self.inside.first some) ∙ ap (λ (t : TrainView). t.first) c.self.view_is in
-    let last = sym (end_there c.self.inside.len c.self.inside.last some) ∙ ap (λ (t : TrainView). t.last) c.self.view_is in
+    let first =
+    sym (end_there c.self.inside.len c.self.inside.first some) ∙ ap (λ (t : TrainView). t.first) c.self.view_is in
+    let last =
+    sym (end_there c.self.inside.len c.self.inside.last some) ∙ ap (λ (t : TrainView). t.last) c.self.view_is in
     elim c.if-self-before.branch [
       | then-self-before w ↦
-          taken_after c.args.pool.now c.args.self.now c.args.before.number c.args.before.index (c.args.before.index + 1) c.in-Some.number c.tag_of-tag.result c.tag_of-kept.result c.after-rest.result c.place.new.pool c.place-2.new.pool _ c.requires.held
-          c.requires.before.number (omega arith) c.requires.more (sym c.after.ensures ∙ c.in-Some.is) c.after-rest.ensures c.tag_of-tag.ensures c.tag_of-kept.ensures c.place.ensures.placed c.place-2.ensures.placed
-          (end_there _ _ (omega (arith, ap (λ (s : Inside). s.len) w.self-inside-is, len, c.requires.more)) ∙ ap (λ (s : Inside). Some s.first) w.self-inside-is ∙ first) (omega (arith, ap (λ (s : Inside). s.len) w.self-inside-is, len, c.requires.more)) (λ _. end_there _ _ (omega (arith, ap (λ (s : Inside). s.len) w.self-inside-is, len, c.requires.more)) ∙ ap (λ (s : Inside). Some s.last) w.self-inside-is)
+          taken_after c.args.pool.now c.args.self.now c.args.before.number c.args.before.index (c.args.before.index + 1)
+          c.in-Some.number c.tag_of-tag.result c.tag_of-kept.result c.after-rest.result c.place.new.pool
+          c.place-2.new.pool _ c.requires.held
+          c.requires.before.number (omega arith) c.requires.more (sym c.after.ensures ∙ c.in-Some.is)
+          c.after-rest.ensures c.tag_of-tag.ensures c.tag_of-kept.ensures c.place.ensures.placed
+          c.place-2.ensures.placed
+          (end_there _ _ (omega (arith, ap (λ (s : Inside). s.len) w.self-inside-is, len, c.requires.more))
+          ∙ ap (λ (s : Inside). Some s.first) w.self-inside-is
+          ∙ first) (omega (arith, ap (λ (s : Inside). s.len) w.self-inside-is, len, c.requires.more)) (λ _.
+          end_there _ _ (omega (arith, ap (λ (s : Inside). s.len) w.self-inside-is, len, c.requires.more))
+          ∙ ap (λ (s : Inside). Some s.last) w.self-inside-is)
           (λ h. absurd (omega (arith, h, len, w.if-self-before.true)))
       | else-self-before w ↦
-          taken_after c.args.pool.now c.args.self.now c.args.before.number c.args.before.index (c.args.before.index + 1) c.in-Some.number c.tag_of-tag.result c.tag_of-kept.result c.after-rest.result c.place.new.pool c.place-2.new.pool _ c.requires.held
-          c.requires.before.number (omega arith) c.requires.more (sym c.after.ensures ∙ c.in-Some.is) c.after-rest.ensures c.tag_of-tag.ensures c.tag_of-kept.ensures c.place.ensures.placed c.place-2.ensures.placed
-          (end_there _ _ (omega (arith, ap (λ (s : Inside). s.len) w.self-inside-is, len, c.requires.more)) ∙ ap (λ (s : Inside). Some s.first) w.self-inside-is ∙ first) (omega (arith, ap (λ (s : Inside). s.len) w.self-inside-is, len, c.requires.more)) (λ h. absurd (omega (arith, h, len, w.if-self-before.false)))
-          (λ _. end_there _ _ (omega (arith, ap (λ (s : Inside). s.len) w.self-inside-is, len, c.requires.more)) ∙ ap (λ (s : Inside). Some s.last) w.self-inside-is ∙ last)
+          taken_after c.args.pool.now c.args.self.now c.args.before.number c.args.before.index (c.args.before.index + 1)
+          c.in-Some.number c.tag_of-tag.result c.tag_of-kept.result c.after-rest.result c.place.new.pool
+          c.place-2.new.pool _ c.requires.held
+          c.requires.before.number (omega arith) c.requires.more (sym c.after.ensures ∙ c.in-Some.is)
+          c.after-rest.ensures c.tag_of-tag.ensures c.tag_of-kept.ensures c.place.ensures.placed
+          c.place-2.ensures.placed
+          (end_there _ _ (omega (arith, ap (λ (s : Inside). s.len) w.self-inside-is, len, c.requires.more))
+          ∙ ap (λ (s : Inside). Some s.first) w.self-inside-is
+          ∙ first) (omega (arith, ap (λ (s : Inside). s.len) w.self-inside-is, len, c.requires.more)) (λ h. absurd
+          (omega (arith, h, len, w.if-self-before.false)))
+          (λ _. end_there _ _ (omega (arith, ap (λ (s : Inside). s.len) w.self-inside-is, len, c.requires.more))
+          ∙ ap (λ (s : Inside). Some s.last) w.self-inside-is ∙ last)
     ]
 
 pub place-requires-clause-link : goal.place-requires-clause-link
 place-requires-clause-link c =
     subst (λ o. IfSome o (IsLive c.args.pool.now)) (sym c.after-rest.ensures)
-    (live_after c.args.pool.now c.args.self.now (suc c.args.before.index) c.in-Some.number c.requires.held (next_queued c.args.pool.now c.args.self.now c.args.before.index c.args.before.number c.in-Some.number c.requires.held c.requires.before.number (omega arith) (sym c.after.ensures ∙ c.in-Some.is)))
+    (live_after c.args.pool.now c.args.self.now (suc c.args.before.index) c.in-Some.number c.requires.held
+    (next_queued c.args.pool.now c.args.self.now c.args.before.index c.args.before.number c.in-Some.number
+    c.requires.held c.requires.before.number (omega arith) (sym c.after.ensures ∙ c.in-Some.is)))

@@ -10,4 +10,5 @@ bytes-requires c =
 pub returns-clause-value : goal.returns-clause-value
 returns-clause-value c =
     let p = c.args.part in
-    c.bytes.ensures.value ∙ read_is c.self.inside c.args.self.now c.self.invariant c.self.view_is p.buffer p.start p.len c.requires
+    c.bytes.ensures.value ∙ read_is c.self.inside c.args.self.now c.self.invariant c.self.view_is p.buffer p.start p.len
+    c.requires

@@ -11,7 +11,11 @@ bytes_mut-requires c =
 pub invariant_of-self-lent : goal.invariant_of-self-lent
 invariant_of-self-lent c =
     let p = c.args.part in
-    λ w. (c.self.invariant.0, (written c.self.inside c.args.self.now c.self.invariant c.self.view_is p.buffer p.start p.len w c.requires).account)
+    λ w. (
+      c.self.invariant.0,
+      (written c.self.inside c.args.self.now c.self.invariant c.self.view_is p.buffer p.start
+          p.len w c.requires).account,
+    )
 
 pub returns : goal.returns
 returns c =
@@ -19,7 +23,8 @@ returns c =
       (refl, λ w. (written s v c.self.invariant c.self.view_is p.buffer p.start p.len w c.requires).seen),
       record {
         writes_back = tt;
-        value = c.bytes_mut.ensures.value ∙ read_is s v c.self.invariant c.self.view_is p.buffer p.start p.len c.requires;
+        value =
+            c.bytes_mut.ensures.value ∙ read_is s v c.self.invariant c.self.view_is p.buffer p.start p.len c.requires;
         len = c.bytes_mut.ensures.len;
         store = store_is s v c.self.invariant c.self.view_is;
       },

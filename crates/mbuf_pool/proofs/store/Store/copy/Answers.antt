@@ -17,11 +17,16 @@ copy-requires-clause-to c =
 pub invariant_of-self : goal.invariant_of-self
 invariant_of-self c = (
   c.self.invariant.0 ∙ sym (ap (λ (x : Cells). length x.heads) c.copy.ensures.change),
-  (copied c.self.inside c.args.self.now c.self.invariant c.self.view_is c.args.from c.args.to c.copy.new.self c.requires.from c.requires.to c.copy.ensures.change).account,
+  (copied c.self.inside c.args.self.now c.self.invariant c.self.view_is c.args.from c.args.to c.copy.new.self
+      c.requires.from c.requires.to c.copy.ensures.change).account,
 )
 
 pub returns-clause-change : goal.returns-clause-change
-returns-clause-change c = (copied c.self.inside c.args.self.now c.self.invariant c.self.view_is c.args.from c.args.to c.copy.new.self c.requires.from c.requires.to c.copy.ensures.change).seen
+returns-clause-change c =
+    (copied c.self.inside c.args.self.now c.self.invariant c.self.view_is c.args.from c.args.to c.copy.new.self
+    c.requires.from c.requires.to c.copy.ensures.change).seen
 
 pub returns-clause-store : goal.returns-clause-store
-returns-clause-store c = leaves_store (copied c.self.inside c.args.self.now c.self.invariant c.self.view_is c.args.from c.args.to c.copy.new.self c.requires.from c.requires.to c.copy.ensures.change)
+returns-clause-store c =
+    leaves_store (copied c.self.inside c.args.self.now c.self.invariant c.self.view_is c.args.from c.args.to
+    c.copy.new.self c.requires.from c.requires.to c.copy.ensures.change)

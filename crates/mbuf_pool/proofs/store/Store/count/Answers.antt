@@ -11,5 +11,6 @@ returns-clause-value c =
     let s = c.self.inside in
     c.from.ensures
     ∙ c.index.ensures
-    ∙ get_or_default_zero s.counts.items c.args.cluster c.index.result.now (omega (arith, counts_are s c.args.self.now c.self.invariant c.self.view_is))
+    ∙ get_or_default_zero s.counts.items c.args.cluster c.index.result.now
+    (omega (arith, counts_are s c.args.self.now c.self.invariant c.self.view_is))
     ∙ count_is s c.args.self.now c.self.invariant c.self.view_is c.args.cluster c.requires

@@ -6,4 +6,5 @@ pub head-requires : goal.head-requires
 head-requires c = index_is c.self.inside c.args.self.now c.self.invariant c.self.view_is c.args.index c.requires
 
 pub returns-clause-value : goal.returns-clause-value
-returns-clause-value c = c.head.ensures.value ∙ head_is c.self.inside c.args.self.now c.self.invariant c.self.view_is c.args.index c.requires
+returns-clause-value c =
+    c.head.ensures.value ∙ head_is c.self.inside c.args.self.now c.self.invariant c.self.view_is c.args.index c.requires

@@ -5,25 +5,40 @@ use Rattle.mbuf_pool.proofs.Effects.{first_is, put_back, leaves_store, head_coun
 use Rattle.mbuf_pool.proofs.store.Store.put.Goals as goal
 
 pub set_next-requires-clause-index : goal.set_next-requires-clause-index
-set_next-requires-clause-index c = index_is c.self.inside c.args.self.now c.self.invariant c.self.view_is c.args.index c.requires
+set_next-requires-clause-index c =
+    index_is c.self.inside c.args.self.now c.self.invariant c.self.view_is c.args.index c.requires
 
 pub set_next-requires-clause-link : goal.set_next-requires-clause-link
 set_next-requires-clause-link c = subst IsLink (sym c.get.ensures) (first_links c.self.inside c.self.invariant)
 
 pub new-self-inside-requires : goal.new-self-inside-requires
-new-self-inside-requires c = omega (arith, index_is c.self.inside c.args.self.now c.self.invariant c.self.view_is c.args.index c.requires, c.self.invariant.1.2.sized.mbufs.1)
+new-self-inside-requires c =
+    omega (
+      arith,
+      index_is c.self.inside c.args.self.now c.self.invariant c.self.view_is c.args.index c.requires,
+      c.self.invariant.1.2.sized.mbufs.1,
+    )
 
 pub overflow_add-self : goal.overflow_add-self
 overflow_add-self c = omega (arith, few_mbufs c.self.inside c.self.invariant)
 
 pub invariant_of-self : goal.invariant_of-self
 invariant_of-self c = (
-  c.self.invariant.0 ∙ sym (head_count c.self.inside.region c.set_next.new.self c.args.index _ c.set_next.ensures.change),
-  (first_is c.new-self-inside.ensures (put_back c.self.inside c.args.self.now c.self.invariant c.self.view_is c.args.index _ c.set_next.new.self c.requires c.get.ensures c.set_next.ensures.change)).account,
+  c.self.invariant.0 ∙ sym (head_count c.self.inside.region c.set_next.new.self c.args.index _
+      c.set_next.ensures.change),
+  (first_is c.new-self-inside.ensures
+      (put_back c.self.inside c.args.self.now c.self.invariant c.self.view_is c.args.index _ c.set_next.new.self
+      c.requires c.get.ensures c.set_next.ensures.change)).account,
 )
 
 pub returns-clause-change : goal.returns-clause-change
-returns-clause-change c = (first_is c.new-self-inside.ensures (put_back c.self.inside c.args.self.now c.self.invariant c.self.view_is c.args.index _ c.set_next.new.self c.requires c.get.ensures c.set_next.ensures.change)).seen
+returns-clause-change c =
+    (first_is c.new-self-inside.ensures
+    (put_back c.self.inside c.args.self.now c.self.invariant c.self.view_is c.args.index _ c.set_next.new.self
+    c.requires c.get.ensures c.set_next.ensures.change)).seen
 
 pub returns-clause-store : goal.returns-clause-store
-returns-clause-store c = leaves_store (first_is c.new-self-inside.ensures (put_back c.self.inside c.args.self.now c.self.invariant c.self.view_is c.args.index _ c.set_next.new.self c.requires c.get.ensures c.set_next.ensures.change))
+returns-clause-store c =
+    leaves_store (first_is c.new-self-inside.ensures
+    (put_back c.self.inside c.args.self.now c.self.invariant c.self.view_is c.args.index _ c.set_next.new.self
+    c.requires c.get.ensures c.set_next.ensures.change))

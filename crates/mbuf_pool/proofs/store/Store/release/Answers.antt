@@ -6,19 +6,34 @@ use Rattle.mbuf_pool.proofs.Effects.{first_cluster_is, hold_less, give_back_as, 
 use Rattle.mbuf_pool.proofs.store.Store.release.Goals as goal
 
 pub index-requires : goal.index-requires
-index-requires c = omega (arith, counted_index c.self.inside c.args.self.now c.self.invariant c.self.view_is c.args.cluster c.requires)
+index-requires c =
+    omega (arith, counted_index c.self.inside c.args.self.now c.self.invariant c.self.view_is c.args.cluster c.requires)
 
 pub overflow_sub-left : goal.overflow_sub-left
-overflow_sub-left c = omega (arith, c.index.ensures, count_read c.self.inside c.args.self.now c.self.invariant c.self.view_is c.args.cluster c.index.result.now c.requires)
+overflow_sub-left c =
+    omega (
+      arith,
+      c.index.ensures,
+      count_read c.self.inside c.args.self.now c.self.invariant c.self.view_is
+          c.args.cluster c.index.result.now c.requires,
+    )
 
 pub index_mut-requires : goal.index_mut-requires
-index_mut-requires c = omega (arith, counted_index c.self.inside c.args.self.now c.self.invariant c.self.view_is c.args.cluster c.requires)
+index_mut-requires c =
+    omega (arith, counted_index c.self.inside c.args.self.now c.self.invariant c.self.view_is c.args.cluster c.requires)
 
 pub set_next_cluster-requires : goal.set_next_cluster-requires
-set_next_cluster-requires c = cluster_index_is c.self.inside c.args.self.now c.self.invariant c.self.view_is c.args.cluster c.requires
+set_next_cluster-requires c =
+    cluster_index_is c.self.inside c.args.self.now c.self.invariant c.self.view_is c.args.cluster c.requires
 
 pub new-self-inside-requires : goal.new-self-inside-requires
-new-self-inside-requires c = omega (arith, cluster_index_is c.self.inside c.args.self.now c.self.invariant c.self.view_is c.args.cluster c.requires, c.self.invariant.1.2.sized.clusters)
+new-self-inside-requires c =
+    omega (
+      arith,
+      cluster_index_is c.self.inside c.args.self.now c.self.invariant c.self.view_is c.args.cluster
+          c.requires,
+      c.self.invariant.1.2.sized.clusters,
+    )
 
 pub overflow_add-self : goal.overflow_add-self
 overflow_add-self c = omega (arith, few_clusters c.self.inside c.self.invariant)
@@ -26,34 +41,53 @@ overflow_add-self c = omega (arith, few_clusters c.self.inside c.self.invariant)
 pub invariant_of-self : goal.invariant_of-self
 invariant_of-self c =
     let s = c.self.inside in let v = c.args.self.now in
-    let is = c.index.ensures ∙ count_read s v c.self.invariant c.self.view_is c.args.cluster c.index.result.now c.requires in
-    let linked = c.set_next_cluster.ensures ∙ ap (λ (f : Option ℕ). write c.self.inside.region (link_part c.args.cluster) (link_bytes f)) c.get.ensures in (
+    let is =
+    c.index.ensures ∙ count_read s v c.self.invariant c.self.view_is c.args.cluster c.index.result.now c.requires in
+    let linked =
+    c.set_next_cluster.ensures ∙ ap
+    (λ (f : Option ℕ). write c.self.inside.region (link_part c.args.cluster) (link_bytes f)) c.get.ensures in (
       c.self.invariant.0 ∙ sym (ap (λ (x : Cells). length x.heads) c.set_next_cluster.ensures),
-      (first_cluster_is c.new-self-inside.ensures (give_back_as s v c.self.invariant c.self.view_is c.args.cluster (c.index.result.now - 1) c.set_next_cluster.new.region (omega (arith, is, c.requires)) (omega arith) linked)).account,
+      (first_cluster_is c.new-self-inside.ensures
+          (give_back_as s v c.self.invariant c.self.view_is c.args.cluster (c.index.result.now - 1)
+          c.set_next_cluster.new.region (omega (arith, is, c.requires)) (omega arith) linked)).account,
     )
 
 pub returns-then-left-eq-FREE-clause-change : goal.returns-then-left-eq-FREE-clause-change
 returns-then-left-eq-FREE-clause-change c =
     let s = c.self.inside in let v = c.args.self.now in
-    let is = c.index.ensures ∙ count_read s v c.self.invariant c.self.view_is c.args.cluster c.index.result.now c.requires in
-    let linked = c.set_next_cluster.ensures ∙ ap (λ (f : Option ℕ). write c.self.inside.region (link_part c.args.cluster) (link_bytes f)) c.get.ensures in
-    (first_cluster_is c.new-self-inside.ensures (give_back_as s v c.self.invariant c.self.view_is c.args.cluster (c.index.result.now - 1) c.set_next_cluster.new.region (omega (arith, is, c.requires)) (omega arith) linked)).seen
+    let is =
+    c.index.ensures ∙ count_read s v c.self.invariant c.self.view_is c.args.cluster c.index.result.now c.requires in
+    let linked =
+    c.set_next_cluster.ensures ∙ ap
+    (λ (f : Option ℕ). write c.self.inside.region (link_part c.args.cluster) (link_bytes f)) c.get.ensures in
+    (first_cluster_is c.new-self-inside.ensures
+    (give_back_as s v c.self.invariant c.self.view_is c.args.cluster (c.index.result.now - 1)
+    c.set_next_cluster.new.region (omega (arith, is, c.requires)) (omega arith) linked)).seen
 
 pub returns-then-left-eq-FREE-clause-store : goal.returns-then-left-eq-FREE-clause-store
 returns-then-left-eq-FREE-clause-store c =
     let s = c.self.inside in let v = c.args.self.now in
-    let is = c.index.ensures ∙ count_read s v c.self.invariant c.self.view_is c.args.cluster c.index.result.now c.requires in
-    let linked = c.set_next_cluster.ensures ∙ ap (λ (f : Option ℕ). write c.self.inside.region (link_part c.args.cluster) (link_bytes f)) c.get.ensures in
-    leaves_store (first_cluster_is c.new-self-inside.ensures (give_back_as s v c.self.invariant c.self.view_is c.args.cluster (c.index.result.now - 1) c.set_next_cluster.new.region (omega (arith, is, c.requires)) (omega arith) linked))
+    let is =
+    c.index.ensures ∙ count_read s v c.self.invariant c.self.view_is c.args.cluster c.index.result.now c.requires in
+    let linked =
+    c.set_next_cluster.ensures ∙ ap
+    (λ (f : Option ℕ). write c.self.inside.region (link_part c.args.cluster) (link_bytes f)) c.get.ensures in
+    leaves_store (first_cluster_is c.new-self-inside.ensures
+    (give_back_as s v c.self.invariant c.self.view_is c.args.cluster (c.index.result.now - 1)
+    c.set_next_cluster.new.region (omega (arith, is, c.requires)) (omega arith) linked))
 
 pub returns-else-left-eq-FREE-clause-change : goal.returns-else-left-eq-FREE-clause-change
 returns-else-left-eq-FREE-clause-change c =
     let s = c.self.inside in let v = c.args.self.now in
-    let is = c.index.ensures ∙ count_read s v c.self.invariant c.self.view_is c.args.cluster c.index.result.now c.requires in
-    (hold_less s v c.self.invariant c.self.view_is c.args.cluster (c.index.result.now - 1) c.requires (omega (arith, is, c.requires)) (omega arith)).seen
+    let is =
+    c.index.ensures ∙ count_read s v c.self.invariant c.self.view_is c.args.cluster c.index.result.now c.requires in
+    (hold_less s v c.self.invariant c.self.view_is c.args.cluster (c.index.result.now - 1) c.requires
+    (omega (arith, is, c.requires)) (omega arith)).seen
 
 pub returns-else-left-eq-FREE-clause-store : goal.returns-else-left-eq-FREE-clause-store
 returns-else-left-eq-FREE-clause-store c =
     let s = c.self.inside in let v = c.args.self.now in
-    let is = c.index.ensures ∙ count_read s v c.self.invariant c.self.view_is c.args.cluster c.index.result.now c.requires in
-    leaves_store (hold_less s v c.self.invariant c.self.view_is c.args.cluster (c.index.result.now - 1) c.requires (omega (arith, is, c.requires)) (omega arith))
+    let is =
+    c.index.ensures ∙ count_read s v c.self.invariant c.self.view_is c.args.cluster c.index.result.now c.requires in
+    leaves_store (hold_less s v c.self.invariant c.self.view_is c.args.cluster (c.index.result.now - 1) c.requires
+    (omega (arith, is, c.requires)) (omega arith))

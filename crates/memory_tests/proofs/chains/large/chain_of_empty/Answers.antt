@@ -7,5 +7,12 @@ mbufs-preserved c =
     record {
       live = live_shown _ _ _ _ c.link-last.ensures.change;
       place = c.link-last.ensures.place;
-      last = omega (arith, c.link-last.ensures.index, c.mbufs.invariant.last, count_joined _ _ _ _ _ _ c.in-Ok.ensures.ok c.link-last.ensures.change (apart _ _ _ _ c.in-Ok.ensures.ok _ c.mbufs.invariant.live));
+      last =
+          omega (
+            arith,
+            c.link-last.ensures.index,
+            c.mbufs.invariant.last,
+            count_joined _ _ _ _ _ _ c.in-Ok.ensures.ok c.link-last.ensures.change
+                (apart _ _ _ _ c.in-Ok.ensures.ok _ c.mbufs.invariant.live),
+          );
     }

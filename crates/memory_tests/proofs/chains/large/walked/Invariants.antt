@@ -6,7 +6,8 @@ use Rattle.memory_tests.proofs.chains.large.walked.Given as goal
 abbrev pub invariant-mbufs : goal.invariant-mbufs
 invariant-mbufs l = record {
   place : IsPlace (chain_of l.pool l.chain) l.last;
-  after : MatchOption l.after (l.last.index + 1 ≡ length (chain_of l.pool l.chain).entries) (λ q. IsPlace (chain_of l.pool l.chain) q × (q.index ≡ l.last.index + 1));
+  after : MatchOption l.after (l.last.index + 1 ≡ length (chain_of l.pool l.chain).entries)
+      (λ q. IsPlace (chain_of l.pool l.chain) q × (q.index ≡ l.last.index + 1));
 }
 
 abbrev pub decreases-mbufs : goal.decreases-mbufs

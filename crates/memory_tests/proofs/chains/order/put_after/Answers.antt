@@ -7,7 +7,9 @@ use Rattle.memory_tests.proofs.chains.order.put_after.Goals as goal
 pub insert_after-requires-clause-place : goal.insert_after-requires-clause-place
 insert_after-requires-clause-place c = record {
   within = c.requires.place.within;
-  number = ap (λ (xs : List ℕ). slice_get xs c.args.at.index) (beside_adds c.args.train.now c.in_ok-chain.ensures.ok c.requires.held).numbers ∙ c.requires.place.number;
+  number =
+      ap (λ (xs : List ℕ). slice_get xs c.args.at.index)
+      (beside_adds c.args.train.now c.in_ok-chain.ensures.ok c.requires.held).numbers ∙ c.requires.place.number;
 }
 
 pub insert_after-requires-clause-live : goal.insert_after-requires-clause-live

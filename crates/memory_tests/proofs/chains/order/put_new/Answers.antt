@@ -17,4 +17,5 @@ pub insert-requires-clause-apart : goal.insert-requires-clause-apart
 insert-requires-clause-apart c = apart_adds c.args.train.now c.in_ok-chain.ensures.ok c.requires.held
 
 pub returns-clause-moves : goal.returns-clause-moves
-returns-clause-moves c = moves_trans (moves_new c.args.train.now c.in_ok-chain.ensures.ok c.requires.held) c.insert.ensures.moves
+returns-clause-moves c =
+    moves_trans (moves_new c.args.train.now c.in_ok-chain.ensures.ok c.requires.held) c.insert.ensures.moves

@@ -15,7 +15,8 @@ use Rattle.pcb_table.proofs.table.Pcbs.bind.Goals as goal
 
 pub returns-in_default-clause-step : goal.returns-in_default-clause-step
 returns-in_default-clause-step c = λ rest queues.
-    closed c.self.inside.interface c.self.inside.blocks c.self.inside.last_port _ _ c.self.view_is c.in_default.ensures rest queues _
+    closed c.self.inside.interface c.self.inside.blocks c.self.inside.last_port _ _ c.self.view_is c.in_default.ensures
+    rest queues _
 
 pub returns-in-Some-fault-clause-step : goal.returns-in-Some-fault-clause-step
 returns-in-Some-fault-clause-step c =
@@ -27,7 +28,8 @@ returns-in-Some-fault-clause-step c =
     let fault : first_fault (block_bind_faults (config_of i) bs b c.args.address) ≡ Some c.in-Some-fault.errno =
     sym c.bind_fault-fault.ensures ∙ c.in-Some-fault.is in
     subst (λ (t : Table). IsCall t (Bind c.args.fd c.args.address) (Refused c.in-Some-fault.errno) t) c.self.view_is
-    (bind_refused i bs last c.args.fd c.in-Some.at.index b c.self.invariant.0 at c.args.address c.in-Some-fault.errno fault)
+    (bind_refused i bs last c.args.fd c.in-Some.at.index b c.self.invariant.0 at c.args.address c.in-Some-fault.errno
+    fault)
 
 pub invariant_of-self : goal.invariant_of-self
 invariant_of-self c =
@@ -41,8 +43,11 @@ invariant_of-self c =
     sym c.bind_fault-fault.ensures ∙ c.in_default-fault.is in
     let unbound : b.port ≡ None = unbound_port (config_of i) bs b c.args.address fault in
     let written : c.set_block.new.self ≡ _ = c.set_block.ensures ∙ ap (set bs index) c.bound_to.ensures in
-    let kept = bound_keeps bs c.args.fd index b c.self.invariant.0 at c.unless_zero-local.result c.port_for-chosen.result.port c.self.inside.cache unbound c.self.invariant.1 in
-    subst (λ (cs : List Block). AreApart cs × IsCached cs c.self.inside.cache × IsInCircle c.port_for-chosen.result.last) (sym written) (kept.0, kept.1, c.port_for-chosen.ensures.last)
+    let kept =
+    bound_keeps bs c.args.fd index b c.self.invariant.0 at c.unless_zero-local.result c.port_for-chosen.result.port
+    c.self.inside.cache unbound c.self.invariant.1 in
+    subst (λ (cs : List Block). AreApart cs × IsCached cs c.self.inside.cache
+    × IsInCircle c.port_for-chosen.result.last) (sym written) (kept.0, kept.1, c.port_for-chosen.ensures.last)
 
 pub returns-clause-step : goal.returns-clause-step
 returns-clause-step c =
@@ -58,7 +63,8 @@ returns-clause-step c =
     let fault : first_fault (block_bind_faults (config_of i) bs b a) ≡ None =
     sym c.bind_fault-fault.ensures ∙ c.in_default-fault.is in
     let written : new ≡ set bs c.in-Some.at.index (bound_block (unless_zero a.ip) port b) =
-    c.set_block.ensures ∙ ap (set bs c.in-Some.at.index) (c.bound_to.ensures ∙ ap (λ (o : Option ℕ). bound_block o port b) c.unless_zero-local.ensures) in
+    c.set_block.ensures ∙ ap (set bs c.in-Some.at.index)
+    (c.bound_to.ensures ∙ ap (λ (o : Option ℕ). bound_block o port b) c.unless_zero-local.ensures) in
     let given : GivesPort bs last (unless_zero a.ip) (unless_zero a.port) port later =
     subst (λ (o : Option ℕ). GivesPort bs last (unless_zero a.ip) o port later) c.port_unless_zero.ensures
     (subst (λ (o : Option ℕ). GivesPort bs last o c.port_unless_zero.result port later) c.unless_zero-local.ensures
@@ -78,4 +84,5 @@ returns-clause-descriptors c =
     let later = c.port_for-chosen.result.last in
     let written : new ≡ _ = c.set_block.ensures ∙ ap (set bs index) c.bound_to.ensures in
     subst (λ (t : Table). KeepsOpen t (table_of i new later)) c.self.view_is
-    (subst (λ (cs : List Block). KeepsOpen (table_of i bs last) (table_of i cs later)) (sym written) (set_keeps_open i bs last later c.args.fd index b _ at (refl)))
+    (subst (λ (cs : List Block). KeepsOpen (table_of i bs last) (table_of i cs later)) (sym written)
+    (set_keeps_open i bs last later c.args.fd index b _ at (refl)))

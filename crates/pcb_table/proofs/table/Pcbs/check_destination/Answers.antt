@@ -12,10 +12,12 @@ check_destination_of-requires c =
     let b = c.located.result.block in
     let at : IsLocated c.args.fd bs c.located.result.index b = c.located.ensures in
     subst (λ (t : Table). block_at b.fd t ≡ Some b) c.self.view_is
-    (ap (λ (k : ℕ). find (has_fd k) bs) at.named ∙ located_found bs c.args.fd c.located.result.index b c.self.invariant.0 at)
+    (ap (λ (k : ℕ). find (has_fd k) bs) at.named
+    ∙ located_found bs c.args.fd c.located.result.index b c.self.invariant.0 at)
 
 pub returns : goal.returns
 returns c =
     let bs = c.self.inside.blocks in
     let at : IsLocated c.args.fd bs c.located.result.index c.located.result.block = c.located.ensures in
-    subst (λ (k : ℕ). ChecksDestination c.args.self.now k c.args.to c.check_destination_of.result) at.named c.check_destination_of.ensures
+    subst (λ (k : ℕ). ChecksDestination c.args.self.now k c.args.to c.check_destination_of.result) at.named
+    c.check_destination_of.ensures

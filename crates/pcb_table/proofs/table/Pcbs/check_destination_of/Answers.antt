@@ -15,7 +15,8 @@ returns-then-is_some c =
     let bs = c.self.inside.blocks in
     let last = c.self.inside.last_port in
     let b = c.args.block.now in
-    let at : find (has_fd b.fd) bs ≡ Some b = subst (λ (t : Table). block_at b.fd t ≡ Some b) (sym c.self.view_is) c.requires in
+    let at : find (has_fd b.fd) bs ≡ Some b =
+    subst (λ (t : Table). block_at b.fd t ≡ Some b) (sym c.self.view_is) c.requires in
     subst (λ (t : Table). ChecksDestination t b.fd c.args.to (Err IsConnected)) c.self.view_is
     (checks_connected i bs last b.fd b at c.args.to (sym c.is_some.ensures ∙ c.if-is_some.true))
 
@@ -25,9 +26,12 @@ returns-in-Some c =
     let bs = c.self.inside.blocks in
     let last = c.self.inside.last_port in
     let b = c.args.block.now in
-    let at : find (has_fd b.fd) bs ≡ Some b = subst (λ (t : Table). block_at b.fd t ≡ Some b) (sym c.self.view_is) c.requires in
-    let fault : first_fault (block_connect_faults (config_of i) bs b (read_addr (config_of i) c.args.to)) ≡ Some c.in-Some.errno =
-    (λ k. first_fault (block_connect_faults (config_of i) bs b (sym c.read-to.ensures k))) ∙ sym c.destination_fault.ensures ∙ c.in-Some.is in
+    let at : find (has_fd b.fd) bs ≡ Some b =
+    subst (λ (t : Table). block_at b.fd t ≡ Some b) (sym c.self.view_is) c.requires in
+    let fault : first_fault (block_connect_faults (config_of i) bs b (read_addr (config_of i) c.args.to))
+    ≡ Some c.in-Some.errno =
+    (λ k. first_fault (block_connect_faults (config_of i) bs b (sym c.read-to.ensures k)))
+    ∙ sym c.destination_fault.ensures ∙ c.in-Some.is in
     subst (λ (t : Table). ChecksDestination t b.fd c.args.to (Err c.in-Some.errno)) c.self.view_is
     (checks_refused i bs last b.fd b at c.args.to c.in-Some.errno (sym c.is_some.ensures ∙ c.if-is_some.false) fault)
 
@@ -37,8 +41,11 @@ returns-in-None c =
     let bs = c.self.inside.blocks in
     let last = c.self.inside.last_port in
     let b = c.args.block.now in
-    let at : find (has_fd b.fd) bs ≡ Some b = subst (λ (t : Table). block_at b.fd t ≡ Some b) (sym c.self.view_is) c.requires in
+    let at : find (has_fd b.fd) bs ≡ Some b =
+    subst (λ (t : Table). block_at b.fd t ≡ Some b) (sym c.self.view_is) c.requires in
     let none : first_fault (block_connect_faults (config_of i) bs b (read_addr (config_of i) c.args.to)) ≡ None =
-    (λ k. first_fault (block_connect_faults (config_of i) bs b (sym c.read-to.ensures k))) ∙ sym c.destination_fault.ensures ∙ c.in-None.is in
+    (λ k. first_fault (block_connect_faults (config_of i) bs b (sym c.read-to.ensures k)))
+    ∙ sym c.destination_fault.ensures ∙ c.in-None.is in
     subst (λ (t : Table). ChecksDestination t b.fd c.args.to (Ok c.read-to.result)) c.self.view_is
-    (checks_passed i bs last b.fd b at c.args.to c.read-to.result (sym c.is_some.ensures ∙ c.if-is_some.false) c.read-to.ensures none)
+    (checks_passed i bs last b.fd b at c.args.to c.read-to.result (sym c.is_some.ensures ∙ c.if-is_some.false)
+    c.read-to.ensures none)

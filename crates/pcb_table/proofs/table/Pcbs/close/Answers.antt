@@ -13,7 +13,8 @@ use Rattle.pcb_table.proofs.table.Pcbs.close.Goals as goal
 
 pub returns-in_default-clause-step : goal.returns-in_default-clause-step
 returns-in_default-clause-step c = λ rest queues.
-    closed c.self.inside.interface c.self.inside.blocks c.self.inside.last_port _ _ c.self.view_is c.in_default.ensures rest queues _
+    closed c.self.inside.interface c.self.inside.blocks c.self.inside.last_port _ _ c.self.view_is c.in_default.ensures
+    rest queues _
 
 pub invariant_of-self : goal.invariant_of-self
 invariant_of-self c =
@@ -24,9 +25,15 @@ invariant_of-self c =
     let at : IsLocated c.args.fd bs c.in-Some.at.index b = c.in-Some.ensures in
     let index = c.in-Some.at.index in
     let apart = apart_remove bs index b c.self.invariant.0 at.within in
-    let cached = cached_remove bs index b c.self.inside.cache c.args.fd at.within (ap (λ (d : Block). d.fd) (at.is b) ∙ at.named) c.self.invariant.1 in
-    subst (λ (cs : List Block). AreApart cs × IsCached cs c.without-self-inside.result × IsInCircle last) (sym c.remove_at.ensures)
-    (apart, subst (λ (k : Option Connection). IsCached (remove bs index) k) (sym c.without-self-inside.ensures) cached, c.self.invariant.2)
+    let cached =
+    cached_remove bs index b c.self.inside.cache c.args.fd at.within (ap (λ (d : Block). d.fd) (at.is b) ∙ at.named)
+    c.self.invariant.1 in
+    subst (λ (cs : List Block). AreApart cs × IsCached cs c.without-self-inside.result × IsInCircle last)
+    (sym c.remove_at.ensures) (
+      apart,
+      subst (λ (k : Option Connection). IsCached (remove bs index) k) (sym c.without-self-inside.ensures) cached,
+      c.self.invariant.2,
+    )
 
 pub returns-clause-step : goal.returns-clause-step
 returns-clause-step c =
@@ -48,4 +55,5 @@ returns-clause-closed c =
     let b = c.in-Some.at.block in
     let at : IsLocated c.args.fd bs index b = c.in-Some.ensures in
     subst (λ (t : Table). ClosesOnly t c.args.fd (table_of i c.remove_at.new.self last)) c.self.view_is
-    (subst (λ (cs : List Block). ClosesOnly (table_of i bs last) c.args.fd (table_of i cs last)) (sym c.remove_at.ensures) (remove_closes i bs last c.args.fd index b c.self.invariant.0 at))
+    (subst (λ (cs : List Block). ClosesOnly (table_of i bs last) c.args.fd (table_of i cs last))
+    (sym c.remove_at.ensures) (remove_closes i bs last c.args.fd index b c.self.invariant.0 at))

@@ -17,7 +17,8 @@ use Rattle.pcb_table.proofs.table.Pcbs.connect.Goals as goal
 
 pub returns-in_default-clause-step : goal.returns-in_default-clause-step
 returns-in_default-clause-step c = λ rest queues.
-    closed c.self.inside.interface c.self.inside.blocks c.self.inside.last_port _ _ c.self.view_is c.in_default.ensures rest queues _
+    closed c.self.inside.interface c.self.inside.blocks c.self.inside.last_port _ _ c.self.view_is c.in_default.ensures
+    rest queues _
 
 -- where the call is refused, the block is disconnected
 pub invariant_of-self : goal.invariant_of-self
@@ -35,7 +36,8 @@ invariant_of-self c =
     let kept = disconnected_keeps bs c.args.fd index b c.self.invariant.0 at c.self.inside.cache c.self.invariant.1 in
     let apart : AreApart gone = subst AreApart (sym g) kept.0 in
     let cached : IsCached gone c.without-self-inside.result =
-    subst (λ (k : Option Connection). IsCached gone k) (sym c.without-self-inside.ensures) (subst (λ (cs : List Block). IsCached cs (forgotten c.args.fd c.self.inside.cache)) (sym g) kept.1) in
+    subst (λ (k : Option Connection). IsCached gone k) (sym c.without-self-inside.ensures)
+    (subst (λ (cs : List Block). IsCached cs (forgotten c.args.fd c.self.inside.cache)) (sym g) kept.1) in
     (apart, cached, c.self.invariant.2)
 
 pub returns-in-Some-destination_fault-clause-step : goal.returns-in-Some-destination_fault-clause-step
@@ -50,9 +52,12 @@ returns-in-Some-destination_fault-clause-step c =
     let gone = c.set_block.new.self in
     let at : IsLocated c.args.fd bs index b = c.in-Some.ensures in
     let g : gone ≡ set bs index me = c.set_block.ensures ∙ ap (set bs index) c.disconnected-block.ensures in
-    let fault : first_fault (block_connect_faults (config_of i) gone me (read_addr (config_of i) a)) ≡ Some c.in-Some-destination_fault.errno =
-    (λ k. first_fault (block_connect_faults (config_of i) gone (sym c.disconnected-block.ensures k) (sym c.read-to.ensures k))) ∙ sym c.destination_fault.ensures ∙ c.in-Some-destination_fault.is in
-    subst (λ (t : Table). IsCall t (Connect c.args.fd a) (Refused c.in-Some-destination_fault.errno) (table_of i gone last)) c.self.view_is
+    let fault : first_fault (block_connect_faults (config_of i) gone me (read_addr (config_of i) a))
+    ≡ Some c.in-Some-destination_fault.errno =
+    (λ k. first_fault (block_connect_faults (config_of i) gone (sym c.disconnected-block.ensures k)
+    (sym c.read-to.ensures k))) ∙ sym c.destination_fault.ensures ∙ c.in-Some-destination_fault.is in
+    subst (λ (t : Table). IsCall t (Connect c.args.fd a) (Refused c.in-Some-destination_fault.errno)
+    (table_of i gone last)) c.self.view_is
     (connect_refused i bs last c.args.fd index b c.self.invariant.0 at gone a c.in-Some-destination_fault.errno g fault)
 
 pub invariant_of-self-2 : goal.invariant_of-self-2
@@ -70,27 +75,38 @@ invariant_of-self-2 c =
     let kept = disconnected_keeps bs c.args.fd index b c.self.invariant.0 at c.self.inside.cache c.self.invariant.1 in
     let apart : AreApart gone = subst AreApart (sym g) kept.0 in
     let cached : IsCached gone c.without-self-inside.result =
-    subst (λ (k : Option Connection). IsCached gone k) (sym c.without-self-inside.ensures) (subst (λ (cs : List Block). IsCached cs (forgotten c.args.fd c.self.inside.cache)) (sym g) kept.1) in
+    subst (λ (k : Option Connection). IsCached gone k) (sym c.without-self-inside.ensures)
+    (subst (λ (cs : List Block). IsCached cs (forgotten c.args.fd c.self.inside.cache)) (sym g) kept.1) in
     let fault : first_fault (block_connect_faults (config_of i) gone me (read_addr (config_of i) a)) ≡ None =
-    (λ k. first_fault (block_connect_faults (config_of i) gone (sym c.disconnected-block.ensures k) (sym c.read-to.ensures k))) ∙ sym c.destination_fault.ensures ∙ c.in_default-destination_fault.is in
+    (λ k. first_fault (block_connect_faults (config_of i) gone (sym c.disconnected-block.ensures k)
+    (sym c.read-to.ensures k))) ∙ sym c.destination_fault.ensures ∙ c.in_default-destination_fault.is in
     let there : IsLocated c.args.fd gone index me =
-    subst (λ (cs : List Block). IsLocated c.args.fd cs index me) (sym g) (located_after bs c.args.fd index b c.self.invariant.0 at me (disconnected_fd b)) in
+    subst (λ (cs : List Block). IsLocated c.args.fd cs index me) (sym g)
+    (located_after bs c.args.fd index b c.self.invariant.0 at me (disconnected_fd b)) in
     let to : Addr = read_addr (config_of i) a in
     let source = c.source-source.result in
     let port = c.port_for-chosen.result.port in
     let later = c.port_for-chosen.result.last in
     let new = c.set_block-2.new.self in
     let from : source ≡ source_for (config_of i) (plain me) to.ip =
-    c.source-source.ensures ∙ (λ k. source_for (config_of i) (plain (c.disconnected-block.ensures k)) (c.read-to.ensures k).ip) in
+    c.source-source.ensures ∙ (λ k. source_for (config_of i) (plain (c.disconnected-block.ensures k))
+    (c.read-to.ensures k).ip) in
     let given : GivesPort gone last me.local me.port port later =
     subst (λ (d : Block). GivesPort gone last d.local d.port port later) c.disconnected-block.ensures
     (c.port_for-chosen.ensures.port) in
     let written : new ≡ set gone index (connected_block source port to me) =
-    c.set_block-2.ensures ∙ ap (set gone index) (c.connected_to.ensures ∙ (λ k. connected_block source port (c.read-to.ensures k) (c.disconnected-block.ensures k))) in
-    let unmet = subst (λ (k : ℕ). is_some (youngest_block 0 (record { local = Some k; port = me.port; peer = Some to }) gone) ≡ false) (sym from) (unmet_four (config_of i) gone me to fault) in
+    c.set_block-2.ensures ∙ ap (set gone index)
+    (c.connected_to.ensures ∙ (λ k. connected_block source port (c.read-to.ensures k)
+    (c.disconnected-block.ensures k))) in
+    let unmet =
+    subst (λ (k : ℕ). is_some (youngest_block 0 (record { local = Some k; port = me.port; peer = Some to }) gone)
+    ≡ false) (sym from) (unmet_four (config_of i) gone me to fault) in
     let free = no_four gone last me.local me.port later _ source port to from unmet given in
-    let done = connected_keeps gone c.args.fd index me apart there source port to c.without-self-inside.result (disconnected_peer b) free cached in
-    subst (λ (cs : List Block). AreApart cs × IsCached cs c.without-self-inside.result × IsInCircle later) (sym written) (done.0, done.1, c.port_for-chosen.ensures.last)
+    let done =
+    connected_keeps gone c.args.fd index me apart there source port to c.without-self-inside.result
+    (disconnected_peer b) free cached in
+    subst (λ (cs : List Block). AreApart cs × IsCached cs c.without-self-inside.result × IsInCircle later) (sym written)
+    (done.0, done.1, c.port_for-chosen.ensures.last)
 
 pub returns-clause-step : goal.returns-clause-step
 returns-clause-step c =
@@ -107,25 +123,32 @@ returns-clause-step c =
     let kept = disconnected_keeps bs c.args.fd index b c.self.invariant.0 at c.self.inside.cache c.self.invariant.1 in
     let apart : AreApart gone = subst AreApart (sym g) kept.0 in
     let cached : IsCached gone c.without-self-inside.result =
-    subst (λ (k : Option Connection). IsCached gone k) (sym c.without-self-inside.ensures) (subst (λ (cs : List Block). IsCached cs (forgotten c.args.fd c.self.inside.cache)) (sym g) kept.1) in
+    subst (λ (k : Option Connection). IsCached gone k) (sym c.without-self-inside.ensures)
+    (subst (λ (cs : List Block). IsCached cs (forgotten c.args.fd c.self.inside.cache)) (sym g) kept.1) in
     let fault : first_fault (block_connect_faults (config_of i) gone me (read_addr (config_of i) a)) ≡ None =
-    (λ k. first_fault (block_connect_faults (config_of i) gone (sym c.disconnected-block.ensures k) (sym c.read-to.ensures k))) ∙ sym c.destination_fault.ensures ∙ c.in_default-destination_fault.is in
+    (λ k. first_fault (block_connect_faults (config_of i) gone (sym c.disconnected-block.ensures k)
+    (sym c.read-to.ensures k))) ∙ sym c.destination_fault.ensures ∙ c.in_default-destination_fault.is in
     let there : IsLocated c.args.fd gone index me =
-    subst (λ (cs : List Block). IsLocated c.args.fd cs index me) (sym g) (located_after bs c.args.fd index b c.self.invariant.0 at me (disconnected_fd b)) in
+    subst (λ (cs : List Block). IsLocated c.args.fd cs index me) (sym g)
+    (located_after bs c.args.fd index b c.self.invariant.0 at me (disconnected_fd b)) in
     let to : Addr = read_addr (config_of i) a in
     let source = c.source-source.result in
     let port = c.port_for-chosen.result.port in
     let later = c.port_for-chosen.result.last in
     let new = c.set_block-2.new.self in
     let from : source ≡ source_for (config_of i) (plain me) to.ip =
-    c.source-source.ensures ∙ (λ k. source_for (config_of i) (plain (c.disconnected-block.ensures k)) (c.read-to.ensures k).ip) in
+    c.source-source.ensures ∙ (λ k. source_for (config_of i) (plain (c.disconnected-block.ensures k))
+    (c.read-to.ensures k).ip) in
     let given : GivesPort gone last me.local me.port port later =
     subst (λ (d : Block). GivesPort gone last d.local d.port port later) c.disconnected-block.ensures
     (c.port_for-chosen.ensures.port) in
     let written : new ≡ set gone index (connected_block source port to me) =
-    c.set_block-2.ensures ∙ ap (set gone index) (c.connected_to.ensures ∙ (λ k. connected_block source port (c.read-to.ensures k) (c.disconnected-block.ensures k))) in
+    c.set_block-2.ensures ∙ ap (set gone index)
+    (c.connected_to.ensures ∙ (λ k. connected_block source port (c.read-to.ensures k)
+    (c.disconnected-block.ensures k))) in
     subst (λ (t : Table). IsCall t (Connect c.args.fd a) Done (table_of i new later)) c.self.view_is
-    (connect_step i bs last c.args.fd index b c.self.invariant.0 at gone new a source port later g fault from given apart there written)
+    (connect_step i bs last c.args.fd index b c.self.invariant.0 at gone new a source port later g fault from given
+    apart there written)
 
 pub returns-in-Some-destination_fault-clause-descriptors : goal.returns-in-Some-destination_fault-clause-descriptors
 returns-in-Some-destination_fault-clause-descriptors c =
@@ -140,7 +163,8 @@ returns-in-Some-destination_fault-clause-descriptors c =
     let at : IsLocated c.args.fd bs index b = c.in-Some.ensures in
     let g : gone ≡ set bs index me = c.set_block.ensures ∙ ap (set bs index) c.disconnected-block.ensures in
     subst (λ (t : Table). KeepsOpen t (table_of i gone last)) c.self.view_is
-    (subst (λ (cs : List Block). KeepsOpen (table_of i bs last) (table_of i cs last)) (sym g) (set_keeps_open i bs last last c.args.fd index b me at (disconnected_fd b)))
+    (subst (λ (cs : List Block). KeepsOpen (table_of i bs last) (table_of i cs last)) (sym g)
+    (set_keeps_open i bs last last c.args.fd index b me at (disconnected_fd b)))
 
 pub returns-clause-descriptors : goal.returns-clause-descriptors
 returns-clause-descriptors c =
@@ -157,25 +181,33 @@ returns-clause-descriptors c =
     let kept = disconnected_keeps bs c.args.fd index b c.self.invariant.0 at c.self.inside.cache c.self.invariant.1 in
     let apart : AreApart gone = subst AreApart (sym g) kept.0 in
     let cached : IsCached gone c.without-self-inside.result =
-    subst (λ (k : Option Connection). IsCached gone k) (sym c.without-self-inside.ensures) (subst (λ (cs : List Block). IsCached cs (forgotten c.args.fd c.self.inside.cache)) (sym g) kept.1) in
+    subst (λ (k : Option Connection). IsCached gone k) (sym c.without-self-inside.ensures)
+    (subst (λ (cs : List Block). IsCached cs (forgotten c.args.fd c.self.inside.cache)) (sym g) kept.1) in
     let fault : first_fault (block_connect_faults (config_of i) gone me (read_addr (config_of i) a)) ≡ None =
-    (λ k. first_fault (block_connect_faults (config_of i) gone (sym c.disconnected-block.ensures k) (sym c.read-to.ensures k))) ∙ sym c.destination_fault.ensures ∙ c.in_default-destination_fault.is in
+    (λ k. first_fault (block_connect_faults (config_of i) gone (sym c.disconnected-block.ensures k)
+    (sym c.read-to.ensures k))) ∙ sym c.destination_fault.ensures ∙ c.in_default-destination_fault.is in
     let there : IsLocated c.args.fd gone index me =
-    subst (λ (cs : List Block). IsLocated c.args.fd cs index me) (sym g) (located_after bs c.args.fd index b c.self.invariant.0 at me (disconnected_fd b)) in
+    subst (λ (cs : List Block). IsLocated c.args.fd cs index me) (sym g)
+    (located_after bs c.args.fd index b c.self.invariant.0 at me (disconnected_fd b)) in
     let to : Addr = read_addr (config_of i) a in
     let source = c.source-source.result in
     let port = c.port_for-chosen.result.port in
     let later = c.port_for-chosen.result.last in
     let new = c.set_block-2.new.self in
     let from : source ≡ source_for (config_of i) (plain me) to.ip =
-    c.source-source.ensures ∙ (λ k. source_for (config_of i) (plain (c.disconnected-block.ensures k)) (c.read-to.ensures k).ip) in
+    c.source-source.ensures ∙ (λ k. source_for (config_of i) (plain (c.disconnected-block.ensures k))
+    (c.read-to.ensures k).ip) in
     let given : GivesPort gone last me.local me.port port later =
     subst (λ (d : Block). GivesPort gone last d.local d.port port later) c.disconnected-block.ensures
     (c.port_for-chosen.ensures.port) in
     let written : new ≡ set gone index (connected_block source port to me) =
-    c.set_block-2.ensures ∙ ap (set gone index) (c.connected_to.ensures ∙ (λ k. connected_block source port (c.read-to.ensures k) (c.disconnected-block.ensures k))) in
+    c.set_block-2.ensures ∙ ap (set gone index)
+    (c.connected_to.ensures ∙ (λ k. connected_block source port (c.read-to.ensures k)
+    (c.disconnected-block.ensures k))) in
     let first : KeepsOpen (table_of i bs last) (table_of i gone last) =
-    subst (λ (cs : List Block). KeepsOpen (table_of i bs last) (table_of i cs last)) (sym g) (set_keeps_open i bs last last c.args.fd index b me at (disconnected_fd b)) in
+    subst (λ (cs : List Block). KeepsOpen (table_of i bs last) (table_of i cs last)) (sym g)
+    (set_keeps_open i bs last last c.args.fd index b me at (disconnected_fd b)) in
     let then : KeepsOpen (table_of i gone last) (table_of i new later) =
-    subst (λ (cs : List Block). KeepsOpen (table_of i gone last) (table_of i cs later)) (sym written) (set_keeps_open i gone last later c.args.fd index me (connected_block source port to me) there refl) in
+    subst (λ (cs : List Block). KeepsOpen (table_of i gone last) (table_of i cs later)) (sym written)
+    (set_keeps_open i gone last later c.args.fd index me (connected_block source port to me) there refl) in
     subst (λ (t : Table). KeepsOpen t (table_of i new later)) c.self.view_is (then ∙ first)

@@ -22,8 +22,12 @@ invariant_of-self c =
     let index = c.located-at.result.index in
     let written : c.set_block.new.self ≡ _ = c.set_block.ensures ∙ ap (set bs index) c.disconnected.ensures in
     let kept = disconnected_keeps bs c.args.fd index b c.self.invariant.0 at c.self.inside.cache c.self.invariant.1 in
-    subst (λ (cs : List Block). AreApart cs × IsCached cs c.without-self-inside.result × IsInCircle last) (sym written)
-    (kept.0, subst (λ (k : Option Connection). IsCached (set bs index (disconnected_block b)) k) (sym c.without-self-inside.ensures) kept.1, c.self.invariant.2)
+    subst (λ (cs : List Block). AreApart cs × IsCached cs c.without-self-inside.result × IsInCircle last) (sym written) (
+      kept.0,
+      subst (λ (k : Option Connection). IsCached (set bs index (disconnected_block b)) k)
+          (sym c.without-self-inside.ensures) kept.1,
+      c.self.invariant.2,
+    )
 
 pub returns-clause-step : goal.returns-clause-step
 returns-clause-step c =
@@ -49,4 +53,5 @@ returns-clause-descriptors c =
     let later = last in
     let written : new ≡ _ = c.set_block.ensures ∙ ap (set bs index) c.disconnected.ensures in
     subst (λ (t : Table). KeepsOpen t (table_of i new later)) c.self.view_is
-    (subst (λ (cs : List Block). KeepsOpen (table_of i bs last) (table_of i cs later)) (sym written) (set_keeps_open i bs last later c.args.fd index b _ at (disconnected_fd b)))
+    (subst (λ (cs : List Block). KeepsOpen (table_of i bs last) (table_of i cs later)) (sym written)
+    (set_keeps_open i bs last later c.args.fd index b _ at (disconnected_fd b)))

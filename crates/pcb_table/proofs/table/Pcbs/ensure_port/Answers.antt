@@ -22,8 +22,11 @@ invariant_of-self c =
     let port = c.port_for-chosen.result.port in
     let written : c.set_block.new.self ≡ _ = c.set_block.ensures ∙ ap (set bs index) c.bound_to.ensures in
     let given : GivesPort bs last b.local b.port port later = c.port_for-chosen.ensures.port in
-    let kept = ensured_keeps bs c.args.fd index b c.self.invariant.0 at last later port c.self.inside.cache given c.self.invariant.1 in
-    subst (λ (cs : List Block). AreApart cs × IsCached cs c.self.inside.cache × IsInCircle later) (sym written) (kept.0, kept.1, c.port_for-chosen.ensures.last)
+    let kept =
+    ensured_keeps bs c.args.fd index b c.self.invariant.0 at last later port c.self.inside.cache given
+    c.self.invariant.1 in
+    subst (λ (cs : List Block). AreApart cs × IsCached cs c.self.inside.cache × IsInCircle later) (sym written)
+    (kept.0, kept.1, c.port_for-chosen.ensures.last)
 
 pub returns-clause-port : goal.returns-clause-port
 returns-clause-port c =
@@ -38,7 +41,8 @@ returns-clause-port c =
     let written : new ≡ _ = c.set_block.ensures ∙ ap (set bs c.located-at.result.index) c.bound_to.ensures in
     let given : GivesPort bs last b.local b.port port later = c.port_for-chosen.ensures.port in
     subst (λ (t : Table). EnsuresPort t c.args.fd port (table_of i new later)) c.self.view_is
-    (ensure_port_step i bs last c.args.fd c.located-at.result.index b c.self.invariant.0 at new port later given written)
+    (ensure_port_step i bs last c.args.fd c.located-at.result.index b c.self.invariant.0 at new port later given
+    written)
 
 pub returns-clause-descriptors : goal.returns-clause-descriptors
 returns-clause-descriptors c =
@@ -52,4 +56,5 @@ returns-clause-descriptors c =
     let later = c.port_for-chosen.result.last in
     let written : new ≡ _ = c.set_block.ensures ∙ ap (set bs index) c.bound_to.ensures in
     subst (λ (t : Table). KeepsOpen t (table_of i new later)) c.self.view_is
-    (subst (λ (cs : List Block). KeepsOpen (table_of i bs last) (table_of i cs later)) (sym written) (set_keeps_open i bs last later c.args.fd index b _ at (refl)))
+    (subst (λ (cs : List Block). KeepsOpen (table_of i bs last) (table_of i cs later)) (sym written)
+    (set_keeps_open i bs last later c.args.fd index b _ at (refl)))

@@ -16,7 +16,8 @@ returns-in-None-clause-found c =
 pub returns-in-Some-clause-found : goal.returns-in-Some-clause-found
 returns-in-Some-clause-found c =
     subst (λ (t : Table). Finds (flat.exact c.args.key) t (Some c.in-Some.block.now.fd)) c.self.view_is
-    (exact_some c.self.inside.interface c.self.inside.blocks c.self.inside.last_port c.args.key c.in-Some.block.now c.self.invariant.0
+    (exact_some c.self.inside.interface c.self.inside.blocks c.self.inside.last_port c.args.key c.in-Some.block.now
+    c.self.invariant.0
     (sym c.exact.ensures ∙ ap option_copied c.in-Some.is))
 
 pub returns-in-Some-clause-range : goal.returns-in-Some-clause-range

@@ -16,8 +16,11 @@ returns-clause-checked c = λ positive.
     let last = c.self.inside.last_port in
     let b = c.args.block.now in
     let to = c.args.to in
-    let at : find (has_fd b.fd) bs ≡ Some b = subst (λ (t : Table). block_at b.fd t ≡ Some b) (sym c.self.view_is) c.requires in
-    let none : first_fault (block_connect_faults (config_of i) bs b to) ≡ None = sym c.destination_fault-fault.ensures ∙ nothing c.destination_fault-fault.result c.is_none.result c.is_none.ensures positive in
+    let at : find (has_fd b.fd) bs ≡ Some b =
+    subst (λ (t : Table). block_at b.fd t ≡ Some b) (sym c.self.view_is) c.requires in
+    let none : first_fault (block_connect_faults (config_of i) bs b to) ≡ None =
+    sym c.destination_fault-fault.ensures
+    ∙ nothing c.destination_fault-fault.result c.is_none.result c.is_none.ensures positive in
     let same = read_is (config_of i) to (reached (config_of i) bs b to none) in
     subst (λ (t : Table). ChecksDestination t b.fd to (Ok to)) c.self.view_is
     (checks_passed i bs last b.fd b at to to (sym c.is_some.ensures ∙ c.if-is_some.false) same

@@ -16,21 +16,26 @@ use Rattle.pcb_table.proofs.table.Pcbs.lookup.Goals as goal
 pub returns-then-has_ends-clause-found : goal.returns-then-has_ends-clause-found
 returns-then-has_ends-clause-found c =
     let q = packet_key c.args.destination c.args.port c.args.source in
-    let found = cached_best c.self.inside.blocks c.self.inside.cache c.in-Some.cached c.args.destination c.args.port c.args.source
+    let found =
+    cached_best c.self.inside.blocks c.self.inside.cache c.in-Some.cached c.args.destination c.args.port c.args.source
     c.self.invariant.0 c.self.invariant.1 c.in-Some.is (sym c.has_ends.ensures ∙ c.if-has_ends.true) in
     subst (λ (t : Table). Finds (flat.best q) t (Some c.in-Some.cached.fd)) c.self.view_is
-    (subst (λ (fd : ℕ). Finds (flat.best q) (table_of c.self.inside.interface c.self.inside.blocks c.self.inside.last_port) (Some fd)) found.1
-    (best_some c.self.inside.interface c.self.inside.blocks c.self.inside.last_port q found.0 c.self.invariant.0 found.2))
+    (subst (λ (fd : ℕ). Finds (flat.best q)
+    (table_of c.self.inside.interface c.self.inside.blocks c.self.inside.last_port) (Some fd)) found.1
+    (best_some c.self.inside.interface c.self.inside.blocks c.self.inside.last_port q found.0 c.self.invariant.0
+    found.2))
 
 pub returns-then-has_ends-clause-range : goal.returns-then-has_ends-clause-range
 returns-then-has_ends-clause-range c =
     let q = packet_key c.args.destination c.args.port c.args.source in
-    let found = cached_best c.self.inside.blocks c.self.inside.cache c.in-Some.cached c.args.destination c.args.port c.args.source
+    let found =
+    cached_best c.self.inside.blocks c.self.inside.cache c.in-Some.cached c.args.destination c.args.port c.args.source
     c.self.invariant.0 c.self.invariant.1 c.in-Some.is (sym c.has_ends.ensures ∙ c.if-has_ends.true) in
     subst IsDescriptor found.1 (best_range q c.self.inside.blocks found.0 c.self.invariant.0 found.2)
 
 -- the block that was found
-best_is : (q k : LookupKey) (items : List Block) (r : Option (Bor Block)) (b : Bor Block) → k ≡ q → option_copied r ≡ best_block k items → r ≡ Some b
+best_is : (q k : LookupKey) (items : List Block) (r : Option (Bor Block)) (b : Bor Block) → k ≡ q
+    → option_copied r ≡ best_block k items → r ≡ Some b
     → best_block q items ≡ Some b.now
 best_is q k items r b key found is = ap (λ x. best_block x items) (sym key) ∙ sym found ∙ ap option_copied is
 
@@ -38,14 +43,21 @@ pub invariant_of-self : goal.invariant_of-self
 invariant_of-self c =
     let q = packet_key c.args.destination c.args.port c.args.source in
     let items = c.self.inside.blocks in
-    let cached = cached_by_best q items c.in-Some-best.block.now (best_is q _ items _ _ c.key_of_packet.ensures c.best.ensures c.in-Some-best.is) in
-    (c.self.invariant.0, subst (IsCached items) (sym c.connection.ensures ∙ c.in-Some-connection.is) cached, c.self.invariant.2)
+    let cached =
+    cached_by_best q items c.in-Some-best.block.now
+    (best_is q _ items _ _ c.key_of_packet.ensures c.best.ensures c.in-Some-best.is) in (
+      c.self.invariant.0,
+      subst (IsCached items) (sym c.connection.ensures ∙ c.in-Some-connection.is) cached,
+      c.self.invariant.2,
+    )
 
 pub returns-in-None-clause-found : goal.returns-in-None-clause-found
 returns-in-None-clause-found c =
     let q = packet_key c.args.destination c.args.port c.args.source in
     subst (λ (t : Table). Finds (flat.best q) t None) c.self.view_is
-    (best_none c.self.inside.interface c.self.inside.blocks c.self.inside.last_port q (ap (λ q. best_block q c.self.inside.blocks) (sym c.key_of_packet.ensures) ∙ sym c.best.ensures ∙ ap option_copied c.in-None.is))
+    (best_none c.self.inside.interface c.self.inside.blocks c.self.inside.last_port q
+    (ap (λ q. best_block q c.self.inside.blocks) (sym c.key_of_packet.ensures) ∙ sym c.best.ensures
+    ∙ ap option_copied c.in-None.is))
 
 pub returns-in_default-connection-clause-found : goal.returns-in_default-connection-clause-found
 returns-in_default-connection-clause-found c =
@@ -59,7 +71,8 @@ pub returns-in_default-connection-clause-range : goal.returns-in_default-connect
 returns-in_default-connection-clause-range c =
     let q = packet_key c.args.destination c.args.port c.args.source in
     let items = c.self.inside.blocks in
-    best_range q items c.in-Some-best.block.now c.self.invariant.0 (best_is q _ items _ _ c.key_of_packet.ensures c.best.ensures c.in-Some-best.is)
+    best_range q items c.in-Some-best.block.now c.self.invariant.0
+    (best_is q _ items _ _ c.key_of_packet.ensures c.best.ensures c.in-Some-best.is)
 
 pub returns-in-Some-connection-clause-found : goal.returns-in-Some-connection-clause-found
 returns-in-Some-connection-clause-found c =
@@ -73,4 +86,5 @@ pub returns-in-Some-connection-clause-range : goal.returns-in-Some-connection-cl
 returns-in-Some-connection-clause-range c =
     let q = packet_key c.args.destination c.args.port c.args.source in
     let items = c.self.inside.blocks in
-    best_range q items c.in-Some-best.block.now c.self.invariant.0 (best_is q _ items _ _ c.key_of_packet.ensures c.best.ensures c.in-Some-best.is)
+    best_range q items c.in-Some-best.block.now c.self.invariant.0
+    (best_is q _ items _ _ c.key_of_packet.ensures c.best.ensures c.in-Some-best.is)

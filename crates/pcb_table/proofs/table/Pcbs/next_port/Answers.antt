@@ -11,4 +11,5 @@ returns c =
     let bs = c.self.inside.blocks in
     let last = c.self.inside.last_port in
     let free : IsFreePort bs last None c.next_free.result = c.next_free.ensures.free in
-    subst (λ (t : Table). ChoosesNext t c.next_free.result) c.self.view_is (λ rest queues. next_port rest queues (table_of i bs last) None c.next_free.result free)
+    subst (λ (t : Table). ChoosesNext t c.next_free.result) c.self.view_is
+    (λ rest queues. next_port rest queues (table_of i bs last) None c.next_free.result free)

@@ -6,4 +6,5 @@ use Rattle.pcb_table.proofs.table.Pcbs.noted.Goals as goal
 pub returns : goal.returns
 returns c =
     let b = c.in_ok-block.block.now in
-    subst (λ (t : Table). block_at c.args.fd t ≡ Some b) c.self.view_is (located_found c.self.inside.blocks c.args.fd c.in_ok-block.field-0-0 b c.self.invariant.0 c.in_ok-block.ensures)
+    subst (λ (t : Table). block_at c.args.fd t ≡ Some b) c.self.view_is
+    (located_found c.self.inside.blocks c.args.fd c.in_ok-block.field-0-0 b c.self.invariant.0 c.in_ok-block.ensures)

@@ -6,4 +6,5 @@ pub returns-in-Some : goal.returns-in-Some
 returns-in-Some c =
     let t = c.args.self.now in
     let b = c.args.block.now in
-    ensured_same (interface_of t) t.blocks t.last_port b.fd b c.requires c.in-Some.port c.laws.ensures.apart c.in-Some.is
+    ensured_same (interface_of t) t.blocks t.last_port b.fd b c.requires c.in-Some.port c.laws.ensures.apart
+    c.in-Some.is

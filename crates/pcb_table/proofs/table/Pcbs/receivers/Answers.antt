@@ -11,14 +11,18 @@ pub returns-clause-found : goal.returns-clause-found
 returns-clause-found c =
     let q = packet_key c.args.destination c.args.port c.args.source in
     let named : c.receivers.result.items ≡ map (λ b. b.fd) (hearing_blocks q c.self.inside.blocks) =
-    c.receivers.ensures ∙ (λ k. map (λ b. b.fd) (hearing_blocks (c.key_of_packet.ensures k) (c.as_slice.ensures.value k))) in
+    c.receivers.ensures ∙ (λ k. map (λ b. b.fd)
+    (hearing_blocks (c.key_of_packet.ensures k) (c.as_slice.ensures.value k))) in
     subst (λ (t : Table). FindsAll (flat.receivers q) t c.receivers.result.items) c.self.view_is
-    (subst (λ (fds : List ℕ). FindsAll (flat.receivers q) (table_of c.self.inside.interface c.self.inside.blocks c.self.inside.last_port) fds) (sym named)
+    (subst (λ (fds : List ℕ). FindsAll (flat.receivers q)
+    (table_of c.self.inside.interface c.self.inside.blocks c.self.inside.last_port) fds) (sym named)
     (receivers_all c.self.inside.interface c.self.inside.blocks c.self.inside.last_port q c.self.invariant.0))
 
 pub returns-clause-range : goal.returns-clause-range
 returns-clause-range c =
     let q = packet_key c.args.destination c.args.port c.args.source in
     let named : c.receivers.result.items ≡ map (λ b. b.fd) (hearing_blocks q c.self.inside.blocks) =
-    c.receivers.ensures ∙ (λ k. map (λ b. b.fd) (hearing_blocks (c.key_of_packet.ensures k) (c.as_slice.ensures.value k))) in
-    subst (λ (fds : List ℕ). All IsDescriptor fds) (sym named) (receivers_range q c.self.inside.blocks c.self.invariant.0)
+    c.receivers.ensures ∙ (λ k. map (λ b. b.fd)
+    (hearing_blocks (c.key_of_packet.ensures k) (c.as_slice.ensures.value k))) in
+    subst (λ (fds : List ℕ). All IsDescriptor fds) (sym named)
+    (receivers_range q c.self.inside.blocks c.self.invariant.0)

@@ -12,7 +12,8 @@ source_of-requires c =
     let b = c.located.result.block in
     let at : IsLocated c.args.fd bs c.located.result.index b = c.located.ensures in
     subst (λ (t : Table). block_at b.fd t ≡ Some b) c.self.view_is
-    (ap (λ (k : ℕ). find (has_fd k) bs) at.named ∙ located_found bs c.args.fd c.located.result.index b c.self.invariant.0 at)
+    (ap (λ (k : ℕ). find (has_fd k) bs) at.named
+    ∙ located_found bs c.args.fd c.located.result.index b c.self.invariant.0 at)
 
 pub returns : goal.returns
 returns c =

@@ -6,7 +6,8 @@ use Rattle.play_pcap.proofs.moves.Moves.next_move.Goals as goal
 
 pub returns-in_default-clause-is : goal.returns-in_default-clause-is
 returns-in_default-clause-is c = (
-  sym c.records.invariant.same ∙ none_left c.records.self.course c.records.self.passed c.records.self.rest.now (omega (arith, c.in_default.len_below)),
+  sym c.records.invariant.same ∙ none_left c.records.self.course c.records.self.passed c.records.self.rest.now
+      (omega (arith, c.in_default.len_below)),
   c.records.invariant.passed,
 )
 
@@ -15,7 +16,9 @@ records-preserved c =
     let some : 0 < length c.records.self.rest.now = omega (arith, c.in-len1-up.len_at_least) in
     let less = fewer c.records.self.rest.now some in
     let most = c.records.invariant.len in record {
-      same = skipped c.records.self.course c.records.self.passed c.records.self.rest.now _ some (sym c.in-None.ensures.is) ∙ c.records.invariant.same;
+      same =
+          skipped c.records.self.course c.records.self.passed c.records.self.rest.now _ some (sym c.in-None.ensures.is)
+          ∙ c.records.invariant.same;
       course = c.records.invariant.course;
       passed = c.records.invariant.passed;
       len = omega (arith, less, most);
@@ -31,8 +34,10 @@ returns-in-Some-clause-is c =
     let ticks = c.saturating_sub-ticks.ensures in
     let new = c.max-self.ensures in (
       sym c.records.invariant.same
-          ∙ moved c.records.self.course c.records.self.passed c.records.self.rest.now _ c.in-Some.packet.now c.due-due.result
-          c.saturating_sub-ticks.result c.max-self.result some (sym c.in-Some.ensures.is) c.due-due.ensures.is ticks new,
+          ∙ moved c.records.self.course c.records.self.passed c.records.self.rest.now _ c.in-Some.packet.now
+          c.due-due.result
+          c.saturating_sub-ticks.result c.max-self.result some (sym c.in-Some.ensures.is) c.due-due.ensures.is ticks
+          new,
       c.in-Some.ensures.short,
       omega (arith, passed, ticks, new),
       rw (old, length-map _ captured) (omega (arith, less, most)),

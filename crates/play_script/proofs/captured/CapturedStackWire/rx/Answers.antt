@@ -10,6 +10,7 @@ unfolding Moves
 returns g c = (
   (are_bytes c.args.packet.now (λ k. omega (arith, c.type_inv.packet k)), c.requires),
   c.rx.ensures,
-  Captures-comes c.args.self.now.capture.line c.args.self.now.capture.trace c.keep.new.self c.args.packet.now Done c.keep.ensures.kept c.keep.ensures.ticks,
+  Captures-comes c.args.self.now.capture.line c.args.self.now.capture.trace c.keep.new.self c.args.packet.now Done
+      c.keep.ensures.kept c.keep.ensures.ticks,
   refl,
 )

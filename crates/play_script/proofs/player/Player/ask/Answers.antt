@@ -17,12 +17,14 @@ returns-in-Done g c =
     let text = c.tell_line.new.report.told in
     let below = c.tell_line.new.report.below in
     let after = c.tell_line.new.captured in
-    let head : c.both-self.result ≡ (now.head && stays_head done.0) = c.both-self.ensures ∙ ap (λ (b : Bool). now.head && b) done.2.1 in
+    let head : c.both-self.result ≡ (now.head && stays_head done.0) =
+    c.both-self.ensures ∙ ap (λ (b : Bool). now.head && b) done.2.1 in
     let playing = λ (h : Bool) (p : Printer). play_of (state_of after.stack) after.capture.trace now.config h p in (
       told_text now.printer.form now.printer.name now.printer.number now.line.shown (expected_on now.line) text below,
       Ask-tells Moves g.F.Folder.may_have
           (play_of (state_of now.captured.stack) now.captured.capture.trace now.config now.head now.printer)
-          (playing c.both-self.result c.put_told.new.self) now.line.shown now.line.words c.bytes_of.result.now (expected_on now.line) done.0 text below
+          (playing c.both-self.result c.put_told.new.self) now.line.shown now.line.words c.bytes_of.result.now
+          (expected_on now.line) done.0 text below
           (captured_of (state_of after.stack) after.capture.trace after.capture.line) c.is_quiet-self.result
           c.bytes_of.ensures.is c.is_quiet-self.ensures done.1 done.2.0 (ap₂ playing head c.put_told.ensures.printer),
       c.put_told.ensures.text,
@@ -38,7 +40,8 @@ returns-in-Settings g c =
       Settings-tell Moves g.F.Folder.may_have
           (play_of (state_of now.captured.stack) now.captured.capture.trace now.config now.head now.printer) _ _
           now.line.shown now.line.words c.bytes_of.result.now set.0 (expected_on now.line) done.2.0.0 done.0
-          (captured_of (state_of after.stack) after.capture.trace after.capture.line) c.bytes_of.ensures.is done.1 done.2.0.1 done.2.1 refl set.1,
+          (captured_of (state_of after.stack) after.capture.trace after.capture.line) c.bytes_of.ensures.is done.1
+          done.2.0.1 done.2.1 refl set.1,
       set.2,
     )
 
@@ -52,7 +55,8 @@ returns-in-Nothing g c =
       None-tells Moves g.F.Folder.may_have
           (play_of (state_of now.captured.stack) now.captured.capture.trace now.config now.head now.printer)
           (playing c.put_fault.new.self) now.line.shown now.line.words c.bytes_of.result.now (expected_on now.line)
-          (captured_of (state_of after.stack) after.capture.trace after.capture.line) c.bytes_of.ensures.is done.0 done.1
+          (captured_of (state_of after.stack) after.capture.trace after.capture.line) c.bytes_of.ensures.is done.0
+          done.1
           (ap playing c.put_fault.ensures.printer),
       c.put_fault.ensures.text,
     )

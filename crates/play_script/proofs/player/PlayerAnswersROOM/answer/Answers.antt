@@ -12,9 +12,11 @@ returns-in-Asks g c =
     let now = c.args.self.now in
     let told = c.ask.ensures in
     let line = c.read_line.new.line in
-    let playing = λ (p : Printer). play_of (state_of now.captured.stack) now.captured.capture.trace now.config now.head p in (
+    let playing =
+    λ (p : Printer). play_of (state_of now.captured.stack) now.captured.capture.trace now.config now.head p in (
       told.0,
-      Asks-tells Moves g.F.Folder.may_have (playing now.printer) (playing c.next_line.new.self) _ c.args.line.now line.shown line.words told.0
+      Asks-tells Moves g.F.Folder.may_have (playing now.printer) (playing c.next_line.new.self) _ c.args.line.now
+          line.shown line.words told.0
           (expected_on line) (ap playing c.next_line.ensures) c.in-Asks.ensures told.1,
       told.2,
     )

@@ -6,4 +6,5 @@ use Rattle.play_script.proofs.report.Report.tell_reply.Goals as goal
 
 pub returns-clause-told : goal.returns-clause-told
 returns-clause-told c =
-    c.put_told.ensures ∙ ap (λ (d : List ℕ). told (reply_text (reply_of c.args.reply.now)) d) (c.bytes_of.ensures.is ∙ c.put_drops.ensures)
+    c.put_told.ensures ∙ ap (λ (d : List ℕ). told (reply_text (reply_of c.args.reply.now)) d)
+    (c.bytes_of.ensures.is ∙ c.put_drops.ensures)

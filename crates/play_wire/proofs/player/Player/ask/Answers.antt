@@ -20,7 +20,9 @@ returns-in-Ok g c =
     let below = c.answer_words.new.report.below in
     let wanted = expected_on now.line in
     let host = named_by now.target in
-    let shown = c.bytes_of-in-Ok-2.ensures.is ∙ c.label.ensures.line ∙ ap (λ (t : List ℕ). labelled host t) c.bytes_of-in-Ok.ensures.is in (
+    let shown =
+    c.bytes_of-in-Ok-2.ensures.is ∙ c.label.ensures.line
+    ∙ ap (λ (t : List ℕ). labelled host t) c.bytes_of-in-Ok.ensures.is in (
       did.0,
       text_of p host now.line.shown wanted (Told told below),
       (
@@ -31,7 +33,8 @@ returns-in-Ok g c =
         refl,
         ap (λ (q : Printer). play_with segment names q) c.put_labelled.ensures.printer,
       ),
-      c.put_labelled.ensures.text ∙ ap (λ (t : List ℕ). c.args.text.now ++ told_text p.form p.name p.number t wanted told below) shown,
+      c.put_labelled.ensures.text ∙ ap
+          (λ (t : List ℕ). c.args.text.now ++ told_text p.form p.name p.number t wanted told below) shown,
     )
 
 pub returns-in-Err : goal.returns-in-Err
@@ -48,7 +51,8 @@ returns-in-Err g c =
         Refused c.in-Err.fault,
         segment,
         names,
-        subst (λ (w : List ℕ). IsDone p host w did.0 (Refused c.in-Err.fault) segment names) c.bytes_of.ensures.is did.1,
+        subst (λ (w : List ℕ). IsDone p host w did.0 (Refused c.in-Err.fault) segment names) c.bytes_of.ensures.is
+            did.1,
         refl,
         ap (λ (q : Printer). play_with segment names q) c.put_refusal.ensures.printer
             ∙ ap (λ (b : Bool). record p { segment = segment; names = names; sound = b }) (and_false now.printer.sound),

@@ -28,8 +28,12 @@ returns-in-TooLong g c =
     let text = λ (q : Printer). fault_text q.form q.name q.number (codes "the line is too long") in (
       text c.next_line.new.self,
       told_part (playing now.printer) _ c.args.line.now c.take-part.result.now (named_by c.take-part.new.self)
-          TooLong [] (text c.next_line.new.self) c.take-part.ensures.parted c.in-TooLong.ensures
-          (refl, ap text counted, ap playing (c.put_too_long.ensures.printer ∙ ap (λ (q : Printer). record q { sound = false }) counted)),
+          TooLong [] (text c.next_line.new.self) c.take-part.ensures.parted c.in-TooLong.ensures (
+            refl,
+            ap text counted,
+            ap playing
+                (c.put_too_long.ensures.printer ∙ ap (λ (q : Printer). record q { sound = false }) counted),
+          ),
       c.put_too_long.ensures.text,
     )
 
@@ -42,10 +46,16 @@ returns-in-Faulty g c =
     let text = λ (q : Printer). slip_text q.form q.name q.number slip in (
       text c.next_line.new.self,
       told_part (playing now.printer) _ c.args.line.now c.take-part.result.now (named_by c.take-part.new.self)
-          (Faulty c.in-Faulty.slip) [] (text c.next_line.new.self) c.take-part.ensures.parted c.in-Faulty.ensures
-          (refl, ap text counted, ap playing (c.put_slip.ensures.printer ∙ ap (λ (q : Printer). record q { sound = false }) counted)),
+          (Faulty c.in-Faulty.slip) [] (text c.next_line.new.self) c.take-part.ensures.parted c.in-Faulty.ensures (
+            refl,
+            ap text counted,
+            ap playing
+                (c.put_slip.ensures.printer ∙ ap (λ (q : Printer). record q { sound = false }) counted),
+          ),
       c.put_slip.ensures.text
-          ∙ ap (λ (s : Slip). c.args.text.now ++ slip_text c.next_line.new.self.form c.next_line.new.self.name c.next_line.new.self.number s) c.shift.ensures,
+          ∙ ap (λ (s : Slip). c.args.text.now
+          ++ slip_text c.next_line.new.self.form c.next_line.new.self.name c.next_line.new.self.number
+          s) c.shift.ensures,
     )
 
 pub returns-in-Asks : goal.returns-in-Asks
@@ -58,8 +68,10 @@ returns-in-Asks g c =
     let after = c.ask.new.self in
     let new = play_with (view after.hosts.segment) after.hosts.names.items after.printer in (
       did.1,
-      told_part (playing now.printer) new c.args.line.now c.take-part.result.now host (Asks line.shown line.words (expected_on line)) did.0 did.1
+      told_part (playing now.printer) new c.args.line.now c.take-part.result.now host
+          (Asks line.shown line.words (expected_on line)) did.0 did.1
           c.take-part.ensures.parted c.in-Asks.ensures
-          (subst (λ (p : Play). TellsPart p host 0 (Asks line.shown line.words (expected_on line)) did.0 did.1 new) (ap playing c.next_line.ensures) did.2),
+          (subst (λ (p : Play). TellsPart p host 0 (Asks line.shown line.words (expected_on line)) did.0 did.1 new)
+          (ap playing c.next_line.ensures) did.2),
       did.3,
     )

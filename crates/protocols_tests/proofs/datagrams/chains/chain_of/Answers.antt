@@ -6,5 +6,12 @@ pub pieces-preserved : goal.pieces-preserved
 pieces-preserved g c = record {
   live = live_shown _ _ _ _ c.link-last.ensures.change;
   place = c.link-last.ensures.place;
-  last = omega (arith, c.link-last.ensures.index, c.pieces.invariant.last, count_joined _ _ _ _ _ _ c.filled-back.ensures.1 c.link-last.ensures.change (apart _ _ _ _ c.filled-back.ensures.1 _ c.pieces.invariant.live));
+  last =
+      omega (
+        arith,
+        c.link-last.ensures.index,
+        c.pieces.invariant.last,
+        count_joined _ _ _ _ _ _ c.filled-back.ensures.1 c.link-last.ensures.change
+            (apart _ _ _ _ c.filled-back.ensures.1 _ c.pieces.invariant.live),
+      );
 }

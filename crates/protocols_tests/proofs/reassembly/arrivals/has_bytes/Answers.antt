@@ -6,4 +6,6 @@ pub returns : goal.returns
 returns g c =
     let p = c.args.pool.now in
     let q = c.free_chain.new.self in
-    ready_same p q c.args.table.now (same_without p q c.args.chain _ (apart_first p c.args.chain _ c.requires.owned) c.free_chain.ensures) c.requires.ready
+    ready_same p q c.args.table.now
+    (same_without p q c.args.chain _ (apart_first p c.args.chain _ c.requires.owned) c.free_chain.ensures)
+    c.requires.ready

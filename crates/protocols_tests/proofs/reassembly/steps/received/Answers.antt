@@ -16,11 +16,17 @@ came p q n v r is adds =
     let same = same_adds (held_all p r.datagrams) adds is.table.owned in
     record {
       ready = ready_same p q r same is;
-      owned = subst (λ (xs : List ℕ). IsOwned q (n ∷ xs)) (sym (held_all_same p q r.datagrams same)) (owned_after (then_adds (moves_none p (held_all p r.datagrams)) adds) is.table.owned);
+      owned =
+          subst (λ (xs : List ℕ). IsOwned q (n ∷ xs)) (sym (held_all_same p q r.datagrams same))
+          (owned_after (then_adds (moves_none p (held_all p r.datagrams)) adds) is.table.owned);
     }
 
 pub returns-clause-ready : goal.returns-clause-ready
-returns-clause-ready g c = (came c.args.pool.now c.from_wire.new.pool c.in-Ok.chain _ c.args.table.now c.requires.ready c.in-Ok.ensures.ok.3.adds).ready
+returns-clause-ready g c =
+    (came c.args.pool.now c.from_wire.new.pool c.in-Ok.chain _ c.args.table.now c.requires.ready
+    c.in-Ok.ensures.ok.3.adds).ready
 
 pub returns-clause-owned : goal.returns-clause-owned
-returns-clause-owned g c = (came c.args.pool.now c.from_wire.new.pool c.in-Ok.chain _ c.args.table.now c.requires.ready c.in-Ok.ensures.ok.3.adds).owned
+returns-clause-owned g c =
+    (came c.args.pool.now c.from_wire.new.pool c.in-Ok.chain _ c.args.table.now c.requires.ready
+    c.in-Ok.ensures.ok.3.adds).owned

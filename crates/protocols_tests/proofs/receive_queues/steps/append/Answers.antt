@@ -9,7 +9,9 @@ pub append_addr-requires-clause-ready : goal.append_addr-requires-clause-ready
 append_addr-requires-clause-ready g c = ready_made _ c.datagram-chain.ensures c.requires
 
 pub append_addr-requires-clause-live : goal.append_addr-requires-clause-live
-append_addr-requires-clause-live g c = live_first c.datagram-chain.new.pool c.datagram-chain.result [] (owned_after c.datagram-chain.ensures (λ k. omega arith))
+append_addr-requires-clause-live g c =
+    live_first c.datagram-chain.new.pool c.datagram-chain.result []
+    (owned_after c.datagram-chain.ensures (λ k. omega arith))
 
 pub append_addr-requires-clause-apart : goal.append_addr-requires-clause-apart
 append_addr-requires-clause-apart g c = apart_ready _ c.datagram-chain.ensures c.requires

@@ -23,7 +23,8 @@ use Rattle.raw_cells.proofs.memory.Bytes.TheLaw.Statement.{statement}
 
 lent_laws : (p : Ptr) (xs : List ℕ) (n : ℕ) → ShrLaws (bytes_lent p xs n)
 lent_laws (block_ptr b o) xs n =
-    beside_shr_laws (said (flt (length xs + n) (2 ^ 63))) (elements_shared u8 xs b o) (said_shr_laws (flt (length xs + n) (2 ^ 63)) tt)
+    beside_shr_laws (said (flt (length xs + n) (2 ^ 63))) (elements_shared u8 xs b o)
+    (said_shr_laws (flt (length xs + n) (2 ^ 63)) tt)
     (elements_shr_laws u8 (uint_row_laws w8) xs b o)
 lent_laws null_ptr xs n = said_shr_laws ffalse tt
 
@@ -40,9 +41,12 @@ module _ {M : Type 1} {𝓤 : Ura M} (𝓛 : Logic 𝓤) (l : Lft) where
   lends_bytes : (p : Ptr) (xs : List ℕ) (n : ℕ) → Lends 𝓛 (bytes_owned p xs n) (bytes_lent p xs n) l
   lends_bytes (block_ptr b o) xs n =
       let fits = flt (length xs + n) (2 ^ 63) in let room = froom (block_type n) b (o + length xs) in
-      Lends-both 𝓛 fits (fsep (cells (mem u8) xs b o) room) (said fits) (elements_shared u8 xs b o) l (Lends-said 𝓛 fits tt l)
+      Lends-both 𝓛 fits (fsep (cells (mem u8) xs b o) room) (said fits) (elements_shared u8 xs b o) l
+      (Lends-said 𝓛 fits tt l)
       (Lends-first 𝓛 (cells (mem u8) xs b o) room (elements_shared u8 xs b o) l (lends_cells xs b o))
   lends_bytes null_ptr xs n = Lends-false 𝓛 (said ffalse) l
 
 pub shares : statement
-shares = of_Lends C.struct C.the_codes C.the_heap C.the_lent (λ d p. lent_laws d.at d.written d.blank) tt (λ M 𝓤 𝓛 d p. lends_bytes 𝓛 _ d.at d.written d.blank)
+shares =
+    of_Lends C.struct C.the_codes C.the_heap C.the_lent (λ d p. lent_laws d.at d.written d.blank) tt
+    (λ M 𝓤 𝓛 d p. lends_bytes 𝓛 _ d.at d.written d.blank)

@@ -40,34 +40,57 @@ pub slice_spec : {M : Type 1} → statement M
 slice_spec 𝓤 𝓛 𝓜 𝓡 wired =
     let H = 𝓛.H in let c = f.clauses 𝓛 𝓜.mem 𝓡.returns in let fn = code.function in
     let 𝓣 = tables 𝓤 H 𝓜 𝓡 𝓡.env in
-    proved_at 𝓛 f.ended stayed c 𝓜 𝓡
-    (Goes-dropped 𝓛 1 (RefOf (0 ∷ []) tt (plain (λ _. Row)) (λ _. tt)) yes (λ κs x w. refl), (Goes-dropped 𝓛 1 (plain (λ _. Addr)) yes (λ κs x w. refl), (Goes-dropped 𝓛 1 (plain (λ _. usize)) yes (λ κs x w. refl), (Goes-dropped 𝓛 1 (plain (λ _. usize)) yes (λ κs x w. refl), tt))))
+    proved_at 𝓛 f.ended stayed c 𝓜 𝓡 (
+      Goes-dropped 𝓛 1 (RefOf (0 ∷ []) tt (plain (λ _. Row)) (λ _. tt)) yes (λ κs x w. refl),
+      (
+        Goes-dropped 𝓛 1 (plain (λ _. Addr)) yes (λ κs x w. refl),
+        (
+          Goes-dropped 𝓛 1 (plain (λ _. usize)) yes (λ κs x w. refl),
+          (Goes-dropped 𝓛 1 (plain (λ _. usize)) yes (λ κs x w. refl), tt),
+        ),
+      ),
+    )
     f.Key.name fn (code.unfolded 𝓤 H 𝓜 𝓡 wired) (λ z are.
     let κ = z.0.0.0 in let q = z.0.1.0 in let a = z.0.3 in let vss = z.0.4 in
     let d = a.0.now in let rb = a.0.ref_ptr.0 in let ro = a.0.ref_ptr.1 in let xs = d.written in
     let p = a.1.0.ptr in let from = a.1.1.0 in let len = a.1.1.1.0 in let run = take len (drop from xs) in
     let Post : Val → SProp 𝓤 = (walk_of 𝓛 f.ended stayed c).post z in
     let Asked = (p ≡ d.at) × (from + len ≤ length xs) in
-    qed 𝓛 ((raw (alive 𝓛 f.signature z.0.0 z.0.1) ⊛ ‵ (owns (types_at f.signature.params z.0.0) a vss)) ∷ raw (fact 𝓤 Asked) ∷ []) ∵
-    move ! (1 ∷ []) $ heard ! Asked (λ asked. split ! $ use1 𝓛 (‵ (flft κ q) ⊛ ‵ ftrue) (id⊢ 𝓤 _) $ split ! $ move ! (2 ∷ []) $
+    qed 𝓛 ((raw (alive 𝓛 f.signature z.0.0 z.0.1) ⊛ ‵ (owns (types_at f.signature.params z.0.0) a vss))
+    ∷ raw (fact 𝓤 Asked) ∷ []) ∵
+    move ! (1 ∷ []) $ heard ! Asked
+    (λ asked. split ! $ use1 𝓛 (‵ (flft κ q) ⊛ ‵ ftrue) (id⊢ 𝓤 _) $ split ! $ move ! (2 ∷ []) $
     -- [what the parameters own; the token; nothing]
-    fsplit ! $ fsplit ! $ feq_l ! (λ e₀. move ! (1 ∷ []) $ fsplit ! $ told_address ! a.1.0 vss.1.0 (λ e₁. fsplit ! $ fsplit ! $ feq_l ! (λ e₂. flt_l ! (λ fits_from.
+    fsplit ! $ fsplit ! $ feq_l ! (λ e₀. move ! (1 ∷ []) $ fsplit ! $
+    told_address ! a.1.0 vss.1.0 (λ e₁. fsplit ! $ fsplit ! $ feq_l ! (λ e₂. flt_l ! (λ fits_from.
     fsplit ! $ fsplit ! $ feq_l ! (λ e₃. flt_l ! (λ fits. keep ! (1 ∷ 2 ∷ []) $
-    regoal ! (λ (us : List Val). prop (WpFn 𝓤 H 𝓣.C 𝓣.Λ fn us Post)) (λ i. e₀ i ++ (e₁ i ++ (e₂ i ++ (e₃ i ++ [])))) refl $
-    enter ! 𝓣.C 𝓣.Λ fn (vptr rb ro ∷ address_val p ∷ vint w64 from ∷ vint w64 len ∷ []) Post $ alloc_all ! (λ l. pass_all ! refl ((tt, tt), (address_typed p, ((tt, record { fits = fits_from }), ((tt, record { fits = fits }), tt)))) $
+    regoal ! (λ (us : List Val). prop (WpFn 𝓤 H 𝓣.C 𝓣.Λ fn us Post)) (λ i. e₀ i ++ (e₁ i ++ (e₂ i ++ (e₃ i ++ []))))
+    refl $
+    enter ! 𝓣.C 𝓣.Λ fn (vptr rb ro ∷ address_val p ∷ vint w64 from ∷ vint w64 len ∷ []) Post $
+    alloc_all ! (λ l. pass_all ! refl
+    ((tt, tt), (address_typed p, ((tt, record { fits = fits_from }), ((tt, record { fits = fits }), tt)))) $
     let En : Env 𝓤 H = env fn.locals l in
     let long : length run ≡ len = length-take-le len (drop from xs) (omega (arith, asked.1, length-drop from xs)) in
-    unhide ! $ fsplit ! $ skip ! $ in_a_block ! d.at (λ y. bytes_lent y xs d.blank κ) (id⊢ 𝓤 (never 𝓤)) (λ b o e. fsplit ! $ flt_l ! (λ few.
+    unhide ! $ fsplit ! $ skip ! $ in_a_block ! d.at (λ y. bytes_lent y xs d.blank κ) (id⊢ 𝓤 (never 𝓤))
+    (λ b o e. fsplit ! $ flt_l ! (λ few.
     -- [the bytes; the token]
-    take_at ! 2 $ rewrite ! 0 (λ (y : Ptr). ‵ (fat full_share (lone Addr.mir) (l 2) 0 (address_val y))) (asked.0 ∙ e) refl $ give_at ! 2 $
+    take_at ! 2 $ rewrite ! 0 (λ (y : Ptr). ‵ (fat full_share (lone Addr.mir) (l 2) 0 (address_val y))) (asked.0 ∙ e)
+    refl $ give_at ! 2 $
     first ! $ blocks ! $
     sets ! (bin ! (get_in ! (fld ! refl (stop !)) (sub ! 0 refl (whole !))) (get ! refl) tt) refl (tt, tt) $
     let at : ℕ × ℕ = (b, from + o) in let r : Bor (List ℕ) = record { ref_ptr = at; now = run } in
-    use1 𝓛 (‵ (elements_shared u8 run b (from + o) κ)) (run_seen 𝓛 b κ xs o from len (omega (arith, asked.1))) $ hide ! $
-    sets_last ! (agg ! (and_then ! (get ! refl) (and_then ! (get ! refl) (no_more !)))) refl (tt, (tt, (record { fits = fits }, tt))) $
-    exec ! 𝓣.C 𝓣.Λ En code.Mir.t-2 (at_ret En Post) $ sets ! (of_opd ! (get ! refl)) refl (tt, (tt, (record { fits = fits }, tt))) $
-    flt_i ! (length run * 1) (2 ^ 63) (omega (arith, long, few, asked.1)) $ flt_i ! (length run) (2 ^ 64) (omega (arith, long, fits)) $ fjoin ! $
-    feq_i ! (List Val) (slice_val at len ∷ []) (slice_val at (length run) ∷ []) (ap (λ k. slice_val at k ∷ []) (sym long)) $ fjoin ! $ fjoin ! $
+    use1 𝓛 (‵ (elements_shared u8 run b (from + o) κ)) (run_seen 𝓛 b κ xs o from len (omega (arith, asked.1))) $
+    hide ! $
+    sets_last ! (agg ! (and_then ! (get ! refl) (and_then ! (get ! refl) (no_more !)))) refl
+    (tt, (tt, (record { fits = fits }, tt))) $
+    exec ! 𝓣.C 𝓣.Λ En code.Mir.t-2 (at_ret En Post) $
+    sets ! (of_opd ! (get ! refl)) refl (tt, (tt, (record { fits = fits }, tt))) $
+    flt_i ! (length run * 1) (2 ^ 63) (omega (arith, long, few, asked.1)) $
+    flt_i ! (length run) (2 ^ 64) (omega (arith, long, fits)) $ fjoin ! $
+    feq_i ! (List Val) (slice_val at len ∷ []) (slice_val at (length run) ∷ [])
+    (ap (λ k. slice_val at k ∷ []) (sym long)) $ fjoin ! $ fjoin ! $
     returns ! (look_at ! 0 refl) $ free_all ! refl $ keep ! (1 ∷ 0 ∷ []) $
-    suffices ! _ (ends_at 𝓛 f.ended stayed c z (slice_val at len) r (tt, (tt, (tt, (tt, tt)))) (tt, (tt, (tt, (tt, tt))))) $ says ! refl $
-    nothing ! $ move ! (1 ∷ 0 ∷ []) $ join ! $ frame ! $ nothing ! $ nothing ! $ fjoin ! $ nothing ! $ fjoin ! $ nothing ! $ fjoin ! $ nothing ! $ fjoin ! $ done !)))))))))))
+    suffices ! _ (ends_at 𝓛 f.ended stayed c z (slice_val at len) r (tt, (tt, (tt, (tt, tt))))
+    (tt, (tt, (tt, (tt, tt))))) $ says ! refl $
+    nothing ! $ move ! (1 ∷ 0 ∷ []) $ join ! $ frame ! $ nothing ! $ nothing ! $ fjoin ! $ nothing ! $ fjoin ! $
+    nothing ! $ fjoin ! $ nothing ! $ fjoin ! $ done !)))))))))))

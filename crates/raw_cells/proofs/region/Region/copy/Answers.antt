@@ -31,12 +31,16 @@ returns-clause-change c =
     let is_from = subst (λ (v : Cells). IsPart v from) (sym c.self.view_is) c.requires.from in
     let is_to = subst (λ (v : Cells). IsPart v to) (sym c.self.view_is) c.requires.to in
     let ws = take from.len (drop (place (seen r) from) r.block) in
-    let done : over r.block 0 (take c.len-len.result c.copy_within.new.self) ≡ over r.block (place (seen r) to) (take to.len ws) =
+    let done : over r.block 0 (take c.len-len.result c.copy_within.new.self)
+    ≡ over r.block (place (seen r) to) (take to.len ws) =
     let at = c.start-at.result in let dest = c.start-dest.result in let n = from.len in
-    let at_is : at ≡ place (seen r) from = c.start-at.ensures.at ∙ ap (λ (v : Cells). place v from) (sym c.self.view_is) in
-    let dest_is : dest ≡ place (seen r) to = c.start-dest.ensures.at ∙ ap (λ (v : Cells). place v to) (sym c.self.view_is) in
+    let at_is : at ≡ place (seen r) from =
+    c.start-at.ensures.at ∙ ap (λ (v : Cells). place v from) (sym c.self.view_is) in
+    let dest_is : dest ≡ place (seen r) to =
+    c.start-dest.ensures.at ∙ ap (λ (v : Cells). place v to) (sym c.self.view_is) in
     let n_to = c.requires.len in
-    ap (λ l. over r.block 0 (take c.len-len.result l)) (c.copy_within.ensures.after ∙ ap (λ s. copy_within s at (at + n) dest) c.slice_mut.ensures.value)
+    ap (λ l. over r.block 0 (take c.len-len.result l))
+    (c.copy_within.ensures.after ∙ ap (λ s. copy_within s at (at + n) dest) c.slice_mut.ensures.value)
     ∙ copied r.block at dest n c.len-len.result c.len-len.ensures
     (omega (arith, part_within r c.self.invariant from is_from, at_is))
     (omega (arith, part_within r c.self.invariant to is_to, dest_is, n_to))
@@ -48,4 +52,6 @@ returns-clause-change c =
 pub returns-clause-sized : goal.returns-clause-sized
 returns-clause-sized c =
     let r = c.self.inside in let from = c.args.from in let to = c.args.to in
-    subst IsSized (sym (returns-clause-change c)) (sized_written c.args.self.now to (read c.args.self.now from) (subst IsSized c.self.view_is (region_sized r c.self.invariant)) c.requires.to)
+    subst IsSized (sym (returns-clause-change c))
+    (sized_written c.args.self.now to (read c.args.self.now from)
+    (subst IsSized c.self.view_is (region_sized r c.self.invariant)) c.requires.to)

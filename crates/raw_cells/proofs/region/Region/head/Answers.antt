@@ -8,14 +8,16 @@ use Rattle.raw_cells.proofs.region.Region.head.Goals as goal
 pub read_head-requires : goal.read_head-requires
 read_head-requires c =
     let r = c.self.inside in let i = c.args.index in
-    let whole : c.slice-all.result.now ≡ r.block = c.slice-all.ensures.value ∙ take_all c.len.result r.block (omega (arith, c.len.ensures)) in
+    let whole : c.slice-all.result.now ≡ r.block =
+    c.slice-all.ensures.value ∙ take_all c.len.result r.block (omega (arith, c.len.ensures)) in
     let lt = subst (λ (v : Cells). i < length v.heads) (sym c.self.view_is) c.requires in
     omega (arith, ap length whole, c.self.invariant.0, lt, length-heads r.mbufs r.block)
 
 pub returns-clause-value : goal.returns-clause-value
 returns-clause-value c =
     let r = c.self.inside in let i = c.args.index in
-    let whole : c.slice-all.result.now ≡ r.block = c.slice-all.ensures.value ∙ take_all c.len.result r.block (omega (arith, c.len.ensures)) in
+    let whole : c.slice-all.result.now ≡ r.block =
+    c.slice-all.ensures.value ∙ take_all c.len.result r.block (omega (arith, c.len.ensures)) in
     let lt = subst (λ (v : Cells). i < length v.heads) (sym c.self.view_is) c.requires in
     c.read_head.ensures.head ∙ ap (λ l. head_in l (128 * i)) whole
     ∙ sym (head_at r.mbufs r.block i zero_head (omega (arith, lt, length-heads r.mbufs r.block)))

@@ -6,16 +6,32 @@ use Rattle.raw_cells.proofs.Patches.{arrival_set, field_kept, field_room, field_
 use Rattle.raw_cells.proofs.region.Region.set_arrival.Goals as goal
 
 pub slice_mut-requires : goal.slice_mut-requires
-slice_mut-requires c = omega (arith, field_room c.self.inside c.self.invariant c.args.self.now c.self.view_is c.args.index c.requires.index)
+slice_mut-requires c =
+    omega (
+      arith,
+      field_room c.self.inside c.self.invariant c.args.self.now c.self.view_is c.args.index
+          c.requires.index,
+    )
 
 pub invariant_of-self : goal.invariant_of-self
-invariant_of-self c = field_kept c.self.inside c.self.invariant c.args.self.now c.self.view_is c.args.index c.requires.index 24 4 _ c.put_u32.new.bytes (omega arith) c.put_u32.ensures.len (omega arith)
+invariant_of-self c =
+    field_kept c.self.inside c.self.invariant c.args.self.now c.self.view_is c.args.index c.requires.index 24 4 _
+    c.put_u32.new.bytes (omega arith) c.put_u32.ensures.len (omega arith)
 
 pub returns-clause-change : goal.returns-clause-change
 returns-clause-change c =
-    field_set c.self.inside c.self.invariant c.args.self.now c.self.view_is c.args.index c.requires.index (λ (h : Head). with_arrival h c.args.arrival) 24 4 _ c.put_u32.new.bytes (omega arith) c.put_u32.ensures.len
-    (omega (arith, packet_field (head_of c.args.self.now c.args.index) (λ (p : PacketHeader). record p { arrival = c.args.arrival }) 28 (omega arith) c.requires.packet))
-    (arrival_set c.self.inside.block (128 * c.args.index) c.put_u32.new.bytes (field_room c.self.inside c.self.invariant c.args.self.now c.self.view_is c.args.index c.requires.index) c.args.arrival c.put_u32.ensures.len c.put_u32.ensures.value)
+    field_set c.self.inside c.self.invariant c.args.self.now c.self.view_is c.args.index c.requires.index
+    (λ (h : Head). with_arrival h c.args.arrival) 24 4 _ c.put_u32.new.bytes (omega arith) c.put_u32.ensures.len
+    (omega (
+      arith,
+      packet_field (head_of c.args.self.now c.args.index)
+          (λ (p : PacketHeader). record p { arrival = c.args.arrival }) 28 (omega arith) c.requires.packet,
+    ))
+    (arrival_set c.self.inside.block (128 * c.args.index) c.put_u32.new.bytes
+    (field_room c.self.inside c.self.invariant c.args.self.now c.self.view_is c.args.index c.requires.index)
+    c.args.arrival c.put_u32.ensures.len c.put_u32.ensures.value)
 
 pub returns-clause-sized : goal.returns-clause-sized
-returns-clause-sized c = field_sized c.self.inside c.self.invariant c.args.self.now c.self.view_is c.args.index c.requires.index _ _ (returns-clause-change c)
+returns-clause-sized c =
+    field_sized c.self.inside c.self.invariant c.args.self.now c.self.view_is c.args.index c.requires.index _ _
+    (returns-clause-change c)

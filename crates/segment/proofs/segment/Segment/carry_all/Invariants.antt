@@ -5,4 +5,5 @@ use Rattle.segment.proofs.segment.Segment.carry_all.Given as goal
 
 -- what the carries that are left lead to, all of them lead to
 abbrev pub invariant-loop : goal.invariant-loop
-invariant-loop l = (last : SegmentView) → AreCarried (l.most - l.counter) (view l.self) last → AreCarried l.most (view l.fn.self) last
+invariant-loop l =
+    (last : SegmentView) → AreCarried (l.most - l.counter) (view l.self) last → AreCarried l.most (view l.fn.self) last

@@ -22,12 +22,27 @@ returns c =
       room = c.leave.ensures.room;
       chances = ap (λ v. v.items) c.shuffle.ensures.chances;
       flight = c.leave.ensures.early;
-      random = c.shuffle.ensures.after ∙ ap (λ (fs : List Flying). (shuffled old.chances fs old.random).1) c.leave.ensures.due;
-      tallies = subst (λ (ts : List Tally). AtEach (λ place t u. u ≡ hears (length (received_in place (slice_get old.configs place) (leaving old).0)) t) ts c.count_all.new.tallies.items) (ap (λ v. v.items) c.shuffle.ensures.tallies)
-          (subst (λ (fs : List Flying). AtEach (λ place t u. u ≡ hears (length (received_in place (slice_get old.configs place) fs)) t) c.shuffle.new.self.tallies.items c.count_all.new.tallies.items) counted
-          (subst (λ (configs : List Config). AtEach (λ place t u. u ≡ hears (length (received_in place (slice_get configs place) (map flying c.as_slice.result.now))) t) c.shuffle.new.self.tallies.items c.count_all.new.tallies.items)
+      random =
+          c.shuffle.ensures.after ∙ ap (λ (fs : List Flying). (shuffled old.chances fs old.random).1) c.leave.ensures.due;
+      tallies =
+          subst (λ (ts : List Tally). AtEach
+          (λ place t u. u ≡ hears (length (received_in place (slice_get old.configs place) (leaving old).0)) t) ts
+          c.count_all.new.tallies.items) (ap (λ v. v.items) c.shuffle.ensures.tallies)
+          (subst (λ (fs : List Flying). AtEach
+          (λ place t u. u ≡ hears (length (received_in place (slice_get old.configs place) fs)) t)
+          c.shuffle.new.self.tallies.items c.count_all.new.tallies.items) counted
+          (subst (λ (configs : List Config). AtEach
+          (λ place t u. u ≡ hears (length
+          (received_in place (slice_get configs place)
+          (map flying c.as_slice.result.now))) t) c.shuffle.new.self.tallies.items c.count_all.new.tallies.items)
           c.as_slice-2.ensures.value c.count_all.ensures));
-      hosts = subst (λ (fs : List Flying). AtEach (λ place s t. AreCalls s (comes (received_in place (slice_get old.configs place) fs)) t) old.stacks c.deliver_all.new.stacks.items) now
-          (subst (λ (configs : List Config). AtEach (λ place s t. AreCalls s (comes (received_in place (slice_get configs place) (map flying c.as_slice-3.result.now))) t) old.stacks c.deliver_all.new.stacks.items)
+      hosts =
+          subst (λ (fs : List Flying). AtEach
+          (λ place s t. AreCalls s (comes (received_in place (slice_get old.configs place) fs)) t) old.stacks
+          c.deliver_all.new.stacks.items) now
+          (subst (λ (configs : List Config). AtEach
+          (λ place s t. AreCalls s (comes
+          (received_in place (slice_get configs place)
+          (map flying c.as_slice-3.result.now))) t) old.stacks c.deliver_all.new.stacks.items)
           c.as_slice-4.ensures.value c.deliver_all.ensures);
     }

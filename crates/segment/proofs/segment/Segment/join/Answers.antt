@@ -16,10 +16,16 @@ returns-in-Ok c = record {
   stack = c.in-Ok.stack;
   started = c.in-Ok.ensures.booted.1;
   configs = c.push_reserved.ensures.items ∙ ap (λ (xs : List Config). xs ++ c.args.config ∷ []) c.reserve.ensures.items;
-  stacks = c.push_reserved-in-Ok.ensures.items ∙ ap (λ (xs : List StackView). xs ++ c.in-Ok.stack ∷ []) c.reserve-else-is_err.ensures.items;
+  stacks =
+      c.push_reserved-in-Ok.ensures.items
+      ∙ ap (λ (xs : List StackView). xs ++ c.in-Ok.stack ∷ []) c.reserve-else-is_err.ensures.items;
   flight = refl;
   room = refl;
-  chances = c.push_reserved-in-Ok-2.ensures.items ∙ ap (λ (xs : List Chances). xs ++ no_chances ∷ []) c.reserve-else-is_err-2.ensures.items;
-  tallies = c.push_reserved-in-Ok-3.ensures.items ∙ ap (λ (xs : List Tally). xs ++ nothing_counted ∷ []) c.reserve-else-is_err-3.ensures.items;
+  chances =
+      c.push_reserved-in-Ok-2.ensures.items
+      ∙ ap (λ (xs : List Chances). xs ++ no_chances ∷ []) c.reserve-else-is_err-2.ensures.items;
+  tallies =
+      c.push_reserved-in-Ok-3.ensures.items
+      ∙ ap (λ (xs : List Tally). xs ++ nothing_counted ∷ []) c.reserve-else-is_err-3.ensures.items;
   random = refl;
 }

@@ -10,19 +10,32 @@ returns-then-at-len-clause-repeated c =
     let v = view c.args.self.now in
     changed v v.flight _ v.room
     (none_copied v.flight c.args.at v.room
-    (omega (arith, c.if-at-len.true, c.len.ensures, length-map c.args.self.now.flight.frames.items flying)) (omega (arith, c.args.self.now.flight.frames.ok, length-map c.args.self.now.flight.frames.items flying))) refl
+    (omega (arith, c.if-at-len.true, c.len.ensures, length-map c.args.self.now.flight.frames.items flying))
+    (omega (arith, c.args.self.now.flight.frames.ok, length-map c.args.self.now.flight.frames.items flying))) refl
 
 pub returns-then-len-capacity-clause-repeated : goal.returns-then-len-capacity-clause-repeated
 returns-then-len-capacity-clause-repeated c =
     let v = view c.args.self.now in
     changed v v.flight _ v.room
     (no_room v.flight c.args.at v.room
-    (omega (arith, c.if-len-capacity.true, c.len-2.ensures, c.capacity.ensures, length-map c.args.self.now.flight.frames.items flying)) (omega (arith, c.args.self.now.flight.frames.ok, length-map c.args.self.now.flight.frames.items flying))) refl
+    (omega (
+      arith,
+      c.if-len-capacity.true,
+      c.len-2.ensures,
+      c.capacity.ensures,
+      length-map c.args.self.now.flight.frames.items flying,
+    )) (omega (
+      arith,
+      c.args.self.now.flight.frames.ok,
+      length-map c.args.self.now.flight.frames.items flying,
+    ))) refl
 
 pub returns-clause-repeated : goal.returns-clause-repeated
 returns-clause-repeated c =
     let frames = c.args.self.now.flight.frames.items in
     changed (view c.args.self.now) (map flying c.push_reserved.new.self.items) _ (vec_capacity c.push_reserved.new.self)
     (ap (map flying) c.push_reserved.ensures.items
-    ∙ copied frames c.args.at (vec_capacity c.args.self.now.flight.frames) c.index-copy.result.now (omega (arith, c.if-at-len.false, c.len.ensures)) c.index-copy.ensures (omega (arith, c.if-len-capacity.false, c.len-2.ensures, c.capacity.ensures)))
+    ∙ copied frames c.args.at (vec_capacity c.args.self.now.flight.frames) c.index-copy.result.now
+    (omega (arith, c.if-at-len.false, c.len.ensures)) c.index-copy.ensures
+    (omega (arith, c.if-len-capacity.false, c.len-2.ensures, c.capacity.ensures)))
     c.push_reserved.ensures.capacity

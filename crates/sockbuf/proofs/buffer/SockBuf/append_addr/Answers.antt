@@ -9,7 +9,8 @@ append_fitting-requires-clause-fits c = sym (c.fits.ensures c.args.pool.now c.re
 pub returns-clause-appends : goal.returns-clause-appends
 returns-clause-appends c =
     let p = c.args.pool.now in (
-      ap (fits (datagrams p c.args.self.now)) (sym c.len-len.ensures) ∙ sym (c.fits.ensures p c.requires.ready) ∙ c.if-not-fits.false,
+      ap (fits (datagrams p c.args.self.now)) (sym c.len-len.ensures) ∙ sym (c.fits.ensures p c.requires.ready)
+          ∙ c.if-not-fits.false,
       omega (arith, c.free_mbufs.ensures.free),
       c.append_fitting.ensures.datagrams,
       c.append_fitting.ensures.moves,
