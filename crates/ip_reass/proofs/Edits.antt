@@ -1,5 +1,5 @@
 -- Edits of lists, and entries without their first bytes.
-use Rattle.std.proofs.Common.{◌≡◌, ℕ, zero, suc, ◌-◌, ◌<◌, List, [], ◌∷◌, length, map, filter_map, set, take, drop, insert, remove, refl, ap, arith}
+use Rattle.std.proofs.Common.{◌≡◌, ℕ, zero, suc, ◌-◌, ◌<◌, List, [], ◌∷◌, ◌++◌, length, map, filter_map, get_or, set, take, drop, insert, remove, refl, ap, subst, arith}
 use Rattle.std.specs.List.{cons_option}
 use Rattle.mbuf_chain.specs.Chain.{Entry}
 use Rattle.chain_ops.specs.Trims.{without_first}
@@ -21,6 +21,27 @@ module _ {X : Type 0} where
   drop-remove [] i l = absurd (omega arith)
   drop-remove (x ∷ xs) zero l = refl
   drop-remove (x ∷ xs) (suc i) l = drop-remove xs i (omega arith)
+
+  set_back : (xs : List X) (i : ℕ) (d : X) → suc i < length xs
+      → set (remove xs (suc i)) i (get_or xs (suc i) d) ≡ remove xs i
+  set_back [] i d l = absurd (omega arith)
+  set_back (x ∷ []) zero d l = absurd (omega arith)
+  set_back (x ∷ y ∷ xs) zero d l = refl
+  set_back (x ∷ xs) (suc i) d l = ap (λ (zs : List X). x ∷ zs) (set_back xs i d (omega arith))
+
+  -- an element that was taken out goes into the place in front of its own
+  pub set-remove : (xs : List X) (i : ℕ) (d : X) → 0 < i → i < length xs
+      → set (remove xs i) (i - 1) (get_or xs i d) ≡ remove xs (i - 1)
+  set-remove xs zero d some l = absurd (omega arith)
+  set-remove xs (suc i) d some l =
+      let here : i ≡ suc i - 1 = omega arith in
+      subst (λ (j : ℕ). set (remove xs (suc i)) j (get_or xs (suc i) d) ≡ remove xs j) here (set_back xs i d l)
+
+  pub remove_last : (xs : List X) (y : X) (i : ℕ) → length xs ≡ i → remove (xs ++ y ∷ []) i ≡ xs
+  remove_last [] y zero e = refl
+  remove_last [] y (suc i) e = absurd (omega arith)
+  remove_last (x ∷ xs) y zero e = absurd (omega arith)
+  remove_last (x ∷ xs) y (suc i) e = ap (λ (zs : List X). x ∷ zs) (remove_last xs y i (omega arith))
 
   pub map-remove : {Y : Type 0} (f : X → Y) (xs : List X) (i : ℕ) → map f (remove xs i) ≡ remove (map f xs) i
   map-remove f [] zero = refl

@@ -41,8 +41,8 @@ fn unlink(lasts: &mut [u32], rows: &[Row], place: usize, len: usize)
     let mut left = len;
     'rows: while left > place {
         left -= 1;
-        let row = rows[left];
-        lasts[row.bucket as usize] = row.before;
+        let bucket = rows[left].bucket;
+        lasts[bucket as usize] = rows[left].before;
     }
 }
 
@@ -165,7 +165,7 @@ impl Index {
         self.len += 1;
     }
 
-    /// Takes a row off. Those after it move down by one, at 14.5 instructions each.
+    /// Takes a row off. Those after it move down by one, at some 12 instructions each.
     // Apart: it's called once for a datagram, and `follow` for each fragment.
     #[inline(never)]
     pub(crate) fn remove(&mut self, place: usize)

@@ -1,5 +1,5 @@
 //! A fragment laid among those of its datagram, and the datagram taken out where it is whole.
-ghost use Rattle.std.specs.Prelude.{◌≡◌, ℕ, ◌+◌, ◌<◌, ◌≤◌, ◌∷◌, ◌++◌, true, count_by, length, vec_capacity, vec_len};
+ghost use Rattle.std.specs.Prelude.{◌≡◌, ℕ, ◌+◌, ◌<◌, ◌≤◌, ◌∷◌, ◌++◌, true, count_by, get_or, length, remove, vec_capacity, vec_len};
 ghost use Rattle.flat_model.specs.Machine.State.{State, is_key};
 ghost use Rattle.flat_model.specs.Amounts.Weight.{Weight};
 ghost use Rattle.flat_model.specs.Machine.Ledger.{exact_ledger};
@@ -22,6 +22,7 @@ use flat_model::{Counter, Counters, Why};
 use ip_out::IpHead;
 use mbuf_chain::{Chain, Pool};
 use params::{IP_HEADER, IP_MAX_DATA};
+use std::mem::replace;
 
 /// Lays a fragment among those of the datagram at a place.
 #[inline(always)]
@@ -46,6 +47,27 @@ pub(crate) fn lay_in(
     lay(pool, datagram, chain, span)
 }
 
+/// Takes a row out of the table. Those after it move down by one, the last first.
+// By `Vec::remove`, whose loop for many rows is unrolled, it took 4 KB of code.
+#[inline(never)]
+fn take_row(table: &mut Vec<Datagram>, i: usize) -> Datagram
+    requires { i < length table.old.items }
+    ensures value { result ≡ get_or table.old.items i result }
+    ensures items { table.new.items ≡ remove table.old.items i }
+    ensures len { vec_len table.new ≤ vec_len table.old }
+    ensures capacity { vec_capacity table.new ≡ vec_capacity table.old }
+{
+    let Some(mut row) = table.pop() else {
+        unreachable!()
+    };
+    let mut k = table.len();
+    'rows: while k > i {
+        k -= 1;
+        row = replace(&mut table[k], row);
+    }
+    row
+}
+
 /// Takes a datagram out of the table, frees its key's mbuf and joins its fragments.
 #[inline(never)]
 pub(crate) fn take_out(pool: &mut Pool, table: &mut Vec<Datagram>, i: usize) -> Chain
@@ -62,7 +84,7 @@ pub(crate) fn take_out(pool: &mut Pool, table: &mut Vec<Datagram>, i: usize) -> 
         ticks: _,
         fragments,
         bytes: _,
-    } = table.remove(i);
+    } = take_row(table, i);
     pool.free_chain(holder);
     join_all(pool, fragments)
 }

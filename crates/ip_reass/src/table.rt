@@ -230,6 +230,8 @@ impl Reclaim for Reass {
 
     ghost ready_same = { λ p q r h is. ready_same p q r h is };
 
+    // Apart: each place that wants a buffer would have it inlined, and few find none.
+    #[inline(never)]
     fn reclaim(&mut self, pool: &mut Pool) -> u32 {
         let before = self.len();
         free_beyond(pool, &mut self.datagrams, 0);
