@@ -6,15 +6,12 @@ use Rattle.flat_model.specs.Packets.Checksum.{checksum}
 use Rattle.flat_model.specs.Packets.Header.{Head, packet, udp, two_bytes, u16_at, flag}
 use Rattle.flat_model.specs.Scripts.Texts.{hex_text}
 use Rattle.play_line.specs.Line.{column_of}
-use Rattle.play_line.specs.declared.fault.Fault.{Fault}
-use Rattle.play_line.specs.declared.fault.Fault.TheVariants.{NoBytes, NoCount, NoEnd, NoArrow, NoMore, PastEnd, TooLarge}
+use Rattle.play_line.specs.declared.fault.Fault.TheVariants.{NoBytes, PastEnd, TooLarge}
 use Rattle.play_line.specs.declared.fault.Slip.{Slip}
-use Rattle.play_packet.specs.Forms.{formed, misfit_here}
+use Rattle.play_packet.specs.Forms.{misfit, next, form_of, is_named, place_in}
 use Rattle.play_packet.specs.Numbers.{bytes_in}
 use Rattle.play_packet.specs.declared.form.Form.{Form}
 use Rattle.play_packet.specs.declared.form.Misfit.{Misfit}
-use Rattle.play_packet.specs.declared.form.Stage.{Stage}
-use Rattle.play_packet.specs.declared.form.Stage.TheVariants as stage
 use Rattle.play_packet.specs.declared.form.Sum.{Sum}
 use Rattle.play_packet.specs.declared.form.Sum.TheVariants.{Right, Missing, Wrong}
 use Rattle.play_packet.specs.declared.form.Told.{Told}
@@ -83,53 +80,38 @@ packet_of f carried =
 
 -- ---- what can't be built
 
-abbrev pub misfit : Fault → ℕ → Result (List ℕ) Misfit
-misfit fault place = Err (record { fault = fault; place = place })
-
 abbrev pub place_of : Option Told → ℕ
 place_of None = 0
 place_of (Some told) = told.place
 
 -- of a datagram the packet carries what it's told to, or all that is left from its offset on
-abbrev pub cut_of : Form → List ℕ → Result (List ℕ) Misfit
-cut_of f datagram =
+abbrev pub cut_of : Form → ℕ → List ℕ → Result (List ℕ) Misfit
+cut_of f place datagram =
     let left : ℕ = length datagram - value_or 0 f.offset in
     let size : ℕ = value_or left f.size in
     if left == 0 then misfit PastEnd (place_of f.offset)
     else if nat_lt left size then misfit PastEnd (place_of f.size)
-    else if nat_lt IP_MAX_DATA size then misfit TooLarge f.digits_place
+    else if nat_lt IP_MAX_DATA size then misfit TooLarge place
     else Ok (packet_of f (take size (drop (value_or 0 f.offset) datagram)))
 
 -- a datagram has 65,535 bytes at most, 8 of them its header
-abbrev pub built : Form → Option (List ℕ) → Result (List ℕ) Misfit
-built f None = misfit NoBytes f.digits_place
-built f (Some sent) =
-    if nat_lt 65527 (length sent) then misfit TooLarge f.digits_place else cut_of f (datagram_of f sent)
+abbrev pub built : Form → ℕ → Option (List ℕ) → Result (List ℕ) Misfit
+built f place None = misfit NoBytes place
+built f place (Some sent) =
+    if nat_lt 65527 (length sent) then misfit TooLarge place else cut_of f place (datagram_of f sent)
 
 -- ---- the plain line
 
-abbrev pub plain_packet : List ℕ → Result (List ℕ) Misfit → Result (List ℕ) Slip
-plain_packet line (Ok bytes) = Ok (codes "rx " ++ hex_text bytes)
-plain_packet line (Err e) = Err (record { fault = e.fault; column = column_of line e.place })
+-- the packet that the words after `rx udp` name
+abbrev pub packet_in : List ℕ → Result (List ℕ) Misfit
+packet_in text = next (form_of text) (λ t. built t.0 t.1.place (bytes_in (take t.1.len (drop t.1.place text))))
 
--- after all words, at a stage
-abbrev pub named_at : Stage → Form → List ℕ → List ℕ → Result (List ℕ) Slip
-named_at stage.Keyword f line text = Ok text
-named_at stage.Kind f line text = Ok text
-named_at stage.Other f line text = Ok text
-named_at stage.More f line text = plain_packet line (built f (bytes_in f.digits))
-named_at stage.Source f line text = plain_packet line (Err (misfit_here NoEnd f))
-named_at stage.Arrow f line text = plain_packet line (Err (misfit_here NoArrow f))
-named_at stage.Destination f line text = plain_packet line (Err (misfit_here NoEnd f))
-named_at stage.Bytes f line text = plain_packet line (Err (misfit_here NoBytes f))
-named_at stage.Id f line text = plain_packet line (Err (misfit_here NoCount f))
-named_at stage.Ttl f line text = plain_packet line (Err (misfit_here NoCount f))
-named_at stage.Offset f line text = plain_packet line (Err (misfit_here NoCount f))
-named_at stage.Size f line text = plain_packet line (Err (misfit_here NoCount f))
-named_at stage.Last f line text = plain_packet line (Err (misfit_here NoMore f))
-named_at stage.Failed f line text = plain_packet line (Err f.misfit)
+abbrev pub plain_packet : List ℕ → List ℕ → Result (List ℕ) Misfit → Result (List ℕ) Slip
+plain_packet line text (Ok bytes) = Ok (codes "rx " ++ hex_text bytes)
+plain_packet line text (Err e) = Err (record { fault = e.fault; column = column_of line (place_in text e.place) })
 
 -- The plain line for the words of a line, of which `line` is what was written: `rx` with the packet that they name, or
--- the words as they are if they name none; or what is wrong with them, and the column of the word that is.
+-- the words as they are if they name none; or what is wrong with them, and the column of the word that is, or of the
+-- last one if a word is missing.
 abbrev pub named : List ℕ → List ℕ → Result (List ℕ) Slip
-named line text = named_at (formed text).stage (formed text) line text
+named line text = if is_named text then plain_packet line text (packet_in text) else Ok text

@@ -1,34 +1,100 @@
--- What the words of a line say of a packet, word by word (this project's own).
-use Rattle.std.specs.Prelude.{ℕ, ◌%◌, ◌==◌, Bool, true, false, List, [], length, fold, if◌then◌else◌, codes, bytes_eq, nat_lt, Option, Some, None, is_some, Result, Ok, Err}
-use Rattle.flat_model.specs.Machine.Count.{more_by}
-use Rattle.flat_model.specs.Scripts.Grammar.{words}
+-- What the words of a line say of a packet (this project's own).
+--
+-- A word is known by the place of its first byte in the plain line.
+use Rattle.std.specs.Prelude.{ℕ, ◌+◌, ◌%◌, ◌==◌, ◌&&◌, Bool, true, false, List, [], ◌∷◌, zero, suc, length, take, drop, position, if◌then◌else◌, codes, bytes_eq, nat_lt, Option, Some, None, is_some, Result, Ok, Err}
 use Rattle.flat_model.specs.declared.address.Addr.{Addr}
+use Rattle.play_line.specs.Bytes.{place_or_end}
 use Rattle.play_line.specs.declared.fault.Fault.{Fault}
-use Rattle.play_line.specs.declared.fault.Fault.TheVariants.{TooManyBytes, NoArrow, NoId, NoTtl, NoOffset, NoMore, NoSize, UnknownWord, ToldTwice}
+use Rattle.play_line.specs.declared.fault.Fault.TheVariants.{NoEnd, NoArrow, NoBytes, NoCount, NoId, NoTtl, NoOffset, NoMore, NoSize, UnknownWord, ToldTwice}
 use Rattle.play_packet.specs.Ends.{end_in}
 use Rattle.play_packet.specs.Numbers.{number_in}
 use Rattle.play_packet.specs.declared.form.Form.{Form}
+use Rattle.play_packet.specs.declared.form.Mark.{Mark}
+use Rattle.play_packet.specs.declared.form.Mark.TheVariants as mark
 use Rattle.play_packet.specs.declared.form.Misfit.{Misfit}
-use Rattle.play_packet.specs.declared.form.Stage.{Stage}
-use Rattle.play_packet.specs.declared.form.Stage.TheVariants as stage
+use Rattle.play_packet.specs.declared.form.Span.{Span}
 use Rattle.play_packet.specs.declared.form.Sum.{Sum}
 use Rattle.play_packet.specs.declared.form.Sum.TheVariants.{Right, Missing, Wrong}
 use Rattle.play_packet.specs.declared.form.Told.{Told}
-use Rattle.play_packet.specs.declared.form.TheConstants.{MOST_DIGITS}
 
-abbrev pub nowhere : Addr
-nowhere = record { ip = 0; port = 0 }
+abbrev pub misfit : {A : Type 0} → Fault → ℕ → Result A Misfit
+misfit fault place = Err (record { fault = fault; place = place })
 
--- before the first word
-abbrev pub fresh : Form
-fresh = record {
-  stage = stage.Keyword;
-  place = 0;
-  next = 0;
-  source = nowhere;
-  destination = nowhere;
-  digits = [];
-  digits_place = 0;
+-- what is read next, unless something is wrong
+abbrev pub next : {A B : Type 0} → Result A Misfit → (A → Result B Misfit) → Result B Misfit
+next (Ok a) more = more a
+next (Err e) more = Err e
+
+-- ---- words
+
+-- up to the next space
+abbrev pub word_in : List ℕ → List ℕ
+word_in text = take (place_or_end (position (λ byte. byte == 32) text) text) text
+
+-- the word that begins at a place
+unfoldable pub word_at : List ℕ → ℕ → Option (List ℕ)
+word_at text at = if nat_lt (length text) at then None else Some (word_in (drop at text))
+
+-- where the last word begins, after the first `at` bytes and the last place so far
+abbrev pub last_after : ℕ → ℕ → List ℕ → ℕ
+last_after place at [] = place
+last_after place at (byte ∷ bytes) = last_after (if byte == 32 then at + 1 else place) (at + 1) bytes
+
+abbrev pub last_place : List ℕ → ℕ
+last_place text = last_after 0 0 text
+
+-- the place of a word, or of the last one if it's missing
+abbrev pub place_in : List ℕ → ℕ → ℕ
+place_in text at = if nat_lt (length text) at then last_place text else at
+
+abbrev pub with_word : {A : Type 0} → Fault → ℕ → Option (List ℕ) → (List ℕ → ℕ → Result A Misfit)
+    → Result A Misfit
+with_word fault at None more = misfit fault at
+with_word fault at (Some word) more = more word (at + length word + 1)
+
+-- a word, which is taken with the place of the one after it
+abbrev pub needs : {A : Type 0} → Fault → List ℕ → ℕ → (List ℕ → ℕ → Result A Misfit) → Result A Misfit
+needs fault text at more = with_word fault at (word_at text at) more
+
+abbrev pub is_word : List ℕ → Option (List ℕ) → Bool
+is_word sought None = false
+is_word sought (Some word) = bytes_eq word sought
+
+abbrev pub or_misfit : {A : Type 0} → Result A Fault → ℕ → ℕ → Result (A × ℕ) Misfit
+or_misfit (Ok a) at after = Ok (a, after)
+or_misfit (Err fault) at after = misfit fault at
+
+abbrev pub end_at : List ℕ → ℕ → Result (Addr × ℕ) Misfit
+end_at text at = needs NoEnd text at (λ word after. or_misfit (end_in word) at after)
+
+abbrev pub arrow_at : List ℕ → ℕ → Result ℕ Misfit
+arrow_at text at = needs NoArrow text at (λ word after.
+    if bytes_eq word (codes ">") then Ok after else misfit NoArrow at)
+
+-- where the word with the bytes begins, and how long it is
+abbrev pub bytes_at : List ℕ → ℕ → Result (Span × ℕ) Misfit
+bytes_at text at = needs NoBytes text at (λ word after. Ok (record { place = at; len = length word }, after))
+
+abbrev pub told_or : Option ℕ → Fault → ℕ → ℕ → Result (Told × ℕ) Misfit
+told_or (Some value) fault at after = Ok (record { value = value; place = at }, after)
+told_or None fault at after = misfit fault at
+
+abbrev pub number_at : Fault → ℕ → List ℕ → ℕ → Result (Told × ℕ) Misfit
+number_at fault most text at = needs NoCount text at (λ word after. told_or (number_in most word) fault at after)
+
+-- whether more fragments come after it
+abbrev pub more_at : List ℕ → ℕ → Result (Bool × ℕ) Misfit
+more_at text at = needs NoMore text at (λ word after.
+    if bytes_eq word (codes "more") then Ok (true, after) else
+    if bytes_eq word (codes "last") then Ok (false, after) else misfit NoMore at)
+
+-- ---- what more the words may say, each of it once
+
+-- before the first of them
+abbrev pub fresh : Addr → Addr → Form
+fresh source destination = record {
+  source = source;
+  destination = destination;
   id = None;
   ttl = None;
   offset = None;
@@ -37,124 +103,88 @@ fresh = record {
   whole = false;
   bad_sum = false;
   sum = Right;
-  misfit = record { fault = UnknownWord; place = 0 };
 }
 
--- the word in hand is wrong
-abbrev pub misfit_here : Fault → Form → Misfit
-misfit_here fault f = record { fault = fault; place = f.place }
+abbrev pub is_changed : Sum → Bool
+is_changed Right = false
+is_changed Missing = true
+is_changed Wrong = true
 
--- and nothing more is read
-abbrev pub failed : Fault → Form → Form
-failed fault f = record f { stage = stage.Failed; misfit = misfit_here fault f }
+abbrev pub mark_of : List ℕ → Option Mark
+mark_of word =
+    if bytes_eq word (codes "id") then Some mark.Id else
+    if bytes_eq word (codes "ttl") then Some mark.Ttl else
+    if bytes_eq word (codes "at") then Some mark.Offset else
+    if bytes_eq word (codes "size") then Some mark.Size else
+    if bytes_eq word (codes "df") then Some mark.Whole else
+    if bytes_eq word (codes "badsum") then Some mark.BadSum else
+    if bytes_eq word (codes "badudp") then Some mark.BadUdp else
+    if bytes_eq word (codes "nosum") then Some mark.NoSum else None
 
--- the next word has to be this
-abbrev pub at_stage : Stage → Form → Form
-at_stage next f = record f { stage = next }
+-- this was said already
+abbrev pub has : Form → Mark → Bool
+has f mark.Id = is_some f.id
+has f mark.Ttl = is_some f.ttl
+has f mark.Offset = is_some f.offset
+has f mark.Size = is_some f.size
+has f mark.Whole = f.whole
+has f mark.BadSum = f.bad_sum
+has f mark.BadUdp = is_changed f.sum
+has f mark.NoSum = is_changed f.sum
 
--- ---- what every such line begins with
+abbrev pub with_id : Form → List ℕ → ℕ → Result (Form × ℕ) Misfit
+with_id f text at = next (number_at NoId 65535 text at) (λ t. Ok (record f { id = Some t.0.value }, t.1))
 
--- the word is the one that such a line has there, or the line names no packet
-abbrev pub wanted : Bool → Stage → Form → Form
-wanted is_it next f = at_stage (if is_it then next else stage.Other) f
+abbrev pub with_ttl : Form → List ℕ → ℕ → Result (Form × ℕ) Misfit
+with_ttl f text at = next (number_at NoTtl 255 text at) (λ t. Ok (record f { ttl = Some t.0.value }, t.1))
 
-abbrev pub take_source : Result Addr Fault → Form → Form
-take_source (Ok end) f = record f { source = end; stage = stage.Arrow }
-take_source (Err fault) f = failed fault f
-
-abbrev pub take_arrow : List ℕ → Form → Form
-take_arrow word f = if bytes_eq word (codes ">") then at_stage stage.Destination f else failed NoArrow f
-
-abbrev pub take_destination : Result Addr Fault → Form → Form
-take_destination (Ok end) f = record f { destination = end; stage = stage.Bytes }
-take_destination (Err fault) f = failed fault f
-
-abbrev pub take_bytes : List ℕ → Form → Form
-take_bytes word f =
-    if nat_lt MOST_DIGITS (length word) then failed TooManyBytes f
-    else record f { digits = word; digits_place = f.place; stage = stage.More }
-
--- ---- what more it may say, each of it once
-
-abbrev pub number_follows : Bool → Stage → Form → Form
-number_follows told next f = if told then failed ToldTwice f else at_stage next f
-
--- the checksum of the datagram is told
-abbrev pub with_sum : Sum → Sum → Form → Form
-with_sum Right sum f = record f { sum = sum }
-with_sum Missing sum f = failed ToldTwice f
-with_sum Wrong sum f = failed ToldTwice f
-
--- words that say something by themselves
-abbrev pub take_mark : List ℕ → Form → Form
-take_mark word f =
-    if bytes_eq word (codes "df") then (if f.whole then failed ToldTwice f else record f { whole = true }) else
-    if bytes_eq word (codes "badsum") then (if f.bad_sum then failed ToldTwice f else record f { bad_sum = true }) else
-    if bytes_eq word (codes "badudp") then with_sum f.sum Wrong f else
-    if bytes_eq word (codes "nosum") then with_sum f.sum Missing f else
-    failed UnknownWord f
-
-abbrev pub take_more : List ℕ → Form → Form
-take_more word f =
-    if bytes_eq word (codes "id") then number_follows (is_some f.id) stage.Id f else
-    if bytes_eq word (codes "ttl") then number_follows (is_some f.ttl) stage.Ttl f else
-    if bytes_eq word (codes "at") then number_follows (is_some f.offset) stage.Offset f else
-    if bytes_eq word (codes "size") then number_follows (is_some f.size) stage.Size f else
-    take_mark word f
-
--- ---- numbers
-
-abbrev pub take_id : Option ℕ → Form → Form
-take_id (Some value) f = record f { id = Some value; stage = stage.More }
-take_id None f = failed NoId f
-
-abbrev pub take_ttl : Option ℕ → Form → Form
-take_ttl (Some value) f = record f { ttl = Some value; stage = stage.More }
-take_ttl None f = failed NoTtl f
-
--- a number, with the place of its word
-abbrev pub told_here : ℕ → Form → Option Told
-told_here value f = Some (record { value = value; place = f.place })
-
-abbrev pub take_size : Option ℕ → Form → Form
-take_size (Some value) f = record f { size = told_here value f; stage = stage.More }
-take_size None f = failed NoSize f
+abbrev pub with_size : Form → List ℕ → ℕ → Result (Form × ℕ) Misfit
+with_size f text at = next (number_at NoSize 65515 text at) (λ t. Ok (record f { size = Some t.0 }, t.1))
 
 -- where a fragment begins, a multiple of 8
-abbrev pub take_offset : Option ℕ → Form → Form
-take_offset (Some value) f =
-    if value % 8 == 0 then record f { offset = told_here value f; stage = stage.Last } else failed NoOffset f
-take_offset None f = failed NoOffset f
+abbrev pub with_offset : Form → List ℕ → ℕ → Result (Form × ℕ) Misfit
+with_offset f text at = next (number_at NoOffset 65528 text at) (λ t.
+    if t.0.value % 8 == 0
+    then next (more_at text t.1) (λ m. Ok (record f { offset = Some t.0; more = m.0 }, m.1))
+    else misfit NoOffset t.0.place)
 
--- whether more fragments come after it
-abbrev pub take_last : List ℕ → Form → Form
-take_last word f =
-    if bytes_eq word (codes "more") then record f { more = true; stage = stage.More } else
-    if bytes_eq word (codes "last") then at_stage stage.More f else
-    failed NoMore f
+-- after a word that says this, where what belongs to it begins at a place
+abbrev pub with_mark : Form → Mark → List ℕ → ℕ → Result (Form × ℕ) Misfit
+with_mark f mark.Id text at = with_id f text at
+with_mark f mark.Ttl text at = with_ttl f text at
+with_mark f mark.Offset text at = with_offset f text at
+with_mark f mark.Size text at = with_size f text at
+with_mark f mark.Whole text at = Ok (record f { whole = true }, at)
+with_mark f mark.BadSum text at = Ok (record f { bad_sum = true }, at)
+with_mark f mark.BadUdp text at = Ok (record f { sum = Wrong }, at)
+with_mark f mark.NoSum text at = Ok (record f { sum = Missing }, at)
 
--- ---- a line
+abbrev pub marked : Form → Option Mark → List ℕ → ℕ → ℕ → Result (Form × ℕ) Misfit
+marked f None text at after = misfit UnknownWord at
+marked f (Some m) text at after = if has f m then misfit ToldTwice at else with_mark f m text after
 
-abbrev pub step_in : Stage → List ℕ → Form → Form
-step_in stage.Keyword word f = wanted (bytes_eq word (codes "rx")) stage.Kind f
-step_in stage.Kind word f = wanted (bytes_eq word (codes "udp")) stage.Source f
-step_in stage.Source word f = take_source (end_in word) f
-step_in stage.Arrow word f = take_arrow word f
-step_in stage.Destination word f = take_destination (end_in word) f
-step_in stage.Bytes word f = take_bytes word f
-step_in stage.More word f = take_more word f
-step_in stage.Id word f = take_id (number_in 65535 word) f
-step_in stage.Ttl word f = take_ttl (number_in 255 word) f
-step_in stage.Offset word f = take_offset (number_in 65528 word) f
-step_in stage.Last word f = take_last word f
-step_in stage.Size word f = take_size (number_in 65515 word) f
-step_in stage.Other word f = f
-step_in stage.Failed word f = f
+-- after this word at this place, and what belongs to it
+unfoldable pub with_word_at : Form → List ℕ → List ℕ → ℕ → Result (Form × ℕ) Misfit
+with_word_at f word text at = marked f (mark_of word) text at (at + length word + 1)
 
--- the next word
-unfoldable pub feed : Form → List ℕ → Form
-feed f word = step_in f.stage word (record f { place = f.next; next = more_by 1 (more_by (length word) f.next) })
+-- ---- all words
 
--- what all words of a plain line say
-abbrev pub formed : List ℕ → Form
-formed text = fold feed fresh (words text)
+-- what is read of a word, or else this
+abbrev pub if_word : {A : Type 0} → Option (List ℕ) → A → (List ℕ → A) → A
+if_word None other more = other
+if_word (Some word) other more = more word
+
+-- the words from a place on; there are n at most
+abbrev pub marks_after : ℕ → List ℕ → Form → ℕ → Result Form Misfit
+marks_after zero text f at = Ok f
+marks_after (suc n) text f at = if_word (word_at text at) (Ok f) (λ word.
+    next (with_word_at f word text at) (λ t. marks_after n text t.0 t.1))
+
+-- what stands after `rx udp`, and the word of the bytes
+abbrev pub form_of : List ℕ → Result (Form × Span) Misfit
+form_of text = next (end_at text 7) (λ s. next (arrow_at text s.1) (λ a. next (end_at text a) (λ d.
+    next (bytes_at text d.1) (λ b. next (marks_after (length text) text (fresh s.0 d.0) b.1) (λ f. Ok (f, b.0))))))
+
+-- the line names a packet
+abbrev pub is_named : List ℕ → Bool
+is_named text = is_word (codes "rx") (word_at text 0) && is_word (codes "udp") (word_at text 3)

@@ -8,7 +8,7 @@ ghost use Rattle.play_packet.specs.Builds as builds;
 ghost use Rattle.play_packet.specs.Numbers.{bytes_in as bytes_of_word};
 ghost use Rattle.play_packet.specs.Reads.{put_or};
 
-use crate::form::{Form, Misfit, Sum, Told};
+use crate::form::{Form, Misfit, Sum, Told, refuse};
 use crate::numbers::bytes_in;
 use byteorder::{BigEndian, ByteOrder};
 use flat_model::fold;
@@ -317,27 +317,26 @@ impl Builder {
         );
     }
 
-    /// Cuts the datagram in the second buffer as the line says, and puts the packet there.
-    fn cut(&mut self, form: &Form) -> Result<(), Misfit>
+    /// Cuts the datagram in the second buffer as the line says, and puts the packet there. The bytes stand at a place.
+    fn cut(&mut self, form: &Form, place: usize) -> Result<(), Misfit>
         requires least { 8 ≤ length self.old.second }
         requires most { length self.old.second ≤ 65535 }
-        ensures is { put_or result self.new.second ≡ builds.cut_of form.now self.old.second }
+        ensures is { put_or result self.new.second ≡ builds.cut_of form.now place self.old.second }
         ensures most { length self.new.second ≤ 65535 }
     {
         let offset = value_or(0, form.offset);
         let left = self.second.len().saturating_sub(offset);
         let size = value_or(left, form.size);
-        let (fault, place) = if left == 0 {
-            (Fault::PastEnd, place_of(form.offset))
+        if left == 0 {
+            refuse(Fault::PastEnd, place_of(form.offset))
         } else if left < size {
-            (Fault::PastEnd, place_of(form.size))
+            refuse(Fault::PastEnd, place_of(form.size))
         } else if (IP_MAX_DATA as usize) < size {
-            (Fault::TooLarge, form.digits_place)
+            refuse(Fault::TooLarge, place)
         } else {
             self.put_carrying(form, offset, size);
-            return Ok(());
-        };
-        Err(Misfit { fault, place })
+            Ok(())
+        }
     }
 
     /// Puts the plain line of the packet in the second buffer in the place of some words.
@@ -351,25 +350,32 @@ impl Builder {
         put_hex(words, &mut buffers.digits, self.second.as_slice());
     }
 
-    /// Builds the packet of a line in the second buffer.
-    pub(crate) fn build(&mut self, form: &Form) -> Result<(), Misfit>
-        ensures is { put_or result self.new.second ≡ builds.built form.now (bytes_of_word form.now.digits) }
+    /// Builds the packet of a form in the second buffer. The digits of its bytes stand at a place.
+    fn build_form(&mut self, form: &Form, place: usize, digits: &[u8]) -> Result<(), Misfit>
+        ensures is { put_or result self.new.second ≡ builds.built form.now place (bytes_of_word digits.now) }
         ensures most { OnOk result (length self.new.second ≤ 65535) }
     {
-        let place = form.digits_place;
-        let Some(sent) = bytes_in(form.digits.as_slice(), &mut self.buffers.bytes) else {
-            return Err(Misfit {
-                fault: Fault::NoBytes,
-                place,
-            });
+        let Some(sent) = bytes_in(digits, &mut self.buffers.bytes) else {
+            return refuse(Fault::NoBytes, place);
         };
         if 65_527 < sent {
-            return Err(Misfit {
-                fault: Fault::TooLarge,
-                place,
-            });
+            return refuse(Fault::TooLarge, place);
         }
         self.put_datagram(form, sent);
-        self.cut(form)
+        self.cut(form, place)
+    }
+
+    /// Builds the packet that the words after `rx udp` name in the second buffer.
+    pub(crate) fn build(&mut self, text: &[u8]) -> Result<(), Misfit>
+        ensures is { put_or result self.new.second ≡ builds.packet_in text.now }
+        ensures most { OnOk result (length self.new.second ≤ 65535) }
+    {
+        match Form::read(text) {
+            Ok((form, span)) => {
+                let (_, rest) = text.split_at(span.place);
+                self.build_form(&form, span.place, &rest[..span.len])
+            }
+            Err(e) => Err(e),
+        }
     }
 }

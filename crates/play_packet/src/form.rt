@@ -1,50 +1,12 @@
-//! What the words of a line say of a packet, word by word.
-ghost use Rattle.std.specs.Prelude.{◌≡◌, ◌≤◌, IfSome};
-ghost use Rattle.play_packet.specs.Ends.{end_in as end_of_word};
+//! What the words of a line say of a packet.
+ghost use Rattle.std.specs.Prelude.{◌≡◌, ◌≤◌, ◌+◌, length, IfOk, option_map};
 ghost use Rattle.play_packet.specs.Forms as forms;
 
 use crate::ends::end_in;
 use crate::numbers::number_in;
+use crate::words::{is_word, word_at};
 use flat_model::Addr;
 use play_line::Fault;
-use script_loop::{Buffer, first_word};
-use std::alloc::{AllocError, Global};
-
-/// The most hexadecimal digits that the bytes of a packet have.
-pub(crate) const MOST_DIGITS: usize = 131_070;
-
-/// What the next word has to be.
-#[derive(Clone, Copy)]
-pub(crate) enum Stage {
-    /// `rx`.
-    Keyword,
-    /// `udp`.
-    Kind,
-    /// The end that the datagram comes from.
-    Source,
-    /// `>`.
-    Arrow,
-    /// The end that it goes to.
-    Destination,
-    /// The bytes that were sent.
-    Bytes,
-    /// A word that says more of the packet. The line may end here.
-    More,
-    /// The number after `id`.
-    Id,
-    /// The one after `ttl`.
-    Ttl,
-    /// The one after `at`.
-    Offset,
-    /// `more` or `last`.
-    Last,
-    /// The number after `size`.
-    Size,
-    /// Any word: the line names no packet.
-    Other,
-    /// None: a word was wrong.
-    Failed,
-}
 
 /// The checksum of a datagram.
 #[derive(Clone, Copy)]
@@ -57,11 +19,31 @@ pub(crate) enum Sum {
     Wrong,
 }
 
-/// A number that a word writes, and the place where the word begins.
+/// What a word after the bytes says of the packet.
+#[derive(Clone, Copy)]
+enum Mark {
+    Id,
+    Ttl,
+    Offset,
+    Size,
+    Whole,
+    BadSum,
+    BadUdp,
+    NoSum,
+}
+
+/// A number that was told, and the place where its word begins.
 #[derive(Clone, Copy)]
 pub(crate) struct Told {
     pub(crate) value: u32,
     pub(crate) place: usize,
+}
+
+/// A word: the place where it begins, and how many bytes it has.
+#[derive(Clone, Copy)]
+pub(crate) struct Span {
+    pub(crate) place: usize,
+    pub(crate) len: usize,
 }
 
 /// What is wrong, and the place of the word that is.
@@ -71,21 +53,12 @@ pub(crate) struct Misfit {
     pub(crate) place: usize,
 }
 
-/// What the words so far say.
-#[derive(Drop)]
+/// What the words say.
+#[derive(Clone, Copy)]
 pub(crate) struct Form {
-    /// What the next word has to be.
-    pub(crate) stage: Stage,
-    /// Where the word in hand begins.
-    pub(crate) place: usize,
-    /// Where the next one begins.
-    pub(crate) next: usize,
     /// Where the datagram comes from, and where it goes to.
     pub(crate) source: Addr,
     pub(crate) destination: Addr,
-    /// The digits of the bytes that were sent, and where they begin.
-    pub(crate) digits: Buffer<MOST_DIGITS>,
-    pub(crate) digits_place: usize,
     /// The identification.
     pub(crate) id: Option<u16>,
     /// The time to live.
@@ -101,30 +74,144 @@ pub(crate) struct Form {
     pub(crate) bad_sum: bool,
     /// The datagram's checksum.
     pub(crate) sum: Sum,
-    /// What is wrong, if a word is.
-    pub(crate) misfit: Misfit,
 }
 
-/// An address that stands for none.
-const NOWHERE: Addr = Addr { ip: 0, port: 0 };
+/// That something is wrong with the word at a place.
+pub(crate) fn refuse<T>(fault: Fault, place: usize) -> Result<T, Misfit>
+    ensures { result ≡ forms.misfit fault place }
+{
+    Err(Misfit { fault, place })
+}
 
-/// Before any word was wrong.
-const NOTHING: Misfit = Misfit {
-    fault: Fault::UnknownWord,
-    place: 0,
-};
+/// Whether a line names a packet.
+pub(crate) fn is_named(text: &[u8]) -> bool
+    ensures { result ≡ forms.is_named text.now }
+{
+    is_word(b"rx".as_slice(), word_at(text, 0)) && is_word(b"udp".as_slice(), word_at(text, 3))
+}
+
+/// An end of the datagram, and the place after it.
+fn end_at(text: &[u8], at: usize) -> Result<(Addr, usize), Misfit>
+    ensures { result ≡ forms.end_at text.now at }
+{
+    let Some(word) = word_at(text, at) else {
+        return refuse(Fault::NoEnd, at);
+    };
+    match end_in(word) {
+        Ok(end) => Ok((end, at + word.len() + 1)),
+        Err(fault) => refuse(fault, at),
+    }
+}
+
+/// The place after the arrow between both ends.
+fn arrow_at(text: &[u8], at: usize) -> Result<usize, Misfit>
+    ensures { result ≡ forms.arrow_at text.now at }
+{
+    match word_at(text, at) {
+        Some(word) if word == b">".as_slice() => Ok(at + word.len() + 1),
+        _ => refuse(Fault::NoArrow, at),
+    }
+}
+
+/// The word of the bytes, and the place after it.
+fn bytes_at(text: &[u8], at: usize) -> Result<(Span, usize), Misfit>
+    ensures is { result ≡ forms.bytes_at text.now at }
+    ensures inside { IfOk result (λ t. t.0.place + t.0.len ≤ length text.now) }
+{
+    match word_at(text, at) {
+        Some(word) => Ok((
+            Span {
+                place: at,
+                len: word.len(),
+            },
+            at + word.len() + 1,
+        )),
+        None => refuse(Fault::NoBytes, at),
+    }
+}
+
+/// A number of at most `most`, and the place after it.
+fn number_at(fault: Fault, most: u32, text: &[u8], at: usize) -> Result<(Told, usize), Misfit>
+    requires { most ≤ 65535 }
+    ensures is { result ≡ forms.number_at fault most text.now at }
+    ensures most { IfOk result (λ t. t.0.value ≤ most) }
+{
+    let Some(word) = word_at(text, at) else {
+        return refuse(Fault::NoCount, at);
+    };
+    match number_in(word, most) {
+        Some(value) => Ok((Told { value, place: at }, at + word.len() + 1)),
+        None => refuse(fault, at),
+    }
+}
+
+/// Whether more fragments come after it, and the place after that word.
+fn more_at(text: &[u8], at: usize) -> Result<(bool, usize), Misfit>
+    ensures { result ≡ forms.more_at text.now at }
+{
+    let Some(word) = word_at(text, at) else {
+        return refuse(Fault::NoMore, at);
+    };
+    if word == b"more".as_slice() {
+        Ok((true, at + word.len() + 1))
+    } else if word == b"last".as_slice() {
+        Ok((false, at + word.len() + 1))
+    } else {
+        refuse(Fault::NoMore, at)
+    }
+}
+
+/// What a word says.
+fn mark_of(word: &[u8]) -> Option<Mark>
+    ensures { result ≡ forms.mark_of word.now }
+{
+    if word == b"id".as_slice() {
+        return Some(Mark::Id);
+    }
+    if word == b"ttl".as_slice() {
+        return Some(Mark::Ttl);
+    }
+    if word == b"at".as_slice() {
+        return Some(Mark::Offset);
+    }
+    if word == b"size".as_slice() {
+        return Some(Mark::Size);
+    }
+    if word == b"df".as_slice() {
+        return Some(Mark::Whole);
+    }
+    if word == b"badsum".as_slice() {
+        return Some(Mark::BadSum);
+    }
+    if word == b"badudp".as_slice() {
+        return Some(Mark::BadUdp);
+    }
+    if word == b"nosum".as_slice() {
+        return Some(Mark::NoSum);
+    }
+    None
+}
+
+impl Sum {
+    /// Whether it isn't the right one.
+    fn is_changed(self) -> bool
+        ensures { result ≡ forms.is_changed self }
+    {
+        match self {
+            Sum::Right => false,
+            Sum::Missing | Sum::Wrong => true,
+        }
+    }
+}
 
 impl Form {
-    /// A form with its memory.
-    pub(crate) fn new(alloc: Global) -> Result<Form, AllocError> {
-        Ok(Form {
-            stage: Stage::Keyword,
-            place: 0,
-            next: 0,
-            source: NOWHERE,
-            destination: NOWHERE,
-            digits: Buffer::new(alloc)?,
-            digits_place: 0,
+    /// Before the words after the bytes.
+    fn fresh(source: Addr, destination: Addr) -> Form
+        ensures { result ≡ forms.fresh source destination }
+    {
+        Form {
+            source,
+            destination,
             id: None,
             ttl: None,
             offset: None,
@@ -133,297 +220,159 @@ impl Form {
             whole: false,
             bad_sum: false,
             sum: Sum::Right,
-            misfit: NOTHING,
-        })
-    }
-
-    /// Forgets what was read.
-    fn clear(&mut self)
-        ensures { self.new ≡ forms.fresh }
-    {
-        self.stage = Stage::Keyword;
-        self.place = 0;
-        self.next = 0;
-        self.source = NOWHERE;
-        self.destination = NOWHERE;
-        self.digits.clear();
-        self.digits_place = 0;
-        self.id = None;
-        self.ttl = None;
-        self.offset = None;
-        self.size = None;
-        self.more = false;
-        self.whole = false;
-        self.bad_sum = false;
-        self.sum = Sum::Right;
-        self.misfit = NOTHING;
-    }
-
-    /// That the word in hand is wrong.
-    pub(crate) fn misfit_here(&self, fault: Fault) -> Misfit
-        ensures { result ≡ forms.misfit_here fault self.now }
-    {
-        Misfit {
-            fault,
-            place: self.place,
         }
     }
 
-    /// Reads nothing more.
-    fn fail(&mut self, fault: Fault)
-        ensures { self.new ≡ forms.failed fault self.old }
+    /// Whether this was said already.
+    fn has(self, mark: Mark) -> bool
+        ensures { result ≡ forms.has self mark }
     {
-        self.stage = Stage::Failed;
-        self.misfit = self.misfit_here(fault);
-    }
-
-    /// The word has to be this one.
-    fn want_word(&mut self, is_it: bool, stage: Stage)
-        ensures { self.new ≡ forms.wanted is_it stage self.old }
-    {
-        self.stage = if is_it { stage } else { Stage::Other };
-    }
-
-    /// The end that the datagram comes from.
-    fn take_source(&mut self, word: &[u8])
-        ensures { self.new ≡ forms.take_source (end_of_word word.now) self.old }
-    {
-        match end_in(word) {
-            Ok(end) => {
-                self.source = end;
-                self.stage = Stage::Arrow;
-            }
-            Err(fault) => self.fail(fault),
+        match mark {
+            Mark::Id => self.id.is_some(),
+            Mark::Ttl => self.ttl.is_some(),
+            Mark::Offset => self.offset.is_some(),
+            Mark::Size => self.size.is_some(),
+            Mark::Whole => self.whole,
+            Mark::BadSum => self.bad_sum,
+            Mark::BadUdp | Mark::NoSum => self.sum.is_changed(),
         }
-    }
-
-    /// The arrow between both.
-    fn take_arrow(&mut self, word: &[u8])
-        ensures { self.new ≡ forms.take_arrow word.now self.old }
-    {
-        if word == b">".as_slice() {
-            self.stage = Stage::Destination;
-        } else {
-            self.fail(Fault::NoArrow);
-        }
-    }
-
-    /// The end that it goes to.
-    fn take_destination(&mut self, word: &[u8])
-        ensures { self.new ≡ forms.take_destination (end_of_word word.now) self.old }
-    {
-        match end_in(word) {
-            Ok(end) => {
-                self.destination = end;
-                self.stage = Stage::Bytes;
-            }
-            Err(fault) => self.fail(fault),
-        }
-    }
-
-    /// The bytes.
-    fn take_bytes(&mut self, word: &[u8])
-        ensures { self.new ≡ forms.take_bytes word.now self.old }
-    {
-        if MOST_DIGITS < word.len() {
-            self.fail(Fault::TooManyBytes);
-        } else {
-            self.digits.clear();
-            self.digits.append(word);
-            self.digits_place = self.place;
-            self.stage = Stage::More;
-        }
-    }
-
-    /// A word that a number follows, which may have been told already.
-    fn number_follows(&mut self, told: bool, stage: Stage)
-        ensures { self.new ≡ forms.number_follows told stage self.old }
-    {
-        if told {
-            self.fail(Fault::ToldTwice);
-        } else {
-            self.stage = stage;
-        }
-    }
-
-    /// A word about the checksum of the datagram.
-    fn with_sum(&mut self, sum: Sum)
-        ensures { self.new ≡ forms.with_sum self.old.sum sum self.old }
-    {
-        match self.sum {
-            Sum::Right => self.sum = sum,
-            Sum::Missing | Sum::Wrong => self.fail(Fault::ToldTwice),
-        }
-    }
-
-    /// A word that says something by itself.
-    fn take_mark(&mut self, word: &[u8])
-        ensures { self.new ≡ forms.take_mark word.now self.old }
-    {
-        if word == b"df".as_slice() {
-            if self.whole {
-                self.fail(Fault::ToldTwice);
-            } else {
-                self.whole = true;
-            }
-        } else if word == b"badsum".as_slice() {
-            if self.bad_sum {
-                self.fail(Fault::ToldTwice);
-            } else {
-                self.bad_sum = true;
-            }
-        } else if word == b"badudp".as_slice() {
-            self.with_sum(Sum::Wrong);
-        } else if word == b"nosum".as_slice() {
-            self.with_sum(Sum::Missing);
-        } else {
-            self.fail(Fault::UnknownWord);
-        }
-    }
-
-    /// A word that says more of the packet.
-    fn take_more(&mut self, word: &[u8])
-        ensures { self.new ≡ forms.take_more word.now self.old }
-    {
-        let (id, ttl, offset, size) = (self.id, self.ttl, self.offset, self.size);
-        if word == b"id".as_slice() {
-            self.number_follows(id.is_some(), Stage::Id);
-        } else if word == b"ttl".as_slice() {
-            self.number_follows(ttl.is_some(), Stage::Ttl);
-        } else if word == b"at".as_slice() {
-            self.number_follows(offset.is_some(), Stage::Offset);
-        } else if word == b"size".as_slice() {
-            self.number_follows(size.is_some(), Stage::Size);
-        } else {
-            self.take_mark(word);
-        }
-    }
-
-    /// What a number says, with the place of its word.
-    fn told_here(&self, value: u32) -> Option<Told>
-        ensures { result ≡ forms.told_here value self.now }
-    {
-        Some(Told {
-            value,
-            place: self.place,
-        })
     }
 
     /// The number after `id`.
-    fn take_id(&mut self, number: Option<u32>)
-        requires { IfSome number (λ n. n ≤ 65535) }
-        ensures { self.new ≡ forms.take_id number self.old }
+    fn with_id(self, text: &[u8], at: usize) -> Result<(Form, usize), Misfit>
+        ensures { result ≡ forms.with_id self text.now at }
     {
-        match number {
-            Some(value) => {
-                self.id = Some(value as u16);
-                self.stage = Stage::More;
-            }
-            None => self.fail(Fault::NoId),
-        }
+        let (id, after) = number_at(Fault::NoId, 65_535, text, at)?;
+        let id = Some(id.value as u16);
+        Ok((Form { id, ..self }, after))
     }
 
     /// The number after `ttl`.
-    fn take_ttl(&mut self, number: Option<u32>)
-        requires { IfSome number (λ n. n ≤ 255) }
-        ensures { self.new ≡ forms.take_ttl number self.old }
+    fn with_ttl(self, text: &[u8], at: usize) -> Result<(Form, usize), Misfit>
+        ensures { result ≡ forms.with_ttl self text.now at }
     {
-        match number {
-            Some(value) => {
-                self.ttl = Some(value as u8);
-                self.stage = Stage::More;
-            }
-            None => self.fail(Fault::NoTtl),
-        }
+        let (ttl, after) = number_at(Fault::NoTtl, 255, text, at)?;
+        let ttl = Some(ttl.value as u8);
+        Ok((Form { ttl, ..self }, after))
     }
 
     /// The number after `size`.
-    fn take_size(&mut self, number: Option<u32>)
-        ensures { self.new ≡ forms.take_size number self.old }
+    fn with_size(self, text: &[u8], at: usize) -> Result<(Form, usize), Misfit>
+        ensures { result ≡ forms.with_size self text.now at }
     {
-        match number {
-            Some(value) => {
-                self.size = self.told_here(value);
-                self.stage = Stage::More;
-            }
-            None => self.fail(Fault::NoSize),
+        let (size, after) = number_at(Fault::NoSize, 65_515, text, at)?;
+        let size = Some(size);
+        Ok((Form { size, ..self }, after))
+    }
+
+    /// The number after `at`, and whether more fragments come.
+    fn with_offset(self, text: &[u8], at: usize) -> Result<(Form, usize), Misfit>
+        ensures { result ≡ forms.with_offset self text.now at }
+    {
+        let (offset, after) = number_at(Fault::NoOffset, 65_528, text, at)?;
+        if offset.value % 8 != 0 {
+            return refuse(Fault::NoOffset, offset.place);
+        }
+        let (more, after) = more_at(text, after)?;
+        let offset = Some(offset);
+        Ok((
+            Form {
+                offset,
+                more,
+                ..self
+            },
+            after,
+        ))
+    }
+
+    /// After a word that says this. What belongs to it begins at a place.
+    fn with_mark(self, mark: Mark, text: &[u8], at: usize) -> Result<(Form, usize), Misfit>
+        ensures { result ≡ forms.with_mark self mark text.now at }
+    {
+        match mark {
+            Mark::Id => self.with_id(text, at),
+            Mark::Ttl => self.with_ttl(text, at),
+            Mark::Offset => self.with_offset(text, at),
+            Mark::Size => self.with_size(text, at),
+            Mark::Whole => Ok((
+                Form {
+                    whole: true,
+                    ..self
+                },
+                at,
+            )),
+            Mark::BadSum => Ok((
+                Form {
+                    bad_sum: true,
+                    ..self
+                },
+                at,
+            )),
+            Mark::BadUdp => Ok((
+                Form {
+                    sum: Sum::Wrong,
+                    ..self
+                },
+                at,
+            )),
+            Mark::NoSum => Ok((
+                Form {
+                    sum: Sum::Missing,
+                    ..self
+                },
+                at,
+            )),
         }
     }
 
-    /// The number after `at`.
-    fn take_offset(&mut self, number: Option<u32>)
-        ensures { self.new ≡ forms.take_offset number self.old }
+    /// After one more word, which begins at this place, and what belongs to it.
+    #[tactic(auto, unfolding(crate::specs::Forms::with_word_at))]
+    fn with_word(self, word: &[u8], text: &[u8], at: usize) -> Result<(Form, usize), Misfit>
+        requires { at + length word.now ≤ length text.now }
+        ensures { result ≡ forms.with_word_at self word.now text.now at }
     {
-        match number {
-            Some(value) => {
-                if value % 8 == 0 {
-                    self.offset = self.told_here(value);
-                    self.stage = Stage::Last;
-                } else {
-                    self.fail(Fault::NoOffset);
+        let Some(mark) = mark_of(word) else {
+            return refuse(Fault::UnknownWord, at);
+        };
+        if self.has(mark) {
+            return refuse(Fault::ToldTwice, at);
+        }
+        self.with_mark(mark, text, at + word.len() + 1)
+    }
+
+    /// After the words from a place on.
+    fn with_marks(self, text: &[u8], at: usize) -> Result<Form, Misfit>
+        ensures { result ≡ forms.marks_after (length text.now) text.now self at }
+    {
+        let mut form = self;
+        let mut place = at;
+        let mut rounds = text.len();
+        while rounds > 0 {
+            let Some(word) = word_at(text, place) else {
+                return Ok(form);
+            };
+            match form.with_word(word, text, place) {
+                Ok((next, after)) => {
+                    form = next;
+                    place = after;
                 }
+                Err(e) => return Err(e),
             }
-            None => self.fail(Fault::NoOffset),
+            rounds -= 1;
         }
+        Ok(form)
     }
 
-    /// `more` or `last`.
-    fn take_last(&mut self, word: &[u8])
-        ensures { self.new ≡ forms.take_last word.now self.old }
+    /// What stands after `rx udp`, and the word of the bytes.
+    pub(crate) fn read(text: &[u8]) -> Result<(Form, Span), Misfit>
+        ensures is { result ≡ forms.form_of text.now }
+        ensures inside { IfOk result (λ t. t.1.place + t.1.len ≤ length text.now) }
     {
-        if word == b"more".as_slice() {
-            self.more = true;
-            self.stage = Stage::More;
-        } else if word == b"last".as_slice() {
-            self.stage = Stage::More;
-        } else {
-            self.fail(Fault::NoMore);
-        }
-    }
-
-    /// Reads a word at the stage at hand.
-    fn step(&mut self, word: &[u8])
-        ensures { self.new ≡ forms.step_in self.old.stage word.now self.old }
-    {
-        match self.stage {
-            Stage::Keyword => self.want_word(word == b"rx".as_slice(), Stage::Kind),
-            Stage::Kind => self.want_word(word == b"udp".as_slice(), Stage::Source),
-            Stage::Source => self.take_source(word),
-            Stage::Arrow => self.take_arrow(word),
-            Stage::Destination => self.take_destination(word),
-            Stage::Bytes => self.take_bytes(word),
-            Stage::More => self.take_more(word),
-            Stage::Id => self.take_id(number_in(word, 65_535)),
-            Stage::Ttl => self.take_ttl(number_in(word, 255)),
-            Stage::Offset => self.take_offset(number_in(word, 65_528)),
-            Stage::Last => self.take_last(word),
-            Stage::Size => self.take_size(number_in(word, 65_515)),
-            Stage::Other | Stage::Failed => {}
-        }
-    }
-
-    /// Reads a word.
-    fn feed(&mut self, word: &[u8])
-        ensures { self.new ≡ forms.feed self.old word.now }
-    {
-        self.place = self.next;
-        self.next = self.next.saturating_add(word.len()).saturating_add(1);
-        self.step(word);
-    }
-
-    /// Reads all words of a line.
-    pub(crate) fn read(&mut self, text: &[u8])
-        ensures { self.new ≡ forms.formed text.now }
-    {
-        self.clear();
-        let mut left = text;
-        'words: loop {
-            let (word, more) = first_word(left);
-            self.feed(word);
-            match more {
-                Some(more) => left = more,
-                None => return,
-            }
-        }
+        let (source, at) = end_at(text, 7)?;
+        let at = arrow_at(text, at)?;
+        let (destination, at) = end_at(text, at)?;
+        let (bytes, at) = bytes_at(text, at)?;
+        let form = Form::fresh(source, destination).with_marks(text, at)?;
+        Ok((form, bytes))
     }
 }

@@ -8,6 +8,7 @@ mod form;
 mod laws;
 mod numbers;
 mod reader;
+mod words;
 
 pub use laws::wrong_sum_law;
 pub use reader::LineReader;

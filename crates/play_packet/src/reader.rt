@@ -5,8 +5,9 @@ ghost use Rattle.play_packet.specs.Builds.{named};
 ghost use Rattle.play_packet.specs.Reads.{put_or};
 
 use crate::build::Builder;
-use crate::form::{Form, Stage};
-use play_line::{Fault, LONGEST, Reader, Slip};
+use crate::form::is_named;
+use crate::words::place_in;
+use play_line::{LONGEST, Reader, Slip};
 use script_loop::Buffer;
 use std::alloc::{AllocError, Global};
 
@@ -14,7 +15,6 @@ use std::alloc::{AllocError, Global};
 #[derive(Drop)]
 pub struct LineReader {
     reader: Reader,
-    form: Form,
     builder: Builder,
 }
 
@@ -27,7 +27,6 @@ impl LineReader {
     pub fn new(alloc: Global) -> Result<LineReader, AllocError> {
         Ok(LineReader {
             reader: Reader::new(alloc)?,
-            form: Form::new(alloc)?,
             builder: Builder::new(alloc)?,
         })
     }
@@ -55,28 +54,20 @@ impl LineReader {
         ensures is { put_or result words.new ≡ named line.now words.old }
         ensures kept { IfErr result (λ slip. words.new ≡ words.old) }
     {
-        self.form.read(words.as_slice());
-        let misfit = match self.form.stage {
-            Stage::Keyword | Stage::Kind | Stage::Other => return Ok(()),
-            Stage::More => match self.builder.build(&self.form) {
-                Ok(()) => {
-                    self.builder.put_line(words);
-                    return Ok(());
-                }
-                Err(misfit) => misfit,
-            },
-            Stage::Source | Stage::Destination => self.form.misfit_here(Fault::NoEnd),
-            Stage::Arrow => self.form.misfit_here(Fault::NoArrow),
-            Stage::Bytes => self.form.misfit_here(Fault::NoBytes),
-            Stage::Id | Stage::Ttl | Stage::Offset | Stage::Size => {
-                self.form.misfit_here(Fault::NoCount)
+        if !is_named(words.as_slice()) {
+            return Ok(());
+        }
+        match self.builder.build(words.as_slice()) {
+            Ok(()) => {
+                self.builder.put_line(words);
+                Ok(())
             }
-            Stage::Last => self.form.misfit_here(Fault::NoMore),
-            Stage::Failed => self.form.misfit,
-        };
-        Err(Slip {
-            fault: misfit.fault,
-            column: self.reader.column_of(line, misfit.place),
-        })
+            Err(misfit) => Err(Slip {
+                fault: misfit.fault,
+                column: self
+                    .reader
+                    .column_of(line, place_in(words.as_slice(), misfit.place)),
+            }),
+        }
     }
 }
