@@ -1,5 +1,6 @@
 -- Edits of lists, and entries without their first bytes.
-use Rattle.std.proofs.Common.{◌≡◌, ℕ, zero, suc, ◌-◌, ◌<◌, List, [], ◌∷◌, ◌++◌, length, map, filter_map, get_or, set, take, drop, insert, remove, refl, ap, subst, arith}
+use Rattle.std.proofs.Common.{◌≡◌, ℕ, zero, suc, ◌-◌, ◌<◌, List, [], ◌∷◌, ◌++◌, length, map, filter_map, get_or, set, take, drop, insert, remove, swap, refl, sym, ap, ◌∙◌, arith}
+use Rattle.std.proofs.lemmas.List.{get_or_push, length_push, take_at}
 use Rattle.std.specs.List.{cons_option}
 use Rattle.mbuf_chain.specs.Chain.{Entry}
 use Rattle.chain_ops.specs.Trims.{without_first}
@@ -22,26 +23,39 @@ module _ {X : Type 0} where
   drop-remove (x ∷ xs) zero l = refl
   drop-remove (x ∷ xs) (suc i) l = drop-remove xs i (omega arith)
 
-  set_back : (xs : List X) (i : ℕ) (d : X) → suc i < length xs
-      → set (remove xs (suc i)) i (get_or xs (suc i) d) ≡ remove xs i
-  set_back [] i d l = absurd (omega arith)
-  set_back (x ∷ []) zero d l = absurd (omega arith)
-  set_back (x ∷ y ∷ xs) zero d l = refl
-  set_back (x ∷ xs) (suc i) d l = ap (λ (zs : List X). x ∷ zs) (set_back xs i d (omega arith))
+  moved : (xs : List X) (i : ℕ) (x d e : X) → i < length xs
+      → set (set (insert xs i x) i (get_or (insert xs i x) (suc i) d)) (suc i) (get_or (insert xs i x) i e)
+      ≡ insert xs (suc i) x
+  moved [] i x d e l = absurd (omega arith)
+  moved (z ∷ xs) zero x d e l = refl
+  moved (z ∷ xs) (suc i) x d e l = ap (λ (zs : List X). z ∷ zs) (moved xs i x d e (omega arith))
 
-  -- an element that was taken out goes into the place in front of its own
-  pub set-remove : (xs : List X) (i : ℕ) (d : X) → 0 < i → i < length xs
-      → set (remove xs i) (i - 1) (get_or xs i d) ≡ remove xs (i - 1)
-  set-remove xs zero d some l = absurd (omega arith)
-  set-remove xs (suc i) d some l =
-      let here : i ≡ suc i - 1 = omega arith in
-      subst (λ (j : ℕ). set (remove xs (suc i)) j (get_or xs (suc i) d) ≡ remove xs j) here (set_back xs i d l)
+  -- an element that was put in changes places with the next
+  pub swap-insert : (xs : List X) (i : ℕ) (x : X) → i < length xs
+      → swap (insert xs i x) i (suc i) ≡ insert xs (suc i) x
+  swap-insert [] i x l = absurd (omega arith)
+  swap-insert (z ∷ xs) zero x l = refl
+  swap-insert (z ∷ xs) (suc i) x l = ap (λ (zs : List X). z ∷ zs) (moved xs i x z z (omega arith))
 
-  pub remove_last : (xs : List X) (y : X) (i : ℕ) → length xs ≡ i → remove (xs ++ y ∷ []) i ≡ xs
-  remove_last [] y zero e = refl
-  remove_last [] y (suc i) e = absurd (omega arith)
-  remove_last (x ∷ xs) y zero e = absurd (omega arith)
-  remove_last (x ∷ xs) y (suc i) e = ap (λ (zs : List X). x ∷ zs) (remove_last xs y i (omega arith))
+  pub insert_end : (xs : List X) (i : ℕ) (x : X) → i ≡ length xs → insert xs i x ≡ xs ++ x ∷ []
+  insert_end [] zero x e = refl
+  insert_end [] (suc i) x e = absurd (omega arith)
+  insert_end (z ∷ xs) zero x e = absurd (omega arith)
+  insert_end (z ∷ xs) (suc i) x e = ap (λ (zs : List X). z ∷ zs) (insert_end xs i x (omega arith))
+
+  pub insert_back : (xs : List X) (i : ℕ) (d : X) → i < length xs → insert (remove xs i) i (get_or xs i d) ≡ xs
+  insert_back [] i d l = absurd (omega arith)
+  insert_back (x ∷ xs) zero d l = refl
+  insert_back (x ∷ xs) (suc i) d l = ap (λ (zs : List X). x ∷ zs) (insert_back xs i d (omega arith))
+
+  pub last_same : (xs ys : List X) (x y : X) → xs ++ x ∷ [] ≡ ys ++ y ∷ [] → (xs ≡ ys) × (x ≡ y)
+  last_same xs ys x y e =
+      let n = length xs in
+      let same : length ys ≡ n =
+      omega (arith, ap (λ (zs : List X). length zs) e, length_push xs x, length_push ys y) in (
+        sym (take_at xs (x ∷ []) n refl) ∙ ap (take n) e ∙ take_at ys (y ∷ []) n same,
+        sym (get_or_push xs x x n refl) ∙ ap (λ (zs : List X). get_or zs n x) e ∙ get_or_push ys y x n same,
+      )
 
   pub map-remove : {Y : Type 0} (f : X → Y) (xs : List X) (i : ℕ) → map f (remove xs i) ≡ remove (map f xs) i
   map-remove f [] zero = refl

@@ -1,5 +1,5 @@
 //! A fragment laid among those of its datagram, and the datagram taken out where it is whole.
-ghost use Rattle.std.specs.Prelude.{◌≡◌, ℕ, ◌+◌, ◌<◌, ◌≤◌, ◌∷◌, ◌++◌, true, count_by, get_or, length, remove, vec_capacity, vec_len};
+ghost use Rattle.std.specs.Prelude.{◌≡◌, ℕ, ◌+◌, ◌<◌, ◌≤◌, ◌∷◌, ◌++◌, [], true, count_by, get_or, length, remove, vec_capacity, vec_len};
 ghost use Rattle.flat_model.specs.Machine.State.{State, is_key};
 ghost use Rattle.flat_model.specs.Amounts.Weight.{Weight};
 ghost use Rattle.flat_model.specs.Machine.Ledger.{exact_ledger};
@@ -22,7 +22,6 @@ use flat_model::{Counter, Counters, Why};
 use ip_out::IpHead;
 use mbuf_chain::{Chain, Pool};
 use params::{IP_HEADER, IP_MAX_DATA};
-use std::mem::replace;
 
 /// Lays a fragment among those of the datagram at a place.
 #[inline(always)]
@@ -47,9 +46,22 @@ pub(crate) fn lay_in(
     lay(pool, datagram, chain, span)
 }
 
-/// Takes a row out of the table. Those after it move down by one, the last first.
-// By `Vec::remove`, whose loop for many rows is unrolled, it took 4 KB of code.
+/// Brings a row of the table to its end. Those after it move down by one.
+// Apart: it's mostly the last already. `Vec::remove`, whose loop for many rows is unrolled, took 4 KB of code.
 #[inline(never)]
+fn bring_to_end(rows: &mut [Datagram], i: usize)
+    requires { i < length rows.old }
+    ensures { (d : Datagram) → rows.new ≡ remove rows.old i ++ get_or rows.old i d ∷ [] }
+{
+    let mut k = i;
+    'rows: while k + 1 < rows.len() {
+        rows.swap(k, k + 1);
+        k += 1;
+    }
+}
+
+/// Takes a row out of the table. Those after it move down by one.
+#[inline(always)]
 fn take_row(table: &mut Vec<Datagram>, i: usize) -> Datagram
     requires { i < length table.old.items }
     ensures value { result ≡ get_or table.old.items i result }
@@ -57,15 +69,11 @@ fn take_row(table: &mut Vec<Datagram>, i: usize) -> Datagram
     ensures len { vec_len table.new ≤ vec_len table.old }
     ensures capacity { vec_capacity table.new ≡ vec_capacity table.old }
 {
-    let Some(mut row) = table.pop() else {
-        unreachable!()
-    };
-    let mut k = table.len();
-    'rows: while k > i {
-        k -= 1;
-        row = replace(&mut table[k], row);
+    bring_to_end(table.as_mut_slice(), i);
+    match table.pop() {
+        Some(row) => row,
+        None => unreachable!(),
     }
-    row
 }
 
 /// Takes a datagram out of the table, frees its key's mbuf and joins its fragments.
