@@ -1,6 +1,9 @@
 -- The table of neighbours, a tick later.
-use Rattle.std.proofs.Common.{◌≡◌, ℕ, ◌≤◌, Bool, true, false, cond, List, [], ◌∷◌, ◌++◌, ◌+◌, length, map, take, drop, zero, suc, refl, sym, ap, ◌∙◌, arith, length-take, min, get_or, ◌<◌, Some}
+use Rattle.std.proofs.Common.{◌≡◌, ℕ, ◌≤◌, Bool, true, false, cond, List, [], ◌∷◌, ◌++◌, ◌+◌, length, map, take, drop, zero, suc, refl, sym, ap, ◌∙◌, ◌-◌, arith, length-drop, length-take, min, get_or, ◌<◌, Some}
 use Rattle.std.specs.Prelude.{filter, is_some, remove, slice_get}
+use Rattle.std.specs.List.{copy_within}
+use Rattle.std.proofs.lemmas.List.{take_all, take_at}
+use Rattle.std.proofs.lemmas.List.Edits.{length-remove}
 use Rattle.flat_ether.specs.Links.{aged, has_hope, place_of, stays}
 use Rattle.flat_ether.specs.declared.neighbour.Neighbour.{Neighbour}
 use Rattle.ether_host.specs.Buffers.{has_hope_in, held_in}
@@ -74,3 +77,16 @@ kept_all ns [] zero h = refl
 kept_all ns [] (suc i) h = refl
 kept_all ns (p ∷ ps) zero h = absurd (omega arith)
 kept_all ns (p ∷ ps) (suc i) h = ap (λ xs. p ∷ xs) (kept_all ns ps i (omega arith))
+
+-- those behind a place copied down by one, and the last cut off
+pub moved_down : (ps : List PacketBuffer) (i n : ℕ) → i < length ps → n ≡ length ps
+    → take (n - 1) (copy_within ps (i + 1) n i) ≡ remove ps i
+moved_down ps i n l e =
+    let m = n - (i + 1) in
+    let whole : take m (drop (i + 1) ps) ≡ drop (i + 1) ps =
+    take_all m (drop (i + 1) ps) (omega (arith, length-drop (i + 1) ps)) in
+    let one : i + 1 ≡ suc i = omega arith in
+    let all : take i ps ++ take m (drop (i + 1) ps) ≡ remove ps i =
+    ap (λ zs. take i ps ++ zs) (whole ∙ ap (λ k. drop k ps) one) in
+    ap (λ zs. take (n - 1) (zs ++ drop (i + m) ps)) all
+    ∙ take_at (remove ps i) (drop (i + m) ps) (n - 1) (omega (arith, length-remove ps i l))

@@ -1,5 +1,5 @@
 //! A packet in memory of its own.
-ghost use Rattle.std.specs.Prelude.{◌≡◌, ◌≤◌, length, take};
+ghost use Rattle.std.specs.Prelude.{◌≡◌, ◌+◌, ◌<◌, ◌≤◌, length, remove, take, vec_capacity, vec_len};
 ghost use Rattle.flat_ether.specs.declared.sizes.TheConstants.{ETHER_MTU};
 
 use crate::bytes::put_bytes;
@@ -47,4 +47,16 @@ impl PacketBuffer {
     {
         &self.room[..self.len]
     }
+}
+
+/// Drops the packet at a place. Those after it move down from place to place: `Vec::remove` would take the packet onto
+/// the call stack, where it has 1.5 KB.
+pub(crate) fn drop_at(held: &mut Vec<PacketBuffer>, at: usize)
+    requires { at < length held.old.items }
+    ensures items { held.new.items ≡ remove held.old.items at }
+    ensures len { vec_len held.new + 1 ≡ vec_len held.old }
+    ensures capacity { vec_capacity held.new ≡ vec_capacity held.old }
+{
+    held.copy_within(at + 1.., at);
+    held.truncate(held.len() - 1);
 }

@@ -8,7 +8,7 @@ ghost use Rattle.flat_ether.specs.Links.{first_ready, gives_answer, gives_claim,
 ghost use Rattle.ether_host.specs.Fronts.{front};
 ghost use Rattle.ether_host.specs.Buffers.{held_in};
 
-use crate::buffer::PacketBuffer;
+use crate::buffer::{PacketBuffer, drop_at};
 use crate::bytes::put_bytes;
 use crate::frames::{ARP, BODY, arp_bytes, put_frame};
 use crate::layer::LinkLayer;
@@ -128,7 +128,7 @@ impl LinkLayer {
         let bytes = buffer.bytes();
         let len = bytes.len();
         put_body(room, bytes);
-        self.held.remove(at);
+        drop_at(&mut self.held, at);
         Some(self.framed(room, mac, len))
     }
 

@@ -7,7 +7,7 @@ ghost use Rattle.flat_ether.specs.Links.{asks, holds, sends, route_of};
 ghost use Rattle.ether_host.specs.Buffers.{held_in};
 ghost use Rattle.ether_host.specs.Fronts.{front};
 
-use crate::buffer::{PacketBuffer, ROOM};
+use crate::buffer::{PacketBuffer, ROOM, drop_at};
 use crate::bytes::u32_at;
 use crate::frames::{BODY, put_frame};
 use crate::layer::LinkLayer;
@@ -43,7 +43,7 @@ impl LinkLayer {
             return;
         }
         if self.held.len() >= HELD_PACKETS {
-            self.held.remove(0);
+            drop_at(&mut self.held, 0);
             self.tallies.held_dropped = self.tallies.held_dropped.saturating_add(1);
         }
         put_packet(&mut self.held, hop, packet);

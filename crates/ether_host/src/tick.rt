@@ -3,7 +3,7 @@ ghost use Rattle.std.specs.Prelude.{◌≡◌, ◌≤◌, filter, length, map, v
 ghost use Rattle.flat_ether.specs.Links.{aged, stays, ticks};
 ghost use Rattle.ether_host.specs.Buffers.{has_hope_in};
 
-use crate::buffer::PacketBuffer;
+use crate::buffer::{PacketBuffer, drop_at};
 use crate::layer::LinkLayer;
 use crate::table::place_of;
 use arrayvec::ArrayVec;
@@ -49,7 +49,7 @@ fn keep(held: &mut Vec<PacketBuffer>, neighbours: &[Neighbour])
         if place_of(neighbours, held[at].hop).is_some() {
             at += 1;
         } else {
-            held.remove(at);
+            drop_at(held, at);
         }
     }
 }

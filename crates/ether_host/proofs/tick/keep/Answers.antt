@@ -15,9 +15,9 @@ walk-preserved c =
       kept =
           c.walk.invariant.kept ∙ kept_off c.args.neighbours.now ps c.walk.at c.index.result.now here c.index.ensures
           hopeless
-          ∙ ap (λ (xs : List PacketBuffer). kept_from c.args.neighbours.now xs c.walk.at) (sym c.remove.ensures.items);
-      within = omega (arith, here, c.remove.ensures.len, c.walk.held.ok.0, c.remove.new.self.ok.0);
-      room = c.remove.ensures.capacity ∙ c.walk.invariant.room;
+          ∙ ap (λ (xs : List PacketBuffer). kept_from c.args.neighbours.now xs c.walk.at) (sym c.drop_at.ensures.items);
+      within = omega (arith, here, c.drop_at.ensures.len, c.walk.held.ok.0, c.drop_at.new.held.ok.0);
+      room = c.drop_at.ensures.capacity ∙ c.walk.invariant.room;
     }
 
 pub returns-clause-kept : goal.returns-clause-kept

@@ -19,8 +19,8 @@ returns-clause-link c =
     (sym c.as_slice-2.ensures.value) ∙ sym c.first_ready.ensures.is ∙ c.in_ok-at.was in
     let long : length c.as_slice-2.result.now ≡ length ps = ap length c.as_slice-2.ensures.value in
     let within : c.in_ok-at.at < length ps = omega (arith, c.in_ok-at.ensures.within) in
-    let left : map held_in c.remove.new.self.items ≡ _ =
-    ap (map held_in) c.remove.ensures.items ∙ held_remove ps c.in_ok-at.at in
+    let left : map held_in c.drop_at.new.held.items ≡ _ =
+    ap (map held_in) c.drop_at.ensures.items ∙ held_remove ps c.in_ok-at.at in
     ap (λ (hs : List Held). record s { held = hs }) left
     ∙ sym (ap (λ (g : Gives). g.1)
     (held_given s ps c.in_ok-at.at c.in_ok-at.mac c.index-buffer.result.now refl found within c.index-buffer.ensures))
