@@ -1,9 +1,8 @@
 //! The packet that the words of a line name.
-ghost use Rattle.std.specs.Prelude.{◌≡◌, ◌≤◌, ◌<◌, ◌+◌, ◌++◌, length, take, drop, codes, Some, IfSome, OnOk};
+ghost use Rattle.std.specs.Prelude.{◌≡◌, ◌≤◌, ◌<◌, ◌+◌, ◌++◌, length, take, drop, Some, IfSome, OnOk};
 ghost use Rattle.params.specs.declared.TheConstants.{IP_MAX_DATA};
 ghost use Rattle.flat_model.specs.Packets.Checksum.{checksum as checksum_of};
 ghost use Rattle.flat_model.specs.Packets.Header as header;
-ghost use Rattle.flat_model.specs.Scripts.Texts.{hex_text};
 ghost use Rattle.play_packet.specs.Builds as builds;
 ghost use Rattle.play_packet.specs.Numbers.{bytes_in as bytes_of_word};
 ghost use Rattle.play_packet.specs.Reads.{put_or};
@@ -12,13 +11,16 @@ use crate::form::{Form, Misfit, Sum, Told, refuse};
 use crate::numbers::bytes_in;
 use byteorder::{BigEndian, ByteOrder};
 use flat_model::fold;
-use params::{IP_DEFAULT_TTL, IP_HEADER, IP_MAX_DATA, PROTOCOL_UDP, UDP_HEADER};
-use play_line::{Fault, LONGEST};
-use script_loop::{Buffer, LineBuffers, put_hex};
+use params::{IP_DEFAULT_TTL, IP_HEADER, IP_MAX_DATA, IP_MAX_PACKET, PROTOCOL_UDP, UDP_HEADER};
+use play_line::Fault;
+use script_loop::{Buffer, LineBuffers};
 use std::alloc::{AllocError, Global};
 
 /// Room for a packet, and for what the checksum of the longest datagram covers.
 const ROOM: usize = 65_600;
+
+/// The bytes of the longest packet.
+pub const PACKET: usize = IP_MAX_PACKET as usize;
 
 /// The identification of a packet of which none is told.
 const DEFAULT_ID: u16 = 1;
@@ -339,15 +341,13 @@ impl Builder {
         }
     }
 
-    /// Puts the plain line of the packet in the second buffer in the place of some words.
-    pub(crate) fn put_line(&mut self, words: &mut Buffer<LONGEST>)
-        requires { length self.old.second ≤ 65535 }
-        ensures { words.new ≡ codes "rx " ++ hex_text self.old.second }
+    /// Puts the packet in the second buffer into another one.
+    pub(crate) fn put_built(&self, packet: &mut Buffer<PACKET>)
+        requires { length self.now.second ≤ PACKET }
+        ensures { packet.new ≡ self.now.second }
     {
-        let buffers = &mut self.buffers;
-        words.clear();
-        words.append(b"rx ");
-        put_hex(words, &mut buffers.digits, self.second.as_slice());
+        packet.clear();
+        packet.append(self.second.as_slice());
     }
 
     /// Builds the packet of a form in the second buffer. The digits of its bytes stand at a place.

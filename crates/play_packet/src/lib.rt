@@ -1,5 +1,5 @@
-//! Packets by name: a line that tells a UDP datagram, or a part of it, in words, as the plain line `rx` with the
-//! packet's bytes. A reader answers that plain line, or what is wrong with the words and in which column.
+//! Packets by name: a line that tells a UDP datagram, or a part of it, in words. A reader puts its bytes into a buffer,
+//! or answers what is wrong with the words and in which column.
 #![tactic(auto)]
 
 mod build;
@@ -10,5 +10,6 @@ mod numbers;
 mod reader;
 mod words;
 
+pub use build::PACKET;
 pub use laws::wrong_sum_law;
 pub use reader::LineReader;

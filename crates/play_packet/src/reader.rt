@@ -1,13 +1,13 @@
 //! What reads a line, whether it names a packet or not.
-ghost use Rattle.std.specs.Prelude.{◌≡◌, ◌≤◌, length, IfErr};
+ghost use Rattle.std.specs.Prelude.{◌≡◌};
 ghost use Rattle.play_line.specs.Line.{expanded, now_or, IsShort};
 ghost use Rattle.play_packet.specs.Builds.{named};
-ghost use Rattle.play_packet.specs.Reads.{put_or};
+ghost use Rattle.play_packet.specs.Reads.{plain_or};
 
-use crate::build::Builder;
+use crate::build::{Builder, PACKET};
 use crate::form::is_named;
 use crate::words::place_in;
-use play_line::{LONGEST, Reader, Slip};
+use play_line::{Reader, Slip};
 use script_loop::Buffer;
 use std::alloc::{AllocError, Global};
 
@@ -44,29 +44,31 @@ impl LineReader {
         self.reader.plain_line(line)
     }
 
-    /// Puts `rx` and the digits of a packet in the place of the words that name it. `words` are those of the plain line
-    /// that `line` stands for. They stay as they are if they name no packet.
+    /// Puts the packet that some words name into a buffer, and answers whether they name one. The words are those of
+    /// the plain line that `line` stands for. If they name none, they ask for what they say.
     ///
     /// # Errors
     ///
-    /// What is wrong with the words, and in which column of `line`. The words stay then too.
-    pub fn put_packet(&mut self, line: &[u8], words: &mut Buffer<LONGEST>) -> Result<(), Slip>
-        ensures is { put_or result words.new ≡ named line.now words.old }
-        ensures kept { IfErr result (λ slip. words.new ≡ words.old) }
+    /// What is wrong with the words, and in which column of `line`.
+    pub fn put_packet(
+        &mut self,
+        line: &[u8],
+        words: &[u8],
+        packet: &mut Buffer<PACKET>,
+    ) -> Result<bool, Slip>
+        ensures { plain_or words.now result packet.new ≡ named line.now words.now }
     {
-        if !is_named(words.as_slice()) {
-            return Ok(());
+        if !is_named(words) {
+            return Ok(false);
         }
-        match self.builder.build(words.as_slice()) {
+        match self.builder.build(words) {
             Ok(()) => {
-                self.builder.put_line(words);
-                Ok(())
+                self.builder.put_built(packet);
+                Ok(true)
             }
             Err(misfit) => Err(Slip {
                 fault: misfit.fault,
-                column: self
-                    .reader
-                    .column_of(line, place_in(words.as_slice(), misfit.place)),
+                column: self.reader.column_of(line, place_in(words, misfit.place)),
             }),
         }
     }

@@ -1,23 +1,27 @@
 -- What is told of a plain line, by what it asks for.
-use Rattle.std.proofs.Common.{◌≡◌, ℕ, ◌&&◌, Bool, false, List, codes, Option, Some, None, inl, inr, refl, sym, ap, ◌∙◌, subst}
+use Rattle.std.proofs.Common.{◌≡◌, ℕ, ◌&&◌, Bool, true, false, List, ◌++◌, codes, if◌then◌else◌, Option, Some, None, inl, inr, refl, sym, ap, ◌∙◌, subst}
 use Rattle.flat_model.specs.Machine.Event.{Event, Reply}
 use Rattle.flat_model.specs.Machine.State.{State}
 use Rattle.play_text.specs.Forms.{is_quiet}
 use Rattle.play_text.specs.Texts.{fault_text}
-use Rattle.play_read.specs.Asks.{Ask, AsksFor, Settings}
+use Rattle.std.proofs.lemmas.Bool.{false≢true}
+use Rattle.flat_model.specs.Scripts.Texts.{hex_text}
+use Rattle.play_read.specs.Asks.{Ask, AsksFor, Settings, Writes}
 use Rattle.flat_model.specs.Scripts.Grammar.{words}
 use Rattle.play_script.specs.Inside.{IsTold, IsToldAs}
 use Rattle.play_script.specs.Lines.{Reading, Asks, reading}
 use Rattle.play_script.specs.Plays.{CapturedView, captured_of}
 use Rattle.play_script.specs.Tells.{Play, Tells, TellsAsk, TellsAsked, TellsReading, TellsSettings, is_sound, next_line, stays_head, told_text}
+use Rattle.play_script.specs.Views.{plain_of}
+use Rattle.play_script.specs.declared.line.Line.{Line}
 use Rattle.play_script.specs.declared.tell.Told.{Told}
 use Rattle.play_script.specs.declared.tell.Told.TheVariants as told
 
 -- a line that asks for this
 pub Ask-tells : (step : State → Event → Reply → State → Type 0) (has : List ℕ → List ℕ → Type 0) (now new : Play)
-    (shown plain line : List ℕ)
-    (wanted : Option (List ℕ)) (ask : Ask) (text below : List ℕ) (after : CapturedView) (quiet : Bool) → line ≡ plain
-    → quiet ≡ is_quiet now.form → AsksFor line (Some ask)
+    (shown plain : List ℕ)
+    (wanted : Option (List ℕ)) (ask : Ask) (text below : List ℕ) (after : CapturedView) (quiet : Bool)
+    → quiet ≡ is_quiet now.form → AsksFor plain (Some ask)
     → TellsAsk step has quiet ask (captured_of now.machine now.traced now.number) text below after
     → new ≡ record now {
       machine = after.machine;
@@ -26,9 +30,9 @@ pub Ask-tells : (step : State → Event → Reply → State → Type 0) (has : L
       sound = now.sound && is_sound wanted text;
     }
     → TellsAsked step has now shown plain wanted (told_text now.form now.name now.number shown wanted text below) new
-Ask-tells step has now new shown plain line wanted ask text below after quiet same loud asks tells is = (
+Ask-tells step has now new shown plain wanted ask text below after quiet loud asks tells is = (
   Some ask,
-  subst (λ (t : List ℕ). AsksFor t (Some ask)) same asks,
+  asks,
   inl (
     after,
     text,
@@ -42,30 +46,41 @@ Ask-tells step has now new shown plain line wanted ask text below after quiet sa
 
 -- a line that asks for nothing
 pub None-tells : (step : State → Event → Reply → State → Type 0) (has : List ℕ → List ℕ → Type 0) (now new : Play)
-    (shown plain line : List ℕ)
-    (wanted : Option (List ℕ)) (after : CapturedView) → line ≡ plain → AsksFor line None
+    (shown plain : List ℕ)
+    (wanted : Option (List ℕ)) (after : CapturedView) → AsksFor plain None
     → after ≡ captured_of now.machine now.traced now.number
     → new ≡ record now { machine = after.machine; traced = after.traced; sound = false }
     → TellsAsked step has now shown plain wanted
     (fault_text now.form now.name now.number (codes "this asks for nothing")) new
-None-tells step has now new shown plain line wanted after same none kept is = (
+None-tells step has now new shown plain wanted after none kept is = (
   None,
-  subst (λ (t : List ℕ). AsksFor t None) same none,
+  none,
   (refl, is ∙ ap (λ (s : CapturedView). record now { machine = s.machine; traced = s.traced; sound = false }) kept),
 )
+
+-- a line of settings names no packet
+words_if : (b : Bool) (packet plain : List ℕ) (named : List (List ℕ))
+    → Writes (if b then codes "rx " ++ hex_text packet else plain) (Settings named)
+    → plain ≡ (if b then codes "rx " ++ hex_text packet else plain)
+words_if true packet plain named h = absurd (false≢true h.0)
+words_if false packet plain named h = refl
+
+pub settings_words : (line : Line) (ask : Ask) (named : List (List ℕ)) → AsksFor (plain_of line) (Some ask)
+    → ask ≡ Settings named → line.words ≡ plain_of line
+settings_words line ask named asks is =
+    words_if line.named line.packet line.words named (subst (λ (a : Ask). Writes (plain_of line) a) is asks)
 
 -- a line of settings
 pub Settings-tell : (step : State → Event → Reply → State → Type 0) (has : List ℕ → List ℕ → Type 0)
     (now mid new : Play) (shown plain line text : List ℕ)
     (wanted : Option (List ℕ)) (named : List (List ℕ)) (ask : Ask) (after : CapturedView) → line ≡ plain
-    → AsksFor line (Some ask) → ask ≡ Settings named
+    → AsksFor plain (Some ask) → ask ≡ Settings named
     → after ≡ captured_of now.machine now.traced now.number
     → mid ≡ record now { machine = after.machine; traced = after.traced }
-    → TellsSettings mid shown (words plain) wanted text new → TellsAsked step has now shown plain wanted text new
+    → TellsSettings mid shown (words line) wanted text new → TellsAsked step has now shown plain wanted text new
 Settings-tell step has now mid new shown plain line text wanted named ask after same asks is kept begun said =
     let here : AsksFor plain (Some (Settings named)) =
-    subst (λ (t : List ℕ). AsksFor t (Some (Settings named))) same (subst (λ (a : Ask). AsksFor line (Some a)) is asks)
-    in
+    subst (λ (a : Ask). AsksFor plain (Some a)) is asks in
     let unchanged : mid ≡ now =
     begun ∙ ap (λ (s : CapturedView). record now { machine = s.machine; traced = s.traced }) kept in (
       Some (Settings named),
@@ -74,7 +89,8 @@ Settings-tell step has now mid new shown plain line text wanted named ask after 
         named,
         refl,
         subst (λ (m : Play). TellsSettings m shown named wanted text new) unchanged
-            (subst (λ (ws : List (List ℕ)). TellsSettings mid shown ws wanted text new) (sym here.1) said),
+            (subst (λ (ws : List (List ℕ)). TellsSettings mid shown ws wanted text new)
+            (ap words same ∙ sym here.1) said),
       ),
     )
 

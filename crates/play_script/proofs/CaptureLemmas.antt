@@ -3,13 +3,18 @@ use Rattle.std.proofs.Common.{◌≡◌, ℕ, zero, suc, ◌+◌, ◌*◌, ◌-�
 use Rattle.std.proofs.KnownBytes.{Appends-nil}
 use Rattle.std.proofs.lemmas.List.{map-append}
 use Rattle.std.proofs.lemmas.List.Concat.{flat_map-append}
-use Rattle.flat_model.specs.Machine.Event.{Reply, Comes, Transmit, Tick}
+use Rattle.flat_model.specs.Machine.Event.{Event, Reply, Tick}
 use Rattle.flat_model.specs.Runs.Run.{Turn}
 use Rattle.pcap.specs.Records.{Captured, record_bytes}
 use Rattle.pcap.specs.declared.header.Order.TheVariants.{Little}
 use Rattle.play_pcap.specs.Traces.{Keeps, Pass, SentAfter, Traced, later, pass_at, pass_bytes, passes_bytes, record_of}
-use Rattle.play_script.specs.Deeds.{turns_of}
-use Rattle.play_script.specs.Captures.{Captures, all_passes, given, pass_if, passes, ticks_after, turn_of}
+use Rattle.play_script.proofs.DeedLemmas.{ticks_move}
+use Rattle.play_script.specs.Deeds.{moved_in, turns_of}
+use Rattle.play_script.specs.Captures.{Captures, Notes, after_ticks, all_passes, later_by, moved_by, pass_if, passes, tick_in, ticks_after, turn_of}
+use Rattle.play_script.specs.Inside.{events_of, ticks_of}
+use Rattle.play_script.specs.declared.deed.Deed.{Deed}
+use Rattle.play_script.specs.declared.deed.Deed.TheVariants.{Call, Ticks}
+use Rattle.request.specs.Requests.{event_of}
 
 -- ---- what is written
 
@@ -31,58 +36,56 @@ Keeps-one old new p h = subst (λ (bytes : List ℕ). Keeps old new bytes) (sym 
 
 -- ---- ticks
 
-same_but_ticks : (old new : Traced) → new.ticks ≡ later old.ticks → new.whole ≡ old.whole → new.wrote ≡ old.wrote
-    → new ≡ record old { ticks = later old.ticks }
-same_but_ticks old new t w b = rw (sym t, sym w, sym b) refl
-
-pub Captures-no_ticks : (number n : ℕ) (t : Traced) (reply : Reply) → n ≤ 0
-    → Captures number t (turns_of (replicate n Tick) reply) t
-Captures-no_ticks number zero t reply none = (Keeps-none t, refl)
-Captures-no_ticks number (suc n) t reply none = absurd (omega (arith, none))
+pub after-none : (n : ℕ) (t : Traced) → n ≤ 0 → after_ticks n t ≡ t
+after-none zero t none = refl
+after-none (suc n) t none = absurd (omega (arith, none))
 
 -- a tick in front of others
-pub Captures-ticks : (number n m : ℕ) (old mid new : Traced) (reply : Reply) → 0 < n → m ≡ n - 1
-    → mid.ticks ≡ later old.ticks → mid.whole ≡ old.whole → mid.wrote ≡ old.wrote
-    → Captures number mid (turns_of (replicate m Tick) reply) new
-    → Captures number old (turns_of (replicate n Tick) reply) new
-Captures-ticks number zero m old mid new reply some is t w b h = absurd (omega arith)
-Captures-ticks number (suc n) m old mid new reply some is t w b h =
-    let less : m ≡ n = omega arith in
-    let front : Captures number mid (turns_of (replicate n Tick) reply) new =
-    subst (λ (k : ℕ). Captures number mid (turns_of (replicate k Tick) reply) new) less h in
-    subst (λ (s : Traced). Captures number s (turns_of (replicate n Tick) reply) new) (same_but_ticks old mid t w b)
-    front
+pub after-tick : (n m : ℕ) (old new : Traced) → 0 < n → m ≡ n - 1
+    → new.ticks ≡ later old.ticks → new.whole ≡ old.whole → new.wrote ≡ old.wrote
+    → after_ticks m new ≡ after_ticks n old
+after-tick zero m old new some is t w b = absurd (omega (arith, some))
+after-tick (suc n) m old new some is t w b =
+    let less : m ≡ n = omega arith in rw (less, t, w, b) refl
+
+-- after a packet
+pub Notes-ticks : (number n : ℕ) (old mid new : Traced) (moved : Option (List ℕ)) → Notes number old moved 0 mid
+    → new ≡ after_ticks n mid → Notes number old moved n new
+Notes-ticks number n old mid new moved h is =
+    subst (λ (t : Traced). Notes number old moved n t) (sym is) (h.0, ap (λ (t : ℕ). later_by n t) h.1)
+
+ticks_pass : (number n t : ℕ) (reply : Reply) → passes number t (turns_of (replicate n Tick) reply) ≡ []
+ticks_pass number zero t reply = refl
+ticks_pass number (suc n) t reply = ticks_pass number n (later t) reply
+
+ticks_later : (n t : ℕ) (reply : Reply) → later_by n t ≡ ticks_after t (turns_of (replicate n Tick) reply)
+ticks_later zero t reply = refl
+ticks_later (suc n) t reply = ticks_later n (later t) reply
 
 -- ---- a line
 
--- a tick alone
-pub Captures-tick : (number : ℕ) (old new : Traced) (reply : Reply) → new.ticks ≡ later old.ticks
-    → new.whole ≡ old.whole → new.wrote ≡ old.wrote
-    → Captures number old (turn_of Tick reply ∷ []) new
-Captures-tick number old new reply t w b =
-    subst (λ (s : Traced). Captures number old (turn_of Tick reply ∷ []) s) (sym (same_but_ticks old new t w b))
-    (Keeps-none old, refl)
-
--- a packet that comes, and one that the link takes
-pub Captures-comes : (number : ℕ) (old new : Traced) (packet : List ℕ) (reply : Reply)
-    → Keeps old new (pass_bytes (pass_at old.ticks number packet)) → new.ticks ≡ old.ticks
-    → Captures number old (turn_of (Comes packet) reply ∷ []) new
-Captures-comes number old new packet reply h t = (Keeps-one old new (pass_at old.ticks number packet) h, t)
-
-pub Captures-given : (number : ℕ) (old new : Traced) (packet : List ℕ) (reply : Reply) → given reply ≡ Some packet
-    → Keeps old new (pass_bytes (pass_at old.ticks number packet)) → new.ticks ≡ old.ticks
-    → Captures number old (turn_of Transmit reply ∷ []) new
-Captures-given number old new packet reply is h t = (
-  subst (λ (m : Option (List ℕ)). Keeps old new (passes_bytes (pass_if old.ticks number m ++ []))) (sym is)
-      (Keeps-one old new (pass_at old.ticks number packet) h),
-  t,
+-- one event
+pub Captures-one : (number : ℕ) (old new : Traced) (event : Event) (reply : Reply) (moved : Option (List ℕ)) (n : ℕ)
+    → moved ≡ moved_by event reply → n ≡ tick_in event → Notes number old moved n new
+    → Captures number old (turn_of event reply ∷ []) new
+Captures-one number old new event reply moved n is ticks h = (
+  subst (λ (ps : List Pass). Keeps old new (passes_bytes ps))
+      (sym (append-nil (pass_if old.ticks number (moved_by event reply))))
+      (subst (λ (m : Option (List ℕ)). Keeps old new (passes_bytes (pass_if old.ticks number m))) is h.0),
+  subst (λ (k : ℕ). new.ticks ≡ later_by k old.ticks) ticks h.1,
 )
 
-pub Captures-not_given : (number : ℕ) (t : Traced) (reply : Reply) → given reply ≡ None
-    → Captures number t (turn_of Transmit reply ∷ []) t
-Captures-not_given number t reply is = (
-  subst (λ (m : Option (List ℕ)). Keeps t t (passes_bytes (pass_if t.ticks number m ++ []))) (sym is) (Keeps-none t),
-  refl,
+-- what a line has a machine do
+pub Captures-deed : (number : ℕ) (old new : Traced) (deed : Deed) (reply : Reply) (moved : Option (List ℕ)) (n : ℕ)
+    → moved ≡ moved_in (events_of deed) reply → n ≡ ticks_of deed → Notes number old moved n new
+    → Captures number old (turns_of (events_of deed) reply) new
+Captures-deed number old new (Call request) reply moved n is ticks h =
+    Captures-one number old new (event_of request) reply moved n is ticks h
+Captures-deed number old new (Ticks count) reply moved n is ticks h = (
+  subst (λ (ps : List Pass). Keeps old new (passes_bytes ps)) (sym (ticks_pass number count old.ticks reply))
+      (subst (λ (m : Option (List ℕ)). Keeps old new (passes_bytes (pass_if old.ticks number m)))
+      (is ∙ ticks_move count reply) h.0),
+  subst (λ (k : ℕ). new.ticks ≡ later_by k old.ticks) ticks h.1 ∙ ticks_later count old.ticks reply,
 )
 
 -- ---- lines one after another

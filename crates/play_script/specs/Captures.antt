@@ -1,5 +1,5 @@
 -- What a run adds to a capture: the packets that come and go, in their order (this project's own).
-use Rattle.std.specs.Prelude.{◌≡◌, ℕ, List, [], ◌∷◌, ◌++◌, Option, Some, None}
+use Rattle.std.specs.Prelude.{◌≡◌, ℕ, zero, suc, List, [], ◌∷◌, ◌++◌, Option, Some, None}
 use Rattle.flat_model.specs.Machine.Count.{more_by}
 use Rattle.flat_model.specs.Machine.Event.{Event, Reply, Comes, Transmit, Tick, Given}
 use Rattle.flat_model.specs.Runs.Run.{Turn}
@@ -20,14 +20,30 @@ moved_by (Comes packet) reply = Some packet
 moved_by Transmit reply = given reply
 moved_by event reply = None
 
--- how many ticks have passed after an event
+-- how many ticks an event is
+abbrev pub tick_in : Event → ℕ
+tick_in Tick = 1
+tick_in event = 0
+
+-- how many have passed after so many more
+abbrev pub later_by : ℕ → ℕ → ℕ
+later_by zero ticks = ticks
+later_by (suc n) ticks = later_by n (later ticks)
+
+abbrev pub after_ticks : ℕ → Traced → Traced
+after_ticks n t = record t { ticks = later_by n t.ticks }
+
 abbrev pub ticks_by : Event → ℕ → ℕ
-ticks_by Tick ticks = later ticks
-ticks_by event ticks = ticks
+ticks_by event ticks = later_by (tick_in event) ticks
 
 abbrev pub pass_if : ℕ → ℕ → Option (List ℕ) → List Pass
 pass_if ticks number None = []
 pass_if ticks number (Some packet) = pass_at ticks number packet ∷ []
+
+-- what a capture has after the packet that moves, if one does, and so many ticks
+abbrev pub Notes : ℕ → Traced → Option (List ℕ) → ℕ → Traced → Type 0
+Notes number old moved n new =
+    Keeps old new (passes_bytes (pass_if old.ticks number moved)) × (new.ticks ≡ later_by n old.ticks)
 
 -- ---- the turns of a line
 

@@ -5,6 +5,7 @@ use Rattle.flat_model.specs.Machine.State.{State}
 use Rattle.flat_model.specs.declared.config.Config.{Config}
 use Rattle.play_pcap.specs.Traces.{Traced}
 use Rattle.play_read.specs.Asks.{Ask, AsksFor, Settings}
+use Rattle.play_script.specs.Captures.{tick_in}
 use Rattle.play_script.specs.Plays.{CapturedView}
 use Rattle.play_script.specs.Tells.{Play, TellsAsk, stays_head}
 use Rattle.play_script.specs.declared.deed.Deed.{Deed}
@@ -23,6 +24,11 @@ events_of (Ticks n) = replicate n Tick
 abbrev pub most_of : Deed → ℕ
 most_of (Call request) = room_of request
 most_of (Ticks n) = 0
+
+-- how many ticks it lets pass
+abbrev pub ticks_of : Deed → ℕ
+ticks_of (Call request) = tick_in (event_of request)
+ticks_of (Ticks n) = n
 
 -- what a player has in hand, by its parts
 abbrev pub play_of : State → Traced → Config → Bool → Printer → Play

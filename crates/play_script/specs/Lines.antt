@@ -1,32 +1,17 @@
 -- What a line of a commented script is made of (this project's own).
-use Rattle.std.specs.Prelude.{ℕ, ◌+◌, ◌==◌, ◌||◌, Bool, true, false, List, [], ◌∷◌, ◌++◌, length, take, drop, get_or, position, if◌then◌else◌, nat_lt, Option, Some, None, Result, Ok, Err}
+use Rattle.std.specs.Prelude.{ℕ, ◌+◌, ◌-◌, ◌==◌, List, [], ◌∷◌, length, take, drop, get_or, position, if◌then◌else◌, nat_lt, Option, Some, None, Result, Ok, Err}
 use Rattle.play_line.specs.Line.{expanded}
 use Rattle.play_line.specs.Shown.{shown}
 use Rattle.play_line.specs.declared.fault.Slip.{Slip}
 use Rattle.play_packet.specs.Builds.{named}
 use Rattle.play_line.specs.declared.line.TheConstants.{LONGEST}
 
--- a space, a tab, or the carriage return in front of a line feed
-abbrev pub is_blank : ℕ → Bool
-is_blank byte = byte == 32 || (byte == 9 || byte == 13)
+-- a text without the space at its end, and without the one in front
+abbrev pub untailed : List ℕ → List ℕ
+untailed text = if get_or text (length text - 1) 0 == 32 then take (length text - 1) text else text
 
--- what is put between the bytes so far and the next one
-abbrev pub gap_text : Bool → List ℕ → List ℕ
-gap_text true (byte ∷ bytes) = 32 ∷ []
-gap_text true [] = []
-gap_text false done = []
-
--- The bytes after `done`, with one space for the blanks between two words, and none in front or at the end. There was a
--- blank since the last byte if `gap`.
-abbrev pub spaced_after : List ℕ → Bool → List ℕ → List ℕ
-spaced_after done gap [] = done
-spaced_after done gap (byte ∷ bytes) =
-    if is_blank byte then spaced_after done true bytes
-    else spaced_after ((done ++ gap_text gap done) ++ byte ∷ []) false bytes
-
--- the words of a text, with one space between each two
-abbrev pub spaced : List ℕ → List ℕ
-spaced text = spaced_after [] false text
+abbrev pub unheaded : List ℕ → List ℕ
+unheaded text = if get_or text 0 0 == 32 then drop 1 text else text
 
 -- ---- an expectation
 
@@ -56,9 +41,9 @@ pub data Reading : Type 0 where
   -- the line as it's written, the plain line that it stands for, and the reply that is expected
   Asks : (shown plain : List ℕ) (wanted : Option (List ℕ)) → Reading
 
-abbrev pub spaced_option : Option (List ℕ) → Option (List ℕ)
-spaced_option None = None
-spaced_option (Some text) = Some (spaced text)
+abbrev pub unheaded_option : Option (List ℕ) → Option (List ℕ)
+unheaded_option None = None
+unheaded_option (Some text) = Some (unheaded text)
 
 -- no words and nothing expected
 abbrev pub reading_of : List ℕ → List ℕ → Option (List ℕ) → Reading
@@ -74,7 +59,7 @@ reading_words shown (Err slip) wanted = Faulty slip
 -- a line and its plain line
 abbrev pub reading_plain : List ℕ → Result (List ℕ) Slip → Reading
 reading_plain line (Ok text) =
-    reading_words (shown line) (named line (spaced (asked text))) (spaced_option (expected text))
+    reading_words (shown line) (named line (untailed (asked text))) (unheaded_option (expected text))
 reading_plain line (Err slip) = Faulty slip
 
 abbrev pub reading : List ℕ → Reading

@@ -1,80 +1,58 @@
-//! What a line adds to a capture: the packet that it moves, and the ticks that it lets pass.
-ghost use Rattle.std.specs.Prelude.{◌≤◌, ◌∷◌, ℕ, [], length, replicate};
-ghost use Rattle.flat_model.specs.Machine.Event as event;
-ghost use Rattle.flat_model.specs.Machine.Event.{Tick, Transmit};
+//! The capture of the packets that come and go.
+ghost use Rattle.std.specs.Prelude.{◌≡◌, ◌≤◌, length, IfSome, Some};
 ghost use Rattle.params.specs.declared.TheConstants.{IP_MAX_PACKET};
-ghost use Rattle.request.specs.Replies.{len_of, reply_of};
-ghost use Rattle.request.specs.Requests.{event_of, room_of};
-ghost use Rattle.play_script.specs.Deeds.{turns_of};
-ghost use Rattle.play_script.specs.Captures.{Captures, turn_of};
-ghost use Rattle.play_script.specs.Inside.{events_of, most_of};
+ghost use Rattle.request.specs.Replies.{packet_of};
+ghost use Rattle.play_script.specs.Captures.{Notes, after_ticks};
 
-use crate::deed::{Deed, given};
 use play_pcap::Trace;
-use request::{Reply, Request};
 use script_loop::Sink;
 
-/// A capture, and the number of the script's line whose packet is kept in it.
-pub(crate) struct Capture<T: Sink> {
-    pub(crate) trace: Trace<T>,
-    pub(crate) line: u64,
+/// A capture, and the number of the script's line whose packets are kept in it.
+pub struct Capture<T: Sink> {
+    pub trace: Trace<T>,
+    pub line: u64,
 }
 
-/// Lets so many ticks pass in a capture.
-fn note_ticks<T: Sink>(trace: &mut Trace<T>, count: u32)
-    ensures { (number : ℕ) (reply : event.Reply)
-        → Captures number trace.old (turns_of (replicate count Tick) reply) trace.new }
-{
-    let mut left = count;
-    while left > 0 {
-        trace.tick();
-        left -= 1;
+impl<T: Sink> Capture<T> {
+    /// Keeps a packet, by the line in hand.
+    pub fn keep(&mut self, packet: &[u8])
+        requires { length packet.now ≤ IP_MAX_PACKET }
+        ensures line { self.new.line ≡ self.old.line }
+        ensures notes { Notes self.old.line self.old.trace (Some packet.now) 0 self.new.trace }
+    {
+        self.trace.keep(self.line, packet);
     }
-}
 
-/// Keeps the packet that the link was given, if there was one.
-fn note_given<T: Sink>(capture: &mut Capture<T>, reply: &Reply<'_>)
-    requires { len_of reply.now ≤ IP_MAX_PACKET }
-    ensures { Captures capture.old.line capture.old.trace (turn_of Transmit (reply_of reply.now) ∷ [])
-        capture.new.trace }
-{
-    if let Some(packet) = given(reply) {
-        capture.trace.keep(capture.line, packet);
+    /// Lets so many ticks pass.
+    pub fn tick(&mut self, count: u32)
+        ensures line { self.new.line ≡ self.old.line }
+        ensures trace { self.new.trace ≡ after_ticks count self.old.trace }
+    {
+        let mut left = count;
+        while left > 0 {
+            self.trace.tick();
+            left -= 1;
+        }
     }
-}
 
-/// Adds to a capture what a call does: the packet that comes or goes, or the tick that passes.
-fn note_call<T: Sink>(capture: &mut Capture<T>, request: Request<'_>, reply: &Reply<'_>)
-    requires request { room_of request ≤ IP_MAX_PACKET }
-    requires reply { len_of reply.now ≤ IP_MAX_PACKET }
-    ensures { Captures capture.old.line capture.old.trace (turn_of (event_of request.entry) (reply_of reply.now) ∷ [])
-        capture.new.trace }
-{
-    match request {
-        Request::Packet(packet) => capture.trace.keep(capture.line, packet),
-        Request::Transmit => note_given(capture, reply),
-        Request::Tick => capture.trace.tick(),
-        Request::Socket => {}
-        Request::Bind(_, _) => {}
-        Request::Connect(_, _) => {}
-        Request::Send(_, _, _) => {}
-        Request::Receive(_, _) => {}
-        Request::Close(_) => {}
-        Request::SetOption(_, _, _) => {}
-        Request::Counters => {}
-        Request::Usage => {}
+    /// Keeps a packet, if there is one.
+    fn keep_moved(&mut self, moved: Option<&[u8]>)
+        requires { IfSome moved (λ p. length p.now ≤ IP_MAX_PACKET) }
+        ensures line { self.new.line ≡ self.old.line }
+        ensures notes { Notes self.old.line self.old.trace (packet_of moved.entry) 0 self.new.trace }
+    {
+        if let Some(packet) = moved {
+            self.keep(packet);
+        }
     }
-}
 
-/// Adds to a capture what was done: the packet that came or went, or the ticks that passed.
-pub(crate) fn note<T: Sink>(capture: &mut Capture<T>, deed: &Deed<'_>, reply: &Reply<'_>)
-    requires deed { most_of deed.now ≤ IP_MAX_PACKET }
-    requires reply { len_of reply.now ≤ IP_MAX_PACKET }
-    ensures { Captures capture.old.line capture.old.trace (turns_of (events_of deed.now) (reply_of reply.now))
-        capture.new.trace }
-{
-    match *deed {
-        Deed::Ticks(count) => note_ticks(&mut capture.trace, count),
-        Deed::Call(request) => note_call(capture, request, reply),
+    /// Keeps the packet that came or went, if one did, and lets so many ticks pass.
+    pub(crate) fn note(&mut self, moved: Option<&[u8]>, ticks: u32)
+        requires { IfSome moved (λ p. length p.now ≤ IP_MAX_PACKET) }
+        ensures line { self.new.line ≡ self.old.line }
+        ensures notes { Notes self.old.line self.old.trace (packet_of moved.entry) ticks self.new.trace }
+    {
+        self.keep_moved(moved);
+        self.tick(ticks);
     }
 }

@@ -45,11 +45,11 @@ impl<T: Sink> Wire for CapturedStack<T> {
 
     fn rx(&mut self, packet: &[u8]) {
         self.stack.rx(packet);
-        self.capture.trace.keep(self.capture.line, packet);
+        self.capture.keep(packet);
     }
 
     fn tick(&mut self) {
         self.stack.tick();
-        self.capture.trace.tick();
+        self.capture.tick(1);
     }
 }

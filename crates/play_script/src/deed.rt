@@ -8,6 +8,7 @@ ghost use Rattle.stack_call.specs.Moves.{Moves};
 ghost use Rattle.request.specs.Requests.{event_of, room_of};
 ghost use Rattle.play_script.specs.Captures as captures;
 ghost use Rattle.play_script.specs.Deeds.{Does, moved_in};
+ghost use Rattle.play_script.specs.Inside as inside;
 ghost use Rattle.play_script.specs.Inside.{events_of, most_of};
 
 use net_stack::Stack;
@@ -52,44 +53,14 @@ pub(crate) fn do_deed<'r>(stack: &mut Stack, deed: Deed<'_>, room: &'r mut [u8])
 }
 
 /// The packet that the link was given, if there was one.
-pub(crate) fn given<'a>(reply: &Reply<'a>) -> Option<&'a [u8]>
+fn given<'a>(reply: &Reply<'a>) -> Option<&'a [u8]>
     requires { len_of reply.now ≤ IP_MAX_PACKET }
     ensures packet { packet_of result ≡ captures.given (reply_of reply.now) }
     ensures fits { IfSome result (λ p. length p.now ≤ IP_MAX_PACKET) }
 {
     match *reply {
-        Reply::Given(Some(packet)) => Some(packet),
-        Reply::Given(None) => None,
-        Reply::Done => None,
-        Reply::Opened(_) => None,
-        Reply::Sent(_) => None,
-        Reply::Received(_, _) => None,
-        Reply::Counted(_) => None,
-        Reply::Shown(_) => None,
-        Reply::Refused(_) => None,
-    }
-}
-
-/// The packet that comes or goes by a call with this reply.
-fn moved_by_call<'a>(request: Request<'a>, reply: &Reply<'a>) -> Option<&'a [u8]>
-    requires request { room_of request ≤ IP_MAX_PACKET }
-    requires reply { len_of reply.now ≤ IP_MAX_PACKET }
-    ensures packet { packet_of result ≡ captures.moved_by (event_of request.entry) (reply_of reply.now) }
-    ensures fits { IfSome result (λ p. length p.now ≤ IP_MAX_PACKET) }
-{
-    match request {
-        Request::Packet(packet) => Some(packet),
-        Request::Transmit => given(reply),
-        Request::Tick => None,
-        Request::Socket => None,
-        Request::Bind(_, _) => None,
-        Request::Connect(_, _) => None,
-        Request::Send(_, _, _) => None,
-        Request::Receive(_, _) => None,
-        Request::Close(_) => None,
-        Request::SetOption(_, _, _) => None,
-        Request::Counters => None,
-        Request::Usage => None,
+        Reply::Given(packet) => packet,
+        _ => None,
     }
 }
 
@@ -101,7 +72,20 @@ pub(crate) fn moved_by<'a>(deed: &Deed<'a>, reply: &Reply<'a>) -> Option<&'a [u8
     ensures fits { IfSome result (λ p. length p.now ≤ IP_MAX_PACKET) }
 {
     match *deed {
-        Deed::Call(request) => moved_by_call(request, reply),
+        Deed::Call(Request::Packet(packet)) => Some(packet),
+        Deed::Call(Request::Transmit) => given(reply),
+        Deed::Call(_) => None,
         Deed::Ticks(_) => None,
+    }
+}
+
+/// How many ticks pass by what was done.
+pub(crate) fn ticks_of(deed: &Deed<'_>) -> u32
+    ensures { result ≡ inside.ticks_of deed.now }
+{
+    match *deed {
+        Deed::Call(Request::Tick) => 1,
+        Deed::Call(_) => 0,
+        Deed::Ticks(count) => count,
     }
 }

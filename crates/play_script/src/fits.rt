@@ -48,7 +48,7 @@ fn fits_unnumbered(wanted: &[u8], told: &[u8]) -> bool
 
 /// Whether what is told is what was expected: word by word the same, but for `_`, which is any word, and for the number
 /// of an error, which may be left out.
-pub fn meets(wanted: &[u8], told: &[u8]) -> bool
+pub(crate) fn meets(wanted: &[u8], told: &[u8]) -> bool
     ensures { result ≡ outcomes.meets wanted.now told.now }
 {
     fits(wanted, told) || fits_unnumbered(wanted, told)

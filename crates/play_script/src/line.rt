@@ -1,10 +1,18 @@
 //! What a line is made of: words, a comment, and what is expected.
-ghost use Rattle.std.specs.Prelude.{◌≡◌, ◌≤◌, ◌==◌, length, position, IfSome, option_map};
-ghost use Rattle.play_script.specs.Lines.{is_blank, spaced, asked, expected, reading};
-ghost use Rattle.play_script.specs.Views.{is_reading};
+ghost use Rattle.std.specs.Prelude.{◌≡◌, ◌≤◌, ◌==◌, ◌++◌, codes, length, position, IfSome, option_map};
+ghost use Rattle.play_script.specs.Lines.{asked, expected, reading, unheaded, untailed};
+ghost use Rattle.flat_model.specs.Scripts.Texts.{hex_text};
+ghost use Rattle.params.specs.declared.TheConstants.{IP_MAX_PACKET};
+ghost use Rattle.play_read.specs.Asks.{AsksFor, Writes};
+ghost use Rattle.play_read.specs.Views.{IsSound, ask_of as ask_value, asked_by};
+ghost use Rattle.play_script.specs.Views.{is_reading, plain_of};
 
+use crate::report::bytes_of;
 use play_line::{LONGEST, Slip, put_shown};
-use play_packet::LineReader;
+use play_packet::{LineReader, PACKET};
+use play_pcap::lines_law;
+use play_read::{Ask, ask_of};
+use request::Request;
 use script_loop::Buffer;
 use std::alloc::{AllocError, Global};
 
@@ -26,11 +34,24 @@ pub enum Kind {
 pub struct Line {
     /// The line as it's written.
     pub shown: Buffer<LONGEST>,
-    /// The plain line that it stands for.
+    /// Its words, as in the plain line that it stands for.
     pub words: Buffer<LONGEST>,
+    /// Whether its words name a packet, and that packet.
+    pub named: bool,
+    pub packet: Buffer<PACKET>,
     /// Whether something is expected, and its words.
     pub expects: bool,
     pub wanted: Buffer<LONGEST>,
+}
+
+/// What the line `rx` asks for with this packet.
+fn packet_ask<'a>(packet: &'a [u8]) -> Ask<'a, 'a>
+    requires { length packet.now ≤ IP_MAX_PACKET }
+    ensures writes { Writes (codes "rx " ++ hex_text packet.now) (ask_value result) }
+    ensures sound { IsSound result }
+{
+    lines_law();
+    Ask::Call(Request::Packet(packet))
 }
 
 impl Line {
@@ -39,36 +60,49 @@ impl Line {
         Ok(Line {
             shown: Buffer::new(alloc)?,
             words: Buffer::new(alloc)?,
+            named: false,
+            packet: Buffer::new(alloc)?,
             expects: false,
             wanted: Buffer::new(alloc)?,
         })
     }
-}
 
-/// Whether a byte is a space, a tab or a carriage return.
-fn is_blank_byte(byte: u8) -> bool
-    ensures { result ≡ is_blank byte }
-{
-    byte == b' ' || (byte == b'\t' || byte == b'\r')
-}
-
-/// Puts the words of a text into an empty buffer, with one space between each two.
-pub(crate) fn put_spaced(text: &[u8], words: &mut Buffer<LONGEST>)
-    requires { length text.now ≤ LONGEST }
-    ensures { words.new ≡ spaced text.now }
-{
-    words.clear();
-    let mut gap = false;
-    for byte in text {
-        if is_blank_byte(*byte) {
-            gap = true;
-        } else {
-            if gap && !words.is_empty() {
-                words.push(b' ');
-            }
-            words.push(*byte);
-            gap = false;
+    /// What it asks for, if it asks for anything. The bytes that its words write stand in the room then, which has
+    /// 65,535.
+    pub fn ask<'l>(&'l self, room: &'l mut [u8]) -> Option<Ask<'l, 'l>>
+        requires { length room.old ≡ IP_MAX_PACKET }
+        ensures asks { AsksFor (plain_of self.now) (asked_by result) }
+        ensures sound { IfSome result IsSound }
+    {
+        if self.named {
+            return Some(packet_ask(bytes_of(&self.packet)));
         }
+        ask_of(bytes_of(&self.words), room)
+    }
+}
+
+/// A text without the space at its end.
+fn without_tail(text: &[u8]) -> &[u8]
+    ensures is { result.now ≡ untailed text.now }
+    ensures shorter { length result.now ≤ length text.now }
+{
+    let len = text.len();
+    if len > 0 && text[len - 1] == b' ' {
+        &text[..len - 1]
+    } else {
+        text
+    }
+}
+
+/// A text without the space in front.
+fn without_head(text: &[u8]) -> &[u8]
+    ensures is { result.now ≡ unheaded text.now }
+    ensures shorter { length result.now ≤ length text.now }
+{
+    if !text.is_empty() && text[0] == b' ' {
+        &text[1..]
+    } else {
+        text
     }
 }
 
@@ -98,7 +132,8 @@ fn cut(text: &[u8]) -> (&[u8], Option<&[u8]>)
     }
 }
 
-/// Reads a line: as it's written, the plain line that it stands for, and the words that are expected.
+/// Reads a line: as it's written, the words of the plain line that it stands for or the packet that they name, and the
+/// words that are expected.
 pub fn read_line(text: &[u8], reader: &mut LineReader, line: &mut Line) -> Kind
     ensures { reading text.now ≡ is_reading result line.new }
 {
@@ -111,17 +146,24 @@ pub fn read_line(text: &[u8], reader: &mut LineReader, line: &mut Line) -> Kind
         Err(slip) => return Kind::Faulty(slip),
     };
     let (front, back) = cut(plain);
-    put_spaced(front, &mut line.words);
+    line.words.clear();
+    line.words.append(without_tail(front));
+    line.wanted.clear();
     line.expects = match back {
         Some(words) => {
-            put_spaced(words, &mut line.wanted);
+            line.wanted.append(without_head(words));
             true
         }
         None => false,
     };
-    match reader.put_packet(text, &mut line.words) {
-        Ok(()) if line.expects || !line.words.is_empty() => Kind::Asks,
-        Ok(()) => Kind::Nothing,
+    line.named = false;
+    match reader.put_packet(text, line.words.as_slice(), &mut line.packet) {
+        Ok(true) => {
+            line.named = true;
+            Kind::Asks
+        }
+        Ok(false) if line.expects || !line.words.is_empty() => Kind::Asks,
+        Ok(false) => Kind::Nothing,
         Err(slip) => Kind::Faulty(slip),
     }
 }

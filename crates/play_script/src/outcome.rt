@@ -10,7 +10,7 @@ use request::{Reply, TEXT, put_reply};
 use script_loop::Buffer;
 
 /// Room for all causes at once.
-pub const DROPS: usize = 1024;
+pub(crate) const DROPS: usize = 1024;
 
 /// Room for what is told of a line.
 pub const TOLD: usize = TEXT + DROPS;
@@ -81,7 +81,7 @@ fn put_cause(text: &mut Buffer<DROPS>, why: Why, before: &Counters, after: &Coun
 }
 
 /// Puts all causes whose counters went up into a buffer.
-pub fn put_drops(text: &mut Buffer<DROPS>, before: &Counters, after: &Counters)
+pub(crate) fn put_drops(text: &mut Buffer<DROPS>, before: &Counters, after: &Counters)
     ensures { text.new ≡ drops_text before.now after.now }
 {
     text.clear();
@@ -91,7 +91,7 @@ pub fn put_drops(text: &mut Buffer<DROPS>, before: &Counters, after: &Counters)
 }
 
 /// Puts what is told of a reply and of what was dropped into a buffer. `digits` is room for digits.
-pub fn put_told(text: &mut Buffer<TOLD>, digits: &mut [u8], reply: &Reply<'_>, drops: &[u8])
+pub(crate) fn put_told(text: &mut Buffer<TOLD>, digits: &mut [u8], reply: &Reply<'_>, drops: &[u8])
     requires fits { len_of reply.now ≤ IP_MAX_PACKET }
     requires digits { length digits.old ≡ 2 * IP_MAX_PACKET }
     requires drops { length drops.now ≤ DROPS }

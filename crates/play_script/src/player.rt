@@ -5,7 +5,7 @@ ghost use Rattle.net_stack.specs.Stack.{state_of};
 ghost use Rattle.params.specs.declared.TheConstants.{IP_MAX_PACKET};
 ghost use Rattle.play_script.specs.Inside.{play_of};
 ghost use Rattle.play_script.specs.Tells.{Play, Tells, TellsAsked, TellsSettings};
-ghost use Rattle.play_script.specs.Views.{expected_on};
+ghost use Rattle.play_script.specs.Views.{expected_on, plain_of};
 ghost use Rattle.stack_call.specs.Moves.{Moves};
 
 use crate::captured::CapturedStack;
@@ -95,7 +95,7 @@ impl<T: Sink, F: Folder> Player<T, F> {
             × TellsAsked Moves F.may_have
             (play_of (state_of self.old.captured.stack) self.old.captured.capture.trace self.old.config self.old.head
             self.old.printer)
-            self.old.line.shown self.old.line.words (expected_on self.old.line) added
+            self.old.line.shown (plain_of self.old.line) (expected_on self.old.line) added
             (play_of (state_of self.new.captured.stack) self.new.captured.capture.trace self.new.config self.new.head
             self.new.printer)
             × (text.new ≡ text.old ++ added) }
@@ -105,7 +105,7 @@ impl<T: Sink, F: Folder> Player<T, F> {
         match tell_line(
             &mut self.captured,
             &self.files,
-            bytes_of(&self.line.words),
+            &self.line,
             self.bytes.as_mut_slice(),
             &mut self.report,
         ) {

@@ -11,14 +11,11 @@ ghost use Rattle.stack_call.specs.Moves.{Moves};
 use crate::outcome::{DROPS, TOLD, put_drops, put_told};
 use flat_model::Counters;
 use net_stack::Stack;
-use params::IP_MAX_PACKET;
+use play_packet::PACKET;
 use play_show::{SHOWN, Topic, tell_topic};
 use request::Reply;
 use script_loop::Buffer;
 use std::alloc::{AllocError, Global};
-
-/// The bytes of the longest packet.
-pub(crate) const PACKET: usize = IP_MAX_PACKET as usize;
 
 /// The bytes of a buffer.
 pub fn bytes_of<const N: usize>(buffer: &Buffer<N>) -> &[u8]
@@ -30,7 +27,7 @@ pub fn bytes_of<const N: usize>(buffer: &Buffer<N>) -> &[u8]
 }
 
 /// Room for so many bytes.
-pub(crate) fn room_for(alloc: Global, len: usize) -> Result<Vec<u8>, AllocError>
+pub fn room_for(alloc: Global, len: usize) -> Result<Vec<u8>, AllocError>
     ensures { IfOk result (λ room. vec_len room ≡ len) }
 {
     vec![in alloc; 0; len]

@@ -20,11 +20,11 @@ use crate::player::Player;
 use crate::print::NAME;
 use crate::printer::{Printer, Style};
 use crate::replay::Files;
-use crate::report::{PACKET, Report, room_for};
+use crate::report::{Report, room_for};
 use flat_model::Config;
 use link_script::booted;
 use net_stack::Stack;
-use play_packet::LineReader;
+use play_packet::{LineReader, PACKET};
 use play_pcap::{Folder, NoFolder, Nowhere, Trace};
 use script_loop::{Buffer, RunFault, Sink, Source, serve_script};
 use std::alloc::{AllocError, Global};
@@ -163,48 +163,6 @@ fn play_machine<R: Source, W: Sink, T: Sink, F: Folder>(
     }
 }
 
-/// Plays a script on a new machine, which is spent then.
-fn play_on<R: Source, W: Sink, T: Sink, F: Folder>(
-    alloc: Global,
-    start: Start<T, F>,
-    style: Style<'_>,
-    reader: &mut R,
-    writer: &mut W,
-) -> Captured<T>
-    ensures booted { Boots start.config result.played.outcome }
-    ensures read { MoreBy (reader_failures result.played.outcome) (R.failures reader.old) (R.failures reader.new) }
-    ensures wrote { MoreBy (writer_failures result.played.outcome) (W.failures writer.old) (W.failures writer.new) }
-    ensures served { (new : Play)
-        × Serves (Tells Moves F.may_have)
-        (started (boot start.config) start.trace style.entry.form (take NAME style.entry.name.now)) new
-        (R.remaining reader.old) (R.remaining reader.new)
-        (W.contents writer.old) (W.contents writer.new) result.played.outcome
-        × (result.played.sound ≡ new.sound) × (result.trace ≡ new.traced) }
-{
-    let Start {
-        config,
-        trace,
-        folder,
-    } = start;
-    match booted(alloc, config) {
-        Ok(machine) => {
-            let start = Start {
-                config,
-                trace,
-                folder,
-            };
-            play_machine(alloc, (machine, start), style, reader, writer)
-        }
-        Err(fault) => {
-            let played = Played {
-                outcome: Err(fault),
-                sound: true,
-            };
-            Captured { played, trace }
-        }
-    }
-}
-
 /// Plays a script on a machine of this configuration, without a capture, and spends it.
 fn play_untraced<R: Source, W: Sink>(
     alloc: Global,
@@ -240,33 +198,6 @@ fn play_untraced<R: Source, W: Sink>(
     let Captured { played, trace } = play_machine(alloc, (machine, start), style, reader, writer);
     let _nowhere = trace.end();
     played
-}
-
-/// Plays a script on a new machine, without a capture, and spends the machine.
-fn play_plainly<R: Source, W: Sink>(
-    alloc: Global,
-    config: Config,
-    style: Style<'_>,
-    reader: &mut R,
-    writer: &mut W,
-) -> Played
-    ensures booted { Boots config result.outcome }
-    ensures read { MoreBy (reader_failures result.outcome) (R.failures reader.old) (R.failures reader.new) }
-    ensures wrote { MoreBy (writer_failures result.outcome) (W.failures writer.old) (W.failures writer.new) }
-    ensures served { (traced : Traced) × (new : Play)
-        × Serves (Tells Moves no_folder)
-        (started (boot config) traced style.entry.form (take NAME style.entry.name.now)) new
-        (R.remaining reader.old) (R.remaining reader.new)
-        (W.contents writer.old) (W.contents writer.new) result.outcome
-        × (result.sound ≡ new.sound) }
-{
-    match booted(alloc, config) {
-        Ok(machine) => play_untraced(alloc, (machine, config), style, reader, writer),
-        Err(fault) => Played {
-            outcome: Err(fault),
-            sound: true,
-        },
-    }
 }
 
 /// Plays a script on a new stack. Each line is answered when its end was read: by the reply to what it asks for, with
@@ -306,7 +237,13 @@ pub fn play<R: Source, W: Sink>(
         (W.contents writer.old) (W.contents writer.new) result.outcome
         × (result.sound ≡ new.sound) }
 {
-    play_plainly(alloc, config, style, reader, writer)
+    match booted(alloc, config) {
+        Ok(machine) => play_untraced(alloc, (machine, config), style, reader, writer),
+        Err(fault) => Played {
+            outcome: Err(fault),
+            sound: true,
+        },
+    }
 }
 
 /// Plays a script on a new stack, as [`play`] does, and adds each packet that comes or goes to a capture: one that a
@@ -336,5 +273,26 @@ pub fn play_captured<R: Source, W: Sink, T: Sink, F: Folder>(
         (W.contents writer.old) (W.contents writer.new) result.played.outcome
         × (result.played.sound ≡ new.sound) × (result.trace ≡ new.traced) }
 {
-    play_on(alloc, start, style, reader, writer)
+    let Start {
+        config,
+        trace,
+        folder,
+    } = start;
+    match booted(alloc, config) {
+        Ok(machine) => {
+            let start = Start {
+                config,
+                trace,
+                folder,
+            };
+            play_machine(alloc, (machine, start), style, reader, writer)
+        }
+        Err(fault) => {
+            let played = Played {
+                outcome: Err(fault),
+                sound: true,
+            };
+            Captured { played, trace }
+        }
+    }
 }

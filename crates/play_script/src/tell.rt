@@ -7,18 +7,20 @@ ghost use Rattle.play_script.specs.Deeds.{below_text};
 ghost use Rattle.play_script.specs.Inside.{IsTold, IsToldAs, events_of, most_of};
 ghost use Rattle.play_script.specs.Plays.{captured_of};
 ghost use Rattle.play_script.specs.Tells.{IsDone};
+ghost use Rattle.play_script.specs.Views.{plain_of};
 ghost use Rattle.request.specs.Replies.{packet_of};
 ghost use Rattle.stack_call.specs.Moves.{Moves};
 
-use crate::capture::{Capture, note};
+use crate::capture::Capture;
 use crate::captured::CapturedStack;
-use crate::deed::{Deed, do_deed, moved_by};
+use crate::deed::{Deed, do_deed, moved_by, ticks_of};
+use crate::line::Line;
 use crate::replay::{Files, tell_capture};
 use crate::report::Report;
 use net_stack::Stack;
 use params::{IP_MAX_PACKET, MAX_MTU};
 use play_pcap::Folder;
-use play_read::{Ask, ask_of};
+use play_read::Ask;
 use play_show::{SHOWN, Snapshot, put_changes, snapshot_of};
 use script_loop::{Buffer, Sink};
 
@@ -74,8 +76,8 @@ fn tell_deed<T: Sink>(
     let before = snapshot_of(stack);
     let reply = do_deed(stack, deed, room);
     let after = snapshot_of(stack);
-    note(capture, &deed, &reply);
     let moved = moved_by(&deed, &reply);
+    capture.note(moved, ticks_of(&deed));
     put_below(
         report.quiet,
         stack,
@@ -132,22 +134,22 @@ fn tell_ask<T: Sink, F: Folder>(
     }
 }
 
-/// Reads a plain line, does what it asks for, and reports what is told of it. The bytes that it names stand in the room
-/// then. Nothing is done for settings, nor for a line that asks for nothing.
+/// Does what a line asks for, and reports what is told of it. The bytes that its words write stand in the room then.
+/// Nothing is done for settings, nor for a line that asks for nothing.
 pub(crate) fn tell_line<T: Sink, F: Folder>(
     captured: &mut CapturedStack<T>,
     files: &Files<F>,
-    words: &[u8],
+    line: &Line,
     room: &mut [u8],
     report: &mut Report,
 ) -> Told
     requires { length room.old ≡ IP_MAX_PACKET }
-    ensures { IsTold Moves F.may_have report.old.quiet words.now result
+    ensures { IsTold Moves F.may_have report.old.quiet (plain_of line.now) result
         (captured_of (state_of captured.old.stack) captured.old.capture.trace captured.old.capture.line)
         report.new.told report.new.below
         (captured_of (state_of captured.new.stack) captured.new.capture.trace captured.new.capture.line) }
 {
-    match ask_of(words, room) {
+    match line.ask(room) {
         Some(ask) => tell_ask(captured, files, ask, report),
         None => Told::Nothing,
     }

@@ -1,5 +1,5 @@
 -- A line, and what it does.
-use Rattle.std.proofs.Common.{◌≡◌, ◌⊎◌, inl, inr, ℕ, ◌-◌, ◌&&◌, Bool, true, false, List, [], ◌∷◌, ◌++◌, length, Option, Some, refl, sym, ap, ◌∙◌, subst}
+use Rattle.std.proofs.Common.{◌≡◌, ◌⊎◌, inl, inr, ℕ, ◌-◌, ◌&&◌, Bool, true, false, List, [], ◌∷◌, ◌++◌, length, Option, Some, refl, sym, ap, ◌∙◌, subst, append-nil}
 use Rattle.std.specs.Prelude.{codes, slice_get, Result, Ok, Err, IfOk}
 use Rattle.play_text.specs.Texts.{if_there}
 use Rattle.play_script.specs.Lines.{Reading, reading}
@@ -59,6 +59,16 @@ done_by_none play named host plain v old e f is = (
   [],
   subst (λ b. IsDone play (if_there b host) plain [] (Refused fault.NoHost) v old) (sym is)
       (sym f, inr (refl, sym e, refl)),
+)
+
+-- a packet by name comes to no host
+pub done_by_nobody : (play : Play) (named : Bool) (host plain : List ℕ) (v : SegmentView) (old : List (List ℕ))
+    → play.segment ≡ v → play.names ≡ old → named ≡ false
+    → (acts : List Act) × IsDone play (if_there named host) plain acts (Refused fault.Nothing) v old
+done_by_nobody play named host plain v old e f is = (
+  [],
+  subst (λ b. IsDone play (if_there b host) plain [] (Refused fault.Nothing) v old) (sym is)
+      (sym e, tt, [], sym f ∙ sym (append-nil play.names)),
 )
 
 -- a line that is read so

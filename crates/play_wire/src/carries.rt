@@ -2,7 +2,8 @@
 ghost use Rattle.segment.specs.Inside.{view};
 ghost use Rattle.play_wire.specs.Acts.{Moves};
 
-use crate::capture::Capture;
+use crate::capture::collect;
+use play_script::Capture;
 use script_loop::{Sink, first_word, number, one};
 use segment::Segment;
 
@@ -50,7 +51,7 @@ pub(crate) fn carry<T: Sink + Drop>(segment: &mut Segment, bound: Bound, capture
 fn carry_once<T: Sink + Drop>(segment: &mut Segment, capture: &mut Capture<T>)
     ensures { Moves (view segment.old) (view segment.new) }
 {
-    capture.collect(segment);
+    collect(capture, segment);
     segment.deliver();
 }
 

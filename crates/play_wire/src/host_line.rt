@@ -5,14 +5,15 @@ ghost use Rattle.flat_model.specs.Runs.Run.{Turn};
 ghost use Rattle.segment.specs.Inside.{view};
 ghost use Rattle.segment.specs.Law.{Act};
 ghost use Rattle.play_wire.specs.Acts.{IsAnswered, IsHostLine, IsMissing};
+ghost use Rattle.play_script.specs.Views.{plain_of};
 ghost use Rattle.play_wire.specs.Inside.{came_of};
 
 use crate::fault::Fault;
 use crate::spare::Spare;
 use crate::ticks::{exchange, tick_stack};
 use net_stack::Stack;
-use play_read::{Ask, ask_of};
-use play_script::Report;
+use play_read::Ask;
+use play_script::{Line, Report};
 use segment::Segment;
 use stack_call::call;
 
@@ -23,15 +24,15 @@ fn answer_stack(
     stack: &mut Stack,
     bytes: &mut [u8],
     room: &mut [u8],
-    words: &[u8],
+    line: &Line,
     report: &mut Report,
 ) -> Result<(), Fault>
     requires bytes { length bytes.old ≡ IP_MAX_PACKET }
     requires room { length room.old ≡ IP_MAX_PACKET }
-    ensures { (turns : List Turn) × IsAnswered words.now stack.old turns
+    ensures { (turns : List Turn) × IsAnswered (plain_of line.now) stack.old turns
         (came_of result report.new.told report.new.below) stack.new }
 {
-    let Some(ask) = ask_of(words, bytes) else {
+    let Some(ask) = line.ask(bytes) else {
         return Err(Fault::Nothing);
     };
     match ask {
@@ -63,12 +64,12 @@ pub(crate) fn answer_host(
     segment: &mut Segment,
     spare: &mut Spare,
     place: usize,
-    words: &[u8],
+    line: &Line,
     report: &mut Report,
 ) -> Result<(), Fault>
     ensures { (acts : List Act)
-        × (IsHostLine place words.now (view segment.old) acts (came_of result report.new.told report.new.below)
-        (view segment.new)
+        × (IsHostLine place (plain_of line.now) (view segment.old) acts
+        (came_of result report.new.told report.new.below) (view segment.new)
         ⊎ IsMissing place (view segment.old) acts (came_of result report.new.told report.new.below)
         (view segment.new)) }
 {
@@ -77,7 +78,7 @@ pub(crate) fn answer_host(
             &mut spare.stack,
             spare.bytes.as_mut_slice(),
             spare.room.as_mut_slice(),
-            words,
+            line,
             report,
         );
         exchange(segment, place, &mut spare.stack);

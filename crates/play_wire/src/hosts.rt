@@ -5,13 +5,13 @@ ghost use Rattle.segment.specs.Chances.{seeded};
 ghost use Rattle.segment.specs.Segment.{no_hosts};
 ghost use Rattle.play_wire.specs.Acts.{Moves};
 
-use crate::capture::Capture;
+use crate::capture;
 use crate::fault::Fault;
 use crate::names::{NAME, is_name, place_of};
 use crate::spare::Spare;
 use flat_model::Config;
 use play_read::{SettingFault, settings_of};
-use play_script::DEFAULTS;
+use play_script::{Capture, DEFAULTS};
 use script_loop::{Buffer, Sink, first_word};
 use segment::Segment;
 use std::alloc::{AllocError, Global};
@@ -87,7 +87,7 @@ impl<T: Sink + Drop> Hosts<T> {
             × (h.names.items ≡ [])) }
     {
         let Ok(mut segment) = Segment::new(alloc, PACKETS) else {
-            capture.end();
+            capture::end(capture);
             return None;
         };
         segment.seed(seed);
@@ -102,7 +102,7 @@ impl<T: Sink + Drop> Hosts<T> {
             }),
             None => {
                 segment.end();
-                capture.end();
+                capture::end(capture);
                 None
             }
         }
@@ -182,6 +182,6 @@ impl<T: Sink + Drop> Hosts<T> {
         } = self;
         spare.end();
         segment.end();
-        capture.end()
+        capture::end(capture)
     }
 }

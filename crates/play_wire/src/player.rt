@@ -2,7 +2,7 @@
 ghost use Rattle.std.specs.Prelude.{◌≡◌, ◌≤◌, ◌++◌, IfSome, List, Some, false, length, slice_get, ℕ};
 ghost use Rattle.segment.specs.Inside.{view};
 ghost use Rattle.segment.specs.Law.{Act};
-ghost use Rattle.play_script.specs.Views.{expected_on};
+ghost use Rattle.play_script.specs.Views.{expected_on, plain_of};
 ghost use Rattle.play_text.specs.Texts.{fault_text};
 ghost use Rattle.play_script.specs.Lines.{Asks};
 ghost use Rattle.play_wire.specs.Faults.{words_of};
@@ -35,24 +35,26 @@ fn place_for<T: Sink + Drop>(hosts: &Hosts<T>, target: &Target) -> Option<usize>
     place_of(hosts.names.as_slice(), target.host.as_slice())
 }
 
-/// Does what a plain line asks, and reports what is told of it.
+/// Does what a line asks, and reports what is told of it.
 fn answer_words<T: Sink + Drop>(
     hosts: &mut Hosts<T>,
     target: &Target,
-    words: &[u8],
+    line: &Line,
     report: &mut Report,
 ) -> Result<(), Fault>
     ensures { (play : Play) → play.segment ≡ view hosts.old.segment → play.names ≡ hosts.old.names.items
-        → (acts : List Act) × IsDone play (named_by target.now) words.now acts
+        → (acts : List Act) × IsDone play (named_by target.now) (plain_of line.now) acts
         (came_of result report.new.told report.new.below) (view hosts.new.segment) hosts.new.names.items }
 {
     if target.named {
         match place_for(hosts, target) {
-            Some(place) => answer_host(&mut hosts.segment, &mut hosts.spare, place, words, report),
+            Some(place) => answer_host(&mut hosts.segment, &mut hosts.spare, place, line, report),
             None => Err(Fault::NoHost),
         }
+    } else if line.named {
+        Err(Fault::Nothing)
     } else {
-        hosts.answer_wire(words, report)
+        hosts.answer_wire(bytes_of(&line.words), report)
     }
 }
 
@@ -73,16 +75,11 @@ impl<T: Sink + Drop> Player<T> {
         ensures { (acts : List Act) × (added : List ℕ)
             × TellsPart (play_with (view self.old.hosts.segment) self.old.hosts.names.items self.old.printer)
             (named_by self.old.target) 0
-            (Asks self.old.line.shown self.old.line.words (expected_on self.old.line)) acts added
+            (Asks self.old.line.shown (plain_of self.old.line) (expected_on self.old.line)) acts added
             (play_with (view self.new.hosts.segment) self.new.hosts.names.items self.new.printer)
             × (text.new ≡ text.old ++ added) }
     {
-        match answer_words(
-            &mut self.hosts,
-            &self.target,
-            bytes_of(&self.line.words),
-            &mut self.report,
-        ) {
+        match answer_words(&mut self.hosts, &self.target, &self.line, &mut self.report) {
             Ok(()) => {
                 self.target.label(bytes_of(&self.line.shown));
                 self.printer.put_labelled(

@@ -12,13 +12,12 @@ ghost use Rattle.play_wire.specs.Inside.{play_with};
 ghost use Rattle.play_wire.specs.Runs.{IsPlayed};
 ghost use Rattle.play_wire.specs.Tells.{Play, Tells, started};
 
-use crate::capture::Capture;
 use crate::hosts::Hosts;
 use crate::player::Player;
 use crate::target::Target;
 use play_packet::LineReader;
 use play_pcap::Trace;
-use play_script::{Line, Played, Printer, Report, Style};
+use play_script::{Capture, Line, Played, Printer, Report, Style};
 use script_loop::{Buffer, RunFault, Sink, Source, serve_script};
 use segment::hosts_on_a_segment;
 use std::alloc::{AllocError, Global};

@@ -1,15 +1,12 @@
 //! A spare stack.
-ghost use Rattle.std.specs.Prelude.{◌≡◌, IfOk, vec_len};
+ghost use Rattle.std.specs.Prelude.{◌≡◌, vec_len};
 ghost use Rattle.params.specs.declared.TheConstants.{IP_MAX_PACKET};
 
 use flat_model::Config;
 use net_stack::Stack;
-use params::IP_MAX_PACKET;
-use play_script::DEFAULTS;
-use std::alloc::{AllocError, Global};
-
-/// The bytes of the longest packet.
-const PACKET: usize = IP_MAX_PACKET as usize;
+use play_packet::PACKET;
+use play_script::{DEFAULTS, room_for};
+use std::alloc::Global;
 
 /// The spare stack's configuration.
 const SPARE: Config = Config {
@@ -29,20 +26,13 @@ pub(crate) struct Spare {
     ghost room_len: { vec_len room ≡ IP_MAX_PACKET },
 }
 
-/// Room for the longest packet.
-fn room_for(alloc: Global) -> Result<Vec<u8>, AllocError>
-    ensures { IfOk result (λ room. vec_len room ≡ IP_MAX_PACKET) }
-{
-    vec![in alloc; 0; PACKET]
-}
-
 impl Spare {
     /// Boots it. `None` if host memory was refused.
     pub(crate) fn new(alloc: Global) -> Option<Spare> {
-        let Ok(bytes) = room_for(alloc) else {
+        let Ok(bytes) = room_for(alloc, PACKET) else {
             return None;
         };
-        let Ok(room) = room_for(alloc) else {
+        let Ok(room) = room_for(alloc, PACKET) else {
             return None;
         };
         match Stack::boot(alloc, SPARE) {

@@ -6,6 +6,7 @@ ghost use Rattle.play_wire.specs.Acts.{Moves};
 ghost use Rattle.play_wire.specs.Tells.{left_text};
 
 use crate::by_hand::{by_hand_in, do_by_hand};
+use crate::capture::collect;
 use crate::carries::{bound_of, carry};
 use crate::fault::Fault;
 use crate::hosts::Hosts;
@@ -119,7 +120,7 @@ impl<T: Sink + Drop> Hosts<T> {
             return Err(Fault::NoWire);
         }
         if word == b"collect".as_slice() {
-            self.capture.collect(&mut self.segment);
+            collect(&mut self.capture, &mut self.segment);
         } else {
             self.segment.deliver();
         }

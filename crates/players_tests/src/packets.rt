@@ -1,7 +1,7 @@
 //! Which packets lines name, and what is wrong with a line that names none.
 use play_line::{LONGEST, Slip};
-use play_packet::LineReader;
-use script_loop::Buffer;
+use play_packet::{LineReader, PACKET};
+use script_loop::{Buffer, LineBuffers, put_hex};
 use std::alloc::Global;
 use std::process::Abort;
 
@@ -247,11 +247,13 @@ fn joined(rt: &impl Abort, alloc: Global, front: &str, back: &str) -> Vec<u8> {
     text
 }
 
-/// A reader of lines, and room for a plain one.
+/// A reader of lines, and room for a plain one and for a packet.
 #[derive(Drop)]
 struct Desk {
     reader: LineReader,
     words: Buffer<LONGEST>,
+    packet: Buffer<PACKET>,
+    buffers: LineBuffers,
 }
 
 impl Desk {
@@ -259,17 +261,31 @@ impl Desk {
         Desk {
             reader: LineReader::new(alloc).expect(rt, "memory"),
             words: Buffer::new(alloc).expect(rt, "memory"),
+            packet: Buffer::new(alloc).expect(rt, "memory"),
+            buffers: LineBuffers::new(alloc).expect(rt, "memory"),
         }
     }
 
-    /// Puts the plain line of a line into the room.
+    /// Puts the plain line of a line into the room: `rx` with the packet's digits, if it names one.
     fn put_plain(&mut self, line: &[u8]) -> Result<(), Slip> {
         self.words.clear();
         match self.reader.plain_line(line) {
             Ok(plain) => self.words.append(plain),
             Err(slip) => return Err(slip),
         }
-        self.reader.put_packet(line, &mut self.words)
+        if self
+            .reader
+            .put_packet(line, self.words.as_slice(), &mut self.packet)?
+        {
+            self.words.clear();
+            self.words.append(b"rx ");
+            put_hex(
+                &mut self.words,
+                &mut self.buffers.digits,
+                self.packet.as_slice(),
+            );
+        }
+        Ok(())
     }
 
     /// Whether a line stands for this plain line.

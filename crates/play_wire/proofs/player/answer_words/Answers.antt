@@ -1,12 +1,14 @@
 use Rattle.std.proofs.Common.{refl}
 use Rattle.segment.specs.Inside.{view}
+use Rattle.play_script.specs.Views.{plain_of}
 use Rattle.play_wire.specs.Inside.{came_of}
-use Rattle.play_wire.proofs.PlayLemmas.{done_by_host, done_by_none, done_by_wire, tells_left}
+use Rattle.play_wire.proofs.PlayLemmas.{done_by_host, done_by_nobody, done_by_none, done_by_wire, tells_left}
 use Rattle.play_wire.proofs.player.answer_words.Goals as goal
 
 pub returns-in-Some : goal.returns-in-Some
 returns-in-Some g c play e f =
-    done_by_host play c.args.target.now.named c.args.target.now.host c.args.words.now c.args.words.now
+    done_by_host play c.args.target.now.named c.args.target.now.host (plain_of c.args.line.now)
+    (plain_of c.args.line.now)
     (came_of c.answer_host.result c.answer_host.new.report.told c.answer_host.new.report.below)
     (view c.args.hosts.now.segment)
     (view c.answer_host.new.segment) c.args.hosts.now.names.items c.in-Some.place e f c.if-target.true c.in-Some.ensures
@@ -14,17 +16,23 @@ returns-in-Some g c play e f =
 
 pub returns-in-None : goal.returns-in-None
 returns-in-None g c play e f =
-    done_by_none play c.args.target.now.named c.args.target.now.host c.args.words.now (view c.args.hosts.now.segment)
+    done_by_none play c.args.target.now.named c.args.target.now.host (plain_of c.args.line.now)
+    (view c.args.hosts.now.segment)
     c.args.hosts.now.names.items e f c.if-target.true
 
-pub returns-else-target : goal.returns-else-target
-returns-else-target g c play e f =
-    done_by_wire play c.args.target.now.named c.args.target.now.host c.args.words.now
+pub returns-then-line : goal.returns-then-line
+returns-then-line g c play e f =
+    done_by_nobody play c.args.target.now.named c.args.target.now.host (plain_of c.args.line.now)
+    (view c.args.hosts.now.segment) c.args.hosts.now.names.items e f c.if-target.false
+
+pub returns-else-line : goal.returns-else-line
+returns-else-line g c play e f = rw c.if-line.false
+    (done_by_wire play c.args.target.now.named c.args.target.now.host c.args.line.now.words
     (came_of c.answer_wire.result c.answer_wire.new.report.told c.answer_wire.new.report.below)
     (view c.args.hosts.now.segment)
     (view c.answer_wire.new.self.segment) c.args.hosts.now.names.items c.answer_wire.new.self.names.items e f
     c.if-target.false
     c.answer_wire.ensures.moves c.answer_wire.ensures.names
-    (tells_left c.answer_wire.result c.args.words.now c.args.words.now c.answer_wire.new.report.told
+    (tells_left c.answer_wire.result c.args.line.now.words c.bytes_of.result.now c.answer_wire.new.report.told
     c.answer_wire.new.report.below
-    (view c.answer_wire.new.self.segment) refl c.answer_wire.ensures.left)
+    (view c.answer_wire.new.self.segment) c.bytes_of.ensures.is c.answer_wire.ensures.left))

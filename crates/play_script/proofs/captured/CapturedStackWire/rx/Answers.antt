@@ -1,6 +1,6 @@
-use Rattle.std.proofs.Common.{refl, arith}
-use Rattle.flat_model.specs.Machine.Event.{Done}
-use Rattle.play_script.proofs.CaptureLemmas.{Captures-comes}
+use Rattle.std.proofs.Common.{Some, refl, arith}
+use Rattle.flat_model.specs.Machine.Event.{Comes, Done}
+use Rattle.play_script.proofs.CaptureLemmas.{Captures-one}
 use Rattle.play_script.proofs.PlayLemmas.{are_bytes}
 use Rattle.stack_call.specs.Moves.{Moves}
 use Rattle.play_script.proofs.captured.CapturedStackWire.rx.Goals as goal
@@ -10,7 +10,7 @@ unfolding Moves
 returns g c = (
   (are_bytes c.args.packet.now (λ k. omega (arith, c.type_inv.packet k)), c.requires),
   c.rx.ensures,
-  Captures-comes c.args.self.now.capture.line c.args.self.now.capture.trace c.keep.new.self c.args.packet.now Done
-      c.keep.ensures.kept c.keep.ensures.ticks,
-  refl,
+  Captures-one c.args.self.now.capture.line c.args.self.now.capture.trace c.keep.new.self.trace
+      (Comes c.args.packet.now) Done (Some c.args.packet.now) 0 refl refl c.keep.ensures.notes,
+  c.keep.ensures.line,
 )

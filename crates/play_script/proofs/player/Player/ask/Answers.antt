@@ -3,9 +3,9 @@ use Rattle.play_text.specs.Texts.{fault_text}
 use Rattle.play_script.specs.Inside.{play_of}
 use Rattle.play_script.specs.Plays.{captured_of}
 use Rattle.play_script.specs.Tells.{stays_head, told_text}
-use Rattle.play_script.specs.Views.{expected_on}
+use Rattle.play_script.specs.Views.{expected_on, plain_of}
 use Rattle.play_script.specs.declared.printer.Printer.{Printer}
-use Rattle.play_script.proofs.AnswerLemmas.{Ask-tells, None-tells, Settings-tell}
+use Rattle.play_script.proofs.AnswerLemmas.{Ask-tells, None-tells, Settings-tell, settings_words}
 use Rattle.stack_call.specs.Moves.{Moves}
 use Rattle.net_stack.specs.Stack.{state_of}
 use Rattle.play_script.proofs.player.Player.ask.Goals as goal
@@ -23,10 +23,10 @@ returns-in-Done g c =
       told_text now.printer.form now.printer.name now.printer.number now.line.shown (expected_on now.line) text below,
       Ask-tells Moves g.F.Folder.may_have
           (play_of (state_of now.captured.stack) now.captured.capture.trace now.config now.head now.printer)
-          (playing c.both-self.result c.put_told.new.self) now.line.shown now.line.words c.bytes_of.result.now
-          (expected_on now.line) done.0 text below
+          (playing c.both-self.result c.put_told.new.self) now.line.shown (plain_of now.line) (expected_on now.line)
+          done.0 text below
           (captured_of (state_of after.stack) after.capture.trace after.capture.line) c.is_quiet-self.result
-          c.bytes_of.ensures.is c.is_quiet-self.ensures done.1 done.2.0 (ap₂ playing head c.put_told.ensures.printer),
+          c.is_quiet-self.ensures done.1 done.2.0 (ap₂ playing head c.put_told.ensures.printer),
       c.put_told.ensures.text,
     )
 
@@ -39,8 +39,9 @@ returns-in-Settings g c =
       set.0,
       Settings-tell Moves g.F.Folder.may_have
           (play_of (state_of now.captured.stack) now.captured.capture.trace now.config now.head now.printer) _ _
-          now.line.shown now.line.words c.bytes_of.result.now set.0 (expected_on now.line) done.2.0.0 done.0
-          (captured_of (state_of after.stack) after.capture.trace after.capture.line) c.bytes_of.ensures.is done.1
+          now.line.shown (plain_of now.line) now.line.words set.0 (expected_on now.line) done.2.0.0 done.0
+          (captured_of (state_of after.stack) after.capture.trace after.capture.line)
+          (settings_words now.line done.0 done.2.0.0 done.1 done.2.0.1) done.1
           done.2.0.1 done.2.1 refl set.1,
       set.2,
     )
@@ -54,9 +55,8 @@ returns-in-Nothing g c =
       fault_text now.printer.form now.printer.name now.printer.number (codes "this asks for nothing"),
       None-tells Moves g.F.Folder.may_have
           (play_of (state_of now.captured.stack) now.captured.capture.trace now.config now.head now.printer)
-          (playing c.put_fault.new.self) now.line.shown now.line.words c.bytes_of.result.now (expected_on now.line)
-          (captured_of (state_of after.stack) after.capture.trace after.capture.line) c.bytes_of.ensures.is done.0
-          done.1
+          (playing c.put_fault.new.self) now.line.shown (plain_of now.line) (expected_on now.line)
+          (captured_of (state_of after.stack) after.capture.trace after.capture.line) done.0 done.1
           (ap playing c.put_fault.ensures.printer),
       c.put_fault.ensures.text,
     )

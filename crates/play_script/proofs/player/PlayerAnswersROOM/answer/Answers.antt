@@ -1,6 +1,6 @@
 use Rattle.std.proofs.Common.{◌≡◌, ap}
 use Rattle.play_script.specs.Inside.{play_of}
-use Rattle.play_script.specs.Views.{expected_on}
+use Rattle.play_script.specs.Views.{expected_on, plain_of}
 use Rattle.play_script.specs.declared.printer.Printer.{Printer}
 use Rattle.play_script.proofs.AnswerLemmas.{Asks-tells}
 use Rattle.stack_call.specs.Moves.{Moves}
@@ -16,7 +16,7 @@ returns-in-Asks g c =
     λ (p : Printer). play_of (state_of now.captured.stack) now.captured.capture.trace now.config now.head p in (
       told.0,
       Asks-tells Moves g.F.Folder.may_have (playing now.printer) (playing c.next_line.new.self) _ c.args.line.now
-          line.shown line.words told.0
+          line.shown (plain_of line) told.0
           (expected_on line) (ap playing c.next_line.ensures) c.in-Asks.ensures told.1,
       told.2,
     )

@@ -21,15 +21,15 @@ returns-in-Ok g c =
     let wanted = expected_on now.line in
     let host = named_by now.target in
     let shown =
-    c.bytes_of-in-Ok-2.ensures.is ∙ c.label.ensures.line
-    ∙ ap (λ (t : List ℕ). labelled host t) c.bytes_of-in-Ok.ensures.is in (
+    c.bytes_of-in-Ok.ensures.is ∙ c.label.ensures.line
+    ∙ ap (λ (t : List ℕ). labelled host t) c.bytes_of.ensures.is in (
       did.0,
       text_of p host now.line.shown wanted (Told told below),
       (
         Told told below,
         segment,
         names,
-        subst (λ (w : List ℕ). IsDone p host w did.0 (Told told below) segment names) c.bytes_of.ensures.is did.1,
+        did.1,
         refl,
         ap (λ (q : Printer). play_with segment names q) c.put_labelled.ensures.printer,
       ),
@@ -51,8 +51,7 @@ returns-in-Err g c =
         Refused c.in-Err.fault,
         segment,
         names,
-        subst (λ (w : List ℕ). IsDone p host w did.0 (Refused c.in-Err.fault) segment names) c.bytes_of.ensures.is
-            did.1,
+        did.1,
         refl,
         ap (λ (q : Printer). play_with segment names q) c.put_refusal.ensures.printer
             ∙ ap (λ (b : Bool). record p { segment = segment; names = names; sound = b }) (and_false now.printer.sound),
