@@ -42,6 +42,8 @@ pub(crate) fn close(stack: &mut Stack, fd: u32) -> i32
 }
 
 /// Sets or clears an option.
+// Apart: two exports call it, which nobody calls for each datagram.
+#[inline(never)]
 pub(crate) fn set(stack: &mut Stack, fd: u32, option: Opt, on: bool) -> i32
     ensures { IsDone (Set_option fd option on) result stack.old stack.new }
 {
