@@ -31,7 +31,9 @@ pub(crate) fn u32_at(order: Order, bytes: &[u8], at: usize) -> u32
 /// The number of 32 bits in front, and the bytes behind it.
 pub(crate) fn first_u32(order: Order, bytes: &[u8]) -> (u32, &[u8])
     requires { 4 ≤ length bytes.now }
-    ensures { bytes.now ≡ number order w32 result.0 ++ result.1.now }
+    ensures front { bytes.now ≡ number order w32 result.0 ++ result.1.now }
+    ensures number { result.0 ≡ number_of order w32 bytes.now }
+    ensures behind { result.1.now ≡ drop 4 bytes.now }
 {
     (u32_at(order, bytes, 0), &bytes[4..])
 }

@@ -1,13 +1,14 @@
 //! Files read, record by record or whole.
-ghost use Rattle.std.specs.Prelude.{◌≡◌, ◌+◌, ◌*◌, ℕ, drop, length, IfOk, Result};
-ghost use Rattle.pcap.specs.File.{Gives, header_of};
-ghost use Rattle.pcap.specs.Records.{Captured, Reads, Steps, Whole, Reading, nanoseconds};
-ghost use Rattle.pcap.specs.Seen.{Answers, stepped};
+ghost use Rattle.std.specs.Prelude.{◌≡◌, ◌+◌, ◌*◌, ◌^◌, ◌<◌, ◌≤◌, ◌++◌, ℕ, drop, length, IfOk, IfErr, OnErr, Result};
+ghost use Rattle.std.specs.Int.{w32};
+ghost use Rattle.pcap.specs.File.{Gives, header_of, number_of};
+ghost use Rattle.pcap.specs.Records.{Captured, Fits, IsCut, Reads, Steps, Whole, Reading, nanoseconds, record_bytes};
+ghost use Rattle.pcap.specs.Seen.{Answers, captured, stepped};
 ghost use Rattle.pcap.specs.declared.fault.Fault.{Fault};
 
 use crate::fault::{Fault, ReadError, Why};
-use crate::header::{HEADER_BYTES, Header, Resolution, read_header};
-use crate::numbers::first_u32;
+use crate::header::{HEADER_BYTES, Header, Order, Resolution, read_header};
+use crate::numbers::{first_u32, u32_at};
 use std::alloc::Global;
 use std::marker::Model;
 
@@ -54,6 +55,49 @@ pub struct Capture<'a> {
     pub records: Vec<Record<'a>>,
 }
 
+/// How many bytes were captured in the record that begins these bytes, as its header says. There are 16 at least.
+pub fn captured_len(order: Order, bytes: &[u8]) -> usize
+    requires { 16 ≤ length bytes.now }
+    ensures is { result ≡ number_of order w32 (drop 8 bytes.now) }
+    ensures short { result < 2 ^ 32 }
+{
+    u32_at(order, bytes, 8) as usize
+}
+
+/// The record that begins these bytes, and what stands behind it. Refused with `RecordCut` if there are fewer than its
+/// header's 16 bytes, and with `BytesCut` if there are fewer than the header says, by the offset in these bytes.
+pub fn first_record(order: Order, bytes: &[u8]) -> Result<(Record<'_>, &[u8]), Fault>
+    requires { 0 < length bytes.now }
+    ensures fits { IfOk result (λ r. Fits (captured r.0)) }
+    ensures spelled { IfOk result (λ r. bytes.now ≡ record_bytes order (captured r.0) ++ r.1.now) }
+    ensures sized { IfOk result (λ r. length bytes.now ≡ 16 + number_of order w32 (drop 8 bytes.now) + length r.1.now) }
+    ensures cut { IfErr result (λ f. IsCut f.why order bytes.now f.offset) }
+    ensures short { OnErr result (length bytes.now < 16 + number_of order w32 (drop 8 bytes.now)) }
+    ensures inside { IfErr result (λ f. f.offset ≤ 8) }
+{
+    if bytes.len() < RECORD_HEADER_BYTES {
+        return Err(Why::RecordCut.at(0));
+    }
+    let (seconds, rest) = first_u32(order, bytes);
+    let (fraction, rest) = first_u32(order, rest);
+    let (captured, rest) = first_u32(order, rest);
+    let (original_len, rest) = first_u32(order, rest);
+    let captured = captured as usize;
+    if rest.len() < captured {
+        return Err(Why::BytesCut.at(8));
+    }
+    let (bytes, rest) = rest.split_at(captured);
+    Ok((
+        Record {
+            seconds,
+            fraction,
+            original_len,
+            bytes,
+        },
+        rest,
+    ))
+}
+
 impl<'a> Reader<'a> {
     /// Opens a file, of which all bytes are given. Refused with the first fault of its header: `HeaderCut`, `BadMagic`,
     /// `BadVersion`, `BadLinkType`.
@@ -92,27 +136,13 @@ impl<'a> Reader<'a> {
         if self.rest.is_empty() {
             return Ok(None);
         }
-        let offset = self.offset();
-        if self.rest.len() < RECORD_HEADER_BYTES {
-            return Err(Why::RecordCut.at(offset));
+        match first_record(self.header.order, self.rest) {
+            Ok((record, rest)) => {
+                self.rest = rest;
+                Ok(Some(record))
+            }
+            Err(found) => Err(found.why.at(self.offset() + found.offset)),
         }
-        let order = self.header.order;
-        let (seconds, rest) = first_u32(order, self.rest);
-        let (fraction, rest) = first_u32(order, rest);
-        let (captured, rest) = first_u32(order, rest);
-        let (original_len, rest) = first_u32(order, rest);
-        let captured = captured as usize;
-        if rest.len() < captured {
-            return Err(Why::BytesCut.at(offset + 8));
-        }
-        let (bytes, rest) = rest.split_at(captured);
-        self.rest = rest;
-        Ok(Some(Record {
-            seconds,
-            fraction,
-            original_len,
-            bytes,
-        }))
     }
 }
 

@@ -1,0 +1,3 @@
+pub mod Heads
+mod Options
+mod Spelled
