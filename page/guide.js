@@ -126,7 +126,8 @@ function guessView(i) {
 
 // The script of an exercise without what is expected: that is to be found.
 const unsolved = text => linesOf(text).filter(line => !line.startsWith("##"))
-  .map(line => (line.startsWith("#") ? line : withoutReply(line))).join("\n") + "\n";
+  .map(line => (line.startsWith("#?") ? line.replace(/ *=>.*$/, "") : line.startsWith("#") ? line : withoutReply(line)))
+  .join("\n") + "\n";
 
 function withoutReply(text) {
   const { line, expected } = readLine(text);

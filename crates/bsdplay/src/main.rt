@@ -6,14 +6,18 @@ mod capture;
 mod choice;
 mod folder;
 mod form;
+mod grade;
+mod hand_in;
 mod hosts;
 mod one;
+mod strict;
 mod sweep;
 
 use capture::print_capture;
 use choice::Ahead;
 use clap::{Arg, ArgAction, ArgMatches, Command};
 use form::{form_of, with_forms};
+use grade::grade;
 use hosts::{play_captured, play_uncaptured, status_of};
 use one::play_one;
 use play_script::{Form, Played, Silent, Style};
@@ -21,10 +25,14 @@ use std::alloc::{AllocError, Global};
 use std::io::{IsTerminal, Read};
 use std::process::ExitCode;
 use std::{env, fs, io};
+use strict::{print_blank, tell_lacks};
 use sweep::{Seeds, seed_in, seeds_in, sweep};
 
 /// The status if the command line can't be read.
 const USAGE: u8 = 2;
+
+/// The status if nothing is expected of a line, and `--strict` wants it.
+const LACKS: u8 = 1;
 
 /// The status if a script can't be opened, or something can't be printed.
 const UNREAD: u8 = 4;
@@ -88,13 +96,50 @@ fn with_captures<'a>(alloc: Global, command: Command<'a>) -> Result<Command<'a>,
         )
 }
 
+/// The options for teachers.
+fn with_grades<'a>(alloc: Global, command: Command<'a>) -> Result<Command<'a>, AllocError> {
+    command
+        .arg(
+            Arg::new(alloc, "strict")
+                .long("strict")
+                .help(
+                    "Each line that asks for something has to have an expectation that says something",
+                )
+                .action(ArgAction::SetTrue),
+        )?
+        .arg(
+            Arg::new(alloc, "grade")
+                .long("grade")
+                .help("Print one verdict for each FILE: passed, failed, empty or unread")
+                .action(ArgAction::SetTrue),
+        )?
+        .arg(
+            Arg::new(alloc, "KEY")
+                .long("key")
+                .help("With --grade: the solved script, whose replies and answers count")
+                .action(ArgAction::Set),
+        )?
+        .arg(
+            Arg::new(alloc, "csv")
+                .long("csv")
+                .help("With --grade: a table in CSV, for spreadsheets")
+                .action(ArgAction::SetTrue),
+        )?
+        .arg(
+            Arg::new(alloc, "SOLVED")
+                .long("blank")
+                .help("Print this key as an exercise, with ? in the place of replies and answers")
+                .action(ArgAction::Set),
+        )
+}
+
 /// The command line.
 fn command<'a>(alloc: Global) -> Result<Command<'a>, AllocError> {
     let command = Command::new(alloc, "bsdplay").version("0.2.0").about(
         "Plays scripts of socket calls, packets and ticks, and says what came of each line",
     );
     let command = with_wire(alloc, with_forms(alloc, command)?)?;
-    with_captures(alloc, command)?.arg(
+    with_captures(alloc, with_grades(alloc, command)?)?.arg(
         Arg::new(alloc, "FILE")
             .help("Scripts, each played on a new machine; '-' or none: standard input")
             .action(ArgAction::Append),
@@ -118,6 +163,8 @@ struct Manner<'a> {
     seeds: Option<Seeds>,
     summary: bool,
     progress: bool,
+    /// Whether each line that asks for something has to have an expectation.
+    strict: bool,
     /// Where the capture is written.
     capture: Option<&'a str>,
 }
@@ -138,6 +185,7 @@ fn manner_of<'a>(found: &'a ArgMatches<'_>, form: Form) -> Option<Manner<'a>> {
         seeds,
         summary: found.get_flag("summary"),
         progress: found.get_flag("progress"),
+        strict: found.get_flag("strict"),
         capture: found.get_str("PCAP"),
     })
 }
@@ -198,6 +246,24 @@ fn play_wired<R: Read + Drop>(
     status_of(rt, &done.played, done.kept)
 }
 
+/// Plays a script as [`play_source`] does, after it was read whole, and says then of which lines nothing is expected.
+fn play_strictly<R: Read + Drop>(
+    rt: &HostRuntime,
+    mut source: R,
+    name: &str,
+    manner: Manner<'_>,
+) -> io::Result<u8> {
+    let mut script = Vec::new(rt.alloc());
+    source.read_to_end(&mut script)?;
+    let status = play_source(rt, script.as_slice(), name, manner)?;
+    let style = Style {
+        form: manner.form,
+        name: name.as_bytes(),
+    };
+    let lacks = tell_lacks(rt, script.as_slice(), style)?;
+    Ok(if lacks && status == 0 { LACKS } else { status })
+}
+
 /// Plays a script: on many machines if it begins with a host, and else on one.
 fn play_source<R: Read + Drop>(
     rt: &HostRuntime,
@@ -219,16 +285,30 @@ fn play_source<R: Read + Drop>(
     play_one(rt, &mut reader, name, style, manner.capture)
 }
 
+/// Plays a script, strictly if that's wanted.
+fn play_input<R: Read + Drop>(
+    rt: &HostRuntime,
+    source: R,
+    name: &str,
+    manner: Manner<'_>,
+) -> io::Result<u8> {
+    if manner.strict {
+        play_strictly(rt, source, name, manner)
+    } else {
+        play_source(rt, source, name, manner)
+    }
+}
+
 /// Plays a script that stands in a file, or standard input if its name is `-`.
 fn play_file(rt: &HostRuntime, name: &str, manner: Manner<'_>) -> io::Result<u8> {
     if name == "-" {
-        return play_source(rt, rt.stdin(), "-", manner);
+        return play_input(rt, rt.stdin(), "-", manner);
     }
     let Ok(file) = fs::open(rt, name) else {
         eprintln!(rt; "bsdplay: {name}: it can't be opened")?;
         return Ok(UNREAD);
     };
-    play_source(rt, file, name, manner)
+    play_input(rt, file, name, manner)
 }
 
 /// Plays all scripts, and answers the greatest of their statuses.
@@ -245,7 +325,7 @@ fn play_all(rt: &HostRuntime, found: &ArgMatches<'_>) -> io::Result<u8> {
         return Ok(USAGE);
     };
     let Some(names) = found.get_strs("FILE") else {
-        return play_source(rt, rt.stdin(), "-", manner);
+        return play_input(rt, rt.stdin(), "-", manner);
     };
     let mut captured = false;
     let mut worst = 0;
@@ -263,6 +343,40 @@ fn play_all(rt: &HostRuntime, found: &ArgMatches<'_>) -> io::Result<u8> {
     Ok(worst)
 }
 
+/// What is wrong with options that stand beside one another, if something is.
+fn misfit(found: &ArgMatches<'_>) -> Option<&'static str> {
+    let graded = found.get_flag("grade");
+    if !graded && (found.get_str("KEY").is_some() || found.get_flag("csv")) {
+        return Some("--key and --csv go with --grade");
+    }
+    if graded && (found.get_flag("json") || found.get_flag("strict")) {
+        return Some("--grade prints verdicts alone, so it goes without --json and --strict");
+    }
+    if graded && (found.get_str("PCAP").is_some() || found.get_str("seeds").is_some()) {
+        return Some("--grade plays each hand-in once, so it goes without --pcap and --seeds");
+    }
+    None
+}
+
+/// Does what the options ask for.
+fn serve_found(rt: &HostRuntime, found: &ArgMatches<'_>) -> io::Result<u8> {
+    if let Some(what) = misfit(found) {
+        eprintln!(rt; "bsdplay: {what}")?;
+        return Ok(USAGE);
+    }
+    if let Some(name) = found.get_str("CAPTURE") {
+        return print_capture(rt, name, found);
+    }
+    if let Some(name) = found.get_str("SOLVED") {
+        return print_blank(rt, name);
+    }
+    if found.get_flag("grade") {
+        grade(rt, found)
+    } else {
+        play_all(rt, found)
+    }
+}
+
 /// The words that the program was called with, its name first.
 fn words(rt: &HostRuntime) -> io::Result<Vec<String>> {
     Ok(env::args(rt)?.collect(rt.alloc())?)
@@ -275,10 +389,7 @@ fn serve(rt: &HostRuntime) -> io::Result<u8> {
         return Ok(USAGE);
     };
     match command(rt.alloc())?.try_get_matches_from(words.as_slice()) {
-        Ok(found) => match found.get_str("CAPTURE") {
-            Some(name) => print_capture(rt, name, &found),
-            None => play_all(rt, &found),
-        },
+        Ok(found) => serve_found(rt, &found),
         Err(error) => {
             error.print(rt)?;
             Ok(error.exit_code() as u8)

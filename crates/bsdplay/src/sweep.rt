@@ -30,7 +30,7 @@ pub(crate) fn seeds_in(word: &str) -> Option<Seeds> {
 }
 
 /// The first of these lines that begins with a script's name and a colon: what was wrong with one of its lines.
-fn first_fault<'a>(written: &'a [u8], name: &[u8]) -> &'a [u8] {
+pub(crate) fn first_fault<'a>(written: &'a [u8], name: &[u8]) -> &'a [u8] {
     let mut rest = written;
     for _ in 0..written.len() {
         let Some(at) = rest.iter().position(|byte| *byte == b'\n') else {

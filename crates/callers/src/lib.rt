@@ -13,6 +13,7 @@ pub mod datagram_sizes;
 pub mod echo_host;
 pub mod ether_echo;
 pub mod fragment;
+pub mod handed_in;
 pub mod hearing;
 pub mod line_echo;
 pub mod lines_of_hosts;

@@ -1,0 +1,269 @@
+//! Hand-ins that are graded, by a key or by what they expect themselves.
+use crate::hand_in::{load, play_quietly, unmarked};
+use crate::sweep::first_fault;
+use crate::{UNREAD, USAGE};
+use clap::ArgMatches;
+use csv::Writer;
+use play_grade::{Marker, Marks, Verdict};
+use std::io::{self, Write};
+
+/// The status if a hand-in doesn't pass, or the key itself doesn't.
+const FAILED: u8 = 1;
+
+/// What is reported of a hand-in.
+#[derive(Clone, Copy)]
+struct Report<'a> {
+    name: &'a str,
+    /// `passed`, `failed`, `empty` or `unread`.
+    word: &'static str,
+    marks: Option<Marks>,
+    /// What is wrong first, if something is.
+    note: &'a [u8],
+}
+
+/// A verdict in one word.
+fn word_of(verdict: &Verdict) -> &'static str {
+    if verdict.is_passed() {
+        "passed"
+    } else if verdict.marks.right == 0 && verdict.marks.wrong == 0 {
+        "empty"
+    } else {
+        "failed"
+    }
+}
+
+/// Prints a report for people, in a line.
+fn print_line(out: &mut impl Write, report: &Report<'_>) -> io::Result<()> {
+    write!(out, "{}: {}", report.name, report.word)?;
+    if let Some(marks) = report.marks {
+        write!(
+            out,
+            ", {} right, {} wrong, {} missing",
+            marks.right, marks.wrong, marks.missing
+        )?;
+        if let Some(first) = marks.first {
+            write!(out, ", first at line {first} of the key")?;
+        }
+    }
+    if !report.note.is_empty() {
+        out.write_all(b"; ")?;
+        out.write_all(report.note)?;
+    }
+    writeln!(out)
+}
+
+/// Writes a number as a field, or nothing if there is none.
+fn write_number<W: Write + Drop>(
+    table: &mut Writer<W>,
+    number: Option<u64>,
+) -> Result<(), csv::Error> {
+    let mut digits = itoa::Buffer::new();
+    match number {
+        Some(number) => table.write_field(digits.format(number).as_bytes()),
+        None => table.write_field(b""),
+    }
+}
+
+/// Writes a report as a record.
+fn write_record<W: Write + Drop>(
+    table: &mut Writer<W>,
+    report: &Report<'_>,
+) -> Result<(), csv::Error> {
+    table.write_field(report.name.as_bytes())?;
+    table.write_field(report.word.as_bytes())?;
+    let marks = report.marks;
+    write_number(table, marks.map(|marks| marks.right))?;
+    write_number(table, marks.map(|marks| marks.wrong))?;
+    write_number(table, marks.map(|marks| marks.missing))?;
+    write_number(table, marks.and_then(|marks| marks.first))?;
+    table.write_field(report.note)?;
+    table.end_record()
+}
+
+/// The names of the fields, as the first record.
+fn write_head<W: Write + Drop>(table: &mut Writer<W>) -> Result<(), csv::Error> {
+    for name in [
+        "file", "verdict", "right", "wrong", "missing", "first", "note",
+    ] {
+        table.write_field(name.as_bytes())?;
+    }
+    table.end_record()
+}
+
+/// Where reports go.
+#[derive(Drop)]
+enum Reports<W: Write + Drop> {
+    Lines(W),
+    Table(Writer<W>),
+}
+
+impl<W: Write + Drop> Reports<W> {
+    /// Adds a report. Whether it was written.
+    fn add(&mut self, report: &Report<'_>) -> bool {
+        match self {
+            Reports::Lines(out) => print_line(out, report).is_ok(),
+            Reports::Table(table) => write_record(table, report).is_ok() && table.flush().is_ok(),
+        }
+    }
+}
+
+/// What hand-ins are graded by.
+#[derive(Drop)]
+struct Grader<'a> {
+    marker: Marker,
+    /// The key, if there is one.
+    key: Option<&'a [u8]>,
+    /// What is printed of a script.
+    written: Vec<u8>,
+}
+
+impl<'a> Grader<'a> {
+    /// Takes its memory.
+    fn new(rt: &HostRuntime, key: Option<&'a [u8]>) -> io::Result<Grader<'a>> {
+        Ok(Grader {
+            marker: Marker::new(rt.alloc())?,
+            key,
+            written: Vec::new(rt.alloc()),
+        })
+    }
+
+    /// Plays a hand-in and marks it.
+    fn grade(&mut self, rt: &HostRuntime, name: &str, script: &[u8]) -> Verdict {
+        self.written.clear();
+        let played = play_quietly(rt, script, name, &mut self.written);
+        let marks = match self.key {
+            Some(key) => self.marker.marks_by(key, script),
+            None => self.marker.own_marks(script),
+        };
+        Verdict { played, marks }
+    }
+}
+
+/// Says on standard error why a key can't be graded by.
+fn refuse_key(rt: &HostRuntime, name: &str, verdict: &Verdict, written: &[u8]) -> io::Result<()> {
+    let mut out = rt.stderr();
+    if let Err(fault) = verdict.played.outcome {
+        writeln!(out, "bsdplay: {name}: {fault}")?;
+    } else if !verdict.played.sound {
+        out.write_all(first_fault(written, name.as_bytes()))?;
+        writeln!(out)?;
+    } else if let Some(first) = verdict.marks.first {
+        writeln!(
+            out,
+            "{name}:{first}: nothing is expected of this line, or it's a question without an answer"
+        )?;
+    } else {
+        writeln!(out, "{name}: nothing is expected in it")?;
+    }
+    writeln!(
+        out,
+        "bsdplay: {name}: no hand-in is graded, since the key itself doesn't pass"
+    )
+}
+
+/// Whether a key passes itself; if not, it's said why.
+fn is_key(rt: &HostRuntime, name: &str, key: &[u8]) -> io::Result<bool> {
+    let mut grader = Grader::new(rt, None)?;
+    let verdict = grader.grade(rt, name, key);
+    if verdict.is_passed() {
+        return Ok(true);
+    }
+    refuse_key(rt, name, &verdict, grader.written.as_slice())?;
+    Ok(false)
+}
+
+/// Grades a hand-in and reports it. The answer is its status.
+fn grade_file<W: Write + Drop>(
+    rt: &HostRuntime,
+    grader: &mut Grader<'_>,
+    reports: &mut Reports<W>,
+    name: &str,
+) -> u8 {
+    let file = match load(rt, name) {
+        Ok(file) => file,
+        Err(why) => {
+            let report = Report {
+                name,
+                word: "unread",
+                marks: None,
+                note: why.as_bytes(),
+            };
+            reports.add(&report);
+            return UNREAD;
+        }
+    };
+    let verdict = grader.grade(rt, name, unmarked(file.as_slice()));
+    let report = Report {
+        name,
+        word: word_of(&verdict),
+        marks: Some(verdict.marks),
+        note: first_fault(grader.written.as_slice(), name.as_bytes()),
+    };
+    if !reports.add(&report) {
+        UNREAD
+    } else if verdict.is_passed() {
+        0
+    } else {
+        FAILED
+    }
+}
+
+/// Grades all hand-ins and answers the greatest status.
+fn grade_all<W: Write + Drop>(
+    rt: &HostRuntime,
+    grader: &mut Grader<'_>,
+    reports: &mut Reports<W>,
+    found: &ArgMatches<'_>,
+) -> io::Result<u8> {
+    let Some(names) = found.get_strs("FILE") else {
+        eprintln!(rt; "bsdplay: --grade wants the files of the hand-ins")?;
+        return Ok(USAGE);
+    };
+    let (mut worst, mut all, mut passed) = (0, 0u64, 0u64);
+    for name in names {
+        let status = grade_file(rt, grader, reports, name);
+        all = all.saturating_add(1);
+        if status == 0 {
+            passed = passed.saturating_add(1);
+        }
+        if status > worst {
+            worst = status;
+        }
+    }
+    eprintln!(rt; "bsdplay: {passed} of {all} hand-ins pass")?;
+    Ok(worst)
+}
+
+/// Grades by this key, or by what the hand-ins expect themselves.
+fn grade_by(rt: &HostRuntime, found: &ArgMatches<'_>, key: Option<&[u8]>) -> io::Result<u8> {
+    let mut grader = Grader::new(rt, key)?;
+    if !found.get_flag("csv") {
+        let mut reports = Reports::Lines(rt.stdout());
+        return grade_all(rt, &mut grader, &mut reports, found);
+    }
+    let mut table = Writer::from_writer(rt.stdout());
+    if write_head(&mut table).is_err() {
+        return Ok(UNREAD);
+    }
+    grade_all(rt, &mut grader, &mut Reports::Table(table), found)
+}
+
+/// Grades the hand-ins that the command line names.
+pub(crate) fn grade(rt: &HostRuntime, found: &ArgMatches<'_>) -> io::Result<u8> {
+    let Some(name) = found.get_str("KEY") else {
+        return grade_by(rt, found, None);
+    };
+    let file = match load(rt, name) {
+        Ok(file) => file,
+        Err(why) => {
+            eprintln!(rt; "bsdplay: {name}: {why}: no hand-in is graded without its key")?;
+            return Ok(UNREAD);
+        }
+    };
+    let key = unmarked(file.as_slice());
+    if is_key(rt, name, key)? {
+        grade_by(rt, found, Some(key))
+    } else {
+        Ok(FAILED)
+    }
+}

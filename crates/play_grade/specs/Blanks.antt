@@ -1,0 +1,23 @@
+-- A key's lines as an exercise has them (this project's own).
+use Rattle.std.specs.Prelude.{ℕ, ◌==◌, ◌&&◌, Bool, List, [], ◌++◌, get_or, if◌then◌else◌, codes, Option, Some, None}
+use Rattle.play_script.specs.Lines.{Reading, Nothing, TooLong, Faulty, Asks}
+use Rattle.play_grade.specs.Asked.{is_question, asked_on}
+
+-- a comment that is the key's alone begins with `##`
+abbrev pub is_private : List ℕ → Bool
+is_private line = (get_or line 0 0 == 35) && (get_or line 1 0 == 35)
+
+abbrev pub blank_asked : List ℕ → List ℕ → Option (List ℕ) → List ℕ
+blank_asked line shown None = line ++ codes "\n"
+blank_asked line shown (Some wanted) =
+    (if is_question line then codes "#? " else []) ++ shown ++ codes " => ?\n"
+
+abbrev pub blank_reading : List ℕ → Reading → List ℕ
+blank_reading line Nothing = line ++ codes "\n"
+blank_reading line TooLong = line ++ codes "\n"
+blank_reading line (Faulty slip) = line ++ codes "\n"
+blank_reading line (Asks shown plain wanted) = blank_asked line shown wanted
+
+-- a line without its answer, or nothing of one that is the key's alone
+abbrev pub blank_line : List ℕ → List ℕ
+blank_line line = if is_private line then [] else blank_reading line (asked_on line)

@@ -1,0 +1,49 @@
+-- Lines of which nothing is expected (this project's own).
+use Rattle.std.specs.Prelude.{ℕ, ◌||◌, not, Bool, false, List, [], ◌∷◌, if◌then◌else◌, codes, bytes_eq, Option}
+use Rattle.flat_model.specs.Machine.Count.{more_by}
+use Rattle.flat_model.specs.Scripts.Grammar.{words}
+use Rattle.play_read.specs.Settings.{has_dashes}
+use Rattle.play_script.specs.Lines.{Reading, Nothing, TooLong, Faulty, Asks}
+use Rattle.play_grade.specs.Asked.{lines_in, asked_on}
+use Rattle.play_grade.specs.Answers.{is_answer}
+use Rattle.play_grade.specs.Marks.{counted, no_marks}
+use Rattle.play_grade.specs.declared.marks.Mark.TheVariants.{Right, Missing}
+use Rattle.play_grade.specs.declared.marks.Marks.{Marks}
+
+-- names a host, or the wire
+abbrev pub names_hosts : List (List ℕ) → Bool
+names_hosts [] = false
+names_hosts (word ∷ words) = bytes_eq word (codes "host") || bytes_eq word (codes "wire")
+
+-- a line says what machines there are, and so needn't have an expectation
+abbrev pub is_setup : List ℕ → Bool
+is_setup plain = has_dashes plain || names_hosts (words plain)
+
+abbrev pub lacks_answer : Reading → Bool
+lacks_answer Nothing = false
+lacks_answer TooLong = false
+lacks_answer (Faulty slip) = false
+lacks_answer (Asks shown plain wanted) = if is_setup plain then false else not (is_answer wanted)
+
+-- a line asks for something, and nothing is expected of it; or it's a question without an answer
+abbrev pub lacks : List ℕ → Bool
+lacks line = lacks_answer (asked_on line)
+
+-- ---- a script's own marks: each line that asks for something is right if it has an answer, and else missing
+
+abbrev pub own_counted : Reading → ℕ → Marks → Marks
+own_counted Nothing number marks = marks
+own_counted TooLong number marks = marks
+own_counted (Faulty slip) number marks = marks
+own_counted (Asks shown plain wanted) number marks =
+    if is_setup plain then marks
+    else if is_answer wanted then counted Right number marks
+    else counted Missing number marks
+
+abbrev pub own_after : ℕ → List (List ℕ) → Marks → Marks
+own_after number [] marks = marks
+own_after number (line ∷ lines) marks =
+    own_after (more_by 1 number) lines (own_counted (asked_on line) (more_by 1 number) marks)
+
+abbrev pub own_marks : List ℕ → Marks
+own_marks script = own_after 0 (lines_in script) no_marks

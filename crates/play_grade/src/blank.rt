@@ -1,0 +1,38 @@
+//! Exercises that are made of a key.
+ghost use Rattle.std.specs.Prelude.{◌≡◌, ◌++◌, IfOk};
+ghost use Rattle.play_grade.specs.Blanks as blanks;
+
+use crate::asked::{is_question, read_asked};
+use crate::marker::Marker;
+use play_script::{Kind, bytes_of};
+use std::alloc::AllocError;
+
+/// Whether a line is a comment that is the key's alone: it begins with `##`.
+fn is_private(line: &[u8]) -> bool
+    ensures { result ≡ blanks.is_private line.now }
+{
+    line.len() >= 2 && line[0] == b'#' && line[1] == b'#'
+}
+
+impl Marker {
+    /// Puts a line of a key after the text as an exercise has it: `?` stands in the place of what is expected, or of
+    /// the answer, and nothing is put for a comment that begins with `##`. If memory is lacking, a part of it was put.
+    pub fn put_blank(&mut self, line: &[u8], text: &mut Vec<u8>) -> Result<(), AllocError>
+        ensures { IfOk result (λ u. text.new.items ≡ text.old.items ++ blanks.blank_line line.now) }
+    {
+        if is_private(line) {
+            return Ok(());
+        }
+        let kind = read_asked(line, &mut self.reader, &mut self.asked);
+        if matches!(kind, Kind::Asks) && self.asked.expects {
+            if is_question(line) {
+                text.extend_from_slice(b"#? ")?;
+            }
+            text.extend_from_slice(bytes_of(&self.asked.shown))?;
+            text.extend_from_slice(b" => ?\n")
+        } else {
+            text.extend_from_slice(line)?;
+            text.extend_from_slice(b"\n")
+        }
+    }
+}

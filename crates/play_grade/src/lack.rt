@@ -1,0 +1,72 @@
+//! Lines of which nothing is expected.
+ghost use Rattle.std.specs.Prelude.{◌≡◌};
+ghost use Rattle.flat_model.specs.Scripts.Grammar.{words};
+ghost use Rattle.play_grade.specs.Asked.{asked_on};
+ghost use Rattle.play_grade.specs.Lacks as lacks;
+
+use crate::answers::is_answered;
+use crate::asked::read_asked;
+use crate::lines::first_line;
+use crate::marker::Marker;
+use crate::marks::{Mark, Marks};
+use play_script::{Kind, bytes_of};
+use script_loop::first_word;
+
+/// Whether the first word of a plain line names a host, or the wire.
+fn names_hosts(plain: &[u8]) -> bool
+    ensures { result ≡ lacks.names_hosts (words plain.now) }
+{
+    let (word, _) = first_word(plain);
+    word == b"host".as_slice() || word == b"wire".as_slice()
+}
+
+/// Whether a plain line says what machines there are: it begins with `--`, `host` or `wire`.
+fn is_setup(plain: &[u8]) -> bool
+    ensures { result ≡ lacks.is_setup plain.now }
+{
+    (plain.len() >= 2 && plain[0] == b'-' && plain[1] == b'-') || names_hosts(plain)
+}
+
+impl Marker {
+    /// Whether a line asks for something, and nothing is expected of it; or it's a question without an answer. An
+    /// expectation of `_`, `?` and `..` alone is none. A line that says what machines there are needs none.
+    pub fn lacks(&mut self, line: &[u8]) -> bool
+        ensures { result ≡ lacks.lacks line.now }
+    {
+        match read_asked(line, &mut self.reader, &mut self.asked) {
+            Kind::Asks => { !is_setup(bytes_of(&self.asked.words)) && !is_answered(&self.asked) }
+            Kind::Nothing | Kind::TooLong | Kind::Faulty(_) => false,
+        }
+    }
+
+    /// The marks with one line more.
+    fn own_counted(&mut self, line: &[u8], number: u64, marks: Marks) -> Marks
+        ensures { result ≡ lacks.own_counted (asked_on line.now) number marks }
+    {
+        match read_asked(line, &mut self.reader, &mut self.asked) {
+            Kind::Asks if is_setup(bytes_of(&self.asked.words)) => marks,
+            Kind::Asks if is_answered(&self.asked) => marks.counted(Mark::Right, number),
+            Kind::Asks => marks.counted(Mark::Missing, number),
+            Kind::Nothing | Kind::TooLong | Kind::Faulty(_) => marks,
+        }
+    }
+
+    /// Marks a script that has no key: each line that asks for something counts as right if something is expected of
+    /// it, and as missing if not. Whether that comes is seen by playing it.
+    pub fn own_marks(&mut self, script: &[u8]) -> Marks
+        ensures { result ≡ lacks.own_marks script.now }
+    {
+        let mut marks = Marks::none();
+        let mut number = 0u64;
+        let mut left = script;
+        'lines: loop {
+            let (line, more) = first_line(left);
+            number = number.saturating_add(1);
+            marks = self.own_counted(line, number, marks);
+            match more {
+                Some(more) => left = more,
+                None => return marks,
+            }
+        }
+    }
+}

@@ -1,0 +1,145 @@
+//! What marks hand-ins.
+ghost use Rattle.std.specs.Prelude.{◌≡◌, MatchOption, List, None, Option, true, ℕ};
+ghost use Rattle.play_script.specs.Views.{expected_on};
+ghost use Rattle.play_grade.specs.Asked.{asked_on, lines_in, lines_left};
+ghost use Rattle.play_grade.specs.Grades as grades;
+ghost use Rattle.play_grade.specs.Inside.{standing_of};
+
+use crate::answers::{is_answered, mark_of};
+use crate::asked::read_asked;
+use crate::lines::first_line;
+use crate::marks::{Mark, Marks};
+use play_packet::LineReader;
+use play_script::{Kind, Line, bytes_of};
+use std::alloc::{AllocError, Global};
+
+/// What marks hand-ins: the memory that lines are read into.
+#[derive(Drop)]
+pub struct Marker {
+    pub(crate) reader: LineReader,
+    /// The line of the key.
+    pub(crate) asked: Line,
+    /// The line of the hand-in.
+    given: Line,
+}
+
+/// What is known after some lines of the key.
+#[derive(Clone, Copy)]
+pub(crate) struct Standing<'h> {
+    /// How many lines these are.
+    number: u64,
+    marks: Marks,
+    /// What is left of the hand-in.
+    left: Option<&'h [u8]>,
+}
+
+/// Whether a line asks just this. What it answers stands in `given` then.
+fn asks(asked: &[u8], text: &[u8], reader: &mut LineReader, given: &mut Line) -> bool
+    ensures { (rest : List (List ℕ)) (later : Option grades.Found)
+        → grades.found_on asked.now (asked_on text.now) rest later
+        ≡ grades.found_if result (expected_on given.new) rest later }
+{
+    match read_asked(text, reader, given) {
+        Kind::Asks => asked == bytes_of(&given.words),
+        Kind::Nothing | Kind::TooLong | Kind::Faulty(_) => false,
+    }
+}
+
+/// Finds the first line that asks just this: what it answers stands in `given`, and what is left after it is the
+/// result.
+fn find<'h>(
+    asked: &[u8],
+    hand: &'h [u8],
+    reader: &mut LineReader,
+    given: &mut Line,
+) -> Option<Option<&'h [u8]>>
+    ensures { MatchOption result (grades.found_in asked.now (lines_in hand.now) ≡ None)
+        (λ rest. grades.found_in asked.now (lines_in hand.now)
+        ≡ grades.found_if true (expected_on given.new) (lines_left rest) None) }
+{
+    let mut left = hand;
+    'lines: loop {
+        let (text, more) = first_line(left);
+        if asks(asked, text, reader, given) {
+            return Some(more);
+        }
+        match more {
+            Some(more) => left = more,
+            None => return None,
+        }
+    }
+}
+
+impl Marker {
+    /// Takes the memory.
+    pub fn new(alloc: Global) -> Result<Marker, AllocError> {
+        Ok(Marker {
+            reader: LineReader::new(alloc)?,
+            asked: Line::new(alloc)?,
+            given: Line::new(alloc)?,
+        })
+    }
+
+    /// Marks what the hand-in answers to the key's line in hand.
+    fn marked<'h>(&mut self, standing: Standing<'h>) -> Standing<'h>
+        ensures { standing_of result ≡ grades.marked self.old.asked.wanted
+            (grades.found_in self.old.asked.words (lines_left standing.entry.left)) (standing_of standing.entry) }
+    {
+        let Standing {
+            number,
+            marks,
+            left,
+        } = standing;
+        let asked = bytes_of(&self.asked.words);
+        let found = match left {
+            Some(hand) => find(asked, hand, &mut self.reader, &mut self.given),
+            None => None,
+        };
+        let (mark, left) = match found {
+            Some(rest) => (mark_of(bytes_of(&self.asked.wanted), &self.given), rest),
+            None => (Mark::Missing, left),
+        };
+        Standing {
+            number,
+            marks: marks.counted(mark, number),
+            left,
+        }
+    }
+
+    /// Takes the key's next line.
+    fn after_line<'h>(&mut self, line: &[u8], standing: Standing<'h>) -> Standing<'h>
+        ensures { standing_of result ≡ grades.after_line line.now (standing_of standing.entry) }
+    {
+        let standing = Standing {
+            number: standing.number.saturating_add(1),
+            ..standing
+        };
+        match read_asked(line, &mut self.reader, &mut self.asked) {
+            Kind::Asks if is_answered(&self.asked) => self.marked(standing),
+            Kind::Asks | Kind::Nothing | Kind::TooLong | Kind::Faulty(_) => standing,
+        }
+    }
+
+    /// Marks a hand-in by a key. Each line of the key that has an answer, or a reply that is expected, is looked for in
+    /// the hand-in: a line that asks the same, behind the one that was found before. Its answer is right if it meets
+    /// the key's as a reply meets what is expected: `_` in the key stands for any word. Lines of the hand-in that the
+    /// key lacks are passed over.
+    pub fn marks_by(&mut self, key: &[u8], hand: &[u8]) -> Marks
+        ensures { result ≡ grades.marks_by key.now hand.now }
+    {
+        let mut standing = Standing {
+            number: 0,
+            marks: Marks::none(),
+            left: Some(hand),
+        };
+        let mut left = key;
+        'lines: loop {
+            let (line, more) = first_line(left);
+            standing = self.after_line(line, standing);
+            match more {
+                Some(more) => left = more,
+                None => return standing.marks,
+            }
+        }
+    }
+}
