@@ -1,11 +1,15 @@
 //! Which of its two players plays a script: what its first line says that asks for something.
 ghost use Rattle.std.specs.Io.{ReadsAtMost};
+ghost use Rattle.std.specs.Prelude.{◌≡◌, ◌≤◌, [], ◌∷◌, bytes_eq, if◌then◌else◌, length, take};
 
 use play_script::Source;
 use std::io::{self, Read};
 
 /// How many bytes are read ahead at most.
 const AHEAD: usize = 4096;
+
+/// The byte order mark of UTF-8, which editors may put in front of a script (RFC 3629 section 6).
+const MARK: &[u8] = b"\xef\xbb\xbf";
 
 /// The word that a script of many machines begins with.
 const HOST: &[u8] = b"host";
@@ -20,10 +24,25 @@ enum Place {
     Word(usize),
 }
 
+/// How many bytes of a script are a byte order mark at its head.
+fn mark_len(script: &[u8]) -> usize
+    ensures is { result ≡ (if bytes_eq (take 3 script.now) (239 ∷ 187 ∷ 191 ∷ []) then 3 else 0) }
+    ensures most { result ≤ length script.now }
+{
+    if script.starts_with(MARK) {
+        MARK.len()
+    } else {
+        0
+    }
+}
+
 /// Whether the first line that asks for something begins with the word `host`. `None` if these bytes don't tell yet.
 fn begins_with_host(script: &[u8]) -> Option<bool> {
+    if script.len() < MARK.len() && MARK.starts_with(script) {
+        return None;
+    }
     let mut place = Place::Front;
-    for byte in script {
+    for byte in &script[mark_len(script)..] {
         let is_blank = byte.is_ascii_whitespace();
         place = match place {
             Place::Comment if *byte != b'\n' => Place::Comment,
@@ -75,8 +94,19 @@ impl<R: Read> Ahead<R> {
     }
 
     /// Whether it's a script of many machines: its first line that asks for something begins with `host`. It reads as
-    /// far as it has to, and 4,096 bytes at most; a script that doesn't tell by then has one machine.
+    /// far as it has to, and 4,096 bytes at most; a script that doesn't tell by then has one machine. A byte order mark
+    /// at the script's head is passed over: it won't be given.
     pub(crate) fn has_hosts(&mut self) -> bool {
+        let told = self.look_ahead();
+        let len = self.len;
+        if len <= AHEAD {
+            self.given = mark_len(&self.front[..len]);
+        }
+        told
+    }
+
+    /// Whether the bytes that are read ahead tell that it's a script of many machines.
+    fn look_ahead(&mut self) -> bool {
         for _ in 0..AHEAD {
             let len = self.len;
             if len > AHEAD {

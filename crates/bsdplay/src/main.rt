@@ -8,6 +8,7 @@ mod folder;
 mod form;
 mod grade;
 mod hand_in;
+mod help;
 mod hosts;
 mod one;
 mod strict;
@@ -18,6 +19,7 @@ use choice::Ahead;
 use clap::{Arg, ArgAction, ArgMatches, Command};
 use form::{form_of, with_forms};
 use grade::grade;
+use help::LINES;
 use hosts::{play_captured, play_uncaptured, status_of};
 use one::play_one;
 use play_script::{Form, Played, Silent, Style};
@@ -135,9 +137,10 @@ fn with_grades<'a>(alloc: Global, command: Command<'a>) -> Result<Command<'a>, A
 
 /// The command line.
 fn command<'a>(alloc: Global) -> Result<Command<'a>, AllocError> {
-    let command = Command::new(alloc, "bsdplay").version("0.2.0").about(
-        "Plays scripts of socket calls, packets and ticks, and says what came of each line",
-    );
+    let command = Command::new(alloc, "bsdplay")
+        .version("0.2.0")
+        .about("Plays scripts of socket calls, packets and ticks, and says what came of each line")
+        .after_help(LINES);
     let command = with_wire(alloc, with_forms(alloc, command)?)?;
     with_captures(alloc, with_grades(alloc, command)?)?.arg(
         Arg::new(alloc, "FILE")

@@ -33,3 +33,4 @@ pub mod two_chains;
 pub mod two_hosts;
 pub mod udp_packet;
 pub mod user_clusters;
+pub mod what_was_meant;

@@ -6,6 +6,8 @@ use Rattle.play_text.specs.Forms.{is_quiet}
 use Rattle.play_text.specs.Texts.{fault_text}
 use Rattle.std.proofs.lemmas.Bool.{false≢true}
 use Rattle.flat_model.specs.Scripts.Texts.{hex_text}
+use Rattle.play_forms.specs.Advice.{IsAdvised}
+use Rattle.play_forms.specs.declared.advice.Player.TheVariants.{Machine}
 use Rattle.play_read.specs.Asks.{Ask, AsksFor, Settings, Writes}
 use Rattle.flat_model.specs.Scripts.Grammar.{words}
 use Rattle.play_script.specs.Inside.{IsTold, IsToldAs}
@@ -47,15 +49,19 @@ Ask-tells step has now new shown plain wanted ask text below after quiet loud as
 -- a line that asks for nothing
 pub None-tells : (step : State → Event → Reply → State → Type 0) (has : List ℕ → List ℕ → Type 0) (now new : Play)
     (shown plain : List ℕ)
-    (wanted : Option (List ℕ)) (after : CapturedView) → AsksFor plain None
-    → after ≡ captured_of now.machine now.traced now.number
+    (wanted : Option (List ℕ)) (after : CapturedView) (what told : List ℕ) → AsksFor plain None
+    → IsAdvised Machine plain told → what ≡ told → after ≡ captured_of now.machine now.traced now.number
     → new ≡ record now { machine = after.machine; traced = after.traced; sound = false }
-    → TellsAsked step has now shown plain wanted
-    (fault_text now.form now.name now.number (codes "this asks for nothing")) new
-None-tells step has now new shown plain wanted after none kept is = (
+    → TellsAsked step has now shown plain wanted (fault_text now.form now.name now.number what) new
+None-tells step has now new shown plain wanted after what told none advised so kept is = (
   None,
   none,
-  (refl, is ∙ ap (λ (s : CapturedView). record now { machine = s.machine; traced = s.traced; sound = false }) kept),
+  (
+    what,
+    subst (λ (t : List ℕ). IsAdvised Machine plain t) (sym so) advised,
+    refl,
+    is ∙ ap (λ (s : CapturedView). record now { machine = s.machine; traced = s.traced; sound = false }) kept,
+  ),
 )
 
 -- a line of settings names no packet

@@ -1,5 +1,5 @@
 -- Words that are compared one by one.
-use Rattle.std.proofs.Common.{◌≡◌, ℕ, ◌==◌, Bool, true, false, ◌&&◌, List, [], ◌∷◌, length, refl, ap, arith}
+use Rattle.std.proofs.Common.{◌≡◌, ℕ, ◌==◌, Bool, true, false, ◌&&◌, ◌||◌, List, [], ◌∷◌, length, bytes_eq, codes, refl, ap, arith}
 use Rattle.std.proofs.lemmas.List.Splits.{length-slice_split}
 use Rattle.flat_model.specs.Scripts.Grammar.{words}
 use Rattle.play_script.specs.Outcomes as outcomes
@@ -19,30 +19,55 @@ and-and-false : (a b : Bool) → (a && (b && false)) ≡ false
 and-and-false true b = and-false b
 and-and-false false b = refl
 
-fits-more : (ws : List (List ℕ)) → (ws ≡ [] → ⊥) → outcomes.fits ws [] ≡ false
-fits-more [] some = absurd (some refl)
-fits-more (w ∷ ws) some = refl
+-- `..` alone fits whatever is left
+pub rest-fits : (wanted told : List (List ℕ)) → outcomes.is_rest wanted ≡ true → outcomes.fits wanted told ≡ true
+rest-fits [] told e = absurd (Rattle.std.proofs.lemmas.Bool.false≢true e)
+rest-fits (word ∷ more) [] e = e
+rest-fits (word ∷ more) (got ∷ rest) e = rw e refl
 
-fits-fewer : (gs : List (List ℕ)) → (gs ≡ [] → ⊥) → outcomes.fits [] gs ≡ false
+-- and it stands alone
+pub rest-longer : (wanted more : List (List ℕ)) (word : List ℕ) → wanted ≡ word ∷ more → (more ≡ [] → ⊥)
+    → outcomes.is_rest wanted ≡ false
+rest-longer wanted [] word e some = absurd (some refl)
+rest-longer wanted (next ∷ more) word e some = rw e refl
+
+-- no more is told
+pub fits-end : (wanted : List (List ℕ)) → (wanted ≡ [] → ⊥) → outcomes.fits wanted [] ≡ outcomes.is_rest wanted
+fits-end [] some = absurd (some refl)
+fits-end (word ∷ more) some = refl
+
+fits-fewer : (told : List (List ℕ)) → (told ≡ [] → ⊥) → outcomes.fits [] told ≡ false
 fits-fewer [] some = absurd (some refl)
-fits-fewer (g ∷ gs) some = refl
+fits-fewer (got ∷ rest) some = refl
+
+-- a word that isn't the rest, by itself and what comes after it
+pub fits-step : (wanted told more rest : List (List ℕ)) (word got : List ℕ) → wanted ≡ word ∷ more → told ≡ got ∷ rest
+    → outcomes.is_rest wanted ≡ false
+    → outcomes.fits wanted told
+    ≡ ((bytes_eq word (codes "_") || bytes_eq word got) && outcomes.fits more rest)
+fits-step wanted told more rest word got e f none =
+    rw (e, f) (
+    let mine : outcomes.is_rest (word ∷ more) ≡ false = rw e at none in rw mine refl
+    )
 
 -- more words are wanted than were told, or fewer
 pub fits-longer : (wanted told more : List (List ℕ)) (word got : List ℕ) → wanted ≡ word ∷ more → told ≡ got ∷ []
-    → (more ≡ [] → ⊥)
-    → outcomes.fits wanted told ≡ false
-fits-longer wanted told more word got e f some = rw (e, f, fits-more more some) (and-false _)
+    → (more ≡ [] → ⊥) → outcomes.is_rest wanted ≡ false → (bytes_eq word (codes "_") || bytes_eq word got) ≡ true
+    → outcomes.fits wanted told ≡ outcomes.is_rest more
+fits-longer wanted told more word got e f some none same =
+    rw (fits-step wanted told more [] word got e f none, same) (fits-end more some)
 
 pub fits-shorter : (wanted told more : List (List ℕ)) (word got : List ℕ) → wanted ≡ word ∷ [] → told ≡ got ∷ more
-    → (more ≡ [] → ⊥)
+    → (more ≡ [] → ⊥) → outcomes.is_rest wanted ≡ false
     → outcomes.fits wanted told ≡ false
-fits-shorter wanted told more word got e f some = rw (e, f, fits-fewer more some) (and-false _)
+fits-shorter wanted told more word got e f some none =
+    rw (fits-step wanted told [] more word got e f none, fits-fewer more some) (and-false _)
 
 pub unnumbered-longer : (wanted told more : List (List ℕ)) (word got number : List ℕ) → wanted ≡ word ∷ more
-    → told ≡ got ∷ number ∷ []
-    → (more ≡ [] → ⊥) → outcomes.fits_unnumbered wanted told ≡ false
-unnumbered-longer wanted told more word got number e f some =
-    rw (e, f, fits-more more some) (and-and-false _ _)
+    → told ≡ got ∷ number ∷ [] → (more ≡ [] → ⊥)
+    → outcomes.fits_unnumbered wanted told
+    ≡ (bytes_eq word (codes "error") && (bytes_eq got (codes "error") && outcomes.is_rest more))
+unnumbered-longer wanted told more word got number e f some = rw (e, f, fits-end more some) refl
 
 pub unnumbered-shorter : (wanted told more : List (List ℕ)) (word got number : List ℕ) → wanted ≡ word ∷ []
     → told ≡ got ∷ number ∷ more

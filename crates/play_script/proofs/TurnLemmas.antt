@@ -186,7 +186,7 @@ Asked-line : Joins → (has : List ℕ → List ℕ → Type 0) (now new : Play)
     (wanted : Option (List ℕ))
     → TellsAsked Step has now shown plain wanted text new
     → Asked has now (Asks shown plain wanted) new ⊎ Settled has now (Asks shown plain wanted) new
-Asked-line join has now new shown plain text wanted (None, none, (tells, same)) =
+Asked-line join has now new shown plain text wanted (None, none, (what, advised, tells, same)) =
     inl (Idle has now new (Asks shown plain wanted)
     (inr (inr (inr (λ event. none (Call event), λ n. none (Ticks n), refl))))
     (ap (λ (p : Play). p.machine) same) (ap (λ (p : Play). p.traced) same)

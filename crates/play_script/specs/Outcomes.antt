@@ -80,12 +80,20 @@ outcome (Some reply) before after = Some (told (reply_text reply) (drops_text be
 
 -- ---- what is expected
 
--- word by word the same, but for `_`, which is any word
+-- `..` alone
+abbrev pub is_rest : List (List ℕ) → Bool
+is_rest [] = false
+is_rest (word ∷ []) = bytes_eq word (codes "..")
+is_rest (word ∷ next ∷ words) = false
+
+-- Word by word the same, but for `_`, which is any word, and for `..` at the end, which is whatever is left, even
+-- nothing.
 abbrev pub fits : List (List ℕ) → List (List ℕ) → Bool
 fits [] [] = true
-fits (word ∷ words) (got ∷ gots) = (bytes_eq word (codes "_") || bytes_eq word got) && fits words gots
+fits (word ∷ words) (got ∷ gots) =
+    is_rest (word ∷ words) || ((bytes_eq word (codes "_") || bytes_eq word got) && fits words gots)
 fits [] (got ∷ gots) = false
-fits (word ∷ words) [] = false
+fits (word ∷ words) [] = is_rest (word ∷ words)
 
 -- an error may be expected without its number
 abbrev pub fits_unnumbered : List (List ℕ) → List (List ℕ) → Bool

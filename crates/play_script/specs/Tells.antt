@@ -10,6 +10,8 @@ use Rattle.script_loop.specs.declared.fault.RunFault.TheVariants.{Read, Write, M
 use Rattle.play_text.specs.Forms.{is_quiet}
 use Rattle.play_text.specs.Texts.{fault_text, slip_text, outcome_text}
 use Rattle.play_text.specs.declared.form.Form.{Form}
+use Rattle.play_forms.specs.Advice.{IsAdvised}
+use Rattle.play_forms.specs.declared.advice.Player.TheVariants.{Machine}
 use Rattle.play_read.specs.Settings.{IsSet, fault_words}
 use Rattle.play_read.specs.declared.fault.SettingFault.{SettingFault}
 use Rattle.play_read.specs.declared.fault.SettingFault.TheVariants as settings
@@ -152,19 +154,19 @@ module _ (step : State → Event → Reply → State → Type 0) (has : List ℕ
         sound = now.sound && is_sound wanted said;
       })
 
-  -- what a line may have as its text that asks for this, or for nothing
-  abbrev pub TellsLine : Option Ask → Play → List ℕ → Option (List ℕ) → List ℕ → Play → Type 0
-  TellsLine None now shown wanted text new =
-      (text ≡ fault_text now.form now.name now.number (codes "this asks for nothing"))
+  -- what a line may have as its text that asks for this, or for nothing: then what it could have been
+  abbrev pub TellsLine : Option Ask → Play → List ℕ → List ℕ → Option (List ℕ) → List ℕ → Play → Type 0
+  TellsLine None now shown plain wanted text new =
+      (what : List ℕ) × IsAdvised Machine plain what × (text ≡ fault_text now.form now.name now.number what)
       × (new ≡ record now { sound = false })
-  TellsLine (Some ask) now shown wanted text new =
+  TellsLine (Some ask) now shown plain wanted text new =
       TellsDone ask now shown wanted text new
       ⊎ ((named : List (List ℕ)) × (ask ≡ Settings named) × TellsSettings now shown named wanted text new)
 
   -- what a plain line may have as its text
   abbrev pub TellsAsked : Play → List ℕ → List ℕ → Option (List ℕ) → List ℕ → Play → Type 0
   TellsAsked now shown plain wanted text new =
-      (ask : Option Ask) × AsksFor plain ask × TellsLine ask now shown wanted text new
+      (ask : Option Ask) × AsksFor plain ask × TellsLine ask now shown plain wanted text new
 
   -- what a line of some kind may have as its text, where `now` has its number
   abbrev pub TellsReading : Play → Reading → List ℕ → Play → Type 0

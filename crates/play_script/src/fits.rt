@@ -1,29 +1,60 @@
 //! Whether what is told of a line is what was expected.
-ghost use Rattle.std.specs.Prelude.{◌≡◌};
+ghost use Rattle.std.specs.Prelude.{◌≡◌, ◌&&◌, ◌||◌, bytes_eq, codes};
 ghost use Rattle.flat_model.specs.Scripts.Grammar.{words};
 ghost use Rattle.play_script.specs.Outcomes as outcomes;
 
 use script_loop::first_word;
 
-/// Whether the words are the same one by one, but for `_`, which is any word.
+/// Whether these words are `..` alone, which is whatever is left.
+fn is_rest(wanted: &[u8]) -> bool
+    ensures { result ≡ outcomes.is_rest (words wanted.now) }
+{
+    let (word, more) = first_word(wanted);
+    match more {
+        None => word == b"..".as_slice(),
+        Some(_) => false,
+    }
+}
+
+/// Whether a word is the expected one, or the expected one is `_`.
+fn is_same(word: &[u8], got: &[u8]) -> bool
+    ensures { result ≡ (bytes_eq word.now (codes "_") || bytes_eq word.now got.now) }
+{
+    word == b"_".as_slice() || word == got
+}
+
+/// The same, if both words are `error`.
+fn if_errors(word: &[u8], got: &[u8], so: bool) -> bool
+    ensures { result ≡ (bytes_eq word.now (codes "error") && (bytes_eq got.now (codes "error") && so)) }
+{
+    word == b"error".as_slice() && (got == b"error".as_slice() && so)
+}
+
+/// Whether the words are the same one by one, but for `_`, which is any word, and for `..` at the end, which is
+/// whatever is left.
 fn fits(wanted: &[u8], told: &[u8]) -> bool
     ensures { result ≡ outcomes.fits (words wanted.now) (words told.now) }
 {
     let mut left = wanted;
     let mut got_left = told;
     'words: loop {
+        if is_rest(left) {
+            return true;
+        }
         let (word, more) = first_word(left);
         let (got, rest) = first_word(got_left);
-        if !(word == b"_".as_slice() || word == got) {
-            return false;
-        }
-        match (more, rest) {
-            (Some(more), Some(rest)) => {
-                left = more;
-                got_left = rest;
+        if is_same(word, got) {
+            match (more, rest) {
+                (Some(more), Some(rest)) => {
+                    left = more;
+                    got_left = rest;
+                }
+                (None, None) => return true,
+                (Some(more), None) => return is_rest(more),
+                (None, Some(_)) => return false,
             }
-            (None, None) => return true,
-            (Some(_), None) | (None, Some(_)) => return false,
+        } else {
+            return false;
         }
     }
 }
@@ -42,12 +73,13 @@ fn fits_unnumbered(wanted: &[u8], told: &[u8]) -> bool
         (Some(more), Some(rest)) => word == b"error".as_slice()
             && (got == b"error".as_slice() && fits(more, rest)),
         (None, None) => word == b"error".as_slice() && got == b"error".as_slice(),
-        (Some(_), None) | (None, Some(_)) => false,
+        (Some(more), None) => if_errors(word, got, is_rest(more)),
+        (None, Some(_)) => false,
     }
 }
 
-/// Whether what is told is what was expected: word by word the same, but for `_`, which is any word, and for the number
-/// of an error, which may be left out.
+/// Whether what is told is what was expected: word by word the same, but for `_`, which is any word, for `..` at the
+/// end, which is whatever is left, even nothing, and for the number of an error, which may be left out.
 pub(crate) fn meets(wanted: &[u8], told: &[u8]) -> bool
     ensures { result ≡ outcomes.meets wanted.now told.now }
 {

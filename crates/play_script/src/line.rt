@@ -1,5 +1,5 @@
 //! What a line is made of: words, a comment, and what is expected.
-ghost use Rattle.std.specs.Prelude.{◌≡◌, ◌≤◌, ◌==◌, ◌++◌, codes, length, position, IfSome, option_map};
+ghost use Rattle.std.specs.Prelude.{◌≡◌, ◌*◌, ◌≤◌, ◌==◌, ◌++◌, codes, length, position, IfSome, option_map};
 ghost use Rattle.play_script.specs.Lines.{asked, expected, reading, unheaded, untailed};
 ghost use Rattle.flat_model.specs.Scripts.Texts.{hex_text};
 ghost use Rattle.params.specs.declared.TheConstants.{IP_MAX_PACKET};
@@ -13,7 +13,7 @@ use play_packet::{LineReader, PACKET};
 use play_pcap::lines_law;
 use play_read::{Ask, ask_of};
 use request::Request;
-use script_loop::Buffer;
+use script_loop::{Buffer, put_hex};
 use std::alloc::{AllocError, Global};
 
 /// What a line is. Its words stand beside it, in a `Line`.
@@ -65,6 +65,18 @@ impl Line {
             expects: false,
             wanted: Buffer::new(alloc)?,
         })
+    }
+
+    /// Spells its plain line out, in the place of its words, with the digits of a packet that they name.
+    pub(crate) fn spell(&mut self, digits: &mut [u8])
+        requires { length digits.old ≡ 2 * IP_MAX_PACKET }
+        ensures { self.new.words ≡ plain_of self.old }
+    {
+        if self.named {
+            self.words.clear();
+            self.words.append(b"rx ");
+            put_hex(&mut self.words, digits, bytes_of(&self.packet));
+        }
     }
 
     /// What it asks for, if it asks for anything. The bytes that its words write stand in the room then, which has

@@ -17,6 +17,7 @@ use crate::report::{Report, bytes_of};
 use crate::settle::settled;
 use crate::tell::{Told, tell_line};
 use flat_model::Config;
+use play_forms::Player as Advised;
 use play_packet::LineReader;
 use play_pcap::{Folder, Trace};
 use script_loop::{Answers, Buffer, HELD, Sink};
@@ -109,7 +110,10 @@ impl<T: Sink, F: Folder> Player<T, F> {
             self.bytes.as_mut_slice(),
             &mut self.report,
         ) {
-            Told::Nothing => self.printer.put_fault(text, b"this asks for nothing"),
+            Told::Nothing => {
+                self.report.tell_advice(Advised::Machine, &mut self.line);
+                self.printer.put_fault(text, bytes_of(&self.report.told));
+            }
             Told::Settings => self.set_up(text),
             Told::Done(stays) => {
                 self.printer.put_told(text, &self.line, &self.report);

@@ -1,6 +1,7 @@
 //! What prints a script.
 ghost use Rattle.std.specs.Prelude.{◌≡◌, ◌≤◌, ◌++◌, ◌&&◌, IfOk, codes, false, length, take, true};
 ghost use Rattle.flat_model.specs.Machine.Count.{more_by};
+ghost use Rattle.play_forms.specs.declared.text.TheConstants.{ADVICE};
 ghost use Rattle.play_text.specs.Texts.{fault_text, slip_text};
 ghost use Rattle.play_script.specs.Tells.{is_sound, told_text};
 ghost use Rattle.play_script.specs.Views.{expected_on};
@@ -9,6 +10,7 @@ use crate::fits::meets;
 use crate::line::Line;
 use crate::print::{LABELLED, NAME, ROOM};
 use crate::report::{Report, bytes_of};
+use play_forms::ADVICE;
 use play_line::Slip;
 use play_text::{Form, Outcome};
 use script_loop::{Buffer, HELD};
@@ -86,7 +88,7 @@ impl Printer {
     /// Puts what is wrong with the line after the text.
     pub fn put_fault(&mut self, text: &mut Buffer<ROOM>, what: &[u8])
         requires held { length text.old ≤ HELD }
-        requires what { length what.now ≤ 128 }
+        requires what { length what.now ≤ ADVICE }
         ensures text { text.new ≡ text.old ++ fault_text self.old.form self.old.name self.old.number what.now }
         ensures printer { self.new ≡ record self.old { sound = false } }
     {

@@ -3,14 +3,19 @@ ghost use Rattle.std.specs.Prelude.{◌≡◌, ◌*◌, ◌≤◌, IfOk, [], cod
 ghost use Rattle.flat_model.specs.Scripts.Texts.{reply_text};
 ghost use Rattle.net_stack.specs.Stack.{state_of};
 ghost use Rattle.params.specs.declared.TheConstants.{IP_MAX_PACKET};
+ghost use Rattle.play_forms.specs.Advice.{IsAdvised};
+ghost use Rattle.play_forms.specs.declared.text.TheConstants.{ADVICE};
 ghost use Rattle.play_script.specs.Outcomes.{drops_text, told};
+ghost use Rattle.play_script.specs.Views.{plain_of};
 ghost use Rattle.play_show.specs.Tells.{Shows};
 ghost use Rattle.request.specs.Replies.{len_of, reply_of};
 ghost use Rattle.stack_call.specs.Moves.{Moves};
 
+use crate::line::Line;
 use crate::outcome::{DROPS, TOLD, put_drops, put_told};
 use flat_model::Counters;
 use net_stack::Stack;
+use play_forms::{Player, put_advice};
 use play_packet::PACKET;
 use play_show::{SHOWN, Topic, tell_topic};
 use request::Reply;
@@ -71,6 +76,16 @@ impl Report {
         self.told.clear();
         self.told.append(b"ok");
         self.below.clear();
+    }
+
+    /// Tells what a line could have been that asks the player for nothing. Its plain line is spelled out.
+    pub fn tell_advice(&mut self, player: Player, line: &mut Line)
+        ensures advised { IsAdvised player (plain_of line.old) self.new.told }
+        ensures len { length self.new.told ≤ ADVICE }
+        ensures quiet { self.new.quiet ≡ self.old.quiet }
+    {
+        line.spell(self.digits.as_mut_slice());
+        put_advice(&mut self.told, player, bytes_of(&line.words));
     }
 
     /// Tells what a stack has in hand.

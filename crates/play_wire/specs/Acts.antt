@@ -41,9 +41,9 @@ Does (Some (Ticks n)) s turns outcome t = (turns ≡ replicate n (turn_of Tick D
 Does (Some (Show topic)) s turns outcome t =
     (text below : List ℕ) × Shows Step (state_of s) topic text below × (turns ≡ []) × (outcome ≡ Told text below)
 -- no capture is played in
-Does (Some (Capture name details)) s turns outcome t = (turns ≡ []) × (outcome ≡ Refused fault.Nothing)
+Does (Some (Capture name details)) s turns outcome t = (turns ≡ []) × (outcome ≡ Refused fault.NoCapture)
 -- a host has the settings of its line `host`
-Does (Some (Settings named)) s turns outcome t = (turns ≡ []) × (outcome ≡ Refused fault.Nothing)
+Does (Some (Settings named)) s turns outcome t = (turns ≡ []) × (outcome ≡ Refused fault.NoSettings)
 Does None s turns outcome t = (turns ≡ []) × (outcome ≡ Refused fault.Nothing)
 
 -- a line leads a stack from s to t, and comes out so

@@ -11,7 +11,7 @@ use Rattle.segment.specs.Chances.{seeded}
 use Rattle.flat_model.specs.Scripts.Grammar.{words}
 use Rattle.segment.specs.Segment.{SegmentView, is_quiet, no_hosts}
 use Rattle.play_wire.specs.Acts.{IsHostLine, IsMissing, Outcome, Told, Refused}
-use Rattle.play_wire.specs.Faults.{words_of}
+use Rattle.play_wire.specs.Faults.{IsReason}
 use Rattle.play_wire.specs.declared.fault.Fault.TheVariants as fault
 use Rattle.play_wire.specs.declared.hosts.TheConstants.{PACKETS}
 
@@ -54,10 +54,11 @@ labelled (Some host) shown = host ++ codes ": " ++ shown
 labelled None shown = shown
 
 -- what is told of a line
-abbrev pub text_of : Play → Option (List ℕ) → List ℕ → Option (List ℕ) → Outcome → List ℕ
-text_of now host shown wanted (Told told below) =
-    told_text now.form now.name now.number (labelled host shown) wanted told below
-text_of now host shown wanted (Refused reason) = fault_text now.form now.name now.number (words_of reason)
+abbrev pub IsText : Play → Option (List ℕ) → List ℕ → List ℕ → Option (List ℕ) → Outcome → List ℕ → Type 0
+IsText now host shown plain wanted (Told told below) text =
+    text ≡ told_text now.form now.name now.number (labelled host shown) wanted told below
+IsText now host shown plain wanted (Refused reason) text =
+    (what : List ℕ) × IsReason host plain reason what × (text ≡ fault_text now.form now.name now.number what)
 
 -- it did something, and what is told is what was expected
 abbrev pub sound_of : Option (List ℕ) → Outcome → Bool
@@ -104,7 +105,7 @@ TellsPart now host before (Faulty slip) acts text new =
 TellsPart now host before (Asks shown plain wanted) acts text new =
     (outcome : Outcome) × (segment : SegmentView) × (names : List (List ℕ))
     × IsDone now host plain acts outcome segment names
-    × (text ≡ text_of now host shown wanted outcome)
+    × IsText now host shown plain wanted outcome text
     × (new ≡ record now { segment = segment; names = names; sound = now.sound && sound_of wanted outcome })
 
 -- a line may have this text, by these acts

@@ -18,13 +18,14 @@ fn keep_from<T: Sink + Drop>(capture: &mut Capture<T>, segment: &Segment, first:
     }
 }
 
-/// What waits for the links goes on the wire, and is kept.
-pub(crate) fn collect<T: Sink + Drop>(capture: &mut Capture<T>, segment: &mut Segment)
+/// What waits for the links goes on the wire, and is kept. Answers the place of the first such packet.
+pub(crate) fn collect<T: Sink + Drop>(capture: &mut Capture<T>, segment: &mut Segment) -> usize
     ensures { Moves (view segment.old) (view segment.new) }
 {
     let first = segment.flight_len();
     segment.collect();
     keep_from(capture, segment, first);
+    first
 }
 
 /// Ends it. Whether the whole capture was written.

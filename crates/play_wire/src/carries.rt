@@ -3,8 +3,11 @@ ghost use Rattle.segment.specs.Inside.{view};
 ghost use Rattle.play_wire.specs.Acts.{Moves};
 
 use crate::capture::collect;
+use crate::names::NAME;
+use crate::passed::add_went;
 use play_script::Capture;
-use script_loop::{Sink, first_word, number, one};
+use play_show::SHOWN;
+use script_loop::{Buffer, Sink, first_word, number, one};
 use segment::Segment;
 
 /// The most carries that a line asks for.
@@ -37,41 +40,65 @@ pub(crate) fn bound_of(rest: Option<&[u8]>) -> Option<Bound> {
     }
 }
 
-/// Carries so often.
-pub(crate) fn carry<T: Sink + Drop>(segment: &mut Segment, bound: Bound, capture: &mut Capture<T>)
+/// Carries so often. The packets that go are put into the text.
+pub(crate) fn carry<T: Sink + Drop>(
+    segment: &mut Segment,
+    bound: Bound,
+    capture: &mut Capture<T>,
+    names: &[Buffer<NAME>],
+    text: &mut Buffer<SHOWN>,
+)
     ensures { Moves (view segment.old) (view segment.new) }
 {
     match bound {
-        Bound::Times(count) => carry_times(segment, count, capture),
-        Bound::Quiet(most) => carry_all(segment, most, capture),
+        Bound::Times(count) => carry_times(segment, count, capture, names, text),
+        Bound::Quiet(most) => carry_all(segment, most, capture, names, text),
     }
 }
 
 /// Carries once.
-fn carry_once<T: Sink + Drop>(segment: &mut Segment, capture: &mut Capture<T>)
+fn carry_once<T: Sink + Drop>(
+    segment: &mut Segment,
+    capture: &mut Capture<T>,
+    names: &[Buffer<NAME>],
+    text: &mut Buffer<SHOWN>,
+)
     ensures { Moves (view segment.old) (view segment.new) }
 {
-    collect(capture, segment);
+    let first = collect(capture, segment);
+    add_went(text, segment, names, first);
     segment.deliver();
 }
 
 /// Carries so often.
-fn carry_times<T: Sink + Drop>(segment: &mut Segment, count: u32, capture: &mut Capture<T>)
+fn carry_times<T: Sink + Drop>(
+    segment: &mut Segment,
+    count: u32,
+    capture: &mut Capture<T>,
+    names: &[Buffer<NAME>],
+    text: &mut Buffer<SHOWN>,
+)
     ensures { Moves (view segment.old) (view segment.new) }
 {
     for _ in 0..count {
-        carry_once(segment, capture);
+        carry_once(segment, capture, names, text);
     }
 }
 
 /// Carries until nothing is left, but at most so many times.
-fn carry_all<T: Sink + Drop>(segment: &mut Segment, most: u32, capture: &mut Capture<T>)
+fn carry_all<T: Sink + Drop>(
+    segment: &mut Segment,
+    most: u32,
+    capture: &mut Capture<T>,
+    names: &[Buffer<NAME>],
+    text: &mut Buffer<SHOWN>,
+)
     ensures { Moves (view segment.old) (view segment.new) }
 {
     for _ in 0..most {
         if segment.is_quiet() {
             return;
         }
-        carry_once(segment, capture);
+        carry_once(segment, capture, names, text);
     }
 }

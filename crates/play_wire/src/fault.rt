@@ -9,7 +9,7 @@ use segment::JoinFault;
 /// Why a line does nothing (this project's own).
 #[derive(Clone, Copy)]
 pub(crate) enum Fault {
-    /// It asks for nothing.
+    /// It asks for nothing. What it could have been is told in its place.
     Nothing,
     /// No host has this name.
     NoHost,
@@ -33,6 +33,10 @@ pub(crate) enum Fault {
     NoChance,
     /// No packet under way has this place, or there's no room for a copy.
     NoPacket,
+    /// It names a capture.
+    NoCapture,
+    /// It has settings.
+    NoSettings,
 }
 
 impl Fault {
@@ -42,7 +46,7 @@ impl Fault {
         ensures short { length result.now ≤ 80 }
     {
         match self {
-            Fault::Nothing => "this asks for nothing",
+            Fault::Nothing => "",
             Fault::NoHost => "no host has this name",
             Fault::NoName => "a name is a letter, then letters, digits and _, 32 at most",
             Fault::NameTaken => "a host has this name already",
@@ -54,6 +58,8 @@ impl Fault {
             Fault::NotAll => "each host has to be named once",
             Fault::NoChance => "a chance is 10%, 0.1 or 1/10, and a delay 0-3",
             Fault::NoPacket => "no packet under way has this place",
+            Fault::NoCapture => "no capture is played in to one of many hosts",
+            Fault::NoSettings => "a host's settings stand in its line `host`",
         }
     }
 

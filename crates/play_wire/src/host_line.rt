@@ -53,8 +53,8 @@ fn answer_stack(
             report.tell_topic(stack, topic);
             Ok(())
         }
-        Ask::Capture(_) => Err(Fault::Nothing),
-        Ask::Settings(_) => Err(Fault::Nothing),
+        Ask::Capture(_) => Err(Fault::NoCapture),
+        Ask::Settings(_) => Err(Fault::NoSettings),
     }
 }
 

@@ -8,6 +8,7 @@ ghost use Rattle.play_wire.specs.Acts.{Moves};
 use crate::capture;
 use crate::fault::Fault;
 use crate::names::{NAME, is_name, place_of};
+use crate::passed::Counted;
 use crate::spare::Spare;
 use flat_model::Config;
 use play_read::{SettingFault, settings_of};
@@ -29,6 +30,8 @@ pub(crate) struct Hosts<T: Sink + Drop> {
     /// What goes on the wire is kept here.
     pub(crate) capture: Capture<T>,
     pub(crate) spare: Spare,
+    /// What each host has counted before a line.
+    pub(crate) counts: Vec<Counted>,
 }
 
 /// The configuration that the words after a host's name tell.
@@ -99,6 +102,7 @@ impl<T: Sink + Drop> Hosts<T> {
                 wired: false,
                 capture,
                 spare,
+                counts: Vec::new(alloc),
             }),
             None => {
                 segment.end();
@@ -140,12 +144,13 @@ impl<T: Sink + Drop> Hosts<T> {
             return Err(Fault::Setting(SettingFault::Memory));
         };
         buffer.append(name);
-        if self.names.reserve(1).is_err() {
+        if self.names.reserve(1).is_err() || self.counts.reserve(1).is_err() {
             return Err(Fault::Setting(SettingFault::Memory));
         }
         match self.segment.join(self.alloc, config) {
             Ok(()) => {
                 self.names.push_reserved(buffer);
+                self.counts.push_reserved(Counted::none());
                 Ok(())
             }
             Err(fault) => Err(Fault::of_join(fault)),
@@ -179,6 +184,7 @@ impl<T: Sink + Drop> Hosts<T> {
             wired: _,
             capture,
             spare,
+            counts: _counts,
         } = self;
         spare.end();
         segment.end();

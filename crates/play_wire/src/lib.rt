@@ -12,6 +12,7 @@ mod host_line;
 mod hosts;
 mod impair;
 mod names;
+mod passed;
 mod player;
 mod runs;
 mod show;

@@ -3,9 +3,9 @@ ghost use Rattle.std.specs.Prelude.{◌≡◌, ◌≤◌, ◌++◌, IfSome, List
 ghost use Rattle.segment.specs.Inside.{view};
 ghost use Rattle.segment.specs.Law.{Act};
 ghost use Rattle.play_script.specs.Views.{expected_on, plain_of};
-ghost use Rattle.play_text.specs.Texts.{fault_text};
 ghost use Rattle.play_script.specs.Lines.{Asks};
-ghost use Rattle.play_wire.specs.Faults.{words_of};
+ghost use Rattle.play_forms.specs.declared.text.TheConstants.{ADVICE};
+ghost use Rattle.play_wire.specs.Faults.{IsReason, player_of, words_of};
 ghost use Rattle.play_wire.specs.Inside.{came_of, named_by, play_with};
 ghost use Rattle.play_wire.specs.Tells.{Play, IsDone, Tells, TellsPart};
 
@@ -14,6 +14,7 @@ use crate::host_line::answer_host;
 use crate::hosts::Hosts;
 use crate::names::place_of;
 use crate::target::{Target, shift};
+use play_forms::Player as Advised;
 use play_packet::LineReader;
 use play_script::{Kind, Line, Printer, ROOM, Report, bytes_of, read_line};
 use script_loop::{Answers, Buffer, HELD, Sink};
@@ -58,14 +59,35 @@ fn answer_words<T: Sink + Drop>(
     }
 }
 
-/// Puts why a line did nothing after the text.
-fn put_refusal(text: &mut Buffer<ROOM>, printer: &mut Printer, fault: Fault)
-    requires { length text.old ≤ HELD }
-    ensures text { text.new
-        ≡ text.old ++ fault_text printer.old.form printer.old.name printer.old.number (words_of fault) }
-    ensures printer { printer.new ≡ record printer.old { sound = false } }
+/// Who is asked by a line: the host that it names, or else the wire.
+fn advised_by(target: &Target) -> Advised
+    ensures { result ≡ player_of (named_by target.now) }
 {
-    printer.put_fault(text, fault.words().as_bytes());
+    if target.named {
+        Advised::Machine
+    } else {
+        Advised::Wire
+    }
+}
+
+/// Reports a reason in words.
+fn tell_words(report: &mut Report, fault: Fault)
+    ensures told { report.new.told ≡ words_of fault }
+    ensures len { length report.new.told ≤ ADVICE }
+{
+    report.told.clear();
+    report.told.append(fault.words().as_bytes());
+}
+
+/// Reports why a line did nothing: what it could have been, if it asks for nothing.
+fn tell_reason(report: &mut Report, target: &Target, line: &mut Line, fault: Fault)
+    ensures reason { IsReason (named_by target.now) (plain_of line.old) fault report.new.told }
+    ensures len { length report.new.told ≤ ADVICE }
+{
+    match fault {
+        Fault::Nothing => report.tell_advice(advised_by(target), line),
+        _ => tell_words(report, fault),
+    }
 }
 
 impl<T: Sink + Drop> Player<T> {
@@ -89,7 +111,10 @@ impl<T: Sink + Drop> Player<T> {
                     &self.report,
                 );
             }
-            Err(fault) => put_refusal(text, &mut self.printer, fault),
+            Err(fault) => {
+                tell_reason(&mut self.report, &self.target, &mut self.line, fault);
+                self.printer.put_fault(text, bytes_of(&self.report.told));
+            }
         }
     }
 

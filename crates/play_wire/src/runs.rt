@@ -41,7 +41,7 @@ fn parts_for(alloc: Global, style: Style<'_>) -> Result<Parts, AllocError>
     let printer = Printer::new(alloc, style)?;
     let target = Target::new(alloc)?;
     let line = Line::new(alloc)?;
-    let report = Report::new(alloc, true)?;
+    let report = Report::new(alloc, style.form.is_quiet())?;
     let reader = LineReader::new(alloc)?;
     Ok(Parts {
         reader,

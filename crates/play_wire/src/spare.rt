@@ -5,7 +5,8 @@ ghost use Rattle.params.specs.declared.TheConstants.{IP_MAX_PACKET};
 use flat_model::Config;
 use net_stack::Stack;
 use play_packet::PACKET;
-use play_script::{DEFAULTS, room_for};
+use play_script::{DEFAULTS, DROPS, room_for};
+use script_loop::Buffer;
 use std::alloc::Global;
 
 /// The spare stack's configuration.
@@ -22,6 +23,8 @@ pub(crate) struct Spare {
     pub(crate) bytes: Vec<u8>,
     /// Room for the bytes of a reply.
     pub(crate) room: Vec<u8>,
+    /// Room for why packets were dropped.
+    pub(crate) drops: Buffer<DROPS>,
     ghost bytes_len: { vec_len bytes ≡ IP_MAX_PACKET },
     ghost room_len: { vec_len room ≡ IP_MAX_PACKET },
 }
@@ -35,8 +38,16 @@ impl Spare {
         let Ok(room) = room_for(alloc, PACKET) else {
             return None;
         };
+        let Ok(drops) = Buffer::new(alloc) else {
+            return None;
+        };
         match Stack::boot(alloc, SPARE) {
-            Ok(stack) => Some(Spare { stack, bytes, room }),
+            Ok(stack) => Some(Spare {
+                stack,
+                bytes,
+                room,
+                drops,
+            }),
             Err(_) => None,
         }
     }
@@ -47,6 +58,7 @@ impl Spare {
             stack,
             bytes: _bytes,
             room: _room,
+            drops: _drops,
         } = self;
         let _ = stack.end();
     }

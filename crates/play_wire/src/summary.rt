@@ -71,7 +71,11 @@ fn add_host(text: &mut Buffer<SHOWN>, name: &[u8], tally: Tally, counters: &Coun
 }
 
 /// What the host at a place has counted. Nothing changes.
-fn counters_at(segment: &mut Segment, spare: &mut Stack, place: usize) -> Option<Counters>
+pub(crate) fn counters_at(
+    segment: &mut Segment,
+    spare: &mut Stack,
+    place: usize,
+) -> Option<Counters>
     ensures { Moves (view segment.old) (view segment.new) }
 {
     if exchange(segment, place, spare) {

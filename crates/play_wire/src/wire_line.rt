@@ -7,9 +7,10 @@ ghost use Rattle.play_wire.specs.Tells.{left_text};
 
 use crate::by_hand::{by_hand_in, do_by_hand};
 use crate::capture::collect;
-use crate::carries::{bound_of, carry};
+use crate::carries::{Bound, bound_of, carry};
 use crate::fault::Fault;
 use crate::hosts::Hosts;
+use crate::passed::{add_all, take_counts};
 use crate::show::tell_wire;
 use crate::summary::tell_summary;
 use crate::ticks::tick_all;
@@ -31,6 +32,13 @@ fn tell_left(told: &mut Buffer<TOLD>, segment: &Segment)
     told.append(b"left ");
     told.append(digits.format(segment.flight_len() as u64).as_bytes());
     told.append(b" under way");
+}
+
+/// Takes the lines below a reply out of a report that is quiet.
+fn clear_if_quiet(report: &mut Report) {
+    if report.quiet {
+        report.below.clear();
+    }
 }
 
 /// What a line of the wire asks, but for `carry`.
@@ -73,11 +81,40 @@ fn verb_of(word: &[u8]) -> Option<Verb> {
 }
 
 impl<T: Sink + Drop> Hosts<T> {
-    /// `carry ..`.
-    fn carry(&mut self, rest: Option<&[u8]>, told: &mut Buffer<TOLD>) -> Result<(), Fault>
+    /// Carries so often, and reports which packets went, how many were lost, repeated and received, and why some were
+    /// dropped. Nothing of it is reported if the report is quiet.
+    fn pass(&mut self, bound: Bound, report: &mut Report)
         ensures moves { Moves (view self.old.segment) (view self.new.segment) }
         ensures names { self.new.names ≡ self.old.names }
-        ensures left { IfOk result (λ _. told.new ≡ left_text (view self.new.segment)) }
+    {
+        let names = self.names.as_slice();
+        take_counts(
+            &mut self.segment,
+            &mut self.spare.stack,
+            self.counts.as_mut_slice(),
+        );
+        carry(
+            &mut self.segment,
+            bound,
+            &mut self.capture,
+            names,
+            &mut report.below,
+        );
+        add_all(
+            &mut report.below,
+            &mut self.segment,
+            &mut self.spare,
+            names,
+            self.counts.as_slice(),
+        );
+        clear_if_quiet(report);
+    }
+
+    /// `carry ..`.
+    fn carry(&mut self, rest: Option<&[u8]>, report: &mut Report) -> Result<(), Fault>
+        ensures moves { Moves (view self.old.segment) (view self.new.segment) }
+        ensures names { self.new.names ≡ self.old.names }
+        ensures left { IfOk result (λ _. report.new.told ≡ left_text (view self.new.segment)) }
     {
         let Some(bound) = bound_of(rest) else {
             return Err(Fault::Nothing);
@@ -85,8 +122,8 @@ impl<T: Sink + Drop> Hosts<T> {
         if !self.wired {
             return Err(Fault::NoWire);
         }
-        carry(&mut self.segment, bound, &mut self.capture);
-        tell_left(told, &self.segment);
+        self.pass(bound, report);
+        tell_left(&mut report.told, &self.segment);
         Ok(())
     }
 
@@ -217,7 +254,7 @@ impl<T: Sink + Drop> Hosts<T> {
         report.below.clear();
         let (word, rest) = first_word(words);
         if word == b"carry".as_slice() {
-            return self.carry(rest, &mut report.told);
+            return self.carry(rest, report);
         }
         self.answer_other(words, report)
     }

@@ -1,4 +1,6 @@
-use Rattle.std.proofs.Common.{◌≡◌, Bool, ◌&&◌, codes, refl, ap, ap₂, ◌∙◌}
+use Rattle.std.proofs.Common.{◌≡◌, ℕ, Bool, ◌&&◌, List, refl, ap, ap₂, ◌∙◌, subst}
+use Rattle.play_forms.specs.Advice.{IsAdvised}
+use Rattle.play_forms.specs.declared.advice.Player.TheVariants.{Machine}
 use Rattle.play_text.specs.Texts.{fault_text}
 use Rattle.play_script.specs.Inside.{play_of}
 use Rattle.play_script.specs.Plays.{captured_of}
@@ -52,11 +54,12 @@ returns-in-Nothing g c =
     let done = c.in-Nothing.ensures in
     let after = c.tell_line.new.captured in
     let playing = λ (p : Printer). play_of (state_of after.stack) after.capture.trace now.config now.head p in (
-      fault_text now.printer.form now.printer.name now.printer.number (codes "this asks for nothing"),
+      fault_text now.printer.form now.printer.name now.printer.number c.bytes_of.result.now,
       None-tells Moves g.F.Folder.may_have
           (play_of (state_of now.captured.stack) now.captured.capture.trace now.config now.head now.printer)
           (playing c.put_fault.new.self) now.line.shown (plain_of now.line) (expected_on now.line)
-          (captured_of (state_of after.stack) after.capture.trace after.capture.line) done.0 done.1
+          (captured_of (state_of after.stack) after.capture.trace after.capture.line) c.bytes_of.result.now
+          c.tell_advice.new.self.told done.0 c.tell_advice.ensures.advised c.bytes_of.ensures.is done.1
           (ap playing c.put_fault.ensures.printer),
       c.put_fault.ensures.text,
     )

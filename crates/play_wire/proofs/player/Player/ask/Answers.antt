@@ -1,11 +1,13 @@
-use Rattle.std.proofs.Common.{◌≡◌, ◌++◌, ◌∙◌, Bool, List, ap, refl, subst, ℕ}
+use Rattle.std.proofs.Common.{◌≡◌, ◌++◌, ◌∙◌, Bool, List, ap, refl, subst, sym, ℕ}
+use Rattle.play_text.specs.Texts.{fault_text}
+use Rattle.play_wire.specs.Faults.{IsReason}
 use Rattle.play_script.specs.Tells.{told_text}
 use Rattle.play_script.specs.Views.{expected_on}
 use Rattle.play_script.specs.declared.printer.Printer.{Printer}
 use Rattle.segment.specs.Inside.{view}
 use Rattle.play_wire.specs.Acts.{Told, Refused}
 use Rattle.play_wire.specs.Inside.{named_by, play_with}
-use Rattle.play_wire.specs.Tells.{IsDone, labelled, text_of}
+use Rattle.play_wire.specs.Tells.{IsDone, labelled}
 use Rattle.play_wire.proofs.PlayLemmas.{and_false}
 use Rattle.play_wire.proofs.player.Player.ask.Goals as goal
 
@@ -24,7 +26,7 @@ returns-in-Ok g c =
     c.bytes_of-in-Ok.ensures.is ∙ c.label.ensures.line
     ∙ ap (λ (t : List ℕ). labelled host t) c.bytes_of.ensures.is in (
       did.0,
-      text_of p host now.line.shown wanted (Told told below),
+      told_text p.form p.name p.number (labelled host now.line.shown) wanted told below,
       (
         Told told below,
         segment,
@@ -46,15 +48,20 @@ returns-in-Err g c =
     let names = c.answer_words.new.hosts.names.items in
     let host = named_by now.target in (
       did.0,
-      text_of p host now.line.shown (expected_on now.line) (Refused c.in-Err.fault),
+      fault_text p.form p.name p.number c.bytes_of-in-Err.result.now,
       (
         Refused c.in-Err.fault,
         segment,
         names,
         did.1,
-        refl,
-        ap (λ (q : Printer). play_with segment names q) c.put_refusal.ensures.printer
+        (
+          c.bytes_of-in-Err.result.now,
+          subst (λ (t : List ℕ). IsReason host (plain_of now.line) c.in-Err.fault t) (sym c.bytes_of-in-Err.ensures.is)
+              c.tell_reason.ensures.reason,
+          refl,
+        ),
+        ap (λ (q : Printer). play_with segment names q) c.put_fault.ensures.printer
             ∙ ap (λ (b : Bool). record p { segment = segment; names = names; sound = b }) (and_false now.printer.sound),
       ),
-      c.put_refusal.ensures.text,
+      c.put_fault.ensures.text,
     )

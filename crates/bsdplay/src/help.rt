@@ -1,0 +1,37 @@
+//! The end of the help.
+
+/// The forms of all lines, those that docs/play.md has.
+pub(crate) const LINES: &str = "Lines, of which docs/play.md or man bsdplay has more:
+  socket
+  bind FD ADDR PORT
+  connect FD ADDR PORT
+  sendto FD ADDR PORT BYTES
+  send FD BYTES
+  recvfrom FD LEN
+  close FD
+  setsockopt FD OPT ON
+  rx BYTES
+  rx pcap FILE [N-M] [ticks]
+  tx
+  tick [N]
+  stat
+  mbstat
+  show WHAT
+  rx udp ADDR:PORT > ADDR:PORT BYTES ..
+Lines of many machines, where NAME: stands in front of those above:
+  host NAME [--SETTING VALUE ..]
+  wire NAME ..
+  carry [all] [N]
+  collect
+  deliver
+  tick [N]
+  loss CHANCE [from NAME]
+  repeat PLACE or repeat CHANCE [from NAME]
+  reorder CHANCE [from NAME]
+  delay A-B [from NAME]
+  seed N
+  drop PLACE
+  swap PLACE PLACE
+  show wire
+  summary
+";

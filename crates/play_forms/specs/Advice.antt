@@ -1,0 +1,128 @@
+-- What a line that asks for nothing could have been (this project's own).
+use Rattle.std.specs.Prelude.{◌≡◌, ◌⊎◌, ℕ, ◌&&◌, Bool, true, false, List, [], ◌∷◌, ◌++◌, length, take, codes, bytes_eq, nat_le, if◌then◌else◌, Option, Some, None}
+use Rattle.std.specs.List.{find}
+use Rattle.flat_model.specs.Scripts.Grammar.{words}
+use Rattle.play_forms.specs.Near.{has_name, nearest}
+use Rattle.play_forms.specs.Table.{Takes, arguments_of, form_of, host_commands, label_of, name_of, wire_commands}
+use Rattle.play_forms.specs.declared.advice.Player.{Player}
+use Rattle.play_forms.specs.declared.advice.Player.TheVariants.{Machine, Wire}
+use Rattle.play_forms.specs.declared.argument.Argument.{Argument}
+use Rattle.play_forms.specs.declared.command.Command.{Command}
+use Rattle.play_forms.specs.declared.command.Command.TheVariants as command
+
+-- What is wrong with a line.
+pub data Advice : Type 0 where
+  Empty : Advice  -- it has no word
+  Unknown : (word : List ℕ) (near : Option Command) → Advice  -- its first word is no command, and this one is near
+  OfHost : (asked : Command) → Advice  -- that is asked of a host, and it names none
+  Wrong : (word : List ℕ) (wanted : Argument) (asked : Command) → Advice  -- a word that isn't what stands there
+  Missing : (wanted : Argument) (asked : Command) → Advice  -- a word is missing
+  More : (word : List ℕ) (asked : Command) → Advice  -- the first word that is too much
+  Otherwise : (asked : Command) → Advice  -- it has another form
+
+-- ---- which of them it is
+
+abbrev pub commands_of : Player → List Command
+commands_of Machine = host_commands
+commands_of Wire = wire_commands
+
+abbrev pub of_host : Option Command → Advice → Advice
+of_host (Some asked) other = OfHost asked
+of_host None other = other
+
+-- a word that no line of the player begins with
+abbrev pub unknown : Player → List ℕ → Advice
+unknown Machine word = Unknown word (nearest word host_commands)
+unknown Wire word = of_host (find (has_name word) host_commands) (Unknown word (nearest word wire_commands))
+
+-- `rx pcap` has a form of its own
+abbrev pub is_rx : Command → Bool
+is_rx command.Rx = true
+is_rx _ = false
+
+abbrev pub begins_so : List ℕ → List (List ℕ) → Bool
+begins_so word [] = false
+begins_so word (first ∷ rest) = bytes_eq first word
+
+abbrev pub narrowed : Command → List (List ℕ) → Command
+narrowed asked rest = if is_rx asked && begins_so (codes "pcap") rest then command.RxPcap else asked
+
+-- The words after the command, by its arguments: the first one that isn't what stands there, is missing or is too much.
+abbrev pub AdvisesAfter : Command → List Argument → List (List ℕ) → Advice → Type 0
+AdvisesAfter asked [] [] advice = advice ≡ Otherwise asked
+AdvisesAfter asked [] (word ∷ rest) advice = advice ≡ More word asked
+AdvisesAfter asked (wanted ∷ more) [] advice = advice ≡ Missing wanted asked
+AdvisesAfter asked (wanted ∷ more) (word ∷ rest) advice =
+    (Takes wanted word × AdvisesAfter asked more rest advice)
+    ⊎ ((¬ Takes wanted word) × (advice ≡ Wrong word wanted asked))
+
+abbrev pub AdvisesArguments : Command → Option (List Argument) → List (List ℕ) → Advice → Type 0
+AdvisesArguments asked (Some arguments) rest advice = AdvisesAfter asked arguments rest advice
+AdvisesArguments asked None rest advice = advice ≡ Otherwise asked
+
+abbrev pub AdvisesOn : Player → List ℕ → List (List ℕ) → Option Command → Advice → Type 0
+AdvisesOn player word rest (Some asked) advice =
+    AdvisesArguments (narrowed asked rest) (arguments_of (narrowed asked rest)) rest advice
+AdvisesOn player word rest None advice = advice ≡ unknown player word
+
+abbrev pub AdvisesWords : Player → List (List ℕ) → Advice → Type 0
+AdvisesWords player [] advice = advice ≡ Empty
+AdvisesWords player ([] ∷ rest) advice = advice ≡ Empty
+AdvisesWords player ((byte ∷ bytes) ∷ rest) advice =
+    AdvisesOn player (byte ∷ bytes) rest (find (has_name (byte ∷ bytes)) (commands_of player)) advice
+
+-- what is wrong with a plain line, which has one space between each two words
+abbrev pub Advises : Player → List ℕ → Advice → Type 0
+Advises player plain advice = AdvisesWords player (words plain) advice
+
+-- ---- in words
+
+abbrev pub quoted : List ℕ → List ℕ
+quoted text = codes "`" ++ text ++ codes "`"
+
+-- a word, of which 32 bytes are printed at most
+abbrev pub cut : List ℕ → List ℕ
+cut word = if nat_le (length word) 32 then word else take 32 word ++ codes ".."
+
+-- the command that was meant
+abbrev pub meant_text : Command → List ℕ
+meant_text near = codes " (`" ++ name_of near ++ codes "`?)"
+
+abbrev pub near_text : Option Command → List ℕ
+near_text None = []
+near_text (Some near) = meant_text near
+
+-- how the lines of a command are written
+abbrev pub formed : Command → List ℕ
+formed asked = codes ": `" ++ form_of asked ++ codes "`"
+
+abbrev pub wrong_text : List ℕ → Argument → Command → List ℕ
+wrong_text word wanted asked = quoted (cut word) ++ codes " is no " ++ label_of wanted ++ formed asked
+
+abbrev pub host_text : Command → List ℕ
+host_text asked = quoted (cut (name_of asked)) ++ codes " is asked of a host: `NAME: " ++ form_of asked ++ codes "`"
+
+abbrev pub missing_text : Argument → Command → List ℕ
+missing_text wanted asked = label_of wanted ++ codes " is missing: `" ++ form_of asked ++ codes "`"
+
+abbrev pub too_many_text : Command → List ℕ
+too_many_text asked = codes " is one word too many: `" ++ form_of asked ++ codes "`"
+
+abbrev pub more_text : List ℕ → Command → List ℕ
+more_text word asked = quoted (cut word) ++ too_many_text asked
+
+abbrev pub otherwise_text : Command → List ℕ
+otherwise_text asked = codes "it's written otherwise: `" ++ form_of asked ++ codes "`"
+
+abbrev pub advice_text : Advice → List ℕ
+advice_text Empty = codes "no command stands in front of `=>`"
+advice_text (Unknown word near) = quoted (cut word) ++ codes " is no command" ++ near_text near
+advice_text (OfHost asked) = host_text asked
+advice_text (Wrong word wanted asked) = wrong_text word wanted asked
+advice_text (Missing wanted asked) = missing_text wanted asked
+advice_text (More word asked) = more_text word asked
+advice_text (Otherwise asked) = otherwise_text asked
+
+-- what is said of a plain line that asks for nothing
+abbrev pub IsAdvised : Player → List ℕ → List ℕ → Type 0
+IsAdvised player plain text = (advice : Advice) × Advises player plain advice × (text ≡ advice_text advice)

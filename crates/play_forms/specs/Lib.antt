@@ -1,0 +1,4 @@
+pub mod Table
+pub mod Near
+pub mod Advice
+pub mod Inside

@@ -1,0 +1,168 @@
+//! What a line that asks for nothing could have been.
+ghost use Rattle.std.specs.Prelude.{◌≡◌};
+ghost use Rattle.std.specs.List.{find};
+ghost use Rattle.script_loop.specs.Left.{left};
+ghost use Rattle.play_forms.specs.Advice as advice;
+ghost use Rattle.play_forms.specs.Advice.{Advises, AdvisesAfter, AdvisesArguments};
+ghost use Rattle.play_forms.specs.Inside.{advice_of};
+ghost use Rattle.play_forms.specs.Near as near;
+ghost use Rattle.play_forms.specs.Table.{arguments_of};
+
+use crate::argument::Argument;
+use crate::command::{Command, host_commands, wire_commands};
+use crate::nearest::{named, nearest};
+use script_loop::first_word;
+
+/// What plays a line.
+#[derive(Clone, Copy)]
+pub enum Player {
+    /// One machine, or one host of many, whose name stands in front of the line.
+    Machine,
+    /// All hosts and their wire.
+    Wire,
+}
+
+/// What is wrong with a line.
+#[derive(Clone, Copy)]
+pub(crate) enum Advice<'l> {
+    /// It has no word.
+    Empty,
+    /// Its first word is no command. The one that it's near to.
+    Unknown(&'l [u8], Option<Command>),
+    /// That is asked of a host, and it names none.
+    OfHost(Command),
+    /// A word isn't what stands in its place.
+    Wrong(&'l [u8], Argument, Command),
+    /// A word is missing.
+    Missing(Argument, Command),
+    /// The first word that is too much.
+    More(&'l [u8], Command),
+    /// It has another form.
+    Otherwise(Command),
+}
+
+/// The first of these arguments that a word isn't or that is missing, or the first word that is too much.
+fn advice_by<'l>(asked: Command, wanted: &[Argument], rest: Option<&'l [u8]>) -> Advice<'l>
+    ensures { AdvisesAfter asked wanted.now (left rest.entry) (advice_of result) }
+{
+    match (wanted, rest) {
+        ([], None) => Advice::Otherwise(asked),
+        ([], Some(words)) => {
+            let (word, _) = first_word(words);
+            Advice::More(word, asked)
+        }
+        ([first, ..], None) => Advice::Missing(*first, asked),
+        ([first, more @ ..], Some(words)) => {
+            let (word, rest) = first_word(words);
+            if first.takes(word) {
+                advice_by(asked, more, rest)
+            } else {
+                Advice::Wrong(word, *first, asked)
+            }
+        }
+    }
+}
+
+/// What is wrong with the words after a command.
+fn advice_after<'l>(asked: Command, rest: Option<&'l [u8]>) -> Advice<'l>
+    ensures { AdvisesArguments asked (arguments_of asked) (left rest.entry) (advice_of result) }
+{
+    match asked {
+        Command::Socket | Command::Tx | Command::Stat | Command::MbStat => {
+            advice_by(asked, &[], rest)
+        }
+        Command::Bind | Command::Connect => {
+            advice_by(asked, &[Argument::Fd, Argument::Addr, Argument::Port], rest)
+        }
+        Command::SendTo => advice_by(
+            asked,
+            &[
+                Argument::Fd,
+                Argument::Addr,
+                Argument::Port,
+                Argument::Bytes,
+            ],
+            rest,
+        ),
+        Command::Send => advice_by(asked, &[Argument::Fd, Argument::Bytes], rest),
+        Command::RecvFrom => advice_by(asked, &[Argument::Fd, Argument::Len], rest),
+        Command::Close => advice_by(asked, &[Argument::Fd], rest),
+        Command::SetSockOpt => {
+            advice_by(
+                asked,
+                &[Argument::Fd, Argument::Option, Argument::Switch],
+                rest,
+            )
+        }
+        Command::Rx => advice_by(asked, &[Argument::Bytes], rest),
+        Command::Tick => advice_by(asked, &[Argument::Count], rest),
+        Command::Show => advice_by(asked, &[Argument::Topic], rest),
+        _ => Advice::Otherwise(asked),
+    }
+}
+
+/// Whether the first word that is left is this one.
+fn begins_so(word: &[u8], rest: Option<&[u8]>) -> bool
+    ensures { result ≡ advice.begins_so word.now (left rest.entry) }
+{
+    match rest {
+        Some(words) => {
+            let (first, _) = first_word(words);
+            first == word
+        }
+        None => false,
+    }
+}
+
+/// The command, or `rx pcap`, which has a form of its own.
+fn narrowed(asked: Command, rest: Option<&[u8]>) -> Command
+    ensures { result ≡ advice.narrowed asked (left rest.entry) }
+{
+    match asked {
+        Command::Rx => {
+            if begins_so(b"pcap", rest) {
+                Command::RxPcap
+            } else {
+                asked
+            }
+        }
+        _ => asked,
+    }
+}
+
+/// A word that no line of the player begins with.
+fn unknown<'l>(player: Player, word: &'l [u8]) -> Advice<'l>
+    ensures { advice_of result ≡ advice.unknown player word.now }
+{
+    match player {
+        Player::Machine => Advice::Unknown(word, nearest(word, &host_commands())),
+        Player::Wire => match named(word, &host_commands()) {
+            Some(asked) => Advice::OfHost(asked),
+            None => Advice::Unknown(word, nearest(word, &wire_commands())),
+        },
+    }
+}
+
+/// The command of the player that has this name.
+fn command_of(player: Player, word: &[u8]) -> Option<Command>
+    ensures { result ≡ find (near.has_name word.now) (advice.commands_of player) }
+{
+    match player {
+        Player::Machine => named(word, &host_commands()),
+        Player::Wire => named(word, &wire_commands()),
+    }
+}
+
+/// What is wrong with a plain line, which has one space between each two words.
+pub(crate) fn advice_on<'l>(player: Player, plain: &'l [u8]) -> Advice<'l>
+    ensures { Advises player plain.now (advice_of result) }
+{
+    let (word, rest) = first_word(plain);
+    if word.is_empty() {
+        return Advice::Empty;
+    }
+    match command_of(player, word) {
+        Some(asked) => advice_after(narrowed(asked, rest), rest),
+        None => unknown(player, word),
+    }
+}

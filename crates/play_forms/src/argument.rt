@@ -1,0 +1,104 @@
+//! The words after a command.
+ghost use Rattle.std.specs.Prelude.{◌≡◌, ◌≤◌, length, MatchBool};
+ghost use Rattle.play_forms.specs.Table.{IsCount, Takes, is_topic, label_of};
+ghost use Rattle.play_forms.specs.declared.argument.Argument.TheVariants as argument;
+
+use request::address_of;
+use script_loop::number;
+
+/// What a word after a command is.
+#[derive(Clone, Copy)]
+pub enum Argument {
+    /// A descriptor.
+    Fd,
+    /// An address.
+    Addr,
+    /// A port.
+    Port,
+    /// How many bytes are received at most.
+    Len,
+    /// How many times.
+    Count,
+    /// A socket option.
+    Option,
+    /// Whether it's set.
+    Switch,
+    /// The bytes of a packet or a datagram. Whatever stands there was read before, or has its own fault.
+    Bytes,
+    /// What is shown.
+    Topic,
+}
+
+/// Whether a word is one of those that `show` takes.
+fn is_shown(word: &[u8]) -> bool
+    ensures { result ≡ is_topic word.now }
+{
+    word == b"sockets".as_slice()
+        || (word == b"unfinished".as_slice()
+            || (word == b"queue".as_slice()
+                || (word == b"counters".as_slice() || word == b"pool".as_slice())))
+}
+
+/// Whether a word is a number of 1 to 65,535.
+fn is_count(word: &[u8]) -> bool
+    ensures { MatchBool result (IsCount word.now) (¬ IsCount word.now) }
+{
+    word != b"0".as_slice() && number(word, 65_535).is_some()
+}
+
+/// Whether a word is a socket option.
+fn is_option(word: &[u8]) -> bool
+    ensures { MatchBool result (Takes argument.Option word.now) (¬ Takes argument.Option word.now) }
+{
+    match word {
+        b"broadcast" | b"reuseport" => true,
+        _ => false,
+    }
+}
+
+/// Whether a word sets an option or clears it.
+fn is_switch(word: &[u8]) -> bool
+    ensures { MatchBool result (Takes argument.Switch word.now) (¬ Takes argument.Switch word.now) }
+{
+    match word {
+        b"0" | b"1" => true,
+        _ => false,
+    }
+}
+
+impl Argument {
+    /// Its name in forms, and in brackets what it may be.
+    pub(crate) fn label(self) -> &'static str
+        ensures is { result.now ≡ label_of self }
+        ensures short { length result.now ≤ 56 }
+    {
+        match self {
+            Argument::Fd => "FD (0 to 4294967295)",
+            Argument::Addr => "ADDR (as 10.0.0.2)",
+            Argument::Port => "PORT (0 to 65535)",
+            Argument::Len => "LEN (1 to 65535)",
+            Argument::Count => "N (1 to 65535)",
+            Argument::Option => "OPT (broadcast or reuseport)",
+            Argument::Switch => "ON (1 or 0)",
+            Argument::Bytes => "BYTES (digits, \"text\" or @N)",
+            Argument::Topic => "WHAT (sockets, unfinished, queue, counters or pool)",
+        }
+    }
+
+    /// Whether a word is such an argument.
+    pub(crate) fn takes(self, word: &[u8]) -> bool
+        ensures { MatchBool result (Takes self word.now) (¬ Takes self word.now) }
+    {
+        match self {
+            Argument::Fd => number(word, u32::MAX).is_some(),
+            Argument::Addr => address_of(word).is_some(),
+            Argument::Port => number(word, 65_535).is_some(),
+            Argument::Len => is_count(word),
+            Argument::Count => is_count(word),
+            Argument::Option => is_option(word),
+            Argument::Switch => is_switch(word),
+            Argument::Bytes => true,
+            Argument::Topic => is_shown(word),
+        }
+    }
+}

@@ -1,0 +1,175 @@
+//! What passed by a line `carry`, in words.
+ghost use Rattle.segment.specs.Inside.{view};
+ghost use Rattle.play_wire.specs.Acts.{Moves};
+
+use crate::add::{add, add_number};
+use crate::names::NAME;
+use crate::show::name_at;
+use crate::spare::Spare;
+use crate::summary::counters_at;
+use flat_model::Counters;
+use net_stack::Stack;
+use params::IP_MAX_PACKET;
+use play_script::{DROPS, bytes_of, put_drops};
+use play_show::SHOWN;
+use play_text::put_packet;
+use script_loop::Buffer;
+use segment::{Segment, Tally};
+
+/// The most packets of a carry that are printed.
+const MOST: usize = 64;
+
+/// Room for a packet in words.
+const PACKET_TEXT: usize = 174;
+
+/// What was counted of a host.
+#[derive(Clone, Copy)]
+pub(crate) struct Counted {
+    tally: Tally,
+    counters: Counters,
+}
+
+impl Counted {
+    /// Nothing.
+    pub(crate) fn none() -> Counted {
+        Counted {
+            tally: Tally::default(),
+            counters: Counters::none(),
+        }
+    }
+}
+
+/// What the host at a place has counted. Nothing changes.
+fn counted_at(segment: &mut Segment, spare: &mut Stack, place: usize) -> Counted
+    ensures { Moves (view segment.old) (view segment.new) }
+{
+    let counters = counters_at(segment, spare, place);
+    match (segment.tally(place), counters) {
+        (Some(tally), Some(counters)) => Counted { tally, counters },
+        _ => Counted::none(),
+    }
+}
+
+/// Takes down what each host has counted.
+pub(crate) fn take_counts(segment: &mut Segment, spare: &mut Stack, counts: &mut [Counted])
+    ensures { Moves (view segment.old) (view segment.new) }
+{
+    for place in 0..counts.len() {
+        let now = counted_at(segment, spare, place);
+        counts[place] = now;
+    }
+}
+
+/// Puts the words of a packet after a text, if there is room for them.
+fn add_words(text: &mut Buffer<SHOWN>, packet: &[u8]) {
+    if packet.len() <= IP_MAX_PACKET as usize && text.len() <= SHOWN - PACKET_TEXT {
+        put_packet(text, packet);
+    }
+}
+
+/// Puts a packet after a text, as a line with its sender.
+fn add_sent(text: &mut Buffer<SHOWN>, name: &[u8], packet: &[u8]) {
+    add(text, b"    ");
+    add(text, name);
+    add(text, b": ");
+    add_words(text, packet);
+    add(text, b"\n");
+}
+
+/// Puts the packets that went on the wire after a text: those that are under way from a place on, the first 64 of them.
+/// A text that has half the bytes that it may have takes none.
+pub(crate) fn add_went(
+    text: &mut Buffer<SHOWN>,
+    segment: &Segment,
+    names: &[Buffer<NAME>],
+    first: usize,
+) {
+    if text.len() > SHOWN / 2 {
+        return;
+    }
+    let mut more = 0u64;
+    for at in first..segment.flight_len() {
+        if let Some(it) = segment.under_way(at) {
+            if at - first < MOST {
+                add_sent(text, name_at(names, it.sender), it.packet);
+            } else {
+                more = more.saturating_add(1);
+            }
+        }
+    }
+    if more != 0 {
+        add(text, b"    and ");
+        add_number(text, more);
+        add(text, b" more\n");
+    }
+}
+
+/// Puts how many packets of a host had some fate after a text, as a line, if there are any.
+fn add_fate(text: &mut Buffer<SHOWN>, name: &[u8], fate: &[u8], count: u64) {
+    if count == 0 {
+        return;
+    }
+    add(text, b"    ");
+    add(text, name);
+    add(text, b": ");
+    add(text, fate);
+    add(text, b" ");
+    add_number(text, count);
+    add(
+        text,
+        if count == 1 {
+            b" packet\n".as_slice()
+        } else {
+            b" packets\n"
+        },
+    );
+}
+
+/// Puts what a host did with packets after a text: how many it lost, repeated and received, and why some were dropped.
+fn add_counts(
+    text: &mut Buffer<SHOWN>,
+    drops: &mut Buffer<DROPS>,
+    name: &[u8],
+    old: &Counted,
+    new: &Counted,
+) {
+    let (was, is) = (old.tally, new.tally);
+    add_fate(text, name, b"lost", is.lost.saturating_sub(was.lost));
+    add_fate(
+        text,
+        name,
+        b"repeated",
+        is.repeated.saturating_sub(was.repeated),
+    );
+    add_fate(
+        text,
+        name,
+        b"received",
+        is.received.saturating_sub(was.received),
+    );
+    put_drops(drops, &old.counters, &new.counters);
+    if !drops.is_empty() {
+        add(text, b"    ");
+        add(text, name);
+        add(text, b":");
+        add(text, bytes_of(drops));
+        add(text, b"\n");
+    }
+}
+
+/// Puts after a text what each host did with packets since its counts were taken down.
+pub(crate) fn add_all(
+    text: &mut Buffer<SHOWN>,
+    segment: &mut Segment,
+    spare: &mut Spare,
+    names: &[Buffer<NAME>],
+    counts: &[Counted],
+)
+    ensures { Moves (view segment.old) (view segment.new) }
+{
+    for place in 0..counts.len() {
+        let old = counts[place];
+        let new = counted_at(segment, &mut spare.stack, place);
+        add_counts(text, &mut spare.drops, name_at(names, place), &old, &new);
+    }
+}
