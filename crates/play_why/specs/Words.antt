@@ -1,0 +1,50 @@
+-- Why a packet was dropped, and the rule that it broke, in words (this project's own).
+use Rattle.std.specs.Prelude.{ℕ, List, codes}
+use Rattle.flat_model.specs.declared.counters.Why.{Why}
+use Rattle.flat_model.specs.declared.counters.Why.TheVariants.{TooSmall, BadVersion, BadHeaderLength, Options, BadSum, BadLength, TooShort, CantForward, BadFragment, FragmentDropped, NoProtocol, UdpHeaderDrops, UdpBadLength, UdpBadSum, UdpNoPort, UdpNoPortBroadcast, UdpFullSocket, NoBufs}
+
+-- the cause
+abbrev pub cause_words : Why → List ℕ
+cause_words TooSmall = codes "packet shorter than a header"
+cause_words BadVersion = codes "wrong version"
+cause_words BadHeaderLength = codes "header length too small"
+cause_words Options = codes "options are not taken"
+cause_words BadSum = codes "wrong header checksum"
+cause_words BadLength = codes "total length too small"
+cause_words TooShort = codes "packet shorter than its total length"
+cause_words CantForward = codes "not addressed to this machine"
+cause_words BadFragment = codes "malformed fragment"
+cause_words FragmentDropped = codes "fragment held already"
+cause_words NoProtocol = codes "unknown protocol"
+cause_words UdpHeaderDrops = codes "datagram shorter than a header"
+cause_words UdpBadLength = codes "wrong datagram length"
+cause_words UdpBadSum = codes "wrong datagram checksum"
+cause_words UdpNoPort = codes "no socket has the port"
+cause_words UdpNoPortBroadcast = codes "no socket has the port of the broadcast"
+cause_words UdpFullSocket = codes "receive queue full"
+cause_words NoBufs = codes "no buffer space available"
+
+-- the rule
+abbrev pub rule_words : Why → List ℕ
+rule_words TooSmall = codes "an IPv4 header has 20 bytes at least (RFC 791, section 3.1)"
+rule_words BadVersion = codes "the first four bits are 4 (RFC 791, section 3.1)"
+rule_words BadHeaderLength = codes "the header has 5 words of 4 bytes at least (RFC 791, section 3.1)"
+rule_words Options = codes "this stack accepts no IP options, so the header has 5 words"
+rule_words BadSum =
+    codes "the 16-bit words of the header add up to 0xffff in ones' complement (RFC 791, section 3.1)"
+rule_words BadLength = codes "the total length counts the header too, so it's 20 at least (RFC 791, section 3.1)"
+rule_words TooShort = codes "a packet has as many bytes as its total length says (RFC 791, section 3.1)"
+rule_words CantForward =
+    codes "a host accepts its own address and broadcasts, and forwards nothing (RFC 1122, section 3.2.1.3)"
+rule_words BadFragment =
+    codes "all fragments but the last carry a multiple of 8 bytes, and none ends past 65535 (RFC 791, 3.2)"
+rule_words FragmentDropped = codes "a fragment brings bytes that aren't held yet (TCP/IP Illustrated 2, chapter 10)"
+rule_words NoProtocol = codes "this stack delivers UDP alone, protocol 17"
+rule_words UdpHeaderDrops = codes "a UDP header has 8 bytes (RFC 768)"
+rule_words UdpBadLength = codes "the UDP length is 8 at least, and at most what the packet carries (RFC 768)"
+rule_words UdpBadSum =
+    codes "the words of pseudo header and datagram add up to 0xffff, unless the checksum is 0 (RFC 768)"
+rule_words UdpNoPort = codes "a socket is bound to the destination port (TCP/IP Illustrated 2, chapter 23)"
+rule_words UdpNoPortBroadcast = codes "a socket is bound to the destination port (TCP/IP Illustrated 2, chapter 23)"
+rule_words UdpFullSocket = codes "a receive queue takes 41600 bytes, 16 for each sender's address among them"
+rule_words NoBufs = codes "the pool has mbufs and clusters for the packet"

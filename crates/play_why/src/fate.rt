@@ -1,0 +1,457 @@
+//! What became of the packet of a record, in words.
+ghost use Rattle.std.specs.Prelude.{◌≡◌, ◌+◌, ◌*◌, ◌<◌, ◌≤◌, ◌++◌, length, codes, decimal};
+ghost use Rattle.params.specs.declared.TheConstants.{IP_HEADER, IP_MAX_PACKET, MAX_SOCKETS};
+ghost use Rattle.play_why.specs.Fates as texts;
+ghost use Rattle.play_why.specs.Fates.{IsSeen};
+ghost use Rattle.net_stack.specs.Stack.{state_of};
+
+use crate::FATE;
+use crate::causes::{Around, Part, put_parts};
+use crate::rooms::Rooms;
+use crate::seen::Seen;
+use crate::sums::{COVERED, u32_at};
+use flat_model::{Counter, Counters, Errno};
+use flat_plain::u16_at;
+use net_stack::{NextDatagram, SocketName, Stack};
+use params::{FIRST_DESCRIPTOR, IP_HEADER, MAX_SOCKETS};
+use play_text::Piece::{Address, Amount, Long, Number, Quoted, Text};
+use play_text::{put, put_if, put_packet};
+use script_loop::Buffer;
+
+/// The most records of other fragments that are named.
+pub const MOST_RECORDS: usize = 64;
+
+/// The six digits of a number below 1,000,000.
+#[tactic(auto, unfolding(crate::specs::Fates::six_digits))]
+fn six_digits(n: u32) -> [u8; 6]
+    requires { n < 1000000 }
+    ensures { result ≡ texts.six_digits n }
+{
+    [
+        48 + (n / 100_000 % 10) as u8,
+        48 + (n / 10_000 % 10) as u8,
+        48 + (n / 1_000 % 10) as u8,
+        48 + (n / 100 % 10) as u8,
+        48 + (n / 10 % 10) as u8,
+        48 + (n % 10) as u8,
+    ]
+}
+
+/// Puts a time after the text, in seconds.
+#[tactic(auto, unfolding(crate::specs::Fates::time_text))]
+fn put_time(text: &mut Buffer<FATE>, time: u64)
+    requires { length text.old + 30 ≤ FATE }
+    ensures items { text.new ≡ text.old ++ texts.time_text time }
+    ensures len { length text.new ≤ length text.old + 30 }
+{
+    let microseconds = (time / 1_000 % 1_000_000) as u32;
+    put(
+        text,
+        &[
+            Long(time / 1_000_000_000),
+            Text(b"."),
+            Text(&six_digits(microseconds)),
+        ],
+    );
+}
+
+/// Whether a header isn't one of version 4 with 5 words.
+fn is_odd(packet: &[u8]) -> bool
+    ensures { result ≡ texts.is_odd packet.now }
+{
+    IP_HEADER as usize <= packet.len() && packet[0] != 69
+}
+
+/// Puts what the headers of a packet say after the text, or at least its two addresses.
+#[tactic(auto, unfolding(crate::specs::Fates::ends_text))]
+fn put_ends(text: &mut Buffer<FATE>, packet: &[u8])
+    requires packet { length packet.now ≤ IP_MAX_PACKET }
+    requires room { length text.old + 180 ≤ FATE }
+    ensures items { text.new ≡ text.old ++ texts.ends_text packet.now }
+    ensures len { length text.new ≤ length text.old + 180 }
+{
+    if is_odd(packet) {
+        put(
+            text,
+            &[
+                Address(u32_at(packet, 12)),
+                Text(b" > "),
+                Address(u32_at(packet, 16)),
+                Text(b", "),
+                Amount(packet.len() as u32, b"byte"),
+            ],
+        );
+    } else {
+        put_packet(text, packet);
+    }
+}
+
+/// Puts the number, the time and the ends of a record into a buffer.
+#[tactic(auto, unfolding(crate::specs::Fates::head_text))]
+fn put_head(text: &mut Buffer<FATE>, seen: &Seen<'_>)
+    requires { length seen.now.packet.now ≤ IP_MAX_PACKET }
+    ensures items { text.new ≡ texts.head_text seen.now }
+    ensures len { length text.new ≤ 240 }
+{
+    text.clear();
+    put(text, &[Long(seen.number), Text(b"  ")]);
+    put_time(text, seen.time);
+    text.append(b"  ");
+    put_ends(text, seen.packet);
+}
+
+/// Whether a counter went up.
+pub(crate) fn rose(counter: Counter, before: &Counters, after: &Counters) -> bool
+    ensures { result ≡ texts.rose counter before.now after.now }
+{
+    before.value(counter) < after.value(counter)
+}
+
+/// Whether a fragment is kept.
+pub(crate) fn is_kept(before: &Counters, after: &Counters) -> bool
+    ensures { result ≡ texts.is_kept before.now after.now }
+{
+    rose(Counter::IpFragments, before, after)
+        && (!rose(Counter::IpReassembled, before, after)
+            && (!rose(Counter::IpFragdropped, before, after)
+                && !rose(Counter::Nobufs, before, after)))
+}
+
+/// Puts after the text that a fragment of a datagram is kept.
+fn put_kept(text: &mut Buffer<FATE>, id: u32)
+    requires { length text.old + 60 ≤ FATE }
+    ensures items { text.new ≡ text.old ++ texts.kept_part id }
+    ensures len { length text.new ≤ length text.old + 60 }
+{
+    put(
+        text,
+        &[
+            Text(b" => kept: datagram "),
+            Number(id),
+            Text(b" isn't whole yet"),
+        ],
+    );
+}
+
+/// Puts after the text that a datagram is whole.
+fn put_id(text: &mut Buffer<FATE>, id: u32)
+    requires { length text.old + 60 ≤ FATE }
+    ensures items { text.new ≡ text.old ++ texts.id_part id }
+    ensures len { length text.new ≤ length text.old + 60 }
+{
+    put(
+        text,
+        &[Text(b" => datagram "), Number(id), Text(b" is whole")],
+    );
+}
+
+/// Puts the numbers of records after the text.
+#[tactic(auto, unfolding(crate::specs::Fates::others_text))]
+fn put_others(text: &mut Buffer<FATE>, others: &[u64])
+    requires most { length others.now ≤ 64 }
+    requires room { length text.old + 1408 ≤ FATE }
+    ensures items { text.new ≡ text.old ++ texts.others_text others.now }
+    ensures len { length text.new ≤ length text.old + 1408 }
+{
+    for number in others {
+        put(text, &[Text(b", "), Long(*number)]);
+    }
+}
+
+/// Puts after the text how many records there are past the first ones, and the last one.
+#[tactic(auto, unfolding(crate::specs::Fates::last_text))]
+fn put_last(text: &mut Buffer<FATE>, more: u64, number: u64)
+    requires { length text.old + 60 ≤ FATE }
+    ensures items { text.new ≡ text.old ++ texts.last_text more number }
+    ensures len { length text.new ≤ length text.old + 60 }
+{
+    put_if(text, 0 < more, &[Text(b", "), Long(more), Text(b" more")]);
+    put(text, &[Text(b" and "), Long(number)]);
+}
+
+/// Puts after the text which records have the fragments of a datagram, from the first one on.
+fn put_named(text: &mut Buffer<FATE>, first: u64, others: &[u64], more: u64, number: u64)
+    requires most { length others.now ≤ 64 }
+    requires room { length text.old + 1540 ≤ FATE }
+    ensures items { text.new ≡ text.old ++ ((codes " with records " ++ decimal first) ++ texts.others_text others.now
+        ++ texts.last_text more number) }
+    ensures len { length text.new ≤ length text.old + 1540 }
+{
+    put(text, &[Text(b" with records "), Long(first)]);
+    put_others(text, others);
+    put_last(text, more, number);
+}
+
+/// Puts after the text which records have the fragments of a datagram.
+#[tactic(auto, unfolding(crate::specs::Fates::records_text))]
+fn put_records(text: &mut Buffer<FATE>, earlier: &[u64], more: u64, number: u64)
+    requires most { length earlier.now ≤ 64 }
+    requires room { length text.old + 1540 ≤ FATE }
+    ensures items { text.new ≡ text.old ++ texts.records_text earlier.now more number }
+    ensures len { length text.new ≤ length text.old + 1540 }
+{
+    match earlier {
+        [] => {}
+        [first, others @ ..] => put_named(text, *first, others, more, number),
+    }
+}
+
+/// Puts after the text that a datagram is whole, and with which records.
+fn put_whole(text: &mut Buffer<FATE>, seen: &Seen<'_>)
+    requires packet { IP_HEADER ≤ length seen.now.packet.now }
+    requires most { length seen.now.earlier.now ≤ 64 }
+    requires room { length text.old + 1600 ≤ FATE }
+    ensures items { text.new ≡ text.old ++ texts.whole_part seen.now }
+    ensures len { length text.new ≤ length text.old + 1600 }
+{
+    put_id(text, u32::from(u16_at(seen.packet, 4)));
+    put_records(text, seen.earlier, seen.more, seen.number);
+}
+
+/// Puts after the text what became of a fragment.
+#[tactic(auto, unfolding(crate::specs::Fates::fragment_part))]
+fn put_fragment(text: &mut Buffer<FATE>, seen: &Seen<'_>, before: &Counters, after: &Counters)
+    requires most { length seen.now.earlier.now ≤ 64 }
+    requires room { length text.old + 1600 ≤ FATE }
+    ensures items { text.new ≡ text.old ++ texts.fragment_part seen.now before.now after.now }
+    ensures len { length text.new ≤ length text.old + 1600 }
+{
+    if seen.packet.len() < IP_HEADER as usize {
+        return;
+    }
+    if rose(Counter::IpReassembled, before, after) {
+        put_whole(text, seen);
+    } else if is_kept(before, after) {
+        put_kept(text, u32::from(u16_at(seen.packet, 4)));
+    }
+}
+
+/// The port of a socket, or 0 if it has none.
+fn port_of(port: Option<u16>) -> u16
+    ensures { result ≡ texts.port_of port }
+{
+    match port {
+        Some(port) => port,
+        None => 0,
+    }
+}
+
+/// Puts after the text that a datagram was delivered to a port, if one waits there.
+fn put_next(text: &mut Buffer<FATE>, port: u32, next: Result<NextDatagram, Errno>)
+    requires { length text.old + 70 ≤ FATE }
+    ensures items { text.new ≡ text.old ++ texts.next_part port next }
+    ensures len { length text.new ≤ length text.old + 70 }
+{
+    match next {
+        Ok(next) => put(
+            text,
+            &[
+                Text(b" => delivered to port "),
+                Number(port),
+                Text(b": "),
+                Amount(next.len, b"byte"),
+            ],
+        ),
+        Err(_) => {}
+    }
+}
+
+/// Puts after the text that a datagram was delivered, if one waits in a socket of this name.
+fn put_delivered(
+    text: &mut Buffer<FATE>,
+    name: Result<SocketName, Errno>,
+    next: Result<NextDatagram, Errno>,
+)
+    requires { length text.old + 70 ≤ FATE }
+    ensures items { text.new ≡ text.old ++ texts.delivered_part name next }
+    ensures len { length text.new ≤ length text.old + 70 }
+{
+    match name {
+        Ok(name) => put_next(text, u32::from(port_of(name.port)), next),
+        Err(_) => {}
+    }
+}
+
+/// Puts after the text that a datagram was delivered, if one waits in the socket of a descriptor.
+fn put_delivered_at(text: &mut Buffer<FATE>, machine: &Stack, fd: u32)
+    requires { length text.old + 70 ≤ FATE }
+    ensures items { text.new ≡ text.old ++ texts.delivered_at fd (state_of machine.now) }
+    ensures len { length text.new ≤ length text.old + 70 }
+{
+    put_delivered(text, machine.socket_name(fd), machine.next_datagram(fd));
+}
+
+/// Puts after the text to which sockets a datagram was delivered: those in which one waits.
+fn put_all_delivered(text: &mut Buffer<FATE>, machine: &Stack)
+    requires { length text.old + 4480 ≤ FATE }
+    ensures items { text.new ≡ text.old ++ texts.delivered_below MAX_SOCKETS (state_of machine.now) }
+    ensures len { length text.new ≤ length text.old + 4480 }
+{
+    'places: for place in 0..MAX_SOCKETS {
+        put_delivered_at(text, machine, FIRST_DESCRIPTOR + place);
+    }
+}
+
+/// How records are told.
+#[derive(Clone, Copy, Debug, PartialEq, Eq)]
+pub enum Layout {
+    /// As lines for people.
+    Lines,
+    /// As an object of JSON each, for programs.
+    Objects,
+}
+
+/// Puts what became of a packet after the text.
+#[tactic(auto, unfolding(crate::specs::Fates::became_text))]
+fn put_became(
+    text: &mut Buffer<FATE>,
+    seen: &Seen<'_>,
+    around: Around<'_>,
+    machine: &Stack,
+    covered: &mut Buffer<COVERED>,
+)
+    requires seen { IsSeen seen.now }
+    requires room { length text.old + 9680 ≤ FATE }
+    ensures items { text.new ≡ text.old ++ texts.became_text seen.now around.entry.before.now around.entry.after.now
+        (state_of machine.now) around.entry.ours }
+    ensures len { length text.new ≤ length text.old + 9680 }
+{
+    put_fragment(text, seen, around.before, around.after);
+    put_all_delivered(text, machine);
+    put_parts(text, Part::Drop, seen, around, covered);
+}
+
+/// Puts the line of a record into a buffer, and below it a rule for each cause for which its packet was dropped.
+#[tactic(auto, unfolding(crate::specs::Fates::lines_text))]
+fn put_lines(
+    text: &mut Buffer<FATE>,
+    seen: &Seen<'_>,
+    around: Around<'_>,
+    machine: &Stack,
+    covered: &mut Buffer<COVERED>,
+)
+    requires { IsSeen seen.now }
+    ensures { text.new ≡ texts.lines_text seen.now around.entry.before.now around.entry.after.now
+        (state_of machine.now) around.entry.ours }
+{
+    put_head(text, seen);
+    put_became(text, seen, around, machine, covered);
+    text.append(b"\n");
+    put_parts(text, Part::Reason, seen, around, covered);
+}
+
+/// Puts a part of what's told of the causes after the text, as a member of an object.
+#[tactic(auto, unfolding(crate::specs::Fates::member))]
+fn put_member(
+    text: &mut Buffer<FATE>,
+    name: &[u8],
+    part: Part,
+    seen: &Seen<'_>,
+    around: Around<'_>,
+    rooms: &mut Rooms,
+)
+    requires seen { IsSeen seen.now }
+    requires name { length name.now ≤ 20 }
+    requires room { length text.old + 21700 ≤ FATE }
+    ensures items { text.new ≡ text.old ++ texts.member name.now part seen.now around.entry.before.now
+        around.entry.after.now around.entry.ours }
+    ensures len { length text.new ≤ length text.old + 21700 }
+{
+    let Rooms {
+        covered,
+        scratch,
+        ..
+    } = rooms;
+    scratch.clear();
+    put_parts(scratch, part, seen, around, covered);
+    put(text, &[Text(name), Quoted(scratch.as_slice())]);
+}
+
+/// Puts the number, the time and the packet of a record into a buffer, as the first members of an object.
+#[tactic(auto, unfolding(crate::specs::Fates::members_text))]
+fn put_members(text: &mut Buffer<FATE>, seen: &Seen<'_>, scratch: &mut Buffer<FATE>)
+    requires { length seen.now.packet.now ≤ IP_MAX_PACKET }
+    ensures items { text.new ≡ texts.members_text seen.now }
+    ensures len { length text.new ≤ 1300 }
+{
+    scratch.clear();
+    put_ends(scratch, seen.packet);
+    text.clear();
+    put(
+        text,
+        &[
+            Text(b"{\"number\":"),
+            Long(seen.number),
+            Text(b",\"time\":"),
+        ],
+    );
+    put_time(text, seen.time);
+    put(text, &[Text(b",\"packet\":"), Quoted(scratch.as_slice())]);
+}
+
+/// Puts what became of a packet after the text, as a member of an object.
+#[tactic(auto, unfolding(crate::specs::Fates::became_member))]
+fn put_became_member(
+    text: &mut Buffer<FATE>,
+    seen: &Seen<'_>,
+    around: Around<'_>,
+    machine: &Stack,
+    rooms: &mut Rooms,
+)
+    requires seen { IsSeen seen.now }
+    requires room { length text.old + 58200 ≤ FATE }
+    ensures items { text.new ≡ text.old ++ texts.became_member seen.now around.entry.before.now
+        around.entry.after.now (state_of machine.now) around.entry.ours }
+    ensures len { length text.new ≤ length text.old + 58200 }
+{
+    let Rooms {
+        covered,
+        scratch,
+        ..
+    } = rooms;
+    scratch.clear();
+    put_became(scratch, seen, around, machine, covered);
+    let became = scratch.as_slice();
+    let parts = &became[became.len().min(4)..];
+    put(text, &[Text(b",\"became\":"), Quoted(parts)]);
+}
+
+/// Puts a record into a buffer as an object.
+#[tactic(auto, unfolding(crate::specs::Fates::object_text))]
+fn put_object(
+    text: &mut Buffer<FATE>,
+    seen: &Seen<'_>,
+    around: Around<'_>,
+    machine: &Stack,
+    rooms: &mut Rooms,
+)
+    requires { IsSeen seen.now }
+    ensures { text.new ≡ texts.object_text seen.now around.entry.before.now around.entry.after.now
+        (state_of machine.now) around.entry.ours }
+{
+    put_members(text, seen, &mut rooms.scratch);
+    put_became_member(text, seen, around, machine, rooms);
+    put_member(text, b",\"cause\":", Part::Cause, seen, around, rooms);
+    put_member(text, b",\"values\":", Part::Values, seen, around, rooms);
+    put_member(text, b",\"fault\":", Part::Fault, seen, around, rooms);
+    text.append(b"}\n");
+}
+
+/// Puts a record into a buffer.
+pub(crate) fn put_record(
+    text: &mut Buffer<FATE>,
+    layout: Layout,
+    seen: &Seen<'_>,
+    around: Around<'_>,
+    machine: &Stack,
+    rooms: &mut Rooms,
+)
+    requires { IsSeen seen.now }
+    ensures { text.new ≡ texts.record_text layout seen.now around.entry.before.now around.entry.after.now
+        (state_of machine.now) around.entry.ours }
+{
+    match layout {
+        Layout::Lines => put_lines(text, seen, around, machine, &mut rooms.covered),
+        Layout::Objects => put_object(text, seen, around, machine, rooms),
+    }
+}

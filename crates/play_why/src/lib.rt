@@ -1,0 +1,32 @@
+//! Why packets of a capture were dropped: each goes to a machine, and what became of it is put into words, with both
+//! values where one is wrong.
+#![tactic(auto)]
+
+mod addresses;
+mod arrive;
+mod blame;
+mod causes;
+mod fate;
+mod judge;
+mod lacks;
+mod parts;
+mod ports;
+mod rooms;
+mod seen;
+mod sums;
+mod table;
+mod values;
+mod words;
+
+pub use addresses::{Addresses, Busiest};
+pub use arrive::tell_record;
+pub use blame::Blame;
+pub use causes::Part;
+pub use fate::{Layout, MOST_RECORDS};
+pub use judge::{Arrival, Judge};
+pub use ports::MOST_PORTS;
+pub use rooms::Rooms;
+pub use seen::Seen;
+
+/// Room for what is told of a record.
+pub const FATE: usize = 131_072;

@@ -1,0 +1,139 @@
+//! The checksums that would be right, and their digits.
+ghost use Rattle.std.specs.Prelude.{◌≡◌, ◌+◌, ◌≤◌, ◌<◌, ◌++◌, length, take, drop};
+ghost use Rattle.std.specs.Char.{digit_char};
+ghost use Rattle.params.specs.declared.TheConstants.{IP_HEADER, UDP_HEADER};
+ghost use Rattle.flat_model.specs.Packets.Header as header;
+ghost use Rattle.play_why.specs.Values as texts;
+
+use byteorder::{BigEndian, ByteOrder};
+use flat_model::fold;
+use flat_plain::{checksum, u16_at};
+use params::PROTOCOL_UDP;
+use script_loop::Buffer;
+
+/// Room for what the checksum of the longest datagram covers.
+pub const COVERED: usize = 65_600;
+
+/// The digit of a number below 16, in lower case.
+fn digit(n: u16) -> u8
+    requires { n < 16 }
+    ensures { result ≡ digit_char n }
+{
+    if n < 10 { 48 + n as u8 } else { 87 + n as u8 }
+}
+
+/// The four digits of a number of 16 bits to the base 16.
+#[tactic(auto, unfolding(crate::specs::Values::word_digits))]
+pub(crate) fn word_digits(n: u16) -> [u8; 4]
+    ensures { result ≡ texts.word_digits n }
+{
+    [
+        digit(n / 4096),
+        digit(n / 256 % 16),
+        digit(n / 16 % 16),
+        digit(n % 16),
+    ]
+}
+
+/// The checksum that a header of 20 bytes would have.
+#[tactic(auto, unfolding(crate::specs::Values::right_header_sum))]
+pub(crate) fn right_header_sum(packet: &[u8], covered: &mut Buffer<COVERED>) -> u16
+    requires { IP_HEADER ≤ length packet.now }
+    ensures { result ≡ texts.right_header_sum packet.now }
+{
+    covered.clear();
+    covered.append(&packet[..10]);
+    covered.append(&[0, 0]);
+    covered.append(&packet[12..20]);
+    checksum(covered.as_slice())
+}
+
+/// Writes a number of 32 bits over the bytes from a place on.
+fn put_u32(bytes: &mut [u8], at: usize, n: u32)
+    requires { at + 4 ≤ length bytes.old }
+    ensures { bytes.new ≡ take at bytes.old ++ (header.four_bytes n ++ drop (at + 4) bytes.old) }
+{
+    BigEndian::write_u32(&mut bytes[at..at + 4], n);
+}
+
+/// Writes a number of 16 bits over the bytes from a place on.
+fn put_u16(bytes: &mut [u8], at: usize, n: u16)
+    requires { at + 2 ≤ length bytes.old }
+    ensures { bytes.new ≡ take at bytes.old ++ (header.two_bytes n ++ drop (at + 2) bytes.old) }
+{
+    BigEndian::write_u16(&mut bytes[at..at + 2], n);
+}
+
+/// What the UDP checksum covers in front of a datagram of so many bytes.
+fn pseudo_header(source: u32, destination: u32, n: u16) -> [u8; 12]
+    ensures { result ≡ header.pseudo_header source destination n }
+{
+    let mut bytes = [0; 12];
+    put_u32(&mut bytes, 0, source);
+    put_u32(&mut bytes, 4, destination);
+    bytes[9] = PROTOCOL_UDP;
+    put_u16(&mut bytes, 10, n);
+    bytes
+}
+
+/// The number in the four bytes from a place on.
+pub(crate) fn u32_at(bytes: &[u8], at: usize) -> u32
+    requires { at + 4 ≤ length bytes.now }
+    ensures { result ≡ header.u32_at at bytes.now }
+{
+    BigEndian::read_u32(&bytes[at..])
+}
+
+/// The same of a datagram in a packet.
+#[tactic(auto, unfolding(crate::specs::Values::pseudo_of))]
+fn pseudo_of(packet: &[u8], datagram: &[u8]) -> [u8; 12]
+    requires packet { IP_HEADER ≤ length packet.now }
+    requires datagram { UDP_HEADER ≤ length datagram.now }
+    ensures { result ≡ texts.pseudo_of packet.now datagram.now }
+{
+    pseudo_header(u32_at(packet, 12), u32_at(packet, 16), u16_at(datagram, 4))
+}
+
+/// A computed checksum of 0 is written as 65,535.
+fn not_zero(sum: u16) -> u16
+    ensures { result ≡ header.not_zero sum }
+{
+    if sum == 0 { 65_535 } else { sum }
+}
+
+/// The bytes that are sent, by the UDP length and by what there is.
+fn sent_by(datagram: &[u8]) -> &[u8]
+    requires { UDP_HEADER ≤ length datagram.now }
+    ensures is { result.now ≡ take (texts.sent_by datagram.now) (drop 8 datagram.now) }
+    ensures most { length result.now ≤ 65535 }
+{
+    let end = (u16_at(datagram, 4) as usize).min(datagram.len());
+    let (_, rest) = datagram.split_at(8);
+    &rest[..end.saturating_sub(8)]
+}
+
+/// The checksum that a datagram of 8 bytes or more would have.
+#[tactic(auto, unfolding(crate::specs::Values::right_udp_sum))]
+pub(crate) fn right_udp_sum(packet: &[u8], datagram: &[u8], covered: &mut Buffer<COVERED>) -> u16
+    requires packet { IP_HEADER ≤ length packet.now }
+    requires datagram { UDP_HEADER ≤ length datagram.now }
+    ensures { result ≡ texts.right_udp_sum packet.now datagram.now }
+{
+    covered.clear();
+    covered.append(&pseudo_of(packet, datagram));
+    covered.append(&datagram[..6]);
+    covered.append(&[0, 0]);
+    covered.append(sent_by(datagram));
+    not_zero(checksum(covered.as_slice()))
+}
+
+/// The sum of the pseudo header alone.
+#[tactic(auto, unfolding(crate::specs::Values::pseudo_sum))]
+pub(crate) fn pseudo_sum(packet: &[u8], datagram: &[u8]) -> u16
+    requires packet { IP_HEADER ≤ length packet.now }
+    requires datagram { UDP_HEADER ≤ length datagram.now }
+    ensures { result ≡ texts.pseudo_sum packet.now datagram.now }
+{
+    let covered = pseudo_of(packet, datagram);
+    fold(&covered)
+}

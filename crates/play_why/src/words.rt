@@ -1,0 +1,68 @@
+//! Causes and rules in words.
+ghost use Rattle.std.specs.Prelude.{◌≡◌, ◌≤◌, length};
+ghost use Rattle.play_why.specs.Words.{cause_words, rule_words};
+
+use flat_model::Why;
+
+/// A cause in words, those of its `Display`.
+pub(crate) fn words_for(why: Why) -> &'static str
+    ensures is { result.now ≡ cause_words why }
+    ensures short { length result.now ≤ 40 }
+{
+    match why {
+        Why::TooSmall => "packet shorter than a header",
+        Why::BadVersion => "wrong version",
+        Why::BadHeaderLength => "header length too small",
+        Why::Options => "options are not taken",
+        Why::BadSum => "wrong header checksum",
+        Why::BadLength => "total length too small",
+        Why::TooShort => "packet shorter than its total length",
+        Why::CantForward => "not addressed to this machine",
+        Why::BadFragment => "malformed fragment",
+        Why::FragmentDropped => "fragment held already",
+        Why::NoProtocol => "unknown protocol",
+        Why::UdpHeaderDrops => "datagram shorter than a header",
+        Why::UdpBadLength => "wrong datagram length",
+        Why::UdpBadSum => "wrong datagram checksum",
+        Why::UdpNoPort => "no socket has the port",
+        Why::UdpNoPortBroadcast => "no socket has the port of the broadcast",
+        Why::UdpFullSocket => "receive queue full",
+        Why::NoBufs => "no buffer space available",
+    }
+}
+
+/// The rule that a packet broke, with its source.
+pub(crate) fn rule_for(why: Why) -> &'static str
+    ensures is { result.now ≡ rule_words why }
+    ensures short { length result.now ≤ 120 }
+{
+    match why {
+        Why::TooSmall => "an IPv4 header has 20 bytes at least (RFC 791, section 3.1)",
+        Why::BadVersion => "the first four bits are 4 (RFC 791, section 3.1)",
+        Why::BadHeaderLength => "the header has 5 words of 4 bytes at least (RFC 791, section 3.1)",
+        Why::Options => "this stack accepts no IP options, so the header has 5 words",
+        Why::BadSum =>
+            "the 16-bit words of the header add up to 0xffff in ones' complement (RFC 791, section 3.1)",
+        Why::BadLength =>
+            "the total length counts the header too, so it's 20 at least (RFC 791, section 3.1)",
+        Why::TooShort =>
+            "a packet has as many bytes as its total length says (RFC 791, section 3.1)",
+        Why::CantForward =>
+            "a host accepts its own address and broadcasts, and forwards nothing (RFC 1122, section 3.2.1.3)",
+        Why::BadFragment =>
+            "all fragments but the last carry a multiple of 8 bytes, and none ends past 65535 (RFC 791, 3.2)",
+        Why::FragmentDropped =>
+            "a fragment brings bytes that aren't held yet (TCP/IP Illustrated 2, chapter 10)",
+        Why::NoProtocol => "this stack delivers UDP alone, protocol 17",
+        Why::UdpHeaderDrops => "a UDP header has 8 bytes (RFC 768)",
+        Why::UdpBadLength =>
+            "the UDP length is 8 at least, and at most what the packet carries (RFC 768)",
+        Why::UdpBadSum =>
+            "the words of pseudo header and datagram add up to 0xffff, unless the checksum is 0 (RFC 768)",
+        Why::UdpNoPort | Why::UdpNoPortBroadcast =>
+            "a socket is bound to the destination port (TCP/IP Illustrated 2, chapter 23)",
+        Why::UdpFullSocket =>
+            "a receive queue takes 41600 bytes, 16 for each sender's address among them",
+        Why::NoBufs => "the pool has mbufs and clusters for the packet",
+    }
+}
