@@ -10,7 +10,7 @@ ghost use Rattle.ether_host.specs.View.{halves};
 use crate::frames::{body_of, kind_of};
 use crate::layer::LinkLayer;
 use crate::packets::{drain, take_packet};
-use flat_ether::{AddressState, FrameKind, Neighbour, NetFault, Tallies};
+use flat_ether::{AddressState, FrameKind, Link, Neighbour, NetFault, Tallies};
 use flat_model::Errno;
 use net_stack::Stack;
 
@@ -59,6 +59,13 @@ impl LinkLayer {
             Ok(name) => Ok(self.take_error(name.port, name.peer)),
             Err(errno) => Err(errno),
         }
+    }
+
+    /// Its hardware address, its mask and its gateway, as boot was told.
+    pub fn link(&self) -> Link
+        ensures { result ≡ (seen self.now).link }
+    {
+        self.link
     }
 
     /// How far the host is with its address.

@@ -55,6 +55,7 @@ calls_are_acts place v (turn ∷ turns) s t here (range, mid, is, rest) = (
     before = s;
     after = mid;
     here = here;
+    links = refl;
     calls = (range, mid, is, refl);
     stacks = refl;
     configs = refl;

@@ -68,6 +68,8 @@ impl Fault {
         match fault {
             JoinFault::TooManyHosts => Fault::TooManyHosts,
             JoinFault::AddressTaken => Fault::AddressTaken,
+            // No line makes a host on an Ethernet.
+            JoinFault::OtherLink | JoinFault::MacTaken | JoinFault::BadLink => Fault::AddressTaken,
             JoinFault::Unbooted(BootFault::Memory) => Fault::Setting(SettingFault::Memory),
             JoinFault::Unbooted(BootFault::BadSizes) => Fault::Setting(SettingFault::BadSizes),
             JoinFault::Unbooted(BootFault::BadConfig) => Fault::Setting(SettingFault::BadConfig),

@@ -12,7 +12,7 @@ use Rattle.segment.specs.declared.chances.Chances.{Chances}
 use Rattle.segment.specs.declared.frame.Frame.{Frame}
 
 module _ {X Y : Type 0} (f : X → Y) where
-  map_set : (xs : List X) (i : ℕ) (v : X) → map f (slice_set xs i v) ≡ slice_set (map f xs) i (f v)
+  pub map_set : (xs : List X) (i : ℕ) (v : X) → map f (slice_set xs i v) ≡ slice_set (map f xs) i (f v)
   map_set [] i v = refl
   map_set (x ∷ xs) zero v = refl
   map_set (x ∷ xs) (suc i) v = ap (λ ys. f x ∷ ys) (map_set xs i v)

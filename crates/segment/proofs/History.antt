@@ -11,7 +11,8 @@ use Rattle.net_stack.specs.Stack.{StackView, state_of}
 use Rattle.net_stack.specs.Runs.{AreCalls}
 use Rattle.segment.specs.Flying.{Flying, comes, gives, waiting}
 use Rattle.segment.specs.Segment.{SegmentView, AreBoth, AtEach, IsCollected, IsDelivered, IsJoined, leaving, received_in, waiting_in}
-use Rattle.segment.specs.Law.{Act, Joins, Calls, Collects, Delivers, Impairs, Seeds, Loses, Repeats, Swaps, IsCalled, AreActs, turns_in, turns_of}
+use Rattle.segment.specs.Law.{Act, Ether, Joins, Calls, Collects, Delivers, Impairs, Seeds, Loses, Repeats, Swaps, IsCalled, AreActs, turns_in, turns_of}
+use Rattle.segment.proofs.BareActs.{AreBare}
 use Rattle.segment.proofs.Taking.{then_calls}
 use Rattle.segment.proofs.Walking.{below_or, get_set_same, get_set_other, get_past}
 
@@ -193,49 +194,50 @@ module _ (k : ℕ) (c : Config) (t : StackView) where
       by (inr h) = go false h.0 [] (λ e. refl) (same_both _ _ (get_set_other old.stacks place k is.after h.1)) refl
 
   -- whatever was done
-  pub began : (acts : List Act) (v last : SegmentView) → length v.configs ≡ length v.stacks → AreActs v acts last
+  pub began : (acts : List Act) (v last : SegmentView) → AreBare acts → length v.configs ≡ length v.stacks → AreActs v acts last
       → slice_get last.configs k ≡ Some c → slice_get last.stacks k ≡ Some t
       → Begins c (turns_of k acts) t (slice_get v.configs k) (slice_get v.stacks k)
-  began [] v last even done is_c is_t =
+  began [] v last bare even done is_c is_t =
       subst (λ (w : SegmentView). Begins c [] t (slice_get w.configs k) (slice_get w.stacks k)) done
       (subst (λ (o : Option Config). Begins c [] t o (slice_get last.stacks k)) (sym is_c)
       (subst (λ (p : Option StackView). Begins c [] t (Some c) p) (sym is_t) (refl, refl)))
-  began (Joins d ∷ acts) v last even (mid, j, done) is_c is_t = joined d (turns_of k acts) v mid even j
-      (began acts mid last (ap length j.configs ∙ length-last v.configs d ∙ ap (λ n. n + 1) even
+  began (Ether act ∷ acts) v last bare even done is_c is_t = absurd bare.0
+  began (Joins d ∷ acts) v last bare even (mid, j, done) is_c is_t = joined d (turns_of k acts) v mid even j
+      (began acts mid last bare.1 (ap length j.configs ∙ length-last v.configs d ∙ ap (λ n. n + 1) even
       ∙ sym (ap length j.stacks ∙ length-last v.stacks j.stack)) done is_c is_t)
-  began (Calls place turn ∷ acts) v last even (mid, is, done) is_c is_t = calls place turn (turns_of k acts) v mid is
-      (began acts mid last (ap length is.configs ∙ even
+  began (Calls place turn ∷ acts) v last bare even (mid, is, done) is_c is_t = calls place turn (turns_of k acts) v mid is
+      (began acts mid last bare.1 (ap length is.configs ∙ even
       ∙ sym (ap length is.stacks ∙ length-set v.stacks place is.after)) done is_c is_t)
-  began (Collects found ∷ acts) v last even (mid, (found_is, is), done) is_c is_t =
+  began (Collects found ∷ acts) v last bare even (mid, (found_is, is), done) is_c is_t =
       subst (λ (f : SegmentView). Begins c (turns_in k (Collects f) ++ turns_of k acts) t (slice_get v.configs k)
       (slice_get v.stacks k)) (sym found_is)
       (collects (turns_of k acts) v mid is
-      (began acts mid last (ap length is.configs ∙ even
+      (began acts mid last bare.1 (ap length is.configs ∙ even
       ∙ AtEach-length (λ place s u. AreCalls s (gives (waiting s)) u) v.stacks mid.stacks is.hosts) done is_c is_t))
-  began (Delivers found ∷ acts) v last even (mid, (found_is, is), done) is_c is_t =
+  began (Delivers found ∷ acts) v last bare even (mid, (found_is, is), done) is_c is_t =
       subst (λ (f : SegmentView). Begins c (turns_in k (Delivers f) ++ turns_of k acts) t (slice_get v.configs k)
       (slice_get v.stacks k)) (sym found_is)
       (delivers (turns_of k acts) v mid is
-      (began acts mid last (ap length is.configs ∙ even
+      (began acts mid last bare.1 (ap length is.configs ∙ even
       ∙ AtEach-length (λ place s u. AreCalls s (comes (received_in place (slice_get v.configs place) (leaving v).0))
       u) v.stacks mid.stacks is.hosts) done is_c is_t))
-  began (Impairs place chances ∷ acts) v last even (mid, is, done) is_c is_t =
+  began (Impairs place chances ∷ acts) v last bare even (mid, is, done) is_c is_t =
       subst (λ (w : SegmentView). Begins c (turns_of k acts) t (slice_get w.configs k) (slice_get w.stacks k)) is
-      (began acts mid last (subst (λ (w : SegmentView). length w.configs ≡ length w.stacks) (sym is) even) done is_c
+      (began acts mid last bare.1 (subst (λ (w : SegmentView). length w.configs ≡ length w.stacks) (sym is) even) done is_c
       is_t)
-  began (Seeds seed ∷ acts) v last even (mid, is, done) is_c is_t =
+  began (Seeds seed ∷ acts) v last bare even (mid, is, done) is_c is_t =
       subst (λ (w : SegmentView). Begins c (turns_of k acts) t (slice_get w.configs k) (slice_get w.stacks k)) is
-      (began acts mid last (subst (λ (w : SegmentView). length w.configs ≡ length w.stacks) (sym is) even) done is_c
+      (began acts mid last bare.1 (subst (λ (w : SegmentView). length w.configs ≡ length w.stacks) (sym is) even) done is_c
       is_t)
-  began (Loses at ∷ acts) v last even (mid, is, done) is_c is_t =
+  began (Loses at ∷ acts) v last bare even (mid, is, done) is_c is_t =
       subst (λ (w : SegmentView). Begins c (turns_of k acts) t (slice_get w.configs k) (slice_get w.stacks k)) is
-      (began acts mid last (subst (λ (w : SegmentView). length w.configs ≡ length w.stacks) (sym is) even) done is_c
+      (began acts mid last bare.1 (subst (λ (w : SegmentView). length w.configs ≡ length w.stacks) (sym is) even) done is_c
       is_t)
-  began (Repeats at ∷ acts) v last even (mid, is, done) is_c is_t =
+  began (Repeats at ∷ acts) v last bare even (mid, is, done) is_c is_t =
       subst (λ (w : SegmentView). Begins c (turns_of k acts) t (slice_get w.configs k) (slice_get w.stacks k)) is
-      (began acts mid last (subst (λ (w : SegmentView). length w.configs ≡ length w.stacks) (sym is) even) done is_c
+      (began acts mid last bare.1 (subst (λ (w : SegmentView). length w.configs ≡ length w.stacks) (sym is) even) done is_c
       is_t)
-  began (Swaps at other ∷ acts) v last even (mid, is, done) is_c is_t =
+  began (Swaps at other ∷ acts) v last bare even (mid, is, done) is_c is_t =
       subst (λ (w : SegmentView). Begins c (turns_of k acts) t (slice_get w.configs k) (slice_get w.stacks k)) is
-      (began acts mid last (subst (λ (w : SegmentView). length w.configs ≡ length w.stacks) (sym is) even) done is_c
+      (began acts mid last bare.1 (subst (λ (w : SegmentView). length w.configs ≡ length w.stacks) (sym is) even) done is_c
       is_t)

@@ -16,7 +16,8 @@ use Rattle.net_stack.specs.Stack.{StackView, state_of}
 use Rattle.net_stack.specs.Runs.{AreCalls}
 use Rattle.segment.specs.Flying.{comes, gives, waiting}
 use Rattle.segment.specs.Segment.{SegmentView, AreBoth, AtEach, IsJoined, are_apart, leaving, no_hosts, received_in, waiting_in}
-use Rattle.segment.specs.Law.{Act, Joins, Calls, Collects, Delivers, Impairs, Seeds, Loses, Repeats, Swaps, IsAct, IsCalled, AreActs}
+use Rattle.segment.specs.Law.{Act, Ether, Joins, Calls, Collects, Delivers, Impairs, Seeds, Loses, Repeats, Swaps, IsAct, IsCalled, AreActs}
+use Rattle.segment.proofs.BareActs.{AreBare, IsBare}
 use Rattle.segment.proofs.Sources.{IsOwn, IsSourced, boot_sourced, calls_sourced}
 use Rattle.segment.proofs.Walking.{get_set_same, get_set_other}
 use Rattle.segment.proofs.History.{AtEach-length, get_front, get_within, length-last}
@@ -185,51 +186,55 @@ called_fine place turn old new fine is = record {
         (fine.sourced k c is.before e (subst (λ n. slice_get old.stacks n ≡ Some is.before) h.1 is.here)) is.calls)
     go k c t e f (inr h) = fine.sourced k c t e (sym (get_set_other old.stacks place k is.after h.1) ∙ f)
 
-pub act_fine : (act : Act) (old new : SegmentView) → AreFine old → IsAct old act new → AreFine new
-act_fine (Joins d) old new fine is = joined_fine d old new fine is
-act_fine (Calls place turn) old new fine is = called_fine place turn old new fine is
-act_fine (Collects found) old new fine is = went_on old new (λ place s. gives (waiting s)) fine is.1.configs is.1.hosts
-act_fine (Delivers found) old new fine is =
+pub act_fine : (act : Act) (old new : SegmentView) → IsBare act → AreFine old → IsAct old act new → AreFine new
+act_fine (Ether act) old new bare fine is = absurd bare
+act_fine (Joins d) old new bare fine is = joined_fine d old new fine is
+act_fine (Calls place turn) old new bare fine is = called_fine place turn old new fine is
+act_fine (Collects found) old new bare fine is = went_on old new (λ place s. gives (waiting s)) fine is.1.configs is.1.hosts
+act_fine (Delivers found) old new bare fine is =
     went_on old new (λ place s. comes (received_in place (slice_get old.configs place) (leaving old).0)) fine
     is.1.configs is.1.hosts
-act_fine (Impairs place chances) old new fine is =
+act_fine (Impairs place chances) old new bare fine is =
     subst AreFine (sym is) (record
     { even = fine.even; sourced = fine.sourced; booted = fine.booted; apart = fine.apart })
-act_fine (Seeds seed) old new fine is =
+act_fine (Seeds seed) old new bare fine is =
     subst AreFine (sym is) (record
     { even = fine.even; sourced = fine.sourced; booted = fine.booted; apart = fine.apart })
-act_fine (Loses place) old new fine is =
+act_fine (Loses place) old new bare fine is =
     subst AreFine (sym is) (record
     { even = fine.even; sourced = fine.sourced; booted = fine.booted; apart = fine.apart })
-act_fine (Repeats place) old new fine is =
+act_fine (Repeats place) old new bare fine is =
     subst AreFine (sym is) (record
     { even = fine.even; sourced = fine.sourced; booted = fine.booted; apart = fine.apart })
-act_fine (Swaps place other) old new fine is =
+act_fine (Swaps place other) old new bare fine is =
     subst AreFine (sym is) (record
     { even = fine.even; sourced = fine.sourced; booted = fine.booted; apart = fine.apart })
 
-pub acts_fine : (acts : List Act) (v last : SegmentView) → AreFine v → AreActs v acts last → AreFine last
-acts_fine [] v last fine e = subst AreFine (sym e) fine
-acts_fine (act ∷ acts) v last fine (mid, is, done) = acts_fine acts mid last (act_fine act v mid fine is) done
+pub acts_fine : (acts : List Act) (v last : SegmentView) → AreBare acts → AreFine v → AreActs v acts last → AreFine last
+acts_fine [] v last bare fine e = subst AreFine (sym e) fine
+acts_fine (act ∷ acts) v last bare fine (mid, is, done) =
+    acts_fine acts mid last bare.1 (act_fine act v mid bare.0 fine is) done
 
 -- a host keeps its place and its configuration
-stays : (act : Act) (old new : SegmentView) (k : ℕ) (c : Config) → IsAct old act new → slice_get old.configs k ≡ Some c
+stays : (act : Act) (old new : SegmentView) (k : ℕ) (c : Config) → IsBare act → IsAct old act new → slice_get old.configs k ≡ Some c
     → slice_get new.configs k ≡ Some c
-stays (Joins d) old new k c is e =
+stays (Ether act) old new k c bare is e = absurd bare
+stays (Joins d) old new k c bare is e =
     ap (λ xs. slice_get xs k) is.configs ∙ get_front old.configs (d ∷ []) k (get_within old.configs k c e) ∙ e
-stays (Calls place turn) old new k c is e = ap (λ xs. slice_get xs k) is.configs ∙ e
-stays (Collects found) old new k c is e = ap (λ xs. slice_get xs k) is.1.configs ∙ e
-stays (Delivers found) old new k c is e = ap (λ xs. slice_get xs k) is.1.configs ∙ e
-stays (Impairs place chances) old new k c is e = ap (λ (w : SegmentView). slice_get w.configs k) is ∙ e
-stays (Seeds seed) old new k c is e = ap (λ (w : SegmentView). slice_get w.configs k) is ∙ e
-stays (Loses place) old new k c is e = ap (λ (w : SegmentView). slice_get w.configs k) is ∙ e
-stays (Repeats place) old new k c is e = ap (λ (w : SegmentView). slice_get w.configs k) is ∙ e
-stays (Swaps place other) old new k c is e = ap (λ (w : SegmentView). slice_get w.configs k) is ∙ e
+stays (Calls place turn) old new k c bare is e = ap (λ xs. slice_get xs k) is.configs ∙ e
+stays (Collects found) old new k c bare is e = ap (λ xs. slice_get xs k) is.1.configs ∙ e
+stays (Delivers found) old new k c bare is e = ap (λ xs. slice_get xs k) is.1.configs ∙ e
+stays (Impairs place chances) old new k c bare is e = ap (λ (w : SegmentView). slice_get w.configs k) is ∙ e
+stays (Seeds seed) old new k c bare is e = ap (λ (w : SegmentView). slice_get w.configs k) is ∙ e
+stays (Loses place) old new k c bare is e = ap (λ (w : SegmentView). slice_get w.configs k) is ∙ e
+stays (Repeats place) old new k c bare is e = ap (λ (w : SegmentView). slice_get w.configs k) is ∙ e
+stays (Swaps place other) old new k c bare is e = ap (λ (w : SegmentView). slice_get w.configs k) is ∙ e
 
-pub remains : (acts : List Act) (v last : SegmentView) (k : ℕ) (c : Config) → AreActs v acts last
+pub remains : (acts : List Act) (v last : SegmentView) (k : ℕ) (c : Config) → AreBare acts → AreActs v acts last
     → slice_get v.configs k ≡ Some c → slice_get last.configs k ≡ Some c
-remains [] v last k c done e = ap (λ (w : SegmentView). slice_get w.configs k) done ∙ e
-remains (act ∷ acts) v last k c (mid, is, done) e = remains acts mid last k c done (stays act v mid k c is e)
+remains [] v last k c bare done e = ap (λ (w : SegmentView). slice_get w.configs k) done ∙ e
+remains (act ∷ acts) v last k c bare (mid, is, done) e =
+    remains acts mid last k c bare.1 done (stays act v mid k c bare.0 is e)
 
 -- ---- no other host's packets bear a host's address
 

@@ -5,8 +5,11 @@ mod Entering
 mod Frames
 mod Choosing
 mod Carries
+mod BareActs
 mod Changing
 mod History
 mod Sources
 mod Hosts
 mod Wires
+mod Bare
+mod Framing

@@ -12,9 +12,10 @@ use Rattle.flat_wire.specs.Wire.{ComesFrom, packet_in, packet_out}
 use Rattle.net_stack.specs.Stack.{StackView}
 use Rattle.segment.specs.Flying.{Flying, comes, gives, goes_to, received, sent_by}
 use Rattle.segment.specs.Segment.{SegmentView, IsCollected, collected, given_below, leaving, received_in, waiting_in}
+use Rattle.segment.proofs.BareActs.{AreBare}
 use Rattle.segment.proofs.Choosing.{each_entering, each_leaving, each_lost, each_repeated, each_stay, each_swapped}
 use Rattle.segment.proofs.Hosts.{AreFine, act_fine, none_from, remains}
-use Rattle.segment.specs.Law.{Act, Joins, Calls, Collects, Delivers, Impairs, Seeds, Loses, Repeats, Swaps, AreActs, called_in, called_of, turns_in, turns_of}
+use Rattle.segment.specs.Law.{Act, Ether, Joins, Calls, Collects, Delivers, Impairs, Seeds, Loses, Repeats, Swaps, AreActs, called_in, called_of, turns_in, turns_of}
 
 -- the packets that turns gave out, and those that came in them
 abbrev out : List Turn → List (List ℕ)
@@ -155,53 +156,54 @@ module _ (i j a : ℕ) (G : List ℕ → Type 0) where
   module _ (first : Config) (is_addr : a ≡ first.addr) (is_config : IsConfig first) (last : SegmentView)
       (whole : AreFine last) (first_is : slice_get last.configs i ≡ Some first) where
     -- no other host has a packet with the address
-    elsewhere : (acts : List Act) (v : SegmentView) → AreFine v → AreActs v acts last → (k : ℕ) → i ≢ k
+    elsewhere : (acts : List Act) (v : SegmentView) → AreBare acts → AreFine v → AreActs v acts last → (k : ℕ) → i ≢ k
         → Each (λ p. ¬ ComesFrom a p) (waiting_in (slice_get v.stacks k))
-    elsewhere acts v fine done k other =
+    elsewhere acts v bare fine done k other =
         subst (λ n. Each (λ p. ¬ ComesFrom n p) (waiting_in (slice_get v.stacks k))) (sym is_addr)
-        (none_from first v k (λ d e. whole.apart i k first d other first_is (remains acts v last k d done e)) is_config
+        (none_from first v k (λ d e. whole.apart i k first d other first_is (remains acts v last k d bare done e)) is_config
         fine)
 
-    pub wires : (acts : List Act) (v : SegmentView) → AreActs v acts last → AreFine v → Fly v.flight
+    pub wires : (acts : List Act) (v : SegmentView) → AreBare acts → AreActs v acts last → AreFine v → Fly v.flight
         → ((packet : List ℕ) → Contains (out (turns_of i acts)) packet → G packet)
         → Each (λ p. ¬ ComesFrom a p) (into (called_of j acts)) → Each P (into (turns_of j acts))
-    wires [] v done fine flies up outside = tt
-    wires (Joins c ∷ acts) v (mid, is, done) fine flies up outside =
-        wires acts mid done (act_fine (Joins c) v mid fine is) (subst Fly (sym is.flight) flies)
+    wires [] v bare done fine flies up outside = tt
+    wires (Ether act ∷ acts) v bare done fine flies up outside = absurd bare.0
+    wires (Joins c ∷ acts) v bare (mid, is, done) fine flies up outside =
+        wires acts mid bare.1 done (act_fine (Joins c) v mid bare.0 fine is) (subst Fly (sym is.flight) flies)
         (up_later (Joins c) acts up) outside
-    wires (Calls place turn ∷ acts) v (mid, is, done) fine flies up outside =
+    wires (Calls place turn ∷ acts) v bare (mid, is, done) fine flies up outside =
         each_called place turn (turns_of j acts) (called_of j acts) outside
-        (λ later. wires acts mid done (act_fine (Calls place turn) v mid fine is) (subst Fly (sym is.flight) flies)
+        (λ later. wires acts mid bare.1 done (act_fine (Calls place turn) v mid bare.0 fine is) (subst Fly (sym is.flight) flies)
         (up_later (Calls place turn) acts up) later)
-    wires (Collects found ∷ acts) v (mid, (found_is, is), done) fine flies up outside =
+    wires (Collects found ∷ acts) v bare (mid, (found_is, is), done) fine flies up outside =
         let given : (k : ℕ) → Each P (waiting_in (slice_get v.stacks k)) = from_senders v
         (given_up v acts (subst (λ (f : SegmentView). (packet : List ℕ)
         → Contains (out (turns_of i (Collects f ∷ acts))) packet → G packet) found_is up))
-        (elsewhere (Collects found ∷ acts) v fine (mid, (found_is, is), done)) in
+        (elsewhere (Collects found ∷ acts) v bare fine (mid, (found_is, is), done)) in
         each_collected found (turns_of j acts)
-        (wires acts mid done (act_fine (Collects found) v mid fine (found_is, is)) (flies_on v mid is flies given)
+        (wires acts mid bare.1 done (act_fine (Collects found) v mid bare.0 fine (found_is, is)) (flies_on v mid is flies given)
         (up_later (Collects found) acts up) outside)
-    wires (Delivers found ∷ acts) v (mid, (found_is, is), done) fine flies up outside =
+    wires (Delivers found ∷ acts) v bare (mid, (found_is, is), done) fine flies up outside =
         subst (λ (f : SegmentView). Each P (into (turns_in j (Delivers f) ++ turns_of j acts))) (sym found_is)
         (each_delivered v (turns_of j acts) flies
-        (wires acts mid done (act_fine (Delivers found) v mid fine (found_is, is))
+        (wires acts mid bare.1 done (act_fine (Delivers found) v mid bare.0 fine (found_is, is))
         (subst Fly (sym is.flight) (each_stay P v.flight flies)) (up_later (Delivers found) acts up) outside))
-    wires (Impairs place chances ∷ acts) v (mid, is, done) fine flies up outside =
-        wires acts mid done (act_fine (Impairs place chances) v mid fine is)
+    wires (Impairs place chances ∷ acts) v bare (mid, is, done) fine flies up outside =
+        wires acts mid bare.1 done (act_fine (Impairs place chances) v mid bare.0 fine is)
         (subst (λ (w : SegmentView). Fly w.flight) (sym is) flies) (up_later (Impairs place chances) acts up) outside
-    wires (Seeds seed ∷ acts) v (mid, is, done) fine flies up outside =
-        wires acts mid done (act_fine (Seeds seed) v mid fine is)
+    wires (Seeds seed ∷ acts) v bare (mid, is, done) fine flies up outside =
+        wires acts mid bare.1 done (act_fine (Seeds seed) v mid bare.0 fine is)
         (subst (λ (w : SegmentView). Fly w.flight) (sym is) flies) (up_later (Seeds seed) acts up) outside
-    wires (Loses place ∷ acts) v (mid, is, done) fine flies up outside =
-        wires acts mid done (act_fine (Loses place) v mid fine is)
+    wires (Loses place ∷ acts) v bare (mid, is, done) fine flies up outside =
+        wires acts mid bare.1 done (act_fine (Loses place) v mid bare.0 fine is)
         (subst (λ (w : SegmentView). Fly w.flight) (sym is) (each_lost P place v.flight flies))
         (up_later (Loses place) acts up) outside
-    wires (Repeats place ∷ acts) v (mid, is, done) fine flies up outside =
-        wires acts mid done (act_fine (Repeats place) v mid fine is)
+    wires (Repeats place ∷ acts) v bare (mid, is, done) fine flies up outside =
+        wires acts mid bare.1 done (act_fine (Repeats place) v mid bare.0 fine is)
         (subst (λ (w : SegmentView). Fly w.flight) (sym is) (each_repeated P v.room place v.flight flies))
         (up_later (Repeats place) acts up) outside
-    wires (Swaps place other ∷ acts) v (mid, is, done) fine flies up outside =
-        wires acts mid done (act_fine (Swaps place other) v mid fine is)
+    wires (Swaps place other ∷ acts) v bare (mid, is, done) fine flies up outside =
+        wires acts mid bare.1 done (act_fine (Swaps place other) v mid bare.0 fine is)
         (subst (λ (w : SegmentView). Fly w.flight) (sym is)
         (each_swapped P (nat_lt place (length v.flight) && nat_lt other (length v.flight)) place other v.flight
         flies)) (up_later (Swaps place other) acts up) outside

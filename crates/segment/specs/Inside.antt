@@ -2,6 +2,7 @@
 use Rattle.std.specs.Prelude.{ℕ, List, ◌++◌, map, take, vec_capacity, Option}
 use Rattle.std.specs.Borrow.{LendsIf, MutBor, Fml}
 use Rattle.std.specs.Vec.{with_item}
+use Rattle.ether_host.specs.Inside.{seen}
 use Rattle.net_stack.specs.Stack.{StackView}
 use Rattle.net_stack.specs.contracts.stack.Stack.{the_row as stack_row}
 use Rattle.segment.specs.contracts.segment.Segment.{the_row}
@@ -39,6 +40,7 @@ abbrev pub view : Segment → SegmentView
 view s = record {
   configs = s.configs.items;
   stacks = s.stacks.items;
+  links = map seen s.links.items;
   flight = under_way s.flight;
   room = vec_capacity s.flight.frames;
   chances = s.impairment.chances.items;

@@ -1,5 +1,5 @@
 -- Calls on a segment, one after another, and what is said of them all (this project's own).
-use Rattle.std.specs.Prelude.{◌≡◌, ◌≢◌, ◌<◌, ◌^◌, ℕ, ◌==◌, if◌then◌else◌, List, [], ◌∷◌, ◌++◌, slice_get, slice_set, filter_map, All, Some}
+use Rattle.std.specs.Prelude.{◌≡◌, ◌≢◌, ◌<◌, ◌^◌, ℕ, true, false, ◌==◌, if◌then◌else◌, List, [], ◌∷◌, ◌++◌, slice_get, slice_set, filter_map, All, Option, Some, Result}
 use Rattle.flat_model.specs.Machine.Count.{value_of}
 use Rattle.flat_model.specs.Runs.Run.{Turn}
 use Rattle.flat_model.specs.declared.config.Config.{Config}
@@ -7,16 +7,39 @@ use Rattle.flat_model.specs.declared.counter.Counter.TheVariants.{IpLocalout}
 use Rattle.flat_wire.specs.Wire.{ComesFrom, packet_in}
 use Rattle.net_stack.specs.Stack.{StackView}
 use Rattle.net_stack.specs.Runs.{AreCalls}
+use Rattle.flat_model.specs.declared.errno.Errno.{Errno}
+use Rattle.flat_ether.specs.declared.error.NetFault.{NetFault}
+use Rattle.flat_ether.specs.declared.link.Link.{Link}
 use Rattle.segment.specs.Flying.{comes, gives}
+use Rattle.segment.specs.Frames.{AreFramesCollected, AreFramesDelivered, IsAskedError, IsEtherJoined, IsHeard, link_aged}
 use Rattle.segment.specs.Chances.{seeded}
 use Rattle.segment.specs.declared.chances.Chances.{Chances}
-use Rattle.segment.specs.Segment.{SegmentView, IsCollected, IsDelivered, IsJoined, leaving, lost_at, no_hosts, repeated_at, swapped_at, received_in, waiting_in}
+use Rattle.segment.specs.Segment.{SegmentView, is_ether, IsCollected, IsDelivered, IsJoined, leaving, lost_at, no_hosts, repeated_at, swapped_at, received_in, waiting_in}
+
+-- What was done by hosts on an Ethernet: one joined; their frames were collected, or delivered; a frame came to the
+-- host at a place from outside; it was asked for an error of a socket; or its link is a tick older.
+pub data EtherAct : Type 0 where
+  JoinsEther : (config : Config) (link : Link) → EtherAct
+  CollectsFrames : EtherAct
+  DeliversFrames : EtherAct
+  HearsFrame : (place : ℕ) (frame : List ℕ) → EtherAct
+  AsksError : (place fd : ℕ) (fault : Result (Option NetFault) Errno) → EtherAct
+  AgesLink : (place : ℕ) → EtherAct
+
+abbrev pub IsEtherAct : SegmentView → EtherAct → SegmentView → Type 0
+IsEtherAct old (JoinsEther config link) new = IsEtherJoined config link old new
+IsEtherAct old CollectsFrames new = (is_ether old ≡ true) × AreFramesCollected old new
+IsEtherAct old DeliversFrames new = (is_ether old ≡ true) × AreFramesDelivered old new
+IsEtherAct old (HearsFrame place frame) new = IsHeard place frame old new
+IsEtherAct old (AsksError place fd fault) new = IsAskedError place fd fault old new
+IsEtherAct old (AgesLink place) new = (is_ether old ≡ true) × (new ≡ link_aged place old)
 
 -- what was done: a host joined, a call was made on the host at a place, what waited was collected or what was due was
 -- delivered by a segment that was found so, the chances of what the
--- host at a place sends were set, the generator was started with a seed, or packets under
--- way were lost, repeated or put in each other's place by hand
+-- host at a place sends were set, the generator was started with a seed, packets under
+-- way were lost, repeated or put in each other's place by hand, or hosts on an Ethernet did something
 pub data Act : Type 0 where
+  Ether : (act : EtherAct) → Act
   Joins : (config : Config) → Act
   Calls : (place : ℕ) (turn : Turn) → Act
   Collects : (found : SegmentView) → Act
@@ -35,6 +58,7 @@ pub record IsCalled (place : ℕ) (turn : Turn) (old new : SegmentView) : Type 0
   pub calls : AreCalls before (turn ∷ []) after
   pub stacks : new.stacks ≡ slice_set old.stacks place after
   pub configs : new.configs ≡ old.configs
+  pub links : new.links ≡ old.links
   pub flight : new.flight ≡ old.flight
   pub room : new.room ≡ old.room
   pub chances : new.chances ≡ old.chances
@@ -42,6 +66,7 @@ pub record IsCalled (place : ℕ) (turn : Turn) (old new : SegmentView) : Type 0
   pub tallies : new.tallies ≡ old.tallies
 
 abbrev pub IsAct : SegmentView → Act → SegmentView → Type 0
+IsAct old (Ether act) new = IsEtherAct old act new
 IsAct old (Joins config) new = IsJoined config old new
 IsAct old (Calls place turn) new = IsCalled place turn old new
 IsAct old (Collects found) new = (found ≡ old) × IsCollected old new
@@ -59,6 +84,7 @@ AreActs old (act ∷ acts) new = (mid : SegmentView) × IsAct old act mid × Are
 
 -- the turns that an act is for the host at a place
 abbrev pub turns_in : ℕ → Act → List Turn
+turns_in place (Ether act) = []
 turns_in place (Joins config) = []
 turns_in place (Calls other turn) = if other == place then turn ∷ [] else []
 turns_in place (Collects v) = gives (waiting_in (slice_get v.stacks place))
@@ -83,11 +109,12 @@ abbrev pub called_of : ℕ → List Act → List Turn
 called_of place [] = []
 called_of place (act ∷ acts) = called_in place act ++ called_of place acts
 
--- Two hosts of a segment, and all that was done since it had none. The first has sent fewer than 65,536 times, and no
--- call brought the second a packet with the first's address as its source: nobody forged it.
+-- Two hosts of a segment without links, and all that was done since it had none. The first has sent fewer than 65,536
+-- times, and no call brought the second a packet with the first's address as its source: nobody forged it.
 pub record AreOnSegment (room i j : ℕ) (first second : Config) (s t : StackView) (acts : List Act)
     (last : SegmentView) : Type 0 where
   pub done : AreActs (no_hosts room) acts last
+  pub bare : is_ether last ≡ false
   pub two : i ≢ j
   pub first_is : slice_get last.configs i ≡ Some first
   pub second_is : slice_get last.configs j ≡ Some second

@@ -4,12 +4,13 @@ use Rattle.std.specs.List.{list_all}
 use Rattle.flat_model.specs.Amounts.Choice.{Choice}
 use Rattle.flat_model.specs.Machine.State.{IsConfig, boot}
 use Rattle.flat_model.specs.declared.config.Config.{Config}
+use Rattle.flat_ether.specs.Links.{LinkState}
 use Rattle.net_stack.specs.Stack.{StackView, state_of}
 use Rattle.net_stack.specs.Runs.{AreCalls}
 use Rattle.net_stack.specs.Boots.{IsUnbooted}
 use Rattle.net_stack.specs.declared.stack.BootFault.TheVariants.{Memory}
 use Rattle.segment.specs.declared.segment.JoinFault.{JoinFault}
-use Rattle.segment.specs.declared.segment.JoinFault.TheVariants.{TooManyHosts, AddressTaken, Unbooted}
+use Rattle.segment.specs.declared.segment.JoinFault.TheVariants.{TooManyHosts, AddressTaken, Unbooted, OtherLink, MacTaken, BadLink}
 use Rattle.rand_pcg.specs.Lcg.{Lcg}
 use Rattle.segment.specs.declared.chances.Chances.{Chances}
 use Rattle.segment.specs.Flying.{Flying, aged, comes, gives, is_due, is_early, received, sent_by, waiting}
@@ -17,11 +18,12 @@ use Rattle.segment.specs.declared.tally.Tally.{Tally}
 use Rattle.segment.specs.Tallies.{hears, nothing_counted, tallied}
 use Rattle.segment.specs.Chances.{entering, no_chances, seeded, shuffled}
 
--- its hosts by their places, what is under way, for how many packets there is room, the chances of what each host
--- sends, the generator that decides, and what is counted of each
+-- its hosts by their places, the links of those that are on an Ethernet, what is under way, for how many packets there
+-- is room, the chances of what each host sends, the generator that decides, and what is counted of each
 pub record SegmentView : Type 0 where
   pub configs : List Config
   pub stacks : List StackView
+  pub links : List LinkState
   pub flight : List Flying
   pub room : ℕ
   pub chances : List Chances
@@ -31,7 +33,20 @@ pub record SegmentView : Type 0 where
 -- a segment without hosts
 abbrev pub no_hosts : ℕ → SegmentView
 no_hosts room =
-    record { configs = []; stacks = []; flight = []; room = room; chances = []; random = seeded 1; tallies = [] }
+    record {
+      configs = [];
+      stacks = [];
+      links = [];
+      flight = [];
+      room = room;
+      chances = [];
+      random = seeded 1;
+      tallies = [];
+    }
+
+-- its hosts are on an Ethernet
+abbrev pub is_ether : SegmentView → Bool
+is_ether v = not (length v.links == 0)
 
 -- both are there, and in this relation, or neither is
 abbrev pub AreBoth : {A B : Type 0} → (A → B → Type 0) → Option A → Option B → Type 0
@@ -70,6 +85,7 @@ received_in place (Some c) flight = received place c flight
 pub record IsCollected (old new : SegmentView) : Type 0 where
   pub configs : new.configs ≡ old.configs
   pub room : new.room ≡ old.room
+  pub links : new.links ≡ old.links
   pub chances : new.chances ≡ old.chances
   pub flight : new.flight ≡ take old.room (old.flight ++ (collected old).0)
   pub random : new.random ≡ (collected old).1
@@ -80,6 +96,7 @@ pub record IsCollected (old new : SegmentView) : Type 0 where
 pub record IsDelivered (old new : SegmentView) : Type 0 where
   pub configs : new.configs ≡ old.configs
   pub room : new.room ≡ old.room
+  pub links : new.links ≡ old.links
   pub chances : new.chances ≡ old.chances
   pub flight : new.flight ≡ map aged (filter is_early old.flight)
   pub random : new.random ≡ (leaving old).1
@@ -133,6 +150,7 @@ are_apart c d = not (c.addr == d.addr) && (not (c.addr == d.bcast) && not (d.add
 -- A host has joined: it has the next place, and its stack has just started.
 pub record IsJoined (config : Config) (old new : SegmentView) : Type 0 where
   pub few : length old.stacks < 64
+  pub bare : is_ether old ≡ false
   pub apart : list_all (are_apart config) old.configs ≡ true
   pub is_config : IsConfig config
   pub stack : StackView
@@ -141,14 +159,22 @@ pub record IsJoined (config : Config) (old new : SegmentView) : Type 0 where
   pub stacks : new.stacks ≡ old.stacks ++ stack ∷ []
   pub flight : new.flight ≡ old.flight
   pub room : new.room ≡ old.room
+  pub links : new.links ≡ old.links
   pub chances : new.chances ≡ old.chances ++ no_chances ∷ []
   pub tallies : new.tallies ≡ old.tallies ++ nothing_counted ∷ []
   pub random : new.random ≡ old.random
 
+-- there is a place for a host without a link
+abbrev pub IsBarePlace : SegmentView → Type 0
+IsBarePlace v = (length v.stacks < 64) × (is_ether v ≡ false)
+
 -- why a host doesn't join, the first that is true
 abbrev pub IsRefused : SegmentView → Config → JoinFault → Type 0
 IsRefused v config TooManyHosts = 64 ≤ length v.stacks
-IsRefused v config AddressTaken = (length v.stacks < 64) × (list_all (are_apart config) v.configs ≡ false)
-IsRefused v config (Unbooted Memory) = (length v.stacks < 64) × (list_all (are_apart config) v.configs ≡ true)
+IsRefused v config OtherLink = (length v.stacks < 64) × (is_ether v ≡ true)
+IsRefused v config BadLink = ⊥
+IsRefused v config MacTaken = ⊥
+IsRefused v config AddressTaken = IsBarePlace v × (list_all (are_apart config) v.configs ≡ false)
+IsRefused v config (Unbooted Memory) = IsBarePlace v × (list_all (are_apart config) v.configs ≡ true)
 IsRefused v config (Unbooted fault) =
-    (length v.stacks < 64) × (list_all (are_apart config) v.configs ≡ true) × IsUnbooted config fault
+    IsBarePlace v × (list_all (are_apart config) v.configs ≡ true) × IsUnbooted config fault

@@ -2,9 +2,13 @@
 ghost use Rattle.std.specs.Prelude.{◌≡◌, ◌<◌, ◌≤◌, [], ◌∷◌, length, take};
 ghost use Rattle.params.specs.declared.TheConstants.{IP_HEADER, MAX_MTU};
 ghost use Rattle.net_stack.specs.Runs.{AreCalls};
+ghost use Rattle.flat_ether.specs.Frames.{is_heard, mac_at};
+ghost use Rattle.flat_ether.specs.declared.sizes.TheConstants.{ETHER_HEADER};
+ghost use Rattle.segment.specs.Frames.{frame_goes_to};
 ghost use Rattle.segment.specs.Flying.{destination_of, gives, goes_to, is_named, waiting};
 
 use byteorder::{BigEndian, ByteOrder};
+use flat_ether::{ETHER_BROADCAST, ETHER_HEADER, Mac};
 use flat_model::Config;
 use net_stack::Stack;
 use params::{IP_HEADER, LIMITED_BROADCAST, MAX_MTU};
@@ -14,6 +18,9 @@ pub(crate) const ROOM: usize = MAX_MTU as usize;
 
 /// The bytes of an IP header without options.
 const HEADER: usize = IP_HEADER as usize;
+
+/// The bytes of a frame's header.
+const ETHER: usize = ETHER_HEADER as usize;
 
 /// A packet, which host has sent it, and for how many carries it isn't due yet.
 #[derive(Clone, Copy)]
@@ -58,6 +65,14 @@ impl Frame {
         }
     }
 
+    /// Whether the frame comes to the host at a place with this hardware address.
+    pub(crate) fn is_heard(&self, place: usize, mac: Mac) -> bool
+        ensures { result ≡ frame_goes_to place mac
+            (record { sender = self.now.sender; packet = take self.now.len self.now.room; wait = self.now.wait }) }
+    {
+        self.sender != place && is_heard(mac, self.bytes())
+    }
+
     /// Whether the packet goes to the host at a place with this configuration.
     pub(crate) fn goes_to(&self, place: usize, config: &Config) -> bool
         ensures { result ≡ goes_to place config.now
@@ -66,6 +81,28 @@ impl Frame {
         let packet = self.bytes();
         self.sender != place && packet.len() >= HEADER && is_named(config, destination_of(packet))
     }
+}
+
+/// The hardware address that a frame goes to.
+fn destination_mac(frame: &[u8]) -> Mac
+    requires { ETHER_HEADER ≤ length frame.now }
+    ensures { result ≡ mac_at 0 frame.now }
+{
+    Mac {
+        high: BigEndian::read_u16(frame),
+        low: BigEndian::read_u32(&frame[2..]),
+    }
+}
+
+/// Whether a frame has a header, and goes to this hardware address or to all.
+fn is_heard(mac: Mac, frame: &[u8]) -> bool
+    ensures { result ≡ is_heard mac frame.now }
+{
+    if frame.len() < ETHER {
+        return false;
+    }
+    let destination = destination_mac(frame);
+    destination.is(mac) || destination.is(ETHER_BROADCAST)
 }
 
 /// The destination that a packet's header names.

@@ -1,4 +1,4 @@
-//! A broadcast segment of hosts, each a stack of its own, and the packets that are under way between them.
+//! A broadcast segment of hosts, each a stack of its own, and the packets or frames that are under way between them.
 #![tactic(auto)]
 
 mod carry;
@@ -7,13 +7,17 @@ mod flight;
 mod frame;
 mod hand;
 mod laws;
+mod links;
 mod moves;
+mod one;
 mod segment;
 mod tally;
 mod ways;
 
 pub use chances::{Chances, NO_CHANCES};
+pub use ether_host::{AddressState, Link, Mac, Neighbour, NetFault, Tallies};
 pub use hand::UnderWay;
 pub use laws::hosts_on_a_segment;
+pub use links::FRAMES;
 pub use segment::{JoinFault, MAX_HOSTS, Segment};
 pub use tally::Tally;

@@ -2,13 +2,14 @@
 ghost use Rattle.std.specs.Prelude.{◌≡◌, ◌∷◌, [], ◌++◌, ◌+◌, length, nat_lt, option_map, slice_get, slice_set, IfOk, MatchResult};
 ghost use Rattle.std.specs.List.{list_all};
 ghost use Rattle.segment.specs.Chances.{seeded};
-ghost use Rattle.segment.specs.Segment.{IsJoined, IsRefused, are_apart, no_hosts};
+ghost use Rattle.segment.specs.Segment.{IsJoined, IsRefused, are_apart, is_ether, no_hosts};
 ghost use Rattle.segment.specs.Inside.{lends_stack, view, with_stack};
 ghost use Rattle.std.specs.Borrow.{sem};
 
 use crate::chances::{Chances, Impairment, NO_CHANCES, seeded};
 use crate::flight::Flight;
 use crate::tally::{NOTHING, Tally};
+use ether_host::LinkLayer;
 use flat_model::Config;
 use net_stack::{BootFault, Stack};
 use std::alloc::{AllocError, Global};
@@ -30,13 +31,24 @@ pub enum JoinFault {
     /// Its stack isn't booted.
     #[error(transparent)]
     Unbooted(BootFault),
+    /// It's on an Ethernet, and a host of the segment isn't, or the other way round.
+    #[error("other link")]
+    OtherLink,
+    /// A host of the segment has this hardware address.
+    #[error("hardware address taken")]
+    MacTaken,
+    /// The MTU is above 1,500, the hardware address is that of a group, or the gateway is no neighbour.
+    #[error("bad link")]
+    BadLink,
 }
 
 /// A broadcast segment, as Ethernet is one: up to 64 hosts, each a stack of its own, and the packets that are under way
-/// between them. It must be spent, by `end`.
+/// between them. Either no host has a link below its stack, or each has one: then frames are under way. It must be
+/// spent, by `end`.
 pub struct Segment {
     pub(crate) configs: Vec<Config>,
     pub(crate) stacks: Vec<Stack>,
+    pub(crate) links: Vec<LinkLayer>,
     pub(crate) flight: Flight,
     pub(crate) impairment: Impairment,
 }
@@ -49,7 +61,7 @@ fn are_apart(first: &Config, second: &Config) -> bool
 }
 
 /// Whether a host can be told apart from all others by its addresses.
-fn is_apart(config: &Config, others: &[Config]) -> bool
+pub(crate) fn is_apart(config: &Config, others: &[Config]) -> bool
     ensures { result ≡ list_all (are_apart config.now) others.now }
 {
     let mut rest = others;
@@ -76,6 +88,7 @@ impl Segment {
         Ok(Segment {
             configs: Vec::new(alloc),
             stacks: Vec::new(alloc),
+            links: Vec::new(alloc),
             flight,
             impairment: Impairment {
                 chances: Vec::new(alloc),
@@ -90,15 +103,18 @@ impl Segment {
     ///
     /// # Errors
     ///
-    /// In this order, and then the segment is as it was: `TooManyHosts` if it has 64 hosts; `AddressTaken` if a host
-    /// has the same address, or one of the two has the other's address as its broadcast address; `Unbooted` if there is
-    /// no stack by this configuration, or host memory was refused.
+    /// In this order, and then the segment is as it was: `TooManyHosts` if it has 64 hosts; `OtherLink` if a host is on
+    /// an Ethernet; `AddressTaken` if a host has the same address, or one of the two has the other's address as its
+    /// broadcast address; `Unbooted` if there is no stack by this configuration, or host memory was refused.
     pub fn join(&mut self, alloc: Global, config: Config) -> Result<(), JoinFault>
         ensures { MatchResult result (λ _. IsJoined config (view self.old) (view self.new)) (λ fault.
             IsRefused (view self.old) config fault × (view self.new ≡ view self.old)) }
     {
         if self.stacks.len() >= MAX_HOSTS {
             return Err(JoinFault::TooManyHosts);
+        }
+        if self.is_ether() {
+            return Err(JoinFault::OtherLink);
         }
         if !is_apart(&config, self.configs.as_slice()) {
             return Err(JoinFault::AddressTaken);
@@ -167,6 +183,13 @@ impl Segment {
         self.impairment.tallies.get(place).copied()
     }
 
+    /// Whether its hosts are on an Ethernet. One without hosts isn't.
+    pub fn is_ether(&self) -> bool
+        ensures { result ≡ is_ether (view self.now) }
+    {
+        !self.links.is_empty()
+    }
+
     /// How many hosts it has.
     pub fn hosts(&self) -> usize
         ensures { result ≡ length (view self.now).stacks }
@@ -179,6 +202,7 @@ impl Segment {
         let Segment {
             configs: _,
             mut stacks,
+            links: _links,
             flight: _,
             impairment: _,
         } = self;

@@ -47,7 +47,7 @@ impl Tally {
     }
 
     /// So many more packets came.
-    fn hears(self, packets: u64) -> Tally
+    pub(crate) fn hears(self, packets: u64) -> Tally
         ensures { result ≡ hears packets self }
     {
         let received = self.received.saturating_add(packets);

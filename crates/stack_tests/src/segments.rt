@@ -1,4 +1,5 @@
 //! Hosts of 10.0.0.0/24 on one wire. All have a socket at port 7.
+mod ether;
 mod impaired;
 mod steps;
 

@@ -1,7 +1,7 @@
 //! Calls on a segment beside the answers that they should give, and the loop that makes them.
 use super::{SOCKET, host};
 use flat_model::{Addr, Config, Opt};
-use segment::{Chances, JoinFault, Segment, Tally};
+use segment::{Chances, JoinFault, Link, Mac, Segment, Tally};
 use std::alloc::Global;
 use std::process::Abort;
 
@@ -51,12 +51,22 @@ pub(super) enum Wire {
     Lose(usize, bool),
     Repeat(usize, bool),
     Swap(usize, usize, bool),
+    /// The host 10.0.0.N with this hardware address joins, on an Ethernet.
+    JoinEther(u32, u64, Result<(), JoinFault>),
+    CollectFrames,
+    DeliverFrames,
+    /// Who sent the frame at this place of the wire, and its bytes.
+    Frame(usize, usize, &'static [u8]),
+    /// A frame comes to a host, from nobody on the segment.
+    Hear(usize, &'static [u8], bool),
+    /// How many neighbours a host knows or asks for.
+    Neighbours(usize, Option<usize>),
 }
 
 use Step::{Count, First, Hosts, Join, Open, Receive, Rx, Send, Ticks, Waiting};
 use Wire::{
-    Carry, CarryAll, Collect, Counted, Deliver, Flight, Impair, Lose, Quiet, Received, Repeat,
-    Seed, Swap, UnderWay,
+    Carry, CarryAll, Collect, CollectFrames, Counted, Deliver, DeliverFrames, Flight, Frame, Hear,
+    Impair, JoinEther, Lose, Neighbours, Quiet, Received, Repeat, Seed, Swap, UnderWay,
 };
 
 fn all_join(alloc: Global, segment: &mut Segment, first: u32, last: u32) -> bool {
@@ -132,9 +142,49 @@ fn under_way(segment: &Segment, at: usize) -> Option<(usize, usize)> {
     Some((shown.sender, shown.packet.len()))
 }
 
+/// The host 10.0.0.N with this hardware address joins.
+fn join_ether(
+    alloc: Global,
+    segment: &mut Segment,
+    number: u32,
+    mac: u64,
+) -> Result<(), JoinFault> {
+    let link = Link {
+        mac: Mac {
+            high: (mac >> 32) as u16 | 0x0200,
+            low: mac as u32,
+        },
+        mask: 0xffff_ff00,
+        gateway: None,
+        probe: false,
+    };
+    segment.join_ether(alloc, host(number), link)
+}
+
+fn is_frame(segment: &Segment, at: usize, sender: usize, frame: &[u8]) -> bool {
+    match segment.under_way(at) {
+        Some(shown) => shown.sender == sender && shown.packet == frame,
+        None => false,
+    }
+}
+
+fn hear(segment: &mut Segment, place: usize, frame: &[u8]) -> bool {
+    frame.len() <= 1514 && segment.hear(place, frame)
+}
+
+fn neighbours(segment: &Segment, place: usize) -> Option<usize> {
+    Some(segment.neighbours(place)?.len())
+}
+
 /// Whether the wire gives this answer.
-fn happens(segment: &mut Segment, wire: &Wire) -> bool {
+fn happens(alloc: Global, segment: &mut Segment, wire: &Wire) -> bool {
     match wire {
+        CollectFrames => segment.collect_frames(),
+        DeliverFrames => segment.deliver_frames(),
+        JoinEther(number, mac, want) => return join_ether(alloc, segment, *number, *mac) == *want,
+        Frame(at, sender, want) => return is_frame(segment, *at, *sender, want),
+        Hear(place, frame, want) => return hear(segment, *place, frame) == *want,
+        Neighbours(place, want) => return neighbours(segment, *place) == *want,
         Carry => segment.carry(),
         Collect => segment.collect(),
         Deliver => segment.deliver(),
@@ -173,7 +223,7 @@ fn answers(alloc: Global, segment: &mut Segment, step: &Step) -> bool {
         First(place, want) => first_byte(segment, *place) == *want,
         Rx(place, packet) => rx(segment, *place, packet),
         Ticks(place, n) => ticks(segment, *place, *n),
-        Step::Wire(wire) => happens(segment, wire),
+        Step::Wire(wire) => happens(alloc, segment, wire),
     }
 }
 

@@ -8,6 +8,8 @@ use Rattle.net_stack.specs.Stack.{StackView}
 use Rattle.net_stack.specs.Wire.{AreOnOneWire}
 use Rattle.segment.specs.Segment.{SegmentView, no_hosts}
 use Rattle.segment.specs.Law.{Act, AreOnSegment, turns_of}
+use Rattle.segment.proofs.Bare.{are_bare}
+use Rattle.segment.proofs.BareActs.{AreBare}
 use Rattle.segment.proofs.History.{Started, began}
 use Rattle.segment.proofs.Hosts.{AreApart, AreFine, acts_fine, none_fine}
 use Rattle.segment.proofs.Wires.{wires}
@@ -18,11 +20,12 @@ on_one_wire : (room i j : ℕ) (first second : Config) (s t : StackView) (acts :
     → AreOnOneWire first second (turns_of i acts) (turns_of j acts) s t
 on_one_wire room i j first second s t acts last w =
     let start : SegmentView = no_hosts room in
+    let bare : AreBare acts = are_bare acts start last w.done w.bare in
     let one : Started first (turns_of i acts) s =
-    began i first s acts start last refl w.done w.first_is w.first_stack in
+    began i first s acts start last bare refl w.done w.first_is w.first_stack in
     let two : Started second (turns_of j acts) t =
-    began j second t acts start last refl w.done w.second_is w.second_stack in
-    let fine : AreFine last = acts_fine acts start last (none_fine room) w.done in
+    began j second t acts start last bare refl w.done w.second_is w.second_stack in
+    let fine : AreFine last = acts_fine acts start last bare (none_fine room) w.done in
     let apart : AreApart first second = fine.apart i j first second w.two w.first_is w.second_is in
     record {
       first_boots = one.1;
@@ -39,7 +42,7 @@ on_one_wire room i j first second s t acts last w =
       wire =
           All-from_recursion _ _ (wires i j first.addr
           (λ packet. Contains (filter_map packet_out (turns_of i acts)) packet) first refl one.1 last fine w.first_is
-          acts start w.done (none_fine room) tt (λ packet h. h)
+          acts start bare w.done (none_fine room) tt (λ packet h. h)
           (recursion_from_All _ _ w.outside));
     }
 

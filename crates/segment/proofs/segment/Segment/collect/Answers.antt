@@ -5,6 +5,7 @@ pub returns : goal.returns
 returns c = record {
   configs = refl;
   room = c.collect_all.ensures.room;
+  links = refl;
   chances = ap (λ v. v.items) c.collect_all.ensures.chances;
   flight = c.collect_all.ensures.taken;
   random = c.collect_all.ensures.random;

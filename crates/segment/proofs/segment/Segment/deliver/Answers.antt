@@ -20,6 +20,7 @@ returns c =
     record {
       configs = refl;
       room = c.leave.ensures.room;
+      links = refl;
       chances = ap (λ v. v.items) c.shuffle.ensures.chances;
       flight = c.leave.ensures.early;
       random =

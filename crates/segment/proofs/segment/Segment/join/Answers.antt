@@ -1,4 +1,4 @@
-use Rattle.std.proofs.Common.{◌∙◌, ◌∷◌, [], ◌++◌, List, arith, ap, refl}
+use Rattle.std.proofs.Common.{◌∙◌, sym, ◌∷◌, [], ◌++◌, List, arith, ap, refl}
 use Rattle.std.proofs.lemmas.Grind.{common_steps}
 use Rattle.flat_model.specs.declared.config.Config.{Config}
 use Rattle.net_stack.specs.Stack.{StackView}
@@ -19,6 +19,8 @@ returns-in-Ok c = record {
   stacks =
       c.push_reserved-in-Ok.ensures.items
       ∙ ap (λ (xs : List StackView). xs ++ c.in-Ok.stack ∷ []) c.reserve-else-is_err.ensures.items;
+  bare = sym c.is_ether.ensures ∙ c.if-is_ether.false;
+  links = refl;
   flight = refl;
   room = refl;
   chances =

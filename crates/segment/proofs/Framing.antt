@@ -1,0 +1,304 @@
+-- Frames that hosts on an Ethernet give and take, one after another.
+use Rattle.std.proofs.Common.{◌≡◌, ◌⊎◌, inl, inr, ℕ, ◌+◌, ◌<◌, ◌≤◌, Bool, true, false, List, [], ◌∷◌, ◌++◌, length, map, take, get_or, zero, suc, Option, None, Some, refl, sym, ap, ◌∙◌, subst, cond, add-one, append_assoc, arith}
+use Rattle.std.specs.Prelude.{if◌then◌else◌, slice_get, slice_set}
+use Rattle.std.specs.List.{cons_option}
+use Rattle.std.proofs.lemmas.List.{append-nil, length-append, map-append, take_more}
+use Rattle.std.proofs.lemmas.List.Elements.{filter_map-append}
+use Rattle.flat_ether.specs.Hosts.{Host}
+use Rattle.flat_model.specs.declared.config.Config.{Config}
+use Rattle.flat_ether.specs.Links.{LinkState, ticks}
+use Rattle.flat_ether.specs.declared.link.Link.{Link}
+use Rattle.flat_ether.specs.declared.mac.Mac.{Mac}
+use Rattle.ether_host.specs.Inside.{seen}
+use Rattle.ether_host.specs.View.{halves}
+use Rattle.ether_host.specs.declared.layer.LinkLayer.{LinkLayer}
+use Rattle.net_stack.specs.Boots.{IsUnbooted}
+use Rattle.net_stack.specs.Stack.{StackView}
+use Rattle.net_stack.specs.declared.stack.BootFault.{BootFault}
+use Rattle.net_stack.specs.declared.stack.BootFault.TheVariants.{Memory, BadSizes, BadConfig}
+use Rattle.segment.specs.Flying.{Flying, sent_by}
+use Rattle.segment.specs.Frames.{HearEach, IsEtherRefused, IsFree, aged_in, frame_goes_to, frames_below, frames_given, frames_to, given_in, gives_short, hosts_of, or_more}
+use Rattle.segment.specs.Inside.{flying}
+use Rattle.segment.specs.Segment.{SegmentView, AreBoth}
+use Rattle.segment.specs.declared.frame.Frame.{Frame}
+use Rattle.segment.specs.declared.chances.Chances.{Chances}
+use Rattle.segment.specs.declared.segment.JoinFault.TheVariants.{Unbooted}
+use Rattle.segment.specs.declared.tally.Tally.{Tally}
+use Rattle.segment.specs.declared.links.TheConstants.{FRAMES}
+use Rattle.segment.proofs.Walking.{IsWalked, below_or, get_at, get_past, walk_on}
+use Rattle.segment.proofs.Frames.{map_get, map_set}
+
+-- ---- frames that a host gives
+
+pub given_more : (n m : ℕ) (h k : Host) (f : List ℕ) → n ≡ suc m → (Some f, k) ≡ gives_short h
+    → frames_given n h ≡ (f ∷ (frames_given m k).0, (frames_given m k).1)
+given_more n m h k f more step =
+    ap (λ i. frames_given i h) more
+    ∙ ap (λ (r : Option (List ℕ) × Host). or_more r (frames_given m r.1)) (sym step)
+
+pub given_end : (n m : ℕ) (h k : Host) → n ≡ suc m → (None, k) ≡ gives_short h → frames_given n h ≡ ([], k)
+given_end n m h k more step =
+    ap (λ i. frames_given i h) more
+    ∙ ap (λ (r : Option (List ℕ) × Host). or_more r (frames_given m r.1)) (sym step)
+
+pub given_none : (n : ℕ) (h : Host) → n ≡ 0 → frames_given n h ≡ ([], h)
+given_none n h none = ap (λ i. frames_given i h) none
+
+-- what was given so far, and what is still to come
+abbrev pub IsSoFar : ℕ → Host → ℕ → Host → List (List ℕ) → Type 0
+IsSoFar most first left now given =
+    frames_given most first ≡ (given ++ (frames_given left now).0, (frames_given left now).1)
+
+pub so_far_more : (most : ℕ) (first : Host) (n m : ℕ) (h k : Host) (given : List (List ℕ)) (f : List ℕ)
+    → IsSoFar most first n h given → n ≡ suc m → (Some f, k) ≡ gives_short h
+    → IsSoFar most first m k (given ++ f ∷ [])
+so_far_more most first n m h k given f before more step =
+    before
+    ∙ ap (λ (r : List (List ℕ) × Host). (given ++ r.0, r.1)) (given_more n m h k f more step)
+    ∙ ap (λ (fs : List (List ℕ)). (fs, (frames_given m k).1)) (sym (append_assoc given (f ∷ []) (frames_given m k).0))
+
+pub so_far_end : (most : ℕ) (first : Host) (n : ℕ) (h k : Host) (given : List (List ℕ))
+    → IsSoFar most first n h given → frames_given n h ≡ ([], k) → frames_given most first ≡ (given, k)
+so_far_end most first n h k given before end =
+    before
+    ∙ ap (λ (r : List (List ℕ) × Host). (given ++ r.0, r.1)) end
+    ∙ ap (λ (fs : List (List ℕ)). (fs, k)) (append-nil given)
+
+pub sent_one : (sender : ℕ) (given : List (List ℕ)) (f : List ℕ)
+    → sent_by sender (given ++ f ∷ []) ≡ sent_by sender given ++ record { sender = sender; packet = f; wait = 0 } ∷ []
+sent_one sender given f = map-append _ given (f ∷ [])
+
+-- ---- hosts by their places
+
+pub hosts_at : (stacks : List StackView) (links : List LinkLayer) (k : ℕ) (s : StackView) (l : LinkLayer)
+    → slice_get stacks k ≡ Some s → slice_get links k ≡ Some l
+    → slice_get (hosts_of stacks (map seen links)) k ≡ Some (halves s (seen l))
+hosts_at [] links k s l e f = absurd (never e)
+  where
+    never : None ≡ Some s → ⊥
+    never x = cc
+hosts_at (x ∷ stacks) [] k s l e f = absurd (never f)
+  where
+    never : None ≡ Some l → ⊥
+    never y = cc
+hosts_at (x ∷ stacks) (y ∷ links) zero s l e f = both x y e f
+  where
+    both : (a : StackView) (b : LinkLayer) → Some a ≡ Some s → Some b ≡ Some l
+        → Some (halves a (seen b)) ≡ Some (halves s (seen l))
+    both a b g h = cc
+hosts_at (x ∷ stacks) (y ∷ links) (suc k) s l e f = hosts_at stacks links k s l e f
+
+pub hosts_set : (stacks : List StackView) (links : List LinkLayer) (k : ℕ) (s : StackView) (l : LinkLayer)
+    → hosts_of (slice_set stacks k s) (map seen (slice_set links k l))
+    ≡ slice_set (hosts_of stacks (map seen links)) k (halves s (seen l))
+hosts_set [] links k s l = refl
+hosts_set (x ∷ stacks) [] zero s l = refl
+hosts_set (x ∷ stacks) [] (suc k) s l = refl
+hosts_set (x ∷ stacks) (y ∷ links) zero s l = refl
+hosts_set (x ∷ stacks) (y ∷ links) (suc k) s l =
+    ap (λ hs. halves x (seen y) ∷ hs) (hosts_set stacks links k s l)
+
+pub hosts_length : (stacks : List StackView) (links : List LinkLayer)
+    → length (hosts_of stacks (map seen links)) ≤ length links
+hosts_length [] links = omega arith
+hosts_length (x ∷ stacks) [] = omega arith
+hosts_length (x ∷ stacks) (y ∷ links) = omega (arith, hosts_length stacks links)
+
+pub hosts_short : (stacks : List StackView) (links : List LinkLayer)
+    → length (hosts_of stacks (map seen links)) ≤ length stacks
+hosts_short [] links = omega arith
+hosts_short (x ∷ stacks) [] = omega arith
+hosts_short (x ∷ stacks) (y ∷ links) = omega (arith, hosts_short stacks links)
+
+pub hosts_long : (stacks : List StackView) (links : List LinkLayer) (k : ℕ) → k < length stacks → k < length links
+    → k < length (hosts_of stacks (map seen links))
+hosts_long [] links k h g = absurd (omega arith)
+hosts_long (x ∷ stacks) [] k h g = absurd (omega arith)
+hosts_long (x ∷ stacks) (y ∷ links) zero h g = omega arith
+hosts_long (x ∷ stacks) (y ∷ links) (suc k) h g = omega (arith, hosts_long stacks links k (omega arith) (omega arith))
+
+-- the host at a place whose stack and link are these
+pub hosts_here : (stacks : List StackView) (links : List LinkLayer) (k : ℕ) (s ds : StackView) (l dl : LinkLayer)
+    (d : Host) → k < length stacks → k < length links → s ≡ get_or stacks k ds → l ≡ get_or links k dl
+    → halves s (seen l) ≡ get_or (hosts_of stacks (map seen links)) k d
+hosts_here [] links k s ds l dl d h g e f = absurd (omega arith)
+hosts_here (x ∷ stacks) [] k s ds l dl d h g e f = absurd (omega arith)
+hosts_here (x ∷ stacks) (y ∷ links) zero s ds l dl d h g e f =
+    ap (λ (a : StackView). halves a (seen l)) e ∙ ap (λ (b : LinkLayer). halves x (seen b)) f
+hosts_here (x ∷ stacks) (y ∷ links) (suc k) s ds l dl d h g e f =
+    hosts_here stacks links k s ds l dl d (omega arith) (omega arith) e f
+
+-- a place without a host
+pub walk_none : {X : Type 0} (R : ℕ → X → X → Type 0) (old now : List X) (place : ℕ) → IsWalked R old now place
+    → length now ≤ place → IsWalked R old now (place + 1)
+walk_none R old now place w past =
+    record { done = λ k h. by k (below_or k place); rest = λ k h. w.rest k (omega arith); len = w.len }
+  where
+    by : (k : ℕ) → (k < place) ⊎ (place ≤ k) → AreBoth (R k) (slice_get old k) (slice_get now k)
+    by k (inl h) = w.done k h
+    by k (inr h) = let n : slice_get now k ≡ None = get_past now k (omega (arith, past)) in
+        let o : slice_get old k ≡ None = sym (w.rest k h) ∙ n in
+        subst (λ x. AreBoth (R k) x (slice_get now k)) (sym o) (subst (λ y. AreBoth (R k) None y) (sym n) tt)
+
+-- what the hosts at one more place give
+pub below_next : (place : ℕ) (R : ℕ → Host → Host → Type 0) (old now : List Host) (h d : Host)
+    → IsWalked R old now place → place < length now → h ≡ get_or now place d
+    → frames_below old (place + 1) ≡ frames_below old place ++ sent_by place (frames_given FRAMES h).0
+below_next place R old now h d w within is =
+    let here : slice_get old place ≡ Some h = sym (w.rest place (omega arith)) ∙ get_at now place h d within is in
+    ap (frames_below old) (add-one place)
+    ∙ ap (λ (x : Option Host). frames_below old place ++ sent_by place (given_in x)) here
+
+pub below_none : (place : ℕ) (R : ℕ → Host → Host → Type 0) (old now : List Host) → IsWalked R old now place
+    → length now ≤ place → frames_below old (place + 1) ≡ frames_below old place
+below_none place R old now w past =
+    let none : slice_get old place ≡ None = sym (w.rest place (omega arith)) ∙ get_past now place past in
+    ap (frames_below old) (add-one place)
+    ∙ ap (λ (x : Option Host). frames_below old place ++ sent_by place (given_in x)) none
+    ∙ append-nil (frames_below old place)
+
+-- ---- frames that come
+
+-- frames, and then others
+pub then_hear : (a b c : Host) (xs ys : List (List ℕ)) → HearEach xs a b → HearEach ys b c → HearEach (xs ++ ys) a c
+then_hear a b c [] ys same later = subst (λ (h : Host). HearEach ys h c) same later
+then_hear a b c (x ∷ xs) ys (mid, heard, rest) later = (mid, heard, then_hear mid b c xs ys rest later)
+
+-- the frame, if it goes there
+abbrev pub if_heard : ℕ → Mac → Flying → List (List ℕ)
+if_heard place mac f = cons_option (if frame_goes_to place mac f then Some f.packet else None) []
+
+pub heard_next : (place : ℕ) (mac : Mac) (i : ℕ) (frames : List Frame) (frame : Frame) → i < length frames
+    → frame ≡ get_or frames i frame
+    → frames_to place mac (map flying (take (i + 1) frames))
+    ≡ frames_to place mac (map flying (take i frames)) ++ if_heard place mac (flying frame)
+heard_next place mac i frames frame within is =
+    ap (λ (fs : List Frame). frames_to place mac (map flying fs))
+    (take_more frames i frame within ∙ ap (λ (f : Frame). take i frames ++ f ∷ []) (sym is))
+    ∙ ap (frames_to place mac) (map-append flying (take i frames) (frame ∷ []))
+    ∙ filter_map-append _ (map flying (take i frames)) (flying frame ∷ [])
+
+pub more_heard : (place : ℕ) (mac : Mac) (i : ℕ) (frames : List Frame) (frame : Frame) (a h k : Host)
+    → i < length frames → frame ≡ get_or frames i frame
+    → HearEach (frames_to place mac (map flying (take i frames))) a h
+    → HearEach (if_heard place mac (flying frame)) h k
+    → HearEach (frames_to place mac (map flying (take (i + 1) frames))) a k
+more_heard place mac i frames frame a h k within is before one =
+    subst (λ (fs : List (List ℕ)). HearEach fs a k) (sym (heard_next place mac i frames frame within is))
+    (then_hear a h k (frames_to place mac (map flying (take i frames))) (if_heard place mac (flying frame)) before one)
+
+pub hear_goes : (place : ℕ) (mac : Mac) (f : Flying) (h k u : Host) (bytes : List ℕ) → frame_goes_to place mac f ≡ true
+    → bytes ≡ f.packet → u ≡ k → HearEach (bytes ∷ []) h k
+    → HearEach (if_heard place mac f) h u
+hear_goes place mac f h k u bytes is same end heard =
+    subst (λ (b : Bool). HearEach (cons_option (if b then Some f.packet else None) []) h u) (sym is)
+    (subst (λ (p : List ℕ). HearEach (p ∷ []) h u) same (subst (λ (x : Host). HearEach (bytes ∷ []) h x) (sym end) heard))
+
+pub hear_not : (place : ℕ) (mac : Mac) (f : Flying) (h k : Host) → frame_goes_to place mac f ≡ false → k ≡ h
+    → HearEach (if_heard place mac f) h k
+hear_not place mac f h k is same =
+    subst (λ (b : Bool). HearEach (cons_option (if b then Some f.packet else None) []) h k) (sym is) same
+
+-- how many frames come, with one more looked at
+pub heard_counted : (place : ℕ) (mac : Mac) (i : ℕ) (frames : List Frame) (frame : Frame) (n m : ℕ) (goes : Bool)
+    → i < length frames → frame ≡ get_or frames i frame
+    → n ≡ length (frames_to place mac (map flying (take i frames))) → goes ≡ frame_goes_to place mac (flying frame)
+    → m ≡ cond goes (n + 1) n
+    → m ≡ length (frames_to place mac (map flying (take (i + 1) frames)))
+heard_counted place mac i frames frame n m goes within is before test after = go goes test after
+  where
+    all : length (frames_to place mac (map flying (take (i + 1) frames)))
+        ≡ length (frames_to place mac (map flying (take i frames))) + length (if_heard place mac (flying frame))
+    all =
+        ap length (heard_next place mac i frames frame within is)
+        ∙ length-append (frames_to place mac (map flying (take i frames))) (if_heard place mac (flying frame))
+
+    go : (b : Bool) → b ≡ frame_goes_to place mac (flying frame) → m ≡ cond b (n + 1) n
+        → m ≡ length (frames_to place mac (map flying (take (i + 1) frames)))
+    go true e h =
+        let one : length (if_heard place mac (flying frame)) ≡ 1 =
+        ap (λ b. length (cons_option (cond b (Some (flying frame).packet) None) [])) (sym e) in
+        omega (arith, all, before)
+    go false e h =
+        let none : length (if_heard place mac (flying frame)) ≡ 0 =
+        ap (λ b. length (cons_option (cond b (Some (flying frame).packet) None) [])) (sym e) in
+        omega (arith, all, before)
+
+-- ---- one host of a segment
+
+pub walked_by : (R : ℕ → Host → Host → Type 0) (old : List Host) (stacks ss : List StackView) (links ls : List LinkLayer)
+    (place : ℕ) (s t : StackView) (l m : LinkLayer) → IsWalked R old (hosts_of stacks (map seen links)) place
+    → place < length stacks → place < length links → s ≡ get_or stacks place s → l ≡ get_or links place l
+    → R place (halves s (seen l)) (halves t (seen m)) → ss ≡ slice_set stacks place t → ls ≡ slice_set links place m
+    → IsWalked R old (hosts_of ss (map seen ls)) (place + 1)
+walked_by R old stacks ss links ls place s t l m w within near is at step a b =
+    subst (λ (hs : List Host). IsWalked R old hs (place + 1))
+    (sym (ap (λ (xs : List StackView). hosts_of xs (map seen ls)) a
+    ∙ ap (λ (ys : List LinkLayer). hosts_of (slice_set stacks place t) (map seen ys)) b
+    ∙ hosts_set stacks links place t m))
+    (walk_on R old (hosts_of stacks (map seen links)) place (halves s (seen l)) (halves t (seen m)) (halves s (seen l)) w
+    (hosts_long stacks links place within near)
+    (hosts_here stacks links place s s l l (halves s (seen l)) within near is at) step)
+
+pub walked_past : (R : ℕ → Host → Host → Type 0) (old : List Host) (stacks ss : List StackView)
+    (links ls : List LinkLayer) (place : ℕ) → IsWalked R old (hosts_of stacks (map seen links)) place
+    → length stacks ≤ place → ss ≡ stacks → ls ≡ links → IsWalked R old (hosts_of ss (map seen ls)) (place + 1)
+walked_past R old stacks ss links ls place w past a b =
+    subst (λ (hs : List Host). IsWalked R old hs (place + 1))
+    (sym (ap (λ (xs : List StackView). hosts_of xs (map seen ls)) a
+    ∙ ap (λ (ys : List LinkLayer). hosts_of stacks (map seen ys)) b))
+    (walk_none R old (hosts_of stacks (map seen links)) place w (omega (arith, hosts_short stacks links)))
+
+-- what a host at one more place gives
+pub below_by : (place : ℕ) (R : ℕ → Host → Host → Type 0) (old : List Host) (stacks : List StackView)
+    (links : List LinkLayer) (s : StackView) (l : LinkLayer) → IsWalked R old (hosts_of stacks (map seen links)) place
+    → place < length stacks → place < length links → s ≡ get_or stacks place s → l ≡ get_or links place l
+    → frames_below old (place + 1)
+    ≡ frames_below old place ++ sent_by place (frames_given FRAMES (halves s (seen l))).0
+below_by place R old stacks links s l w within near is at =
+    below_next place R old (hosts_of stacks (map seen links)) (halves s (seen l)) (halves s (seen l)) w
+    (hosts_long stacks links place within near)
+    (hosts_here stacks links place s s l l (halves s (seen l)) within near is at)
+
+pub below_past : (place : ℕ) (R : ℕ → Host → Host → Type 0) (old : List Host) (stacks : List StackView)
+    (links : List LinkLayer) → IsWalked R old (hosts_of stacks (map seen links)) place → length stacks ≤ place
+    → frames_below old (place + 1) ≡ frames_below old place
+below_past place R old stacks links w past =
+    below_none place R old (hosts_of stacks (map seen links)) w (omega (arith, hosts_short stacks links))
+
+-- a link that is a tick older
+pub aged_here : (links : List LinkLayer) (place : ℕ) (l m : LinkLayer) → place < length links
+    → l ≡ get_or links place l → seen m ≡ ticks (seen l)
+    → map seen (slice_set links place m) ≡ aged_in (map seen links) place (slice_get (map seen links) place)
+aged_here links place l m within is step =
+    map_set seen links place m ∙ ap (slice_set (map seen links) place) step
+    ∙ ap (aged_in (map seen links) place) (sym (map_get seen links place l within is))
+
+pub set_back : {X : Type 0} (xs : List X) (i : ℕ) (x : X) → slice_get xs i ≡ Some x → slice_set xs i x ≡ xs
+set_back [] i x e = refl
+set_back (y ∷ xs) zero x e = cc
+set_back (y ∷ xs) (suc i) x e = ap (λ ys. y ∷ ys) (set_back xs i x e)
+
+-- a segment whose parts are the same
+pub view_same : (v : SegmentView) (configs : List Config) (stacks : List StackView) (links : List LinkState)
+    (chances : List Chances) (tallies : List Tally) → configs ≡ v.configs → stacks ≡ v.stacks → links ≡ v.links
+    → chances ≡ v.chances → tallies ≡ v.tallies
+    → record v { configs = configs; stacks = stacks; links = links; chances = chances; tallies = tallies } ≡ v
+view_same v configs stacks links chances tallies a b c d e =
+    ap (λ (x : List Config). record v {
+      configs = x;
+      stacks = stacks;
+      links = links;
+      chances = chances;
+      tallies = tallies;
+    }) a
+    ∙ ap (λ (x : List StackView). record v { stacks = x; links = links; chances = chances; tallies = tallies }) b
+    ∙ ap (λ (x : List LinkState). record v { links = x; chances = chances; tallies = tallies }) c
+    ∙ ap (λ (x : List Chances). record v { chances = x; tallies = tallies }) d
+    ∙ ap (λ (x : List Tally). record v { tallies = x }) e
+
+pub unbooted : (fault : BootFault) (v : SegmentView) (config : Config) (link : Link) → IsFree v config link
+    → IsUnbooted config fault → IsEtherRefused v config link (Unbooted fault)
+unbooted Memory v config link free why = free
+unbooted BadSizes v config link free why = (free, why)
+unbooted BadConfig v config link free why = (free, why)

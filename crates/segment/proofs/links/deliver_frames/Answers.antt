@@ -1,0 +1,56 @@
+use Rattle.std.proofs.Common.{◌≡◌, ◌∙◌, ℕ, List, length, map, refl, sym, ap, arith}
+use Rattle.std.proofs.Math.ListN.{length-set}
+use Rattle.flat_ether.specs.Hosts.{Host}
+use Rattle.ether_host.specs.Inside.{seen}
+use Rattle.segment.specs.Flying.{Flying}
+use Rattle.segment.specs.Frames.{HearEach, frames_to, hosts_of}
+use Rattle.segment.specs.Inside.{flying}
+use Rattle.segment.proofs.Framing.{hosts_length, walked_by, walked_past}
+use Rattle.segment.proofs.Walking.{walk_ends}
+use Rattle.segment.proofs.links.deliver_frames.Goals as goal
+use Rattle.segment.proofs.links.deliver_frames.Goals.{then-place-len, else-place-len}
+
+abbrev hears_so : List Flying → ℕ → Host → Host → Type 0
+hears_so due place h k = HearEach (frames_to place h.link.link.mac due) h k
+
+pub loop-place-preserved : goal.loop-place-preserved
+loop-place-preserved c =
+    let inv = c.loop-place.invariant in
+    let place = c.loop-place.place in
+    let due = map flying c.args.due.now in
+    let old = hosts_of c.args.stacks.now.items (map seen c.args.links.now.items) in
+    let stacks = c.loop-place.stacks.items in
+    let links = c.loop-place.links.items in
+    let now = c.if-place-len in
+    elim c.if-place-len.branch [
+      | then-place-len w ↦
+          let s = w.index_mut.result.now in
+          let l = w.index_mut-then-place-len.result.now in
+          record {
+            walked =
+                walked_by (hears_so due) old stacks now.stacks.items links now.links.items place s
+                w.hand_frames.new.stack l w.hand_frames.new.link inv.walked
+                (omega (arith, c.len.ensures, w.if-place-len.true)) (omega (arith, inv.links, inv.end))
+                w.index_mut.ensures.value w.index_mut-then-place-len.ensures.value w.hand_frames.ensures
+                (ap (λ v. v.items) w.stacks-is) (ap (λ v. v.items) w.links-is);
+            links = ap (λ v. length v.items) w.links-is ∙ length-set links place w.hand_frames.new.link ∙ inv.links;
+            end = inv.end;
+          }
+      | else-place-len w ↦ record {
+        walked =
+            walked_past (hears_so due) old stacks now.stacks.items links now.links.items place inv.walked
+            (omega (arith, c.len.ensures, w.if-place-len.false))
+            (ap (λ v. v.items) w.stacks-is) (ap (λ v. v.items) w.links-is);
+        links = ap (λ v. length v.items) w.links-is ∙ inv.links;
+        end = inv.end;
+      }
+    ]
+
+pub returns-clause-hosts : goal.returns-clause-hosts
+returns-clause-hosts c =
+    let inv = c.loop-place.invariant in
+    walk_ends (λ place h k. HearEach (frames_to place h.link.link.mac (map flying c.args.due.now)) h k)
+    (hosts_of c.args.stacks.now.items
+    (map seen c.args.links.now.items)) (hosts_of c.loop-place.stacks.items (map seen c.loop-place.links.items))
+    c.loop-place.place inv.walked
+    (omega (arith, inv.end, hosts_length c.args.stacks.now.items c.args.links.now.items))

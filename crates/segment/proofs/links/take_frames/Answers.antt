@@ -1,0 +1,135 @@
+use Rattle.std.proofs.Common.{◌≡◌, ◌∙◌, ◌-◌, ◌+◌, [], ◌∷◌, ◌++◌, List, ℕ, Bool, Some, None, length, map, take, refl, sym, ap, arith, subst, cond}
+use Rattle.std.specs.Prelude.{if◌then◌else◌, vec_capacity}
+use Rattle.std.proofs.lemmas.List.{length-map, take_all}
+use Rattle.flat_ether.specs.Hosts.{Host}
+use Rattle.ether_host.specs.Inside.{seen}
+use Rattle.ether_host.specs.View.{halves}
+use Rattle.segment.specs.Flying.{Flying, sent_by}
+use Rattle.segment.specs.Frames.{frames_given, gives_short}
+use Rattle.segment.specs.Inside.{behind, flying, random_after, tallies_after, under_way}
+use Rattle.segment.specs.declared.links.TheConstants.{FRAMES}
+use Rattle.segment.proofs.Entering.{Entered, entered_more, none_entered}
+use Rattle.segment.proofs.Framing.{given_end, given_none, sent_one, so_far_end, so_far_more}
+use Rattle.segment.proofs.links.take_frames.Goals as goal
+
+less : (n : ℕ) → n ≡ n - 0
+less n = omega arith
+
+pub loop-init : goal.loop-init
+loop-init c =
+    let h = halves c.args.stack.now (seen c.args.link.now) in
+    let flight = c.args.flight.now in
+    record {
+      given = [];
+      so_far = ap (λ n. frames_given n h) (less FRAMES);
+      entered =
+          none_entered (vec_capacity flight.frames) c.args.impairment.now.chances.items (under_way flight)
+          c.args.impairment.now.random c.args.impairment.now.tallies.items
+          (sym (take_all (vec_capacity flight.frames) (under_way flight)
+          (omega (arith, flight.frames.ok, length-map flight.frames.items flying))));
+      chances = refl;
+      room = refl;
+    }
+
+pub loop-preserved : goal.loop-preserved
+loop-preserved c =
+    let inv = c.loop.invariant in
+    let first = halves c.args.stack.now (seen c.args.link.now) in
+    let h = halves c.loop.stack (seen c.loop.link) in
+    let k = halves c.give.new.stack (seen c.give.new.link) in
+    let hand = c.give.new.self in
+    let f = take hand.len hand.room in
+    let step : (Some f, k) ≡ gives_short h =
+    ap (λ (b : Bool). (if b then Some f else None, k)) (sym c.if-not-give.false) ∙ c.give.ensures.step in
+    let is : flying hand ≡ record { sender = c.args.sender; packet = f; wait = 0 } =
+    ap (λ n. record { sender = n; packet = f; wait = hand.wait }) c.give.ensures.sender
+    ∙ ap (λ n. record { sender = c.args.sender; packet = f; wait = n }) c.give.ensures.wait in
+    record {
+      given = inv.given ++ f ∷ [];
+      so_far =
+          so_far_more FRAMES first (FRAMES - c.loop.counter) (FRAMES - (c.loop.counter + 1)) h k inv.given f inv.so_far
+          (omega arith) step;
+      entered =
+          entered_more (vec_capacity c.args.flight.now.frames) (vec_capacity c.loop.flight.frames)
+          c.args.impairment.now.chances.items c.loop.impairment.chances.items
+          (under_way c.args.flight.now) (under_way c.loop.flight) (under_way c.send.new.flight)
+          c.args.impairment.now.random c.loop.impairment.random c.send.new.impairment.random
+          c.args.impairment.now.tallies.items c.loop.impairment.tallies.items
+          c.send.new.impairment.tallies.items
+          (sent_by c.args.sender inv.given) (flying hand ∷ []) _ inv.room
+          (ap (λ v. v.items) inv.chances) inv.entered
+          (record {
+            tallies = c.send.ensures.tallies;
+            taken = c.send.ensures.taken;
+            random = c.send.ensures.random;
+          })
+          (sent_one c.args.sender inv.given f
+          ∙ ap (λ (x : Flying). sent_by c.args.sender inv.given ++ x ∷ []) (sym is));
+      chances = c.send.ensures.chances ∙ inv.chances;
+      room = c.send.ensures.room ∙ inv.room;
+    }
+
+-- no frame is left
+ended : (c : goal.Then-not-give) → frames_given FRAMES (halves c.args.stack.now (seen c.args.link.now))
+    ≡ (c.loop.invariant.given, halves c.give.new.stack (seen c.give.new.link))
+ended c =
+    let h = halves c.loop.stack (seen c.loop.link) in
+    let k = halves c.give.new.stack (seen c.give.new.link) in
+    let hand = c.give.new.self in
+    so_far_end FRAMES (halves c.args.stack.now (seen c.args.link.now)) (FRAMES - c.loop.counter) h k
+    c.loop.invariant.given c.loop.invariant.so_far
+    (given_end (FRAMES - c.loop.counter) (FRAMES - (c.loop.counter + 1)) h k (omega arith)
+    (ap (λ (b : Bool). (if b then Some (take hand.len hand.room) else None, k)) (sym c.if-not-give.true)
+    ∙ c.give.ensures.step))
+
+given_then : (c : goal.Then-not-give)
+    → c.loop.invariant.given ≡ (frames_given FRAMES (halves c.args.stack.now (seen c.args.link.now))).0
+given_then c = ap (λ (r : List (List ℕ) × Host). r.0) (sym (ended c))
+
+pub returns-then-not-give-clause-host : goal.returns-then-not-give-clause-host
+returns-then-not-give-clause-host c = ap (λ (r : List (List ℕ) × Host). r.1) (sym (ended c))
+
+pub returns-then-not-give-clause-taken : goal.returns-then-not-give-clause-taken
+returns-then-not-give-clause-taken c =
+    c.loop.invariant.entered.taken
+    ∙ ap (λ fs. behind c.args.flight.now c.args.impairment.now (sent_by c.args.sender fs)) (given_then c)
+
+pub returns-then-not-give-clause-random : goal.returns-then-not-give-clause-random
+returns-then-not-give-clause-random c =
+    c.loop.invariant.entered.random
+    ∙ ap (λ fs. random_after c.args.impairment.now (sent_by c.args.sender fs)) (given_then c)
+
+pub returns-then-not-give-clause-tallies : goal.returns-then-not-give-clause-tallies
+returns-then-not-give-clause-tallies c =
+    c.loop.invariant.entered.tallies
+    ∙ ap (λ fs. tallies_after c.args.impairment.now (sent_by c.args.sender fs)) (given_then c)
+
+-- as many as there may be
+full : (c : goal.After-loop) → frames_given FRAMES (halves c.args.stack.now (seen c.args.link.now))
+    ≡ (c.loop.invariant.given, halves c.loop.stack (seen c.loop.link))
+full c =
+    let h = halves c.loop.stack (seen c.loop.link) in
+    so_far_end FRAMES (halves c.args.stack.now (seen c.args.link.now)) (FRAMES - c.loop.counter) h h
+    c.loop.invariant.given c.loop.invariant.so_far (given_none (FRAMES - c.loop.counter) h (omega arith))
+
+given_all : (c : goal.After-loop)
+    → c.loop.invariant.given ≡ (frames_given FRAMES (halves c.args.stack.now (seen c.args.link.now))).0
+given_all c = ap (λ (r : List (List ℕ) × Host). r.0) (sym (full c))
+
+pub returns-clause-host : goal.returns-clause-host
+returns-clause-host c = ap (λ (r : List (List ℕ) × Host). r.1) (sym (full c))
+
+pub returns-clause-taken : goal.returns-clause-taken
+returns-clause-taken c =
+    c.loop.invariant.entered.taken
+    ∙ ap (λ fs. behind c.args.flight.now c.args.impairment.now (sent_by c.args.sender fs)) (given_all c)
+
+pub returns-clause-random : goal.returns-clause-random
+returns-clause-random c =
+    c.loop.invariant.entered.random
+    ∙ ap (λ fs. random_after c.args.impairment.now (sent_by c.args.sender fs)) (given_all c)
+
+pub returns-clause-tallies : goal.returns-clause-tallies
+returns-clause-tallies c =
+    c.loop.invariant.entered.tallies
+    ∙ ap (λ fs. tallies_after c.args.impairment.now (sent_by c.args.sender fs)) (given_all c)

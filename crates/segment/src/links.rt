@@ -1,0 +1,220 @@
+//! Hosts on an Ethernet: what their links give goes under way in frames, and frames come to them.
+ghost use Rattle.std.specs.Prelude.{◌≡◌, ◌≤◌, ◌==◌, ◌∷◌, [], not, if◌then◌else◌, take, Some, None, map, slice_get, vec_capacity, length};
+ghost use Rattle.params.specs.declared.TheConstants.{MAX_MTU};
+ghost use Rattle.ether_host.specs.Inside.{seen};
+ghost use Rattle.ether_host.specs.View.{halves};
+ghost use Rattle.segment.specs.Flying.{sent_by};
+ghost use Rattle.segment.specs.Frames.{AreFramesCollected, AreFramesDelivered, HearEach, frames_below, frames_given, frames_in, frames_to, gives_short, hosts_of};
+ghost use Rattle.segment.specs.Segment.{AtEach};
+ghost use Rattle.segment.specs.Tallies.{hears};
+ghost use Rattle.segment.specs.Inside.{behind, flying, random_after, tallies_after, under_way, view};
+
+use crate::chances::Impairment;
+use crate::flight::Flight;
+use crate::frame::Frame;
+use crate::segment::Segment;
+use crate::tally::Tally;
+use ether_host::{LinkLayer, Mac};
+use flat_ether::ETHER_MTU;
+use net_stack::Stack;
+
+/// The most frames that a host gives in a carry. If it has more, they wait for the next one.
+pub const FRAMES: u32 = 256;
+
+impl Frame {
+    /// Takes the next frame of this host. Whether it has one.
+    pub(crate) fn give(&mut self, sender: usize, stack: &mut Stack, link: &mut LinkLayer) -> bool
+        ensures step {
+            (if result then Some (take self.new.len self.new.room) else None, halves stack.new (seen link.new))
+            ≡ gives_short (halves stack.old (seen link.old)) }
+        ensures sender { self.new.sender ≡ sender }
+        ensures wait { self.new.wait ≡ 0 }
+    {
+        self.sender = sender;
+        self.wait = 0;
+        if u32::from(stack.mtu()) > ETHER_MTU {
+            return false;
+        }
+        match link.transmit(stack, &mut self.room) {
+            Some(len) => {
+                self.len = len;
+                true
+            }
+            None => false,
+        }
+    }
+}
+
+/// The frame in hand goes under way as its fate wants it. If it finds no room, it's lost.
+fn send(flight: &mut Flight, impairment: &mut Impairment)
+    ensures taken { under_way flight.new ≡ behind flight.old impairment.old (flying flight.old.hand ∷ []) }
+    ensures random { impairment.new.random ≡ random_after impairment.old (flying flight.old.hand ∷ []) }
+    ensures tallies { impairment.new.tallies.items ≡ tallies_after impairment.old (flying flight.old.hand ∷ []) }
+    ensures chances { impairment.new.chances ≡ impairment.old.chances }
+    ensures room { vec_capacity flight.new.frames ≡ vec_capacity flight.old.frames }
+{
+    let fate = impairment.fate(flight.hand.sender);
+    flight.enter(fate);
+}
+
+/// Takes the frames that the host at a place gives.
+fn take_frames(
+    flight: &mut Flight,
+    impairment: &mut Impairment,
+    sender: usize,
+    stack: &mut Stack,
+    link: &mut LinkLayer,
+)
+    ensures host { halves stack.new (seen link.new)
+        ≡ (frames_given FRAMES (halves stack.old (seen link.old))).1 }
+    ensures taken { under_way flight.new ≡ behind flight.old impairment.old
+        (sent_by sender (frames_given FRAMES (halves stack.old (seen link.old))).0) }
+    ensures random { impairment.new.random ≡ random_after impairment.old
+        (sent_by sender (frames_given FRAMES (halves stack.old (seen link.old))).0) }
+    ensures tallies { impairment.new.tallies.items ≡ tallies_after impairment.old
+        (sent_by sender (frames_given FRAMES (halves stack.old (seen link.old))).0) }
+    ensures chances { impairment.new.chances ≡ impairment.old.chances }
+    ensures room { vec_capacity flight.new.frames ≡ vec_capacity flight.old.frames }
+{
+    for _ in 0..FRAMES {
+        if !flight.hand.give(sender, stack, link) {
+            return;
+        }
+        send(flight, impairment);
+    }
+}
+
+/// Each host gives its frames.
+fn collect_frames(
+    flight: &mut Flight,
+    impairment: &mut Impairment,
+    stacks: &mut Vec<Stack>,
+    links: &mut Vec<LinkLayer>,
+)
+    ensures hosts { AtEach (λ place h k. k ≡ (frames_given FRAMES h).1)
+        (hosts_of stacks.old.items (map seen links.old.items))
+        (hosts_of stacks.new.items (map seen links.new.items)) }
+    ensures taken { under_way flight.new ≡ behind flight.old impairment.old
+        (frames_below (hosts_of stacks.old.items (map seen links.old.items)) (length links.old.items)) }
+    ensures random { impairment.new.random ≡ random_after impairment.old
+        (frames_below (hosts_of stacks.old.items (map seen links.old.items)) (length links.old.items)) }
+    ensures tallies { impairment.new.tallies.items ≡ tallies_after impairment.old
+        (frames_below (hosts_of stacks.old.items (map seen links.old.items)) (length links.old.items)) }
+    ensures chances { impairment.new.chances ≡ impairment.old.chances }
+    ensures room { vec_capacity flight.new.frames ≡ vec_capacity flight.old.frames }
+    ensures links { length links.new.items ≡ length links.old.items }
+{
+    for place in 0..links.len() {
+        if place < stacks.len() {
+            take_frames(
+                flight,
+                impairment,
+                place,
+                &mut stacks[place],
+                &mut links[place],
+            );
+        }
+    }
+}
+
+/// How many of these frames come to the host at a place with this hardware address.
+fn count_to(due: &[Frame], place: usize, mac: Mac) -> u64
+    ensures { result ≡ length (frames_to place mac (map flying due.now)) }
+{
+    let mut frames = 0;
+    for at in 0..due.len() {
+        if due[at].is_heard(place, mac) {
+            frames += 1;
+        }
+    }
+    frames
+}
+
+/// How many of these frames come to the host at a place.
+fn heard(due: &[Frame], place: usize, links: &[LinkLayer]) -> u64
+    ensures { result ≡ length (frames_in place (slice_get (map seen links.now) place) (map flying due.now)) }
+{
+    match links.get(place) {
+        Some(link) => count_to(due, place, link.link().mac),
+        None => 0,
+    }
+}
+
+/// Counts at each host the frames that come to it.
+fn count_frames(due: &[Frame], links: &[LinkLayer], tallies: &mut Vec<Tally>)
+    ensures { AtEach (λ place t u.
+        u ≡ hears (length (frames_in place (slice_get (map seen links.now) place) (map flying due.now))) t)
+        tallies.old.items tallies.new.items }
+{
+    for place in 0..tallies.len() {
+        let frames = heard(due, place, links);
+        tallies[place] = tallies[place].hears(frames);
+    }
+}
+
+/// A frame comes to a host.
+fn hand_over(stack: &mut Stack, link: &mut LinkLayer, frame: &[u8])
+    requires { length frame.now ≤ MAX_MTU }
+    ensures { HearEach (frame.now ∷ []) (halves stack.old (seen link.old)) (halves stack.new (seen link.new)) }
+{
+    link.receive(stack, frame);
+}
+
+/// Hands to the host at a place all of these frames that come to it.
+fn hand_frames(due: &[Frame], place: usize, stack: &mut Stack, link: &mut LinkLayer)
+    ensures { HearEach (frames_to place (seen link.old).link.mac (map flying due.now))
+        (halves stack.old (seen link.old)) (halves stack.new (seen link.new)) }
+{
+    let mac = link.link().mac;
+    for at in 0..due.len() {
+        let frame = &due[at];
+        if frame.is_heard(place, mac) {
+            hand_over(stack, link, frame.bytes());
+        }
+    }
+}
+
+/// All frames that come to a host are handed to it.
+fn deliver_frames(due: &[Frame], stacks: &mut Vec<Stack>, links: &mut Vec<LinkLayer>)
+    ensures hosts { AtEach (λ place h k. HearEach (frames_to place h.link.link.mac (map flying due.now)) h k)
+        (hosts_of stacks.old.items (map seen links.old.items))
+        (hosts_of stacks.new.items (map seen links.new.items)) }
+    ensures links { length links.new.items ≡ length links.old.items }
+{
+    for place in 0..links.len() {
+        if place < stacks.len() {
+            hand_frames(due, place, &mut stacks[place], &mut links[place]);
+        }
+    }
+}
+
+impl Segment {
+    /// Each host on an Ethernet gives the frames that its link has, 256 at most, from place 0 on. What becomes of a
+    /// frame is drawn then, as `collect` does it for a packet.
+    pub fn collect_frames(&mut self)
+        ensures { AreFramesCollected (view self.old) (view self.new) }
+    {
+        collect_frames(
+            &mut self.flight,
+            &mut self.impairment,
+            &mut self.stacks,
+            &mut self.links,
+        );
+    }
+
+    /// What is due comes: each frame to the host with the hardware address that it goes to, one to all to all others,
+    /// and none to its sender. The order is drawn before, as `deliver` does it.
+    pub fn deliver_frames(&mut self)
+        ensures { AreFramesDelivered (view self.old) (view self.new) }
+    {
+        let flight = &mut self.flight;
+        flight.leave();
+        self.impairment.shuffle(&mut flight.due);
+        count_frames(
+            flight.due.as_slice(),
+            self.links.as_slice(),
+            &mut self.impairment.tallies,
+        );
+        deliver_frames(flight.due.as_slice(), &mut self.stacks, &mut self.links);
+    }
+}

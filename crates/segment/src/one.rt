@@ -1,0 +1,163 @@
+//! One host on an Ethernet: how it joins, what comes to it from outside, and what is asked of it.
+ghost use Rattle.std.specs.Prelude.{◌≡◌, ◌+◌, ◌≤◌, ◌==◌, Result, Ok, Err, length, map, option_map, slice_get, MatchOption, MatchResult, None, Some};
+ghost use Rattle.std.specs.List.{list_all};
+ghost use Rattle.flat_model.specs.Amounts.Choice.{Choice};
+ghost use Rattle.params.specs.declared.TheConstants.{IP_MAX_PACKET};
+ghost use Rattle.flat_ether.specs.Claims.{address_state};
+ghost use Rattle.flat_ether.specs.declared.sizes.TheConstants.{ETHER_HEADER};
+ghost use Rattle.ether_host.specs.Inside.{seen};
+ghost use Rattle.segment.specs.Frames.{IsAskedError, IsEtherJoined, IsEtherRefused, IsFree, IsHeard, link_aged, other_mac};
+ghost use Rattle.segment.specs.Inside.{view};
+
+use crate::chances::NO_CHANCES;
+use crate::segment::{JoinFault, MAX_HOSTS, Segment, is_apart};
+use crate::tally::NOTHING;
+use ether_host::{AddressState, Link, LinkLayer, Mac, Neighbour, NetFault, Tallies};
+use flat_model::{Config, Errno};
+use net_stack::{BootFault, Stack};
+use std::alloc::Global;
+
+/// Whether no link has this hardware address.
+fn is_other_mac(mac: Mac, links: &[LinkLayer]) -> bool
+    ensures { result ≡ list_all (other_mac mac) (map seen links.now) }
+{
+    let mut rest = links;
+    while let [link, left @ ..] = rest {
+        if mac.is(link.link().mac) {
+            return false;
+        }
+        rest = left;
+    }
+    true
+}
+
+impl Segment {
+    /// Whether there is a place for this host.
+    fn check_ether(&self, config: &Config, link: &Link) -> Result<(), JoinFault>
+        ensures { MatchResult result (λ _. IsFree (view self.now) config.now link.now)
+            (λ fault. IsEtherRefused (view self.now) config.now link.now fault) }
+    {
+        if self.stacks.len() >= MAX_HOSTS {
+            return Err(JoinFault::TooManyHosts);
+        }
+        if self.links.len() != self.stacks.len() {
+            return Err(JoinFault::OtherLink);
+        }
+        if !link.check(config) {
+            return Err(JoinFault::BadLink);
+        }
+        if !is_apart(config, self.configs.as_slice()) {
+            return Err(JoinFault::AddressTaken);
+        }
+        if !is_other_mac(link.mac, self.links.as_slice()) {
+            return Err(JoinFault::MacTaken);
+        }
+        Ok(())
+    }
+
+    /// A host on an Ethernet joins: its stack and its link are booted, and it has the next place, from 0 on. All memory
+    /// that it will ever need is taken here.
+    ///
+    /// # Errors
+    ///
+    /// In this order, and then the segment is as it was: `TooManyHosts` if it has 64 hosts; `OtherLink` if a host isn't
+    /// on an Ethernet; `BadLink` by the link; `AddressTaken` if a host has the same address, or one of the two has the
+    /// other's address as its broadcast address; `MacTaken`; `Unbooted` if there is no stack by this configuration, or
+    /// host memory was refused.
+    pub fn join_ether(&mut self, alloc: Global, config: Config, link: Link) -> Result<(), JoinFault>
+        ensures { MatchResult result (λ _. IsEtherJoined config link (view self.old) (view self.new)) (λ fault.
+            IsEtherRefused (view self.old) config link fault × (view self.new ≡ view self.old)) }
+    {
+        self.check_ether(&config, &link)?;
+        if self.configs.reserve(1).is_err()
+            || self.stacks.reserve(1).is_err()
+            || self.links.reserve(1).is_err()
+            || self.impairment.chances.reserve(1).is_err()
+            || self.impairment.tallies.reserve(1).is_err()
+        {
+            return Err(JoinFault::Unbooted(BootFault::Memory));
+        }
+        let Ok(layer) = LinkLayer::boot(alloc, config, link) else {
+            return Err(JoinFault::Unbooted(BootFault::Memory));
+        };
+        match Stack::boot(alloc, config) {
+            Ok(stack) => {
+                self.configs.push_reserved(config);
+                self.stacks.push_reserved(stack);
+                self.links.push_reserved(layer);
+                self.impairment.chances.push_reserved(NO_CHANCES);
+                self.impairment.tallies.push_reserved(NOTHING);
+                Ok(())
+            }
+            Err(fault) => Err(JoinFault::Unbooted(fault)),
+        }
+    }
+
+    /// A frame comes from outside to the host at a place, as `EtherHost::receive` has it. Whether there is such a host
+    /// on an Ethernet.
+    pub fn hear(&mut self, place: usize, frame: &[u8]) -> bool
+        requires { length frame.now ≤ ETHER_HEADER + IP_MAX_PACKET }
+        ensures { Choice result (IsHeard place frame.now (view self.old) (view self.new))
+            (view self.new ≡ view self.old) }
+    {
+        if place >= self.stacks.len() || place >= self.links.len() {
+            return false;
+        }
+        self.links[place].receive(&mut self.stacks[place], frame);
+        true
+    }
+
+    /// What others reported of the datagrams that a connected socket sent to its peer, as `EtherHost::last_error` has
+    /// it. `None` if there is no such host on an Ethernet.
+    pub fn last_error(&mut self, place: usize, fd: u32) -> Option<Result<Option<NetFault>, Errno>>
+        ensures { MatchOption result (view self.new ≡ view self.old)
+            (λ fault. IsAskedError place fd fault (view self.old) (view self.new)) }
+    {
+        if place >= self.stacks.len() || place >= self.links.len() {
+            return None;
+        }
+        Some(self.links[place].last_error(&self.stacks[place], fd))
+    }
+
+    /// The link of the host at a place is a tick older. That of its stack is a call of its own.
+    pub fn age_link(&mut self, place: usize)
+        ensures { view self.new ≡ link_aged place (view self.old) }
+    {
+        if place < self.links.len() {
+            self.links[place].tick();
+        }
+    }
+
+    /// The neighbours of the host at a place. `None` if there is no such host on an Ethernet.
+    pub fn neighbours(&self, place: usize) -> Option<&[Neighbour]>
+        ensures { MatchOption result (slice_get (view self.now).links place ≡ None)
+            (λ told. option_map (λ l. l.neighbours) (slice_get (view self.now).links place) ≡ Some told.now) }
+    {
+        let link = self.links.get(place)?;
+        Some(link.neighbours())
+    }
+
+    /// The link of the host at a place. `None` if there is no such host on an Ethernet.
+    pub fn link(&self, place: usize) -> Option<Link>
+        ensures { result ≡ option_map (λ l. l.link) (slice_get (view self.now).links place) }
+    {
+        let link = self.links.get(place)?;
+        Some(link.link())
+    }
+
+    /// How far the host at a place is with its address. `None` if there is no such host on an Ethernet.
+    pub fn address(&self, place: usize) -> Option<AddressState>
+        ensures { result ≡ option_map (λ l. address_state l.claim) (slice_get (view self.now).links place) }
+    {
+        let link = self.links.get(place)?;
+        Some(link.address())
+    }
+
+    /// What was counted of the link of the host at a place. `None` if there is no such host on an Ethernet.
+    pub fn link_tallies(&self, place: usize) -> Option<Tallies>
+        ensures { result ≡ option_map (λ l. l.tallies) (slice_get (view self.now).links place) }
+    {
+        let link = self.links.get(place)?;
+        Some(link.tallies())
+    }
+}
