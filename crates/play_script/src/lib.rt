@@ -23,7 +23,7 @@ pub use flat_model::Config;
 pub use laws::runs_law;
 pub use line::{Kind, Line, read_line};
 pub use link_script::DEFAULTS;
-pub use outcome::TOLD;
+pub use outcome::{DROPS, TOLD, put_drops};
 pub use play_pcap::{CaptureFault, Folder, NoFolder, RECORD, Trace};
 pub use play_text::Form;
 pub use print::{LABELLED, NAME, ROOM};

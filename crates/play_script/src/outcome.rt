@@ -10,7 +10,7 @@ use request::{Reply, TEXT, put_reply};
 use script_loop::Buffer;
 
 /// Room for all causes at once.
-pub(crate) const DROPS: usize = 1024;
+pub const DROPS: usize = 1024;
 
 /// Room for what is told of a line.
 pub const TOLD: usize = TEXT + DROPS;
@@ -81,7 +81,7 @@ fn put_cause(text: &mut Buffer<DROPS>, why: Why, before: &Counters, after: &Coun
 }
 
 /// Puts all causes whose counters went up into a buffer.
-pub(crate) fn put_drops(text: &mut Buffer<DROPS>, before: &Counters, after: &Counters)
+pub fn put_drops(text: &mut Buffer<DROPS>, before: &Counters, after: &Counters)
     ensures { text.new ≡ drops_text before.now after.now }
 {
     text.clear();

@@ -1,6 +1,4 @@
-use Rattle.std.proofs.Common.{◌≡◌, ℕ, Bool, ◌&&◌, List, refl, ap, ap₂, ◌∙◌, subst}
-use Rattle.play_forms.specs.Advice.{IsAdvised}
-use Rattle.play_forms.specs.declared.advice.Player.TheVariants.{Machine}
+use Rattle.std.proofs.Common.{◌≡◌, Bool, ◌&&◌, refl, ap, ap₂, ◌∙◌}
 use Rattle.play_text.specs.Texts.{fault_text}
 use Rattle.play_script.specs.Inside.{play_of}
 use Rattle.play_script.specs.Plays.{captured_of}

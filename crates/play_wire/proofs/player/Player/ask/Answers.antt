@@ -2,7 +2,7 @@ use Rattle.std.proofs.Common.{◌≡◌, ◌++◌, ◌∙◌, Bool, List, ap, re
 use Rattle.play_text.specs.Texts.{fault_text}
 use Rattle.play_wire.specs.Faults.{IsReason}
 use Rattle.play_script.specs.Tells.{told_text}
-use Rattle.play_script.specs.Views.{expected_on}
+use Rattle.play_script.specs.Views.{expected_on, plain_of}
 use Rattle.play_script.specs.declared.printer.Printer.{Printer}
 use Rattle.segment.specs.Inside.{view}
 use Rattle.play_wire.specs.Acts.{Told, Refused}
