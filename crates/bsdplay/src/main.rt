@@ -19,6 +19,7 @@ use choice::Ahead;
 use clap::{Arg, ArgAction, ArgMatches, Command};
 use form::{form_of, with_forms};
 use grade::grade;
+use hand_in::unmarked;
 use help::LINES;
 use hosts::{play_captured, play_uncaptured, status_of};
 use one::play_one;
@@ -263,7 +264,7 @@ fn play_strictly<R: Read + Drop>(
         form: manner.form,
         name: name.as_bytes(),
     };
-    let lacks = tell_lacks(rt, script.as_slice(), style)?;
+    let lacks = tell_lacks(rt, unmarked(script.as_slice()), style)?;
     Ok(if lacks && status == 0 { LACKS } else { status })
 }
 

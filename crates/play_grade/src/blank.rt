@@ -2,7 +2,7 @@
 ghost use Rattle.std.specs.Prelude.{◌≡◌, ◌++◌, IfOk};
 ghost use Rattle.play_grade.specs.Blanks as blanks;
 
-use crate::asked::{is_question, read_asked};
+use crate::asked::is_question;
 use crate::marker::Marker;
 use play_script::{Kind, bytes_of};
 use std::alloc::AllocError;
@@ -23,12 +23,12 @@ impl Marker {
         if is_private(line) {
             return Ok(());
         }
-        let kind = read_asked(line, &mut self.reader, &mut self.asked);
-        if matches!(kind, Kind::Asks) && self.asked.expects {
+        let kind = self.asked.read(line, &mut self.reader);
+        if matches!(kind, Kind::Asks) && self.asked.line.expects {
             if is_question(line) {
                 text.extend_from_slice(b"#? ")?;
             }
-            text.extend_from_slice(bytes_of(&self.asked.shown))?;
+            text.extend_from_slice(bytes_of(&self.asked.line.shown))?;
             text.extend_from_slice(b" => ?\n")
         } else {
             text.extend_from_slice(line)?;

@@ -5,7 +5,6 @@ ghost use Rattle.play_grade.specs.Asked.{asked_on};
 ghost use Rattle.play_grade.specs.Lacks as lacks;
 
 use crate::answers::is_answered;
-use crate::asked::read_asked;
 use crate::lines::first_line;
 use crate::marker::Marker;
 use crate::marks::{Mark, Marks};
@@ -33,8 +32,10 @@ impl Marker {
     pub fn lacks(&mut self, line: &[u8]) -> bool
         ensures { result ≡ lacks.lacks line.now }
     {
-        match read_asked(line, &mut self.reader, &mut self.asked) {
-            Kind::Asks => { !is_setup(bytes_of(&self.asked.words)) && !is_answered(&self.asked) }
+        match self.asked.read(line, &mut self.reader) {
+            Kind::Asks => {
+                !is_setup(bytes_of(&self.asked.plain)) && !is_answered(&self.asked.line)
+            }
             Kind::Nothing | Kind::TooLong | Kind::Faulty(_) => false,
         }
     }
@@ -43,9 +44,9 @@ impl Marker {
     fn own_counted(&mut self, line: &[u8], number: u64, marks: Marks) -> Marks
         ensures { result ≡ lacks.own_counted (asked_on line.now) number marks }
     {
-        match read_asked(line, &mut self.reader, &mut self.asked) {
-            Kind::Asks if is_setup(bytes_of(&self.asked.words)) => marks,
-            Kind::Asks if is_answered(&self.asked) => marks.counted(Mark::Right, number),
+        match self.asked.read(line, &mut self.reader) {
+            Kind::Asks if is_setup(bytes_of(&self.asked.plain)) => marks,
+            Kind::Asks if is_answered(&self.asked.line) => marks.counted(Mark::Right, number),
             Kind::Asks => marks.counted(Mark::Missing, number),
             Kind::Nothing | Kind::TooLong | Kind::Faulty(_) => marks,
         }

@@ -6,11 +6,11 @@ ghost use Rattle.play_grade.specs.Grades as grades;
 ghost use Rattle.play_grade.specs.Inside.{standing_of};
 
 use crate::answers::{is_answered, mark_of};
-use crate::asked::read_asked;
+use crate::asked::Asked;
 use crate::lines::first_line;
 use crate::marks::{Mark, Marks};
 use play_packet::LineReader;
-use play_script::{Kind, Line, bytes_of};
+use play_script::{Kind, bytes_of};
 use std::alloc::{AllocError, Global};
 
 /// What marks hand-ins: the memory that lines are read into.
@@ -18,9 +18,9 @@ use std::alloc::{AllocError, Global};
 pub struct Marker {
     pub(crate) reader: LineReader,
     /// The line of the key.
-    pub(crate) asked: Line,
+    pub(crate) asked: Asked,
     /// The line of the hand-in.
-    given: Line,
+    given: Asked,
 }
 
 /// What is known after some lines of the key.
@@ -34,13 +34,13 @@ pub(crate) struct Standing<'h> {
 }
 
 /// Whether a line asks just this. What it answers stands in `given` then.
-fn asks(asked: &[u8], text: &[u8], reader: &mut LineReader, given: &mut Line) -> bool
+fn asks(asked: &[u8], text: &[u8], reader: &mut LineReader, given: &mut Asked) -> bool
     ensures { (rest : List (List ℕ)) (later : Option grades.Found)
         → grades.found_on asked.now (asked_on text.now) rest later
-        ≡ grades.found_if result (expected_on given.new) rest later }
+        ≡ grades.found_if result (expected_on given.new.line) rest later }
 {
-    match read_asked(text, reader, given) {
-        Kind::Asks => asked == bytes_of(&given.words),
+    match given.read(text, reader) {
+        Kind::Asks => asked == bytes_of(&given.plain),
         Kind::Nothing | Kind::TooLong | Kind::Faulty(_) => false,
     }
 }
@@ -51,11 +51,11 @@ fn find<'h>(
     asked: &[u8],
     hand: &'h [u8],
     reader: &mut LineReader,
-    given: &mut Line,
+    given: &mut Asked,
 ) -> Option<Option<&'h [u8]>>
     ensures { MatchOption result (grades.found_in asked.now (lines_in hand.now) ≡ None)
         (λ rest. grades.found_in asked.now (lines_in hand.now)
-        ≡ grades.found_if true (expected_on given.new) (lines_left rest) None) }
+        ≡ grades.found_if true (expected_on given.new.line) (lines_left rest) None) }
 {
     let mut left = hand;
     'lines: loop {
@@ -75,28 +75,31 @@ impl Marker {
     pub fn new(alloc: Global) -> Result<Marker, AllocError> {
         Ok(Marker {
             reader: LineReader::new(alloc)?,
-            asked: Line::new(alloc)?,
-            given: Line::new(alloc)?,
+            asked: Asked::new(alloc)?,
+            given: Asked::new(alloc)?,
         })
     }
 
     /// Marks what the hand-in answers to the key's line in hand.
     fn marked<'h>(&mut self, standing: Standing<'h>) -> Standing<'h>
-        ensures { standing_of result ≡ grades.marked self.old.asked.wanted
-            (grades.found_in self.old.asked.words (lines_left standing.entry.left)) (standing_of standing.entry) }
+        ensures { standing_of result ≡ grades.marked self.old.asked.line.wanted
+            (grades.found_in self.old.asked.plain (lines_left standing.entry.left)) (standing_of standing.entry) }
     {
         let Standing {
             number,
             marks,
             left,
         } = standing;
-        let asked = bytes_of(&self.asked.words);
+        let asked = bytes_of(&self.asked.plain);
         let found = match left {
             Some(hand) => find(asked, hand, &mut self.reader, &mut self.given),
             None => None,
         };
         let (mark, left) = match found {
-            Some(rest) => (mark_of(bytes_of(&self.asked.wanted), &self.given), rest),
+            Some(rest) => (
+                mark_of(bytes_of(&self.asked.line.wanted), &self.given.line),
+                rest,
+            ),
             None => (Mark::Missing, left),
         };
         Standing {
@@ -114,8 +117,8 @@ impl Marker {
             number: standing.number.saturating_add(1),
             ..standing
         };
-        match read_asked(line, &mut self.reader, &mut self.asked) {
-            Kind::Asks if is_answered(&self.asked) => self.marked(standing),
+        match self.asked.read(line, &mut self.reader) {
+            Kind::Asks if is_answered(&self.asked.line) => self.marked(standing),
             Kind::Asks | Kind::Nothing | Kind::TooLong | Kind::Faulty(_) => standing,
         }
     }

@@ -80,7 +80,7 @@ fn fits_unnumbered(wanted: &[u8], told: &[u8]) -> bool
 
 /// Whether what is told is what was expected: word by word the same, but for `_`, which is any word, for `..` at the
 /// end, which is whatever is left, even nothing, and for the number of an error, which may be left out.
-pub(crate) fn meets(wanted: &[u8], told: &[u8]) -> bool
+pub fn meets(wanted: &[u8], told: &[u8]) -> bool
     ensures { result ≡ outcomes.meets wanted.now told.now }
 {
     fits(wanted, told) || fits_unnumbered(wanted, told)

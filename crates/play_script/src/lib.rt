@@ -19,6 +19,7 @@ mod settle;
 mod tell;
 
 pub use capture::Capture;
+pub use fits::meets;
 pub use flat_model::Config;
 pub use laws::runs_law;
 pub use line::{Kind, Line, read_line};
