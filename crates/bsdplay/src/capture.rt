@@ -14,7 +14,11 @@ use std::{fs, io, str};
 const BAD: u8 = 1;
 
 /// Says what came of a capture, and answers the status.
-fn report(rt: &HostRuntime, name: &str, outcome: Result<Tally, CaptureFault>) -> io::Result<u8> {
+pub(crate) fn report(
+    rt: &HostRuntime,
+    name: &str,
+    outcome: Result<Tally, CaptureFault>,
+) -> io::Result<u8> {
     let mut text: Buffer<OUTCOME> = Buffer::new(rt.alloc())?;
     put_outcome(&mut text, outcome);
     if let Ok(words) = str::from_utf8(text.as_slice()) {

@@ -13,6 +13,7 @@ mod hosts;
 mod one;
 mod strict;
 mod sweep;
+mod why;
 
 use capture::print_capture;
 use choice::Ahead;
@@ -30,6 +31,7 @@ use std::process::ExitCode;
 use std::{env, fs, io};
 use strict::{print_blank, tell_lacks};
 use sweep::{Seeds, seed_in, seeds_in, sweep};
+use why::{print_why, why_command};
 
 /// The status if the command line can't be read.
 const USAGE: u8 = 2;
@@ -143,11 +145,13 @@ fn command<'a>(alloc: Global) -> Result<Command<'a>, AllocError> {
         .about("Plays scripts of socket calls, packets and ticks, and says what came of each line")
         .after_help(LINES);
     let command = with_wire(alloc, with_forms(alloc, command)?)?;
-    with_captures(alloc, with_grades(alloc, command)?)?.arg(
-        Arg::new(alloc, "FILE")
-            .help("Scripts, each played on a new machine; '-' or none: standard input")
-            .action(ArgAction::Append),
-    )
+    with_captures(alloc, with_grades(alloc, command)?)?
+        .arg(
+            Arg::new(alloc, "FILE")
+                .help("Scripts, each played on a new machine; '-' or none: standard input")
+                .action(ArgAction::Append),
+        )?
+        .subcommand(why_command(alloc)?)
 }
 
 /// Says why a script ended early.
@@ -393,7 +397,10 @@ fn serve(rt: &HostRuntime) -> io::Result<u8> {
         return Ok(USAGE);
     };
     match command(rt.alloc())?.try_get_matches_from(words.as_slice()) {
-        Ok(found) => serve_found(rt, &found),
+        Ok(found) => match found.subcommand() {
+            Some((_, chosen)) => print_why(rt, chosen),
+            None => serve_found(rt, &found),
+        },
         Err(error) => {
             error.print(rt)?;
             Ok(error.exit_code() as u8)

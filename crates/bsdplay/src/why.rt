@@ -1,0 +1,384 @@
+//! Why the packets of a capture were dropped.
+ghost use Rattle.std.specs.Prelude.{◌≤◌, length, IfSome};
+
+use crate::capture::report;
+use crate::{UNREAD, USAGE};
+use clap::{Arg, ArgAction, ArgMatches, Command};
+use pcap::{Fault, Reader, Record, ipv4_packet};
+use play_pcap::{CaptureFault, Range, range_of, read_whole};
+use play_script::Silent;
+use play_why::{Addresses, Arrival, Busiest, Judge, Layout};
+use std::alloc::{AllocError, Global};
+use std::fs;
+use std::io::{self, Write};
+use std::net::Ipv4Addr;
+
+/// The status if a capture isn't one.
+const BAD: u8 = 1;
+
+/// The most bytes of a packet.
+const MOST_BYTES: usize = 65_535;
+
+/// The options for the machine.
+fn with_machine<'a>(alloc: Global, command: Command<'a>) -> Result<Command<'a>, AllocError> {
+    command
+        .arg(
+            Arg::new(alloc, "CAPTURE")
+                .help("A capture that tcpdump or Wireshark wrote; '-': standard input")
+                .action(ArgAction::Set),
+        )?
+        .arg(
+            Arg::new(alloc, "A")
+                .long("addr")
+                .help("The machine's address; without it the one to which most datagrams go")
+                .action(ArgAction::Set),
+        )?
+        .arg(
+            Arg::new(alloc, "PORT")
+                .long("port")
+                .help("The one port that's bound; without it each port to which a datagram goes")
+                .action(ArgAction::Set),
+        )
+}
+
+/// The options for what's printed.
+fn with_choice<'a>(alloc: Global, command: Command<'a>) -> Result<Command<'a>, AllocError> {
+    command
+        .arg(
+            Arg::new(alloc, "N-M")
+                .long("records")
+                .help("Print the records from number N to M alone; those before still come")
+                .action(ArgAction::Set),
+        )?
+        .arg(
+            Arg::new(alloc, "all")
+                .long("all")
+                .help("Let packets for other machines come too, which this one drops")
+                .action(ArgAction::SetTrue),
+        )?
+        .arg(
+            Arg::new(alloc, "json")
+                .long("json")
+                .help("Print an object of JSON for each record, and no table")
+                .action(ArgAction::SetTrue),
+        )
+}
+
+/// The subcommand, with its options.
+pub(crate) fn why_command<'a>(alloc: Global) -> Result<Command<'a>, AllocError> {
+    let command = Command::new(alloc, "why").about(
+        "Say of each packet of a capture what became of it, and why it was dropped",
+    );
+    with_choice(alloc, with_machine(alloc, command)?)
+}
+
+/// What the options say.
+#[derive(Clone, Copy)]
+struct Choice {
+    address: Option<u32>,
+    port: Option<u16>,
+    range: Option<Range>,
+    all: bool,
+    layout: Layout,
+}
+
+/// The address that an option names.
+fn address_in(word: Option<&str>) -> Result<Option<u32>, &'static str> {
+    let Some(word) = word else {
+        return Ok(None);
+    };
+    match Ipv4Addr::parse_ascii(word.as_bytes()) {
+        Ok(address) => Ok(Some(address.to_bits())),
+        Err(_) => Err("--addr takes an IPv4 address, as 10.0.0.1"),
+    }
+}
+
+/// The port that an option names.
+fn port_in(word: Option<&str>) -> Result<Option<u16>, &'static str> {
+    let Some(word) = word else {
+        return Ok(None);
+    };
+    match word.parse::<u16>() {
+        Ok(port) if port != 0 => Ok(Some(port)),
+        _ => Err("--port takes a number from 1 to 65535"),
+    }
+}
+
+/// The records that an option names.
+fn records_in(word: Option<&str>) -> Result<Option<Range>, &'static str> {
+    let Some(word) = word else {
+        return Ok(None);
+    };
+    match range_of(word.as_bytes()) {
+        Some(range) => Ok(Some(range)),
+        None => Err("--records takes two numbers, as 3-17"),
+    }
+}
+
+/// What the options say, or what is wrong with them.
+fn choice_of(found: &ArgMatches<'_>) -> Result<Choice, &'static str> {
+    Ok(Choice {
+        address: address_in(found.get_str("A"))?,
+        port: port_in(found.get_str("PORT"))?,
+        range: records_in(found.get_str("N-M"))?,
+        all: found.get_flag("all"),
+        layout: if found.get_flag("json") {
+            Layout::Objects
+        } else {
+            Layout::Lines
+        },
+    })
+}
+
+/// The packet in a record, if it has one that a machine takes.
+fn packet_in<'a>(reader: &Reader<'_>, record: &Record<'a>) -> Option<&'a [u8]>
+    ensures { IfSome result (λ p. length p.now ≤ 65535) }
+{
+    match ipv4_packet(reader.header().link, record.bytes) {
+        Ok(packet) if packet.len() <= MOST_BYTES => Some(packet),
+        _ => None,
+    }
+}
+
+/// The address to which most datagrams of a capture go.
+fn busiest_of(alloc: Global, file: &[u8]) -> Result<Option<Busiest>, Fault> {
+    let mut reader = Reader::open(file)?;
+    let mut addresses = Addresses::new(alloc);
+    for _ in 0..u64::MAX {
+        let Some(record) = reader.next_record()? else {
+            break;
+        };
+        if let Some(packet) = packet_in(&reader, &record) {
+            if addresses.note(packet).is_err() {
+                break;
+            }
+        }
+    }
+    Ok(addresses.busiest())
+}
+
+/// How many records weren't for the machine.
+#[derive(Clone, Copy)]
+struct Others {
+    /// Packets for other machines.
+    elsewhere: u64,
+    /// Records without IPv4.
+    without: u64,
+}
+
+/// Why the records of a capture weren't all told.
+#[derive(Drop)]
+enum End {
+    Fault(Fault),
+    Memory,
+    Unwritten,
+}
+
+/// Writes what's told, and answers whether all was written.
+fn put<W: Write>(out: &mut W, bytes: &[u8]) -> Result<(), End> {
+    match out.write_all(bytes) {
+        Ok(()) => Ok(()),
+        Err(_) => Err(End::Unwritten),
+    }
+}
+
+/// Whether a record is to be printed.
+fn is_wanted(range: Option<Range>, number: u64) -> bool {
+    match range {
+        None => true,
+        Some(range) => u64::from(range.first) <= number && number <= u64::from(range.last),
+    }
+}
+
+/// Lets the packet of a record come, and prints what became of it, if the record is for the machine and wanted.
+fn tell_packet<W: Write>(
+    choice: Choice,
+    judge: &mut Judge,
+    arrival: &Arrival<'_>,
+    others: &mut Others,
+    out: &mut W,
+) -> Result<(), End>
+    requires { length arrival.now.packet.now ≤ 65535 }
+{
+    if !choice.all && !judge.is_ours(arrival.packet) {
+        others.elsewhere = others.elsewhere.saturating_add(1);
+        return Ok(());
+    }
+    let Ok(told) = judge.tell(arrival) else {
+        return Err(End::Memory);
+    };
+    if is_wanted(choice.range, arrival.number) {
+        put(out, told)?;
+    }
+    Ok(())
+}
+
+/// Lets the packets of all records come, and prints what became of each.
+fn tell_records<W: Write>(
+    file: &[u8],
+    choice: Choice,
+    judge: &mut Judge,
+    out: &mut W,
+) -> Result<Others, End> {
+    let mut reader = match Reader::open(file) {
+        Ok(reader) => reader,
+        Err(fault) => return Err(End::Fault(fault)),
+    };
+    let mut others = Others {
+        elsewhere: 0,
+        without: 0,
+    };
+    let mut begin = None;
+    for number in 1..u64::MAX {
+        let record = match reader.next_record() {
+            Ok(Some(record)) => record,
+            Ok(None) => break,
+            Err(fault) => return Err(End::Fault(fault)),
+        };
+        let now = reader.header().nanoseconds(&record);
+        let first = begin.unwrap_or(now);
+        begin = Some(first);
+        match packet_in(&reader, &record) {
+            None => others.without = others.without.saturating_add(1),
+            Some(packet) => {
+                let arrival = Arrival {
+                    number,
+                    time: now.saturating_sub(first),
+                    original: record.original_len,
+                    captured: record.bytes.len().min(u32::MAX as usize) as u32,
+                    packet,
+                };
+                tell_packet(choice, judge, &arrival, &mut others, out)?;
+            }
+        }
+    }
+    Ok(others)
+}
+
+/// Prints what came of all packets: a table of the causes, and what's unfinished.
+fn tell_totals<W: Write>(judge: &mut Judge, out: &mut W) -> Result<(), End> {
+    put(out, judge.totals())?;
+    for i in 0..u32::MAX {
+        let Some(line) = judge.unfinished(i) else {
+            break;
+        };
+        put(out, line)?;
+    }
+    Ok(())
+}
+
+/// All bytes of a capture.
+fn load(rt: &HostRuntime, name: &str) -> Result<Vec<u8>, CaptureFault> {
+    if name == "-" {
+        return read_whole(rt.alloc(), &mut Silent(rt.stdin()));
+    }
+    match fs::open(rt, name) {
+        Ok(file) => read_whole(rt.alloc(), &mut Silent(file)),
+        Err(_) => Err(CaptureFault::NotOpened),
+    }
+}
+
+/// Prints how many records weren't for the machine.
+fn print_others(rt: &HostRuntime, others: Others) -> io::Result<()> {
+    if others.elsewhere != 0 || others.without != 0 {
+        println!(rt;
+            "Records for other machines: {}. Without IPv4: {}.",
+            others.elsewhere, others.without
+        )?;
+    }
+    Ok(())
+}
+
+/// Has a machine of this address judge the records, and answers the status.
+fn judge_file(
+    rt: &HostRuntime,
+    name: &str,
+    file: &[u8],
+    choice: Choice,
+    ours: u32,
+) -> io::Result<u8> {
+    let mut judge = match Judge::new(rt.alloc(), choice.layout, ours, choice.port) {
+        Ok(judge) => judge,
+        Err(fault) => {
+            let ours = Ipv4Addr::from_bits(ours);
+            eprintln!(rt; "bsdplay: {ours}: {fault}: it isn't the address of a host")?;
+            return Ok(USAGE);
+        }
+    };
+    let mut out = rt.stdout();
+    let told = tell_records(file, choice, &mut judge, &mut out);
+    let done = match choice.layout {
+        Layout::Lines => tell_totals(&mut judge, &mut out),
+        Layout::Objects => Ok(()),
+    };
+    judge.end();
+    if done.is_err() {
+        return Ok(UNREAD);
+    }
+    match told {
+        Ok(others) => {
+            if matches!(choice.layout, Layout::Lines) {
+                print_others(rt, others)?;
+            }
+            Ok(0)
+        }
+        Err(End::Fault(fault)) => {
+            eprintln!(rt; "bsdplay: {name}: {fault}")?;
+            Ok(BAD)
+        }
+        Err(End::Memory) => {
+            eprintln!(rt; "bsdplay: {name}: no memory")?;
+            Ok(UNREAD)
+        }
+        Err(End::Unwritten) => Ok(UNREAD),
+    }
+}
+
+/// The machine's address, if it was given or datagrams go to one; says which it is if it was chosen.
+fn address_for(rt: &HostRuntime, file: &[u8], choice: Choice) -> io::Result<Option<u32>> {
+    if choice.address.is_some() {
+        return Ok(choice.address);
+    }
+    match busiest_of(rt.alloc(), file) {
+        Ok(Some(busiest)) => {
+            let address = Ipv4Addr::from_bits(busiest.address);
+            if matches!(choice.layout, Layout::Lines) {
+                println!(rt;
+                    "The machine is {address}, to which {} of {} datagrams go; --addr takes another.\n",
+                    busiest.count, busiest.all
+                )?;
+            }
+            Ok(Some(busiest.address))
+        }
+        _ => Ok(None),
+    }
+}
+
+/// Prints why packets of the capture were dropped that the words behind `why` name, and answers the status.
+pub(crate) fn print_why(rt: &HostRuntime, found: &ArgMatches<'_>) -> io::Result<u8> {
+    let choice = match choice_of(found) {
+        Ok(choice) => choice,
+        Err(text) => {
+            eprintln!(rt; "bsdplay: {text}")?;
+            return Ok(USAGE);
+        }
+    };
+    let Some(name) = found.get_str("CAPTURE") else {
+        eprintln!(rt; "bsdplay: why takes a capture")?;
+        return Ok(USAGE);
+    };
+    let file = match load(rt, name) {
+        Ok(file) => file,
+        Err(fault) => return report(rt, name, Err(fault)),
+    };
+    if let Err(fault) = Reader::open(file.as_slice()) {
+        return report(rt, name, Err(CaptureFault::Bad(fault)));
+    }
+    let Some(ours) = address_for(rt, file.as_slice(), choice)? else {
+        eprintln!(rt;
+            "bsdplay: {name}: no UDP datagram goes to a host; --addr says for whom packets are judged"
+        )?;
+        return Ok(USAGE);
+    };
+    judge_file(rt, name, file.as_slice(), choice, ours)
+}
