@@ -1,29 +1,13 @@
-//! What a line asks.
+//! A line that was read, with the plain line that it stands for.
 ghost use Rattle.std.specs.Prelude.{◌≡◌, ◌*◌, vec_len};
 ghost use Rattle.params.specs.declared.TheConstants.{IP_MAX_PACKET};
-ghost use Rattle.play_grade.specs.Asked as asked;
-ghost use Rattle.play_grade.specs.Inside.{is_asked};
 ghost use Rattle.play_script.specs.Views.{plain_of};
 
 use play_line::LONGEST;
-use play_packet::{LineReader, PACKET};
-use play_script::{Kind, Line, bytes_of, read_line, room_for};
+use play_packet::PACKET;
+use play_script::{Line, bytes_of, room_for};
 use script_loop::{Buffer, put_hex};
 use std::alloc::{AllocError, Global};
-
-/// Whether a line is a question to people, which is a comment that begins with `#?`.
-pub(crate) fn is_question(line: &[u8]) -> bool
-    ensures { result ≡ asked.is_question line.now }
-{
-    line.len() >= 2 && line[0] == b'#' && line[1] == b'?'
-}
-
-/// A line without the `#?` of a question.
-fn unmarked(line: &[u8]) -> &[u8]
-    ensures { result.now ≡ asked.unmarked line.now }
-{
-    if is_question(line) { &line[2..] } else { line }
-}
 
 /// A line that was read, and the memory for it.
 #[derive(Drop)]
@@ -47,7 +31,7 @@ impl Asked {
     }
 
     /// Puts the plain line that the line stands for in its place.
-    fn put_plain(&mut self)
+    pub(crate) fn put_plain(&mut self)
         ensures plain { self.new.plain ≡ plain_of self.old.line }
         ensures line { self.new.line ≡ self.old.line }
     {
@@ -61,21 +45,6 @@ impl Asked {
             );
         } else {
             self.plain.append(bytes_of(&self.line.words));
-        }
-    }
-
-    /// Reads a line, or what stands behind the `#?` of a question, as a line of a script is read.
-    pub(crate) fn read(&mut self, text: &[u8], reader: &mut LineReader) -> Kind
-        ensures { asked.asked_on text.now ≡ is_asked result self.new }
-    {
-        match read_line(unmarked(text), reader, &mut self.line) {
-            Kind::Asks => {
-                self.put_plain();
-                Kind::Asks
-            }
-            Kind::Nothing => Kind::Nothing,
-            Kind::TooLong => Kind::TooLong,
-            Kind::Faulty(slip) => Kind::Faulty(slip),
         }
     }
 }

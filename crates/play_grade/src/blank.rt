@@ -2,8 +2,8 @@
 ghost use Rattle.std.specs.Prelude.{◌≡◌, ◌++◌, IfOk};
 ghost use Rattle.play_grade.specs.Blanks as blanks;
 
-use crate::asked::is_question;
 use crate::marker::Marker;
+use crate::read::is_question;
 use play_script::{Kind, bytes_of};
 use std::alloc::AllocError;
 

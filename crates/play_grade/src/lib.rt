@@ -9,6 +9,7 @@ mod lack;
 mod lines;
 mod marker;
 mod marks;
+mod read;
 mod verdict;
 
 pub use lines::first_line;

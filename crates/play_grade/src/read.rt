@@ -1,0 +1,39 @@
+//! What a line asks.
+ghost use Rattle.std.specs.Prelude.{◌≡◌};
+ghost use Rattle.play_grade.specs.Asked as asked;
+ghost use Rattle.play_grade.specs.Inside.{is_asked};
+
+use crate::asked::Asked;
+use play_packet::LineReader;
+use play_script::{Kind, read_line};
+
+/// Whether a line is a question to people, which is a comment that begins with `#?`.
+pub(crate) fn is_question(line: &[u8]) -> bool
+    ensures { result ≡ asked.is_question line.now }
+{
+    line.len() >= 2 && line[0] == b'#' && line[1] == b'?'
+}
+
+/// A line without the `#?` of a question.
+fn unmarked(line: &[u8]) -> &[u8]
+    ensures { result.now ≡ asked.unmarked line.now }
+{
+    if is_question(line) { &line[2..] } else { line }
+}
+
+impl Asked {
+    /// Reads a line, or what stands behind the `#?` of a question, as a line of a script is read.
+    pub(crate) fn read(&mut self, text: &[u8], reader: &mut LineReader) -> Kind
+        ensures { asked.asked_on text.now ≡ is_asked result self.new }
+    {
+        match read_line(unmarked(text), reader, &mut self.line) {
+            Kind::Asks => {
+                self.put_plain();
+                Kind::Asks
+            }
+            Kind::Nothing => Kind::Nothing,
+            Kind::TooLong => Kind::TooLong,
+            Kind::Faulty(slip) => Kind::Faulty(slip),
+        }
+    }
+}
