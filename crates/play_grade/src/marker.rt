@@ -90,16 +90,14 @@ impl Marker {
             marks,
             left,
         } = standing;
-        let asked = bytes_of(&self.asked.plain);
+        let key = &self.asked;
+        let asked = bytes_of(&key.plain);
         let found = match left {
             Some(hand) => find(asked, hand, &mut self.reader, &mut self.given),
             None => None,
         };
         let (mark, left) = match found {
-            Some(rest) => (
-                mark_of(bytes_of(&self.asked.line.wanted), &self.given.line),
-                rest,
-            ),
+            Some(rest) => (mark_of(bytes_of(&key.line.wanted), &self.given.line), rest),
             None => (Mark::Missing, left),
         };
         Standing {
