@@ -23,7 +23,6 @@ use Rattle.segment.specs.Tallies.{hears, nothing_counted, tallied}
 use Rattle.segment.specs.declared.links.TheConstants.{FRAMES}
 use Rattle.segment.specs.declared.segment.JoinFault.{JoinFault}
 use Rattle.segment.specs.declared.segment.JoinFault.TheVariants.{TooManyHosts, AddressTaken, Unbooted, OtherLink, MacTaken, BadLink}
-use Rattle.segment.specs.declared.tally.Tally.{Tally}
 
 -- the hosts of these stacks and links, by their places
 abbrev pub hosts_of : List StackView → List LinkState → List Host

@@ -1,7 +1,7 @@
 //! Hosts of 10.0.0.0/24 on an Ethernet. The frames are as scapy writes them.
 use super::steps::Step::{Join, Open, Receive, Send, Wire};
 use super::steps::Wire::{
-    Collect, CollectFrames, Deliver, DeliverFrames, Flight, Frame, Hear, JoinEther, Lose,
+    Collect, CollectFrames, Deliver, DeliverFrames, Flight, Frame, Hear, Impair, JoinEther, Lose,
     Neighbours, Received,
 };
 use super::steps::{Step, play};
@@ -43,9 +43,9 @@ const ALL_LOST: Chances = Chances {
 };
 
 static FIRST_WAITS: [Step; 26] = [
-    Wire(JoinEther(1, 1, Ok(()))),
-    Wire(JoinEther(2, 2, Ok(()))),
-    Wire(JoinEther(3, 3, Ok(()))),
+    Wire(JoinEther(1, 0x0200, 1, Ok(()))),
+    Wire(JoinEther(2, 0x0200, 2, Ok(()))),
+    Wire(JoinEther(3, 0x0200, 3, Ok(()))),
     Open(0),
     Open(1),
     // Each says first that it has its address.
@@ -80,8 +80,8 @@ fn holds_the_first_packet_until_its_receiver_answers(rt: HostRuntime) {
 }
 
 static BY_HAND: [Step; 14] = [
-    Wire(JoinEther(1, 1, Ok(()))),
-    Wire(JoinEther(2, 2, Ok(()))),
+    Wire(JoinEther(1, 0x0200, 1, Ok(()))),
+    Wire(JoinEther(2, 0x0200, 2, Ok(()))),
     Open(1),
     Wire(Impair(0, ALL_LOST, true)),
     Wire(CollectFrames),
@@ -102,12 +102,12 @@ fn hears_a_frame_from_outside(rt: HostRuntime) {
 }
 
 static REFUSALS: [Step; 8] = [
-    Wire(JoinEther(1, 1, Ok(()))),
+    Wire(JoinEther(1, 0x0200, 1, Ok(()))),
     Join(2, 1500, 64, Err(JoinFault::OtherLink)),
-    Wire(JoinEther(1, 2, Err(JoinFault::AddressTaken))),
-    Wire(JoinEther(2, 1, Err(JoinFault::MacTaken))),
-    Wire(JoinEther(2, 0x0100_0000_0002, Err(JoinFault::BadLink))),
-    Wire(JoinEther(2, 2, Ok(()))),
+    Wire(JoinEther(1, 0x0200, 2, Err(JoinFault::AddressTaken))),
+    Wire(JoinEther(2, 0x0200, 1, Err(JoinFault::MacTaken))),
+    Wire(JoinEther(2, 0x0300, 2, Err(JoinFault::BadLink))),
+    Wire(JoinEther(2, 0x0200, 2, Ok(()))),
     // The calls for bare hosts find nothing that waits.
     Wire(Collect),
     Wire(Deliver),

@@ -51,8 +51,8 @@ pub(super) enum Wire {
     Lose(usize, bool),
     Repeat(usize, bool),
     Swap(usize, usize, bool),
-    /// The host 10.0.0.N with this hardware address joins, on an Ethernet.
-    JoinEther(u32, u64, Result<(), JoinFault>),
+    /// The host 10.0.0.N with a hardware address of these two parts joins, on an Ethernet.
+    JoinEther(u32, u16, u32, Result<(), JoinFault>),
     CollectFrames,
     DeliverFrames,
     /// Who sent the frame at this place of the wire, and its bytes.
@@ -147,13 +147,10 @@ fn join_ether(
     alloc: Global,
     segment: &mut Segment,
     number: u32,
-    mac: u64,
+    mac: Mac,
 ) -> Result<(), JoinFault> {
     let link = Link {
-        mac: Mac {
-            high: (mac >> 32) as u16 | 0x0200,
-            low: mac as u32,
-        },
+        mac,
         mask: 0xffff_ff00,
         gateway: None,
         probe: false,
@@ -181,7 +178,13 @@ fn happens(alloc: Global, segment: &mut Segment, wire: &Wire) -> bool {
     match wire {
         CollectFrames => segment.collect_frames(),
         DeliverFrames => segment.deliver_frames(),
-        JoinEther(number, mac, want) => return join_ether(alloc, segment, *number, *mac) == *want,
+        JoinEther(number, high, low, want) => {
+            let mac = Mac {
+                high: *high,
+                low: *low,
+            };
+            return join_ether(alloc, segment, *number, mac) == *want;
+        }
         Frame(at, sender, want) => return is_frame(segment, *at, *sender, want),
         Hear(place, frame, want) => return hear(segment, *place, frame) == *want,
         Neighbours(place, want) => return neighbours(segment, *place) == *want,

@@ -1,4 +1,4 @@
-use Rattle.std.proofs.Common.{◌≡◌, ◌∙◌, ◌<◌, ◌≤◌, ℕ, List, length, map, refl, sym, ap, arith}
+use Rattle.std.proofs.Common.{◌≡◌, ◌∙◌, ◌<◌, ◌≤◌, ℕ, length, map, sym, ap, arith}
 use Rattle.std.specs.Prelude.{vec_capacity}
 use Rattle.std.proofs.Math.ListN.{length-set}
 use Rattle.flat_ether.specs.Hosts.{Host}
@@ -8,7 +8,7 @@ use Rattle.segment.specs.Flying.{sent_by}
 use Rattle.segment.specs.Frames.{frames_below, frames_given, hosts_of}
 use Rattle.segment.specs.Inside.{behind, random_after, tallies_after, under_way}
 use Rattle.segment.specs.declared.links.TheConstants.{FRAMES}
-use Rattle.segment.proofs.Entering.{Entered, entered_more}
+use Rattle.segment.proofs.Entering.{entered_more}
 use Rattle.segment.proofs.Framing.{below_by, below_past, hosts_length, walked_by, walked_past}
 use Rattle.segment.proofs.Walking.{walk_ends}
 use Rattle.segment.proofs.links.collect_frames.Goals as goal

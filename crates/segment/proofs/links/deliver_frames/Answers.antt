@@ -1,4 +1,4 @@
-use Rattle.std.proofs.Common.{◌≡◌, ◌∙◌, ℕ, List, length, map, refl, sym, ap, arith}
+use Rattle.std.proofs.Common.{◌∙◌, ℕ, List, length, map, ap, arith}
 use Rattle.std.proofs.Math.ListN.{length-set}
 use Rattle.flat_ether.specs.Hosts.{Host}
 use Rattle.ether_host.specs.Inside.{seen}

@@ -1,4 +1,4 @@
-use Rattle.std.proofs.Common.{◌≡◌, ◌∙◌, ◌-◌, ◌+◌, [], ◌∷◌, ◌++◌, List, ℕ, Bool, Some, None, length, map, take, refl, sym, ap, arith, subst, cond}
+use Rattle.std.proofs.Common.{◌≡◌, ◌∙◌, ◌-◌, ◌+◌, [], ◌∷◌, ◌++◌, List, ℕ, Bool, Some, None, take, refl, sym, ap, arith}
 use Rattle.std.specs.Prelude.{if◌then◌else◌, vec_capacity}
 use Rattle.std.proofs.lemmas.List.{length-map, take_all}
 use Rattle.flat_ether.specs.Hosts.{Host}
@@ -8,7 +8,7 @@ use Rattle.segment.specs.Flying.{Flying, sent_by}
 use Rattle.segment.specs.Frames.{frames_given, gives_short}
 use Rattle.segment.specs.Inside.{behind, flying, random_after, tallies_after, under_way}
 use Rattle.segment.specs.declared.links.TheConstants.{FRAMES}
-use Rattle.segment.proofs.Entering.{Entered, entered_more, none_entered}
+use Rattle.segment.proofs.Entering.{entered_more, none_entered}
 use Rattle.segment.proofs.Framing.{given_end, given_none, sent_one, so_far_end, so_far_more}
 use Rattle.segment.proofs.links.take_frames.Goals as goal
 

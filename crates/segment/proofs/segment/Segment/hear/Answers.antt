@@ -1,4 +1,4 @@
-use Rattle.std.proofs.Common.{◌≡◌, List, true, false, ap, arith, refl}
+use Rattle.std.proofs.Common.{◌≡◌, List, true, false, ap, arith}
 use Rattle.std.specs.Prelude.{slice_set}
 use Rattle.flat_ether.specs.Links.{LinkState}
 use Rattle.ether_host.specs.Inside.{seen}
