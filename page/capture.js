@@ -104,6 +104,7 @@ function captureScript(engine, records) {
     || commonest(datagrams.map(it => it.packet.source));
   const bcast = ((addr | 255) >>> 0) === addr ? (addr - 1) >>> 0 : (addr | 255) >>> 0;
   const options = { ...DEFAULTS, addr: dotted(addr), bcast: dotted(bcast), mbufs: "4096", clusters: "512" };
+  const settings = `--addr ${options.addr} --bcast ${options.bcast} --mbufs 4096 --clusters 512`;
   const isFor = ({ packet }) => packet.isShort || [addr, bcast, 0xffffffff].includes(packet.destination);
   const taken = all.filter(isFor).slice(0, MOST_RECORDS);
   const ports = [...new Set(taken.map(it => it.packet.destinationPort).filter(port => port !== undefined && port > 0))]
@@ -111,7 +112,8 @@ function captureScript(engine, records) {
   const head = ports.flatMap((port, i) => [`# A socket for port ${port}, to which the capture has datagrams.`, "socket",
     `bind ${i + 3} 0.0.0.0 ${port}`]);
   const lines = [...head, ...takenLines(engine, configOf(options), head, taken, ports)];
-  return { text: lines.join("\n") + "\n", options, place: 2 * ports.length,
+  const note = "# The machine that most of its datagrams are for.";
+  return { text: [note, settings, ...lines, ""].join("\n"), options, place: 2 * ports.length + 1,
     counts: { taken: taken.length, all: records.length, ip: all.length } };
 }
 

@@ -21,7 +21,9 @@ class Engine {
   }
 
   static async load(bytes) {
-    return new Engine(await WebAssembly.compile(bytes));
+    const engine = new Engine(await WebAssembly.compile(bytes));
+    askMeanings(engine);
+    return engine;
   }
 
   start() {
@@ -47,13 +49,13 @@ class Engine {
     return answer;
   }
 
-  // Calls the export with a script, and a second time with more room where the replies didn't fit.
+  // Calls the export with a script, and a second time with more room where what it hands over didn't fit.
   serve(call, settings, script) {
     const text = new TextEncoder().encode(script);
     try {
       for (;;) {
         const answer = this.try(call, settings, text);
-        if (answer.replies) return answer;
+        if (answer.bytes) return answer;
         this.room = answer.length;
       }
     } catch (fault) {
@@ -72,28 +74,60 @@ class Engine {
             const code = call(about, from, BigInt(text.length), to, BigInt(room.length), length);
             const bytes = Number(new DataView(this.calls.memory.buffer).getBigUint64(Number(length), true));
             if (bytes > room.length) return { length: bytes };
-            return { code, replies: linesOf(new TextDecoder().decode(this.bytes(to, bytes))) };
+            return { code, bytes: this.bytes(to, bytes).slice() };
           }))));
   }
 
   // The outcome and the replies of a script of `bsdudp run`.
   run(config, script) {
-    const settings = new DataView(new ArrayBuffer(20));
-    [config.addr, config.bcast, config.mbufs, config.clusters].forEach((n, i) => settings.setUint32(4 * i, n, true));
-    settings.setUint16(16, config.mtu, true);
-    settings.setUint16(18, config.id, true);
-    return this.serve(this.calls.bsdudp_page_run, new Uint8Array(settings.buffer), script);
+    return withReplies(this.serve(this.calls.bsdudp_page_run, machineOf(config), script));
   }
 
-  // The same of a script of `bsdudp chain`.
+  // The outcome and the objects of a script of `bsdplay --json`, on one machine.
+  play(config, script) {
+    return withObjects(this.serve(this.calls.bsdudp_page_play, machineOf(config), script));
+  }
+
+  // The same of many machines, which the script says by itself.
+  hosts(script) {
+    const call = (_, ...more) => this.calls.bsdudp_page_hosts(...more);
+    return withObjects(this.serve(call, new Uint8Array(0), script));
+  }
+
+  // The capture of the packets that come and go by a script of one machine, as `bytes`.
+  capture(config, script) {
+    return this.serve(this.calls.bsdudp_page_capture, machineOf(config), script);
+  }
+
+  // The outcome and the replies of a script of `bsdudp chain`.
   chain(config, script) {
-    return this.serve(this.calls.bsdudp_page_chain, poolOf(config), script);
+    return withReplies(this.serve(this.calls.bsdudp_page_chain, poolOf(config), script));
   }
 
   // The mbufs of one slot's chain after a script of `bsdudp chain`, as `replies`: a line for each (crates/page).
   draw(config, slot, script) {
-    return this.serve((pool, ...more) => this.calls.bsdudp_page_draw(pool, slot, ...more), poolOf(config), script);
+    const call = (pool, ...more) => this.calls.bsdudp_page_draw(pool, slot, ...more);
+    return withReplies(this.serve(call, poolOf(config), script));
   }
+}
+
+const textOf = bytes => new TextDecoder().decode(bytes);
+const withReplies = ({ code, bytes }) => ({ code, replies: linesOf(textOf(bytes)) });
+
+// The objects of JSON, one in a line. Their texts hold a byte in each character (docs/play.md).
+function withObjects({ code, bytes }) {
+  const decoded = value => (typeof value === "string"
+    ? textOf(Uint8Array.from(value, letter => letter.charCodeAt(0))) : value);
+  return { code, objects: linesOf(textOf(bytes)).map(line => JSON.parse(line, (_, value) => decoded(value))) };
+}
+
+// A machine as the module reads it.
+function machineOf({ addr, bcast, mbufs, clusters, mtu, id }) {
+  const settings = new DataView(new ArrayBuffer(20));
+  [addr, bcast, mbufs, clusters].forEach((n, i) => settings.setUint32(4 * i, n, true));
+  settings.setUint16(16, mtu, true);
+  settings.setUint16(18, id, true);
+  return new Uint8Array(settings.buffer);
 }
 
 // The sizes of a pool as the module reads them.
@@ -109,38 +143,6 @@ function linesOf(text) {
   if (lines[lines.length - 1] === "") lines.pop();
   return lines;
 }
-
-// ---- scripts with notes
-
-// A line that begins with # is a note on the next line, and no part of the script. At the end of a note may stand what
-// the program has to reply, after "=>"; where that ends in "..", it's the beginning of the reply. "#?" begins a
-// question on the next line, to be answered before its reply is shown; "#-" a wrong answer, and "#+" the right one.
-// In a script that people wrote (`isPlay`) empty lines are none, and those that begin with "--" are options.
-function readNotes(text, isPlay = false) {
-  const all = linesOf(text), lines = [], places = [], notes = [], wanted = [], questions = [];
-  let note = [], question = null;
-  all.forEach((line, place) => {
-    const said = line.slice(2).trim();
-    if (line.startsWith("#?")) question = { text: said, answers: [] };
-    else if (question && /^#[-+]/.test(line)) question.answers.push({ text: said, isRight: line[1] === "+" });
-    else if (line.startsWith("#")) note.push(line.slice(1).trim());
-    else if (isPlay && (line.trim() === "" || line.startsWith("--"))) return;
-    else {
-      const [told, reply] = note.join(" ").split(/\s*=> /);
-      lines.push(line);
-      places.push(place);
-      notes.push(told);
-      wanted.push(reply);
-      questions.push(question);
-      [note, question] = [[], null];
-    }
-  });
-  const options = isPlay ? settingsIn(scriptOptions(all)) : {};
-  return { all, lines, places, notes, wanted, questions, options, script: lines.map(line => line + "\n").join("") };
-}
-
-const isReply = (reply, wanted) =>
-  wanted === undefined || (wanted.endsWith("..") ? reply.startsWith(wanted.slice(0, -2)) : reply === wanted);
 
 // ---- the options of the command line
 

@@ -36,7 +36,8 @@ function showScripts() {
   const group = ([label, all]) => h("optgroup", { label }, all.map(option));
   const groups = [["Lessons", LISTS.lessons], ["Exercises", LISTS.exercises],
     ["Examples: the stack", LISTS.examples.filter(it => it.mode === "run")],
-    ["Examples: mbuf chains", LISTS.examples.filter(it => it.mode === "chain")]];
+    ["Examples: mbuf chains", LISTS.examples.filter(it => it.mode === "chain")],
+    ["Examples: on a wire", LISTS.examples.filter(it => it.mode === "wire")]];
   byId("choice").replaceChildren(h("option", { value: "" }, "your own script"), ...groups.map(group));
   byId("how-many").textContent = String(LISTS.lessons.length);
 }
@@ -65,12 +66,15 @@ function openNext() {
 
 // ---- predict, then reveal
 
+// Whether it's said that what was expected came: in a lesson it always does.
+const isToldMet = step => Boolean(step.expected) && !(step.isMet && page.known && !isExercise());
+const isUnsolved = ({ expected, line }) => expected === null && !line.startsWith("--");
 const isExercise = () => Boolean(page.known) && page.known.kind === "exercises";
 
 // What is asked of a line before its reply is shown: a question of a lesson, or of an exercise each reply.
 function questionOf(i) {
   if (page.guesses.has(i)) return null;
-  if (isExercise()) return page.steps[i].expected === null ? { text: "What does it reply?", answers: null } : null;
+  if (isExercise()) return isUnsolved(page.steps[i]) ? { text: "What does it reply?", answers: null } : null;
   return page.notes.questions[i];
 }
 
@@ -130,14 +134,14 @@ const unsolved = text => linesOf(text).filter(line => !line.startsWith("##"))
   .join("\n") + "\n";
 
 function withoutReply(text) {
-  const { line, expected } = readLine(text);
-  return expected === null ? text : line;
+  const { asked, wanted } = partsOf(text);
+  return wanted === null ? text : asked;
 }
 
 // Writes what is expected behind a line, so that it's in the file that is handed in.
 function expectHere(i, guess) {
   const all = page.notes.all, place = page.notes.places[i];
-  const lines = all.map((line, k) => (k === place ? `${line.trimEnd()} => ${guess.trim()}` : line));
+  const lines = all.map((line, k) => (k === place ? `${partsOf(line).asked} => ${guess.trim()}` : line));
   byId("script").value = lines.join("\n") + "\n";
   replay(i);
   keepText();
@@ -147,12 +151,12 @@ function expectHere(i, guess) {
 // How many replies were predicted, and how many of them came.
 function showScore() {
   const all = page.steps.filter(step => step.expected);
-  const right = all.filter(step => isExpected(step.expected, step.says));
-  const isShown = isExercise() || all.length > 0;
+  const right = all.filter(step => step.isMet);
+  const isShown = isExercise() || (all.length > 0 && !page.known);
   byId("score").hidden = !isShown;
   if (!isShown) return;
   const said = `${right.length} of ${all.length} expected replies came; `
-    + `${page.steps.length - all.length} lines have none.`;
+    + `${page.steps.filter(isUnsolved).length} lines have none.`;
   byId("score").replaceChildren(said, " ", isExercise() && page.text !== unsolved(page.known.text)
     ? h("button", { type: "button", onclick: anew }, "Begin again") : "");
 }
@@ -179,7 +183,7 @@ async function openFile(file) {
   }
   const { taken, all, ip } = script.counts;
   const head = `# ${file.name}: ${taken} of its ${all} records are for ${script.options.addr}; ${ip} have IPv4.\n`;
-  open("run", { text: head + script.text, options: script.options, place: script.place });
+  open("run", { text: head + script.text, place: script.place });
 }
 
 function listenForFiles() {

@@ -18,14 +18,21 @@ function leadOf(step, note, verdicts) {
       h("span", {}, h("code", {}, step.kind === "bad" ? cut(step.line, 40) || "an empty line" : step.verb), " ",
       step.tells)),
     note && h("p", { class: "note" }, note), verdicts,
-    h("p", { class: "reply" }, h("span", {}, "reply "), h("code", {}, cut(step.says || step.reply, 160))),
-    step.expected && expectedView(step));
+    step.kind !== "bad" && h("p", { class: "reply" }, h("span", {}, "reply "),
+      h("code", {}, cut(step.says || step.reply, 160))),
+    step.below.length > 0 && belowView(step.below), isToldMet(step) && expectedView(step));
 }
 
+// The lines that the program prints below the reply.
+const belowView = lines => h("ul", { class: "below", "aria-label": "below it" },
+  lines.slice(0, MOST_BELOW).map(line => h("li", {}, h("code", {}, cut(line, 160)))),
+  lines.length > MOST_BELOW && h("li", { class: "faint" }, `and ${lines.length - MOST_BELOW} more`));
+const MOST_BELOW = 30;
+
 // What was expected of a line, and whether it came.
-const expectedView = step => (isExpected(step.expected, step.says)
-  ? verdict("yes", "As you expected.")
-  : verdict("no", "You expected ", h("code", {}, step.expected), "."));
+const expectedView = step => (step.isMet
+  ? verdict("yes", "As expected.")
+  : verdict("no", "Expected was ", h("code", {}, step.expected), "."));
 
 // ---- where the bytes lie
 
@@ -74,24 +81,31 @@ function memoryView(before, after, title = "The mbufs after this line") {
 function verdictsOf(step, before, now) {
   const all = [], grown = grownIn(before, now), sent = now.output.length - before.output.length;
   if (step.error) all.push(verdict("no", h("b", {}, `Refused, ${step.error}`), `: ${step.why}.`));
-  if (step.kind === "bad") all.push(verdict("no", "A line of no form is answered “? line”, and changes nothing."));
+  if (step.kind === "bad") all.push(faultVerdict(step));
   if (grown.length) all.push(verdict("yes",
     `Delivered: it waits in the receive queue of ${grown.map(it => `socket ${it.fd}`).join(" and ")}.`));
   if (step.kind === "send" && sent > 0) {
     const how = has(step, "ip.fragmented") ? ": the datagram was cut into fragments" : "";
     all.push(verdict("yes", `${plural(sent, "packet")} went to the output queue${how}.`));
   }
-  if (step.kind === "in" && !grown.length && !step.drops.some(it => ENDS.has(it.name))) {
+  if (step.packet && step.kind === "in" && !grown.length && !step.drops.some(it => ENDS.has(it.name))) {
     all.push(verdict("wait", step.packet.isFragment ? "It waits: the datagram isn't whole yet." : "It was taken."));
   }
   for (const it of step.drops) {
-    all.push(verdict("no", h("b", {}, it.by > 1 ? `${it.by} dropped` : "Dropped"), `: ${COUNTERS[it.name]} (`,
+    all.push(verdict("no", h("b", {}, it.by > 1 ? `${it.by} dropped` : "Dropped"), `: ${causeIn(step, it.name)} (`,
       h("code", {}, it.name), `)${bothSums(step, it.name)}.`));
   }
   if (step.data) all.push(verdict("yes", "Read: ",
     h("code", {}, step.data.length ? readable(step.data, 60) : "no bytes")));
   return all;
 }
+
+// Why something was dropped: the program's cause, or else what the counter counts.
+const causeIn = ({ causes }, name) => (causes && causes.get(name)) || COUNTERS[name];
+
+// What is wrong with a line that did nothing.
+const faultVerdict = step => verdict("no", h("b", {}, "It does nothing: "),
+  step.column ? `column ${step.column}, ` : "", `${step.why}.`);
 
 // Of a wrong checksum: what came, and what would be right.
 function bothSums({ packet, wrongSum }, name) {
@@ -154,7 +168,7 @@ function outputView(output, before) {
 }
 
 // The pieces of an unfinished datagram in their order, on a scale that all of them share.
-function piecesView([key, { pieces, end }], most) {
+function piecesView({ key, pieces, end }, most) {
   const whole = end || Math.max(...pieces.map(it => it.to)), sorted = [...pieces].sort((a, b) => a.from - b.from);
   const bars = sorted.map(it =>
     h("i", { style: `left: ${(100 * it.from) / whole}%; width: ${(100 * (it.to - it.from)) / whole}%` }));
@@ -165,10 +179,10 @@ function piecesView([key, { pieces, end }], most) {
     h("small", {}, `bytes ${told} came; ${end ? `it has ${end}` : "its end isn't known yet"}`));
 }
 
-function unfinishedView(held, steps) {
-  const pieces = [...piecesAfter(steps)], end = held.unfinished.ends[0];
-  const most = Math.max(...pieces.map(([, it]) => it.end || Math.max(...it.pieces.map(piece => piece.to))));
-  const until = end && `, dropped in ${plural(end.tick, "tick")} unless whole by then`;
+function unfinishedView(held) {
+  const { pieces } = held.unfinished, least = Math.min(...pieces.map(it => it.ticks));
+  const most = Math.max(...pieces.map(it => it.end || Math.max(...it.pieces.map(piece => piece.to))));
+  const until = pieces.length > 0 && `, dropped in ${plural(least, "tick")} unless whole by then`;
   return h("div", { class: "holder" }, h("b", {}, "unfinished datagrams"), " ",
     h("span", { class: "faint" }, `${plural(held.unfinished.mbufs, "mbuf")}${until || ""}`),
     pieces.slice(0, 6).map(it => piecesView(it, most)),
@@ -185,7 +199,7 @@ function ownersOf(held, name, used) {
   return [...parts, { name: "shared between owners", kind: "shared", count: rest }];
 }
 
-function machineView({ pool }, steps, before, now, title = "The machine after this line") {
+function machineView({ pool }, before, now, title = "The machine after this line") {
   const mbufs = ownersOf(now, "mbufs", pool.used),
     clusters = ownersOf(now, "clusters", pool.usedClusters);
   const legend = [...mbufs.filter((it, i) => i < 3 || it.count + clusters[i].count), { name: "free", kind: "free" }];
@@ -194,7 +208,7 @@ function machineView({ pool }, steps, before, now, title = "The machine after th
     h("p", { class: "legend" }, legend.map(it => h("span", { class: `of-${it.kind}` }, it.name))),
     pool.most > 1 && h("p", { class: "faint" }, `The most shared cluster is counted ${pool.most}.`),
     now.sockets.map(socket => socketView(socket, before)),
-    now.output.length > 0 && outputView(now.output, before), now.unfinished.mbufs > 0 && unfinishedView(now, steps));
+    now.output.length > 0 && outputView(now.output, before), now.unfinished.mbufs > 0 && unfinishedView(now));
 }
 
 function countersView(step, name = "counters") {
@@ -210,7 +224,7 @@ function countersView(step, name = "counters") {
 // The packet of a line with its checks, or the first packets that it put into the output queue.
 function packetsOfLine(step, before, now) {
   const about = [];
-  if (step.kind === "in") about.push(panel("The checks, in their order", checksOf(step)));
+  if (step.packet && step.kind === "in") about.push(panel("The checks, in their order", checksOf(step)));
   if (step.packet) about.push(panel(null,
     packetView(step.packet, step.kind === "in" ? "From the wire" : "To the wire")));
   const sent = step.kind === "send" ? now.output.slice(before.output.length) : [];
@@ -223,16 +237,18 @@ function packetsOfLine(step, before, now) {
 function stackView(page, step) {
   const now = page.heldAfter(step.number), before = page.heldAfter(step.number - 1);
   const memory = memoryView(page.memoryAfter(step.number - 1), page.memoryAfter(step.number));
-  const ran = page.own[page.ranAfter(step.number) - 1];
+  const ran = page.own[page.ranAfter(step.number) - 1], { addr, mtu } = page.options;
   // of a datagram of fragments it's known by now which checksum would be right
-  if (step.kind === "in" && ran.wrongSum) step.wrongSum = ran.wrongSum;
-  const about = packetsOfLine(step, before, now), own = page.own.slice(0, page.ranAfter(step.number));
-  const state = [machineView(step, own, before, now), countersView(step)];
+  if (step.packet && step.kind === "in" && ran.wrongSum) step.wrongSum = ran.wrongSum;
+  const about = packetsOfLine(step, before, now);
+  const title = ["The machine after this line ", h("span", { class: "faint" }, `${addr}, MTU ${mtu}`)];
+  const state = [machineView(step, before, now, title), countersView(step)];
   const lead = leadOf(step, page.noteOf(step), verdictsOf(step, before, now));
   const packets = about.length > 0 && h("div", { class: "column" }, about);
   const machine = h("div", { class: "column" }, state);
   // of a packet that was dropped the checks say most
-  return step.kind === "in" && step.drops.length ? [lead, packets, machine, memory] : [lead, memory, packets, machine];
+  const isDropped = step.packet && step.kind === "in" && step.drops.length > 0;
+  return isDropped ? [lead, packets, machine, memory] : [lead, memory, packets, machine];
 }
 
 // ---- chains

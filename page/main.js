@@ -5,6 +5,7 @@ const byId = id => document.getElementById(id);
 
 const page = {
   mode: "run",
+  // the sizes of a pool of chains, or the settings of a machine
   options: { ...DEFAULTS },
   steps: [],
   at: 0,
@@ -23,14 +24,13 @@ const page = {
   // what is held after so many lines
   heldAfter(n) {
     const own = this.own.slice(0, this.ranAfter(n));
-    if (!this.held.has(n)) this.held.set(n, new Held(this.engine, this.config, own.map(it => it.line), own));
+    if (!this.held.has(n)) this.held.set(n, new Held(this.engine, this.config, own.map(it => it.line)));
     return this.held.get(n);
   },
   // what is held by one of several machines after so many lines of its own
   heldOf(host, n) {
     const key = `${host.name} ${n}`;
-    if (!this.held.has(key)) this.held.set(key,
-      new Held(this.engine, host.config, host.lines.slice(0, n), host.steps.slice(0, n)));
+    if (!this.held.has(key)) this.held.set(key, new Held(this.engine, host.config, host.lines.slice(0, n)));
     return this.held.get(key);
   },
   memory(name, config, steps) {
@@ -49,7 +49,8 @@ const page = {
     if (this.drawn.size > 16) this.drawn.clear();
     if (!this.drawn.has(n)) {
       const slots = n ? [...this.steps[n - 1].chains.keys()] : [];
-      this.drawn.set(n, drawnChains(this.engine, this.config, this.notes.lines.slice(0, n), slots));
+      this.drawn.set(n, drawnChains(this.engine, this.config,
+        this.steps.slice(0, n).map(it => it.line), slots));
     }
     return this.drawn.get(n);
   },
@@ -68,9 +69,9 @@ const page = {
 
 // What a script of each kind is played by, and what shows a line of it.
 const PLAYS = {
-  run: { trace: tracePlay, view: stackView },
-  chain: { trace: traceChains, view: chainView },
-  wire: { trace: (engine, _, lines) => traceWire(engine, lines), view: wireView },
+  run: { trace: ({ engine, text }) => tracePlay(engine, text), view: stackView },
+  chain: { trace: ({ engine, config, notes }) => playChains(engine, config, notes.lines), view: chainView },
+  wire: { trace: ({ engine, text }) => traceHosts(engine, text), view: wireView },
 };
 
 // ---- what is shown
@@ -79,7 +80,7 @@ const badgesOf = step => step.changed.map(({ host, name, by, isLost }) =>
   h("span", { class: DROPS.has(name) || isLost ? "badge drop" : "badge" }, `${host ? `${host} ` : ""}+${by} ${name}`));
 
 // Whether what was expected of a line came.
-const markOf = step => step.expected && (isExpected(step.expected, step.says)
+const markOf = step => isToldMet(step) && (step.isMet
   ? h("span", { class: "badge came" }, "✓ expected")
   : h("span", { class: "badge drop" }, "✗ expected ", step.expected));
 
@@ -114,7 +115,7 @@ function refreshRows() {
 // What a screen reader says of a line: its place in the script, what became of it, and its note.
 function spoken(step) {
   const refusal = step.isOk ? "" : ` Refused: ${step.error || step.why || step.reply}.`;
-  const drops = step.drops.map(it => ` Dropped: ${COUNTERS[it.name]}${bothSums(step, it.name)}.`).join("");
+  const drops = step.drops.map(it => ` Dropped: ${causeIn(step, it.name)}${bothSums(step, it.name)}.`).join("");
   return `line ${page.notes.places[step.number - 1] + 1}: ${step.verb} ${step.tells}.${refusal}${drops} `
     + `${page.noteOf(step) || ""}`;
 }
@@ -150,29 +151,32 @@ function showRow() {
   if (top < list.scrollTop || top + row.offsetHeight > list.scrollTop + list.clientHeight) list.scrollTop = top - 60;
 }
 
-// Whether a script is one of `bsdudp run` as it stands, and not one that people wrote.
-const isPlainScript = () => page.mode !== "run" || (Boolean(page.known) && page.known.kind !== "exercises")
-  || page.isPlain;
+// The tab of a script: one of many machines begins with a line `host`.
+function showTab() {
+  const isEmpty = !readNotes(page.text).lines.length;
+  if (page.mode !== "chain" && !isEmpty) page.mode = hasHosts(page.text) ? "wire" : "run";
+  document.body.dataset.mode = page.mode;
+  for (const tab of document.querySelectorAll("[data-tab]")) tab.setAttribute("aria-pressed",
+    String(tab.dataset.tab === page.mode));
+}
 
 // Plays the script anew, after any change of it.
 function replay(place) {
   page.text = byId("script").value;
-  page.notes = readNotes(page.text, !isPlainScript());
-  page.config = configOf({ ...page.options, ...page.notes.options });
+  showTab();
+  page.notes = readNotes(page.text);
+  page.config = configOf(page.options);
   page.held.clear();
   page.drawn.clear();
   page.memories.clear();
   page.chains = [];
-  const { code, steps, hosts, own, ends } = page.config.wrong ? { code: 0, steps: [] }
-    : PLAYS[page.mode].trace(page.engine, page.config, page.notes.lines, isPlainScript());
-  Object.assign(page, { steps, hosts, own, ends });
+  const { code, ...traced } = page.config.wrong ? { code: 0, steps: [] } : PLAYS[page.mode].trace(page);
+  Object.assign(page, { hosts: null, own: null, ends: null }, traced);
   byId("trouble").textContent = page.config.wrong ? `--${page.config.wrong}: no number in its range` : FAULTS[code];
   byId("gutter").replaceChildren(...page.notes.all.map((line, i) =>
-    h("span", { class: line.startsWith("#") ? "note-line" : null }, String(i + 1))));
-  byId("command").textContent = hosts
-    ? [...hosts.values()].map(it => `${it.name}: bsdudp run${optionWords(it.options)}`).join("\n")
-    : isPlainScript() ? `bsdudp ${page.mode}${optionWords(page.options)} < script.txt`
-      : `bsdplay${optionWords(page.options)} script.txt`;
+    h("span", { class: line.trim().startsWith("#") ? "note-line" : null }, String(i + 1))));
+  byId("command").textContent = page.mode === "chain" ? `bsdudp chain${optionWords(page.options)}`
+    : "bsdplay script.txt";
   for (const part of ["look", "curve"]) byId(part).replaceChildren();
   refreshRows();
   showScore();
@@ -180,9 +184,8 @@ function replay(place) {
   select(place);
 }
 
-// The options that stand beside the script; machines on a wire have theirs in the script.
-const USED = { run: Object.keys(DEFAULTS), chain: ["mbufs", "clusters"], wire: [] };
-const usedOptions = () => USED[page.mode];
+// The options that stand beside the script; machines have theirs in it.
+const usedOptions = () => (page.mode === "chain" ? ["mbufs", "clusters"] : []);
 const optionWords = options => Object.keys(DEFAULTS).filter(name => options[name] !== DEFAULTS[name])
   .map(name => ` --${name} ${options[name]}`).join("");
 
@@ -193,35 +196,29 @@ function showOptions() {
     page.options[name] = event.target.value;
     later();
   } });
-  byId("options").replaceChildren(...usedOptions()
-    .map(name =>
-    h("label", { class: name === "addr" || name === "bcast" ? "long" : null }, `--${name} `, inputOf(name))));
+  byId("options").replaceChildren(...usedOptions().map(name => h("label", {}, `--${name} `, inputOf(name))));
 }
 
 function showMachine() {
-  const { addr, mtu, mbufs, clusters } = { ...page.options, ...page.notes.options };
+  const { mbufs, clusters } = page.options;
   byId("machine").hidden = !usedOptions().length;
-  byId("machine-says").textContent = `${page.mode === "run" ? `The machine: ${addr}, MTU ${mtu}, ` : "The pool: "}`
-    + `${mbufs} mbufs, ${clusters} clusters`;
+  byId("machine-says").textContent = `The pool: ${mbufs} mbufs, ${clusters} clusters`;
 }
 
 // ---- what is chosen
 
-// Opens a script: one of the page's own by its name, or a text. `isPlain`: as it stands, for `bsdudp run`.
-function open(mode, { name = "", text = "", options = DEFAULTS, place = 0, isPlain = false }) {
+// Opens a script: one of the page's own by its name, or a text.
+function open(mode, { name = "", text = "", options = DEFAULTS, place = 0 }) {
   const known = scriptNamed(mode, name) || null;
-  Object.assign(page, { mode, known, isPlain, guesses: new Map(), drawsAll: false,
+  Object.assign(page, { mode, known, guesses: new Map(), drawsAll: false,
     options: known ? optionsOf(known.words) : { ...DEFAULTS, ...options } });
   const own = known && (known.kind === "exercises" ? kept(`text.${known.name}`) || unsolved(known.text) : known.text);
   byId("script").value = known ? own : text;
   byId("script").scrollTop = 0;
-  document.body.dataset.mode = mode;
-  for (const tab of document.querySelectorAll("[data-tab]")) tab.setAttribute("aria-pressed",
-    String(tab.dataset.tab === mode));
   showLeft(known || text ? "read" : "edit");
-  showOptions();
   showTitle();
   replay(place);
+  showOptions();
   keepText();
 }
 
@@ -296,13 +293,11 @@ function putPacket() {
     byId(`packet-${fault[0]}`).focus();
     return;
   }
-  const bytes = makePacket({
-    source: addressIn(value("source")), sourcePort: +value("source-port"),
-    destination: addressIn(value("destination")), destinationPort: +value("destination-port"), id: +value("id"),
-    data: new TextEncoder().encode(byId("packet-data").value), fault: value("fault"),
-  });
+  const line = packetLine(page.engine, { source: value("source"), sourcePort: value("source-port"),
+    destination: value("destination"), destinationPort: value("destination-port"), id: value("id"),
+    text: byId("packet-data").value, fault: value("fault") });
   byId("maker").close();
-  putLine("rx " + hexOf(bytes));
+  putLine(line);
 }
 
 // Puts a line behind the one that is looked at. The keyboard goes to an element of the new view, if one is named.
@@ -324,8 +319,7 @@ function putLine(line, focus) {
 function link() {
   const changed = usedOptions().filter(name => page.options[name] !== DEFAULTS[name])
     .map(name => [name, page.options[name]]);
-  const plain = page.mode === "run" && isPlainScript() ? [["plain", "1"]] : [];
-  const asked = new URLSearchParams([["mode", page.mode], ...changed, ...plain, ["line", page.at + 1],
+  const asked = new URLSearchParams([["mode", page.mode], ...changed, ["line", page.at + 1],
     ["script", byId("script").value]]);
   history.replaceState(null, "", `#${asked}`);
   if (navigator.clipboard) navigator.clipboard.writeText(location.href).catch(() => {});
@@ -340,7 +334,7 @@ function openLink() {
   const place = Math.max(0, (+asked.get("line") || 1) - 1);
   if (asked.has("script")) {
     const options = Object.fromEntries([...asked].filter(([name]) => name in DEFAULTS));
-    open(mode, { text: asked.get("script"), options, place, isPlain: asked.has("plain") });
+    open(mode, { text: asked.get("script"), options, place });
   } else if (asked.has("name")) open(mode, { name: asked.get("name"), place });
   else openLast();
 }

@@ -146,7 +146,9 @@ class Memory {
 
   restart(n) {
     this.empty();
-    for (const fd of openAfter(this.steps.slice(0, n)).keys()) this.sockets.set(fd, []);
+    const lines = this.steps.slice(0, n).map(it => it.line), [shown] = shownAfter(this.engine, this.config, lines,
+      ["sockets"]);
+    for (const { fd } of shown.map(socketIn)) this.sockets.set(fd, []);
   }
 
   try(step) {

@@ -166,29 +166,16 @@ class Packet {
 
 const put16 = (to, at, n) => to.set([(n >> 8) & 255, n & 255], at);
 
-// A packet that carries these bytes, with a right header. `flags` are the three of the header, `offset` counts units of
-// eight bytes.
-function headed({ source, destination, id, ttl = 64, flags = 0, offset = 0 }, carried) {
-  const bytes = new Uint8Array(20 + carried.length);
-  bytes[0] = 0x45;
-  [bytes.length, id, (flags << 13) | offset].forEach((n, i) => put16(bytes, 2 + 2 * i, n));
-  bytes[8] = ttl;
-  bytes[9] = 17;
-  const ends = [source >>> 16, source & 65535, destination >>> 16, destination & 65535];
-  ends.forEach((n, i) => put16(bytes, 12 + 2 * i, n));
-  put16(bytes, 10, rightSum(bytes.subarray(0, 20), 10));
-  bytes.set(carried, 20);
-  return bytes;
-}
-
-// A packet with right lengths and checksums, but for the fault that is chosen.
-function makePacket({ source, sourcePort, destination, destinationPort, id, data, fault }) {
-  const udp = datagramOf({ ip: source, port: sourcePort }, { ip: destination, port: destinationPort }, data, {});
-  if (fault === "udp sum") udp[6] ^= 0x55;
-  const bytes = headed({ source, destination, id }, udp);
+// The line by which a packet comes that is right but for a fault: by name, or by its bytes, if its fault has no name.
+function packetLine(engine, { source, sourcePort, destination, destinationPort, id, text, fault }) {
+  const data = text ? `"${text.replace(/["\\]/g, "\\$&")}"` : "-", ends = [`${source}:${sourcePort}`];
+  const names = { "ip sum": " badsum", "udp sum": " badudp" };
+  ends.push(`${destination}:${destinationPort}`);
+  const line = `rx udp ${ends.join(" > ")} ${data} id ${id}${names[fault] || ""}`;
+  if (!fault || names[fault]) return line;
+  const bytes = packetsIn(engine, DEFAULT_CONFIG, line + "\n").get(1);
   if (fault === "version") bytes[0] = 0x65;
   if (fault === "protocol") bytes[9] = 6;
-  if (fault === "version" || fault === "protocol") put16(bytes, 10, rightSum(bytes.subarray(0, 20), 10));
-  if (fault === "ip sum") bytes[10] ^= 0x55;
-  return fault === "short" ? bytes.subarray(0, -1) : bytes;
+  put16(bytes, 10, rightSum(bytes.subarray(0, 20), 10));
+  return `rx ${hexOf(fault === "short" ? bytes.subarray(0, -1) : bytes)}`;
 }

@@ -1,36 +1,17 @@
 "use strict";
-// What the page asks the machine of a script of socket calls. All that it shows of a state it has from replies: the
-// machine is asked again with more lines, on a run that is thrown away.
+// What the page asks a machine. All that it shows of a state it has from the program: the machine is asked again with
+// more lines, on a run that is thrown away.
 
-// What each counter says of a packet or a datagram, in the order of `stat`.
-const COUNTERS = {
-  "ip.total": "packets that reached the input of IP",
-  "ip.toosmall": "fewer than 20 bytes: no whole IP header",
-  "ip.badvers": "the version isn't 4",
-  "ip.badhlen": "the header length is below 5 words",
-  "ip.options": "the header has options, which this stack doesn't read",
-  "ip.badsum": "the header checksum is wrong",
-  "ip.badlen": "the total length is below 20",
-  "ip.tooshort": "fewer bytes came than the total length says",
-  "ip.cantforward": "it isn't addressed to this machine, which forwards nothing",
-  "ip.badfrag": "a fragment of a size or at an offset that none can have",
-  "ip.fragments": "fragments that passed the test of their size",
-  "ip.fragdropped": "all bytes of the fragment are held already",
-  "ip.fragtimeout": "an unfinished datagram had no tick left",
-  "ip.reclaimed": "an unfinished datagram was dropped, since its buffers were wanted",
-  "ip.reassembled": "datagrams made whole from fragments",
-  "ip.noproto": "another protocol than UDP",
-  "udp.hdrops": "fewer than 8 bytes: no whole UDP header",
-  "udp.badlen": "the UDP length is below 8, or above what the packet carries",
-  "udp.badsum": "the UDP checksum is wrong",
-  "udp.noport": "no socket hears this port for this sender",
-  "udp.noportbcast": "a broadcast, and no socket hears this port",
-  "udp.fullsock": "the socket's receive queue is full",
-  "ip.localout": "sends that were given to the output of IP",
-  "ip.fragmented": "sends that were cut into fragments",
-  "out.dropped": "the output queue holds 50 packets: not all of this send fitted",
-  nobufs: "no buffer was free",
-};
+// What each counter counts, in the order of `stat`: the program's own words for it.
+const COUNTERS = {};
+
+function askMeanings(engine) {
+  const [{ below }] = engine.play(DEFAULT_CONFIG, "show counters\n").objects;
+  for (const line of linesOf(below)) {
+    const [, name, what] = /^ *(\S+) \d+: (.*)$/.exec(line);
+    COUNTERS[name] = what;
+  }
+}
 
 // The checks of a packet that arrives, in their order, each with the counter that counts its failure
 // (docs/behaviour.md).
@@ -167,40 +148,17 @@ function refusalIn(reply) {
 
 // ---- what is held
 
-// Which descriptors are open after these steps, by what was answered.
-function openAfter(steps) {
-  const open = new Map();
-  for (const step of steps) {
-    const [verb, fd, ...words] = step.line.split(" ");
-    if (step.kind === "bad") continue;
-    if (verb === "socket" && step.isOk) open.set(+step.reply.slice(3), { local: null, peer: null, options: [] });
-    const socket = open.get(+fd);
-    if (socket) changeSocket(open, +fd, socket, verb, words, step);
-  }
-  return open;
-}
-
-function changeSocket(open, fd, socket, verb, words, step) {
-  if (verb === "connect") socket.peer = step.isOk ? at(words[0], words[1]) : null;
-  if (!step.isOk) return;
-  // a port that the machine chose is told by no reply; it's seen in the packets alone
-  if (["connect", "send", "sendto"].includes(verb)) socket.local = socket.local || "a port of the machine's choice";
-  if (verb === "bind") socket.local = `${words[0] === "0.0.0.0" ? "*" : words[0]}, ${portName(words[1])}`;
-  if (verb === "setsockopt") {
-    socket.options = socket.options.filter(it => it !== words[0]).concat(words[1] === "1" ? [words[0]] : []);
-  }
-  if (verb === "close") open.delete(fd);
-}
-
-// What is held after so many lines: the same script once more, on a machine that is thrown away, whose queues are
-// emptied then. What each datagram gives back to the pool is what it held.
+// What is held after so many lines: the same script once more, on a machine that is thrown away. The program shows its
+// sockets and unfinished datagrams. Then its queues are emptied, and what each datagram gives back to the pool is what
+// it held.
 class Held {
-  constructor(engine, config, lines, steps) {
+  constructor(engine, config, lines) {
     this.ask = more => engine.run(config, [...lines, ...more, ""].join("\n")).replies.slice(lines.length);
-    const open = openAfter(steps);
+    const [sockets, unfinished] = shownAfter(engine, config, lines, ["sockets", "unfinished"]);
     this.output = this.queueBy("tx", 51, reply => reply === "none" ? null : packetIn(reply));
-    this.sockets = [...open].map(([fd, socket]) => ({ fd, ...socket, queue: this.received(fd) }));
-    this.unfinished = this.leftBy([...open.keys()].map(fd => `close ${fd}`));
+    this.sockets = sockets.map(socketIn).map(socket => ({ ...socket, queue: this.received(socket.fd) }));
+    this.unfinished = { ...this.leftBy(sockets.map(it => `close ${socketIn(it).fd}`)),
+      pieces: unfinished.map(piecesIn).filter(Boolean) };
     this.total = name => this.sockets.reduce((n, socket) => n + sumOf(socket.queue, name), 0);
   }
 
@@ -229,47 +187,39 @@ class Held {
     }
   }
 
-  // What is left once all else is gone belongs to unfinished datagrams; and after how many ticks they're dropped.
+  // What is left once all else is gone belongs to unfinished datagrams.
   leftBy(closing) {
-    const more = [...closing, ...Array(50).fill("tx"), "mbstat", "stat"];
-    for (let i = 0; i < 60; i++) more.push("tick", "stat");
-    const replies = this.ask(more).slice(closing.length + 50);
-    const pool = usageIn(replies[0]), ends = [];
-    let before = countersIn(replies[1])["ip.fragtimeout"] || 0;
-    for (let tick = 1; tick <= 60; tick++) {
-      const now = countersIn(replies[1 + 2 * tick])["ip.fragtimeout"] || 0;
-      if (now > before) ends.push({ tick, datagrams: now - before });
-      before = now;
-    }
-    return { mbufs: pool.used, clusters: pool.usedClusters, ends };
+    const pool = usageIn(this.ask([...closing, ...Array(50).fill("tx"), "mbstat"]).pop());
+    return { mbufs: pool.used, clusters: pool.usedClusters };
   }
+}
+
+// The lines below each of these topics, after a script.
+function shownAfter(engine, config, lines, topics) {
+  const { objects } = engine.play(config, [...lines, ...topics.map(it => `show ${it}`), ""].join("\n"));
+  return objects.slice(-topics.length).map(it => linesOf(it.below).map(line => line.trim()));
+}
+
+// A socket, by the program's line of it.
+function socketIn(text) {
+  const [, fd, about] = /^socket (\d+): ([^;]*);/.exec(text), [local, ...others] = about.split(", ");
+  const name = local.replace("local ", ""), peer = others.find(it => it.startsWith("peer "));
+  return { fd: +fd, local: name === "*:*" ? null : name, peer: peer ? peer.replace("peer ", "") : null,
+    options: others.filter(it => it !== peer) };
+}
+
+// The pieces that came of an unfinished datagram, by the program's line of it.
+function piecesIn(text) {
+  const [, id, source, destination, ticks, rest]
+    = /^datagram (\d+) of udp (\S+) > (\S+): (\d+) ticks? left, \d+ bytes? held; (.*)$/.exec(text) || [];
+  if (!rest) return null;
+  const pieces = [...rest.matchAll(/(\d+) to (\d+)/g)].map(([, from, to]) => ({ from: +from, to: +to + 1 }));
+  const end = rest.endsWith("the end") ? pieces[pieces.length - 1].to : null;
+  return { key: `${source} → ${destination}, identification ${id}`, ticks: +ticks, pieces, end };
 }
 
 const packetIn = reply => ({ packet: new Packet(bytesOf(reply.slice("packet ".length))) });
 const sumOf = (queue, name) => queue.reduce((n, it) => n + it[name], 0);
-
-// The pieces of unfinished datagrams, as the packets of these steps tell them. The page reads them itself.
-function piecesAfter(steps) {
-  const all = new Map();
-  for (const step of steps) {
-    const gone = step.changed.filter(it => it.name === "ip.reclaimed" || it.name === "ip.fragtimeout");
-    [...all.keys()].slice(0, sumOf(gone, "by")).forEach(key => all.delete(key));
-    const packet = step.packet;
-    if (step.kind !== "in" || !packet.isFragment) continue;
-    const key = `${dotted(packet.source)} → ${dotted(packet.destination)}, identification ${packet.id}`;
-    if (has(step, "ip.reassembled")) all.delete(key);
-    else if (has(step, "ip.fragments") && !step.drops.some(it => ENDS.has(it.name))) addPiece(all, key, packet, step);
-  }
-  return all;
-}
-
-function addPiece(all, key, packet, step) {
-  const it = all.get(key) || { pieces: [], end: null };
-  const end = packet.offset + packet.carried.length;
-  it.pieces.push({ from: packet.offset, to: end, line: step.number });
-  if (!packet.hasMore) it.end = end;
-  all.set(key, it);
-}
 
 // Sockets in whose queue more waits than before.
 function grownIn(before, now) {

@@ -5,9 +5,9 @@
 function fateOf({ fate, to, place }, hosts) {
   if (fate === "dropped") return ["no", "It's lost by this line."];
   if (fate === "nobody") return ["no", "No other machine on the wire has this address."];
-  if (fate === "lost") return ["no", "It's lost: the wire is cut between them."];
+  if (fate === "lost") return ["no", "It's lost on the wire."];
   const step = hosts.get(to).steps[place], end = step.drops.find(it => ENDS.has(it.name));
-  if (end) return ["no", `${to} drops it: ${COUNTERS[end.name]} (${end.name}).`];
+  if (end) return ["no", `${to} drops it, counted in ${end.name}: ${COUNTERS[end.name]}.`];
   if (has(step, "ip.reassembled")) return ["yes", `${to} has all fragments now: the datagram is whole.`];
   if (step.packet.isFragment) return ["wait", `${to} keeps it: the datagram isn't whole yet.`];
   return ["yes", `${to} takes it.`];
@@ -28,31 +28,32 @@ function movedView(step, hosts) {
 }
 
 function flightView({ flight }) {
-  const tell = ({ from, packet }, i) =>
-    h("li", {}, h("span", { class: "badge" }, String(i + 1)), " ", h("b", {}, `${from.name} ⟶`), " ", packet.tells);
+  const tell = ({ from, packet, wait }, i) =>
+    h("li", {}, h("span", { class: "badge" }, String(i)), " ", h("b", {}, `${from} ⟶`), " ", packet.tells,
+      wait > 0 && h("span", { class: "faint" }, `, due after ${wait} more`));
   const more = flight.length - SHOWN.told;
   return flight.length > 0 && [h("h4", {}, "On the wire"),
-    h("ol", { class: "flight", "aria-label": "packets on the wire, by their numbers" },
+    h("ol", { class: "flight", "aria-label": "packets on the wire, by their places" },
       flight.slice(0, SHOWN.told).map(tell), more > 0 && h("li", { class: "faint" }, `and ${more} more`))];
 }
 
-// The wire with a box for each machine on it, and crosses at its cuts.
-function segmentView({ joined, isCut, cutAt }) {
+// The wire with a box for each machine on it, and what it does by chance.
+function segmentView({ joined, chances }) {
   if (!joined.length) return h("p", { class: "faint" }, "No wire joins the machines yet.");
-  const box = host => h("li", { class: cutAt.includes(host.name) ? "cut" : null }, h("b", {}, host.name),
-    h("small", {}, host.options.addr), cutAt.includes(host.name) && h("span", { class: "cross" }, "✗ cut"));
-  const kind = isCut ? "segment cut" : "segment";
-  return [h("ol", { class: kind, "aria-label": "the machines on the wire" }, joined.map(box)),
-    isCut && h("p", { class: "cross" }, "✗ The wire is cut.")];
+  const box = host => h("li", {}, h("b", {}, host.name), h("small", {}, host.options.addr));
+  return [h("ol", { class: chances.length ? "segment cut" : "segment", "aria-label": "the machines on the wire" },
+    joined.map(box)), chances.length > 0 && h("p", { class: "cross" }, `By chance: ${chances.join("; ")}.`)];
 }
 
 // Lines that are put behind this one.
-function putButtons({ joined, isCut }) {
+function putButtons({ joined, chances }) {
   const button = (line, name) =>
-    h("button", { type: "button", id: `put-${line}`, onclick: () => putLine(line, `put-${line}`) }, name);
+    h("button", { type: "button", id: `put-${line.split(" ")[0]}`, onclick() {
+      putLine(line, this.id);
+    } }, name);
   return joined.length > 0 && h("div", { class: "puts", role: "group", "aria-label": "lines to put behind this one" },
-    button("carry", "Carry"), button("tick", "Tick"),
-    isCut ? button("mend", "Mend the wire") : button("cut", "Cut the wire"));
+    button("carry", "Carry"), button("tick", "Tick"), chances.some(it => it.startsWith("loss"))
+      ? button("loss 0%", "Lose none") : button("loss 100%", "Lose all"));
 }
 
 const wireOf = (step, hosts) => h("section", { class: "panel wire" },
@@ -64,14 +65,18 @@ const heldAround = (page, step, host) =>
   [step.was.get(host.name) || 0, step.now.get(host.name)].map(n => page.heldOf(host, n));
 
 function hostView(page, step, host) {
-  const n = step.now.get(host.name), { pool, counters } = hostAfter(host, n), changed = step.changed
-    .filter(it => it.host === host.name);
-  const [before, now] = heldAround(page, step, host);
+  const n = step.now.get(host.name), { pool, counters } = stateOf(step, host.name, page.hosts);
+  const changed = step.changed.filter(it => it.host === host.name), [before, now] = heldAround(page, step, host);
   const title = [`machine ${host.name} `, h("span", { class: "faint" }, host.options.addr)];
   const isChanged = n > (step.was.get(host.name) || 0);
+  if (!isFollowed(step, host)) {
+    return h("div", { class: "column" }, panel(title, poolBar("mbufs", pool.mbufs, []), h("p", { class: "faint" },
+      "What it holds isn't drawn: of this script the page can't work out what came to it, in which order.")),
+    countersView({ counters, changed }, `Counters of ${host.name}`));
+  }
   const around = [step.was.get(host.name) || 0, n].map(count => page.memoryOf(host, count));
   return h("div", { class: "column" }, isChanged && memoryView(...around, `The mbufs of ${host.name}`),
-    machineView({ pool }, host.steps.slice(0, n), before, now, title),
+    machineView({ pool }, before, now, title),
     countersView({ counters, changed }, `Counters of ${host.name}`));
 }
 
@@ -79,7 +84,7 @@ function hostView(page, step, host) {
 function packetsOf(page, step, hosts) {
   if (step.host) {
     const [before, now] = heldAround(page, step, hosts.get(step.host));
-    return packetsOfLine(step.of, before, now);
+    return step.of ? packetsOfLine(step.of, before, now) : [];
   }
   const checks = it => it.fate === "delivered"
     && panel(`The checks at ${it.to}, in their order`, checksOf(hosts.get(it.to).steps[it.place]));
@@ -88,9 +93,9 @@ function packetsOf(page, step, hosts) {
 }
 
 function wireVerdicts(page, step, hosts) {
-  if (step.host) return verdictsOf(step.of, ...heldAround(page, step, hosts.get(step.host)));
-  if (!step.isOk) return [verdict("no", h("b", {}, step.reply), `: ${step.why}.`)];
-  if (step.verb === "carry" && !step.moved.length) return [verdict("wait", "No packet waits at any machine.")];
+  if (step.kind === "bad") return [faultVerdict(step)];
+  if (step.host) return step.of ? verdictsOf(step, ...heldAround(page, step, hosts.get(step.host))) : [];
+  if (step.verb === "carry" && !step.moved.length) return [verdict("wait", "Nothing moved.")];
   return [...step.now.keys()].map(name => {
     const grown = grownIn(...heldAround(page, step, hosts.get(name))).map(it => `socket ${it.fd}`);
     return grown.length > 0

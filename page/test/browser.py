@@ -127,14 +127,20 @@ class Browser:
         self.child.wait(20)
 
 
+# Scripts that name a file, and those that have wrong lines.
+OTHERS = ["borders.txt", "bytes.txt", "other_line_ends.txt", "played_in.txt"]
+
+
 def scripts(examples, lessons):
-    """Each script with its command, its words and the replies that are wanted; of a lesson its notes tell them."""
-    for command, folder in (("run", examples), ("chain", examples / "chain")):
-        for it in sorted(folder.glob("*.txt")):
-            yield command, it, pathlib.Path(f"{it}.stdout").read_text()
-    for command in ("run", "chain", "wire"):
-        for it in sorted((lessons / command).glob("*.txt")):
-            yield command, it, None
+    """Each script with its tab, and the replies that are wanted if they stand beside it; else it says them itself."""
+    for it in sorted((examples / "chain").glob("*.txt")):
+        yield "chain", it, pathlib.Path(f"{it}.stdout").read_text()
+    for tab, folder in (("run", examples / "play"), ("wire", examples / "play" / "wire")):
+        for it in sorted(it for it in folder.glob("*.txt") if it.name not in OTHERS):
+            yield tab, it, None
+    for tab in ("run", "chain", "wire"):
+        for it in sorted((lessons / tab).glob("*.txt")):
+            yield tab, it, None
 
 
 def words_of(script):
@@ -145,7 +151,7 @@ def words_of(script):
 def play_all(browser, examples, lessons):
     """Plays all scripts in the page, and looks at their lines."""
     for command, script, wanted in scripts(examples, lessons):
-        asked = [command, script.read_text(), words_of(script), wanted]
+        asked = [command, script.read_text(), words_of(script), wanted, lessons in script.parents]
         for fault in browser.run(f"playInPage(...{json.dumps(asked)})"):
             yield f"{script}: {fault}"
 
@@ -161,8 +167,8 @@ VIEWS = [
     ("chain", "04_headers_in_front", 10),
     ("chain", "split_and_join", 6),
     ("wire", "13_a_request_and_its_answer", 8),
-    ("wire", "14_fragments_and_a_wire_that_is_cut", 10),
-    ("wire", "14_fragments_and_a_wire_that_is_cut", 23),
+    ("wire", "14_fragments_and_one_that_is_lost", 10),
+    ("wire", "14_fragments_and_one_that_is_lost", 22),
     ("wire", "15_a_broadcast_on_a_wire", 14),
 ]
 

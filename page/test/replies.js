@@ -1,18 +1,19 @@
-// node page/test/replies.js MODULE.wasm EXAMPLES LESSONS [PROGRAM]: plays each example and each lesson by the module.
-// The replies of an example have to be those beside it, byte for byte, and those of a lesson what its notes claim. If
-// the native program is named, random scripts are played by both, and have to be answered alike. Drawings of chains are
-// compared with those worked by hand, and with the module's own replies. Of machines on a wire each one's script has to
-// be answered as if it stood alone, by the module and by the native program. It's silent where all is well.
+// node page/test/replies.js MODULE.wasm EXAMPLES LESSONS [PROGRAM [PLAYER]]: plays each example and each lesson by the
+// module. The replies of an example have to be those beside it, byte for byte; of a script for people all that it
+// expects has to come, and what bsdplay prints of it has to be the same, if it's named as PLAYER. If the native program
+// is named, random scripts are played by both, and have to be answered alike. Drawings of chains are compared with those
+// worked by hand, and with the module's own replies. What a machine on a wire is said to have in hand has to agree with
+// the program after each line. It's silent where all is well.
 "use strict";
 const child = require("child_process"), fs = require("fs"), os = require("os"), path = require("path");
 const vm = require("vm");
 
-const [file, examples, lessons, program] = process.argv.slice(2);
+const [file, examples, lessons, program, player] = process.argv.slice(2);
 const sources = ["engine", "packet", "play", "stack", "chains", "memory", "wire", "capture"]
   .map(name => fs.readFileSync(path.join(__dirname, "..", name + ".js"), "utf8"));
-const names = "Engine, configOf, optionsOf, readNotes, isReply, linesOf, hexOf";
-const ofChains = "usageIn, slotsIn, drawnChains, clustersIn", ofWire = "traceWire, BOUNDS";
-const ofPlay = "tracePlay, isExpected, readLine, runLines, DEFAULTS", ofMemory = "traceStack, Held, Memory, MOST_LINES";
+const names = "Engine, configOf, optionsOf, readNotes, partsOf, linesOf, hexOf, hasHosts, DEFAULTS, DEFAULT_CONFIG";
+const ofChains = "usageIn, slotsIn, drawnChains, clustersIn, playChains", ofWire = "traceHosts, isFollowed";
+const ofPlay = "tracePlay", ofMemory = "traceStack, Held, Memory, MOST_LINES";
 const ofCaptures = "readCapture, captureScript, word16";
 const code = sources.map(text => text.replace('"use strict";', "")).join("\n")
   + `\n({ ${names}, ${ofChains}, ${ofWire}, ${ofPlay}, ${ofMemory}, ${ofCaptures} })`;
@@ -41,20 +42,31 @@ function tryExample(engine, command, script) {
     `the page's module has other replies than ${script}.stdout`);
 }
 
-function tryLesson(engine, command, script) {
-  const notes = page.readNotes(fs.readFileSync(script, "utf8"));
-  const got = command === "wire" ? playWire(engine, script, notes.lines) : play(engine, command, script, notes.script);
-  if (got.code !== 0 || got.replies.length !== notes.lines.length) fault(script, `it ended with outcome ${got.code}`);
-  notes.lines.forEach((line, i) => {
-    const reply = got.replies[i] || "";
-    if (!page.isReply(reply, notes.wanted[i])) {
-      fault(`${script}:${notes.places[i] + 1}`,
-        `the note says ${notes.wanted[i]}, and the program ${reply.slice(0, 100)}`);
-    }
-    if (reply.startsWith("?") && notes.wanted[i] === undefined) fault(`${script}:${notes.places[i] + 1}`,
-      `it's answered ${reply}`);
+// The steps of a script, as its tab plays it.
+function stepsOf(engine, command, script, text) {
+  if (command === "chain") return page.playChains(engine, configOf(script), page.readNotes(text).lines);
+  return page.hasHosts(text) ? page.traceHosts(engine, text) : page.tracePlay(engine, text);
+}
+
+// Plays a script for people: all that it expects comes, and each of its lines does something.
+function tryScript(engine, command, script) {
+  const text = fs.readFileSync(script, "utf8"), notes = page.readNotes(text);
+  const played = stepsOf(engine, command, script, text), { code, steps } = played;
+  if (code !== 0 || steps.length !== notes.lines.length) fault(script, `it ended with outcome ${code}`);
+  steps.forEach((step, i) => {
+    const place = `${script}:${notes.places[i] + 1}`, said = step.says || step.reply;
+    if (step.expected !== null && !step.isMet) fault(place, `not ${step.expected}, but ${said} comes`);
+    if (step.kind === "bad") fault(place, `it does nothing: ${said}`);
   });
-  if (!notes.wanted.some(reply => reply !== undefined)) fault(script, "no note of it says what the program replies");
+  if (command !== "chain") tryPlayer(engine, script, text);
+  if (played.hosts) tryHosts(engine, script, played);
+  else if (played.own) tryOwn(script, played);
+  return { steps, notes };
+}
+
+function tryLesson(engine, command, script) {
+  const { steps, notes } = tryScript(engine, command, script);
+  if (!steps.some(step => step.expected !== null)) fault(script, "it says of no line what the program replies");
   notes.notes.forEach((note, i) => {
     if (!note) fault(`${script}:${notes.places[i] + 1}`, "the line has no note");
   });
@@ -66,20 +78,46 @@ function tryLesson(engine, command, script) {
   }
 }
 
+// bsdplay prints the same objects of a script.
+function tryPlayer(engine, script, text) {
+  if (!player) return;
+  const { stdout } = child.spawnSync(player, ["--json"], { input: text, maxBuffer: 1 << 28 });
+  const call = page.hasHosts(text) ? engine.hosts(text) : engine.play(page.DEFAULT_CONFIG, text);
+  const own = all => JSON.stringify(all.map(it => ({ ...it, file: null })));
+  const printed = stdout.toString().split("\n").filter(Boolean).map(line => JSON.parse(line));
+  if (own(latin(call.objects)) !== own(printed)) fault(script, "bsdplay prints other objects of it");
+}
+
+// Objects whose texts have a byte in each character, as bsdplay prints them.
+const latin = all => all.map(it => Object.fromEntries(Object.entries(it).map(([name, value]) =>
+  [name, typeof value === "string" ? Buffer.from(value).toString("latin1") : value])));
+
+// What a line is answered is what its line of `bsdudp run` is answered, but for the cause of a drop.
+function tryOwn(script, { steps, own, ends }) {
+  steps.forEach((step, i) => {
+    const ran = own.slice(i ? ends[i - 1] : 0, ends[i]);
+    if (ran.length !== 1) return;
+    const [{ reply }] = ran, drops = step.says.indexOf("dropped ");
+    const said = drops < 0 ? step.says : step.says.slice(0, drops).trim() || "ok";
+    if (said !== reply) fault(`${script}, line ${i + 1}`, `it's answered ${step.says}, and alone ${reply}`);
+  });
+}
+
 // ---- exercises
+
+// Scripts that name a file, and those that have wrong lines.
+const OTHERS = ["played_in.txt", "borders.txt", "bytes.txt", "other_line_ends.txt"];
 
 // Each exercise, with all that is expected in it, comes as it's expected; and each other reply is found out.
 function tryExercise(engine, script) {
-  const notes = page.readNotes(fs.readFileSync(script, "utf8"), true);
-  const config = page.configOf({ ...page.DEFAULTS, ...notes.options });
-  const { code, steps } = page.tracePlay(engine, config, notes.lines, false);
-  if (code !== 0 || steps.length !== notes.lines.length) fault(script, `it ended with outcome ${code}`);
-  steps.forEach((step, i) => {
-    const place = `${script}:${notes.places[i] + 1}`;
-    if (step.expected === null) fault(place, "nothing is expected of it");
-    else if (!page.isExpected(step.expected, step.says)) fault(place, `not ${step.expected}, but ${step.says} comes`);
-    if (page.isExpected(`${step.expected} more`, step.says)) fault(place, "a word too many is taken for right");
-  });
+  const { steps } = tryScript(engine, "run", script), all = page.linesOf(fs.readFileSync(script, "utf8"));
+  const isOpen = step => step.expected === null && !step.line.startsWith("--");
+  if (steps.some(isOpen)) fault(script, "of a line nothing is expected");
+  const other = all.map(line => (page.partsOf(line).wanted === null || line.startsWith("#") ? line
+    : `${page.partsOf(line).asked} => ${page.partsOf(line).wanted} more`));
+  if (page.tracePlay(engine, other.join("\n")).steps.some(step => step.isMet)) {
+    fault(script, "a word too many is taken for right");
+  }
 }
 
 // ---- where the bytes lie
@@ -120,16 +158,17 @@ function wordsOf(state) {
 function memoryOf(engine, config, lines) {
   const { steps } = page.traceStack(engine, config, lines), all = new Map();
   const held = n => all.get(n)
-    || all.set(n, new page.Held(engine, config, lines.slice(0, n), steps.slice(0, n))).get(n);
+    || all.set(n, new page.Held(engine, config, lines.slice(0, n))).get(n);
   return { steps, held, memory: new page.Memory(engine, config, steps) };
 }
 
 function tryLaid(engine) {
-  const config = page.configOf(page.DEFAULTS), plain = text => text.replace(/^[; ]+|[; ]+$/g, "");
+  const config = page.DEFAULT_CONFIG, bare = text => text.replace(/^[; ]+|[; ]+$/g, "");
   for (const [lines, wanted] of LAID) {
-    const state = memoryOf(engine, config, lines.flatMap(page.runLines)).memory.after(lines.length);
+    const { own } = page.tracePlay(engine, lines.join("\n")), plain = own.map(it => it.line);
+    const state = memoryOf(engine, config, plain).memory.after(lines.length);
     const got = state ? wordsOf(state) : "nothing", last = lines[lines.length - 1].slice(0, 60);
-    if (plain(got) !== plain(wanted)) fault(`the mbufs after ${last}`, `${wanted} is right, and ${got} drawn`);
+    if (bare(got) !== bare(wanted)) fault(`the mbufs after ${last}`, `${wanted} is right, and ${got} drawn`);
   }
 }
 
@@ -195,8 +234,7 @@ function tryCaptures(engine, folder) {
   }
   const real = path.join(folder, "by_tcpdump.pcap");
   const { records } = page.readCapture(new Uint8Array(fs.readFileSync(real)));
-  const script = page.captureScript(engine, records), notes = page.readNotes(script.text, true);
-  const { steps } = page.tracePlay(engine, page.configOf(script.options), notes.lines, false);
+  const script = page.captureScript(engine, records), { steps } = page.tracePlay(engine, script.text);
   if (steps.filter(step => step.verb === "rx").length !== script.counts.taken) fault(real, "not each record arrives");
   if (page.readCapture(new Uint8Array(40)).records) fault("40 zeros", "they're read as a capture");
 }
@@ -228,24 +266,22 @@ function tryTshark(real) {
 
 // ---- machines on a wire
 
-// Plays a script of several machines, and then each machine's own.
-function playWire(engine, name, lines) {
-  const { code, steps, hosts } = page.traceWire(engine, lines);
-  for (const host of hosts.values()) tryHost(engine, name, host);
+// Each machine's own script is what the program did with it, after each line, by the module and by the native program.
+function tryHosts(engine, name, { steps, hosts }, isWhole = true) {
+  for (const host of hosts.values()) {
+    tryHost(engine, name, host);
+    const lost = steps.findIndex(step => step.now.has(host.name) && !page.isFollowed(step, host));
+    if (isWhole && lost >= 0) fault(name, `what ${host.name} has in hand isn't known after line ${lost + 1}`);
+  }
   steps.flatMap(step => step.moved).forEach(it => tryMoved(name, it, hosts));
-  return { code, replies: steps.map(step => step.reply) };
 }
 
-// A machine's script has the replies that the page shows, by the module and by the native program.
 function tryHost(engine, name, host) {
-  const textOf = lines => lines.map(line => line + "\n").join("");
-  const script = textOf(host.lines), shown = textOf(host.steps.map(step => step.reply));
-  const alone = engine.run(host.config, script);
-  if (textOf(alone.replies) !== shown) fault(name, `${host.name} has other replies alone`);
   if (!program) return;
+  const textOf = lines => lines.map(line => line + "\n").join("");
   const words = Object.entries(host.options).map(([option, value]) => `--${option}=${value}`);
-  const native = child.spawnSync(program, ["run", ...words], { input: script, maxBuffer: 1 << 28 });
-  const isSame = native.status === 0 && native.stdout.toString() === shown;
+  const native = child.spawnSync(program, ["run", ...words], { input: textOf(host.lines), maxBuffer: 1 << 28 });
+  const isSame = native.status === 0 && native.stdout.toString() === textOf(host.steps.map(step => step.reply));
   if (!isSame) fault(name, `${host.name} has other replies by ${program}`);
 }
 
@@ -258,66 +294,31 @@ function tryMoved(name, { from, to, packet, fate, place }, hosts) {
   if (to === from || !isFor || lines[place] !== `rx ${hex}`) fault(name, `${to} got a packet that isn't for it`);
 }
 
-// Lines of a wire with their replies, worked by hand.
-const WIRE_RULES = [
-  ["carry => ? wire", "cut => ? wire", "show wire => ? wire", "drop 1 => ? wire", "a: socket => ? host", " => ? line",
-    "host a => ok", "host a --addr 10.0.0.2 => ? host", "host 1 --addr 10.0.0.2 => ? host", "host => ? host",
-    "host b --mtu 67 => ? config", "host b --mtu => ? config", "host b --ttl 3 => ? config",
-    "host b --addr 10.0.0.2 --addr 10.0.0.3 => ? config", "host b --addr 10.0.0.256 => ? config",
-    "host b --addr=10.0.0.2 --id=7 => ok", "wire a c => ? host", "wire a a => ? host", "wire => ? line",
-    "wire a b => ok", "wire a b => ? wire", "carry => delivered 0", "carry all => delivered 0", "carry 0 => ? line",
-    "carry 1 2 => ? line", "carry 01 => ? line", "cut c => ? host", "cut a b => ? line", "tick => ok",
-    "tick 0 => ? line", "tick 1001 => ? line", "tick 60 => ok", "swap 1 => ? line", "show => ? line",
-    "show wire => in flight 0", "drop 1 => ? packet", "a:socket => ? line", "a: nothing => ? line", "a: socket => ok 3",
-    "a: sendto 3 10.0.0.2 7 61 => ok 1", "show wire => in flight 1", "a: tx => none", "repeat 1 => ok",
-    "show wire => in flight 2", "drop 3 => ? packet", "drop 0 => ? packet", "swap 1 3 => ? packet", "swap 1 2 => ok",
-    "carry 1 => delivered 1", "b: stat => stat ip.total=1 udp.noport=1", "cut b => ok", "carry => delivered 0 lost 1",
-    "b: stat => stat ip.total=1 udp.noport=1", "mend b => ok", "a: sendto 3 10.0.0.2 7 62 => ok 1", "drop 1 => ok",
-    "carry => delivered 0", "a: sendto 3 10.0.0.9 7 63 => ok 1", "carry => delivered 0 nobody 1",
-    "a: sendto 3 10.0.0.2 7 64 => ok 1", "carry all => delivered 1", "b: stat => stat ip.total=2 udp.noport=2",
-    "a: sendto 3 10.0.0.1 7 65 => ok 1", "carry => delivered 0"],
-  ["host a => ok", "host b => ok", "wire a b => ? address", "host c --addr 10.0.0.3 --bcast 10.0.0.1 => ok",
-    "wire a c => ? address", "host d --addr 10.0.0.4 => ok", "wire a d => ok"],
-  // one that isn't on the wire is asked for nothing; fragments come in the order in which they're put
-  ["host a --mtu 68 => ok", "host b --addr 10.0.0.2 => ok", "host c --addr 10.0.0.3 => ok", "wire b a => ok",
-    "c: socket => ok 3", "c: sendto 3 10.0.0.1 7 61 => ok 1", "carry => delivered 0", "cut c => ? host",
-    "b: socket => ok 3", "b: bind 3 0.0.0.0 7 => ok", "a: socket => ok 3",
-    `a: sendto 3 10.0.0.2 7 ${"61".repeat(40)}${"62".repeat(40)} => ok 80`, "show wire => in flight 2",
-    "swap 1 2 => ok", "carry 1 => delivered 1", "b: stat => stat ip.total=1 ip.fragments=1", "carry => delivered 1",
-    `b: recvfrom 3 99 => from 10.0.0.1 1024 ${"61".repeat(40)}${"62".repeat(40)}`],
-];
-
-function tryWireRules(engine) {
-  WIRE_RULES.forEach((rules, i) => {
-    const all = rules.map(rule => rule.split(" => ")), lines = all.map(([line]) => line);
-    playWire(engine, `wire ${i}`, lines).replies.forEach((reply, k) => {
-      if (reply !== all[k][1]) fault(`wire ${i}`, `line ${k + 1}, ${lines[k]}, is answered ${reply}`);
-    });
-  });
-  const many = Array.from({ length: page.BOUNDS.hosts + 1 }, (_, i) => `host h${i} --addr 10.0.0.${i + 1}`);
-  const { replies } = playWire(engine, "too many machines", many);
-  if (replies.pop() !== "? host" || replies.some(reply => reply !== "ok")) fault("too many machines", replies.join());
-}
-
-// Random lines of three machines with different MTUs.
+// Random lines of three machines with different MTUs, on a wire that loses, repeats and delays.
 function randomWire(below) {
   const any = list => list[below(list.length)], name = () => any(["a", "b", "c"]), port = () => any([0, 7, 520]);
   const ip = () => `10.0.0.${any([1, 2, 3, 3, 9, 255])}`, fd = () => 3 + below(3);
-  const bytes = () => "6a".repeat(any([0, 1, 40, 41, 600, 3000])) || "-";
+  const bytes = () => any(["-", "\"hi\"", "@40", "\"b\"*41", "@600", "00*3000"]);
   const calls = [() => "socket", () => `bind ${fd()} 0.0.0.0 ${port()}`, () => `recvfrom ${fd()} 65535`, () => "stat",
-    () => `setsockopt ${fd()} broadcast 1`, () => `connect ${fd()} ${ip()} 7`, () => "mbstat", () => "tx",
-    () => `sendto ${fd()} ${ip()} ${any([7, 520])} ${bytes()}`, () => `send ${fd()} ${bytes()}`];
-  const own = [() => "carry", () => "carry 1", () => "carry 2", () => "carry all", () => "show wire", () => "tick",
-    () => `drop ${1 + below(4)}`, () => `repeat ${1 + below(4)}`, () => `swap ${1 + below(4)} ${1 + below(4)}`,
-    () => `${any(["cut", "mend"])} ${name()}`, () => "cut", () => "mend", () => "mend"];
+    () => `setsockopt ${fd()} broadcast 1`, () => `connect ${fd()} ${ip()} 7`, () => "mbstat", () => "show sockets",
+    () => `sendto ${fd()} ${ip()} ${any([7, 520])} ${bytes()}`, () => `send ${fd()} ${bytes()}`,
+    () => `rx udp 10.0.0.9:5 > ${ip()}:7 ${bytes()}`, () => "tick"];
+  const wire = [() => "carry", () => "collect", () => "deliver", () => "carry 2", () => "show wire", () => "tick",
+    () => `drop ${below(4)}`, () => `repeat ${below(4)}`, () => `swap ${below(4)} ${below(4)}`, () => "loss 20%",
+    () => "loss 0%", () => `repeat 10% from ${name()}`, () => `delay ${below(2)}-2`, () => "delay 0-0"];
   const first = ["host a", "host b --addr 10.0.0.2 --mtu 576", "host c --addr 10.0.0.3 --mtu 68 --mbufs 40",
     "wire a b c", ...["a", "b", "c"].flatMap(it => [`${it}: socket`, `${it}: bind 3 0.0.0.0 7`])];
-  return [...first, ...Array.from({ length: 150 }, () => (below(3) ? `${name()}: ${any(calls)()}` : any(own)()))];
+  const more = Array.from({ length: 60 }, () => (below(3) ? `${name()}: ${any(calls)()}` : any(wire)()));
+  return [...first, ...more, ""].join("\n");
 }
 
 function tryRandomWires(engine) {
   const below = numbers(3);
-  for (let i = 0; i < WIRES; i++) playWire(engine, `random wire ${i}`, randomWire(below));
+  for (let i = 0; i < WIRES; i++) {
+    const text = randomWire(below);
+    tryHosts(engine, `random wire ${i}`, page.traceHosts(engine, text));
+    tryPlayer(engine, `random wire ${i}`, text);
+  }
 }
 
 // ---- drawings of chains
@@ -444,9 +445,10 @@ const UNKNOWN = ["no_mbuf_for_the_key.txt", "reclaimed_for_a_send.txt"];
 // After each line of each lesson and of each other example the mbufs are known.
 function tryAllMemory(engine) {
   for (const script of [...scriptsOf(examples), ...scriptsOf(path.join(lessons, "run"))]) {
-    const text = fs.readFileSync(script, "utf8");
-    const lines = script.startsWith(lessons) ? page.readNotes(text).lines : page.linesOf(text);
-    tryMemory(engine, script, configOf(script), lines, !UNKNOWN.includes(path.basename(script)));
+    const text = fs.readFileSync(script, "utf8"), isLesson = script.startsWith(lessons);
+    const { own, config } = isLesson ? page.tracePlay(engine, text) : { config: configOf(script) };
+    const lines = isLesson ? own.map(it => it.line) : page.linesOf(text);
+    tryMemory(engine, script, config, lines, !UNKNOWN.includes(path.basename(script)));
   }
 }
 
@@ -459,15 +461,18 @@ async function main() {
   }
   const exercises = scriptsOf(path.join(examples, "play")).filter(it => /exercise_/.test(it));
   for (const script of exercises) tryExercise(engine, script);
+  for (const script of [...scriptsOf(path.join(examples, "play")), ...scriptsOf(path.join(examples, "play", "wire"))]) {
+    if (!exercises.includes(script) && !OTHERS.includes(path.basename(script))) tryScript(engine, "run", script);
+  }
   tryLaid(engine);
   tryAllMemory(engine);
   tryCaptures(engine, path.join(examples, "play"));
   tryTshark(path.join(examples, "play", "by_tcpdump.pcap"));
-  tryWireRules(engine);
   tryRandomWires(engine);
   tryDrawn(engine);
   for (const script of [...scriptsOf(path.join(examples, "chain")), ...scriptsOf(path.join(lessons, "chain"))]) {
-    tryDrawings(engine, script, configOf(script), page.readNotes(fs.readFileSync(script, "utf8")).script);
+    tryDrawings(engine, script, configOf(script), page.readNotes(fs.readFileSync(script, "utf8")).lines
+      .map(line => page.partsOf(line).asked + "\n").join(""));
   }
   tryRandomDrawings(engine, path.join(examples, "chain"));
   if (program) {

@@ -1,13 +1,22 @@
 -- What a page is told of a script that was served (this project's own).
-use Rattle.std.specs.Prelude.{◌≡◌, ◌≤◌, ◌<◌, ◌++◌, ℕ, List, [], length, drop, Option, Some, None, IfSome, IfOk, Result, Ok, Err}
+use Rattle.std.specs.Prelude.{◌≡◌, ◌≤◌, ◌<◌, ◌++◌, ℕ, Bool, true, false, List, [], length, drop, take, codes, Option, Some, None, IfSome, IfOk, Result, Ok, Err}
 use Rattle.flat_model.specs.declared.config.Config.{Config}
 use Rattle.mbuf_pool.specs.declared.sizes.Sizes.{Sizes}
 use Rattle.chain_script.specs.Boots.{Boots}
 use Rattle.chain_script.specs.Drawings.{drawing, served}
 use Rattle.chain_script.specs.Machines.{Machine, booted}
 use Rattle.chain_script.specs.Steps.{Says}
+use Rattle.flat_model.specs.Machine.State.{boot}
+use Rattle.flat_model.specs.Machine.Step.{Step}
+use Rattle.link_script.specs.Boots as stack_boots
 use Rattle.page.specs.declared.settings.PageMachine.{PageMachine}
 use Rattle.page.specs.declared.settings.PagePool.{PagePool}
+use Rattle.pcap.specs.File.{header_bytes, our_header}
+use Rattle.play_pcap.specs.Files.{no_folder}
+use Rattle.play_pcap.specs.Traces.{Keeps, Traced, unwritten}
+use Rattle.play_script.specs.Tells as plays
+use Rattle.play_script.specs.declared.print.TheConstants.{NAME}
+use Rattle.play_text.specs.declared.form.Form.TheVariants.{Json}
 use Rattle.script_loop.specs.Serves.{Serves}
 use Rattle.script_loop.specs.declared.fault.RunFault.{RunFault}
 use Rattle.script_loop.specs.declared.fault.RunFault.TheVariants.{Read, Write, Memory, TooManyLines, BadSizes, BadConfig}
@@ -88,3 +97,34 @@ pub record Drawn (pool : PagePool) (slot : ℕ) (script : List ℕ) (answer len 
   pub numbered : answer ≡ drawn_number outcome
   pub counted : len ≡ length (drawn_text outcome)
   pub handed : Handed (drawn_text outcome) before after
+
+-- ---- a capture
+
+-- The number of an outcome with a capture, which is whole or not. One that isn't is as a write that failed.
+abbrev pub kept_number : Bool → Result Unit RunFault → ℕ
+kept_number true outcome = number outcome
+kept_number false outcome = number (Err Write)
+
+-- A whole script for people was served on a new machine, whose capture began with the header of a file. The page is
+-- told the number and how many bytes the capture has, and they are in its room.
+pub record Kept (config : Config) (script : List ℕ) (answer len : ℕ) (before after : List ℕ) : Type 0 where
+  pub outcome : Result Unit RunFault
+  pub objects : List ℕ
+  pub file : List ℕ
+  pub unread : Option (List ℕ)
+  pub begun : Traced
+  pub new : plays.Play
+  pub ticks : begun.ticks ≡ 0
+  pub headed : Keeps (unwritten (Some [])) begun (header_bytes our_header)
+  pub allowed : stack_boots.Boots config outcome
+  pub served : Serves (plays.Tells Step no_folder)
+      (plays.started (boot config) begun Json (take NAME (codes "script"))) new
+      (Some script) unread (Some []) (Some objects) outcome
+  pub wrote : new.traced.wrote ≡ Some file
+  pub numbered : answer ≡ kept_number new.traced.whole outcome
+  pub counted : len ≡ length file
+  pub handed : Handed file before after
+
+-- there was no memory for a capture, and nothing was played
+abbrev pub IsUnkept : ℕ → ℕ → List ℕ → List ℕ → Type 0
+IsUnkept answer len before after = (answer ≡ number (Err Memory)) × (len ≡ 0) × (after ≡ before)

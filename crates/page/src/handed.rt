@@ -1,6 +1,6 @@
 //! How an outcome and the replies are handed over.
 ghost use Rattle.std.specs.Prelude.{◌≡◌, length};
-ghost use Rattle.page.specs.Told.{number, Handed};
+ghost use Rattle.page.specs.Told.{number, kept_number, Handed};
 
 use link_script::RunFault;
 
@@ -16,6 +16,17 @@ pub(crate) fn number_of(outcome: Result<(), RunFault>) -> u32
         Err(RunFault::TooManyLines) => 4,
         Err(RunFault::Read) => 5,
         Err(RunFault::Write) => 6,
+    }
+}
+
+/// The outcome with a capture as a number: one that isn't whole is as a write that failed.
+pub(crate) fn kept_number_of(whole: bool, outcome: Result<(), RunFault>) -> u32
+    ensures { result ≡ kept_number whole outcome }
+{
+    if whole {
+        number_of(outcome)
+    } else {
+        number_of(Err(RunFault::Write))
     }
 }
 

@@ -1,5 +1,6 @@
-//! What a web page calls: both scripts as functions of a whole script, over bytes in memory. The page hands over a
-//! whole script each time, so nothing is kept between two calls. No other crate stands on this one.
+//! What a web page calls: scripts of `bsdudp` and of `bsdplay` as functions of a whole script, over bytes in memory.
+//! The page hands over a whole script each time, so nothing is kept between two calls. No other crate stands on this
+//! one.
 //!
 //! It shows that the outcome and the replies are those of the script on a new machine, and where the replies stand.
 #![tactic(auto)]
@@ -14,11 +15,13 @@ ghost use Rattle.chain_script.specs.Boots as chain_sizes;
 ghost use Rattle.page.specs.Told.{Drawn, Told, config_of, sizes_of};
 
 mod handed;
+mod play;
 mod settings;
 
 use chain_script::{draw_slot, run_chains};
 use handed::{hand_over, number_of};
 use link_script::{RunFault, run};
+pub use play::{bsdudp_page_capture, bsdudp_page_hosts, bsdudp_page_play};
 pub use settings::{PageMachine, PagePool};
 use std::alloc::Global;
 

@@ -1,0 +1,129 @@
+//! Scripts for people, as `bsdplay --json` plays them.
+ghost use Rattle.std.specs.Prelude.{◌≡◌, ◌⊎◌, codes, take};
+ghost use Rattle.flat_model.specs.Machine.State.{boot};
+ghost use Rattle.flat_model.specs.Machine.Step.{Step};
+ghost use Rattle.link_script.specs.Boots.{Boots};
+ghost use Rattle.play_pcap.specs.Files.{no_folder};
+ghost use Rattle.play_pcap.specs.Traces.{Traced};
+ghost use Rattle.play_script.specs.Tells as one_machine;
+ghost use Rattle.play_script.specs.declared.print.TheConstants.{NAME};
+ghost use Rattle.play_text.specs.declared.form.Form.TheVariants.{Json};
+ghost use Rattle.play_wire.specs.Tells as many_machines;
+ghost use Rattle.script_loop.specs.Serves.{IsServed};
+ghost use Rattle.page.specs.Told.{IsUnkept, Kept, Told, config_of};
+
+use crate::handed::{hand_over, kept_number_of, number_of};
+use crate::settings::PageMachine;
+use play_pcap::{Nowhere, Trace};
+use play_script::{Captured, Form, NoFolder, RunFault, Start, Style, play, play_captured};
+use play_wire::play_hosts;
+use script_loop::Buffer;
+use std::alloc::Global;
+
+/// The seed of the wire, until a line `seed` gives another one.
+const SEED: u64 = 1;
+
+/// Lines are printed as JSON, and the script has this name there.
+fn style<'a>() -> Style<'a>
+    ensures form { result.form ≡ Json }
+    ensures name { result.name.now ≡ codes "script" }
+{
+    Style {
+        form: Form::Json,
+        name: b"script",
+    }
+}
+
+/// Plays a script for people on a new machine, and puts what `bsdplay --json` prints of it at the beginning of the
+/// room: `uint32_t bsdudp_page_play(const struct page_machine *, const uint8_t *script, size_t, uint8_t *room, size_t,
+/// size_t *len)`. No file can be opened, so `rx pcap` is answered by an error.
+///
+/// Answers the outcome's number, and hands over the objects, as `bsdudp_page_run` does of its replies. The faults: 1
+/// `BadSizes`, 2 `BadConfig`, 3 `Memory`, 4 `TooManyLines`, 6 `Write`, each as `play_script::play` has it.
+#[unsafe(no_mangle)]
+pub extern "C" fn bsdudp_page_play(
+    alloc: Global,
+    machine: &PageMachine,
+    script: &[u8],
+    room: &mut [u8],
+    len: &mut usize,
+) -> u32
+    ensures told { (traced : Traced) × Told (one_machine.Tells Step no_folder)
+        (one_machine.started (boot (config_of machine.now)) traced Json (take NAME (codes "script")))
+        (Boots (config_of machine.now))
+        script.now result len.new room.old room.new }
+{
+    let mut reader = script;
+    let mut objects = Vec::new(alloc);
+    let played = play(alloc, machine.config(), style(), &mut reader, &mut objects);
+    *len = hand_over(objects.as_slice(), room);
+    number_of(played.outcome)
+}
+
+/// Plays a script of many machines in the same way, with 1 as the seed of its wire until it says another one:
+/// `uint32_t bsdudp_page_hosts(const uint8_t *script, size_t, uint8_t *room, size_t, size_t *len)`.
+///
+/// The faults: 3 `Memory`, 4 `TooManyLines`, 6 `Write`, each as `play_wire::play_hosts` has it.
+#[unsafe(no_mangle)]
+pub extern "C" fn bsdudp_page_hosts(
+    alloc: Global,
+    script: &[u8],
+    room: &mut [u8],
+    len: &mut usize,
+) -> u32
+    ensures told { Told many_machines.Tells
+        (many_machines.started 1 Json (take NAME (codes "script"))) IsServed
+        script.now result len.new room.old room.new }
+{
+    let mut reader = script;
+    let mut objects = Vec::new(alloc);
+    let start = play_wire::Start {
+        seed: SEED,
+        capture: Nowhere,
+    };
+    let done = play_hosts(alloc, style(), start, &mut reader, &mut objects);
+    *len = hand_over(objects.as_slice(), room);
+    number_of(done.played.outcome)
+}
+
+/// Plays a script for people as `bsdudp_page_play` does, throws the objects away, and hands over the capture of the
+/// packets that came by `rx` and left by `tx`, as `bsdplay --pcap` writes it: `uint32_t bsdudp_page_capture(const
+/// struct page_machine *, const uint8_t *script, size_t, uint8_t *room, size_t, size_t *len)`. A record's microseconds
+/// are the number of the line by which its packet came or left, and 500,000 more after an odd number of ticks.
+///
+/// The faults: those of `bsdudp_page_play`. `Write` comes too if the host refuses memory for the capture, which is cut
+/// short then. If nothing was played for want of memory, `len` is 0 and the room as it was.
+#[unsafe(no_mangle)]
+pub extern "C" fn bsdudp_page_capture(
+    alloc: Global,
+    machine: &PageMachine,
+    script: &[u8],
+    room: &mut [u8],
+    len: &mut usize,
+) -> u32
+    ensures kept { Kept (config_of machine.now) script.now result len.new room.old room.new
+        ⊎ IsUnkept result len.new room.old room.new }
+{
+    let Ok(record) = Buffer::new(alloc) else {
+        *len = 0;
+        return number_of(Err(RunFault::Memory));
+    };
+    let start = Start {
+        config: machine.config(),
+        trace: Trace::begin(Vec::new(alloc), record),
+        folder: NoFolder,
+    };
+    let mut reader = script;
+    let mut objects = Vec::new(alloc);
+    let Captured { played, trace } = play_captured(
+        alloc,
+        start,
+        style(),
+        &mut reader,
+        &mut objects,
+    );
+    let whole = trace.is_whole();
+    let capture = trace.end();
+    *len = hand_over(capture.as_slice(), room);
+    kept_number_of(whole, played.outcome)
+}
