@@ -4,7 +4,7 @@ use Rattle.std.specs.Prelude.{slice_index_or}
 use Rattle.std.proofs.lemmas.List.{length-append, length-take, length-drop}
 use Rattle.mbuf_chain.specs.Chain.{ChainView, Entry, entry_of, flat_bytes, no_entry, string}
 use Rattle.flat_model.specs.Packets.Header.{udp}
-use Rattle.udp.specs.Datagrams.{built}
+use Rattle.udp.specs.Datagrams.{with_udp_header}
 
 pub record HasRoom (v : ChainView) : Type 0 where
   pub plain : (entry_of v 0).cluster ≡ None
@@ -22,12 +22,12 @@ over xs head long few = omega (
   length-drop (20 + length head) xs,
 )
 
-pub room_kept : (src dst sport dport : ℕ) (v : ChainView) → HasRoom v → HasRoom (built src dst sport dport v)
+pub room_kept : (src dst sport dport : ℕ) (v : ChainView) → HasRoom v → HasRoom (with_udp_header src dst sport dport v)
 room_kept src dst sport dport v room = go v.entries room.plain room.headers room.most
   where
     go : (es : List Entry) → (slice_index_or es 0 no_entry).cluster ≡ None
         → 28 ≤ length (slice_index_or es 0 no_entry).bytes → length (flat_bytes es) ≤ 65535
-        → HasRoom (built src dst sport dport (record v { entries = es }))
+        → HasRoom (with_udp_header src dst sport dport (record v { entries = es }))
     go [] plain long most = absurd (omega (arith, long))
     go (e ∷ es) plain long most =
         let whole : List ℕ = udp src dst sport dport (drop 28 (flat_bytes (e ∷ es))) in

@@ -1,7 +1,7 @@
 //! The calls of raw_cells that `bench/cells` times: copies between clusters, into one and out of one.
 
 ghost use Rattle.std.specs.Prelude.{◌≡◌, ◌+◌, ◌<◌, ◌≤◌, IsTrue, length};
-ghost use Rattle.raw_cells.specs.Cells.{IsPart, IsSized, read};
+ghost use Rattle.raw_cells.specs.Cells.{IsCellPart, IsSized, read};
 
 use params::MCLBYTES;
 use raw_cells::{Buffer, Part, Region};
@@ -10,11 +10,11 @@ use std::alloc::Global;
 /// Copies one part to the other and back, so many times.
 fn copy_to_and_fro(region: &mut Region, here: Part, there: Part, times: u64)
     requires sized { IsSized region.old }
-    requires here { IsPart region.old here }
-    requires there { IsPart region.old there }
+    requires here { IsCellPart region.old here }
+    requires there { IsCellPart region.old there }
     requires len { here.len ≡ there.len }
     ensures sized { IsSized region.new }
-    ensures part { IsPart region.new here }
+    ensures part { IsCellPart region.new here }
     ensures same { read region.new here ≡ read region.old here }
 {
     for _ in 0..times {
@@ -26,10 +26,10 @@ fn copy_to_and_fro(region: &mut Region, here: Part, there: Part, times: u64)
 /// Writes the bytes of `from` to a part, and reads the part into `to`.
 fn write_and_read(region: &mut Region, part: Part, from: &[u8], to: &mut [u8])
     requires sized { IsSized region.old }
-    requires part { IsPart region.old part }
+    requires part { IsCellPart region.old part }
     requires len { (length from.now ≡ part.len) × (length to.old ≡ part.len) }
     ensures sized { IsSized region.new }
-    ensures part { IsPart region.new part }
+    ensures part { IsCellPart region.new part }
     ensures same { to.new ≡ from.now }
 {
     region.bytes_mut(part).copy_from_slice(from);

@@ -2,7 +2,7 @@
 
 ghost use Rattle.std.specs.Prelude.{◌≡◌, ◌+◌, ◌≤◌, length, IfOk};
 ghost use Rattle.mbuf_chain.specs.Chain.{IsLive, chain_of, string};
-ghost use Rattle.ip_out.specs.Packets.{IsDatagram};
+ghost use Rattle.ip_out.specs.Packets.{IsDatagramChain};
 
 use crate::boot::booted_of;
 use byteorder::{BigEndian, ByteOrder};
@@ -39,7 +39,7 @@ const HEAD: IpHead = IpHead {
 fn datagram(pool: &mut Pool, bytes: &[u8]) -> Result<Chain, NoBufs>
     requires { length bytes.now ≤ UDP_MAX_DATA }
     ensures live { IfOk result (IsLive pool.new) }
-    ensures datagram { IfOk result (λ chain. IsDatagram (chain_of pool.new chain)) }
+    ensures datagram { IfOk result (λ chain. IsDatagramChain (chain_of pool.new chain)) }
     ensures len { IfOk result (λ chain.
         length (string (chain_of pool.new chain)) ≡ IP_UDP_HEADERS + length bytes.now) }
 {

@@ -3,7 +3,7 @@
 //! calls that are timed stand in functions of their own, so that the compiler cannot fold a pair into nothing.
 
 ghost use Rattle.std.specs.Prelude.{◌≡◌, ◌<◌, IfOk, OnErr, IsTrue, None};
-ghost use Rattle.mbuf_pool.specs.Store.{is_out, count_of, cluster_of, held, released, with_mbuf, with_cluster, TakesMbuf, TakesCluster};
+ghost use Rattle.mbuf_pool.specs.Store.{is_out, cluster_count, cluster_of, held_once_more, released, with_mbuf, with_cluster, TakesMbuf, TakesCluster};
 
 use mbuf_pool::{NoBufs, Sizes, Store};
 use std::alloc::Global;
@@ -43,16 +43,16 @@ fn get_cluster(store: &mut Store) -> Result<u32, NoBufs>
 
 #[inline(never)]
 fn hold(store: &mut Store, cluster: u32)
-    requires counted { 0 < count_of store.old cluster }
-    requires below { count_of store.old cluster < 65535 }
-    ensures { store.new ≡ with_cluster store.old cluster (held (cluster_of store.old cluster)) }
+    requires counted { 0 < cluster_count store.old cluster }
+    requires below { cluster_count store.old cluster < 65535 }
+    ensures { store.new ≡ with_cluster store.old cluster (held_once_more (cluster_of store.old cluster)) }
 {
     store.hold(cluster);
 }
 
 #[inline(never)]
 fn release(store: &mut Store, cluster: u32)
-    requires { 0 < count_of store.old cluster }
+    requires { 0 < cluster_count store.old cluster }
     ensures { store.new ≡ with_cluster store.old cluster (released (cluster_of store.old cluster)) }
 {
     store.release(cluster);

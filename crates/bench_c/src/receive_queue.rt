@@ -2,7 +2,7 @@
 
 ghost use Rattle.std.specs.Prelude.{◌≡◌, ◌≤◌, length, IfSome};
 ghost use Rattle.mbuf_chain.specs.Chain.{IsLive};
-ghost use Rattle.mbuf_chain.specs.Owners.{times};
+ghost use Rattle.mbuf_chain.specs.Owners.{times_among};
 ghost use Rattle.sockbuf.specs.SockBuf.{IsSockBuf, chains_of};
 
 use crate::boot::booted;
@@ -23,7 +23,7 @@ const SENDER: Addr = Addr {
 fn append(pool: &mut Pool, queue: &mut SockBuf, sender: Addr, chain: Chain) -> bool
     requires ready { IsSockBuf pool.old queue.old }
     requires live { IsLive pool.old chain }
-    requires apart { times chain (chains_of pool.old queue.old) ≡ 0 }
+    requires apart { times_among chain (chains_of pool.old queue.old) ≡ 0 }
     ensures { IsSockBuf pool.new queue.new }
 {
     match queue.append_addr(pool, sender, chain) {

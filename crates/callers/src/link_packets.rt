@@ -1,6 +1,6 @@
 //! A datagram that is cut for a link.
 ghost use Rattle.mbuf_chain.specs.Chain.{IsLive, chain_of};
-ghost use Rattle.ip_out.specs.Packets.{IsDatagram};
+ghost use Rattle.ip_out.specs.Packets.{IsDatagramChain};
 
 use ip_out::{IpHead, Queue, output};
 use mbuf_chain::{Chain, Pool};
@@ -8,7 +8,7 @@ use mbuf_chain::{Chain, Pool};
 /// How many packets of at most 1,500 bytes a datagram makes. They're freed.
 pub fn packets_of(pool: &mut Pool, chain: Chain, head: IpHead) -> u32
     requires live { IsLive pool.old chain }
-    requires datagram { IsDatagram (chain_of pool.old chain) }
+    requires datagram { IsDatagramChain (chain_of pool.old chain) }
 {
     let mut queue = Queue::new();
     let _ = output(pool, chain, head, 1500, &mut queue);

@@ -1,7 +1,7 @@
 //! A datagram that is queued for a socket.
 ghost use Rattle.std.specs.Prelude.{◌≡◌};
 ghost use Rattle.mbuf_chain.specs.Chain.{IsLive};
-ghost use Rattle.mbuf_chain.specs.Owners.{times};
+ghost use Rattle.mbuf_chain.specs.Owners.{times_among};
 ghost use Rattle.sockbuf.specs.SockBuf.{IsSockBuf, chains_of};
 
 use flat_model::Addr;
@@ -12,7 +12,7 @@ use sockbuf::SockBuf;
 pub fn is_queued(pool: &mut Pool, queue: &mut SockBuf, sender: Addr, chain: Chain) -> bool
     requires ready { IsSockBuf pool.old queue.old }
     requires live { IsLive pool.old chain }
-    requires apart { times chain (chains_of pool.old queue.old) ≡ 0 }
+    requires apart { times_among chain (chains_of pool.old queue.old) ≡ 0 }
 {
     match queue.append_addr(pool, sender, chain) {
         Ok(()) => true,

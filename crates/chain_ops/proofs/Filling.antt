@@ -4,7 +4,7 @@ use Rattle.std.proofs.lemmas.List.{take_all}
 use Rattle.std.proofs.lemmas.Option.{same_Some}
 use Rattle.flat_model.specs.Amounts.Layout.{Room, Cluster, is_cluster}
 use Rattle.mbuf_chain.specs.Chain.{PoolView, alone, free_clusters, held_mbufs, references, Adds}
-use Rattle.mbuf_chain.specs.Owners.{times}
+use Rattle.mbuf_chain.specs.Owners.{times_among}
 use Rattle.mbuf_chain.specs.Steps.{one_mbuf}
 use Rattle.chain_ops.specs.Makes.{Makes}
 use Rattle.chain_ops.specs.Stored.{AreFree, Has, Lacks, rooms_for, stored_first}
@@ -42,7 +42,7 @@ filled_one p q d k large ends bytes low many few exists none adds =
     ∙ ap (λ (rs : List Room). stored_first large ends (k ∷ []) rs bytes) (sym rooms) in (
       k ∷ [],
       free_more p [] true (Some k) (none_free p)
-          (λ c e. subst (λ (j : ℕ). (j < p.clusters) × (references p j ≡ 0) × (times j [] ≡ 0)) (same_Some k c e)
+          (λ c e. subst (λ (j : ℕ). (j < p.clusters) × (references p j ≡ 0) × (times_among j [] ≡ 0)) (same_Some k c e)
           (exists, none, refl)),
       sym (ap (count_by is_cluster) rooms),
       record { adds = m.adds; front = m.front; entries = m.entries ∙ entries },

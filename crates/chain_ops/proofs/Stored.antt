@@ -7,24 +7,24 @@ use Rattle.std.proofs.lemmas.List.{length-drop, length-take, take_all, take-appe
 use Rattle.std.proofs.lemmas.List.Sums.{sum_by-cons}
 use Rattle.mbuf_chain.specs.Chain.{Entry, flat_bytes, ChainView, PoolView, IsLive, chain_of, with_chain, references, references_of, refers, free_clusters}
 use Rattle.mbuf_chain.specs.Steps.{one_mbuf, joined}
-use Rattle.mbuf_chain.specs.Owners.{times}
+use Rattle.mbuf_chain.specs.Owners.{times_among}
 use Rattle.mbuf_chain.proofs.Laws.Owners.{times-append}
 use Rattle.mbuf_chain.proofs.Laws.Accounts.{references-with, free-same, free-taken}
 use Rattle.flat_model.specs.Amounts.Layout as flat
 use Rattle.flat_model.specs.Amounts.Layout.{Room, Plain, Cluster, filled, or_empty, is_cluster, next_room, size_of, laid_on, user, wire}
-use Rattle.chain_ops.specs.Weights.{laid}
+use Rattle.chain_ops.specs.Weights.{laid_entries}
 use Rattle.chain_ops.proofs.Laws.Rooms.{next_some, next_most, rest_rooms, rest_none, rooms_step}
-use Rattle.chain_ops.specs.Stored.{AreFree, IsTaken, stored, stored_first, first_start, rooms_for}
+use Rattle.chain_ops.specs.Stored.{AreFree, IsClusterTaken, stored, stored_first, first_start, rooms_for}
 
 -- ---- the entry of a room
 pub stored_step : (p : PoolView) (o : Option ℕ) (ds : List ℕ) (m : ℕ) (rooms : List Room) (xs : List ℕ) (b : Bool)
-    → nat_le 208 m ≡ b → IsTaken p b o
+    → nat_le 208 m ≡ b → IsClusterTaken p b o
     → stored (option_to_list o ++ ds) (next_room 2048 108 m ∷ rooms) xs
     ≡ record { bytes = take (size_of (next_room 2048 108 m)) xs; start = cond b 0 20; cluster = o }
     ∷ stored ds rooms (drop (size_of (next_room 2048 108 m)) xs)
 stored_step p o ds m rooms xs b test taken = go (nat_le 208 m) b o test taken
   where
-    go : (t b : Bool) (o : Option ℕ) → t ≡ b → IsTaken p b o
+    go : (t b : Bool) (o : Option ℕ) → t ≡ b → IsClusterTaken p b o
         → stored (option_to_list o ++ ds) (cond t (Cluster (min m 2048)) (Plain (min m 108)) ∷ rooms) xs
         ≡ record {
           bytes = take (size_of (cond t (Cluster (min m 2048)) (Plain (min m 108)))) xs;
@@ -39,7 +39,7 @@ stored_step p o ds m rooms xs b test taken = go (nat_le 208 m) b o test taken
     go false true o e h = absurd (Rattle.std.proofs.lemmas.Bool.false≢true e)
 
 pub stored_begin : (p : PoolView) (large : ℕ) (ends : Bool) (o : Option ℕ) (ds : List ℕ) (m : ℕ) (rooms : List Room)
-    (xs : List ℕ) (b : Bool) → nat_le 208 m ≡ b → IsTaken p b o
+    (xs : List ℕ) (b : Bool) → nat_le 208 m ≡ b → IsClusterTaken p b o
     → stored_first large ends (option_to_list o ++ ds) (next_room (2048 - large) 100 m ∷ rooms) xs
     ≡ record {
       bytes = take (size_of (next_room (2048 - large) 100 m)) xs;
@@ -49,7 +49,7 @@ pub stored_begin : (p : PoolView) (large : ℕ) (ends : Bool) (o : Option ℕ) (
     ∷ stored ds rooms (drop (size_of (next_room (2048 - large) 100 m)) xs)
 stored_begin p large ends o ds m rooms xs b test taken = go (nat_le 208 m) b o test taken
   where
-    go : (t b : Bool) (o : Option ℕ) → t ≡ b → IsTaken p b o
+    go : (t b : Bool) (o : Option ℕ) → t ≡ b → IsClusterTaken p b o
         → stored_first large ends (option_to_list o ++ ds)
         (cond t (Cluster (min m (2048 - large))) (Plain (min m 100)) ∷ rooms) xs
         ≡ record {
@@ -68,14 +68,15 @@ stored_begin p large ends o ds m rooms xs b test taken = go (nat_le 208 m) b o t
 
 -- how many clusters a room takes
 pub room_clusters : (p : PoolView) (large small m : ℕ) (rooms : List Room) (b : Bool) (o : Option ℕ) → nat_le 208 m ≡ b
-    → IsTaken p b o
+    → IsClusterTaken p b o
     → count_by is_cluster (next_room large small m ∷ rooms) ≡ length (option_to_list o) + count_by is_cluster rooms
 room_clusters p large small m rooms b o test taken =
     sum_by-cons (λ (r : Room). cond {A = ℕ} (is_cluster r) 1 0) (next_room large small m) rooms
     ∙ ap (λ (n : ℕ). n + count_by is_cluster rooms) (go (nat_le 208 m) b o test taken)
   where
-    go : (t b : Bool) (o : Option ℕ) → t ≡ b → IsTaken p b o
-        → cond {A = ℕ} (is_cluster (cond t (Cluster (min m large)) (Plain (min m small)))) 1 0 ≡ length (option_to_list o)
+    go : (t b : Bool) (o : Option ℕ) → t ≡ b → IsClusterTaken p b o
+        → cond {A = ℕ} (is_cluster (cond t (Cluster (min m large)) (Plain (min m small)))) 1 0
+        ≡ length (option_to_list o)
     go true true (Some c) e h = refl
     go true true None e h = absurd h
     go false false None e h = refl
@@ -85,11 +86,11 @@ room_clusters p large small m rooms b o test taken =
 
 -- ---- the ledger
 pub refs_one : (k d : ℕ) (header : Bool) (e : Entry)
-    → references_of k (one_mbuf header e d) ≡ times k (option_to_list e.cluster)
+    → references_of k (one_mbuf header e d) ≡ times_among k (option_to_list e.cluster)
 refs_one k d header e = sum_by-cons (λ (f : Entry). cond {A = ℕ} (refers k f) 1 0) e [] ∙ go e.cluster
   where
     go : (o : Option ℕ) → cond {A = ℕ} (Rattle.std.specs.Option.option_eq nat_eq o (Some k)) 1 0 + 0
-        ≡ times k (option_to_list o)
+        ≡ times_among k (option_to_list o)
     go None = refl
     go (Some c) = refl
 
@@ -112,7 +113,7 @@ refs_linked p r c k w live is =
     omega (arith, references-with p r c k (joined (chain_of p c) w) live is, refs_joined k (chain_of p c) w)
 
 pub ledger_step : (p r : PoolView) (b : Bool) (o : Option ℕ) → r.clusters ≡ p.clusters
-    → ((k : ℕ) → references r k ≡ references p k + times k (option_to_list o)) → IsTaken p b o
+    → ((k : ℕ) → references r k ≡ references p k + times_among k (option_to_list o)) → IsClusterTaken p b o
     → free_clusters r + length (option_to_list o) ≡ free_clusters p
 ledger_step p r true None e h t = absurd t
 ledger_step p r true (Some c) e h t =
@@ -133,7 +134,7 @@ all-append P (x ∷ xs) ys h k = (h.0, all-append P xs ys h.1 k)
 
 -- one cluster more
 pub free_more : (p : PoolView) (cs : List ℕ) (b : Bool) (o : Option ℕ) → AreFree p cs
-    → ((c : ℕ) → o ≡ Some c → (c < p.clusters) × (references p c ≡ 0) × (times c cs ≡ 0))
+    → ((c : ℕ) → o ≡ Some c → (c < p.clusters) × (references p c ≡ 0) × (times_among c cs ≡ 0))
     → AreFree p (cs ++ option_to_list o)
 free_more p cs b None h t = subst (AreFree p) (sym (append-nil cs)) h
 free_more p cs b (Some c) h t =
@@ -142,7 +143,7 @@ free_more p cs b (Some c) h t =
       exist = all-append (λ k. k < p.clusters) cs (c ∷ []) h.exist (new.0, tt);
       free = all-append (λ k. references p k ≡ 0) cs (c ∷ []) h.free (new.1, tt);
       once = λ k. elim (cases_eq k c) [
-        | inl e ↦ subst (λ (j : ℕ). times j (cs ++ c ∷ []) ≤ 1) (sym e)
+        | inl e ↦ subst (λ (j : ℕ). times_among j (cs ++ c ∷ []) ≤ 1) (sym e)
             (omega (arith, new.2, times-append c cs (c ∷ []), Rattle.mbuf_chain.proofs.Laws.Owners.times_same c []))
         | inr ne ↦ omega (
           arith,
@@ -153,7 +154,7 @@ free_more p cs b (Some c) h t =
       ];
     }
 
-pub taken_is : (p : PoolView) (b : Bool) (o : Option ℕ) → IsTaken p b o → (c : ℕ) → o ≡ Some c
+pub taken_is : (p : PoolView) (b : Bool) (o : Option ℕ) → IsClusterTaken p b o → (c : ℕ) → o ≡ Some c
     → (c < p.clusters) × (references p c ≡ 0)
 taken_is p true None t c e = absurd t
 taken_is p true (Some d) t c e =
@@ -208,7 +209,7 @@ few_stored large ends start xs h few is =
 
 -- the first mbuf was made
 pub begin_all : (p : PoolView) (large : ℕ) (ends : Bool) (o : Option ℕ) (m : ℕ) (xs : List ℕ) (b : Bool) (len start : ℕ)
-    (piece rest : List ℕ) (done : List Entry) → large ≤ 56 → nat_le 208 m ≡ b → IsTaken p b o
+    (piece rest : List ℕ) (done : List Entry) → large ≤ 56 → nat_le 208 m ≡ b → IsClusterTaken p b o
     → len ≡ size_of (next_room (2048 - large) 100 m) → start ≡ first_start ends (min len 100) → piece ≡ take len xs
     → rest ≡ drop len xs → length rest ≡ m - len
     → done ≡ record { bytes = piece; start = cond b large start; cluster = o } ∷ []
@@ -231,7 +232,7 @@ begin_all p large ends o m xs b len start piece rest done most test taken size a
 
 -- another one was made
 pub more_all : (p : PoolView) (W : List ℕ → List Entry) (o : Option ℕ) (cs : List ℕ) (m : ℕ) (rest later : List ℕ)
-    (b : Bool) (next : ℕ) (piece : List ℕ) (done now : List Entry) → 0 < m → nat_le 208 m ≡ b → IsTaken p b o
+    (b : Bool) (next : ℕ) (piece : List ℕ) (done now : List Entry) → 0 < m → nat_le 208 m ≡ b → IsClusterTaken p b o
     → next ≡ size_of (next_room 2048 108 m) → piece ≡ take next rest → later ≡ drop next rest → length later ≡ m - next
     → now ≡ done ++ (record { bytes = piece; start = cond b 0 20; cluster = o } ∷ [])
     → ((es : List ℕ) → done ++ stored es (rest_rooms m) rest ≡ W (cs ++ es))
@@ -259,7 +260,7 @@ pub record Splits (all later : List Room) (o : Option ℕ) : Type 0 where
   pub count : count_by is_cluster all ≡ length (option_to_list o) + count_by is_cluster later
 
 pub begin_splits : (p : PoolView) (large m len : ℕ) (rest : List ℕ) (b : Bool) (o : Option ℕ) → large ≤ 56
-    → nat_le 208 m ≡ b → IsTaken p b o → len ≡ size_of (next_room (2048 - large) 100 m) → length rest ≡ m - len
+    → nat_le 208 m ≡ b → IsClusterTaken p b o → len ≡ size_of (next_room (2048 - large) 100 m) → length rest ≡ m - len
     → Splits (rooms_for large m) (rest_rooms (length rest)) o
 begin_splits p large m len rest b o most test taken size left =
     let rooms = rooms_begin large m most in
@@ -274,7 +275,7 @@ begin_splits p large m len rest b o most test taken size left =
     }
 
 pub more_splits : (p : PoolView) (m next : ℕ) (later : List ℕ) (b : Bool) (o : Option ℕ) → 0 < m → nat_le 208 m ≡ b
-    → IsTaken p b o → next ≡ size_of (next_room 2048 108 m) → length later ≡ m - next
+    → IsClusterTaken p b o → next ≡ size_of (next_room 2048 108 m) → length later ≡ m - next
     → Splits (rest_rooms m) (rest_rooms (length later)) o
 more_splits p m next later b o some test taken size left =
     let rooms = rooms_step 2048 108 m (omega arith) (omega arith) some in
@@ -388,7 +389,7 @@ sized : (n : ℕ) (rooms : List Room) (xs : List ℕ) → n + room_sum rooms ≡
 sized n rooms xs z = omega (arith, z, length-take n xs)
 
 stored_laid : (cs : List ℕ) (rooms : List Room) (xs : List ℕ) → length cs ≡ count_by is_cluster rooms
-    → room_sum rooms ≡ length xs → laid (stored cs rooms xs) ≡ laid_on cs rooms
+    → room_sum rooms ≡ length xs → laid_entries (stored cs rooms xs) ≡ laid_on cs rooms
 unfolding laid_on
 stored_laid cs [] xs e z = refl
 stored_laid cs (Plain n ∷ rooms) xs e z =
@@ -396,7 +397,7 @@ stored_laid cs (Plain n ∷ rooms) xs e z =
     stored_laid cs rooms (drop n xs)
     (omega (arith, e, sum_by-cons (λ (r : Room). cond {A = ℕ} (is_cluster r) 1 0) (Plain n) rooms))
     (omega (arith, z, length-drop n xs)) in
-    λ j. let x : flat.Entry = record { size = sized n rooms xs z j; cluster = None } in x ∷ rest j
+    λ j. let x : flat.LayoutEntry = record { size = sized n rooms xs z j; cluster = None } in x ∷ rest j
 stored_laid [] (Cluster n ∷ rooms) xs e z =
     absurd (omega (arith, e, sum_by-cons (λ (r : Room). cond {A = ℕ} (is_cluster r) 1 0) (Cluster n) rooms))
 stored_laid (c ∷ cs) (Cluster n ∷ rooms) xs e z =
@@ -404,11 +405,11 @@ stored_laid (c ∷ cs) (Cluster n ∷ rooms) xs e z =
     stored_laid cs rooms (drop n xs)
     (omega (arith, e, sum_by-cons (λ (r : Room). cond {A = ℕ} (is_cluster r) 1 0) (Cluster n) rooms))
     (omega (arith, z, length-drop n xs)) in
-    λ j. let x : flat.Entry = record { size = sized n rooms xs z j; cluster = Some c } in x ∷ rest j
+    λ j. let x : flat.LayoutEntry = record { size = sized n rooms xs z j; cluster = Some c } in x ∷ rest j
 
 pub first_laid : (large : ℕ) (ends : Bool) (cs : List ℕ) (rooms : List Room) (xs : List ℕ)
     → length cs ≡ count_by is_cluster rooms → room_sum rooms ≡ length xs
-    → laid (stored_first large ends cs rooms xs) ≡ laid_on cs rooms
+    → laid_entries (stored_first large ends cs rooms xs) ≡ laid_on cs rooms
 unfolding laid_on
 first_laid large ends cs [] xs e z = refl
 first_laid large ends cs (Plain n ∷ rooms) xs e z =
@@ -416,7 +417,7 @@ first_laid large ends cs (Plain n ∷ rooms) xs e z =
     stored_laid cs rooms (drop n xs)
     (omega (arith, e, sum_by-cons (λ (r : Room). cond {A = ℕ} (is_cluster r) 1 0) (Plain n) rooms))
     (omega (arith, z, length-drop n xs)) in
-    λ j. let x : flat.Entry = record { size = sized n rooms xs z j; cluster = None } in x ∷ rest j
+    λ j. let x : flat.LayoutEntry = record { size = sized n rooms xs z j; cluster = None } in x ∷ rest j
 first_laid large ends [] (Cluster n ∷ rooms) xs e z =
     absurd (omega (arith, e, sum_by-cons (λ (r : Room). cond {A = ℕ} (is_cluster r) 1 0) (Cluster n) rooms))
 first_laid large ends (c ∷ cs) (Cluster n ∷ rooms) xs e z =
@@ -424,12 +425,12 @@ first_laid large ends (c ∷ cs) (Cluster n ∷ rooms) xs e z =
     stored_laid cs rooms (drop n xs)
     (omega (arith, e, sum_by-cons (λ (r : Room). cond {A = ℕ} (is_cluster r) 1 0) (Cluster n) rooms))
     (omega (arith, z, length-drop n xs)) in
-    λ j. let x : flat.Entry = record { size = sized n rooms xs z j; cluster = Some c } in x ∷ rest j
+    λ j. let x : flat.LayoutEntry = record { size = sized n rooms xs z j; cluster = Some c } in x ∷ rest j
 
 pub user_laid : (cs : List ℕ) (xs : List ℕ) → length cs ≡ count_by is_cluster (user (length xs))
-    → laid (stored_first 56 true cs (user (length xs)) xs) ≡ laid_on cs (user (length xs))
+    → laid_entries (stored_first 56 true cs (user (length xs)) xs) ≡ laid_on cs (user (length xs))
 user_laid cs xs e = first_laid 56 true cs (user (length xs)) xs e (rooms_sum 56 (length xs) (omega arith))
 
 pub wire_laid : (cs : List ℕ) (xs : List ℕ) → length cs ≡ count_by is_cluster (wire (length xs))
-    → laid (stored_first 0 false cs (wire (length xs)) xs) ≡ laid_on cs (wire (length xs))
+    → laid_entries (stored_first 0 false cs (wire (length xs)) xs) ≡ laid_on cs (wire (length xs))
 wire_laid cs xs e = first_laid 0 false cs (wire (length xs)) xs e (rooms_sum 0 (length xs) (omega arith))

@@ -28,8 +28,8 @@ abbrev pub pulled_len : ℕ → List Entry → ℕ
 pulled_len n es = min (max n MAX_PROTOCOL_HEADER) (length (flat_bytes es))
 
 -- the entries with the first n bytes in one entry
-abbrev pub pulled_up : ChainView → ℕ → List Entry
-pulled_up v n =
+abbrev pub entries_pulled : ChainView → ℕ → List Entry
+entries_pulled v n =
     if has_room (entry_of v 0) n
     then moved (n - length (entry_of v 0).bytes) (entry_of v 0) (drop 1 v.entries)
     else moved (pulled_len n v.entries) (empty_entry (room_low v.front.header) None) v.entries
@@ -43,7 +43,7 @@ abbrev pub pull_need : ChainView → ℕ → ℕ
 pull_need v n = if has_room (entry_of v 0) n then 0 else 1
 
 -- what it is refused for: the first that fits
-abbrev pub IsRefused : PoolView → ChainView → ℕ → Refusal → Type 0
-IsRefused p v n TooLong = MHLEN < n
-IsRefused p v n TooShort = (n ≤ MHLEN) × (length (string v) < n)
-IsRefused p v n NoBufs = (n ≤ MHLEN) × (n ≤ length (string v)) × LacksMbufs p (pull_need v n)
+abbrev pub IsPullRefused : PoolView → ChainView → ℕ → Refusal → Type 0
+IsPullRefused p v n TooLong = MHLEN < n
+IsPullRefused p v n TooShort = (n ≤ MHLEN) × (length (string v) < n)
+IsPullRefused p v n NoBufs = (n ≤ MHLEN) × (n ≤ length (string v)) × LacksMbufs p (pull_need v n)

@@ -4,7 +4,7 @@ use Rattle.std.specs.Prelude.{◌≡◌, ℕ, ◌<◌, ◌≤◌, ◌-◌, Bool,
 use Rattle.std.specs.List.{AllByRecursion}
 use Rattle.params.specs.declared.TheConstants.{MBUF_HEADER, MHLEN, MCLBYTES}
 use Rattle.mbuf_chain.specs.Chain.{Entry, PoolView, references, free_clusters}
-use Rattle.mbuf_chain.specs.Owners.{times}
+use Rattle.mbuf_chain.specs.Owners.{times_among}
 use Rattle.flat_model.specs.Amounts.Layout.{Room, Plain, Cluster, filled, or_empty, is_cluster}
 use Rattle.chain_ops.specs.Makes.{LacksMbufs, HasMbufs}
 use Rattle.chain_ops.specs.Rooms.{room_low, at_end}
@@ -13,7 +13,7 @@ use Rattle.chain_ops.specs.Rooms.{room_low, at_end}
 pub record AreFree (p : PoolView) (cs : List ℕ) : Type 0 where
   pub exist : AllByRecursion (λ c. c < p.clusters) cs
   pub free : AllByRecursion (λ c. references p c ≡ 0) cs
-  pub once : (c : ℕ) → times c cs ≤ 1
+  pub once : (c : ℕ) → times_among c cs ≤ 1
 
 -- the bytes in mbufs of these rooms, after a first one
 abbrev pub stored : List ℕ → List Room → List ℕ → List Entry
@@ -50,8 +50,8 @@ abbrev pub Has : PoolView → List Room → Type 0
 Has p rooms = HasMbufs p (length rooms) × (count_by is_cluster rooms ≤ free_clusters p)
 
 -- the cluster that a new mbuf takes, where it takes one
-abbrev pub IsTaken : PoolView → Bool → Option ℕ → Type 0
-IsTaken p true None = ⊥
-IsTaken p true (Some c) = (c < p.clusters) × (references p c ≡ 0)
-IsTaken p false None = Unit {0}
-IsTaken p false (Some c) = ⊥
+abbrev pub IsClusterTaken : PoolView → Bool → Option ℕ → Type 0
+IsClusterTaken p true None = ⊥
+IsClusterTaken p true (Some c) = (c < p.clusters) × (references p c ≡ 0)
+IsClusterTaken p false None = Unit {0}
+IsClusterTaken p false (Some c) = ⊥

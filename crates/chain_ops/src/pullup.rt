@@ -4,7 +4,7 @@ ghost use Rattle.mbuf_chain.specs.Chain.{IsLive, IsPlace, HasTrailingSpace, chai
 ghost use Rattle.mbuf_chain.specs.Steps.{empty_entry, joined};
 ghost use Rattle.chain_ops.specs.Rooms.{room_low};
 ghost use Rattle.chain_ops.specs.Makes.{Makes, HasMbufs, LacksMbufs};
-ghost use Rattle.chain_ops.specs.Pulls.{IsRefused, moved, has_room, pulled_up, pulled_front, pull_need};
+ghost use Rattle.chain_ops.specs.Pulls.{IsPullRefused, moved, has_room, entries_pulled, pulled_front, pull_need};
 
 use crate::cat::drop_first;
 use crate::step::{counted_len, link_rest, room_low};
@@ -166,12 +166,12 @@ fn len_up_to(pool: &Pool, chain: &Chain, most: u32) -> u32
 pub fn m_pullup(pool: &mut Pool, chain: &mut Chain, n: u32) -> Result<(), Refusal>
     requires { IsLive pool.old chain.old }
     ensures ok { OnOk result (Makes (without pool.old chain.old) pool.new chain.new
-        (pulled_front (chain_of pool.old chain.old) n) (pulled_up (chain_of pool.old chain.old) n)) }
+        (pulled_front (chain_of pool.old chain.old) n) (entries_pulled (chain_of pool.old chain.old) n)) }
     ensures string { OnOk result (string (chain_of pool.new chain.new)
         ≡ string (chain_of pool.old chain.old)) }
     ensures fits { OnOk result ((n ≤ MHLEN) × (n ≤ length (string (chain_of pool.old chain.old)))) }
     ensures enough { OnOk result (HasMbufs pool.old (pull_need (chain_of pool.old chain.old) n)) }
-    ensures err { IfErr result (IsRefused pool.old (chain_of pool.old chain.old) n) }
+    ensures err { IfErr result (IsPullRefused pool.old (chain_of pool.old chain.old) n) }
     ensures same { OnErr result ((pool.new ≡ pool.old) × (chain.new ≡ chain.old)) }
 {
     if n > MHLEN {

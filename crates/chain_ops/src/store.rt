@@ -5,7 +5,7 @@ ghost use Rattle.mbuf_chain.specs.Steps.{one_mbuf};
 ghost use Rattle.flat_model.specs.Amounts.Layout.{user, wire, is_cluster, need_of, next_room, size_of};
 ghost use Rattle.chain_ops.specs.Makes.{Makes};
 ghost use Rattle.chain_ops.specs.Rooms.{room_low};
-ghost use Rattle.chain_ops.specs.Stored.{AreFree, IsTaken, Lacks, Has, rooms_for, stored_first, first_start};
+ghost use Rattle.chain_ops.specs.Stored.{AreFree, IsClusterTaken, Lacks, Has, rooms_for, stored_first, first_start};
 
 use crate::prepend::at_end;
 use crate::step::room_low;
@@ -74,7 +74,7 @@ fn new_stored(
     requires large { is_large ≡ true → large + length bytes.now ≤ MCLBYTES }
     requires low { room_low header ≤ plain }
     requires high { is_large ≡ false → plain + length bytes.now ≤ MSIZE }
-    ensures ok { IfOk result (λ c. (o : Option ℕ) × IsTaken pool.old is_large o
+    ensures ok { IfOk result (λ c. (o : Option ℕ) × IsClusterTaken pool.old is_large o
         × Adds pool.old pool.new c (one_mbuf header (record {
           bytes = bytes.now;
           start = if is_large then large else plain;

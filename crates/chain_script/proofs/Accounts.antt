@@ -7,12 +7,12 @@ use Rattle.std.proofs.lemmas.Bool.{cases_Bool, ltb-true, ltb-false, leb-false}
 use Rattle.mbuf_chain.specs.Chain.{PoolView, chain_of, mbufs_of, references_of, refers, held_mbufs, references, free_clusters}
 use Rattle.mbuf_chain.proofs.Laws.Accounts.{held_by_owners, references_by_owners}
 use Rattle.chain_ops.specs.Makes.{HasMbufs, LacksMbufs}
-use Rattle.chain_script.specs.Machines.{Slot, entries_in, mbufs_held, count, clusters_free, lacks}
-use Rattle.chain_script.specs.Inside.Slots.{numbers, slot_of, machine_of, Fits}
+use Rattle.chain_script.specs.Machines.{Slot, entries_in, mbufs_held, times_referred, clusters_free, lacks}
+use Rattle.chain_script.specs.Inside.Slots.{slot_numbers, slot_of, machine_of, FitsSlots}
 
 sum_slots : (f : Option Slot → ℕ) (g : ℕ → ℕ) (p : PoolView) → f None ≡ 0 → ((c : ℕ) → f (slot_of p (Some c)) ≡ g c)
     → (slots : List (Option ℕ))
-    → sum_by f (map (slot_of p) slots) ≡ sum_by g (numbers slots)
+    → sum_by f (map (slot_of p) slots) ≡ sum_by g (slot_numbers slots)
 sum_slots f g p none some [] = refl
 sum_slots f g p none some (None ∷ slots) =
     omega (arith, sum_by-cons f None (map (slot_of p) slots), none, sum_slots f g p none some slots)
@@ -20,23 +20,24 @@ sum_slots f g p none some (Some c ∷ slots) =
     omega (
       arith,
       sum_by-cons f (slot_of p (Some c)) (map (slot_of p) slots),
-      sum_by-cons g c (numbers slots),
+      sum_by-cons g c (slot_numbers slots),
       some c,
       sum_slots f g p none some slots,
     )
 
-pub held_is : (p : PoolView) (slots : List (Option ℕ)) → Fits p slots → mbufs_held (machine_of p slots) ≡ held_mbufs p
+pub held_is : (p : PoolView) (slots : List (Option ℕ)) → FitsSlots p slots
+    → mbufs_held (machine_of p slots) ≡ held_mbufs p
 held_is p slots fits =
     sum_slots (λ s. length (entries_in s)) (λ k. mbufs_of (chain_of p k)) p refl (λ c. refl) slots
-    ∙ sym (held_by_owners p (numbers slots) fits)
+    ∙ sym (held_by_owners p (slot_numbers slots) fits)
 
-pub count_is : (p : PoolView) (slots : List (Option ℕ)) (c : ℕ) → Fits p slots
-    → count (machine_of p slots) c ≡ references p c
+pub count_is : (p : PoolView) (slots : List (Option ℕ)) (c : ℕ) → FitsSlots p slots
+    → times_referred (machine_of p slots) c ≡ references p c
 count_is p slots c fits =
     sum_slots (λ s. count_by (refers c) (entries_in s)) (λ k. references_of c (chain_of p k)) p refl (λ k. refl) slots
-    ∙ sym (references_by_owners p (numbers slots) c fits)
+    ∙ sym (references_by_owners p (slot_numbers slots) c fits)
 
-pub free_is : (p : PoolView) (slots : List (Option ℕ)) → Fits p slots
+pub free_is : (p : PoolView) (slots : List (Option ℕ)) → FitsSlots p slots
     → clusters_free (machine_of p slots) ≡ free_clusters p
 free_is p slots fits = (λ j. count_by (λ c. count_is p slots c fits j == 0) (range_with_len 0 p.clusters))
 
@@ -57,20 +58,21 @@ or_right false y h = h
 or_none : (x y : Bool) → x ≡ false → y ≡ false → (x || y) ≡ false
 or_none x y hx hy = ap (λ (b : Bool). b || y) hx ∙ hy
 
-pub has_all : (p : PoolView) (slots : List (Option ℕ)) (n m : ℕ) → Fits p slots → HasMbufs p n → m ≤ free_clusters p
+pub has_all : (p : PoolView) (slots : List (Option ℕ)) (n m : ℕ) → FitsSlots p slots → HasMbufs p n
+    → m ≤ free_clusters p
     → lacks (machine_of p slots) n m ≡ false
 has_all p slots n m fits mbufs clusters =
     or_none (nat_lt p.mbufs (mbufs_held (machine_of p slots) + n)) (nat_lt (clusters_free (machine_of p slots)) m)
     (lt_no _ _ (omega (arith, held_is p slots fits, mbufs)))
     (lt_no _ _ (omega (arith, free_is p slots fits, clusters)))
 
-pub lacks_mbufs : (p : PoolView) (slots : List (Option ℕ)) (n m : ℕ) → Fits p slots → LacksMbufs p n
+pub lacks_mbufs : (p : PoolView) (slots : List (Option ℕ)) (n m : ℕ) → FitsSlots p slots → LacksMbufs p n
     → lacks (machine_of p slots) n m ≡ true
 lacks_mbufs p slots n m fits mbufs =
     ap (λ (b : Bool). b || nat_lt (clusters_free (machine_of p slots)) m)
     (lt_yes p.mbufs (mbufs_held (machine_of p slots) + n) (omega (arith, held_is p slots fits, mbufs)))
 
-pub lacks_clusters : (p : PoolView) (slots : List (Option ℕ)) (n m : ℕ) → Fits p slots → free_clusters p < m
+pub lacks_clusters : (p : PoolView) (slots : List (Option ℕ)) (n m : ℕ) → FitsSlots p slots → free_clusters p < m
     → lacks (machine_of p slots) n m ≡ true
 lacks_clusters p slots n m fits clusters =
     or_right (nat_lt p.mbufs (mbufs_held (machine_of p slots) + n)) (nat_lt (clusters_free (machine_of p slots)) m)

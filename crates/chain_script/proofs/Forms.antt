@@ -2,8 +2,8 @@
 use Rattle.std.proofs.Common.{◌≡◌, ℕ, ◌≤◌, List, ◌∷◌, length, if◌then◌else◌, codes, bytes_eq, Option, Some, None, sym, ap, ◌∙◌, subst, arith}
 use Rattle.std.specs.Prelude.{MatchOption, IfSome}
 use Rattle.flat_model.specs.Scripts.Grammar.{words}
-use Rattle.chain_script.specs.Lines.{Request, User, Wire, Copy, Prepend, Pull_up, Adjust, Split, Join, Write_over, Read_out, Show, Free, Ask_usage, keyword, HasWords, IsRequest}
-use Rattle.chain_script.specs.Inside.Calls.{request_of, IsCall, IsForm, ReadsForm}
+use Rattle.chain_script.specs.Lines.{Request, User, Wire, Copy, Prepend, Pull_up, Adjust, Split, Join, Write_over, Read_out, Show, Free, Ask_usage, chain_keyword, HasWords, IsRequest}
+use Rattle.chain_script.specs.Inside.Calls.{request_of, IsSlotCall, IsChainForm, ReadsChainForm}
 use Rattle.chain_script.specs.declared.line.Call.{Call}
 
 place : List ℕ → ℕ
@@ -38,7 +38,7 @@ index (Free slot) = 11
 index Ask_usage = 12
 
 -- a request whose keyword is that of another place is another one
-place-keyword : (r : Request) (name : List ℕ) → keyword r ≡ name → index r ≡ place name
+place-keyword : (r : Request) (name : List ℕ) → chain_keyword r ≡ name → index r ≡ place name
 unfolding place
 place-keyword (User slot bytes) name e = ap place e
 place-keyword (Wire slot bytes) name e = ap place e
@@ -55,26 +55,26 @@ place-keyword (Free slot) name e = ap place e
 place-keyword Ask_usage name e = ap place e
 
 pub User-only : (args : List (List ℕ)) → ((slot : ℕ) (bytes : List ℕ) → HasWords (User slot bytes) args → ⊥)
-    → (r : Request) → IsForm (codes "user") args r → ⊥
+    → (r : Request) → IsChainForm (codes "user") args r → ⊥
 unfolding place
 User-only args none (User slot bytes) h = none slot bytes h.1
 User-only args none r h = absurd (let e : index r ≡ 0 = place-keyword r (codes "user") h.0 in omega arith)
 
 pub Wire-only : (args : List (List ℕ)) → ((slot : ℕ) (bytes : List ℕ) → HasWords (Wire slot bytes) args → ⊥)
-    → (r : Request) → IsForm (codes "wire") args r → ⊥
+    → (r : Request) → IsChainForm (codes "wire") args r → ⊥
 unfolding place
 Wire-only args none (Wire slot bytes) h = none slot bytes h.1
 Wire-only args none r h = absurd (let e : index r ≡ 1 = place-keyword r (codes "wire") h.0 in omega arith)
 
 pub Prepend-only : (args : List (List ℕ)) → ((slot : ℕ) (bytes : List ℕ) → HasWords (Prepend slot bytes) args → ⊥)
-    → (r : Request) → IsForm (codes "prepend") args r → ⊥
+    → (r : Request) → IsChainForm (codes "prepend") args r → ⊥
 unfolding place
 Prepend-only args none (Prepend slot bytes) h = none slot bytes h.1
 Prepend-only args none r h = absurd (let e : index r ≡ 3 = place-keyword r (codes "prepend") h.0 in omega arith)
 
 pub Write_over-only : (args : List (List ℕ))
     → ((slot off : ℕ) (bytes : List ℕ) → HasWords (Write_over slot off bytes) args → ⊥) → (r : Request)
-    → IsForm (codes "copyback") args r → ⊥
+    → IsChainForm (codes "copyback") args r → ⊥
 unfolding place
 Write_over-only args none (Write_over slot off bytes) h = none slot off bytes h.1
 Write_over-only args none r h = absurd (let e : index r ≡ 8 = place-keyword r (codes "copyback") h.0 in omega arith)
@@ -83,7 +83,7 @@ Write_over-only args none r h = absurd (let e : index r ≡ 8 = place-keyword r 
 -- a form that begins with its keyword is the line's
 pub call_form : (line name kw : List ℕ) (args : List (List ℕ)) (room : List ℕ) (r : Option Call) → length line ≤ 131200
     → words line ≡ name ∷ args → name ≡ kw
-    → ReadsForm kw args room r → MatchOption r ((request : Request) → IsRequest line request → ⊥)
+    → ReadsChainForm kw args room r → MatchOption r ((request : Request) → IsRequest line request → ⊥)
     (λ call. IsRequest line (request_of call room))
 call_form line name kw args room (Some call) short cut same form = record {
   short = short;
@@ -92,11 +92,11 @@ call_form line name kw args room (Some call) short cut same form = record {
   arguments = form.0.1;
 }
 call_form line name kw args room None short cut same form = λ request h.
-    let begins : keyword request ≡ kw = cc (sym h.words_are ∙ cut ∙ ap (λ (n : List ℕ). n ∷ args) same) in
+    let begins : chain_keyword request ≡ kw = cc (sym h.words_are ∙ cut ∙ ap (λ (n : List ℕ). n ∷ args) same) in
     let rest : h.args ≡ args = cc (sym h.words_are ∙ cut) in
     form request (begins, subst (λ (t : List (List ℕ)). HasWords request t) rest h.arguments)
 
-pub form_fits : (kw : List ℕ) (args : List (List ℕ)) (room : List ℕ) (r : Option Call) → ReadsForm kw args room r
-    → IfSome r (λ call. IsCall call)
+pub form_fits : (kw : List ℕ) (args : List (List ℕ)) (room : List ℕ) (r : Option Call) → ReadsChainForm kw args room r
+    → IfSome r (λ call. IsSlotCall call)
 form_fits kw args room (Some call) form = form.1
 form_fits kw args room None form = tt

@@ -3,7 +3,7 @@ use Rattle.std.proofs.Common.{◌≡◌, ℕ, true, false, List, length, get_or,
 use Rattle.std.specs.Prelude.{is_some}
 use Rattle.std.proofs.Math.ListN.{get_or-map}
 use Rattle.mbuf_chain.specs.Chain.{Entry, PoolView, chain_of, string, flat_bytes}
-use Rattle.chain_script.specs.Machines.{slot_at, is_held, entries_in, entries_at, header_in, header_at, length_at}
+use Rattle.chain_script.specs.Machines.{slot_at, is_held, entries_in, entries_at, is_headed, header_at, length_at}
 use Rattle.chain_script.specs.Inside.Slots.{slot_of, machine_of}
 
 at_slot : (p : PoolView) (slots : List (Option ℕ)) (i : ℕ)
@@ -24,7 +24,7 @@ entries_are p slots i c is = ap entries_in (at_slot p slots i ∙ ap (slot_of p)
 
 pub header_is : (p : PoolView) (slots : List (Option ℕ)) (i c : ℕ) → get_or slots i None ≡ Some c
     → header_at (machine_of p slots) i ≡ (chain_of p c).front.header
-header_is p slots i c is = ap header_in (at_slot p slots i ∙ ap (slot_of p) is)
+header_is p slots i c is = ap is_headed (at_slot p slots i ∙ ap (slot_of p) is)
 
 pub length_is : (p : PoolView) (slots : List (Option ℕ)) (i c : ℕ) → get_or slots i None ≡ Some c
     → length_at (machine_of p slots) i ≡ length (string (chain_of p c))

@@ -2,22 +2,22 @@
 use Rattle.std.proofs.Common.{◌≡◌, ℕ, ◌+◌, ◌≤◌, Some, None, List, length, map, sum, fold, max, get_or, Option, refl, sym, ap, ◌∙◌, arith}
 use Rattle.std.specs.List.{range_with_len}
 use Rattle.mbuf_chain.specs.declared.usage.Usage.{Usage}
-use Rattle.mbuf_chain.specs.Chain.{PoolView, IsLive, chain_of, without, string, held_mbufs, references, counts, free_clusters}
+use Rattle.mbuf_chain.specs.Chain.{PoolView, IsLive, chain_of, without, string, held_mbufs, references, reference_counts, free_clusters}
 use Rattle.mbuf_chain.specs.Frames.{IsBounded}
 use Rattle.mbuf_chain.proofs.Laws.Accounts.{held-without}
-use Rattle.chain_script.specs.Machines.{usage_of}
-use Rattle.chain_script.specs.Steps.{Laid, Wrong_chain, Step, shapes_of}
+use Rattle.chain_script.specs.Machines.{slots_usage}
+use Rattle.chain_script.specs.Steps.{Laid, Wrong_chain, ChainStep, shapes_of}
 use Rattle.chain_script.specs.Lines.{Show}
-use Rattle.chain_script.specs.Inside.Slots.{machine_of, Fits}
+use Rattle.chain_script.specs.Inside.Slots.{machine_of, FitsSlots}
 use Rattle.chain_script.proofs.Accounts.{held_is, count_is, free_is}
 use Rattle.chain_script.proofs.Faults.{wrong_chain, done}
 use Rattle.chain_script.proofs.Held.{is_there, is_empty, entries_are, length_is}
 
 -- what the pool tells of itself is what the slots show of it
-pub usage_is : (p : PoolView) (slots : List (Option ℕ)) (u : Usage) → Fits p slots → u.mbufs ≡ p.mbufs
+pub usage_is : (p : PoolView) (slots : List (Option ℕ)) (u : Usage) → FitsSlots p slots → u.mbufs ≡ p.mbufs
     → u.free_mbufs + held_mbufs p ≡ p.mbufs
-    → u.clusters ≡ p.clusters → u.free_clusters ≡ free_clusters p → u.references ≡ sum (counts p)
-    → u.greatest_count ≡ fold max 0 (counts p)
+    → u.clusters ≡ p.clusters → u.free_clusters ≡ free_clusters p → u.references ≡ sum (reference_counts p)
+    → u.greatest_count ≡ fold max 0 (reference_counts p)
     → record {
       free_mbufs = u.free_mbufs;
       mbufs = u.mbufs;
@@ -25,15 +25,16 @@ pub usage_is : (p : PoolView) (slots : List (Option ℕ)) (u : Usage) → Fits p
       clusters = u.clusters;
       refs = u.references;
       most = u.greatest_count;
-    } ≡ usage_of (machine_of p slots)
+    } ≡ slots_usage (machine_of p slots)
 usage_is p slots u fits mbufs free clusters free_too refs most =
-    let left : u.free_mbufs ≡ (usage_of (machine_of p slots)).free_mbufs = omega (arith, held_is p slots fits, free) in
-    let each : counts p ≡ Rattle.chain_script.specs.Machines.counts (machine_of p slots) =
+    let left : u.free_mbufs ≡ (slots_usage (machine_of p slots)).free_mbufs =
+    omega (arith, held_is p slots fits, free) in
+    let each : reference_counts p ≡ Rattle.chain_script.specs.Machines.counts_of_clusters (machine_of p slots) =
     (λ j. map (λ c. sym (count_is p slots c fits) j) (range_with_len 0 p.clusters)) in
-    let same : u.free_clusters ≡ (usage_of (machine_of p slots)).free_clusters =
+    let same : u.free_clusters ≡ (slots_usage (machine_of p slots)).free_clusters =
     free_too ∙ sym (free_is p slots fits) in
-    let all : u.references ≡ (usage_of (machine_of p slots)).refs = refs ∙ ap sum each in
-    let top : u.greatest_count ≡ (usage_of (machine_of p slots)).most = most ∙ ap (fold max 0) each in
+    let all : u.references ≡ (slots_usage (machine_of p slots)).refs = refs ∙ ap sum each in
+    let top : u.greatest_count ≡ (slots_usage (machine_of p slots)).most = most ∙ ap (fold max 0) each in
     (λ j. record {
       free_mbufs = left j;
       mbufs = mbufs j;
@@ -48,8 +49,8 @@ pub few_mbufs : (p : PoolView) (c : ℕ) → IsLive p c → IsBounded p → leng
 few_mbufs p c live b = omega (arith, held-without p (without p c) c live refl, b.few, b.small)
 
 -- ---- the steps
-pub show_done : (p : PoolView) (slots : List (Option ℕ)) (i c : ℕ) → Fits p slots → get_or slots i None ≡ Some c
-    → Step (machine_of p slots) (Show i)
+pub show_done : (p : PoolView) (slots : List (Option ℕ)) (i c : ℕ) → FitsSlots p slots → get_or slots i None ≡ Some c
+    → ChainStep (machine_of p slots) (Show i)
     (Laid (length (string (chain_of p c))) (shapes_of (references p) (chain_of p c).entries)) (machine_of p slots)
 show_done p slots i c fits is =
     done (machine_of p slots) (Show i) _ _ (is_there p slots i c is) refl refl refl refl refl (
@@ -59,5 +60,5 @@ show_done p slots i c fits is =
     )
 
 pub show_empty : (p : PoolView) (slots : List (Option ℕ)) (i : ℕ) → get_or slots i None ≡ None
-    → Step (machine_of p slots) (Show i) Wrong_chain (machine_of p slots)
+    → ChainStep (machine_of p slots) (Show i) Wrong_chain (machine_of p slots)
 show_empty p slots i is = wrong_chain (machine_of p slots) (Show i) (is_empty p slots i is)

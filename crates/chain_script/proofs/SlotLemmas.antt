@@ -5,23 +5,23 @@ use Rattle.std.proofs.lemmas.Grind.{common_steps}
 use Rattle.std.proofs.lemmas.List.{map-set, set-get_or, get_or-set_other, get_or_default, length-set}
 use Rattle.std.proofs.lemmas.List.Sums.{sum_by-set, sum_by-cons}
 use Rattle.mbuf_chain.specs.Chain.{ChainView, PoolView, IsLive, chain_of, no_chain}
-use Rattle.mbuf_chain.specs.Owners.{times, live_at, Moves}
+use Rattle.mbuf_chain.specs.Owners.{times_among, live_at, Moves}
 use Rattle.mbuf_chain.proofs.Laws.Owners.{times_same, live_at_most, live_from}
-use Rattle.chain_script.specs.Machines.{Slot, put, emptied}
-use Rattle.chain_script.specs.Inside.Slots.{number_in, numbers, slot_of, machine_of, Fits}
+use Rattle.chain_script.specs.Machines.{Slot, with_slot, emptied}
+use Rattle.chain_script.specs.Inside.Slots.{with_number, slot_numbers, slot_of, machine_of, FitsSlots}
 
 -- ---- how often a number stands in the slots
 abbrev times_in : ℕ → Option ℕ → ℕ
-times_in k slot = times k (number_in slot [])
+times_in k slot = times_among k (with_number slot [])
 
-times_slots : (k : ℕ) (slots : List (Option ℕ)) → times k (numbers slots) ≡ sum_by (times_in k) slots
+times_slots : (k : ℕ) (slots : List (Option ℕ)) → times_among k (slot_numbers slots) ≡ sum_by (times_in k) slots
 times_slots k [] = refl
 times_slots k (None ∷ slots) = omega (arith, times_slots k slots, sum_by-cons (times_in k) None slots)
 times_slots k (Some c ∷ slots) = omega (arith, times_slots k slots, sum_by-cons (times_in k) (Some c) slots)
 
 pub times-set : (k : ℕ) (slots : List (Option ℕ)) (i : ℕ) (slot : Option ℕ) → i < length slots
-    → times k (numbers (set slots i slot)) + times_in k (get_or slots i None)
-    ≡ times k (numbers slots) + times_in k slot
+    → times_among k (slot_numbers (set slots i slot)) + times_in k (get_or slots i None)
+    ≡ times_among k (slot_numbers slots) + times_in k slot
 times-set k slots i slot within =
     omega (
       arith,
@@ -32,13 +32,13 @@ times-set k slots i slot within =
 
 -- ---- what slots show
 pub slots_same : (p q : PoolView) (slots : List (Option ℕ))
-    → ((k : ℕ) → 0 < times k (numbers slots) → finmap.get q.chains k ≡ finmap.get p.chains k)
+    → ((k : ℕ) → 0 < times_among k (slot_numbers slots) → finmap.get q.chains k ≡ finmap.get p.chains k)
     → map (slot_of q) slots ≡ map (slot_of p) slots
 slots_same p q [] same = refl
 slots_same p q (None ∷ slots) same = ap (λ (ss : List (Option Slot)). None ∷ ss) (slots_same p q slots same)
 slots_same p q (Some c ∷ slots) same =
     let here : chain_of q c ≡ chain_of p c =
-    ap (λ (o : Option ChainView). unwrap_or o no_chain) (same c (omega (arith, times_same c (numbers slots)))) in
+    ap (λ (o : Option ChainView). unwrap_or o no_chain) (same c (omega (arith, times_same c (slot_numbers slots)))) in
     let rest : map (slot_of q) slots ≡ map (slot_of p) slots =
     slots_same p q slots (λ k h. same k (omega (arith, h))) in
     (λ j. Some (record { header = (here j).front.header; entries = (here j).entries }) ∷ rest j)
@@ -49,19 +49,19 @@ set-set (z ∷ xs) zero x y = refl
 set-set (z ∷ xs) (suc i) x y = ap (λ (ys : List _). z ∷ ys) (set-set xs i x y)
 
 -- ---- a chain of one slot, and the others
-pub hand : (p : PoolView) (slots : List (Option ℕ)) (i c : ℕ) → Fits p slots → i < length slots
+pub hand : (p : PoolView) (slots : List (Option ℕ)) (i c : ℕ) → FitsSlots p slots → i < length slots
     → get_or slots i None ≡ Some c
-    → (k : ℕ) → times k (c ∷ numbers (set slots i None)) ≡ live_at p k
+    → (k : ℕ) → times_among k (c ∷ slot_numbers (set slots i None)) ≡ live_at p k
 hand p slots i c fits within is = λ k. omega (arith, times-set k slots i None within, ap (times_in k) is, fits k)
 
-pub live_slot : (p : PoolView) (slots : List (Option ℕ)) (i c : ℕ) → Fits p slots → i < length slots
+pub live_slot : (p : PoolView) (slots : List (Option ℕ)) (i c : ℕ) → FitsSlots p slots → i < length slots
     → get_or slots i None ≡ Some c → IsLive p c
 live_slot p slots i c fits within is =
-    live_from p c (omega (arith, hand p slots i c fits within is c, times_same c (numbers (set slots i None))))
+    live_from p c (omega (arith, hand p slots i c fits within is c, times_same c (slot_numbers (set slots i None))))
 
 -- what the slots show that a step doesn't touch
 others : (p q : PoolView) (rest : List (Option ℕ)) (us vs : List ℕ)
-    → ((k : ℕ) → times k us + times k (numbers rest) ≡ live_at p k) → Moves p us q vs
+    → ((k : ℕ) → times_among k us + times_among k (slot_numbers rest) ≡ live_at p k) → Moves p us q vs
     → map (slot_of q) rest ≡ map (slot_of p) rest
 others p q rest us vs all m =
     slots_same p q rest (λ k some. m.others k (live_from p k (omega (arith, all k, some)))
@@ -72,15 +72,15 @@ shown q d = slot_of q (Some d)
 
 -- ---- the steps
 -- a new chain in an empty slot
-pub made_fits : (p q : PoolView) (slots : List (Option ℕ)) (i d : ℕ) → Fits p slots → i < length slots
+pub made_fits : (p q : PoolView) (slots : List (Option ℕ)) (i d : ℕ) → FitsSlots p slots → i < length slots
     → get_or slots i None ≡ None → Moves p [] q (d ∷ [])
-    → Fits q (set slots i (Some d))
+    → FitsSlots q (set slots i (Some d))
 made_fits p q slots i d fits within is m =
     λ k. omega (arith, times-set k slots i (Some d) within, ap (times_in k) is, fits k, m.owned k)
 
-pub made : (p q : PoolView) (slots : List (Option ℕ)) (i d : ℕ) → Fits p slots → Moves p [] q (d ∷ [])
+pub made : (p q : PoolView) (slots : List (Option ℕ)) (i d : ℕ) → FitsSlots p slots → Moves p [] q (d ∷ [])
     → machine_of q (set slots i (Some d))
-    ≡ put (machine_of p slots) i (chain_of q d).front.header (chain_of q d).entries
+    ≡ with_slot (machine_of p slots) i (chain_of q d).front.header (chain_of q d).entries
 made p q slots i d fits m =
     let rest : map (slot_of q) slots ≡ map (slot_of p) slots =
     others p q slots [] (d ∷ []) (λ k. omega (arith, fits k)) m in
@@ -89,16 +89,16 @@ made p q slots i d fits m =
     (λ j. record { mbufs = m.mbufs j; clusters = m.clusters j; slots = all j })
 
 -- a chain that was changed, perhaps under another number
-pub changed_fits : (p q : PoolView) (slots : List (Option ℕ)) (i c d : ℕ) → Fits p slots → i < length slots
+pub changed_fits : (p q : PoolView) (slots : List (Option ℕ)) (i c d : ℕ) → FitsSlots p slots → i < length slots
     → get_or slots i None ≡ Some c → Moves p (c ∷ []) q (d ∷ [])
-    → Fits q (set slots i (Some d))
+    → FitsSlots q (set slots i (Some d))
 changed_fits p q slots i c d fits within is m =
     λ k. omega (arith, times-set k slots i (Some d) within, ap (times_in k) is, fits k, m.owned k)
 
-pub changed : (p q : PoolView) (slots : List (Option ℕ)) (i c d : ℕ) → Fits p slots → i < length slots
+pub changed : (p q : PoolView) (slots : List (Option ℕ)) (i c d : ℕ) → FitsSlots p slots → i < length slots
     → get_or slots i None ≡ Some c → Moves p (c ∷ []) q (d ∷ [])
     → machine_of q (set slots i (Some d))
-    ≡ put (machine_of p slots) i (chain_of q d).front.header (chain_of q d).entries
+    ≡ with_slot (machine_of p slots) i (chain_of q d).front.header (chain_of q d).entries
 changed p q slots i c d fits within is m =
     let rest : map (slot_of q) (set slots i None) ≡ map (slot_of p) (set slots i None) =
     others p q (set slots i None) (c ∷ []) (d ∷ []) (λ k. omega (arith, hand p slots i c fits within is k)) m in
@@ -114,12 +114,12 @@ pub same_slot : (slots : List (Option ℕ)) (i c : ℕ) → get_or slots i None 
 same_slot slots i c is = ap (set slots i) (sym is) ∙ set-get_or slots i None
 
 -- a chain that was freed
-pub freed_fits : (p q : PoolView) (slots : List (Option ℕ)) (i c : ℕ) → Fits p slots → i < length slots
+pub freed_fits : (p q : PoolView) (slots : List (Option ℕ)) (i c : ℕ) → FitsSlots p slots → i < length slots
     → get_or slots i None ≡ Some c → Moves p (c ∷ []) q []
-    → Fits q (set slots i None)
+    → FitsSlots q (set slots i None)
 freed_fits p q slots i c fits within is m = λ k. omega (arith, hand p slots i c fits within is k, m.owned k)
 
-pub freed : (p q : PoolView) (slots : List (Option ℕ)) (i c : ℕ) → Fits p slots → i < length slots
+pub freed : (p q : PoolView) (slots : List (Option ℕ)) (i c : ℕ) → FitsSlots p slots → i < length slots
     → get_or slots i None ≡ Some c → Moves p (c ∷ []) q []
     → machine_of q (set slots i None) ≡ emptied (machine_of p slots) i
 freed p q slots i c fits within is m =
@@ -134,10 +134,11 @@ apart_slots : (slots : List (Option ℕ)) (i j c : ℕ) → i ≢ j → get_or s
     → get_or (set slots j None) i None ≡ Some c
 apart_slots slots i j c ne is = get_or-set_other slots j i None None ne ∙ is
 
-pub pair : (p : PoolView) (slots : List (Option ℕ)) (i j c d : ℕ) → Fits p slots → i < length slots → j < length slots
+pub pair : (p : PoolView) (slots : List (Option ℕ)) (i j c d : ℕ) → FitsSlots p slots → i < length slots
+    → j < length slots
     → i ≢ j
     → get_or slots i None ≡ Some c → get_or slots j None ≡ Some d
-    → (k : ℕ) → times k (c ∷ d ∷ []) + times k (numbers (set (set slots j None) i None)) ≡ live_at p k
+    → (k : ℕ) → times_among k (c ∷ d ∷ []) + times_among k (slot_numbers (set (set slots j None) i None)) ≡ live_at p k
 pair p slots i j c d fits wi wj ne first second = λ k.
     omega (
       arith,
@@ -146,7 +147,7 @@ pair p slots i j c d fits wi wj ne first second = λ k.
       ap (times_in k) (apart_slots slots i j c ne first),
     )
 
-pub apart_chains : (p : PoolView) (slots : List (Option ℕ)) (i j c d : ℕ) → Fits p slots → i < length slots
+pub apart_chains : (p : PoolView) (slots : List (Option ℕ)) (i j c d : ℕ) → FitsSlots p slots → i < length slots
     → j < length slots → i ≢ j
     → get_or slots i None ≡ Some c → get_or slots j None ≡ Some d → c ≢ d
 apart_chains p slots i j c d fits wi wj ne first second = λ same.
@@ -156,21 +157,21 @@ apart_chains p slots i j c d fits wi wj ne first second = λ same.
       times_same d [],
       times_same d (d ∷ []),
       live_at_most p d,
-      ap (λ (n : ℕ). times d (n ∷ d ∷ [])) same,
+      ap (λ (n : ℕ). times_among d (n ∷ d ∷ [])) same,
     ))
 
-pub joined_fits : (p q : PoolView) (slots : List (Option ℕ)) (i j c d : ℕ) → Fits p slots → i < length slots
+pub joined_fits : (p q : PoolView) (slots : List (Option ℕ)) (i j c d : ℕ) → FitsSlots p slots → i < length slots
     → j < length slots → i ≢ j
     → get_or slots i None ≡ Some c → get_or slots j None ≡ Some d → Moves p (c ∷ d ∷ []) q (c ∷ [])
-    → Fits q (set slots j None)
+    → FitsSlots q (set slots j None)
 joined_fits p q slots i j c d fits wi wj ne first second m = λ k.
     omega (arith, hand p slots j d fits wj second k, m.owned k)
 
-pub joined : (p q : PoolView) (slots : List (Option ℕ)) (i j c d : ℕ) → Fits p slots → i < length slots
+pub joined : (p q : PoolView) (slots : List (Option ℕ)) (i j c d : ℕ) → FitsSlots p slots → i < length slots
     → j < length slots → i ≢ j
     → get_or slots i None ≡ Some c → get_or slots j None ≡ Some d → Moves p (c ∷ d ∷ []) q (c ∷ [])
     → machine_of q (set slots j None)
-    ≡ put (emptied (machine_of p slots) j) i (chain_of q c).front.header (chain_of q c).entries
+    ≡ with_slot (emptied (machine_of p slots) j) i (chain_of q c).front.header (chain_of q c).entries
 joined p q slots i j c d fits wi wj ne first second m =
     let left : List (Option ℕ) = set slots j None in
     let rest : map (slot_of q) (set left i None) ≡ map (slot_of p) (set left i None) =
@@ -185,18 +186,19 @@ joined p q slots i j c d fits wi wj ne first second m =
     (λ j'. record { mbufs = m.mbufs j'; clusters = m.clusters j'; slots = all j' })
 
 -- a chain cut in two: slot i keeps the front, and the empty slot j gets the back
-pub parted_fits : (p q : PoolView) (slots : List (Option ℕ)) (i j c d : ℕ) → Fits p slots → i < length slots
+pub parted_fits : (p q : PoolView) (slots : List (Option ℕ)) (i j c d : ℕ) → FitsSlots p slots → i < length slots
     → j < length slots
     → get_or slots i None ≡ Some c → get_or slots j None ≡ None → Moves p (c ∷ []) q (c ∷ d ∷ [])
-    → Fits q (set slots j (Some d))
+    → FitsSlots q (set slots j (Some d))
 parted_fits p q slots i j c d fits wi wj first second m = λ k.
     omega (arith, times-set k slots j (Some d) wj, ap (times_in k) second, fits k, m.owned k)
 
-pub parted : (p q : PoolView) (slots : List (Option ℕ)) (i j c d : ℕ) → Fits p slots → i < length slots
+pub parted : (p q : PoolView) (slots : List (Option ℕ)) (i j c d : ℕ) → FitsSlots p slots → i < length slots
     → j < length slots
     → get_or slots i None ≡ Some c → get_or slots j None ≡ None → Moves p (c ∷ []) q (c ∷ d ∷ [])
     → machine_of q (set slots j (Some d))
-    ≡ put (put (machine_of p slots) i (chain_of q c).front.header (chain_of q c).entries) j (chain_of q d).front.header
+    ≡ with_slot (with_slot (machine_of p slots) i (chain_of q c).front.header (chain_of q c).entries) j
+    (chain_of q d).front.header
     (chain_of q d).entries
 parted p q slots i j c d fits wi wj first second m =
     let rest : map (slot_of q) (set slots i None) ≡ map (slot_of p) (set slots i None) =
@@ -217,10 +219,10 @@ slot_is slots i other slot within is = get_or_default slots i None other within 
 
 -- ---- slots that are all empty
 pub none_left : (slots : List (Option ℕ)) → ((k : ℕ) → k < length slots → get_or slots k None ≡ None)
-    → numbers slots ≡ []
+    → slot_numbers slots ≡ []
 none_left [] empty = refl
 none_left (slot ∷ slots) empty =
-    ap (λ (s : Option ℕ). number_in s (numbers slots)) (empty 0 (omega arith))
+    ap (λ (s : Option ℕ). with_number s (slot_numbers slots)) (empty 0 (omega arith))
     ∙ none_left slots (λ k lt. empty (suc k) (omega arith))
 
 pub all_none : (slots : List (Option ℕ)) (n : ℕ) → length slots ≡ n → ((k : ℕ) → k < n → get_or slots k None ≡ None)

@@ -16,8 +16,8 @@ use Rattle.chain_ops.proofs.Laws.Strings.{copied_bytes, copied_all_bytes, adjust
 use Rattle.chain_ops.proofs.Laws.Stored.{user_bytes, wire_bytes, copied_back_bytes}
 use Rattle.script_loop.specs.Printed.{Prints}
 use Rattle.chain_script.specs.Lines.{Request, User, Wire, Copy, Prepend, Pull_up, Adjust, Split, Join, Write_over, Read_out, Show, Free, Ask_usage}
-use Rattle.chain_script.specs.Machines.{Machine, Slot, booted, slot_at, is_held, entries_in, entries_at, header_at, view_at, length_at, put, emptied, count, usage_of, has_slots, is_in_range, is_range, hits_shared, is_too_long, is_too_short, lacks_buffers}
-use Rattle.chain_script.specs.Steps.{Reply, Wrong_chain, Wrong_range, Shared, Too_long, Too_short, No_buffers, first_true, Does, DoesUnless, Step, Says, shapes_of}
+use Rattle.chain_script.specs.Machines.{Machine, Slot, booted, slot_at, is_held, entries_in, entries_at, header_at, view_at, length_at, with_slot, emptied, times_referred, slots_usage, has_slots, is_in_range, is_range, hits_shared, is_too_long, is_too_short, lacks_buffers}
+use Rattle.chain_script.specs.Steps.{ChainReply, Wrong_chain, Wrong_range, Shared, Too_long, Too_short, No_buffers, first_true, DoesRequest, DoesUnless, ChainStep, Says, shapes_of}
 use Rattle.chain_script.specs.Strings.{string_in, strings_of, string_at, bytes_at, has_string, has_strings, is_in_strings, is_string_short, string_fault, strings_after, TellsDone, TellsUnless, StringStep, StringSays}
 
 -- ---- one slot
@@ -42,7 +42,7 @@ long : (b : Machine) (i : ℕ) → length (bytes_at (strings_of b) i) ≡ length
 long b i = ap (λ (xs : List ℕ). length xs) (bytes b i)
 
 strings-put : (b : Machine) (i : ℕ) (header : Bool) (es : List Entry) (xs : List ℕ) → flat_bytes es ≡ xs
-    → strings_of (put b i header es) ≡ set (strings_of b) i (Some xs)
+    → strings_of (with_slot b i header es) ≡ set (strings_of b) i (Some xs)
 strings-put b i header es xs e =
     map-set string_in b.slots i (Some (record { header = header; entries = es }))
     ∙ ap (λ (ys : List ℕ). set (strings_of b) i (Some ys)) e
@@ -127,7 +127,7 @@ some_is (Some xs) h = refl
 kept : (ss : List (Option (List ℕ))) (i : ℕ) → has_string ss i ≡ true → set ss i (Some (bytes_at ss i)) ≡ ss
 kept ss i h = ap (set ss i) (some_is (get_or ss i None) h) ∙ set-get_or ss i None
 
-told : (b new : Machine) (r : Request) (reply : Reply) → has_slots b r ≡ true → Does b r reply new
+told : (b new : Machine) (r : Request) (reply : ChainReply) → has_slots b r ≡ true → DoesRequest b r reply new
     → TellsDone (strings_of b) r reply × (strings_of new ≡ strings_after (strings_of b) r)
 told b new (User slot xs) reply s h = (h.0, ap strings_of h.4 ∙ strings-put b slot true _ xs (user_bytes h.1 xs h.3))
 told b new (Wire slot xs) reply s h = (h.0, ap strings_of h.4 ∙ strings-put b slot true _ xs (wire_bytes h.1 xs h.3))
@@ -154,7 +154,7 @@ told b new (Adjust slot n) reply s h = (
 told b new (Split to slot at) reply s h = (
   h.0,
   ap strings_of h.1
-      ∙ strings-put (put b slot (header_at b slot) (split_front (entries_at b slot) at)) to _ _ _
+      ∙ strings-put (with_slot b slot (header_at b slot) (split_front (entries_at b slot) at)) to _ _ _
       (split_back_bytes (header_at b slot) (entries_at b slot) at ∙ ap (drop at) (sym (bytes b slot)))
       ∙ ap (λ (ss : List (Option (List ℕ))). set ss to (Some (drop at (bytes_at (strings_of b) slot))))
       (strings-put b slot (header_at b slot) _ _
@@ -180,22 +180,22 @@ told b new (Read_out slot off len) reply s h = (
 )
 told b new (Show slot) reply s h = (
   (
-    shapes_of (count b) (entries_at b slot),
+    shapes_of (times_referred b) (entries_at b slot),
     h.0
-        ∙ ap (λ (n : ℕ). Rattle.chain_script.specs.Steps.Laid n (shapes_of (count b) (entries_at b slot)))
+        ∙ ap (λ (n : ℕ). Rattle.chain_script.specs.Steps.Laid n (shapes_of (times_referred b) (entries_at b slot)))
         (sym (long b slot)),
   ),
   ap strings_of h.1,
 )
 told b new (Free slot) reply s h = (h.0, ap strings_of h.1 ∙ strings-emptied b slot)
-told b new Ask_usage reply s h = ((usage_of b, h.0), ap strings_of h.1)
+told b new Ask_usage reply s h = ((slots_usage b, h.0), ap strings_of h.1)
 
 -- ---- the tests in their order, by strings and by the machine
-abbrev by_strings : Bool → Bool → Bool → Bool → Option Reply
+abbrev by_strings : Bool → Bool → Bool → Bool → Option ChainReply
 by_strings slots range long short =
     first_true ((not slots, Wrong_chain) ∷ (not range, Wrong_range) ∷ (long, Too_long) ∷ (short, Too_short) ∷ [])
 
-abbrev by_machine : Bool → Bool → Bool → Bool → Bool → Bool → Option Reply
+abbrev by_machine : Bool → Bool → Bool → Bool → Bool → Bool → Option ChainReply
 by_machine slots range shared long short lacks = first_true (
     (not slots, Wrong_chain)
     ∷ (not range, Wrong_range)
@@ -205,8 +205,9 @@ by_machine slots range shared long short lacks = first_true (
     ∷ (lacks, No_buffers)
     ∷ [])
 
-step_by : (b new : Machine) (r : Request) (reply : Reply) (s g h l t k : Bool) → (h ≡ true → (l ≡ false) × (t ≡ false))
-    → (s ≡ true → Does b r reply new
+step_by : (b new : Machine) (r : Request) (reply : ChainReply) (s g h l t k : Bool)
+    → (h ≡ true → (l ≡ false) × (t ≡ false))
+    → (s ≡ true → DoesRequest b r reply new
     → TellsDone (strings_of b) r reply × (strings_of new ≡ strings_after (strings_of b) r))
     → DoesUnless (by_machine s g h l t k) b r reply new
     → TellsUnless (by_strings s g l t) (strings_of b) r reply (strings_of new)
@@ -220,13 +221,13 @@ step_by b new r reply true true false false true k e d u = (u.0, ap strings_of u
 step_by b new r reply true true false false false true e d u = inl (inl u.0, ap strings_of u.1)
 step_by b new r reply true true false false false false e d u = inr (d refl u)
 
-pub string_step : (b new : Machine) (r : Request) (reply : Reply) → Step b r reply new
+pub string_step : (b new : Machine) (r : Request) (reply : ChainReply) → ChainStep b r reply new
     → StringStep (strings_of b) r reply (strings_of new)
 string_step b new r reply h =
     let same : string_fault (strings_of b) r
     ≡ by_strings (has_slots b r) (is_in_range b r) (is_too_long r) (is_too_short b r) =
     (λ j. by_strings (same_slots b r j) (same_range b r j) (is_too_long r) (same_short b r j)) in
-    subst (λ (o : Option Reply). TellsUnless o (strings_of b) r reply (strings_of new)) (sym same)
+    subst (λ (o : Option ChainReply). TellsUnless o (strings_of b) r reply (strings_of new)) (sym same)
     (step_by b new r reply (has_slots b r) (is_in_range b r) (hits_shared b r) (is_too_long r) (is_too_short b r)
     (lacks_buffers b r) (apart b r) (told b new r reply) h)
 

@@ -6,11 +6,11 @@ use Rattle.script_loop.specs.declared.fault.RunFault.{RunFault}
 use Rattle.script_loop.specs.declared.fault.RunFault.TheVariants.{Read, Write, Memory, TooManyLines, BadSizes, BadConfig}
 
 -- sizes that no pool has are refused, before anything else is tried
-abbrev pub Boots : Sizes → Result Unit RunFault → Type 0
-Boots z (Err BadSizes) = IsBad z
-Boots z (Err BadConfig) = ⊥
-Boots z (Ok done) = ¬ IsBad z
-Boots z (Err Read) = ¬ IsBad z
-Boots z (Err Write) = ¬ IsBad z
-Boots z (Err Memory) = ¬ IsBad z
-Boots z (Err TooManyLines) = ¬ IsBad z
+abbrev pub BootsChains : Sizes → Result Unit RunFault → Type 0
+BootsChains z (Err BadSizes) = IsBad z
+BootsChains z (Err BadConfig) = ⊥
+BootsChains z (Ok done) = ¬ IsBad z
+BootsChains z (Err Read) = ¬ IsBad z
+BootsChains z (Err Write) = ¬ IsBad z
+BootsChains z (Err Memory) = ¬ IsBad z
+BootsChains z (Err TooManyLines) = ¬ IsBad z

@@ -34,20 +34,20 @@ IsSigned word (pos n) = IsOffset word n
 IsSigned word (negsuc n) = (suc n ≤ IP_MAX_PACKET) × (word ≡ codes "-" ++ decimal (suc n))
 
 -- the word that a line begins with
-abbrev pub keyword : Request → List ℕ
-keyword (User slot bytes) = codes "user"
-keyword (Wire slot bytes) = codes "wire"
-keyword (Copy to slot extent) = codes "copym"
-keyword (Prepend slot bytes) = codes "prepend"
-keyword (Pull_up slot n) = codes "pullup"
-keyword (Adjust slot n) = codes "adj"
-keyword (Split to slot at) = codes "split"
-keyword (Join slot other) = codes "cat"
-keyword (Write_over slot off bytes) = codes "copyback"
-keyword (Read_out slot off len) = codes "copydata"
-keyword (Show slot) = codes "show"
-keyword (Free slot) = codes "free"
-keyword Ask_usage = codes "mbstat"
+abbrev pub chain_keyword : Request → List ℕ
+chain_keyword (User slot bytes) = codes "user"
+chain_keyword (Wire slot bytes) = codes "wire"
+chain_keyword (Copy to slot extent) = codes "copym"
+chain_keyword (Prepend slot bytes) = codes "prepend"
+chain_keyword (Pull_up slot n) = codes "pullup"
+chain_keyword (Adjust slot n) = codes "adj"
+chain_keyword (Split to slot at) = codes "split"
+chain_keyword (Join slot other) = codes "cat"
+chain_keyword (Write_over slot off bytes) = codes "copyback"
+chain_keyword (Read_out slot off len) = codes "copydata"
+chain_keyword (Show slot) = codes "show"
+chain_keyword (Free slot) = codes "free"
+chain_keyword Ask_usage = codes "mbstat"
 
 -- the words after the slots of a copy
 abbrev pub IsExtentWords : List (List ℕ) → Extent → Type 0
@@ -79,5 +79,5 @@ HasWords Ask_usage args = args ≡ []
 pub record IsRequest (line : List ℕ) (request : Request) : Type 0 where
   pub short : length line ≤ LONGEST_REQUEST
   pub args : List (List ℕ)
-  pub words_are : words line ≡ keyword request ∷ args
+  pub words_are : words line ≡ chain_keyword request ∷ args
   pub arguments : HasWords request args

@@ -5,7 +5,7 @@ use Rattle.flat_model.specs.Amounts.Layout.{Room, user, wire, is_cluster}
 use Rattle.params.specs.declared.TheConstants.{MHLEN, IP_MAX_PACKET}
 use Rattle.flat_model.specs.declared.usage.Mbstat.{Mbstat}
 use Rattle.mbuf_chain.specs.Chain.{Entry, ChainView, alone, flat_bytes, refers}
-use Rattle.mbuf_chain.specs.Owners.{times}
+use Rattle.mbuf_chain.specs.Owners.{times_among}
 use Rattle.chain_ops.specs.declared.copym.Extent.{Extent}
 use Rattle.chain_ops.specs.declared.copym.Extent.TheVariants.{All, Part}
 use Rattle.chain_ops.specs.Extents.{extent_copied}
@@ -41,12 +41,12 @@ entries_in (Some s) = s.entries
 abbrev pub entries_at : Machine → ℕ → List Entry
 entries_at b i = entries_in (slot_at b i)
 
-abbrev pub header_in : Option Slot → Bool
-header_in None = false
-header_in (Some s) = s.header
+abbrev pub is_headed : Option Slot → Bool
+is_headed None = false
+is_headed (Some s) = s.header
 
 abbrev pub header_at : Machine → ℕ → Bool
-header_at b i = header_in (slot_at b i)
+header_at b i = is_headed (slot_at b i)
 
 -- the chain in the words of `chain_ops`
 abbrev pub view_at : Machine → ℕ → ChainView
@@ -55,8 +55,8 @@ view_at b i = record { front = alone (header_at b i); entries = entries_at b i; 
 abbrev pub length_at : Machine → ℕ → ℕ
 length_at b i = length (flat_bytes (entries_at b i))
 
-abbrev pub put : Machine → ℕ → Bool → List Entry → Machine
-put b i header es = record b { slots = slice_set b.slots i (Some (record { header = header; entries = es })) }
+abbrev pub with_slot : Machine → ℕ → Bool → List Entry → Machine
+with_slot b i header es = record b { slots = slice_set b.slots i (Some (record { header = header; entries = es })) }
 
 abbrev pub emptied : Machine → ℕ → Machine
 emptied b i = record b { slots = slice_set b.slots i None }
@@ -65,11 +65,11 @@ emptied b i = record b { slots = slice_set b.slots i None }
 abbrev pub mbufs_held : Machine → ℕ
 mbufs_held b = sum_by (λ s. length (entries_in s)) b.slots
 
-abbrev pub count : Machine → ℕ → ℕ
-count b c = sum_by (λ s. count_by (refers c) (entries_in s)) b.slots
+abbrev pub times_referred : Machine → ℕ → ℕ
+times_referred b c = sum_by (λ s. count_by (refers c) (entries_in s)) b.slots
 
 abbrev pub clusters_free : Machine → ℕ
-clusters_free b = count_by (λ c. count b c == 0) (range_with_len 0 b.clusters)
+clusters_free b = count_by (λ c. times_referred b c == 0) (range_with_len 0 b.clusters)
 
 -- so many mbufs and clusters aren't free
 abbrev pub lacks : Machine → ℕ → ℕ → Bool
@@ -81,20 +81,20 @@ lacks_rooms b rooms = lacks b (length rooms) (count_by is_cluster rooms)
 -- these clusters are free ones, each once
 pub record AreFreeIn (b : Machine) (cs : List ℕ) : Type 0 where
   pub exist : AllByRecursion (λ c. c < b.clusters) cs
-  pub free : AllByRecursion (λ c. count b c ≡ 0) cs
-  pub once : (c : ℕ) → times c cs ≤ 1
+  pub free : AllByRecursion (λ c. times_referred b c ≡ 0) cs
+  pub once : (c : ℕ) → times_among c cs ≤ 1
 
-abbrev pub counts : Machine → List ℕ
-counts b = map (count b) (range_with_len 0 b.clusters)
+abbrev pub counts_of_clusters : Machine → List ℕ
+counts_of_clusters b = map (times_referred b) (range_with_len 0 b.clusters)
 
-abbrev pub usage_of : Machine → Mbstat
-usage_of b = record {
+abbrev pub slots_usage : Machine → Mbstat
+slots_usage b = record {
   free_mbufs = b.mbufs - mbufs_held b;
   mbufs = b.mbufs;
   free_clusters = clusters_free b;
   clusters = b.clusters;
-  refs = sum (counts b);
-  most = fold max 0 (counts b);
+  refs = sum (counts_of_clusters b);
+  most = fold max 0 (counts_of_clusters b);
 }
 
 -- ---- the faults, in their order
@@ -133,7 +133,7 @@ is_in_range b (Read_out slot off len) = nat_le (off + len) (length_at b slot)
 is_in_range b request = true
 
 abbrev pub hits_shared : Machine → Request → Bool
-hits_shared b (Write_over slot off bytes) = not (is_writable (count b) (entries_at b slot) off (length bytes))
+hits_shared b (Write_over slot off bytes) = not (is_writable (times_referred b) (entries_at b slot) off (length bytes))
 hits_shared b request = false
 
 abbrev pub is_too_long : Request → Bool

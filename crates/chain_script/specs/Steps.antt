@@ -8,39 +8,39 @@ use Rattle.mbuf_chain.specs.Chain.{Entry, flat_bytes}
 use Rattle.chain_ops.specs.Extents.{extent_header, extent_copied}
 use Rattle.chain_ops.specs.Trims.{adjusted}
 use Rattle.chain_ops.specs.Joins.{cat}
-use Rattle.chain_ops.specs.Pulls.{pulled_up}
+use Rattle.chain_ops.specs.Pulls.{entries_pulled}
 use Rattle.chain_ops.specs.Prepends.{prepended}
 use Rattle.chain_ops.specs.Splits.{split_front, split_back}
 use Rattle.chain_ops.specs.Stored.{stored_first}
 use Rattle.chain_ops.specs.Writes.{copied_back}
 use Rattle.chain_script.specs.Lines.{Request, IsRequest, User, Wire, Copy, Prepend, Pull_up, Adjust, Split, Join, Write_over, Read_out, Show, Free, Ask_usage}
-use Rattle.chain_script.specs.Machines.{Machine, put, emptied, entries_at, header_at, view_at, length_at, count, AreFreeIn, usage_of, has_slots, is_in_range, hits_shared, is_too_long, is_too_short, lacks_buffers}
+use Rattle.chain_script.specs.Machines.{Machine, with_slot, emptied, entries_at, header_at, view_at, length_at, times_referred, AreFreeIn, slots_usage, has_slots, is_in_range, hits_shared, is_too_long, is_too_short, lacks_buffers}
 
 -- an mbuf: its length, and where it has a cluster the count of that
 pub record Shape : Type 0 where
   pub size : ℕ
   pub count : Option ℕ
 
-pub data Reply : Type 0 where
-  Ready : Reply
-  Held : (bytes : List ℕ) → Reply
-  Laid : (len : ℕ) (shapes : List Shape) → Reply
-  Shown : (usage : Mbstat) → Reply
-  Wrong_chain : Reply
-  Wrong_range : Reply
-  Shared : Reply
-  Too_long : Reply
-  Too_short : Reply
-  No_buffers : Reply
+pub data ChainReply : Type 0 where
+  Ready : ChainReply
+  Held : (bytes : List ℕ) → ChainReply
+  Laid : (len : ℕ) (shapes : List Shape) → ChainReply
+  Shown : (usage : Mbstat) → ChainReply
+  Wrong_chain : ChainReply
+  Wrong_range : ChainReply
+  Shared : ChainReply
+  Too_long : ChainReply
+  Too_short : ChainReply
+  No_buffers : ChainReply
 
 -- ---- a step
-abbrev pub first_true : List (Bool × Reply) → Option Reply
+abbrev pub first_true : List (Bool × ChainReply) → Option ChainReply
 first_true [] = None
 first_true (test ∷ tests) = if test.0 then Some test.1 else first_true tests
 
 -- the first fault that fits
-abbrev pub fault_of : Machine → Request → Option Reply
-fault_of b request = first_true (
+abbrev pub request_fault : Machine → Request → Option ChainReply
+request_fault b request = first_true (
     (not (has_slots b request), Wrong_chain)
     ∷ (not (is_in_range b request), Wrong_range)
     ∷ (hits_shared b request, Shared)
@@ -61,45 +61,46 @@ abbrev pub shapes_of : (ℕ → ℕ) → List Entry → List Shape
 shapes_of counts es = map (shape_of counts) es
 
 -- the request is done; which free clusters are taken isn't said
-abbrev pub Does : Machine → Request → Reply → Machine → Type 0
-Does b (User slot bytes) reply new =
+abbrev pub DoesRequest : Machine → Request → ChainReply → Machine → Type 0
+DoesRequest b (User slot bytes) reply new =
     (reply ≡ Ready) × (cs : List ℕ) × AreFreeIn b cs × (length cs ≡ count_by is_cluster (user (length bytes)))
-    × (new ≡ put b slot true (stored_first CLUSTER_LEADING_SPACE true cs (user (length bytes)) bytes))
-Does b (Wire slot bytes) reply new =
+    × (new ≡ with_slot b slot true (stored_first CLUSTER_LEADING_SPACE true cs (user (length bytes)) bytes))
+DoesRequest b (Wire slot bytes) reply new =
     (reply ≡ Ready) × (cs : List ℕ) × AreFreeIn b cs × (length cs ≡ count_by is_cluster (wire (length bytes)))
-    × (new ≡ put b slot true (stored_first 0 false cs (wire (length bytes)) bytes))
-Does b (Copy to slot extent) reply new =
-    (reply ≡ Ready) × (new ≡ put b to (extent_header extent (header_at b slot))
+    × (new ≡ with_slot b slot true (stored_first 0 false cs (wire (length bytes)) bytes))
+DoesRequest b (Copy to slot extent) reply new =
+    (reply ≡ Ready) × (new ≡ with_slot b to (extent_header extent (header_at b slot))
     (extent_copied extent (header_at b slot) (entries_at b slot)))
-Does b (Prepend slot bytes) reply new =
-    (reply ≡ Ready) × (new ≡ put b slot (header_at b slot) (prepended (view_at b slot) bytes))
-Does b (Pull_up slot n) reply new =
-    (reply ≡ Ready) × (new ≡ put b slot (header_at b slot) (pulled_up (view_at b slot) n))
-Does b (Adjust slot n) reply new =
-    (reply ≡ Ready) × (new ≡ put b slot (header_at b slot) (adjusted n (entries_at b slot)))
-Does b (Split to slot at) reply new =
+DoesRequest b (Prepend slot bytes) reply new =
+    (reply ≡ Ready) × (new ≡ with_slot b slot (header_at b slot) (prepended (view_at b slot) bytes))
+DoesRequest b (Pull_up slot n) reply new =
+    (reply ≡ Ready) × (new ≡ with_slot b slot (header_at b slot) (entries_pulled (view_at b slot) n))
+DoesRequest b (Adjust slot n) reply new =
+    (reply ≡ Ready) × (new ≡ with_slot b slot (header_at b slot) (adjusted n (entries_at b slot)))
+DoesRequest b (Split to slot at) reply new =
     (reply ≡ Ready)
-    × (new ≡ put (put b slot (header_at b slot) (split_front (entries_at b slot) at)) to (header_at b slot)
+    × (new ≡ with_slot (with_slot b slot (header_at b slot) (split_front (entries_at b slot) at)) to (header_at b slot)
     (split_back (header_at b slot) (entries_at b slot) at))
-Does b (Join slot other) reply new =
-    (reply ≡ Ready) × (new ≡ put (emptied b other) slot (header_at b slot)
+DoesRequest b (Join slot other) reply new =
+    (reply ≡ Ready) × (new ≡ with_slot (emptied b other) slot (header_at b slot)
     (cat (entries_at b slot) (entries_at b other)))
-Does b (Write_over slot off bytes) reply new =
+DoesRequest b (Write_over slot off bytes) reply new =
     (reply ≡ Ready)
-    × (new ≡ put b slot (header_at b slot) (copied_back (entries_at b slot) off bytes))
-Does b (Read_out slot off len) reply new =
+    × (new ≡ with_slot b slot (header_at b slot) (copied_back (entries_at b slot) off bytes))
+DoesRequest b (Read_out slot off len) reply new =
     (reply ≡ Held (take len (drop off (flat_bytes (entries_at b slot))))) × (new ≡ b)
-Does b (Show slot) reply new = (reply ≡ Laid (length_at b slot) (shapes_of (count b) (entries_at b slot))) × (new ≡ b)
-Does b (Free slot) reply new = (reply ≡ Ready) × (new ≡ emptied b slot)
-Does b Ask_usage reply new = (reply ≡ Shown (usage_of b)) × (new ≡ b)
+DoesRequest b (Show slot) reply new =
+    (reply ≡ Laid (length_at b slot) (shapes_of (times_referred b) (entries_at b slot))) × (new ≡ b)
+DoesRequest b (Free slot) reply new = (reply ≡ Ready) × (new ≡ emptied b slot)
+DoesRequest b Ask_usage reply new = (reply ≡ Shown (slots_usage b)) × (new ≡ b)
 
-abbrev pub DoesUnless : Option Reply → Machine → Request → Reply → Machine → Type 0
-DoesUnless None b request reply new = Does b request reply new
+abbrev pub DoesUnless : Option ChainReply → Machine → Request → ChainReply → Machine → Type 0
+DoesUnless None b request reply new = DoesRequest b request reply new
 DoesUnless (Some fault) b request reply new = (reply ≡ fault) × (new ≡ b)
 
 -- from old the machine may answer a request so and go on to new; a fault changes nothing
-abbrev pub Step : Machine → Request → Reply → Machine → Type 0
-Step old request reply new = DoesUnless (fault_of old request) old request reply new
+abbrev pub ChainStep : Machine → Request → ChainReply → Machine → Type 0
+ChainStep old request reply new = DoesUnless (request_fault old request) old request reply new
 
 -- ---- texts
 abbrev pub mbuf_text : ℕ → Option ℕ → List ℕ
@@ -109,26 +110,27 @@ mbuf_text n (Some k) = codes " C" ++ decimal n ++ codes "x" ++ decimal k
 abbrev pub shape_text : Shape → List ℕ
 shape_text s = mbuf_text s.size s.count
 
-abbrev pub reply_text : Reply → List ℕ
-reply_text Ready = codes "ok"
-reply_text (Held bytes) = codes "data " ++ hex_text bytes
-reply_text (Laid len shapes) = codes "len " ++ decimal len ++ flat_map shape_text shapes
-reply_text (Shown usage) = usage_text usage
-reply_text Wrong_chain = codes "? chain"
-reply_text Wrong_range = codes "? range"
-reply_text Shared = codes "shared"
-reply_text Too_long = codes "toolong"
-reply_text Too_short = codes "tooshort"
-reply_text No_buffers = codes "nobufs"
+abbrev pub chain_reply_text : ChainReply → List ℕ
+chain_reply_text Ready = codes "ok"
+chain_reply_text (Held bytes) = codes "data " ++ hex_text bytes
+chain_reply_text (Laid len shapes) = codes "len " ++ decimal len ++ flat_map shape_text shapes
+chain_reply_text (Shown usage) = usage_text usage
+chain_reply_text Wrong_chain = codes "? chain"
+chain_reply_text Wrong_range = codes "? range"
+chain_reply_text Shared = codes "shared"
+chain_reply_text Too_long = codes "toolong"
+chain_reply_text Too_short = codes "tooshort"
+chain_reply_text No_buffers = codes "nobufs"
 
 -- what the loop of scripts wants: the text that a line may get on the way from old to new
-abbrev pub Answers : Machine → List ℕ → Option Reply → Machine → Type 0
-Answers old line (Some reply) new = (request : Request) × IsRequest line request × Step old request reply new
-Answers old line None new = ((request : Request) → ¬ IsRequest line request) × (new ≡ old)
+abbrev pub AnswersLine : Machine → List ℕ → Option ChainReply → Machine → Type 0
+AnswersLine old line (Some reply) new = (request : Request) × IsRequest line request × ChainStep old request reply new
+AnswersLine old line None new = ((request : Request) → ¬ IsRequest line request) × (new ≡ old)
 
-abbrev pub answer_text : Option Reply → List ℕ
-answer_text (Some reply) = reply_text reply ++ codes "\n"
-answer_text None = codes "? line\n"
+abbrev pub chain_answer_text : Option ChainReply → List ℕ
+chain_answer_text (Some reply) = chain_reply_text reply ++ codes "\n"
+chain_answer_text None = codes "? line\n"
 
 abbrev pub Says : Machine → List ℕ → List ℕ → Machine → Type 0
-Says old line text new = (answer : Option Reply) × Answers old line answer new × (text ≡ answer_text answer)
+Says old line text new =
+    (answer : Option ChainReply) × AnswersLine old line answer new × (text ≡ chain_answer_text answer)

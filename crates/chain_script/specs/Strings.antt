@@ -9,7 +9,7 @@ use Rattle.chain_ops.specs.Trims.{adjusted_bytes}
 use Rattle.chain_ops.specs.Writes.{written_bytes}
 use Rattle.chain_script.specs.Lines.{Request, IsRequest, User, Wire, Copy, Prepend, Pull_up, Adjust, Split, Join, Write_over, Read_out, Show, Free, Ask_usage}
 use Rattle.chain_script.specs.Machines.{Machine, Slot, is_range, is_too_long}
-use Rattle.chain_script.specs.Steps.{Shape, Reply, Ready, Held, Laid, Shown, Wrong_chain, Wrong_range, Shared, Too_long, Too_short, No_buffers, first_true, answer_text}
+use Rattle.chain_script.specs.Steps.{Shape, ChainReply, Ready, Held, Laid, Shown, Wrong_chain, Wrong_range, Shared, Too_long, Too_short, No_buffers, first_true, chain_answer_text}
 
 -- ---- the strings of a machine
 abbrev pub string_in : Option Slot → Option (List ℕ)
@@ -61,7 +61,7 @@ is_string_short ss (Pull_up slot n) = nat_lt (length (bytes_at ss slot)) n
 is_string_short ss request = false
 
 -- the first one that fits
-abbrev pub string_fault : List (Option (List ℕ)) → Request → Option Reply
+abbrev pub string_fault : List (Option (List ℕ)) → Request → Option ChainReply
 string_fault ss request = first_true (
     (not (has_strings ss request), Wrong_chain)
     ∷ (not (is_in_strings ss request), Wrong_range)
@@ -85,30 +85,32 @@ strings_after ss (Free slot) = slice_set ss slot None
 strings_after ss request = ss
 
 -- the reply of a request that is done; of layouts and of the pool strings tell nothing
-abbrev pub TellsDone : List (Option (List ℕ)) → Request → Reply → Type 0
+abbrev pub TellsDone : List (Option (List ℕ)) → Request → ChainReply → Type 0
 TellsDone ss (Read_out slot off len) reply = reply ≡ Held (take len (drop off (bytes_at ss slot)))
 TellsDone ss (Show slot) reply = (shapes : List Shape) × (reply ≡ Laid (length (bytes_at ss slot)) shapes)
 TellsDone ss Ask_usage reply = (usage : Mbstat) × (reply ≡ Shown usage)
 TellsDone ss request reply = reply ≡ Ready
 
 -- it was refused for want of buffers or for a shared cluster, which strings don't tell, and nothing has changed
-abbrev pub IsSilent : List (Option (List ℕ)) → Reply → List (Option (List ℕ)) → Type 0
+abbrev pub IsSilent : List (Option (List ℕ)) → ChainReply → List (Option (List ℕ)) → Type 0
 IsSilent old reply new = ((reply ≡ No_buffers) ⊎ (reply ≡ Shared)) × (new ≡ old)
 
-abbrev pub TellsUnless : Option Reply → List (Option (List ℕ)) → Request → Reply → List (Option (List ℕ)) → Type 0
+abbrev pub TellsUnless : Option ChainReply → List (Option (List ℕ)) → Request → ChainReply → List (Option (List ℕ))
+    → Type 0
 TellsUnless (Some fault) old request reply new = (reply ≡ fault) × (new ≡ old)
 TellsUnless None old request reply new =
     IsSilent old reply new ⊎ (TellsDone old request reply × (new ≡ strings_after old request))
 
 -- from the strings old a request may have this reply and lead to the strings new
-abbrev pub StringStep : List (Option (List ℕ)) → Request → Reply → List (Option (List ℕ)) → Type 0
+abbrev pub StringStep : List (Option (List ℕ)) → Request → ChainReply → List (Option (List ℕ)) → Type 0
 StringStep old request reply new = TellsUnless (string_fault old request) old request reply new
 
 -- ---- lines
-abbrev pub StringAnswers : List (Option (List ℕ)) → List ℕ → Option Reply → List (Option (List ℕ)) → Type 0
+abbrev pub StringAnswers : List (Option (List ℕ)) → List ℕ → Option ChainReply → List (Option (List ℕ)) → Type 0
 StringAnswers old line (Some reply) new =
     (request : Request) × IsRequest line request × StringStep old request reply new
 StringAnswers old line None new = ((request : Request) → ¬ IsRequest line request) × (new ≡ old)
 
 abbrev pub StringSays : List (Option (List ℕ)) → List ℕ → List ℕ → List (Option (List ℕ)) → Type 0
-StringSays old line text new = (answer : Option Reply) × StringAnswers old line answer new × (text ≡ answer_text answer)
+StringSays old line text new =
+    (answer : Option ChainReply) × StringAnswers old line answer new × (text ≡ chain_answer_text answer)

@@ -6,12 +6,12 @@ ghost use Rattle.mbuf_pool.specs.declared.fault.BootFault.TheVariants as boot_fa
 ghost use Rattle.mbuf_chain.specs.Owners.{IsAll};
 ghost use Rattle.params.specs.declared.TheConstants.{IP_MAX_PACKET};
 ghost use Rattle.chain_script.specs.declared.caller.TheConstants.{SLOTS};
-ghost use Rattle.chain_script.specs.Inside.Calls.{request_of, IsCall};
-ghost use Rattle.chain_script.specs.Inside.Slots.{machine_of, numbers, Fits};
+ghost use Rattle.chain_script.specs.Inside.Calls.{request_of, IsSlotCall};
+ghost use Rattle.chain_script.specs.Inside.Slots.{machine_of, slot_numbers, FitsSlots};
 ghost use Rattle.chain_script.specs.Drawings.{drawing};
 ghost use Rattle.chain_script.specs.Lines.{Read_out};
 ghost use Rattle.chain_script.specs.Machines.{Machine, booted};
-ghost use Rattle.chain_script.specs.Steps.{Reply, Step, Says, answer_text};
+ghost use Rattle.chain_script.specs.Steps.{ChainReply, ChainStep, Says, chain_answer_text};
 
 use crate::calls::{
     adj, copyback, copydata, copym, free, join_slots, prepend, pullup, split, user, wire,
@@ -44,15 +44,15 @@ fn read_out(
     text: &mut Buffer<TEXT>,
 )
     requires slot { slot < length chains.now }
-    requires fits { Fits pool.now chains.now }
+    requires fits { FitsSlots pool.now chains.now }
     requires bytes { length bytes.old ≡ IP_MAX_PACKET }
     requires digits { length digits.old ≡ 2 * IP_MAX_PACKET }
     requires off { off ≤ IP_MAX_PACKET }
     requires len { len ≤ IP_MAX_PACKET }
     requires text { length text.old ≤ HELD }
-    ensures { (reply : Reply)
-        × Step (machine_of pool.now chains.now) (Read_out slot off len) reply (machine_of pool.now chains.now)
-        × (text.new ≡ text.old ++ answer_text (Some reply)) }
+    ensures { (reply : ChainReply)
+        × ChainStep (machine_of pool.now chains.now) (Read_out slot off len) reply (machine_of pool.now chains.now)
+        × (text.new ≡ text.old ++ chain_answer_text (Some reply)) }
 {
     let to = &mut bytes[..len];
     let outcome = copydata(pool, chains, slot, off, to);
@@ -68,15 +68,15 @@ fn make_call(
     text: &mut Buffer<TEXT>,
 )
     requires slots { length chains.old ≡ SLOTS }
-    requires fits { Fits pool.old chains.old }
-    requires call { IsCall call }
+    requires fits { FitsSlots pool.old chains.old }
+    requires call { IsSlotCall call }
     requires text { length text.old ≤ HELD }
-    ensures fits { Fits pool.new chains.new }
+    ensures fits { FitsSlots pool.new chains.new }
     ensures slots { length chains.new ≡ SLOTS }
-    ensures step { (reply : Reply)
-        × Step (machine_of pool.old chains.old) (request_of call buffers.old.bytes.items) reply
+    ensures step { (reply : ChainReply)
+        × ChainStep (machine_of pool.old chains.old) (request_of call buffers.old.bytes.items) reply
         (machine_of pool.new chains.new)
-        × (text.new ≡ text.old ++ answer_text (Some reply)) }
+        × (text.new ≡ text.old ++ chain_answer_text (Some reply)) }
 {
     let bytes = buffers.bytes.as_slice();
     match call {
@@ -129,9 +129,9 @@ fn put_answer(
     text: &mut Buffer<TEXT>,
 )
     requires slots { length chains.old ≡ SLOTS }
-    requires fits { Fits pool.old chains.old }
+    requires fits { FitsSlots pool.old chains.old }
     requires text { length text.old ≤ HELD }
-    ensures fits { Fits pool.new chains.new }
+    ensures fits { FitsSlots pool.new chains.new }
     ensures slots { length chains.new ≡ SLOTS }
     ensures says { (reply : List ℕ)
         × Says (machine_of pool.old chains.old) line.now reply (machine_of pool.new chains.new)
@@ -149,7 +149,7 @@ pub(crate) struct Caller {
     chains: ArrayVec<Option<Chain>, SLOTS>,
     buffers: LineBuffers,
     ghost slots: { array_vec_len chains ≡ SLOTS },
-    ghost fits: { Fits pool chains.items },
+    ghost fits: { FitsSlots pool chains.items },
 }
 
 /// Slots that are all empty.
@@ -167,7 +167,7 @@ fn empty_slots() -> ArrayVec<Option<Chain>, SLOTS>
 
 /// Lets go slots that are all empty.
 fn end_empty(chains: ArrayVec<Option<Chain>, SLOTS>)
-    requires { numbers chains.items ≡ [] }
+    requires { slot_numbers chains.items ≡ [] }
 {
     // A vector of the library gives out only what may be dropped, and a chain has to be spent. There is none here.
     let _empty = unsafe { ManuallyDrop::new_unchecked(chains) };

@@ -5,9 +5,9 @@ ghost use Rattle.chain_ops.specs.Makes.{Makes};
 ghost use Rattle.chain_ops.specs.Joins.{cat};
 ghost use Rattle.chain_script.specs.Lines.{User, Wire, Copy, Prepend, Pull_up, Adjust, Split, Join, Write_over, Read_out, Free};
 ghost use Rattle.chain_script.specs.Machines.{is_range};
-ghost use Rattle.chain_script.specs.Steps.{Step};
-ghost use Rattle.chain_script.specs.Inside.Replies.{done_reply, held_reply};
-ghost use Rattle.chain_script.specs.Inside.Slots.{machine_of, Fits};
+ghost use Rattle.chain_script.specs.Steps.{ChainStep};
+ghost use Rattle.chain_script.specs.Inside.Replies.{chain_done_reply, held_reply};
+ghost use Rattle.chain_script.specs.Inside.Slots.{machine_of, FitsSlots};
 
 use crate::fault::Fault;
 use crate::slots::{put, take};
@@ -26,11 +26,11 @@ pub(crate) fn user(
     bytes: &[u8],
 ) -> Result<(), Fault>
     requires slot { slot < length chains.old }
-    requires fits { Fits pool.old chains.old }
+    requires fits { FitsSlots pool.old chains.old }
     requires bytes { length bytes.now ≤ IP_MAX_PACKET }
-    ensures fits { Fits pool.new chains.new }
+    ensures fits { FitsSlots pool.new chains.new }
     ensures len { length chains.new ≡ length chains.old }
-    ensures step { Step (machine_of pool.old chains.old) (User slot bytes.now) (done_reply result)
+    ensures step { ChainStep (machine_of pool.old chains.old) (User slot bytes.now) (chain_done_reply result)
         (machine_of pool.new chains.new) }
 {
     let None = &chains[slot] else {
@@ -60,10 +60,10 @@ pub(crate) fn prepend(
     bytes: &[u8],
 ) -> Result<(), Fault>
     requires slot { slot < length chains.old }
-    requires fits { Fits pool.old chains.old }
-    ensures fits { Fits pool.new chains.new }
+    requires fits { FitsSlots pool.old chains.old }
+    ensures fits { FitsSlots pool.new chains.new }
     ensures len { length chains.new ≡ length chains.old }
-    ensures step { Step (machine_of pool.old chains.old) (Prepend slot bytes.now) (done_reply result)
+    ensures step { ChainStep (machine_of pool.old chains.old) (Prepend slot bytes.now) (chain_done_reply result)
         (machine_of pool.new chains.new) }
 {
     let Some(chain) = &mut chains[slot] else {
@@ -86,10 +86,10 @@ pub(crate) fn adj(
     n: i32,
 ) -> Result<(), Fault>
     requires slot { slot < length chains.old }
-    requires fits { Fits pool.old chains.old }
-    ensures fits { Fits pool.new chains.new }
+    requires fits { FitsSlots pool.old chains.old }
+    ensures fits { FitsSlots pool.new chains.new }
     ensures len { length chains.new ≡ length chains.old }
-    ensures step { Step (machine_of pool.old chains.old) (Adjust slot n) (done_reply result)
+    ensures step { ChainStep (machine_of pool.old chains.old) (Adjust slot n) (chain_done_reply result)
         (machine_of pool.new chains.new) }
 {
     let Some(chain) = &chains[slot] else {
@@ -102,10 +102,10 @@ pub(crate) fn adj(
 /// Frees a chain.
 pub(crate) fn free(pool: &mut Pool, chains: &mut [Option<Chain>], slot: usize) -> Result<(), Fault>
     requires slot { slot < length chains.old }
-    requires fits { Fits pool.old chains.old }
-    ensures fits { Fits pool.new chains.new }
+    requires fits { FitsSlots pool.old chains.old }
+    ensures fits { FitsSlots pool.new chains.new }
     ensures len { length chains.new ≡ length chains.old }
-    ensures step { Step (machine_of pool.old chains.old) (Free slot) (done_reply result)
+    ensures step { ChainStep (machine_of pool.old chains.old) (Free slot) (chain_done_reply result)
         (machine_of pool.new chains.new) }
 {
     let Some(_) = &chains[slot] else {
@@ -125,10 +125,10 @@ pub(crate) fn wire(
 ) -> Result<(), Fault>
     requires slot { slot < length chains.old }
     requires bytes { length bytes.now ≤ IP_MAX_PACKET }
-    requires fits { Fits pool.old chains.old }
-    ensures fits { Fits pool.new chains.new }
+    requires fits { FitsSlots pool.old chains.old }
+    ensures fits { FitsSlots pool.new chains.new }
     ensures len { length chains.new ≡ length chains.old }
-    ensures step { Step (machine_of pool.old chains.old) (Wire slot bytes.now) (done_reply result)
+    ensures step { ChainStep (machine_of pool.old chains.old) (Wire slot bytes.now) (chain_done_reply result)
         (machine_of pool.new chains.new) }
 {
     let None = &chains[slot] else {
@@ -163,10 +163,10 @@ pub(crate) fn copym(
 ) -> Result<(), Fault>
     requires to { to < length chains.old }
     requires slot { slot < length chains.old }
-    requires fits { Fits pool.old chains.old }
-    ensures fits { Fits pool.new chains.new }
+    requires fits { FitsSlots pool.old chains.old }
+    ensures fits { FitsSlots pool.new chains.new }
     ensures len { length chains.new ≡ length chains.old }
-    ensures step { Step (machine_of pool.old chains.old) (Copy to slot extent) (done_reply result)
+    ensures step { ChainStep (machine_of pool.old chains.old) (Copy to slot extent) (chain_done_reply result)
         (machine_of pool.new chains.new) }
 {
     let Some(chain) = &chains[slot] else {
@@ -195,10 +195,10 @@ pub(crate) fn pullup(
     n: u32,
 ) -> Result<(), Fault>
     requires slot { slot < length chains.old }
-    requires fits { Fits pool.old chains.old }
-    ensures fits { Fits pool.new chains.new }
+    requires fits { FitsSlots pool.old chains.old }
+    ensures fits { FitsSlots pool.new chains.new }
     ensures len { length chains.new ≡ length chains.old }
-    ensures step { Step (machine_of pool.old chains.old) (Pull_up slot n) (done_reply result)
+    ensures step { ChainStep (machine_of pool.old chains.old) (Pull_up slot n) (chain_done_reply result)
         (machine_of pool.new chains.new) }
 {
     let Some(chain) = &mut chains[slot] else {
@@ -222,10 +222,10 @@ pub(crate) fn split(
 ) -> Result<(), Fault>
     requires to { to < length chains.old }
     requires slot { slot < length chains.old }
-    requires fits { Fits pool.old chains.old }
-    ensures fits { Fits pool.new chains.new }
+    requires fits { FitsSlots pool.old chains.old }
+    ensures fits { FitsSlots pool.new chains.new }
     ensures len { length chains.new ≡ length chains.old }
-    ensures step { Step (machine_of pool.old chains.old) (Split to slot at) (done_reply result)
+    ensures step { ChainStep (machine_of pool.old chains.old) (Split to slot at) (chain_done_reply result)
         (machine_of pool.new chains.new) }
 {
     let Some(chain) = &chains[slot] else {
@@ -270,10 +270,10 @@ pub(crate) fn join_slots(
 ) -> Result<(), Fault>
     requires slot { slot < length chains.old }
     requires other { other < length chains.old }
-    requires fits { Fits pool.old chains.old }
-    ensures fits { Fits pool.new chains.new }
+    requires fits { FitsSlots pool.old chains.old }
+    ensures fits { FitsSlots pool.new chains.new }
     ensures len { length chains.new ≡ length chains.old }
-    ensures step { Step (machine_of pool.old chains.old) (Join slot other) (done_reply result)
+    ensures step { ChainStep (machine_of pool.old chains.old) (Join slot other) (chain_done_reply result)
         (machine_of pool.new chains.new) }
 {
     if slot == other {
@@ -304,10 +304,10 @@ pub(crate) fn copyback(
     requires slot { slot < length chains.old }
     requires off { off ≤ IP_MAX_PACKET }
     requires bytes { length bytes.now ≤ IP_MAX_PACKET }
-    requires fits { Fits pool.old chains.old }
-    ensures fits { Fits pool.new chains.new }
+    requires fits { FitsSlots pool.old chains.old }
+    ensures fits { FitsSlots pool.new chains.new }
     ensures len { length chains.new ≡ length chains.old }
-    ensures step { Step (machine_of pool.old chains.old) (Write_over slot off bytes.now) (done_reply result)
+    ensures step { ChainStep (machine_of pool.old chains.old) (Write_over slot off bytes.now) (chain_done_reply result)
         (machine_of pool.new chains.new) }
 {
     let Some(chain) = &chains[slot] else {
@@ -337,8 +337,8 @@ pub(crate) fn copydata(
     requires slot { slot < length chains.now }
     requires off { off ≤ IP_MAX_PACKET }
     requires to { length to.old ≤ IP_MAX_PACKET }
-    requires fits { Fits pool.now chains.now }
-    ensures { Step (machine_of pool.now chains.now) (Read_out slot off (length to.old)) (held_reply result to.new)
+    requires fits { FitsSlots pool.now chains.now }
+    ensures { ChainStep (machine_of pool.now chains.now) (Read_out slot off (length to.old)) (held_reply result to.new)
         (machine_of pool.now chains.now) }
 {
     let Some(chain) = &chains[slot] else {

@@ -5,9 +5,9 @@ ghost use Rattle.params.specs.declared.TheConstants.{MCLBYTES};
 ghost use Rattle.mbuf_chain.specs.Chain.{Entry, IsLive, IsPlace, chain_of, entry_in};
 ghost use Rattle.script_loop.specs.Serves.{Serves};
 ghost use Rattle.script_loop.specs.Streams.{MoreBy, reader_failures, writer_failures};
-ghost use Rattle.chain_script.specs.Boots.{Boots};
+ghost use Rattle.chain_script.specs.Boots.{BootsChains};
 ghost use Rattle.chain_script.specs.Drawings.{cluster_text, drawing, header_text, mbuf_line, mbuf_lines, noted, noted_all, noted_slots, place_in, served};
-ghost use Rattle.chain_script.specs.Inside.Slots.{machine_of, Fits};
+ghost use Rattle.chain_script.specs.Inside.Slots.{machine_of, FitsSlots};
 ghost use Rattle.chain_script.specs.Machines.{Machine, booted};
 ghost use Rattle.chain_script.specs.Steps.{Says};
 
@@ -67,7 +67,7 @@ fn note_chain(pool: &Pool, chain: &Chain, seen: &mut Vec<u32>) -> Result<(), All
 
 /// The same for all slots.
 fn note_slots(pool: &Pool, chains: &[Option<Chain>], seen: &mut Vec<u32>) -> Result<(), AllocError>
-    requires { Fits pool.now chains.now }
+    requires { FitsSlots pool.now chains.now }
     ensures { OnOk result (seen.new.items ≡ noted_slots seen.old.items (machine_of pool.now chains.now).slots) }
 {
     'slots: for slot in 0..chains.len() {
@@ -160,7 +160,7 @@ pub(crate) fn draw(
     chains: &[Option<Chain>],
     slot: usize,
 ) -> Result<Vec<u8>, AllocError>
-    requires { Fits pool.now chains.now }
+    requires { FitsSlots pool.now chains.now }
     ensures { IfOk result (λ text. text.items ≡ drawing (machine_of pool.now chains.now) slot) }
 {
     let mut seen = Vec::new(alloc);
@@ -194,7 +194,7 @@ pub fn draw_slot<R: Source, W: Sink>(
     writer: &mut W,
     slot: usize,
 ) -> Result<Option<Vec<u8>>, RunFault>
-    ensures booted { Boots sizes (served result) }
+    ensures booted { BootsChains sizes (served result) }
     ensures read { MoreBy (reader_failures (served result)) (R.failures reader.old) (R.failures reader.new) }
     ensures wrote { MoreBy (writer_failures (served result)) (W.failures writer.old) (W.failures writer.new) }
     // The script is served as by `run_chains`, and what is drawn is the slot as the machine has it afterwards.

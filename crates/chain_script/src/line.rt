@@ -3,7 +3,7 @@ ghost use Rattle.std.specs.Prelude.{◌≡◌, ◌≤◌, ℕ, ℤ, List, [], �
 ghost use Rattle.chain_ops.specs.declared.copym.Extent.{Extent};
 ghost use Rattle.script_loop.specs.Left.{left};
 ghost use Rattle.chain_script.specs.Lines.{Request, IsRequest, IsExtentWords, IsSigned};
-ghost use Rattle.chain_script.specs.Inside.Calls.{request_of, IsCall, ReadsForm};
+ghost use Rattle.chain_script.specs.Inside.Calls.{request_of, IsSlotCall, ReadsChainForm};
 
 use crate::caller::SLOTS;
 use chain_ops::Extent;
@@ -71,7 +71,7 @@ fn extent_of(rest: Option<&[u8]>) -> Option<Extent>
 
 fn user_of(rest: Option<&[u8]>, room: &mut [u8]) -> Option<Call>
     requires { length room.old ≡ IP_MAX_PACKET }
-    ensures { ReadsForm (codes "user") (left rest.entry) room.new result }
+    ensures { ReadsChainForm (codes "user") (left rest.entry) room.new result }
 {
     let (slot, word) = two(rest)?;
     let slot = number(slot, LAST_SLOT)?;
@@ -81,7 +81,7 @@ fn user_of(rest: Option<&[u8]>, room: &mut [u8]) -> Option<Call>
 
 fn wire_of(rest: Option<&[u8]>, room: &mut [u8]) -> Option<Call>
     requires { length room.old ≡ IP_MAX_PACKET }
-    ensures { ReadsForm (codes "wire") (left rest.entry) room.new result }
+    ensures { ReadsChainForm (codes "wire") (left rest.entry) room.new result }
 {
     let (slot, word) = two(rest)?;
     let slot = number(slot, LAST_SLOT)?;
@@ -90,7 +90,7 @@ fn wire_of(rest: Option<&[u8]>, room: &mut [u8]) -> Option<Call>
 }
 
 fn copy_of(rest: Option<&[u8]>) -> Option<Call>
-    ensures { (room : List ℕ) → ReadsForm (codes "copym") (left rest.entry) room result }
+    ensures { (room : List ℕ) → ReadsChainForm (codes "copym") (left rest.entry) room result }
 {
     let (to, rest) = first_word(rest?);
     let (slot, rest) = first_word(rest?);
@@ -102,7 +102,7 @@ fn copy_of(rest: Option<&[u8]>) -> Option<Call>
 
 fn prepend_of(rest: Option<&[u8]>, room: &mut [u8]) -> Option<Call>
     requires { length room.old ≡ IP_MAX_PACKET }
-    ensures { ReadsForm (codes "prepend") (left rest.entry) room.new result }
+    ensures { ReadsChainForm (codes "prepend") (left rest.entry) room.new result }
 {
     let (slot, word) = two(rest)?;
     let slot = number(slot, LAST_SLOT)?;
@@ -111,7 +111,7 @@ fn prepend_of(rest: Option<&[u8]>, room: &mut [u8]) -> Option<Call>
 }
 
 fn pullup_of(rest: Option<&[u8]>) -> Option<Call>
-    ensures { (room : List ℕ) → ReadsForm (codes "pullup") (left rest.entry) room result }
+    ensures { (room : List ℕ) → ReadsChainForm (codes "pullup") (left rest.entry) room result }
 {
     let (slot, n) = two(rest)?;
     let slot = number(slot, LAST_SLOT)?;
@@ -120,7 +120,7 @@ fn pullup_of(rest: Option<&[u8]>) -> Option<Call>
 }
 
 fn adj_of(rest: Option<&[u8]>) -> Option<Call>
-    ensures { (room : List ℕ) → ReadsForm (codes "adj") (left rest.entry) room result }
+    ensures { (room : List ℕ) → ReadsChainForm (codes "adj") (left rest.entry) room result }
 {
     let (slot, n) = two(rest)?;
     let slot = number(slot, LAST_SLOT)?;
@@ -129,7 +129,7 @@ fn adj_of(rest: Option<&[u8]>) -> Option<Call>
 }
 
 fn split_of(rest: Option<&[u8]>) -> Option<Call>
-    ensures { (room : List ℕ) → ReadsForm (codes "split") (left rest.entry) room result }
+    ensures { (room : List ℕ) → ReadsChainForm (codes "split") (left rest.entry) room result }
 {
     let (to, slot, at) = three(rest)?;
     let to = number(to, LAST_SLOT)?;
@@ -139,7 +139,7 @@ fn split_of(rest: Option<&[u8]>) -> Option<Call>
 }
 
 fn cat_of(rest: Option<&[u8]>) -> Option<Call>
-    ensures { (room : List ℕ) → ReadsForm (codes "cat") (left rest.entry) room result }
+    ensures { (room : List ℕ) → ReadsChainForm (codes "cat") (left rest.entry) room result }
 {
     let (slot, other) = two(rest)?;
     let slot = number(slot, LAST_SLOT)?;
@@ -149,7 +149,7 @@ fn cat_of(rest: Option<&[u8]>) -> Option<Call>
 
 fn copyback_of(rest: Option<&[u8]>, room: &mut [u8]) -> Option<Call>
     requires { length room.old ≡ IP_MAX_PACKET }
-    ensures { ReadsForm (codes "copyback") (left rest.entry) room.new result }
+    ensures { ReadsChainForm (codes "copyback") (left rest.entry) room.new result }
 {
     let (slot, off, word) = three(rest)?;
     let slot = number(slot, LAST_SLOT)?;
@@ -159,7 +159,7 @@ fn copyback_of(rest: Option<&[u8]>, room: &mut [u8]) -> Option<Call>
 }
 
 fn copydata_of(rest: Option<&[u8]>) -> Option<Call>
-    ensures { (room : List ℕ) → ReadsForm (codes "copydata") (left rest.entry) room result }
+    ensures { (room : List ℕ) → ReadsChainForm (codes "copydata") (left rest.entry) room result }
 {
     let (slot, off, len) = three(rest)?;
     let slot = number(slot, LAST_SLOT)?;
@@ -169,21 +169,21 @@ fn copydata_of(rest: Option<&[u8]>) -> Option<Call>
 }
 
 fn show_of(rest: Option<&[u8]>) -> Option<Call>
-    ensures { (room : List ℕ) → ReadsForm (codes "show") (left rest.entry) room result }
+    ensures { (room : List ℕ) → ReadsChainForm (codes "show") (left rest.entry) room result }
 {
     let slot = number(one(rest)?, LAST_SLOT)?;
     Some(Call::Show(slot))
 }
 
 fn free_of(rest: Option<&[u8]>) -> Option<Call>
-    ensures { (room : List ℕ) → ReadsForm (codes "free") (left rest.entry) room result }
+    ensures { (room : List ℕ) → ReadsChainForm (codes "free") (left rest.entry) room result }
 {
     let slot = number(one(rest)?, LAST_SLOT)?;
     Some(Call::Free(slot))
 }
 
 fn usage_of(rest: Option<&[u8]>) -> Option<Call>
-    ensures { (room : List ℕ) → ReadsForm (codes "mbstat") (left rest.entry) room result }
+    ensures { (room : List ℕ) → ReadsChainForm (codes "mbstat") (left rest.entry) room result }
 {
     if is_end(rest) {
         Some(Call::Usage)
@@ -197,7 +197,7 @@ pub(crate) fn call_of(line: &[u8], room: &mut [u8]) -> Option<Call>
     requires { length room.old ≡ IP_MAX_PACKET }
     ensures call { MatchOption result ((request : Request) → IsRequest line.now request → ⊥)
         (λ call. IsRequest line.now (request_of call room.new)) }
-    ensures fits { IfSome result (λ call. IsCall call) }
+    ensures fits { IfSome result (λ call. IsSlotCall call) }
 {
     if line.len() > LONGEST_REQUEST as usize {
         return None;

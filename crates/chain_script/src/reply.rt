@@ -2,8 +2,8 @@
 ghost use Rattle.std.specs.Prelude.{◌≡◌, ◌+◌, ◌*◌, ◌≤◌, ◌++◌, length, Some, codes, decimal};
 ghost use Rattle.flat_model.specs.Scripts.Texts.{share_text};
 ghost use Rattle.params.specs.declared.TheConstants.{IP_MAX_PACKET};
-ghost use Rattle.chain_script.specs.Steps.{Shown, reply_text, answer_text, mbuf_text};
-ghost use Rattle.chain_script.specs.Inside.Replies.{fault_reply, done_reply, held_reply};
+ghost use Rattle.chain_script.specs.Steps.{Shown, chain_reply_text, chain_answer_text, mbuf_text};
+ghost use Rattle.chain_script.specs.Inside.Replies.{fault_reply, chain_done_reply, held_reply};
 
 use crate::fault::Fault;
 use mbuf_chain::Usage;
@@ -19,7 +19,7 @@ pub(crate) const TEXT: usize = HELD + MBUF_TEXT * (MAX_MBUFS as usize + 1);
 
 fn put_fault(text: &mut Buffer<TEXT>, fault: Fault)
     requires { length text.old + 8 ≤ TEXT }
-    ensures items { text.new ≡ text.old ++ reply_text (fault_reply fault) }
+    ensures items { text.new ≡ text.old ++ chain_reply_text (fault_reply fault) }
     ensures len { length text.new ≤ length text.old + 8 }
 {
     match fault {
@@ -35,7 +35,7 @@ fn put_fault(text: &mut Buffer<TEXT>, fault: Fault)
 /// The line for a request that answers nothing else.
 pub(crate) fn put_done(text: &mut Buffer<TEXT>, outcome: Result<(), Fault>)
     requires { length text.old ≤ HELD }
-    ensures { text.new ≡ text.old ++ answer_text (Some (done_reply outcome)) }
+    ensures { text.new ≡ text.old ++ chain_answer_text (Some (chain_done_reply outcome)) }
 {
     match outcome {
         Ok(()) => text.append(b"ok"),
@@ -54,7 +54,7 @@ pub(crate) fn put_held(
     requires text { length text.old ≤ HELD }
     requires room { length room.now ≤ IP_MAX_PACKET }
     requires digits { length digits.old ≡ 2 * IP_MAX_PACKET }
-    ensures { text.new ≡ text.old ++ answer_text (Some (held_reply outcome room.now)) }
+    ensures { text.new ≡ text.old ++ chain_answer_text (Some (held_reply outcome room.now)) }
 {
     match outcome {
         Ok(()) => {
@@ -79,7 +79,7 @@ fn put_share(text: &mut Buffer<TEXT>, free: u32, all: u32)
 /// The line for how much of a pool is in use.
 pub(crate) fn put_usage(text: &mut Buffer<TEXT>, usage: Usage)
     requires { length text.old ≤ HELD }
-    ensures { text.new ≡ text.old ++ answer_text (Some (Shown (record {
+    ensures { text.new ≡ text.old ++ chain_answer_text (Some (Shown (record {
       free_mbufs = usage.free_mbufs;
       mbufs = usage.mbufs;
       free_clusters = usage.free_clusters;

@@ -2,7 +2,7 @@
 ghost use Rattle.std.specs.Prelude.{◌≡◌};
 ghost use Rattle.script_loop.specs.Serves.{Serves};
 ghost use Rattle.script_loop.specs.Streams.{MoreBy, reader_failures, writer_failures};
-ghost use Rattle.chain_script.specs.Boots.{Boots};
+ghost use Rattle.chain_script.specs.Boots.{BootsChains};
 ghost use Rattle.chain_script.specs.Machines.{Machine, booted};
 ghost use Rattle.chain_script.specs.Steps.{Says};
 
@@ -31,7 +31,7 @@ pub fn run_chains<R: Source, W: Sink>(
     reader: &mut R,
     writer: &mut W,
 ) -> Result<(), RunFault>
-    ensures booted { Boots sizes result }
+    ensures booted { BootsChains sizes result }
     // The reader failed once where the fault is `Read`, and the writer where it is `Write`; else they didn't.
     ensures read { MoreBy (reader_failures result) (R.failures reader.old) (R.failures reader.new) }
     ensures wrote { MoreBy (writer_failures result) (W.failures writer.old) (W.failures writer.new) }

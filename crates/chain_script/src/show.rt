@@ -2,8 +2,8 @@
 ghost use Rattle.std.specs.Prelude.{◌≡◌, ℕ, ◌+◌, ◌*◌, ◌<◌, ◌≤◌, ◌++◌, length, flat_map, Some, Option};
 ghost use Rattle.mbuf_chain.specs.Chain.{IsLive, chain_of, references, string};
 ghost use Rattle.chain_script.specs.Lines.{Show, Ask_usage};
-ghost use Rattle.chain_script.specs.Steps.{Reply, Laid, Step, answer_text, shape_text, shapes_of, count_in};
-ghost use Rattle.chain_script.specs.Inside.Slots.{machine_of, Fits};
+ghost use Rattle.chain_script.specs.Steps.{ChainReply, Laid, ChainStep, chain_answer_text, shape_text, shapes_of, count_in};
+ghost use Rattle.chain_script.specs.Inside.Slots.{machine_of, FitsSlots};
 
 use crate::fault::Fault;
 use crate::reply::{MBUF_TEXT, TEXT, put_done, put_mbuf, put_usage};
@@ -44,7 +44,7 @@ fn put_mbufs(text: &mut Buffer<TEXT>, pool: &Pool, chain: &Chain)
 fn put_layout(text: &mut Buffer<TEXT>, pool: &Pool, chain: &Chain)
     requires live { IsLive pool.now chain.now }
     requires text { length text.old ≤ HELD }
-    ensures { text.new ≡ text.old ++ answer_text (Some (Laid (length (string (chain_of pool.now chain.now)))
+    ensures { text.new ≡ text.old ++ chain_answer_text (Some (Laid (length (string (chain_of pool.now chain.now)))
         (shapes_of (references pool.now) (chain_of pool.now chain.now).entries))) }
 {
     pool.laws();
@@ -57,10 +57,11 @@ fn put_layout(text: &mut Buffer<TEXT>, pool: &Pool, chain: &Chain)
 /// Shows the layout of a slot's chain.
 pub(crate) fn show(pool: &Pool, chains: &[Option<Chain>], slot: usize, text: &mut Buffer<TEXT>)
     requires slot { slot < length chains.now }
-    requires fits { Fits pool.now chains.now }
+    requires fits { FitsSlots pool.now chains.now }
     requires text { length text.old ≤ HELD }
-    ensures { (reply : Reply) × Step (machine_of pool.now chains.now) (Show slot) reply (machine_of pool.now chains.now)
-        × (text.new ≡ text.old ++ answer_text (Some reply)) }
+    ensures { (reply : ChainReply) × ChainStep (machine_of pool.now chains.now) (Show slot) reply
+        (machine_of pool.now chains.now)
+        × (text.new ≡ text.old ++ chain_answer_text (Some reply)) }
 {
     match &chains[slot] {
         Some(chain) => put_layout(text, pool, chain),
@@ -70,10 +71,11 @@ pub(crate) fn show(pool: &Pool, chains: &[Option<Chain>], slot: usize, text: &mu
 
 /// Shows how much of the pool is in use.
 pub(crate) fn usage(pool: &Pool, chains: &[Option<Chain>], text: &mut Buffer<TEXT>)
-    requires fits { Fits pool.now chains.now }
+    requires fits { FitsSlots pool.now chains.now }
     requires text { length text.old ≤ HELD }
-    ensures { (reply : Reply) × Step (machine_of pool.now chains.now) Ask_usage reply (machine_of pool.now chains.now)
-        × (text.new ≡ text.old ++ answer_text (Some reply)) }
+    ensures { (reply : ChainReply) × ChainStep (machine_of pool.now chains.now) Ask_usage reply
+        (machine_of pool.now chains.now)
+        × (text.new ≡ text.old ++ chain_answer_text (Some reply)) }
 {
     put_usage(text, pool.usage());
 }

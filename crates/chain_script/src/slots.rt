@@ -1,6 +1,6 @@
 //! Slots, each with a chain or empty.
 ghost use Rattle.std.specs.Prelude.{◌≡◌, ◌<◌, ℕ, Some, None, [], length, slice_set, slice_index_or};
-ghost use Rattle.chain_script.specs.Inside.Slots.{numbers, Fits};
+ghost use Rattle.chain_script.specs.Inside.Slots.{slot_numbers, FitsSlots};
 
 use mbuf_chain::{Chain, Pool};
 use std::mem;
@@ -33,8 +33,8 @@ pub(crate) fn take(chains: &mut [Option<Chain>], slot: usize) -> Chain
 /// Frees the chain of a slot, if it has one.
 fn free_slot(pool: &mut Pool, chains: &mut [Option<Chain>], slot: usize)
     requires within { slot < length chains.old }
-    requires fits { Fits pool.old chains.old }
-    ensures fits { Fits pool.new chains.new }
+    requires fits { FitsSlots pool.old chains.old }
+    ensures fits { FitsSlots pool.new chains.new }
     ensures after { chains.new ≡ slice_set chains.old slot None }
 {
     let Some(_) = &chains[slot] else {
@@ -46,9 +46,9 @@ fn free_slot(pool: &mut Pool, chains: &mut [Option<Chain>], slot: usize)
 
 /// Frees the chains of all slots.
 pub(crate) fn free_all(pool: &mut Pool, chains: &mut [Option<Chain>])
-    requires { Fits pool.old chains.old }
-    ensures fits { Fits pool.new chains.new }
-    ensures empty { numbers chains.new ≡ [] }
+    requires { FitsSlots pool.old chains.old }
+    ensures fits { FitsSlots pool.new chains.new }
+    ensures empty { slot_numbers chains.new ≡ [] }
     ensures len { length chains.new ≡ length chains.old }
 {
     'slots: for slot in 0..chains.len() {

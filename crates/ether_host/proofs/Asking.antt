@@ -9,7 +9,7 @@ use Rattle.flat_model.specs.declared.errno.Errno.TheVariants.{BadDescriptor}
 use Rattle.flat_ether.specs.Hosts.{Host, error_of_socket, last_error}
 use Rattle.flat_ether.specs.Links.{takes_error}
 use Rattle.flat_ether.specs.declared.error.NetFault.{NetFault}
-use Rattle.sock_calls.specs.Questions.{named, socket_name}
+use Rattle.sock_calls.specs.Questions.{name_or_fault, socket_name}
 use Rattle.sock_calls.specs.declared.questions.SocketName.{SocketName}
 
 -- what a question for an error of the socket with this name answers, and the host then
@@ -29,7 +29,7 @@ pub asked_ok : (h : Host) (fd : ℕ) (name : SocketName) → socket_name fd h.ma
 unfolding name_in
 asked_ok h fd name = go (socket_at fd h.machine)
   where
-    go : (me : Option Socket) → named me ≡ Ok name → error_of_socket me h ≡ told h name
+    go : (me : Option Socket) → name_or_fault me ≡ Ok name → error_of_socket me h ≡ told h name
     go None e = absurd (false≢true (ap is_ok e))
     go (Some me) e = ap (told h) (ap (λ (r : Result SocketName Errno). name_in r name) e)
 
@@ -38,6 +38,6 @@ pub asked_err : (h : Host) (fd : ℕ) (errno : Errno) → socket_name fd h.machi
 unfolding errno_in
 asked_err h fd errno = go (socket_at fd h.machine)
   where
-    go : (me : Option Socket) → named me ≡ Err errno → error_of_socket me h ≡ (Err errno, h)
+    go : (me : Option Socket) → name_or_fault me ≡ Err errno → error_of_socket me h ≡ (Err errno, h)
     go None e = ap (λ (x : Errno). (Err x, h)) (ap errno_in e)
     go (Some me) e = absurd (false≢true (sym (ap is_ok e)))

@@ -7,8 +7,8 @@ use Rattle.flat_model.specs.Machine.Event.{Reply, Given}
 use Rattle.flat_model.specs.Machine.State.{State}
 use Rattle.flat_model.specs.Machine.Step.{Transmits}
 use Rattle.flat_ether.specs.Frames.{frame}
-use Rattle.flat_ether.specs.Hosts.{Drained, drained, or_drains, with_output}
-use Rattle.flat_ether.specs.Links.{Gives, Held, LinkState, first_ready, gives_held, sends, sends_at, sends_held}
+use Rattle.flat_ether.specs.Hosts.{Drained, drained, or_drains, with_output_left}
+use Rattle.flat_ether.specs.Links.{Gives, WaitingPacket, LinkState, first_ready, gives_held, sends, sends_at, sends_held}
 use Rattle.flat_ether.specs.declared.mac.Mac.{Mac}
 use Rattle.ether_host.specs.Buffers.{held_in}
 use Rattle.ether_host.specs.declared.buffer.PacketBuffer.{PacketBuffer}
@@ -19,8 +19,8 @@ pub held_given : (s : LinkState) (ps : List PacketBuffer) (at : ℕ) (mac : Mac)
     → gives_held s ≡ (Some (frame mac s.link.mac 0x0800 (held_in p).packet), record s { held = remove s.held at })
 held_given s ps at mac p same found within is =
     ap (λ (o : Option (ℕ × Mac)). sends_at o s) found
-    ∙ ap (λ (h : Option Held). sends_held at mac h s)
-    (ap (λ (hs : List Held). slice_get hs at) same ∙ held_at ps at p within is)
+    ∙ ap (λ (h : Option WaitingPacket). sends_held at mac h s)
+    (ap (λ (hs : List WaitingPacket). slice_get hs at) same ∙ held_at ps at p within is)
 
 -- ---- packets that the stack gives
 
@@ -29,7 +29,7 @@ record Took (s t : State) (p : List ℕ) : Type 0 where
   later : List Item
   output : s.output ≡ item ∷ later
   bytes : item.bytes ≡ p
-  left : t ≡ with_output s later
+  left : t ≡ with_output_left s later
 
 abbrev packet_of : Reply → Option (List ℕ)
 packet_of (Given p) = p
@@ -78,8 +78,8 @@ module _ (d : Drained) (s t : State) (p : List ℕ) (l l' : LinkState) (so_far :
   stayed e = one ∙ or_stayed (sends p l) t.output _ e ∙ ap (λ (x : LinkState). drained t.output x) (sym link)
 
 pub same_rest : (s t : State) (p : List ℕ) → Transmits s.output s (Given (Some p)) t → (items : List Item)
-    → with_output s items ≡ with_output t items
-same_rest s t p step items = let w = took s t p step in ap (λ (x : State). with_output x items) (sym w.left)
+    → with_output_left s items ≡ with_output_left t items
+same_rest s t p step items = let w = took s t p step in ap (λ (x : State). with_output_left x items) (sym w.left)
 
 pub ended : (s t : State) → Transmits s.output s (Given None) t → (t ≡ s) × (s.output ≡ [])
 ended s t h = go s.output refl h

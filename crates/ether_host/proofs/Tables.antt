@@ -4,25 +4,28 @@ use Rattle.std.specs.Prelude.{filter, is_some, remove, slice_get}
 use Rattle.std.specs.List.{copy_within}
 use Rattle.std.proofs.lemmas.List.{take_all, take_at}
 use Rattle.std.proofs.lemmas.List.Edits.{length-remove}
-use Rattle.flat_ether.specs.Links.{aged, has_hope, place_of, stays}
+use Rattle.flat_ether.specs.Links.{neighbour_aged, has_hope, neighbour_place, neighbour_stays}
 use Rattle.flat_ether.specs.declared.neighbour.Neighbour.{Neighbour}
 use Rattle.ether_host.specs.Buffers.{has_hope_in, held_in}
 use Rattle.ether_host.specs.declared.buffer.PacketBuffer.{PacketBuffer}
 
-few_pass : (xs : List Neighbour) → length (filter stays (map aged xs)) ≤ length xs
+few_pass : (xs : List Neighbour) → length (filter neighbour_stays (map neighbour_aged xs)) ≤ length xs
 few_pass [] = omega arith
-few_pass (x ∷ xs) = go (stays (aged x)) (few_pass xs)
+few_pass (x ∷ xs) = go (neighbour_stays (neighbour_aged x)) (few_pass xs)
   where
-    go : (b : Bool) → length (filter stays (map aged xs)) ≤ length xs
-        → length (cond b (aged x ∷ filter stays (map aged xs)) (filter stays (map aged xs))) ≤ length (x ∷ xs)
+    go : (b : Bool) → length (filter neighbour_stays (map neighbour_aged xs)) ≤ length xs
+        → length (cond b (neighbour_aged x ∷ filter neighbour_stays (map neighbour_aged xs))
+        (filter neighbour_stays (map neighbour_aged xs))) ≤ length (x ∷ xs)
     go true h = omega arith
     go false h = omega arith
 
-pub few_stay : (ns : List Neighbour) (i : ℕ) (kept : List Neighbour) → kept ≡ filter stays (map aged (take i ns))
+pub few_stay : (ns : List Neighbour) (i : ℕ) (kept : List Neighbour)
+    → kept ≡ filter neighbour_stays (map neighbour_aged (take i ns))
     → length kept ≤ i
 few_stay ns i kept e =
-    let few : length (filter stays (map aged (take i ns))) ≤ length (take i ns) = few_pass (take i ns) in
-    let same : length kept ≡ length (filter stays (map aged (take i ns))) = ap length e in
+    let few : length (filter neighbour_stays (map neighbour_aged (take i ns))) ≤ length (take i ns) =
+    few_pass (take i ns) in
+    let same : length kept ≡ length (filter neighbour_stays (map neighbour_aged (take i ns))) = ap length e in
     let long : length (take i ns) ≡ min i (length ns) = length-take i ns in
     omega arith
 
@@ -30,7 +33,7 @@ few_stay ns i kept e =
 pub held_filter : (ns : List Neighbour) (ps : List PacketBuffer)
     → map held_in (filter (has_hope_in ns) ps) ≡ filter (has_hope ns) (map held_in ps)
 held_filter ns [] = refl
-held_filter ns (p ∷ ps) = go (is_some (place_of p.hop ns)) (held_filter ns ps)
+held_filter ns (p ∷ ps) = go (is_some (neighbour_place p.hop ns)) (held_filter ns ps)
   where
     go : (b : Bool) → map held_in (filter (has_hope_in ns) ps) ≡ filter (has_hope ns) (map held_in ps)
         → map held_in (cond b (p ∷ filter (has_hope_in ns) ps) (filter (has_hope_in ns) ps))

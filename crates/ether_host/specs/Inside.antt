@@ -9,8 +9,8 @@ abbrev pub written : List ℕ → ℕ → List ℕ → List ℕ
 written bytes at new = take at bytes ++ (new ++ drop (at + length new) bytes)
 
 -- what a link shows
-abbrev pub seen : LinkLayer → LinkState
-seen l = record {
+abbrev pub link_seen : LinkLayer → LinkState
+link_seen l = record {
   config = l.config;
   link = l.link;
   neighbours = l.neighbours.items;

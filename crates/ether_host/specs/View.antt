@@ -10,7 +10,7 @@ use Rattle.net_stack.specs.Boots as boots
 use Rattle.net_stack.specs.Stack.{StackView, state_of}
 use Rattle.net_stack.specs.contracts.stack.Stack.{the_row as stack_row}
 use Rattle.ether_host.specs.contracts.host.EtherHost.{the_row}
-use Rattle.ether_host.specs.Inside.{seen}
+use Rattle.ether_host.specs.Inside.{link_seen}
 use Rattle.ether_host.specs.declared.host.EtherHost.{EtherHost}
 use Rattle.ether_host.specs.declared.host.EtherFault.{EtherFault}
 use Rattle.ether_host.specs.declared.host.EtherFault.TheVariants.{BadLink, Unbooted}
@@ -19,8 +19,8 @@ pub record HostView : Type 0 where
   pub stack : StackView
   pub link : LinkState
 
-abbrev pub view : EtherHost → HostView
-view h = record { stack = h.stack; link = seen h.layer }
+abbrev pub host_view : EtherHost → HostView
+host_view h = record { stack = h.stack; link = link_seen h.layer }
 
 -- the host of a stack and a link
 abbrev pub halves : StackView → LinkState → Host
@@ -35,6 +35,6 @@ abbrev pub LendsStack : MutBor EtherHost → MutBor StackView → Fml
 LendsStack h r = Lends the_row stack_row h r (λ s. record h.now { stack = s })
 
 -- why there is no host: the link is tested first
-abbrev pub IsUnbooted : Config → Link → EtherFault → Type 0
-IsUnbooted c l BadLink = is_link c l ≡ false
-IsUnbooted c l (Unbooted fault) = (is_link c l ≡ true) × boots.IsUnbooted c fault
+abbrev pub IsHostUnbooted : Config → Link → EtherFault → Type 0
+IsHostUnbooted c l BadLink = is_link c l ≡ false
+IsHostUnbooted c l (Unbooted fault) = (is_link c l ≡ true) × boots.IsUnbooted c fault

@@ -1,7 +1,7 @@
 //! Errors that others tell of datagrams which this host sent (`udp_ctlinput` of volume 2, chapter 23).
 ghost use Rattle.std.specs.Prelude.{◌≡◌, ◌≤◌, length};
 ghost use Rattle.flat_ether.specs.declared.sizes.TheConstants.{ICMP_ERROR};
-ghost use Rattle.flat_ether.specs.Errors.{error_at, error_in, error_of, fault_of, is_error, is_icmp, is_of, note};
+ghost use Rattle.flat_ether.specs.Errors.{error_at, error_in, error_of, error_fault, is_error, is_icmp, is_error_of, note};
 ghost use Rattle.flat_ether.specs.Links.{notes, takes_error};
 
 use crate::answer::{HEADER, carried};
@@ -46,7 +46,7 @@ fn is_error(config: &Config, body: &[u8]) -> bool
 
 /// What a code means for who sent.
 fn fault_of(code: u8) -> NetFault
-    ensures { result ≡ fault_of code }
+    ensures { result ≡ error_fault code }
 {
     if code == UNREACHABLE_PROTOCOL || code == UNREACHABLE_PORT {
         return NetFault::Refused;
@@ -83,7 +83,7 @@ fn error_in(config: &Config, came: &[u8]) -> Option<SocketError>
 
 /// Whether it's about datagrams from this port to this address.
 fn is_of(error: &SocketError, port: u16, peer: Addr) -> bool
-    ensures { result ≡ is_of port peer error.now }
+    ensures { result ≡ is_error_of port peer error.now }
 {
     error.port == port && error.peer_ip == peer.ip && error.peer_port == peer.port
 }
@@ -116,12 +116,12 @@ fn note(errors: &mut ArrayVec<SocketError, SOCKET_ERRORS>, error: SocketError)
 }
 
 impl LinkLayer {
-    ghost use Rattle.ether_host.specs.Inside.{seen};
+    ghost use Rattle.ether_host.specs.Inside.{link_seen};
 
     /// A packet came that the stack ended, as one of a protocol that it doesn't know or otherwise: it may tell an
     /// error.
     pub(crate) fn note(&mut self, no_protocol: bool, came: &[u8])
-        ensures { seen self.new ≡ notes no_protocol came.now (seen self.old) }
+        ensures { link_seen self.new ≡ notes no_protocol came.now (link_seen self.old) }
     {
         if !no_protocol {
             return;
@@ -133,8 +133,8 @@ impl LinkLayer {
 
     /// What was told of the datagrams that went from this port to this peer. It's told once.
     pub(crate) fn take_error(&mut self, port: Option<u16>, peer: Option<Addr>) -> Option<NetFault>
-        ensures fault { result ≡ (takes_error port peer (seen self.old)).0 }
-        ensures link { seen self.new ≡ (takes_error port peer (seen self.old)).1 }
+        ensures fault { result ≡ (takes_error port peer (link_seen self.old)).0 }
+        ensures link { link_seen self.new ≡ (takes_error port peer (link_seen self.old)).1 }
     {
         let (Some(port), Some(peer)) = (port, peer) else {
             return None;

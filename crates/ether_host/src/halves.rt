@@ -4,7 +4,7 @@ ghost use Rattle.params.specs.declared.TheConstants.{IP_MAX_PACKET};
 ghost use Rattle.flat_ether.specs.Claims.{address_state};
 ghost use Rattle.flat_ether.specs.Hosts.{Hears, gives, last_error};
 ghost use Rattle.flat_ether.specs.declared.sizes.TheConstants.{ETHER_HEADER, ETHER_MTU};
-ghost use Rattle.ether_host.specs.Fronts.{front};
+ghost use Rattle.ether_host.specs.Fronts.{room_front};
 ghost use Rattle.ether_host.specs.View.{halves};
 
 use crate::frames::{body_of, kind_of};
@@ -15,12 +15,12 @@ use flat_model::Errno;
 use net_stack::Stack;
 
 impl LinkLayer {
-    ghost use Rattle.ether_host.specs.Inside.{seen};
+    ghost use Rattle.ether_host.specs.Inside.{link_seen};
 
     /// A frame comes, as `EtherHost::receive` has it.
     pub fn receive(&mut self, stack: &mut Stack, frame: &[u8])
         requires { length frame.now ≤ ETHER_HEADER + IP_MAX_PACKET }
-        ensures { Hears frame.now (halves stack.old (seen self.old)) (halves stack.new (seen self.new)) }
+        ensures { Hears frame.now (halves stack.old (link_seen self.old)) (halves stack.new (link_seen self.new)) }
     {
         match kind_of(&self.config, self.link.mac, frame) {
             FrameKind::Packet => take_packet(stack, self, frame),
@@ -35,8 +35,8 @@ impl LinkLayer {
     pub fn transmit(&mut self, stack: &mut Stack, room: &mut [u8]) -> Option<usize>
         requires mtu { stack.old.config.mtu ≤ ETHER_MTU }
         requires room { ETHER_HEADER + ETHER_MTU ≤ length room.old }
-        ensures step { (front result room.new, halves stack.new (seen self.new))
-            ≡ gives (halves stack.old (seen self.old)) }
+        ensures step { (room_front result room.new, halves stack.new (link_seen self.new))
+            ≡ gives (halves stack.old (link_seen self.old)) }
         ensures fits { IfSome result (λ n. n ≤ length room.new) }
     {
         if !self.claim.is_claimed() {
@@ -53,7 +53,8 @@ impl LinkLayer {
 
     /// What others told of the datagrams that a connected socket sent to its peer, as `EtherHost::last_error` has it.
     pub fn last_error(&mut self, stack: &Stack, fd: u32) -> Result<Option<NetFault>, Errno>
-        ensures { (result, halves stack.now (seen self.new)) ≡ last_error fd (halves stack.now (seen self.old)) }
+        ensures { (result, halves stack.now (link_seen self.new))
+            ≡ last_error fd (halves stack.now (link_seen self.old)) }
     {
         match stack.socket_name(fd) {
             Ok(name) => Ok(self.take_error(name.port, name.peer)),
@@ -63,28 +64,28 @@ impl LinkLayer {
 
     /// Its hardware address, its mask and its gateway, as boot was told.
     pub fn link(&self) -> Link
-        ensures { result ≡ (seen self.now).link }
+        ensures { result ≡ (link_seen self.now).link }
     {
         self.link
     }
 
     /// How far the host is with its address.
     pub fn address(&self) -> AddressState
-        ensures { result ≡ address_state (seen self.now).claim }
+        ensures { result ≡ address_state (link_seen self.now).claim }
     {
         self.claim.state()
     }
 
     /// What was counted of the link.
     pub fn tallies(&self) -> Tallies
-        ensures { result ≡ (seen self.now).tallies }
+        ensures { result ≡ (link_seen self.now).tallies }
     {
         self.tallies
     }
 
     /// The neighbours that are known or asked for, the one that was put last at the end.
     pub fn neighbours(&self) -> &[Neighbour]
-        ensures { result.now ≡ (seen self.now).neighbours }
+        ensures { result.now ≡ (link_seen self.now).neighbours }
     {
         self.neighbours.as_slice()
     }

@@ -14,25 +14,25 @@ use flat_ether::{
 };
 
 impl LinkLayer {
-    ghost use Rattle.ether_host.specs.Inside.{seen};
+    ghost use Rattle.ether_host.specs.Inside.{link_seen};
 
     /// A frame that nobody looks at.
     pub(crate) fn ignore(&mut self)
-        ensures { seen self.new ≡ ignores (seen self.old) }
+        ensures { link_seen self.new ≡ ignores (link_seen self.old) }
     {
         self.tallies.ignored = self.tallies.ignored.saturating_add(1);
     }
 
     /// A packet whose addresses can't come from a link.
     pub(crate) fn refuse(&mut self)
-        ensures { seen self.new ≡ refuses (seen self.old) }
+        ensures { link_seen self.new ≡ refuses (link_seen self.old) }
     {
         self.tallies.martians = self.tallies.martians.saturating_add(1);
     }
 
     /// Learns the sender of an ARP packet, if it's known or asks for this host (RFC 826, "Packet Reception").
     fn learn(&mut self, arp: Arp)
-        ensures { seen self.new ≡ learns arp (seen self.old) }
+        ensures { link_seen self.new ≡ learns arp (link_seen self.old) }
     {
         if !self.link.is_neighbour(&self.config, arp.ip) {
             return;
@@ -53,7 +53,7 @@ impl LinkLayer {
 
     /// A request for the address that this host uses is owed a reply.
     fn owe(&mut self, arp: Arp)
-        ensures { seen self.new ≡ owes arp (seen self.old) }
+        ensures { link_seen self.new ≡ owes arp (link_seen self.old) }
     {
         if !self.claim.is_claimed() || arp.op != ARP_REQUEST || arp.target != self.config.addr {
             return;
@@ -70,7 +70,7 @@ impl LinkLayer {
 
     /// Whether another host has this one's address, or asks for it while this one does.
     fn is_conflict(&self, arp: Arp) -> bool
-        ensures { result ≡ is_conflict (seen self.now) arp }
+        ensures { result ≡ is_conflict (link_seen self.now) arp }
     {
         if arp.ip == self.config.addr {
             return true;
@@ -83,7 +83,7 @@ impl LinkLayer {
 
     /// Another host claims this one's address.
     fn contest(&mut self)
-        ensures { seen self.new ≡ finds_conflict (seen self.old) }
+        ensures { link_seen self.new ≡ finds_conflict (link_seen self.old) }
     {
         self.claim = self.claim.contested();
         self.tallies.conflicts = self.tallies.conflicts.saturating_add(1);
@@ -102,7 +102,7 @@ impl LinkLayer {
 
     /// An ARP packet comes (`in_arpinput` of volume 2, chapter 21).
     pub(crate) fn hear_arp(&mut self, body: &[u8])
-        ensures { seen self.new ≡ hears_arp body.now (seen self.old) }
+        ensures { link_seen self.new ≡ hears_arp body.now (link_seen self.old) }
     {
         let Some(arp) = self.sound_arp(body) else {
             self.tallies.bad_arp = self.tallies.bad_arp.saturating_add(1);
@@ -119,7 +119,7 @@ impl LinkLayer {
     /// A packet is answered, if the place for an answer is free.
     pub(crate) fn answer_with(&mut self, answer: Answer, came: &[u8])
         requires { CanAnswer answer came.now }
-        ensures { seen self.new ≡ answers_with answer came.now (seen self.old) }
+        ensures { link_seen self.new ≡ answers_with answer came.now (link_seen self.old) }
     {
         if answer == Answer::Silence {
             return;

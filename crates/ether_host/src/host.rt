@@ -6,8 +6,8 @@ ghost use Rattle.flat_ether.specs.Claims.{address_state};
 ghost use Rattle.flat_ether.specs.Hosts.{Hears, Ticks, gives, host_up, last_error};
 ghost use Rattle.flat_ether.specs.declared.sizes.TheConstants.{ETHER_HEADER, ETHER_MTU};
 ghost use Rattle.net_stack.specs.Boots.{free_pool};
-ghost use Rattle.ether_host.specs.Fronts.{front};
-ghost use Rattle.ether_host.specs.View.{IsUnbooted, LendsStack, host_of, view};
+ghost use Rattle.ether_host.specs.Fronts.{room_front};
+ghost use Rattle.ether_host.specs.View.{IsHostUnbooted, LendsStack, host_of, host_view};
 
 use crate::layer::LinkLayer;
 use flat_ether::{AddressState, Link, Neighbour, NetFault, Tallies};
@@ -42,7 +42,7 @@ impl EtherHost {
     ///
     /// `BadLink`; else `Unbooted`, if there is no stack by this configuration, or host memory was refused.
     pub fn boot(alloc: Global, config: Config, link: Link) -> Result<EtherHost, EtherFault>
-        ensures { MatchResult result (λ h. host_of (view h) ≡ host_up config link) (IsUnbooted config link) }
+        ensures { MatchResult result (λ h. host_of (host_view h) ≡ host_up config link) (IsHostUnbooted config link) }
     {
         if !link.check(&config) {
             return Err(EtherFault::BadLink);
@@ -64,7 +64,7 @@ impl EtherHost {
     /// gives doesn't go through it.
     pub fn stack(&mut self) -> &mut Stack
         ensures* writes_back { sem 𝓛 (LendsStack self.entry result) }
-        ensures value { result.now ≡ (view self.entry.now).stack }
+        ensures value { result.now ≡ (host_view self.entry.now).stack }
     {
         &mut self.stack
     }
@@ -74,7 +74,7 @@ impl EtherHost {
     /// to 127/8 is dropped here and counted (RFC 1122, section 3.2.1.3).
     pub fn receive(&mut self, frame: &[u8])
         requires { length frame.now ≤ ETHER_HEADER + IP_MAX_PACKET }
-        ensures { Hears frame.now (host_of (view self.old)) (host_of (view self.new)) }
+        ensures { Hears frame.now (host_of (host_view self.old)) (host_of (host_view self.new)) }
     {
         self.layer.receive(&mut self.stack, frame);
     }
@@ -84,9 +84,10 @@ impl EtherHost {
     /// The room has 1,514 bytes or more. What stands behind the frame in the room may be anything, and all of it if
     /// there is none. The network card appends what a short frame lacks, and the check sequence.
     pub fn transmit(&mut self, room: &mut [u8]) -> Option<usize>
-        requires mtu { (view self.old).stack.config.mtu ≤ ETHER_MTU }
+        requires mtu { (host_view self.old).stack.config.mtu ≤ ETHER_MTU }
         requires room { ETHER_HEADER + ETHER_MTU ≤ length room.old }
-        ensures step { (front result room.new, host_of (view self.new)) ≡ gives (host_of (view self.old)) }
+        ensures step { (room_front result room.new, host_of (host_view self.new))
+            ≡ gives (host_of (host_view self.old)) }
         ensures fits { IfSome result (λ n. n ≤ length room.new) }
     {
         self.layer.transmit(&mut self.stack, room)
@@ -94,7 +95,7 @@ impl EtherHost {
 
     /// The clock ticks, each half second.
     pub fn tick(&mut self)
-        ensures { Ticks (host_of (view self.old)) (host_of (view self.new)) }
+        ensures { Ticks (host_of (host_view self.old)) (host_of (host_view self.new)) }
     {
         self.stack.tick();
         self.layer.tick();
@@ -103,7 +104,7 @@ impl EtherHost {
     /// How far the host is with its address: whether it asks for it, uses it, or another host has it. In conflict it
     /// stays silent, and the way on is another address: `end`, and `boot` anew.
     pub fn address(&self) -> AddressState
-        ensures { result ≡ address_state (view self.now).link.claim }
+        ensures { result ≡ address_state (host_view self.now).link.claim }
     {
         self.layer.address()
     }
@@ -112,28 +113,28 @@ impl EtherHost {
     /// once (`so_error` of volume 2, chapter 23). The last eight such errors are kept, by port and peer: one that came
     /// before a socket took the port over is told to that one. Refused: `BadDescriptor`.
     pub fn last_error(&mut self, fd: u32) -> Result<Option<NetFault>, Errno>
-        ensures { (result, host_of (view self.new)) ≡ last_error fd (host_of (view self.old)) }
+        ensures { (result, host_of (host_view self.new)) ≡ last_error fd (host_of (host_view self.old)) }
     {
         self.layer.last_error(&self.stack, fd)
     }
 
     /// What was counted of the link.
     pub fn tallies(&self) -> Tallies
-        ensures { result ≡ (view self.now).link.tallies }
+        ensures { result ≡ (host_view self.now).link.tallies }
     {
         self.layer.tallies()
     }
 
     /// The neighbours that are known or asked for, the one that was put last at the end.
     pub fn neighbours(&self) -> &[Neighbour]
-        ensures { result.now ≡ (view self.now).link.neighbours }
+        ensures { result.now ≡ (host_view self.now).link.neighbours }
     {
         self.layer.neighbours()
     }
 
     /// Frees all that the host holds, and gives back the pool of its stack, of which everything is free then.
     pub fn end(self) -> Pool
-        ensures { result ≡ free_pool (view self).stack.config }
+        ensures { result ≡ free_pool (host_view self).stack.config }
     {
         let EtherHost { stack, layer: _ } = self;
         stack.end()

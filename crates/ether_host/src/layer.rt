@@ -30,11 +30,11 @@ pub struct LinkLayer {
 
 impl LinkLayer {
     ghost use Rattle.flat_ether.specs.Links.{link_up};
-    ghost use Rattle.ether_host.specs.Inside.{seen};
+    ghost use Rattle.ether_host.specs.Inside.{link_seen};
 
     /// A link of which nothing is known. `AllocError` comes if the host has no memory for the packets that it may hold.
     pub fn boot(alloc: Global, config: Config, link: Link) -> Result<LinkLayer, AllocError>
-        ensures { IfOk result (λ l. seen l ≡ link_up config link) }
+        ensures { IfOk result (λ l. link_seen l ≡ link_up config link) }
     {
         let held = Vec::with_capacity(alloc, HELD_PACKETS)?;
         Ok(LinkLayer {

@@ -5,7 +5,7 @@ ghost use Rattle.flat_ether.specs.declared.sizes.TheConstants.{ETHER_HEADER, ETH
 ghost use Rattle.flat_ether.specs.Claims.{claim_sent};
 ghost use Rattle.flat_ether.specs.Frames.{ether_broadcast};
 ghost use Rattle.flat_ether.specs.Links.{first_ready, gives_answer, gives_claim, gives_held, gives_own, gives_reply, gives_request, request};
-ghost use Rattle.ether_host.specs.Fronts.{front};
+ghost use Rattle.ether_host.specs.Fronts.{room_front};
 ghost use Rattle.ether_host.specs.Buffers.{held_in};
 
 use crate::buffer::{PacketBuffer, drop_at};
@@ -39,13 +39,13 @@ fn put_body(room: &mut [u8], body: &[u8])
 }
 
 impl LinkLayer {
-    ghost use Rattle.ether_host.specs.Inside.{seen};
+    ghost use Rattle.ether_host.specs.Inside.{link_seen};
 
     /// Writes an ARP request for an address, in which the sender's address is this. The answer is how many bytes the
     /// frame has.
     fn request(&self, room: &mut [u8], to: Mac, sender: u32, target: u32) -> usize
         requires { ETHER_HEADER + ETHER_MTU ≤ length room.old }
-        ensures frame { take result room.new ≡ request (seen self.now) to sender target }
+        ensures frame { take result room.new ≡ request (link_seen self.now) to sender target }
         ensures fits { result ≤ length room.new }
     {
         let body = arp_bytes(ARP_REQUEST, self.link.mac, sender, NO_MAC, target);
@@ -58,8 +58,9 @@ impl LinkLayer {
     fn ask_for_own(&mut self, room: &mut [u8], sender: u32) -> usize
         requires { ETHER_HEADER + ETHER_MTU ≤ length room.old }
         ensures frame { take result room.new
-            ≡ request (seen self.old) ether_broadcast sender (seen self.old).config.addr }
-        ensures link { seen self.new ≡ record (seen self.old) { claim = claim_sent (seen self.old).claim } }
+            ≡ request (link_seen self.old) ether_broadcast sender (link_seen self.old).config.addr }
+        ensures link { link_seen self.new
+            ≡ record (link_seen self.old) { claim = claim_sent (link_seen self.old).claim } }
         ensures fits { result ≤ length room.new }
     {
         self.claim = self.claim.sent();
@@ -69,8 +70,8 @@ impl LinkLayer {
     /// A probe or an announcement of the host's address, if one is due.
     pub(crate) fn give_claim(&mut self, room: &mut [u8]) -> Option<usize>
         requires { ETHER_HEADER + ETHER_MTU ≤ length room.old }
-        ensures frame { front result room.new ≡ (gives_claim (seen self.old)).0 }
-        ensures link { seen self.new ≡ (gives_claim (seen self.old)).1 }
+        ensures frame { room_front result room.new ≡ (gives_claim (link_seen self.old)).0 }
+        ensures link { link_seen self.new ≡ (gives_claim (link_seen self.old)).1 }
         ensures fits { IfSome result (λ n. n ≤ length room.new) }
     {
         match self.claim.due() {
@@ -83,8 +84,8 @@ impl LinkLayer {
     /// The ARP reply that is owed longest.
     fn give_reply(&mut self, room: &mut [u8]) -> Option<usize>
         requires { ETHER_HEADER + ETHER_MTU ≤ length room.old }
-        ensures frame { front result room.new ≡ (gives_reply (seen self.old)).0 }
-        ensures link { seen self.new ≡ (gives_reply (seen self.old)).1 }
+        ensures frame { room_front result room.new ≡ (gives_reply (link_seen self.old)).0 }
+        ensures link { link_seen self.new ≡ (gives_reply (link_seen self.old)).1 }
         ensures fits { IfSome result (λ n. n ≤ length room.new) }
     {
         if self.replies.is_empty() {
@@ -105,8 +106,8 @@ impl LinkLayer {
     /// A request for the first neighbour for which one is due.
     fn give_request(&mut self, room: &mut [u8]) -> Option<usize>
         requires { ETHER_HEADER + ETHER_MTU ≤ length room.old }
-        ensures frame { front result room.new ≡ (gives_request (seen self.old)).0 }
-        ensures link { seen self.new ≡ (gives_request (seen self.old)).1 }
+        ensures frame { room_front result room.new ≡ (gives_request (link_seen self.old)).0 }
+        ensures link { link_seen self.new ≡ (gives_request (link_seen self.old)).1 }
         ensures fits { IfSome result (λ n. n ≤ length room.new) }
     {
         let at = due(self.neighbours.as_slice())?;
@@ -119,8 +120,8 @@ impl LinkLayer {
     /// The first packet that waited and whose next hop is known now.
     fn give_held(&mut self, room: &mut [u8]) -> Option<usize>
         requires { ETHER_HEADER + ETHER_MTU ≤ length room.old }
-        ensures frame { front result room.new ≡ (gives_held (seen self.old)).0 }
-        ensures link { seen self.new ≡ (gives_held (seen self.old)).1 }
+        ensures frame { room_front result room.new ≡ (gives_held (link_seen self.old)).0 }
+        ensures link { link_seen self.new ≡ (gives_held (link_seen self.old)).1 }
         ensures fits { IfSome result (λ n. n ≤ length room.new) }
     {
         let (at, mac) = first_ready(self.neighbours.as_slice(), self.held.as_slice())?;
@@ -135,8 +136,8 @@ impl LinkLayer {
     /// The answer that waits goes as each packet does.
     fn give_answer(&mut self, room: &mut [u8]) -> Option<usize>
         requires { ETHER_HEADER + ETHER_MTU ≤ length room.old }
-        ensures frame { front result room.new ≡ (gives_answer (seen self.old)).0 }
-        ensures link { seen self.new ≡ (gives_answer (seen self.old)).1 }
+        ensures frame { room_front result room.new ≡ (gives_answer (link_seen self.old)).0 }
+        ensures link { link_seen self.new ≡ (gives_answer (link_seen self.old)).1 }
         ensures fits { IfSome result (λ n. n ≤ length room.new) }
     {
         if !self.answered {
@@ -151,8 +152,8 @@ impl LinkLayer {
     /// The next of these.
     pub(crate) fn give_own(&mut self, room: &mut [u8]) -> Option<usize>
         requires { ETHER_HEADER + ETHER_MTU ≤ length room.old }
-        ensures frame { front result room.new ≡ (gives_own (seen self.old)).0 }
-        ensures link { seen self.new ≡ (gives_own (seen self.old)).1 }
+        ensures frame { room_front result room.new ≡ (gives_own (link_seen self.old)).0 }
+        ensures link { link_seen self.new ≡ (gives_own (link_seen self.old)).1 }
         ensures fits { IfSome result (λ n. n ≤ length room.new) }
     {
         if let Some(len) = self.give_claim(room) {

@@ -7,11 +7,11 @@ ghost use Rattle.flat_model.specs.Machine.Step.{Step};
 ghost use Rattle.flat_model.specs.declared.counter.Counter.TheVariants.{IpNoproto, UdpNoport};
 ghost use Rattle.flat_ether.specs.Frames.{body_of};
 ghost use Rattle.flat_ether.specs.Icmp.{counted_more};
-ghost use Rattle.flat_ether.specs.Hosts.{answers, drained, with_output};
+ghost use Rattle.flat_ether.specs.Hosts.{answers, drained, with_output_left};
 ghost use Rattle.flat_ether.specs.declared.sizes.TheConstants.{ETHER_HEADER, ETHER_MTU};
 ghost use Rattle.net_stack.specs.Stack.{state_of};
-ghost use Rattle.ether_host.specs.Fronts.{front};
-ghost use Rattle.ether_host.specs.Inside.{seen};
+ghost use Rattle.ether_host.specs.Fronts.{room_front};
+ghost use Rattle.ether_host.specs.Inside.{link_seen};
 
 use crate::answer::answer_by;
 use crate::bytes::mac_at;
@@ -41,7 +41,8 @@ pub(crate) fn take_packet(stack: &mut Stack, layer: &mut LinkLayer, frame: &[u8]
     requires long { ETHER_HEADER ≤ length frame.now }
     requires most { length frame.now ≤ ETHER_HEADER + IP_MAX_PACKET }
     ensures step { Step (state_of stack.old) (Comes (body_of frame.now)) Done (state_of stack.new) }
-    ensures link { seen layer.new ≡ answers frame.now (state_of stack.old) (state_of stack.new) (seen layer.old) }
+    ensures link { link_seen layer.new
+        ≡ answers frame.now (state_of stack.old) (state_of stack.new) (link_seen layer.old) }
 {
     let packet = body_of(frame);
     let (no_port, no_protocol) = arrive(stack, packet);
@@ -67,10 +68,10 @@ fn take(stack: &mut Stack, room: &mut [u8]) -> Option<usize>
 pub(crate) fn drain(stack: &mut Stack, layer: &mut LinkLayer, room: &mut [u8]) -> Option<usize>
     requires mtu { stack.old.config.mtu ≤ ETHER_MTU }
     requires room { ETHER_HEADER + ETHER_MTU ≤ length room.old }
-    ensures frame { front result room.new ≡ (drained (state_of stack.old).output (seen layer.old)).frame }
-    ensures link { seen layer.new ≡ (drained (state_of stack.old).output (seen layer.old)).link }
+    ensures frame { room_front result room.new ≡ (drained (state_of stack.old).output (link_seen layer.old)).frame }
+    ensures link { link_seen layer.new ≡ (drained (state_of stack.old).output (link_seen layer.old)).link }
     ensures stack { state_of stack.new
-        ≡ with_output (state_of stack.old) (drained (state_of stack.old).output (seen layer.old)).output }
+        ≡ with_output_left (state_of stack.old) (drained (state_of stack.old).output (link_seen layer.old)).output }
     ensures fits { IfSome result (λ n. n ≤ length room.new) }
 {
     while let Some(len) = take(stack, room) {

@@ -3,9 +3,9 @@ ghost use Rattle.std.specs.Prelude.{◌≡◌, ◌+◌, ◌<◌, ◌≤◌, ◌�
 ghost use Rattle.params.specs.declared.TheConstants.{IP_HEADER};
 ghost use Rattle.flat_ether.specs.declared.sizes.TheConstants.{ETHER_HEADER, ETHER_MTU, ETHER_TYPE_IP};
 ghost use Rattle.flat_ether.specs.Frames.{frame};
-ghost use Rattle.flat_ether.specs.Links.{asks, holds, sends, route_of};
+ghost use Rattle.flat_ether.specs.Links.{asks, holds_packet, sends, route_of};
 ghost use Rattle.ether_host.specs.Buffers.{held_in};
-ghost use Rattle.ether_host.specs.Fronts.{front};
+ghost use Rattle.ether_host.specs.Fronts.{room_front};
 
 use crate::buffer::{PacketBuffer, ROOM, drop_at};
 use crate::bytes::u32_at;
@@ -31,12 +31,12 @@ fn put_packet(held: &mut Vec<PacketBuffer>, hop: u32, packet: &[u8])
 }
 
 impl LinkLayer {
-    ghost use Rattle.ether_host.specs.Inside.{seen};
+    ghost use Rattle.ether_host.specs.Inside.{link_seen};
 
     /// A packet waits for the hardware address of its next hop; where no place is free, the one that has waited longest
     /// is dropped.
     fn hold(&mut self, hop: u32, packet: &[u8])
-        ensures { seen self.new ≡ holds hop packet.now (seen self.old) }
+        ensures { link_seen self.new ≡ holds_packet hop packet.now (link_seen self.old) }
     {
         if packet.len() > ROOM {
             self.tallies.too_long = self.tallies.too_long.saturating_add(1);
@@ -51,7 +51,7 @@ impl LinkLayer {
 
     /// A next hop that isn't known is asked for.
     fn ask(&mut self, hop: u32)
-        ensures { seen self.new ≡ asks hop (seen self.old) }
+        ensures { link_seen self.new ≡ asks hop (link_seen self.old) }
     {
         if place_of(self.neighbours.as_slice(), hop).is_none() {
             put(
@@ -68,7 +68,7 @@ impl LinkLayer {
 
     /// The way of a packet; one without a header has none.
     fn route_of(&self, packet: &[u8]) -> Route
-        ensures { result ≡ route_of (seen self.now) packet.now }
+        ensures { result ≡ route_of (link_seen self.now) packet.now }
     {
         if packet.len() < IP_HEADER as usize {
             return Route::NoRoute;
@@ -80,8 +80,9 @@ impl LinkLayer {
     /// bytes the frame has, or `None` if it waits, or has no way.
     pub(crate) fn send(&mut self, room: &mut [u8], len: usize) -> Option<usize>
         requires { ETHER_HEADER + len ≤ length room.old }
-        ensures frame { front result room.new ≡ (sends (take len (drop ETHER_HEADER room.old)) (seen self.old)).0 }
-        ensures link { seen self.new ≡ (sends (take len (drop ETHER_HEADER room.old)) (seen self.old)).1 }
+        ensures frame { room_front result room.new
+            ≡ (sends (take len (drop ETHER_HEADER room.old)) (link_seen self.old)).0 }
+        ensures link { link_seen self.new ≡ (sends (take len (drop ETHER_HEADER room.old)) (link_seen self.old)).1 }
         ensures fits { IfSome result (λ n. n ≤ length room.new) }
     {
         let route = self.route_of(&room[BODY..BODY + len]);

@@ -1,6 +1,6 @@
 //! The table of neighbours.
 ghost use Rattle.std.specs.Prelude.{◌≡◌, position};
-ghost use Rattle.flat_ether.specs.Links.{asked_again, asked_at, is_due, is_poll_due, mac_of, place_of, put};
+ghost use Rattle.flat_ether.specs.Links.{asked_again, asked_at, is_request_due, is_poll_due, mac_of, neighbour_place, put};
 
 use arrayvec::ArrayVec;
 use flat_ether::{
@@ -9,7 +9,7 @@ use flat_ether::{
 
 /// Where the neighbour with this address stands.
 pub(crate) fn place_of(neighbours: &[Neighbour], ip: u32) -> Option<usize>
-    ensures { result ≡ place_of ip neighbours.now }
+    ensures { result ≡ neighbour_place ip neighbours.now }
 {
     neighbours.iter().position(|n| n.ip == ip)
 }
@@ -35,7 +35,7 @@ fn is_poll_due(neighbour: &Neighbour) -> bool
 
 /// Whether a request for it is due.
 fn is_due(neighbour: &Neighbour) -> bool
-    ensures { result ≡ is_due neighbour.now }
+    ensures { result ≡ is_request_due neighbour.now }
 {
     if neighbour.mac.is_some() {
         return is_poll_due(neighbour);
@@ -70,7 +70,7 @@ pub(crate) fn asked_at(mac: Option<Mac>) -> Mac
 
 /// Where the first neighbour stands for which a request is due.
 pub(crate) fn due(neighbours: &[Neighbour]) -> Option<usize>
-    ensures { result ≡ position is_due neighbours.now }
+    ensures { result ≡ position is_request_due neighbours.now }
 {
     neighbours.iter().position(|n| is_due(n))
 }

@@ -1,6 +1,6 @@
 //! The clock.
 ghost use Rattle.std.specs.Prelude.{◌≡◌, ◌≤◌, filter, length, map, vec_capacity};
-ghost use Rattle.flat_ether.specs.Links.{aged, stays, ticks};
+ghost use Rattle.flat_ether.specs.Links.{neighbour_aged, neighbour_stays, ticks};
 ghost use Rattle.ether_host.specs.Buffers.{has_hope_in};
 
 use crate::buffer::{PacketBuffer, drop_at};
@@ -11,7 +11,7 @@ use flat_ether::{ARP_TRIES, NEIGHBOURS, Neighbour, UNREACHABLES};
 
 /// A neighbour a tick later.
 fn aged(neighbour: Neighbour) -> Neighbour
-    ensures { result ≡ aged neighbour }
+    ensures { result ≡ neighbour_aged neighbour }
 {
     let ticks = neighbour.ticks.saturating_sub(1);
     Neighbour { ticks, ..neighbour }
@@ -19,7 +19,7 @@ fn aged(neighbour: Neighbour) -> Neighbour
 
 /// Whether it's known still, or another request may go out.
 fn stays(neighbour: &Neighbour) -> bool
-    ensures { result ≡ stays neighbour.now }
+    ensures { result ≡ neighbour_stays neighbour.now }
 {
     neighbour.ticks > 0 || (neighbour.mac.is_none() && neighbour.tries < ARP_TRIES)
 }
@@ -27,7 +27,7 @@ fn stays(neighbour: &Neighbour) -> bool
 /// The neighbours a tick later.
 fn age(neighbours: &[Neighbour]) -> ArrayVec<Neighbour, NEIGHBOURS>
     requires { length neighbours.now ≤ NEIGHBOURS }
-    ensures { result.items ≡ filter stays (map aged neighbours.now) }
+    ensures { result.items ≡ filter neighbour_stays (map neighbour_aged neighbours.now) }
 {
     let mut kept = ArrayVec::new();
     for at in 0..neighbours.len() {
@@ -55,12 +55,12 @@ fn keep(held: &mut Vec<PacketBuffer>, neighbours: &[Neighbour])
 }
 
 impl LinkLayer {
-    ghost use Rattle.ether_host.specs.Inside.{seen};
+    ghost use Rattle.ether_host.specs.Inside.{link_seen};
 
     /// A tick: what isn't known any more is forgotten, and the packets that waited for it are given up (`arptimer` of
     /// volume 2, chapter 21).
     pub fn tick(&mut self)
-        ensures { seen self.new ≡ ticks (seen self.old) }
+        ensures { link_seen self.new ≡ ticks (link_seen self.old) }
     {
         self.claim = self.claim.ticked();
         self.unreachables = UNREACHABLES;

@@ -14,10 +14,10 @@ use Rattle.flat_model.specs.declared.errno.Errno.{Errno}
 use Rattle.flat_ether.specs.Claims.{claim_due, is_claimed}
 use Rattle.flat_ether.specs.Errors.{error_at, error_in}
 use Rattle.flat_ether.specs.Frames.{arp_of, body_of, is_heard, is_martian, kind_of, packet_kind}
-use Rattle.flat_ether.specs.Hosts.{Act, AreActs, Asks_error, Calls, Clock, Comes_in, Drained, Goes_out, HearsKind, Host, IsAct, drained, error_of_socket, gives, gives_claimed, gives_drained, gives_probe, host_up, is_to_us, or_drains}
+use Rattle.flat_ether.specs.Hosts.{HostAct, AreHostActs, Asks_error, Calls, Clock, Comes_in, Drained, Goes_out, HearsKind, Host, IsHostAct, drained, error_of_socket, gives, gives_claimed, gives_drained, gives_probe, host_up, is_to_us, or_drains}
 use Rattle.flat_ether.specs.Icmp.{answer_to, counted_more}
 use Rattle.flat_ether.specs.Laws.{martian_if, martian_in, martians_in, packet_if, packets_in}
-use Rattle.flat_ether.specs.Links.{Gives, Held, LinkState, answers_with, asks, asks_at, by_route, claim_frame, drops_first, finds_conflict, first_ready, gives_answer, gives_claim, gives_held, gives_own, gives_reply, gives_request, hears_arp, holds, is_asked, is_conflict, is_due, is_learned, is_sound_arp, learns, mac_of, notes, notes_error, or_then, owes, place_of, replies_to, route_of, sends, sends_answer, sends_at, sends_held, takes_at, takes_error, to_hop}
+use Rattle.flat_ether.specs.Links.{Gives, WaitingPacket, LinkState, answers_with, asks, asks_at, by_route, claim_frame, drops_first, finds_conflict, first_ready, gives_answer, gives_claim, gives_held, gives_own, gives_reply, gives_request, hears_arp, holds_packet, is_asked, is_conflict, is_request_due, is_learned, is_sound_arp, learns, mac_of, notes, notes_error, or_then, owes, neighbour_place, replies_to, route_of, sends, sends_answer, sends_at, sends_held, takes_at, takes_error, to_hop}
 use Rattle.flat_ether.specs.declared.answer.Answer.{Answer}
 use Rattle.flat_ether.specs.declared.answer.Answer.TheVariants.{Echo, Unreachable, Silence}
 use Rattle.flat_ether.specs.declared.arp.Arp.{Arp}
@@ -86,9 +86,9 @@ hears_same b s =
 -- ---- what goes
 
 asks_same : (hop : ℕ) (s : LinkState) → tally (asks hop s) ≡ tally s
-asks_same hop s = by_cond (is_some (place_of hop s.neighbours)) s _ _ refl refl
+asks_same hop s = by_cond (is_some (neighbour_place hop s.neighbours)) s _ _ refl refl
 
-holds_same : (hop : ℕ) (packet : List ℕ) (s : LinkState) → tally (holds hop packet s) ≡ tally s
+holds_same : (hop : ℕ) (packet : List ℕ) (s : LinkState) → tally (holds_packet hop packet s) ≡ tally s
 holds_same hop packet s =
     by_cond (nat_lt ETHER_MTU (length packet)) s _ _ refl
     (by_cond (nat_lt (length s.held) HELD_PACKETS) s s (drops_first s) refl refl)
@@ -97,7 +97,7 @@ sends_same : (packet : List ℕ) (s : LinkState) → tally (sends packet s).1 �
 sends_same packet s = go (route_of s packet)
   where
     to : (hop : ℕ) (mac : Option Mac) → tally (to_hop hop packet s mac).1 ≡ tally s
-    to hop None = asks_same hop (holds hop packet s) ∙ holds_same hop packet s
+    to hop None = asks_same hop (holds_packet hop packet s) ∙ holds_same hop packet s
     to hop (Some mac) = refl
 
     go : (r : Route) → tally (by_route packet s r).1 ≡ tally s
@@ -121,7 +121,7 @@ reply_same s = go s.replies
     go (o ∷ later) = refl
 
 request_same : (s : LinkState) → tally (gives_request s).1 ≡ tally s
-request_same s = go (position is_due s.neighbours)
+request_same s = go (position is_request_due s.neighbours)
   where
     go : (at : Option ℕ) → tally (asks_at at s).1 ≡ tally s
     go None = refl
@@ -130,7 +130,7 @@ request_same s = go (position is_due s.neighbours)
 held_same : (s : LinkState) → tally (gives_held s).1 ≡ tally s
 held_same s = go (first_ready s.neighbours s.held)
   where
-    one : (at : ℕ) (mac : Mac) (h : Option Held) → tally (sends_held at mac h s).1 ≡ tally s
+    one : (at : ℕ) (mac : Mac) (h : Option WaitingPacket) → tally (sends_held at mac h s).1 ≡ tally s
     one at mac None = refl
     one at mac (Some h) = refl
 
@@ -225,7 +225,7 @@ module _ (c : Config) (l : Link) where
       same_counts k old new is (ap (λ (x : Host). tally x.link) h ∙ hears_same (body_of f) old.link)
   heard_counts k f old new Other is h = same_counts k old new is (ap (λ (x : Host). tally x.link) h)
 
-  act_counts : (k : ℕ) (old new : Host) (act : Act) → Counts k old → IsAct old act new
+  act_counts : (k : ℕ) (old new : Host) (act : HostAct) → Counts k old → IsHostAct old act new
       → Counts (k + martian_in c l.mac act) new
   act_counts k old new (Comes_in f) is h =
       heard_counts k f old new (kind_of c l.mac f) is
@@ -239,14 +239,14 @@ module _ (c : Config) (l : Link) where
       same_counts k old new is (subst (λ (x : Result (Option NetFault) Errno × Host). tally x.1.link ≡ tally old.link)
       (sym h) (asked_same (socket_at fd old.machine) old))
 
-  acts_count : (k : ℕ) (old new : Host) (acts : List Act) → Counts k old → AreActs old acts new
+  acts_count : (k : ℕ) (old new : Host) (acts : List HostAct) → Counts k old → AreHostActs old acts new
       → Counts (k + martians_in c l.mac acts) new
   acts_count k old new [] is done = same_counts k old new is (ap (λ (h : Host). tally h.link) done)
   acts_count k old new (act ∷ acts) is (mid, first, later) =
       acts_count (k + martian_in c l.mac act) mid new acts (act_counts k old mid act is first) later
       ∙ ap (λ (n : ℕ). (c, l, more_by n 0)) (omega (arith))
 
-  pub martians_are_counted : (acts : List Act) (new : Host) → AreActs (host_up c l) acts new
+  pub martians_are_counted : (acts : List HostAct) (new : Host) → AreHostActs (host_up c l) acts new
       → new.link.tallies.martians ≡ more_by (martians_in c l.mac acts) 0
   martians_are_counted acts new done =
       ap (λ (x : Tally). x.2) (acts_count 0 (host_up c l) new acts refl done)

@@ -14,12 +14,12 @@ use Rattle.flat_model.proofs.Laws.{each-weaker}
 use Rattle.flat_wire.specs.Wire.{packet_in, packet_out}
 use Rattle.flat_ether.specs.Claims.{is_claimed}
 use Rattle.flat_ether.specs.Frames.{body_of, kind_of}
-use Rattle.flat_ether.specs.Hosts.{Act, AreActs, Comes_in, Drained, Goes_out, Clock, Calls, CallsMachine, Asks_error, Host, HearsKind, IsAct, drained, error_of_socket, gives, gives_after, gives_claimed, gives_drained, gives_probe, host_up, is_to_us, or_drains, with_output}
+use Rattle.flat_ether.specs.Hosts.{HostAct, AreHostActs, Comes_in, Drained, Goes_out, Clock, Calls, CallsMachine, Asks_error, Host, HearsKind, IsHostAct, drained, error_of_socket, gives, gives_after, gives_claimed, gives_drained, gives_probe, host_up, is_to_us, or_drains, with_output_left}
 use Rattle.flat_ether.specs.Icmp.{answer_to, counted_more}
 use Rattle.flat_ether.specs.declared.error.NetFault.{NetFault}
 use Rattle.flat_model.specs.declared.counter.Counter.TheVariants.{IpNoproto}
 use Rattle.flat_model.specs.declared.errno.Errno.{Errno}
-use Rattle.flat_ether.specs.Laws.{AreSent, IsSent, MakesTurns, arp_if, frame_out, frames_then, packet_if, packets_in, packets_to}
+use Rattle.flat_ether.specs.Laws.{AreSent, IsFrameSent, MakesTurns, arp_if, frame_out, frames_then, packet_if, packets_in, packets_to}
 use Rattle.flat_ether.specs.Links.{Gives, LinkState, answers_with, gives_claim, gives_own, notes, sends}
 use Rattle.flat_ether.specs.declared.link.Link.{Link}
 use Rattle.flat_ether.specs.declared.link.FrameKind.{FrameKind}
@@ -52,7 +52,7 @@ module _ (c : Config) (l : Link) where
       leads : Leads exact_ledger old turns new
       in' : filter_map packet_in turns ≡ packets
       good : Good then' (G ++ filter_map packet_out turns) link
-      sent : Each (IsSent c l F (G ++ filter_map packet_out turns)) out
+      sent : Each (IsFrameSent c l F (G ++ filter_map packet_out turns)) out
 
   -- nothing was given
   same : (F G : List (List ℕ)) (s : LinkState) → Good F G s → Good F (G ++ []) s
@@ -63,8 +63,8 @@ module _ (c : Config) (l : Link) where
 
   -- ---- what goes
 
-  sent_list : (F G : List (List ℕ)) (f : Option (List ℕ)) → ((x : List ℕ) → f ≡ Some x → IsSent c l F G x)
-      → Each (IsSent c l F G) (option_to_list f)
+  sent_list : (F G : List (List ℕ)) (f : Option (List ℕ)) → ((x : List ℕ) → f ≡ Some x → IsFrameSent c l F G x)
+      → Each (IsFrameSent c l F G) (option_to_list f)
   sent_list F G None is = tt
   sent_list F G (Some f) is = (is f refl, tt)
 
@@ -73,11 +73,12 @@ module _ (c : Config) (l : Link) where
       Contains-append_right G (p ∷ more) p (All-head (Contains (p ∷ more)) p more (All-contains_itself (p ∷ more)))
 
   drains : (items : List Item) (F G : List (List ℕ)) (s : State) (link : LinkState) → s.output ≡ items → Good F G link
-      → Makes F G F s (with_output s (drained items link).output) (drained items link).link []
+      → Makes F G F s (with_output_left s (drained items link).output) (drained items link).link []
       (option_to_list (drained items link).frame)
   drains [] F G s link e good = quiet F G s _ link (same_output s [] e) good
   drains (item ∷ later) F G s link e good =
-      go (sends item.bytes link) given (λ t g. drains later F (G ++ item.bytes ∷ []) (with_output s later) t refl g)
+      go (sends item.bytes link) given
+      (λ t g. drains later F (G ++ item.bytes ∷ []) (with_output_left s later) t refl g)
     where
       given : Sent.IsGiven c l F (G ++ item.bytes ∷ []) (sends item.bytes link)
       given =
@@ -89,9 +90,9 @@ module _ (c : Config) (l : Link) where
 
       go : (g : Gives) → Sent.IsGiven c l F (G ++ item.bytes ∷ []) g
           → ((t : LinkState) → Good F (G ++ item.bytes ∷ []) t
-          → Makes F (G ++ item.bytes ∷ []) F (with_output s later) (with_output s (drained later t).output)
+          → Makes F (G ++ item.bytes ∷ []) F (with_output_left s later) (with_output_left s (drained later t).output)
           (drained later t).link [] (option_to_list (drained later t).frame))
-          → Makes F G F s (with_output s (or_drains g later (drained later g.1)).output)
+          → Makes F G F s (with_output_left s (or_drains g later (drained later g.1)).output)
           (or_drains g later (drained later g.1)).link []
           (option_to_list (or_drains g later (drained later g.1)).frame)
       go (None, t) is rest =
@@ -101,14 +102,14 @@ module _ (c : Config) (l : Link) where
           append_assoc G (item.bytes ∷ []) (filter_map packet_out r.turns) in
           record {
             turns = turn ∷ r.turns;
-            leads = (tt, with_output s later, transmits s item later e, r.leads);
+            leads = (tt, with_output_left s later, transmits s item later e, r.leads);
             in' = r.in';
             good = subst (λ H. Good F H (drained later t).link) more r.good;
-            sent = subst (λ H. Each (IsSent c l F H) (option_to_list (drained later t).frame)) more r.sent;
+            sent = subst (λ H. Each (IsFrameSent c l F H) (option_to_list (drained later t).frame)) more r.sent;
           }
       go (Some f, t) is rest = record {
         turns = turn ∷ [];
-        leads = (tt, with_output s later, transmits s item later e, refl);
+        leads = (tt, with_output_left s later, transmits s item later e, refl);
         in' = refl;
         good = is.good;
         sent = (is.sent f refl, tt);
@@ -127,11 +128,11 @@ module _ (c : Config) (l : Link) where
 
   abbrev after_by : Host → Drained → Bool → Option (List ℕ) × Host
   after_by h d b =
-      cond b (d.frame, record { machine = with_output h.machine d.output; link = d.link })
-      ((gives_own d.link).0, record { machine = with_output h.machine d.output; link = (gives_own d.link).1 })
+      cond b (d.frame, record { machine = with_output_left h.machine d.output; link = d.link })
+      ((gives_own d.link).0, record { machine = with_output_left h.machine d.output; link = (gives_own d.link).1 })
 
   after_makes : (F G : List (List ℕ)) (h : Host) (d : Drained)
-      → Makes F G F h.machine (with_output h.machine d.output) d.link [] (option_to_list d.frame)
+      → Makes F G F h.machine (with_output_left h.machine d.output) d.link [] (option_to_list d.frame)
       → Makes F G F h.machine (gives_after h d).1.machine (gives_after h d).1.link []
       (option_to_list (gives_after h d).0)
   after_makes F G h d m = go (is_some d.frame)
@@ -187,14 +188,15 @@ module _ (c : Config) (l : Link) where
       subst (Good F (G ++ filter_map packet_out (turn ∷ []))) (sym is.link)
       (more_good F G (filter_map packet_out (turn ∷ [])) old.link good)
 
-  act_makes : (F G : List (List ℕ)) (old new : Host) (act : Act) → Good F G old.link → IsAct old act new
+  act_makes : (F G : List (List ℕ)) (old new : Host) (act : HostAct) → Good F G old.link → IsHostAct old act new
       → Makes F G (frames_then act F) old.machine new.machine new.link (packets_in c l.mac act) (frame_out act)
   act_makes F G old new (Comes_in f) good is =
       go (kind_of old.link.config old.link.link.mac f) (kind_of c l.mac f) kinds refl is.2
     where
       kinds : kind_of old.link.config old.link.link.mac f ≡ kind_of c l.mac f
       kinds =
-          ap (λ (x : Config). kind_of x old.link.link.mac f) good.config ∙ ap (λ (x : Link). kind_of c x.mac f) good.link
+          ap (λ (x : Config). kind_of x old.link.link.mac f) good.config
+          ∙ ap (λ (x : Link). kind_of c x.mac f) good.link
 
       here : Contains (f ∷ F) f
       here = contains_last [] f F
@@ -241,12 +243,14 @@ module _ (c : Config) (l : Link) where
             sent = tt;
           }
           by Martian k h =
-              still _ h (Sent.refuses_good c l (f ∷ F) (G ++ []) old.link (wider (ap (λ (x : FrameKind). arp_if x f) k)))
+              still _ h (Sent.refuses_good c l (f ∷ F) (G ++ []) old.link
+              (wider (ap (λ (x : FrameKind). arp_if x f) k)))
           by Arp k h =
               still _ h (same (f ∷ F) G _ (Sent.hears_good c l F G f (ap (λ (x : FrameKind). arp_if x f) k) old.link
               good))
           by Other k h =
-              still _ h (Sent.ignores_good c l (f ∷ F) (G ++ []) old.link (wider (ap (λ (x : FrameKind). arp_if x f) k)))
+              still _ h (Sent.ignores_good c l (f ∷ F) (G ++ []) old.link
+              (wider (ap (λ (x : FrameKind). arp_if x f) k)))
   act_makes F G old new (Goes_out f) good is =
       subst (λ (x : Option (List ℕ) × Host). Makes F G F old.machine x.1.machine x.1.link [] (option_to_list x.0))
       (sym is) (gives_makes F G old good)
@@ -276,18 +280,19 @@ module _ (c : Config) (l : Link) where
   -- ---- all of them
 
   -- the frames that came before acts and in them, the last one first
-  abbrev all_then : List Act → List (List ℕ) → List (List ℕ)
+  abbrev all_then : List HostAct → List (List ℕ) → List (List ℕ)
   all_then [] F = F
   all_then (act ∷ acts) F = all_then acts (frames_then act F)
 
-  record MakesAll (F G : List (List ℕ)) (old new : State) (link : LinkState) (acts : List Act) : Type 0 where
+  record MakesAll (F G : List (List ℕ)) (old new : State) (link : LinkState) (acts : List HostAct) : Type 0 where
     turns : List Turn
     leads : Leads exact_ledger old turns new
     in' : filter_map packet_in turns ≡ packets_to c l.mac acts
     good : Good (all_then acts F) (G ++ filter_map packet_out turns) link
     sent : AreSent c l (G ++ filter_map packet_out turns) F acts
 
-  acts_make : (F G : List (List ℕ)) (old new : Host) (acts : List Act) → Good F G old.link → AreActs old acts new
+  acts_make : (F G : List (List ℕ)) (old new : Host) (acts : List HostAct) → Good F G old.link
+      → AreHostActs old acts new
       → MakesAll F G old.machine new.machine new.link acts
   acts_make F G old new [] good done = record {
     turns = [];
@@ -303,7 +308,7 @@ module _ (c : Config) (l : Link) where
       ≡ G ++ filter_map packet_out (a.turns ++ b.turns) =
       append_assoc G (filter_map packet_out a.turns) (filter_map packet_out b.turns)
       ∙ ap (λ xs. G ++ xs) (sym (filter_map-append packet_out a.turns b.turns)) in
-      let sent : Each (IsSent c l F ((G ++ filter_map packet_out a.turns) ++ filter_map packet_out b.turns))
+      let sent : Each (IsFrameSent c l F ((G ++ filter_map packet_out a.turns) ++ filter_map packet_out b.turns))
       (frame_out act) =
       each-weaker (λ f given. Sent.more_sent c l F (G ++ filter_map packet_out a.turns) (filter_map packet_out b.turns)
       f given) (frame_out act) a.sent in
@@ -328,55 +333,56 @@ module _ (c : Config) (l : Link) where
         answer = λ p e. absurd (none-some p e);
       }
 
-  abbrev made_by : (acts : List Act) (new : Host) → MakesAll [] [] (host_up c l).machine new.machine new.link acts
+  abbrev made_by : (acts : List HostAct) (new : Host) → MakesAll [] [] (host_up c l).machine new.machine new.link acts
       → MakesTurns c l acts new
   made_by acts new m = record { turns = m.turns; leads = m.leads; came = m.in'; went = m.sent }
 
-  pub makes_turns : (acts : List Act) (new : Host) → AreActs (host_up c l) acts new → MakesTurns c l acts new
+  pub makes_turns : (acts : List HostAct) (new : Host) → AreHostActs (host_up c l) acts new → MakesTurns c l acts new
   makes_turns acts new done = made_by acts new (acts_make [] [] (host_up c l) new acts up_good done)
 
   -- ---- a call among other acts
 
-  acts_split : (old new : Host) (xs ys : List Act) → AreActs old (xs ++ ys) new
-      → (mid : Host) × AreActs old xs mid × AreActs mid ys new
+  acts_split : (old new : Host) (xs ys : List HostAct) → AreHostActs old (xs ++ ys) new
+      → (mid : Host) × AreHostActs old xs mid × AreHostActs mid ys new
   acts_split old new [] ys h = (old, refl, h)
   acts_split old new (x ∷ xs) ys (next, is, rest) =
       let r = acts_split next new xs ys rest in
       (r.0, (next, is, r.1), r.2)
 
-  packets_append : (xs ys : List Act) → packets_to c l.mac (xs ++ ys) ≡ packets_to c l.mac xs ++ packets_to c l.mac ys
+  packets_append : (xs ys : List HostAct)
+      → packets_to c l.mac (xs ++ ys) ≡ packets_to c l.mac xs ++ packets_to c l.mac ys
   packets_append [] ys = refl
   packets_append (x ∷ xs) ys =
       ap (λ ps. packets_in c l.mac x ++ ps) (packets_append xs ys)
       ∙ sym (append_assoc (packets_in c l.mac x) (packets_to c l.mac xs) (packets_to c l.mac ys))
 
-  sent_append : (G F : List (List ℕ)) (xs ys : List Act) → AreSent c l G F xs → AreSent c l G (all_then xs F) ys
+  sent_append : (G F : List (List ℕ)) (xs ys : List HostAct) → AreSent c l G F xs → AreSent c l G (all_then xs F) ys
       → AreSent c l G F (xs ++ ys)
   sent_append G F [] ys h k = k
   sent_append G F (x ∷ xs) ys h k = (h.0, sent_append G (frames_then x F) xs ys h.1 k)
 
-  more_all : (G G' F : List (List ℕ)) (acts : List Act) → AreSent c l G F acts → AreSent c l (G ++ G') F acts
+  more_all : (G G' F : List (List ℕ)) (acts : List HostAct) → AreSent c l G F acts → AreSent c l (G ++ G') F acts
   more_all G G' F [] h = tt
   more_all G G' F (act ∷ acts) h = (
     All-from_recursion _ (frame_out act)
         (each-weaker (λ f is. Sent.more_sent c l F G G' f is) (frame_out act)
-        (recursion_from_All (IsSent c l F G) (frame_out act) h.0)),
+        (recursion_from_All (IsFrameSent c l F G) (frame_out act) h.0)),
     more_all G G' (frames_then act F) acts h.1,
   )
 
   -- the turns of all acts, and of those before the call
-  pub record IsSplit (before after : List Act) (turn : Turn) (new : Host) : Type 0 where
+  pub record IsSplit (before after : List HostAct) (turn : Turn) (new : Host) : Type 0 where
     pub then' : Host
     pub first : MakesTurns c l before then'
     pub rest : List Turn
     pub all : MakesTurns c l (before ++ Calls turn ∷ after) new
     pub turns_are : all.turns ≡ first.turns ++ turn ∷ rest
 
-  pub split : (before after : List Act) (turn : Turn) (new : Host)
-      → AreActs (host_up c l) (before ++ Calls turn ∷ after) new → IsSplit before after turn new
+  pub split : (before after : List HostAct) (turn : Turn) (new : Host)
+      → AreHostActs (host_up c l) (before ++ Calls turn ∷ after) new → IsSplit before after turn new
   split before after turn new acts = go (acts_split (host_up c l) new before (Calls turn ∷ after) acts)
     where
-      go : (mid : Host) × AreActs (host_up c l) before mid × AreActs mid (Calls turn ∷ after) new
+      go : (mid : Host) × AreHostActs (host_up c l) before mid × AreHostActs mid (Calls turn ∷ after) new
           → IsSplit before after turn new
       go (mid, early, (next, is, late)) =
           let a = acts_make [] [] (host_up c l) mid before up_good early in

@@ -15,8 +15,8 @@ use Rattle.flat_ether.specs.declared.error.SocketError.{SocketError}
 use Rattle.flat_model.specs.declared.address.Addr.{Addr}
 use Rattle.flat_ether.specs.Frames.{arp_bytes, arp_of, body_of, ether_broadcast, frame, kind_of, no_mac}
 use Rattle.flat_ether.specs.Icmp.{echo_reply, port_unreachable}
-use Rattle.flat_ether.specs.Laws.{IsMade, IsRoute, IsSent, arp_if, last_told, tells, told_in}
-use Rattle.flat_ether.specs.Links.{Gives, Held, LinkState, aged, answers_with, asked_at, asks, asks_at, by_route, claim_frame, counts_echo, counts_unreachable, drops_first, finds_bad, finds_conflict, finds_long, finds_no_place, first_ready, gives_answer, gives_claim, gives_held, gives_own, gives_reply, gives_request, has_hope, has_ip, heard, hears_arp, holds, ignores, is_asked, is_conflict, is_due, is_rival, is_sound_arp, learns, limits, mac_at, mac_in, notes, notes_error, takes_at, takes_error, mac_of, or_then, owes, place_of, put, puts_answer, ready_or, refuses, replies_to, sends, sends_answer, sends_at, sends_held, stays, takes_place, tells_unreachable, ticks, to_hop, unknown, route_of, route_to}
+use Rattle.flat_ether.specs.Laws.{IsMade, IsRoute, IsFrameSent, arp_if, last_told, tells, told_in}
+use Rattle.flat_ether.specs.Links.{Gives, WaitingPacket, LinkState, neighbour_aged, answers_with, asked_at, asks, asks_at, by_route, claim_frame, counts_echo, counts_unreachable, drops_first, finds_bad, finds_conflict, finds_long, finds_no_place, first_ready, gives_answer, gives_claim, gives_held, gives_own, gives_reply, gives_request, has_hope, has_ip, heard, hears_arp, holds_packet, ignores, is_asked, is_conflict, is_request_due, is_rival, is_sound_arp, learns, limits, mac_known, mac_in, notes, notes_error, takes_at, takes_error, mac_of, or_then, owes, neighbour_place, put, puts_answer, ready_or, refuses, replies_to, sends, sends_answer, sends_at, sends_held, neighbour_stays, takes_place, tells_unreachable, ticks, to_hop, unknown, route_of, route_to}
 use Rattle.flat_ether.specs.Routes.{is_near, is_neighbour}
 use Rattle.flat_ether.specs.declared.answer.Answer.{Answer}
 use Rattle.flat_ether.specs.declared.answer.Answer.TheVariants.{Echo, Unreachable, Silence}
@@ -50,7 +50,7 @@ module _ (c : Config) (l : Link) (F G G' : List (List ℕ)) where
   more_made p (inl h) = inl (Contains-append_left G G' p h)
   more_made p (inr h) = inr h
 
-  pub more_sent : (f : List ℕ) → IsSent c l F G f → IsSent c l F (G ++ G') f
+  pub more_sent : (f : List ℕ) → IsFrameSent c l F G f → IsFrameSent c l F (G ++ G') f
   more_sent f (inl h) = inl h
   more_sent f (inr h) =
       inr (record {
@@ -72,7 +72,7 @@ module _ (c : Config) (l : Link) (F G : List (List ℕ)) where
     pub told : (mac : Mac) → n.mac ≡ Some mac → last_told c l n.ip F ≡ Some mac
     pub near : (mac : Mac) → n.mac ≡ Some mac → is_neighbour c l n.ip ≡ true
 
-  pub record IsWaiting (h : Held) : Type 0 where
+  pub record IsWaiting (h : WaitingPacket) : Type 0 where
     pub made : IsMade c F G h.packet
     pub route : route_to c l h.packet ≡ Hop h.hop
 
@@ -86,7 +86,7 @@ module _ (c : Config) (l : Link) (F G : List (List ℕ)) where
 
   pub record IsGiven (g : Gives) : Type 0 where
     pub good : IsGood g.1
-    pub sent : (f : List ℕ) → g.0 ≡ Some f → IsSent c l F G f
+    pub sent : (f : List ℕ) → g.0 ≡ Some f → IsFrameSent c l F G f
 
   nothing : (s : LinkState) → IsGood s → IsGiven (None, s)
   nothing s good = record { good = good; sent = λ f e. absurd (none-some f e) }
@@ -103,9 +103,10 @@ module _ (c : Config) (l : Link) (F G : List (List ℕ)) where
 
   known_mac : (hop : ℕ) (mac : Mac) (ns : List Neighbour) → Each IsKnown ns → mac_of hop ns ≡ Some mac
       → last_told c l hop F ≡ Some mac
-  known_mac hop mac ns h e = go (place_of hop ns) refl e
+  known_mac hop mac ns h e = go (neighbour_place hop ns) refl e
     where
-      there : (at : ℕ) (o : Option Neighbour) → place_of hop ns ≡ Some at → slice_get ns at ≡ o → mac_in o ≡ Some mac
+      there : (at : ℕ) (o : Option Neighbour) → neighbour_place hop ns ≡ Some at → slice_get ns at ≡ o
+          → mac_in o ≡ Some mac
           → last_told c l hop F ≡ Some mac
       there at None p g is = absurd (none-some mac is)
       there at (Some n) p g is =
@@ -115,7 +116,7 @@ module _ (c : Config) (l : Link) (F G : List (List ℕ)) where
           let known : IsKnown n = each-get IsKnown ns at n h g in
           subst (λ ip. last_told c l ip F ≡ Some mac) (eqb-true n.ip hop passes) (known.told mac is)
 
-      go : (at : Option ℕ) → place_of hop ns ≡ at → mac_at at ns ≡ Some mac → last_told c l hop F ≡ Some mac
+      go : (at : Option ℕ) → neighbour_place hop ns ≡ at → mac_known at ns ≡ Some mac → last_told c l hop F ≡ Some mac
       go None p is = absurd (none-some mac is)
       go (Some at) p is = there at (slice_get ns at) p refl is
 
@@ -128,7 +129,7 @@ module _ (c : Config) (l : Link) (F G : List (List ℕ)) where
 
   carried : (s : LinkState) (packet : List ℕ) (mac : Mac) → IsGood s → IsMade c F G packet → IsRoute c l F packet mac
       → (f : List ℕ)
-      → Some (frame mac s.link.mac 0x0800 packet) ≡ Some f → IsSent c l F G f
+      → Some (frame mac s.link.mac 0x0800 packet) ≡ Some f → IsFrameSent c l F G f
   carried s packet mac good made route f e = inr (record {
     packet = packet;
     mac = mac;
@@ -138,7 +139,7 @@ module _ (c : Config) (l : Link) (F G : List (List ℕ)) where
   })
 
   holds_good : (hop : ℕ) (packet : List ℕ) (s : LinkState) → IsGood s
-      → IsWaiting (record { hop = hop; packet = packet }) → IsGood (holds hop packet s)
+      → IsWaiting (record { hop = hop; packet = packet }) → IsGood (holds_packet hop packet s)
   holds_good hop packet s good is =
       by_test IsGood (nat_lt 1500 (length packet)) (finds_long s)
       (takes_place hop packet (cond (nat_lt (length s.held) 8) s (drops_first s)))
@@ -181,7 +182,8 @@ module _ (c : Config) (l : Link) (F G : List (List ℕ)) where
 
   asks_good : (hop : ℕ) (s : LinkState) → IsGood s → IsGood (asks hop s)
   asks_good hop s good =
-      by_test IsGood (is_some (place_of hop s.neighbours)) s (record s { neighbours = put (unknown hop) s.neighbours })
+      by_test IsGood (is_some (neighbour_place hop s.neighbours)) s
+      (record s { neighbours = put (unknown hop) s.neighbours })
       good
       (record {
         config = good.config;
@@ -200,7 +202,7 @@ module _ (c : Config) (l : Link) (F G : List (List ℕ)) where
       to : (hop : ℕ) (mac : Option Mac) → route_of s packet ≡ Hop hop → mac_of hop s.neighbours ≡ mac
           → IsGiven (to_hop hop packet s mac)
       to hop None w e =
-          nothing _ (asks_good hop (holds hop packet s)
+          nothing _ (asks_good hop (holds_packet hop packet s)
           (holds_good hop packet s good (record { made = made; route = route_is s packet (Hop hop) good w })))
       to hop (Some mac) w e = record {
         good = good;
@@ -231,7 +233,8 @@ module _ (c : Config) (l : Link) (F G : List (List ℕ)) where
 
   arp_sent : (s : LinkState) (op sender : ℕ) (to target_mac : Mac) (target : ℕ) → IsGood s
       → (sender ≡ s.config.addr) ⊎ (sender ≡ 0) → (f : List ℕ)
-      → Some (frame to s.link.mac 0x0806 (arp_bytes op s.link.mac sender target_mac target)) ≡ Some f → IsSent c l F G f
+      → Some (frame to s.link.mac 0x0806 (arp_bytes op s.link.mac sender target_mac target)) ≡ Some f
+      → IsFrameSent c l F G f
   arp_sent s op sender to target_mac target good from f e = inl (record {
     op = op;
     sender = sender;
@@ -287,7 +290,7 @@ module _ (c : Config) (l : Link) (F G : List (List ℕ)) where
       }
 
   request_given : (s : LinkState) → IsGood s → IsGiven (gives_request s)
-  request_given s good = go (position is_due s.neighbours)
+  request_given s good = go (position is_request_due s.neighbours)
     where
       go : (at : Option ℕ) → IsGiven (asks_at at s)
       go None = nothing s good
@@ -308,12 +311,12 @@ module _ (c : Config) (l : Link) (F G : List (List ℕ)) where
           }
 
   -- the packet that is found waits for a hop of which the hardware address was told
-  record IsFound (hs : List Held) (found : ℕ × Mac) : Type 0 where
-    h : Held
+  record IsFound (hs : List WaitingPacket) (found : ℕ × Mac) : Type 0 where
+    h : WaitingPacket
     at : slice_get hs found.0 ≡ Some h
     told : last_told c l h.hop F ≡ Some found.1
 
-  found_ready : (ns : List Neighbour) (hs : List Held) (found : ℕ × Mac) → Each IsKnown ns
+  found_ready : (ns : List Neighbour) (hs : List WaitingPacket) (found : ℕ × Mac) → Each IsKnown ns
       → first_ready ns hs ≡ Some found → IsFound hs found
   found_ready ns [] found known e = absurd (none-some found e)
   found_ready ns (h ∷ hs) found known e =
@@ -335,7 +338,7 @@ module _ (c : Config) (l : Link) (F G : List (List ℕ)) where
   held_given : (s : LinkState) → IsGood s → IsGiven (gives_held s)
   held_given s good = go (first_ready s.neighbours s.held) refl
     where
-      of : (at : ℕ) (mac : Mac) (h h' : Option Held) → slice_get s.held at ≡ h → IsFound s.held (at, mac)
+      of : (at : ℕ) (mac : Mac) (h h' : Option WaitingPacket) → slice_get s.held at ≡ h → IsFound s.held (at, mac)
           → IsGiven (sends_held at mac h s)
       of at mac None h' e is = nothing s good
       of at mac (Some h) h' e is =
@@ -353,7 +356,12 @@ module _ (c : Config) (l : Link) (F G : List (List ℕ)) where
                 };
             sent =
                 carried s h.packet mac good waits.made
-                (inr (h.hop, waits.route, subst (λ (x : Held). last_told c l x.hop F ≡ Some mac) same is.told));
+                (inr (
+                  h.hop,
+                  waits.route,
+                  subst (λ (x : WaitingPacket). last_told c l x.hop F ≡ Some mac) same
+                      is.told,
+                ));
           }
 
       go : (found : Option (ℕ × Mac)) → first_ready s.neighbours s.held ≡ found → IsGiven (sends_at found s)
@@ -432,7 +440,8 @@ module _ (c : Config) (l : Link) (F G : List (List ℕ)) where
       inner false = same_good s _ good refl refl refl refl refl
 
       go : (b : Bool) → IsGood (cond b
-          (cond (nat_lt (length s.replies) 8) (record s { replies = s.replies ++ record { mac = a.mac; ip = a.ip } ∷ [] })
+          (cond (nat_lt (length s.replies) 8)
+          (record s { replies = s.replies ++ record { mac = a.mac; ip = a.ip } ∷ [] })
           (record s { tallies = record s.tallies { replies_dropped = more_by 1 s.tallies.replies_dropped } })) s)
       go true = inner (nat_lt (length s.replies) 8)
       go false = good
@@ -460,10 +469,11 @@ module _ (c : Config) (l : Link) (F G : List (List ℕ)) where
     config = good.config;
     link = good.link;
     neighbours =
-        each-filter IsKnown stays (map aged s.neighbours)
-        (each-map IsKnown aged (λ n is. record { told = is.told; near = is.near }) s.neighbours good.neighbours);
+        each-filter IsKnown neighbour_stays (map neighbour_aged s.neighbours)
+        (each-map IsKnown neighbour_aged (λ n is. record { told = is.told; near = is.near }) s.neighbours
+        good.neighbours);
     distinct = distinct_stays s.neighbours good.distinct;
-    held = each-filter IsWaiting (has_hope (filter stays (map aged s.neighbours))) s.held good.held;
+    held = each-filter IsWaiting (has_hope (filter neighbour_stays (map neighbour_aged s.neighbours))) s.held good.held;
     answer = good.answer;
   }
 
@@ -587,7 +597,8 @@ module _ (c : Config) (l : Link) (F G : List (List ℕ)) (f : List ℕ) where
       where
         go : (x : Bool) → is_sound_arp l (body_of f) ≡ x → Told ip ≡ last_told c l ip F
         go true e =
-            told_here ip false (ap (λ x. x && ((arp_of (body_of f)).ip == ip)) e ∙ ne_eqb _ _ (λ same. other (sym same)))
+            told_here ip false (ap (λ x. x && ((arp_of (body_of f)).ip == ip)) e
+            ∙ ne_eqb _ _ (λ same. other (sym same)))
         go false e = told_here ip false (ap (λ x. x && ((arp_of (body_of f)).ip == ip)) e)
 
     others_good : (s : LinkState) → Good F s → ((n : Neighbour) → is_neighbour c l n.ip ≡ true → n.ip ≢ a.ip)
@@ -596,7 +607,8 @@ module _ (c : Config) (l : Link) (F G : List (List ℕ)) (f : List ℕ) where
 
     learns_good : (s : LinkState) → Good F s → is_sound_arp l (body_of f) ≡ true → Good (f ∷ F) (learns a s)
     learns_good s good sound =
-        go (is_neighbour s.config s.link a.ip) (is_some (place_of a.ip s.neighbours)) (a.target == s.config.addr) refl
+        go (is_neighbour s.config s.link a.ip) (is_some (neighbour_place a.ip s.neighbours)) (a.target == s.config.addr)
+        refl
         refl
       where
         near_is : is_neighbour s.config s.link a.ip ≡ is_neighbour c l a.ip
@@ -607,7 +619,8 @@ module _ (c : Config) (l : Link) (F G : List (List ℕ)) (f : List ℕ) where
         known : is_neighbour c l a.ip ≡ true → IsKnown c l (f ∷ F) G (heard a)
         known near = record {
           told =
-              λ mac e. told_here a.ip true (ap (λ x. x && ((arp_of (body_of f)).ip == a.ip)) sound ∙ eq-eqb _ _ refl) ∙ e;
+              λ mac e. told_here a.ip true (ap (λ x. x && ((arp_of (body_of f)).ip == a.ip)) sound ∙ eq-eqb _ _ refl)
+              ∙ e;
           near = λ mac e. near;
         }
 
@@ -619,7 +632,7 @@ module _ (c : Config) (l : Link) (F G : List (List ℕ)) (f : List ℕ) where
             good.neighbours))
             (put_distinct (heard a) s.neighbours good.distinct)
 
-        stays_new : place_of a.ip s.neighbours ≡ None → Good (f ∷ F) s
+        stays_new : neighbour_place a.ip s.neighbours ≡ None → Good (f ∷ F) s
         stays_new e =
             later_good s s good refl refl refl refl
             (each-both (λ n other is. known_later n (λ mac x. other_told n.ip other) is) s.neighbours
@@ -630,13 +643,13 @@ module _ (c : Config) (l : Link) (F G : List (List ℕ)) (f : List ℕ) where
         unplaced (Some at) e = absurd (false≢true (sym e))
 
         go : (near place target : Bool) → is_neighbour s.config s.link a.ip ≡ near
-            → is_some (place_of a.ip s.neighbours) ≡ place
+            → is_some (neighbour_place a.ip s.neighbours) ≡ place
             → Good (f ∷ F) (cond (near && (place || target)) (record s { neighbours = put (heard a) s.neighbours }) s)
         go false place target n p =
             others_good s good (λ m near same. false≢true (sym n ∙ near_is ∙ ap (is_neighbour c l) (sym same) ∙ near))
         go true true target n p = puts (sym near_is ∙ n)
         go true false true n p = puts (sym near_is ∙ n)
-        go true false false n p = stays_new (unplaced (place_of a.ip s.neighbours) p)
+        go true false false n p = stays_new (unplaced (neighbour_place a.ip s.neighbours) p)
 
     -- the address in conflict is that of this host, or none
     conflict_others : (s : LinkState) → Good F s → is_conflict s a ≡ true → Good (f ∷ F) s

@@ -6,7 +6,7 @@ use Rattle.std.specs.List.{AllByRecursion as Each}
 use Rattle.std.proofs.lemmas.Bool.{eqb-false, eqb-true, ltb-false}
 use Rattle.std.proofs.lemmas.Option.{none-some, same_Some}
 use Rattle.flat_model.proofs.Laws.{each-append, each-both, each-filter, each-map, each-weaker}
-use Rattle.flat_ether.specs.Links.{aged, asked_again, has_ip, place_of, put, put_at, stays, with_room}
+use Rattle.flat_ether.specs.Links.{neighbour_aged, asked_again, has_ip, neighbour_place, put, put_at, neighbour_stays, with_room}
 use Rattle.flat_ether.specs.declared.neighbour.Neighbour.{Neighbour}
 
 pub each-drop : {X : Type 0} (P : X → Type 0) (n : ℕ) (xs : List X) → Each P xs → Each P (drop n xs)
@@ -37,20 +37,22 @@ distinct_push n [] h new = (tt, tt)
 distinct_push n (m ∷ ns) h new =
     (each-append (λ x. x.ip ≢ m.ip) ns (n ∷ []) h.0 (λ e. new.0 (sym e), tt), distinct_push n ns h.1 new.1)
 
-distinct_map : (ns : List Neighbour) → AreDistinct ns → AreDistinct (map aged ns)
+distinct_map : (ns : List Neighbour) → AreDistinct ns → AreDistinct (map neighbour_aged ns)
 distinct_map [] h = tt
-distinct_map (n ∷ ns) h = (each-map (λ m. m.ip ≢ n.ip) aged (λ m is. is) ns h.0, distinct_map ns h.1)
+distinct_map (n ∷ ns) h = (each-map (λ m. m.ip ≢ n.ip) neighbour_aged (λ m is. is) ns h.0, distinct_map ns h.1)
 
-distinct_filter : (ns : List Neighbour) → AreDistinct ns → AreDistinct (filter stays ns)
+distinct_filter : (ns : List Neighbour) → AreDistinct ns → AreDistinct (filter neighbour_stays ns)
 distinct_filter [] h = tt
-distinct_filter (n ∷ ns) h = go (stays n) (distinct_filter ns h.1)
+distinct_filter (n ∷ ns) h = go (neighbour_stays n) (distinct_filter ns h.1)
   where
-    go : (b : Bool) → AreDistinct (filter stays ns) → AreDistinct (cond b (n ∷ filter stays ns) (filter stays ns))
-    go true rest = (each-filter (λ m. m.ip ≢ n.ip) stays ns h.0, rest)
+    go : (b : Bool) → AreDistinct (filter neighbour_stays ns)
+        → AreDistinct (cond b (n ∷ filter neighbour_stays ns) (filter neighbour_stays ns))
+    go true rest = (each-filter (λ m. m.ip ≢ n.ip) neighbour_stays ns h.0, rest)
     go false rest = rest
 
-pub distinct_stays : (ns : List Neighbour) → AreDistinct ns → AreDistinct (filter stays (map aged ns))
-distinct_stays ns h = distinct_filter (map aged ns) (distinct_map ns h)
+pub distinct_stays : (ns : List Neighbour) → AreDistinct ns
+    → AreDistinct (filter neighbour_stays (map neighbour_aged ns))
+distinct_stays ns h = distinct_filter (map neighbour_aged ns) (distinct_map ns h)
 
 -- ---- a neighbour that is asked again keeps its address
 
@@ -78,7 +80,7 @@ new_past ip (n ∷ ns) h = go (λ e. new_past ip ns e) (has_ip ip n) refl h
     go rest false e h = (eqb-false n.ip ip e, rest (omega arith))
 
 -- where no place is found the address is new
-pub new_ip : (ip : ℕ) (ns : List Neighbour) → place_of ip ns ≡ None → IsNew ip ns
+pub new_ip : (ip : ℕ) (ns : List Neighbour) → neighbour_place ip ns ≡ None → IsNew ip ns
 new_ip ip ns e = go (nat_lt (position_or_len (has_ip ip) ns) (length ns)) refl e
   where
     go : (b : Bool) → nat_lt (position_or_len (has_ip ip) ns) (length ns) ≡ b
@@ -86,7 +88,8 @@ new_ip ip ns e = go (nat_lt (position_or_len (has_ip ip) ns) (length ns)) refl e
     go true l is = absurd (none-some _ (sym is))
     go false l is = new_past ip ns (omega (arith, ltb-false _ _ l))
 
-place_is : (ip : ℕ) (ns : List Neighbour) (at : ℕ) → place_of ip ns ≡ Some at → at ≡ position_or_len (has_ip ip) ns
+place_is : (ip : ℕ) (ns : List Neighbour) (at : ℕ) → neighbour_place ip ns ≡ Some at
+    → at ≡ position_or_len (has_ip ip) ns
 place_is ip ns at e = go (nat_lt (position_or_len (has_ip ip) ns) (length ns)) e
   where
     go : (b : Bool) → cond b (Some (position_or_len (has_ip ip) ns)) None ≡ Some at
@@ -130,9 +133,9 @@ module _ (Q : Neighbour → Type 0) (new : Neighbour) (ip : ℕ) (same : new.ip 
 -- What holds of all others and of the one that is put holds of each.
 pub put_each : (Q : Neighbour → Type 0) (new : Neighbour) (ns : List Neighbour) → Q new → AreDistinct ns
     → Each (λ n. n.ip ≢ new.ip → Q n) ns → Each Q (put new ns)
-put_each Q new ns good d h = go (place_of new.ip ns) refl
+put_each Q new ns good d h = go (neighbour_place new.ip ns) refl
   where
-    go : (at : Option ℕ) → place_of new.ip ns ≡ at → Each Q (put_at at new ns)
+    go : (at : Option ℕ) → neighbour_place new.ip ns ≡ at → Each Q (put_at at new ns)
     go None e =
         let all : Each Q ns = each-both (λ m other ready. ready other) ns (new_ip new.ip ns e) h in
         each-append Q (with_room ns) (new ∷ []) (room_each Q new new.ip refl good (nat_lt (length ns) 32) ns all)
@@ -140,7 +143,7 @@ put_each Q new ns good d h = go (place_of new.ip ns) refl
     go (Some at) e = set_each Q new new.ip refl good ns at (place_is new.ip ns at e) d h
 
 pub put_distinct : (new : Neighbour) (ns : List Neighbour) → AreDistinct ns → AreDistinct (put new ns)
-put_distinct new ns d = go (place_of new.ip ns) refl
+put_distinct new ns d = go (neighbour_place new.ip ns) refl
   where
     room : (b : Bool) → AreDistinct (cond b ns (drop 1 ns))
     room true = d
@@ -150,7 +153,7 @@ put_distinct new ns d = go (place_of new.ip ns) refl
     fresh true h = h
     fresh false h = each-drop (λ n. n.ip ≢ new.ip) 1 ns h
 
-    go : (at : Option ℕ) → place_of new.ip ns ≡ at → AreDistinct (put_at at new ns)
+    go : (at : Option ℕ) → neighbour_place new.ip ns ≡ at → AreDistinct (put_at at new ns)
     go None e =
         distinct_push new (with_room ns) (room (nat_lt (length ns) 32))
         (fresh (nat_lt (length ns) 32) (new_ip new.ip ns e))

@@ -23,8 +23,8 @@ is_error c b =
     && ((u16_at 14 b % 8192 == 0) && ((slice_index b 17 == PROTOCOL_UDP)
     && ((u32_at 20 b == c.addr) && (folded_sum b == 65535)))))))
 
-abbrev pub fault_of : ℕ → NetFault
-fault_of code = if (code == UNREACHABLE_PROTOCOL) || (code == UNREACHABLE_PORT) then Refused else Unreachable
+abbrev pub error_fault : ℕ → NetFault
+error_fault code = if (code == UNREACHABLE_PROTOCOL) || (code == UNREACHABLE_PORT) then Refused else Unreachable
 
 -- from which port the datagram went, and where to
 abbrev pub error_of : List ℕ → SocketError
@@ -44,11 +44,11 @@ error_in c came = if is_icmp c came && is_error c (carried_in came) then Some (e
 -- ---- those that nobody has asked for yet
 
 -- it's about datagrams from this port to this address
-abbrev pub is_of : ℕ → Addr → SocketError → Bool
-is_of port peer e = (e.port == port) && ((e.peer_ip == peer.ip) && (e.peer_port == peer.port))
+abbrev pub is_error_of : ℕ → Addr → SocketError → Bool
+is_error_of port peer e = (e.port == port) && ((e.peer_ip == peer.ip) && (e.peer_port == peer.port))
 
 abbrev pub error_at : ℕ → Addr → List SocketError → Option ℕ
-error_at port peer es = position (is_of port peer) es
+error_at port peer es = position (is_error_of port peer) es
 
 -- a full list loses its first
 abbrev pub with_space : List SocketError → List SocketError

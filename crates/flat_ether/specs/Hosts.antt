@@ -74,15 +74,15 @@ drained [] s = record { frame = None; output = []; link = s }
 drained (item ∷ later) s = or_drains (sends item.bytes s) later (drained later (sends item.bytes s).1)
 
 -- the machine whose output queue has these packets left
-abbrev pub with_output : State → List Item → State
-with_output s output = record s { output = output }
+abbrev pub with_output_left : State → List Item → State
+with_output_left s output = record s { output = output }
 
 -- the machine has nothing that goes out now: what waits since then may have to be asked for
 abbrev pub gives_after : Host → Drained → Option (List ℕ) × Host
 gives_after h d =
     if is_some d.frame
-    then (d.frame, record { machine = with_output h.machine d.output; link = d.link })
-    else ((gives_own d.link).0, record { machine = with_output h.machine d.output; link = (gives_own d.link).1 })
+    then (d.frame, record { machine = with_output_left h.machine d.output; link = d.link })
+    else ((gives_own d.link).0, record { machine = with_output_left h.machine d.output; link = (gives_own d.link).1 })
 
 abbrev pub gives_drained : Host → LinkState → Option (List ℕ) × Host
 gives_drained h s = gives_after h (drained h.machine.output s)
@@ -122,25 +122,25 @@ pub record Ticks (old new : Host) : Type 0 where
 
 -- what is done with a host: a frame comes, the link takes the next one, the clock ticks, a call is made on its stack,
 -- or an error is asked for
-pub data Act : Type 0 where
-  Comes_in : (frame : List ℕ) → Act
-  Goes_out : (frame : Option (List ℕ)) → Act
-  Clock : Act
-  Calls : (turn : Turn) → Act
-  Asks_error : (fd : ℕ) → (fault : Result (Option NetFault) Errno) → Act
+pub data HostAct : Type 0 where
+  Comes_in : (frame : List ℕ) → HostAct
+  Goes_out : (frame : Option (List ℕ)) → HostAct
+  Clock : HostAct
+  Calls : (turn : Turn) → HostAct
+  Asks_error : (fd : ℕ) → (fault : Result (Option NetFault) Errno) → HostAct
 
 pub record CallsMachine (turn : Turn) (old new : Host) : Type 0 where
   pub event : IsEvent turn.event
   pub machine : Step old.machine turn.event turn.reply new.machine
   pub link : new.link ≡ old.link
 
-abbrev pub IsAct : Host → Act → Host → Type 0
-IsAct old (Comes_in f) new = IsBytes f × (length f ≤ ETHER_HEADER + IP_MAX_PACKET) × Hears f old new
-IsAct old (Goes_out f) new = (f, new) ≡ gives old
-IsAct old Clock new = Ticks old new
-IsAct old (Calls turn) new = CallsMachine turn old new
-IsAct old (Asks_error fd fault) new = (fault, new) ≡ last_error fd old
+abbrev pub IsHostAct : Host → HostAct → Host → Type 0
+IsHostAct old (Comes_in f) new = IsBytes f × (length f ≤ ETHER_HEADER + IP_MAX_PACKET) × Hears f old new
+IsHostAct old (Goes_out f) new = (f, new) ≡ gives old
+IsHostAct old Clock new = Ticks old new
+IsHostAct old (Calls turn) new = CallsMachine turn old new
+IsHostAct old (Asks_error fd fault) new = (fault, new) ≡ last_error fd old
 
-abbrev pub AreActs : Host → List Act → Host → Type 0
-AreActs old [] new = new ≡ old
-AreActs old (act ∷ acts) new = (mid : Host) × IsAct old act mid × AreActs mid acts new
+abbrev pub AreHostActs : Host → List HostAct → Host → Type 0
+AreHostActs old [] new = new ≡ old
+AreHostActs old (act ∷ acts) new = (mid : Host) × IsHostAct old act mid × AreHostActs mid acts new

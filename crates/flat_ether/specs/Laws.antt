@@ -10,7 +10,7 @@ use Rattle.flat_model.specs.Runs.Run.{Turn, Leads}
 use Rattle.flat_wire.specs.Wire.{ComesFrom, IsAnswered, WasSent, packet_in, packet_out}
 use Rattle.flat_ether.specs.Frames.{arp_bytes, arp_of, body_of, ether_broadcast, frame, kind_of}
 use Rattle.flat_ether.specs.Icmp.{echo_reply, port_unreachable}
-use Rattle.flat_ether.specs.Hosts.{Act, AreActs, Host, host_up, Comes_in, Goes_out, Clock, Calls, Asks_error}
+use Rattle.flat_ether.specs.Hosts.{HostAct, AreHostActs, Host, host_up, Comes_in, Goes_out, Clock, Calls, Asks_error}
 use Rattle.flat_ether.specs.Links.{is_sound_arp, route_to}
 use Rattle.flat_model.specs.declared.config.Config.{Config}
 use Rattle.flat_ether.specs.declared.link.Link.{Link}
@@ -30,14 +30,14 @@ packet_if Arp f = []
 packet_if Other f = []
 
 -- the packets that come to the machine in an act: that of a frame for the host, or one that the program hands to `rx`
-abbrev pub packets_in : Config → Mac → Act → List (List ℕ)
+abbrev pub packets_in : Config → Mac → HostAct → List (List ℕ)
 packets_in c mac (Comes_in f) = packet_if (kind_of c mac f) f
 packets_in c mac (Goes_out f) = []
 packets_in c mac Clock = []
 packets_in c mac (Calls turn) = filter_map packet_in (turn ∷ [])
 packets_in c mac (Asks_error fd fault) = []
 
-abbrev pub packets_to : Config → Mac → List Act → List (List ℕ)
+abbrev pub packets_to : Config → Mac → List HostAct → List (List ℕ)
 packets_to c mac [] = []
 packets_to c mac (act ∷ acts) = packets_in c mac act ++ packets_to c mac acts
 
@@ -48,7 +48,7 @@ martian_if Martian = 1
 martian_if Arp = 0
 martian_if Other = 0
 
-abbrev pub martian_in : Config → Mac → Act → ℕ
+abbrev pub martian_in : Config → Mac → HostAct → ℕ
 martian_in c mac (Comes_in f) = martian_if (kind_of c mac f)
 martian_in c mac (Goes_out f) = 0
 martian_in c mac Clock = 0
@@ -56,20 +56,20 @@ martian_in c mac (Calls turn) = 0
 martian_in c mac (Asks_error fd fault) = 0
 
 -- how many such packets came in these acts
-abbrev pub martians_in : Config → Mac → List Act → ℕ
+abbrev pub martians_in : Config → Mac → List HostAct → ℕ
 martians_in c mac [] = 0
 martians_in c mac (act ∷ acts) = martian_in c mac act + martians_in c mac acts
 
 -- ---- what goes
 
-abbrev pub frame_in : Act → List (List ℕ)
+abbrev pub frame_in : HostAct → List (List ℕ)
 frame_in (Comes_in f) = f ∷ []
 frame_in (Goes_out f) = []
 frame_in Clock = []
 frame_in (Calls turn) = []
 frame_in (Asks_error fd fault) = []
 
-abbrev pub frame_out : Act → List (List ℕ)
+abbrev pub frame_out : HostAct → List (List ℕ)
 frame_out (Comes_in f) = []
 frame_out (Goes_out f) = option_to_list f
 frame_out Clock = []
@@ -77,7 +77,7 @@ frame_out (Calls turn) = []
 frame_out (Asks_error fd fault) = []
 
 -- the frames that went
-abbrev pub frames_out : List Act → List (List ℕ)
+abbrev pub frames_out : List HostAct → List (List ℕ)
 frames_out [] = []
 frames_out (act ∷ acts) = frame_out act ++ frames_out acts
 
@@ -132,23 +132,23 @@ pub record IsOwnArp (c : Config) (l : Link) (f : List ℕ) : Type 0 where
   pub target : ℕ
   pub frame_is : f ≡ frame to l.mac ETHER_TYPE_ARP (arp_bytes op l.mac sender target_mac target)
 
-abbrev pub IsSent : Config → Link → List (List ℕ) → List (List ℕ) → List ℕ → Type 0
-IsSent c l frames given f = IsOwnArp c l f ⊎ CarriesPacket c l frames given f
+abbrev pub IsFrameSent : Config → Link → List (List ℕ) → List (List ℕ) → List ℕ → Type 0
+IsFrameSent c l frames given f = IsOwnArp c l f ⊎ CarriesPacket c l frames given f
 
 -- the frames that came before an act and in it, the last one first
-abbrev pub frames_then : Act → List (List ℕ) → List (List ℕ)
+abbrev pub frames_then : HostAct → List (List ℕ) → List (List ℕ)
 frames_then act before = frame_in act ++ before
 
 -- Each frame that goes in one of these acts is sent so, after the frames that came before it. `given` are the packets
 -- that the machine gave.
-abbrev pub AreSent : Config → Link → List (List ℕ) → List (List ℕ) → List Act → Type 0
+abbrev pub AreSent : Config → Link → List (List ℕ) → List (List ℕ) → List HostAct → Type 0
 AreSent c l given before [] = Unit {0}
 AreSent c l given before (act ∷ acts) =
-    All (IsSent c l before given) (frame_out act) × AreSent c l given (frames_then act before) acts
+    All (IsFrameSent c l before given) (frame_out act) × AreSent c l given (frames_then act before) acts
 
 -- These acts are turns of the machine. What came in these are the packets of the frames for the host, in their order;
 -- and each frame that went is an ARP packet of the host, or has a packet that the machine gave or that answers one.
-pub record MakesTurns (c : Config) (l : Link) (acts : List Act) (new : Host) : Type 0 where
+pub record MakesTurns (c : Config) (l : Link) (acts : List HostAct) (new : Host) : Type 0 where
   pub turns : List Turn
   pub leads : Leads exact_ledger (boot c) turns new.machine
   pub came : filter_map packet_in turns ≡ packets_to c l.mac acts
@@ -157,25 +157,25 @@ pub record MakesTurns (c : Config) (l : Link) (acts : List Act) (new : Host) : T
 -- ---- two hosts
 
 -- one of these frames has the packet
-abbrev pub IsCarried : List (List ℕ) → List ℕ → Type 0
-IsCarried frames packet = (f : List ℕ) × Contains frames f × (u16_at 12 f ≡ ETHER_TYPE_IP) × (body_of f ≡ packet)
+abbrev pub IsInFrames : List (List ℕ) → List ℕ → Type 0
+IsInFrames frames packet = (f : List ℕ) × Contains frames f × (u16_at 12 f ≡ ETHER_TYPE_IP) × (body_of f ≡ packet)
 
 -- Two hosts from their start. What came to the second as a packet of UDP with the first's address stood in a frame that
 -- the first gave, in any order and any number of times; the first sent fewer than 65,536 times; and the second doesn't
 -- have the first's address.
-pub record AreOnEthernet (c d : Config) (l m : Link) (sent came : List Act) (s t : Host) : Type 0 where
+pub record AreOnEthernet (c d : Config) (l m : Link) (sent came : List HostAct) (s t : Host) : Type 0 where
   pub first_boots : IsConfig c
   pub second_boots : IsConfig d
-  pub first_acts : AreActs (host_up c l) sent s
-  pub second_acts : AreActs (host_up d m) came t
+  pub first_acts : AreHostActs (host_up c l) sent s
+  pub second_acts : AreHostActs (host_up d m) came t
   pub not_addr : c.addr ≢ d.addr
   pub not_bcast : c.addr ≢ d.bcast
   pub few : value_of IpLocalout s.machine.counters < 2 ^ 16
-  pub wire : All (λ packet. ComesFrom c.addr packet → IsCarried (frames_out sent) packet) (packets_to d m.mac came)
+  pub wire : All (λ packet. ComesFrom c.addr packet → IsInFrames (frames_out sent) packet) (packets_to d m.mac came)
 
 -- Then what `recvfrom` of the second answers with the first's address as the sender's was sent so, by turns that the
 -- first's acts are: `before` are the second's acts until then.
-pub record WasReceivedOnEthernet (c d : Config) (l m : Link) (sent before : List Act) (s : Host) (fd most : ℕ)
+pub record WasReceivedOnEthernet (c d : Config) (l m : Link) (sent before : List HostAct) (s : Host) (fd most : ℕ)
     (sender : Addr) (bytes : List ℕ) : Type 0 where
   pub makes : MakesTurns c l sent s
   pub then' : Host
@@ -184,7 +184,7 @@ pub record WasReceivedOnEthernet (c d : Config) (l m : Link) (sent before : List
 
 -- Then a datagram that waits in a queue of the second with the first's address as its sender was sent so, by turns that
 -- the first's acts are.
-pub record WasSentOnEthernet (c d : Config) (l : Link) (sent : List Act) (s : Host) (socket : Socket)
+pub record WasSentOnEthernet (c d : Config) (l : Link) (sent : List HostAct) (s : Host) (socket : Socket)
     (datagram : Datagram) : Type 0 where
   pub makes : MakesTurns c l sent s
   pub to : Addr

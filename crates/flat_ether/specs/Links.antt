@@ -6,7 +6,7 @@ use Rattle.flat_model.specs.Packets.Header.{u32_at}
 use Rattle.flat_model.specs.Machine.Count.{more_by}
 use Rattle.flat_model.specs.declared.config.Config.{Config}
 use Rattle.flat_ether.specs.Claims.{claim_due, claim_sent, claim_ticks, claim_up, conflicts, is_claimed}
-use Rattle.flat_ether.specs.Errors.{error_at, error_in, fault_of, note}
+use Rattle.flat_ether.specs.Errors.{error_at, error_in, error_fault, note}
 use Rattle.flat_ether.specs.declared.error.NetFault.{NetFault}
 use Rattle.flat_ether.specs.declared.error.SocketError.{SocketError}
 use Rattle.flat_model.specs.declared.address.Addr.{Addr}
@@ -29,7 +29,7 @@ use Rattle.flat_ether.specs.declared.tallies.Tallies.{Tallies}
 use Rattle.flat_ether.specs.declared.sizes.TheConstants.{ETHER_MTU, ETHER_TYPE_IP, ETHER_TYPE_ARP, ARP_REQUEST, ARP_REPLY, NEIGHBOURS, ARP_KEEP_TICKS, ARP_POLLS, UNREACHABLES, ARP_RETRY_TICKS, ARP_TRIES, HELD_PACKETS, PENDING_REPLIES}
 
 -- a packet that waits for the hardware address of its next hop
-pub record Held : Type 0 where
+pub record WaitingPacket : Type 0 where
   pub hop : ℕ
   pub packet : List ℕ
 
@@ -42,7 +42,7 @@ pub record LinkState : Type 0 where
   pub link : Link
   pub neighbours : List Neighbour
   pub replies : List PendingReply
-  pub held : List Held
+  pub held : List WaitingPacket
   pub answer : Option (List ℕ)
   pub errors : List SocketError
   pub claim : Claim
@@ -96,20 +96,20 @@ refuses s = record s { tallies = record s.tallies { martians = more_by 1 s.talli
 abbrev pub has_ip : ℕ → Neighbour → Bool
 has_ip ip n = n.ip == ip
 
-abbrev pub place_of : ℕ → List Neighbour → Option ℕ
-place_of ip ns = position (has_ip ip) ns
+abbrev pub neighbour_place : ℕ → List Neighbour → Option ℕ
+neighbour_place ip ns = position (has_ip ip) ns
 
 abbrev pub mac_in : Option Neighbour → Option Mac
 mac_in None = None
 mac_in (Some n) = n.mac
 
-abbrev pub mac_at : Option ℕ → List Neighbour → Option Mac
-mac_at None ns = None
-mac_at (Some at) ns = mac_in (slice_get ns at)
+abbrev pub mac_known : Option ℕ → List Neighbour → Option Mac
+mac_known None ns = None
+mac_known (Some at) ns = mac_in (slice_get ns at)
 
 -- the hardware address last heard for an address
 abbrev pub mac_of : ℕ → List Neighbour → Option Mac
-mac_of ip ns = mac_at (place_of ip ns) ns
+mac_of ip ns = mac_known (neighbour_place ip ns) ns
 
 -- a full table loses its first
 abbrev pub with_room : List Neighbour → List Neighbour
@@ -121,7 +121,7 @@ put_at (Some at) n ns = slice_set ns at n
 
 -- in the place of the one with its address, or behind all others
 abbrev pub put : Neighbour → List Neighbour → List Neighbour
-put n ns = put_at (place_of n.ip ns) n ns
+put n ns = put_at (neighbour_place n.ip ns) n ns
 
 -- ---- an ARP packet that comes (`in_arpinput` of volume 2, chapter 21)
 
@@ -132,7 +132,7 @@ heard a = record { ip = a.ip; mac = Some a.mac; ticks = ARP_KEEP_TICKS; tries = 
 -- Its sender is learned where it's known already, or the packet is for this host (RFC 826, "Packet Reception").
 abbrev pub is_learned : LinkState → Arp → Bool
 is_learned s a =
-    is_neighbour s.config s.link a.ip && (is_some (place_of a.ip s.neighbours) || (a.target == s.config.addr))
+    is_neighbour s.config s.link a.ip && (is_some (neighbour_place a.ip s.neighbours) || (a.target == s.config.addr))
 
 abbrev pub learns : Arp → LinkState → LinkState
 learns a s = if is_learned s a then record s { neighbours = put (heard a) s.neighbours } else s
@@ -190,8 +190,8 @@ drops_first s =
     record s { held = drop 1 s.held; tallies = record s.tallies { held_dropped = more_by 1 s.tallies.held_dropped } }
 
 -- a packet waits; where no place is free, it takes that of the one that has waited longest
-abbrev pub holds : ℕ → List ℕ → LinkState → LinkState
-holds hop packet s =
+abbrev pub holds_packet : ℕ → List ℕ → LinkState → LinkState
+holds_packet hop packet s =
     if nat_lt ETHER_MTU (length packet)
     then finds_long s
     else takes_place hop packet (if nat_lt (length s.held) HELD_PACKETS then s else drops_first s)
@@ -201,14 +201,15 @@ abbrev pub unknown : ℕ → Neighbour
 unknown ip = record { ip = ip; mac = None; ticks = 0; tries = 0 }
 
 abbrev pub asks : ℕ → LinkState → LinkState
-asks hop s = if is_some (place_of hop s.neighbours) then s else record s { neighbours = put (unknown hop) s.neighbours }
+asks hop s =
+    if is_some (neighbour_place hop s.neighbours) then s else record s { neighbours = put (unknown hop) s.neighbours }
 
 -- what goes out now, and the link then
 abbrev pub Gives : Type 0
 Gives = Option (List ℕ) × LinkState
 
 abbrev pub to_hop : ℕ → List ℕ → LinkState → Option Mac → Gives
-to_hop hop packet s None = (None, asks hop (holds hop packet s))
+to_hop hop packet s None = (None, asks hop (holds_packet hop packet s))
 to_hop hop packet s (Some mac) = (Some (frame mac s.link.mac ETHER_TYPE_IP packet), s)
 
 abbrev pub by_route : List ℕ → LinkState → Route → Gives
@@ -258,8 +259,8 @@ abbrev pub is_poll_due : Neighbour → Bool
 is_poll_due n = nat_lt n.tries ARP_POLLS && nat_le (n.ticks + n.tries * ARP_RETRY_TICKS) (ARP_POLLS * ARP_RETRY_TICKS)
 
 -- a request is due
-abbrev pub is_due : Neighbour → Bool
-is_due n = if is_some n.mac then is_poll_due n else (n.ticks == 0) && nat_lt n.tries ARP_TRIES
+abbrev pub is_request_due : Neighbour → Bool
+is_request_due n = if is_some n.mac then is_poll_due n else (n.ticks == 0) && nat_lt n.tries ARP_TRIES
 
 abbrev pub asked_again : Neighbour → Neighbour
 asked_again n = record n { ticks = if is_some n.mac then n.ticks else ARP_RETRY_TICKS; tries = min (n.tries + 1) 255 }
@@ -281,7 +282,7 @@ asks_at (Some at) s = asks_of at (slice_index_or s.neighbours at (unknown 0)) s
 
 -- a request for the first neighbour for which one is due
 abbrev pub gives_request : LinkState → Gives
-gives_request s = asks_at (position is_due s.neighbours) s
+gives_request s = asks_at (position is_request_due s.neighbours) s
 
 -- ---- packets that waited
 
@@ -295,11 +296,11 @@ ready_or (Some mac) later = Some (0, mac)
 ready_or None later = one_on later
 
 -- the place of the first packet that waits and whose next hop is known now, with that hop's hardware address
-abbrev pub first_ready : List Neighbour → List Held → Option (ℕ × Mac)
+abbrev pub first_ready : List Neighbour → List WaitingPacket → Option (ℕ × Mac)
 first_ready ns [] = None
 first_ready ns (h ∷ hs) = ready_or (mac_of h.hop ns) (first_ready ns hs)
 
-abbrev pub sends_held : ℕ → Mac → Option Held → LinkState → Gives
+abbrev pub sends_held : ℕ → Mac → Option WaitingPacket → LinkState → Gives
 sends_held at mac None s = (None, s)
 sends_held at mac (Some h) s =
     (Some (frame mac s.link.mac ETHER_TYPE_IP h.packet), record s { held = remove s.held at })
@@ -329,20 +330,20 @@ gives_own s = or_then (or_then (or_then (or_then (gives_claim s) gives_reply) gi
 
 -- ---- the clock (`arptimer` of volume 2, chapter 21)
 
-abbrev pub aged : Neighbour → Neighbour
-aged n = record n { ticks = n.ticks - 1 }
+abbrev pub neighbour_aged : Neighbour → Neighbour
+neighbour_aged n = record n { ticks = n.ticks - 1 }
 
 -- it's known still, or another request may go out
-abbrev pub stays : Neighbour → Bool
-stays n = nat_lt 0 n.ticks || (not (is_some n.mac) && nat_lt n.tries ARP_TRIES)
+abbrev pub neighbour_stays : Neighbour → Bool
+neighbour_stays n = nat_lt 0 n.ticks || (not (is_some n.mac) && nat_lt n.tries ARP_TRIES)
 
 -- its next hop is known or asked for
-abbrev pub has_hope : List Neighbour → Held → Bool
-has_hope ns h = is_some (place_of h.hop ns)
+abbrev pub has_hope : List Neighbour → WaitingPacket → Bool
+has_hope ns h = is_some (neighbour_place h.hop ns)
 
 abbrev pub keeps : List Neighbour → LinkState → LinkState
 keeps ns s =
-    let held : List Held = filter (has_hope ns) s.held in
+    let held : List WaitingPacket = filter (has_hope ns) s.held in
     record s {
       neighbours = ns;
       held = held;
@@ -352,7 +353,8 @@ keeps ns s =
 -- a tick: what isn't known any more is forgotten, and the packets that waited for it are given up
 abbrev pub ticks : LinkState → LinkState
 ticks s =
-    keeps (filter stays (map aged s.neighbours)) (record s { claim = claim_ticks s.claim; unreachables = UNREACHABLES })
+    keeps (filter neighbour_stays (map neighbour_aged s.neighbours))
+    (record s { claim = claim_ticks s.claim; unreachables = UNREACHABLES })
 
 -- ---- ICMP
 
@@ -398,7 +400,7 @@ notes no_protocol came s = if no_protocol then notes_error (error_in s.config ca
 
 abbrev pub fault_in : Option SocketError → Option NetFault
 fault_in None = None
-fault_in (Some e) = Some (fault_of e.code)
+fault_in (Some e) = Some (error_fault e.code)
 
 abbrev pub takes_at : Option ℕ → LinkState → Option NetFault × LinkState
 takes_at None s = (None, s)

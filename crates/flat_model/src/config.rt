@@ -1,6 +1,6 @@
 //! The configuration of a machine, and why one is refused.
 ghost use Rattle.std.specs.Prelude.{MatchResult, IsTrue, ◌↔◌};
-ghost use Rattle.flat_model.specs.Machine.State.{HasSizes, IsConfig, IsHost, IsRefused};
+ghost use Rattle.flat_model.specs.Machine.State.{HasSizes, IsConfig, IsHost, IsConfigRefused};
 
 use params::{FIRST_MULTICAST, LOOPBACK, MAX_CLUSTERS, MAX_MBUFS, MAX_MTU, MIN_MTU};
 use thiserror::Error;
@@ -41,7 +41,7 @@ impl Config {
     /// `BadSizes` where it has no mbuf, more than 65,535 of them or more than 4,096 clusters; else `BadConfig` where
     /// its MTU isn't 68 to 4352, an address isn't that of a host, or both addresses are the same.
     pub fn check(self) -> Result<(), ConfigFault>
-        ensures { MatchResult result (λ done. IsConfig self) (λ fault. IsRefused self fault) }
+        ensures { MatchResult result (λ done. IsConfig self) (λ fault. IsConfigRefused self fault) }
     {
         if !self.has_sizes() {
             return Err(ConfigFault::BadSizes);

@@ -71,11 +71,11 @@ impl Lack {
 }
 
 impl Errno {
-    ghost use Rattle.flat_model.specs.Scripts.Errnos.{number_of, name_of};
+    ghost use Rattle.flat_model.specs.Scripts.Errnos.{errno_number, name_of};
 
     /// Its number in 4.4BSD (sys/errno.h), 9 to 65.
     pub fn number(self) -> u8
-        ensures { result ≡ number_of self }
+        ensures { result ≡ errno_number self }
     {
         match self {
             Errno::BadDescriptor => 9,

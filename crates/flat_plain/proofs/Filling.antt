@@ -6,7 +6,7 @@ use Rattle.std.proofs.lemmas.List.{map-append, append_assoc, append-nil, take_al
 use Rattle.flat_model.specs.Amounts.Layout.{filled, next_room, or_empty, size_of, meets_from}
 use Rattle.flat_model.specs.Amounts.Layout as Layout
 use Rattle.flat_plain.specs.declared.rooms.Room.{Room}
-use Rattle.flat_plain.specs.Rooms.{room_of, rooms_of}
+use Rattle.flat_plain.specs.Rooms.{plain_room, rooms_of}
 
 filled_none : (most large small left : ℕ) → (most ≡ 0) ⊎ (left ≡ 0) → filled most large small left ≡ []
 unfolding filled
@@ -32,15 +32,15 @@ fill_none rooms most large small left h =
     sym (ap (λ xs. rooms_of rooms ++ xs) (filled_none most large small left h) ∙ append-nil (rooms_of rooms))
 
 pub fill_step : (old new after : List Room) (room : Room) (most large small left size : ℕ) → 0 < most → 0 < left
-    → room_of room ≡ next_room large small left → new ≡ old ++ room ∷ []
-    → size ≡ size_of (room_of room) → rooms_of after ≡ rooms_of new ++ filled (most - 1) 2048 108 (left - size)
+    → plain_room room ≡ next_room large small left → new ≡ old ++ room ∷ []
+    → size ≡ size_of (plain_room room) → rooms_of after ≡ rooms_of new ++ filled (most - 1) 2048 108 (left - size)
     → rooms_of after ≡ rooms_of old ++ filled most large small left
 fill_step old new after room most large small left size m l is pushed n e =
     e
     ∙ ap (λ xs. rooms_of xs ++ filled (most - 1) 2048 108 (left - size)) pushed
-    ∙ ap (λ xs. xs ++ filled (most - 1) 2048 108 (left - size)) (map-append room_of old (room ∷ []))
-    ∙ append_assoc (rooms_of old) (room_of room ∷ []) (filled (most - 1) 2048 108 (left - size))
-    ∙ ap (λ k. rooms_of old ++ room_of room ∷ filled (most - 1) 2048 108 (left - k)) n
+    ∙ ap (λ xs. xs ++ filled (most - 1) 2048 108 (left - size)) (map-append plain_room old (room ∷ []))
+    ∙ append_assoc (rooms_of old) (plain_room room ∷ []) (filled (most - 1) 2048 108 (left - size))
+    ∙ ap (λ k. rooms_of old ++ plain_room room ∷ filled (most - 1) 2048 108 (left - k)) n
     ∙ ap (λ r. rooms_of old ++ r ∷ filled (most - 1) 2048 108 (left - size_of r)) is
     ∙ ap (λ xs. rooms_of old ++ xs) (sym (filled_next most large small left m l))
 
@@ -55,10 +55,10 @@ pub or_empty_none : (most large small left : ℕ) → (most ≡ 0) ⊎ (left ≡
 or_empty_none most large small left h = ap or_empty (filled_none most large small left h)
 
 pub meets_next : (room : Room) (rooms : List Room) (at a b : ℕ) (t : Bool)
-    → nat_lt (max at a) (min (at + size_of (room_of room)) b) ≡ t
+    → nat_lt (max at a) (min (at + size_of (plain_room room)) b) ≡ t
     → length (meets_from size_of at (rooms_of (room ∷ rooms)) a b)
-    ≡ cond t (length (meets_from size_of (at + size_of (room_of room)) (rooms_of rooms) a b) + 1)
-    (length (meets_from size_of (at + size_of (room_of room)) (rooms_of rooms) a b))
+    ≡ cond t (length (meets_from size_of (at + size_of (plain_room room)) (rooms_of rooms) a b) + 1)
+    (length (meets_from size_of (at + size_of (plain_room room)) (rooms_of rooms) a b))
 unfolding meets_from
 meets_next room rooms at a b true e = rw e (omega arith)
 meets_next room rooms at a b false e = rw e refl
@@ -68,7 +68,7 @@ unfolding meets_from
 meets_none at a b = refl
 
 pub meets_at : (rooms : List Room) (d : Room) (at a b size n : ℕ) (t : Bool) → 0 < length rooms
-    → size ≡ size_of (room_of (get_or rooms 0 d)) → nat_lt (max at a) (min (at + size) b) ≡ t
+    → size ≡ size_of (plain_room (get_or rooms 0 d)) → nat_lt (max at a) (min (at + size) b) ≡ t
     → n ≡ length (meets_from size_of (at + size) (rooms_of (take (length rooms - 1) (drop 1 rooms))) a b)
     → length (meets_from size_of at (rooms_of rooms) a b) ≡ cond t (n + 1) n
 meets_at [] d at a b size n t some e l is = absurd (omega arith)

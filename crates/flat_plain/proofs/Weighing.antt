@@ -18,28 +18,29 @@ use Rattle.flat_model.specs.Fragments.Whole.{piece_at, pieces_below}
 use Rattle.flat_model.proofs.Laws.{count_cons, count-append, times-both, both-nothing, both-assoc, nothing-both, all_of-append}
 use Rattle.flat_plain.specs.declared.maps.Cell.{Cell}
 use Rattle.flat_plain.specs.declared.weights.Entry.{Entry}
-use Rattle.flat_plain.specs.Tables.{map_of, held_of, weight_at}
-use Rattle.flat_plain.specs.Weights.{entry_of, entries_of, entry_size, weight_begun}
+use Rattle.flat_plain.specs.Tables.{plain_map, held_of, weight_of_mbufs}
+use Rattle.flat_plain.specs.Weights.{plain_entry, entries_of, entry_size, weight_begun}
 
 -- ---- mbufs met
 
-first_weight : (e : Entry) (rest : List Layout.Entry)
-    → Layout.weight_of (entry_of e ∷ rest) ≡ weight_at 1 (e.cluster ∷ []) ⊕ Layout.weight_of rest
+first_weight : (e : Entry) (rest : List Layout.LayoutEntry)
+    → Layout.weight_of (plain_entry e ∷ rest) ≡ weight_of_mbufs 1 (e.cluster ∷ []) ⊕ Layout.weight_of rest
 first_weight e rest = go e.cluster
   where
     go : (o : Option ℕ) → Layout.weight_of (record { size = e.size; cluster = o } ∷ rest)
-        ≡ weight_at 1 (o ∷ []) ⊕ Layout.weight_of rest
+        ≡ weight_of_mbufs 1 (o ∷ []) ⊕ Layout.weight_of rest
     go None = let one : suc (length rest) ≡ 1 + length rest = omega arith in
-        λ i. record { mbufs = one i; bag = filter_map (λ (x : Layout.Entry). x.cluster) rest }
+        λ i. record { mbufs = one i; bag = filter_map (λ (x : Layout.LayoutEntry). x.cluster) rest }
     go (Some k) = let one : suc (length rest) ≡ 1 + length rest = omega arith in
-        λ i. record { mbufs = one i; bag = k ∷ filter_map (λ (x : Layout.Entry). x.cluster) rest }
+        λ i. record { mbufs = one i; bag = k ∷ filter_map (λ (x : Layout.LayoutEntry). x.cluster) rest }
 
 -- what one of them adds
 abbrev pub met : Bool → Option ℕ → flat.Weight
-met b cluster = cond b (weight_at 1 (cluster ∷ [])) nothing
+met b cluster = cond b (weight_of_mbufs 1 (cluster ∷ [])) nothing
 
-met_next : (e : Entry) (rest : List Layout.Entry) (at a b : ℕ) (t : Bool) → nat_lt (max at a) (min (at + e.size) b) ≡ t
-    → Layout.weight_of (meets_from entry_size at (entry_of e ∷ rest) a b)
+met_next : (e : Entry) (rest : List Layout.LayoutEntry) (at a b : ℕ) (t : Bool)
+    → nat_lt (max at a) (min (at + e.size) b) ≡ t
+    → Layout.weight_of (meets_from entry_size at (plain_entry e ∷ rest) a b)
     ≡ met t e.cluster ⊕ Layout.weight_of (meets_from entry_size (at + e.size) rest a b)
 unfolding meets_from
 met_next e rest at a b true h = rw h (first_weight e (meets_from entry_size (at + e.size) rest a b))
@@ -85,9 +86,13 @@ one_piece k None = refl
 one_piece k (Some cell) = go (cell.first == k)
   where
     go : (b : Bool) → weigh (cons_option
-        (cond b (Some (record { first = cell.first; more = cell.more; weight = weight_at cell.mbufs cell.clusters }))
-        None) []) ≡ cond b (weight_at cell.mbufs cell.clusters) nothing
-    go true = both-nothing (weight_at cell.mbufs cell.clusters)
+        (cond b (Some (record {
+          first = cell.first;
+          more = cell.more;
+          weight = weight_of_mbufs cell.mbufs cell.clusters;
+        }))
+        None) []) ≡ cond b (weight_of_mbufs cell.mbufs cell.clusters) nothing
+    go true = both-nothing (weight_of_mbufs cell.mbufs cell.clusters)
     go false = refl
 
 pub pieces_none : (m : Map) → weigh (pieces_below 0 m) ≡ nothing
@@ -95,11 +100,11 @@ unfolding pieces_below
 pieces_none m = refl
 
 pub pieces_more : (cells : List (Option Cell)) (k : ℕ) (old new : flat.Weight)
-    → old ≡ weigh (pieces_below k (map_of cells)) → new ≡ old ⊕ weight_begun (slice_index_or cells k None) k
-    → new ≡ weigh (pieces_below (k + 1) (map_of cells))
+    → old ≡ weigh (pieces_below k (plain_map cells)) → new ≡ old ⊕ weight_begun (slice_index_or cells k None) k
+    → new ≡ weigh (pieces_below (k + 1) (plain_map cells))
 unfolding pieces_below
 pieces_more cells k old new was is =
-    let f : ℕ → Option Piece = λ o. piece_at o (map_of cells o) in
+    let f : ℕ → Option Piece = λ o. piece_at o (plain_map cells o) in
     let more : range_with_len 0 (k + 1) ≡ range_with_len 0 k ++ k ∷ [] =
     range_more 0 k ∙ ap (λ (j : ℕ). range_with_len 0 k ++ j ∷ []) (omega arith) in
     is
@@ -128,16 +133,17 @@ range_split a (suc n) k =
     ∙ ap (λ (j : ℕ). a ∷ (range_with_len (a + 1) n ++ range_with_len j k)) later
 
 pub pieces_all : (cells : List (Option Cell)) (k : ℕ) (w : flat.Weight) → length cells ≤ k → k ≤ 65515
-    → w ≡ weigh (pieces_below k (map_of cells)) → w ≡ Whole.weight_of_pieces (map_of cells)
+    → w ≡ weigh (pieces_below k (plain_map cells)) → w ≡ Whole.weight_of_pieces (plain_map cells)
 unfolding pieces_below
 pieces_all cells k w past small is =
-    let f : ℕ → Option Piece = λ o. piece_at o (map_of cells o) in
+    let f : ℕ → Option Piece = λ o. piece_at o (plain_map cells o) in
     let all : 65515 ≡ k + (65515 - k) = omega arith in
-    let none : (j : ℕ) → k ≤ j → map_of cells j ≡ None = λ j le. ap held_of (get_or_past cells j None (omega arith)) in
+    let none : (j : ℕ) → k ≤ j → plain_map cells j ≡ None =
+    λ j le. ap held_of (get_or_past cells j None (omega arith)) in
     is
     ∙ ap weigh (sym (append-nil (filter_map f (range_with_len 0 k)))
     ∙ ap (λ (ps : List Piece). filter_map f (range_with_len 0 k) ++ ps)
-    (sym (none_past (map_of cells) k (0 + k) (65515 - k) (omega arith) none))
+    (sym (none_past (plain_map cells) k (0 + k) (65515 - k) (omega arith) none))
     ∙ sym (filter_map-append f (range_with_len 0 k) (range_with_len (0 + k) (65515 - k)))
     ∙ ap (filter_map f) (sym (range_split 0 k (65515 - k)))
     ∙ ap (λ (j : ℕ). filter_map f (range_with_len 0 j)) (sym all))

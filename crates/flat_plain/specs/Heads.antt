@@ -2,8 +2,8 @@
 use Rattle.flat_model.specs.Packets.Header as Header
 use Rattle.flat_plain.specs.declared.headers.Head.{Head}
 
-abbrev pub head_for : Head → Header.Head
-head_for h =
+abbrev pub plain_head : Head → Header.Head
+plain_head h =
     record {
       id = h.id;
       more = h.more;

@@ -2,5 +2,5 @@
 use Rattle.flat_model.specs.Amounts.Layout as Layout
 use Rattle.flat_plain.specs.declared.needs.Buffers.{Buffers}
 
-abbrev pub need_of : Buffers → Layout.Need
-need_of n = record { mbufs = n.mbufs; clusters = n.clusters }
+abbrev pub plain_need : Buffers → Layout.Need
+plain_need n = record { mbufs = n.mbufs; clusters = n.clusters }

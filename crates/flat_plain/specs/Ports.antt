@@ -5,7 +5,7 @@ use Rattle.flat_model.specs.Machine.State.{State, boot}
 use Rattle.flat_plain.specs.declared.lookup.Pcb.{Pcb}
 use Rattle.flat_plain.specs.Blocks.{sockets_of}
 
-abbrev pub state_of : List Pcb → Option ℕ → State
-state_of blocks last =
+abbrev pub ports_state : List Pcb → Option ℕ → State
+ports_state blocks last =
     record (boot (record { addr = 0; bcast = 0; mtu = 0; mbufs = 0; clusters = 0; first_id = 0 }))
     { sockets = sockets_of blocks; last_port = last }

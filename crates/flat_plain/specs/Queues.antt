@@ -4,11 +4,11 @@ use Rattle.std.specs.Prelude.{List, map, replicate}
 use Rattle.flat_model.specs.Machine.State.{Datagram}
 use Rattle.flat_plain.specs.declared.queues.Waiting.{Waiting}
 
-abbrev pub datagram_of : Waiting → Datagram
-datagram_of w = record {
+abbrev pub plain_datagram : Waiting → Datagram
+plain_datagram w = record {
   sender = record { ip = 0; port = 0 };
   item = record { bytes = replicate w.len 0; weight = record { mbufs = w.mbufs; bag = replicate w.references 0 } };
 }
 
-abbrev pub queue_of : List Waiting → List Datagram
-queue_of queue = map datagram_of queue
+abbrev pub plain_queue : List Waiting → List Datagram
+plain_queue queue = map plain_datagram queue

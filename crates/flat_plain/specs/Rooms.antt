@@ -4,9 +4,9 @@ use Rattle.flat_model.specs.Amounts.Layout as Layout
 use Rattle.flat_plain.specs.declared.rooms.Room.{Room}
 use Rattle.flat_plain.specs.declared.rooms.Room.TheVariants.{InMbuf, InCluster}
 
-abbrev pub room_of : Room → Layout.Room
-room_of (InMbuf size) = Layout.Plain size
-room_of (InCluster size) = Layout.Cluster size
+abbrev pub plain_room : Room → Layout.Room
+plain_room (InMbuf size) = Layout.Plain size
+plain_room (InCluster size) = Layout.Cluster size
 
 abbrev pub rooms_of : List Room → List Layout.Room
-rooms_of rooms = map room_of rooms
+rooms_of rooms = map plain_room rooms

@@ -7,23 +7,24 @@ use Rattle.flat_plain.specs.declared.maps.Cell.{Cell}
 use Rattle.flat_plain.specs.declared.maps.Fragment.{Fragment}
 
 -- so many mbufs, and the clusters that are there
-abbrev pub weight_at : ℕ → List (Option ℕ) → Weight
-weight_at mbufs clusters = record { mbufs = mbufs; bag = filter_map (λ c. c) clusters }
+abbrev pub weight_of_mbufs : ℕ → List (Option ℕ) → Weight
+weight_of_mbufs mbufs clusters = record { mbufs = mbufs; bag = filter_map (λ c. c) clusters }
 
 abbrev pub held_of : Option Cell → Option Held
 held_of None = None
 held_of (Some cell) =
     Some (record {
       byte = cell.byte;
-      piece = record { first = cell.first; more = cell.more; weight = weight_at cell.mbufs cell.clusters };
+      piece = record { first = cell.first; more = cell.more; weight = weight_of_mbufs cell.mbufs cell.clusters };
     })
 
 -- nothing lies after the table's end
-abbrev pub map_of : List (Option Cell) → Map
-map_of cells offset = held_of (slice_index_or cells offset None)
+abbrev pub plain_map : List (Option Cell) → Map
+plain_map cells offset = held_of (slice_index_or cells offset None)
 
-abbrev pub fragment_of : Fragment → List ℕ → Overlay.Fragment
-fragment_of f bytes = record { offset = f.offset; bytes = bytes; more = f.more; weight = weight_at f.mbufs f.clusters }
+abbrev pub plain_fragment : Fragment → List ℕ → Overlay.Fragment
+plain_fragment f bytes =
+    record { offset = f.offset; bytes = bytes; more = f.more; weight = weight_of_mbufs f.mbufs f.clusters }
 
 -- whether more come after the piece that lies there
 abbrev pub more_of : Option Held → Bool

@@ -5,21 +5,21 @@ use Rattle.flat_model.specs.Amounts.Layout as Layout
 use Rattle.flat_plain.specs.declared.maps.Cell.{Cell}
 use Rattle.flat_plain.specs.declared.weights.Entry.{Entry}
 use Rattle.flat_plain.specs.declared.weights.Weight.{Weight}
-use Rattle.flat_plain.specs.Tables.{weight_at}
+use Rattle.flat_plain.specs.Tables.{weight_of_mbufs}
 
-abbrev pub weight_of : Weight → flat.Weight
-weight_of w = record { mbufs = w.mbufs; bag = w.bag.items }
+abbrev pub plain_weight : Weight → flat.Weight
+plain_weight w = record { mbufs = w.mbufs; bag = w.bag.items }
 
-abbrev pub entry_of : Entry → Layout.Entry
-entry_of e = record { size = e.size; cluster = e.cluster }
+abbrev pub plain_entry : Entry → Layout.LayoutEntry
+plain_entry e = record { size = e.size; cluster = e.cluster }
 
-abbrev pub entries_of : List Entry → List Layout.Entry
-entries_of entries = map entry_of entries
+abbrev pub entries_of : List Entry → List Layout.LayoutEntry
+entries_of entries = map plain_entry entries
 
-abbrev pub entry_size : Layout.Entry → ℕ
+abbrev pub entry_size : Layout.LayoutEntry → ℕ
 entry_size e = e.size
 
 -- the weight of the piece that lies there, where it begins at k
 abbrev pub weight_begun : Option Cell → ℕ → flat.Weight
 weight_begun None k = flat.nothing
-weight_begun (Some cell) k = if cell.first == k then weight_at cell.mbufs cell.clusters else flat.nothing
+weight_begun (Some cell) k = if cell.first == k then weight_of_mbufs cell.mbufs cell.clusters else flat.nothing

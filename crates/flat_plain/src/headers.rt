@@ -1,7 +1,7 @@
 //! The bytes of a packet, and what its header says.
 ghost use Rattle.std.specs.Prelude.{◌≡◌, ◌+◌, ◌*◌, ◌<◌, ◌≤◌, ◌++◌, length, take, drop, IfOk};
 ghost use Rattle.flat_model.specs.Packets.Header as Header;
-ghost use Rattle.flat_plain.specs.Heads.{head_for};
+ghost use Rattle.flat_plain.specs.Heads.{plain_head};
 
 use crate::sums::checksum;
 use byteorder::{BigEndian, ByteOrder};
@@ -45,7 +45,7 @@ fn u32_at(bytes: &[u8], at: usize) -> u32
 /// What the header of a packet of 20 bytes or more says.
 pub fn head_of(bytes: &[u8]) -> Head
     requires { IP_HEADER ≤ length bytes.now }
-    ensures { head_for result ≡ Header.head_of bytes.now }
+    ensures { plain_head result ≡ Header.head_of bytes.now }
 {
     let flags = u16_at(bytes, 6);
     Head {
@@ -107,7 +107,7 @@ fn put_u32(bytes: &mut [u8], at: usize, n: u32)
 fn header(head: Head, n: u16, sum: u16) -> [u8; 20]
     requires total { n ≤ IP_MAX_DATA }
     requires offset { head.offset ≤ 65528 }
-    ensures { result ≡ Header.front_bytes (head_for head) n
+    ensures { result ≡ Header.front_bytes (plain_head head) n
         ++ Header.two_bytes sum ++ Header.address_bytes head.source head.destination }
 {
     let flags = if head.more { 8192 } else { 0 } + (head.offset / 8) as u16;
@@ -129,7 +129,7 @@ fn header(head: Head, n: u16, sum: u16) -> [u8; 20]
 pub fn packet(alloc: Global, head: Head, carried: &[u8]) -> Result<Vec<u8>, AllocError>
     requires total { length carried.now ≤ IP_MAX_DATA }
     requires offset { head.offset ≤ 65528 }
-    ensures { IfOk result (λ v. v.items ≡ Header.packet (head_for head) carried.now) }
+    ensures { IfOk result (λ v. v.items ≡ Header.packet (plain_head head) carried.now) }
 {
     let n = carried.len() as u16;
     let blank = header(head, n, 0);

@@ -3,7 +3,7 @@ ghost use Rattle.std.specs.Prelude.{◌≡◌, ℕ, ◌+◌, ◌<◌, ◌≤◌,
 ghost use Rattle.std.specs.List.{range_with_len};
 ghost use Rattle.flat_model.specs.Fragments.Overlay as Overlay;
 ghost use Rattle.flat_model.specs.Fragments.Whole.{IsWhole};
-ghost use Rattle.flat_plain.specs.Tables.{map_of, held_of, fragment_of, more_of};
+ghost use Rattle.flat_plain.specs.Tables.{plain_map, held_of, plain_fragment, more_of};
 
 /// What lies at an offset, and the piece that brought it.
 #[derive(Clone, Copy, Debug, PartialEq, Eq)]
@@ -35,7 +35,7 @@ fn staying(cells: &[Option<Cell>], offset: u32, at: u32, n: u32) -> u32
     requires inside { at + n ≤ length cells.now }
     requires small { length cells.now ≤ 65536 }
     ensures number { result ≡
-        count_by (λ k. Overlay.stays offset (map_of cells.now k)) (range_with_len at n) }
+        count_by (λ k. Overlay.stays offset (plain_map cells.now k)) (range_with_len at n) }
     ensures most { result ≤ n }
 {
     if n == 0 {
@@ -67,7 +67,7 @@ fn is_within(fragment: Fragment, bytes: &[u8], k: u32) -> bool
     requires small { length bytes.now ≤ 65536 }
     requires offset { fragment.offset ≤ 65536 }
     ensures { result ≡ Overlay.is_within
-        (fragment_of fragment bytes.now) k }
+        (plain_fragment fragment bytes.now) k }
 {
     fragment.offset <= k && k < fragment.offset + bytes.len() as u32
 }
@@ -84,9 +84,9 @@ fn laid(old: Option<Cell>, k: u32, fragment: Fragment, first: u32, bytes: &[u8])
     requires small { length bytes.now ≤ 65536 }
     requires offset { fragment.offset ≤ 65536 }
     ensures { (map : Overlay.Map) → map k ≡ held_of old →
-        Overlay.first_owned map (fragment_of fragment bytes.now) ≡ first →
+        Overlay.first_owned map (plain_fragment fragment bytes.now) ≡ first →
         held_of result
-        ≡ Overlay.overlay map (fragment_of fragment bytes.now) k }
+        ≡ Overlay.overlay map (plain_fragment fragment bytes.now) k }
 {
     let after = fragment.offset + bytes.len() as u32;
     let within = is_within(fragment, bytes, k);
@@ -140,7 +140,7 @@ pub fn is_covered(cells: &[Option<Cell>], fragment: Fragment, bytes: &[u8]) -> b
     requires small { length cells.now ≤ 65536 }
     requires inside { fragment.offset + length bytes.now ≤ length cells.now }
     ensures { result
-        ≡ Overlay.is_covered (map_of cells.now) (fragment_of fragment bytes.now) }
+        ≡ Overlay.is_covered (plain_map cells.now) (plain_fragment fragment bytes.now) }
 {
     first_owned(cells, fragment, bytes) >= fragment.offset + bytes.len() as u32
 }
@@ -150,7 +150,7 @@ fn first_owned(cells: &[Option<Cell>], fragment: Fragment, bytes: &[u8]) -> u32
     requires small { length cells.now ≤ 65536 }
     requires inside { fragment.offset + length bytes.now ≤ length cells.now }
     ensures { result
-        ≡ Overlay.first_owned (map_of cells.now) (fragment_of fragment bytes.now) }
+        ≡ Overlay.first_owned (plain_map cells.now) (plain_fragment fragment bytes.now) }
 {
     fragment.offset + staying(cells, fragment.offset, fragment.offset, bytes.len() as u32)
 }
@@ -159,8 +159,8 @@ fn first_owned(cells: &[Option<Cell>], fragment: Fragment, bytes: &[u8]) -> u32
 pub fn overlay(cells: &mut [Option<Cell>], fragment: Fragment, bytes: &[u8])
     requires small { length cells.old ≤ 65536 }
     requires inside { fragment.offset + length bytes.now ≤ length cells.old }
-    ensures { (k : ℕ) → map_of cells.new k ≡
-        Overlay.overlay (map_of cells.old) (fragment_of fragment bytes.now) k }
+    ensures { (k : ℕ) → plain_map cells.new k ≡
+        Overlay.overlay (plain_map cells.old) (plain_fragment fragment bytes.now) k }
 {
     let first = first_owned(cells, fragment, bytes);
     for k in 0..cells.len() {
@@ -171,8 +171,8 @@ pub fn overlay(cells: &mut [Option<Cell>], fragment: Fragment, bytes: &[u8])
 /// How many places in front have a byte.
 fn front_len(cells: &[Option<Cell>]) -> usize
     ensures within { result ≤ length cells.now }
-    ensures filled { (k : ℕ) → k < result → IsSome (map_of cells.now k) }
-    ensures gap { map_of cells.now result ≡ None }
+    ensures filled { (k : ℕ) → k < result → IsSome (plain_map cells.now k) }
+    ensures gap { plain_map cells.now result ≡ None }
 {
     for k in 0..cells.len() {
         if cells[k].is_none() {
@@ -185,8 +185,8 @@ fn front_len(cells: &[Option<Cell>]) -> usize
 /// Whether no place from this one on has a byte.
 fn is_empty_from(cells: &[Option<Cell>], n: usize) -> bool
     requires { n ≤ length cells.now }
-    ensures yes { result ≡ true → (k : ℕ) → n ≤ k → map_of cells.now k ≡ None }
-    ensures no { result ≡ false → (k : ℕ) × (n ≤ k) × IsSome (map_of cells.now k) }
+    ensures yes { result ≡ true → (k : ℕ) → n ≤ k → plain_map cells.now k ≡ None }
+    ensures no { result ≡ false → (k : ℕ) × (n ≤ k) × IsSome (plain_map cells.now k) }
 {
     for k in n..cells.len() {
         if cells[k].is_some() {
@@ -208,8 +208,8 @@ fn has_more(cell: Option<Cell>) -> bool
 
 /// The length of the datagram where the table has all of it.
 pub fn whole(cells: &[Option<Cell>]) -> Option<usize>
-    ensures some { IfSome result (λ n. IsWhole (map_of cells.now) n) }
-    ensures none { IfNone result ((n : ℕ) → ¬ IsWhole (map_of cells.now) n) }
+    ensures some { IfSome result (λ n. IsWhole (plain_map cells.now) n) }
+    ensures none { IfNone result ((n : ℕ) → ¬ IsWhole (plain_map cells.now) n) }
 {
     let n = front_len(cells);
     if n == 0 {

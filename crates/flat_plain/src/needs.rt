@@ -3,7 +3,7 @@ ghost use Rattle.std.specs.Prelude.{◌≡◌, ◌+◌, ◌*◌, ◌^◌, ◌≤
 ghost use Rattle.flat_model.specs.Amounts.Layout as Layout;
 ghost use Rattle.flat_plain.specs.Rooms.{rooms_of};
 ghost use Rattle.flat_plain.specs.Parts.{part_of};
-ghost use Rattle.flat_plain.specs.Needs.{need_of};
+ghost use Rattle.flat_plain.specs.Needs.{plain_need};
 
 use crate::parts::{Part, cuts};
 use crate::rooms::{Room, meets, sent};
@@ -55,7 +55,7 @@ pub fn need(alloc: Global, n: u32, mtu: u32) -> Result<Buffers, AllocError>
     requires short { n ≤ UDP_MAX_DATA }
     requires least { IP_HEADER + FRAGMENT_UNIT ≤ mtu }
     requires greatest { mtu ≤ IP_MAX_PACKET }
-    ensures { IfOk result (λ r. need_of r ≡ Layout.need n mtu) }
+    ensures { IfOk result (λ r. plain_need r ≡ Layout.need n mtu) }
 {
     let rooms = sent(alloc, n)?;
     let parts = cuts(alloc, UDP_HEADER + n, mtu)?;
@@ -72,7 +72,7 @@ pub fn need(alloc: Global, n: u32, mtu: u32) -> Result<Buffers, AllocError>
 /// What a send of n bytes to the broadcast address takes. `AllocError` where the host refuses memory to lay it out in.
 pub fn need_bcast(alloc: Global, n: u32) -> Result<Buffers, AllocError>
     requires { n ≤ UDP_MAX_DATA }
-    ensures { IfOk result (λ r. need_of r ≡ Layout.need_bcast n) }
+    ensures { IfOk result (λ r. plain_need r ≡ Layout.need_bcast n) }
 {
     let rooms = sent(alloc, n)?;
     Ok(Buffers {

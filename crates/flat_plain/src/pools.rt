@@ -4,7 +4,7 @@ ghost use Rattle.flat_model.specs.Machine.Ledger.{usage_of, weight_of_state};
 ghost use Rattle.flat_model.specs.Machine.State.{State};
 ghost use Rattle.flat_model.specs.Amounts.Weight.{SameWeight, times};
 ghost use Rattle.params.specs.declared.TheConstants.{MAX_CLUSTERS};
-ghost use Rattle.flat_plain.specs.Weights.{weight_of};
+ghost use Rattle.flat_plain.specs.Weights.{plain_weight};
 
 use crate::weights::Weight;
 use flat_model::Mbstat;
@@ -23,7 +23,7 @@ pub fn usage(mbufs: u32, clusters: u32, held: &Weight) -> Mbstat
     requires clusters { clusters ≤ MAX_CLUSTERS }
     requires bag { length held.now.bag.items ≤ 65536 }
     ensures { (s : State) → s.config.mbufs ≡ mbufs → s.config.clusters ≡ clusters →
-        SameWeight (weight_of_state s) (weight_of held.now) → usage_of s ≡ result }
+        SameWeight (weight_of_state s) (plain_weight held.now) → usage_of s ≡ result }
 {
     let bag = held.bag.as_slice();
     let mut free_clusters = 0u32;

@@ -2,7 +2,7 @@
 ghost use Rattle.std.specs.Prelude.{◌≡◌, ℕ, ◌<◌, ◌≤◌, true, IfNone, IfSome};
 ghost use Rattle.std.specs.Option.{ForSome};
 ghost use Rattle.flat_model.specs.Machine.Calls as Calls;
-ghost use Rattle.flat_plain.specs.Ports.{state_of};
+ghost use Rattle.flat_plain.specs.Ports.{ports_state};
 
 use crate::lookup::{Pcb, best};
 use flat_model::LookupKey;
@@ -13,7 +13,7 @@ const CIRCLE: u16 = LAST_EPHEMERAL_PORT - FIRST_EPHEMERAL_PORT + 1;
 
 /// Whether a lookup with wildcards finds a socket with this local address and port.
 fn is_in_use(pcbs: &[Pcb], last: Option<u16>, local: Option<u32>, port: u16) -> bool
-    ensures { result ≡ Calls.is_in_use (state_of pcbs.now last) local port }
+    ensures { result ≡ Calls.is_in_use (ports_state pcbs.now last) local port }
 {
     best(
         LookupKey {
@@ -44,9 +44,9 @@ fn port_after(last: Option<u16>, k: u16) -> u16
 pub fn next_port(pcbs: &[Pcb], last: Option<u16>, local: Option<u32>) -> Option<u16>
     requires known { ForSome last (λ p. FIRST_EPHEMERAL_PORT ≤ p) }
     requires small { ForSome last (λ p. p ≤ LAST_EPHEMERAL_PORT) }
-    ensures found { IfSome result (λ port. Calls.IsNextPort (state_of pcbs.now last) local port) }
+    ensures found { IfSome result (λ port. Calls.IsNextPort (ports_state pcbs.now last) local port) }
     ensures none { IfNone result ((k : ℕ) → k < CIRCLE →
-        Calls.is_in_use (state_of pcbs.now last) local (Calls.port_after last k) ≡ true) }
+        Calls.is_in_use (ports_state pcbs.now last) local (Calls.port_after last k) ≡ true) }
 {
     for k in 0..CIRCLE {
         let port = port_after(last, k);

@@ -1,7 +1,7 @@
 //! How much a receive queue takes.
 ghost use Rattle.std.specs.Prelude.{◌≡◌, ◌*◌, ◌≤◌, length};
 ghost use Rattle.flat_model.specs.Sockets.Fits as Fits;
-ghost use Rattle.flat_plain.specs.Queues.{queue_of};
+ghost use Rattle.flat_plain.specs.Queues.{plain_queue};
 
 use params::{MCLBYTES, MSIZE, SOCKADDR_BYTES, UDP_RECEIVE_MEMORY, UDP_RECEIVE_SPACE};
 
@@ -18,7 +18,7 @@ pub struct Waiting {
 
 fn bytes_queued(queue: &[Waiting]) -> u64
     requires { length queue.now ≤ 65536 }
-    ensures value { result ≡ Fits.bytes_queued (queue_of queue.now) }
+    ensures value { result ≡ Fits.bytes_queued (plain_queue queue.now) }
     ensures most { result ≤ 65551 * length queue.now }
 {
     match queue {
@@ -29,7 +29,7 @@ fn bytes_queued(queue: &[Waiting]) -> u64
 
 fn memory_queued(queue: &[Waiting]) -> u64
     requires { length queue.now ≤ 65536 }
-    ensures value { result ≡ Fits.memory_queued (queue_of queue.now) }
+    ensures value { result ≡ Fits.memory_queued (plain_queue queue.now) }
     ensures most { result ≤ 150000000 * length queue.now }
 {
     match queue {
@@ -43,7 +43,7 @@ fn memory_queued(queue: &[Waiting]) -> u64
 /// Whether a datagram of n bytes fits into the queue.
 pub fn fits(queue: &[Waiting], n: u16) -> bool
     requires { length queue.now ≤ 65536 }
-    ensures { result ≡ Fits.fits (queue_of queue.now) n }
+    ensures { result ≡ Fits.fits (plain_queue queue.now) n }
 {
     let added = SOCKADDR_BYTES as u64 + n as u64;
     added + bytes_queued(queue) <= UDP_RECEIVE_SPACE as u64

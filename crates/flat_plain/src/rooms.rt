@@ -2,7 +2,7 @@
 ghost use Rattle.std.specs.Prelude.{◌≡◌, ◌+◌, ◌*◌, ◌^◌, ◌<◌, ◌≤◌, ◌++◌, length, map, OnOk, IfOk, vec_len};
 ghost use Rattle.flat_model.specs.Amounts.Layout.{filled, next_room, meets_from, size_of};
 ghost use Rattle.flat_model.specs.Amounts.Layout as Layout;
-ghost use Rattle.flat_plain.specs.Rooms.{room_of, rooms_of};
+ghost use Rattle.flat_plain.specs.Rooms.{plain_room, rooms_of};
 
 use params::{
     CLUSTER_LEADING_SPACE, IP_UDP_HEADERS, MCLBYTES, MHLEN, MINCLSIZE, MLEN, UDP_MAX_DATA,
@@ -21,7 +21,7 @@ pub enum Room {
 impl Room {
     /// The bytes in it.
     pub fn size(self) -> u32
-        ensures { result ≡ size_of (room_of self) }
+        ensures { result ≡ size_of (plain_room self) }
     {
         match self {
             Room::InMbuf(size) | Room::InCluster(size) => size,
@@ -30,7 +30,7 @@ impl Room {
 
     /// Whether it refers to a cluster.
     pub fn is_cluster(self) -> bool
-        ensures { result ≡ Layout.is_cluster (room_of self) }
+        ensures { result ≡ Layout.is_cluster (plain_room self) }
     {
         match self {
             Room::InMbuf(_) => false,
@@ -40,7 +40,7 @@ impl Room {
 }
 
 fn next(large: u32, small: u32, left: u32) -> Room
-    ensures { room_of result ≡ next_room large small left }
+    ensures { plain_room result ≡ next_room large small left }
 {
     if left < MINCLSIZE {
         Room::InMbuf(left.min(small))

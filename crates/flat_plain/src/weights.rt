@@ -6,8 +6,8 @@ ghost use Rattle.flat_model.specs.Machine.Sending as Sending;
 ghost use Rattle.flat_model.specs.Amounts.Weight.{◌⊕◌};
 ghost use Rattle.flat_model.specs.Fragments.Whole as Whole;
 ghost use Rattle.flat_plain.specs.Parts.{part_of};
-ghost use Rattle.flat_plain.specs.Tables.{map_of, weight_at};
-ghost use Rattle.flat_plain.specs.Weights.{entries_of, entry_size, weight_begun, weight_of};
+ghost use Rattle.flat_plain.specs.Tables.{plain_map, weight_of_mbufs};
+ghost use Rattle.flat_plain.specs.Weights.{entries_of, entry_size, weight_begun, plain_weight};
 
 use crate::maps::Cell;
 use crate::parts::Part;
@@ -42,8 +42,8 @@ fn add_met(
 ) -> Result<(), AllocError>
     requires short { at + 2 ^ 32 * length entries.now < 2 ^ 63 }
     requires few { weight.old.mbufs + length entries.now < 2 ^ 63 }
-    ensures { OnOk result (weight_of weight.new
-        ≡ weight_of weight.old ⊕ Layout.weight_of (Layout.meets_from entry_size at (entries_of entries.now) a b)) }
+    ensures { OnOk result (plain_weight weight.new
+        ≡ plain_weight weight.old ⊕ Layout.weight_of (Layout.meets_from entry_size at (entries_of entries.now) a b)) }
 {
     match entries {
         [] => Ok(()),
@@ -61,7 +61,7 @@ fn add_met(
 /// Adds so many mbufs, and the clusters that are there.
 fn add(weight: &mut Weight, mbufs: u32, clusters: &[Option<u32>]) -> Result<(), AllocError>
     requires { weight.old.mbufs + mbufs < 2 ^ 64 }
-    ensures { OnOk result (weight_of weight.new ≡ weight_of weight.old ⊕ weight_at mbufs clusters.now) }
+    ensures { OnOk result (plain_weight weight.new ≡ plain_weight weight.old ⊕ weight_of_mbufs mbufs clusters.now) }
 {
     weight.mbufs += mbufs as u64;
     add_clusters(&mut weight.bag, clusters)?;
@@ -87,7 +87,7 @@ fn add_clusters(bag: &mut Vec<u32>, clusters: &[Option<u32>]) -> Result<(), Allo
 /// refuses memory for the numbers of its clusters.
 pub fn later_weight(alloc: Global, entries: &[Entry], part: Part) -> Result<Weight, AllocError>
     requires { length entries.now ≤ 65536 }
-    ensures { IfOk result (λ w. weight_of w ≡ Sending.later_weight (entries_of entries.now) (part_of part)) }
+    ensures { IfOk result (λ w. plain_weight w ≡ Sending.later_weight (entries_of entries.now) (part_of part)) }
 {
     let mut weight = Weight {
         mbufs: 1,
@@ -102,7 +102,7 @@ pub fn later_weight(alloc: Global, entries: &[Entry], part: Part) -> Result<Weig
 /// The weight of a fragment in a cluster, of so many bytes with its header, once it was pulled up.
 pub fn pulled_up(total: u32, weight: Weight) -> Weight
     requires { weight.mbufs < 2 ^ 63 }
-    ensures { weight_of result ≡ Arrival.pulled_up total (weight_of weight) }
+    ensures { plain_weight result ≡ Arrival.pulled_up total (plain_weight weight) }
 {
     let mut weight = weight;
     if MAX_PROTOCOL_HEADER < total {
@@ -117,7 +117,7 @@ pub fn pulled_up(total: u32, weight: Weight) -> Weight
 /// numbers of their clusters.
 pub fn weight_of_pieces(alloc: Global, cells: &[Option<Cell>]) -> Result<Weight, AllocError>
     requires { length cells.now ≤ IP_MAX_DATA }
-    ensures { IfOk result (λ w. weight_of w ≡ Whole.weight_of_pieces (map_of cells.now)) }
+    ensures { IfOk result (λ w. plain_weight w ≡ Whole.weight_of_pieces (plain_map cells.now)) }
 {
     let mut weight = Weight {
         mbufs: 0,
@@ -132,7 +132,7 @@ pub fn weight_of_pieces(alloc: Global, cells: &[Option<Cell>]) -> Result<Weight,
 /// Adds the piece that lies at k, where it begins there.
 fn add_piece(weight: &mut Weight, cell: Option<Cell>, k: u32) -> Result<(), AllocError>
     requires { weight.old.mbufs < 2 ^ 63 }
-    ensures weight { OnOk result (weight_of weight.new ≡ weight_of weight.old ⊕ weight_begun cell k) }
+    ensures weight { OnOk result (plain_weight weight.new ≡ plain_weight weight.old ⊕ weight_begun cell k) }
     ensures most { OnOk result (weight.new.mbufs < weight.old.mbufs + 2 ^ 32) }
 {
     if let Some(cell) = cell {

@@ -43,7 +43,7 @@ module _ (M : Ledger) where
   pub record IsClosed (K : State → Type 0) : Type 0 where
     pub ended : (why : Why) (s : State) → K s → K (ends why s)
     pub dropped : (s : State) → K s → K (reclaimed s)
-    pub queued : (fd : ℕ) (d : Datagram) (s : State) → K s → K (change_socket fd (Arrival.queued d) s)
+    pub queued : (fd : ℕ) (d : Datagram) (s : State) → K s → K (change_socket fd (Arrival.with_datagram d) s)
     pub begins : (k : Key) (s : State) → K s → K (begin_unfinished k s)
     pub sets : (k : Key) (bytes : Map) (s : State) → K s → K (set_bytes k bytes s)
     pub finishes : (k : Key) (s : State) → K s → K (Arrival.counts_reassembled (end_unfinished k s))
@@ -97,7 +97,8 @@ module _ (M : Ledger) where
     kept_settles : (held : Weight) (key : Key) (bytes : Map) (old new : State) → K old
         → Arrival.Settles M held key bytes old new → K new
     kept_settles held key bytes old new k (inl (n, w, joined, j, a)) =
-        kept_whole held key.source key.destination key.protocol (record { bytes = bytes_below bytes n; weight = joined })
+        kept_whole held key.source key.destination key.protocol
+        (record { bytes = bytes_below bytes n; weight = joined })
         _ new (closed.finishes key old k) a
     kept_settles held key bytes old new k (inr (unwhole, e)) = subst K (sym e) (closed.sets key bytes old k)
 

@@ -15,7 +15,7 @@ use Rattle.flat_model.specs.declared.counter.Counter.TheVariants.{IpLocalout}
 use Rattle.flat_model.specs.Machine.State.{IsConfig, State, Socket, Datagram, loopback, limited_broadcast, socket_at, change_socket}
 use Rattle.flat_model.specs.declared.config.Config.{Config}
 use Rattle.flat_model.specs.Machine.Calls as Calls
-use Rattle.flat_model.specs.Machine.Calls.{Refuses, OnSocket, GetsPort, port_after, unless_zero, is_ours, disconnected, set_option, source_for, fresh, read_address, read_addr}
+use Rattle.flat_model.specs.Machine.Calls.{Refuses, OnSocket, GetsPort, port_after, unless_zero, is_ours, disconnected, set_option, source_for, new_socket, read_address, read_addr}
 use Rattle.flat_model.specs.Machine.Ledger.{Ledger}
 use Rattle.flat_model.specs.Machine.Arrival as Arrival
 use Rattle.flat_model.specs.Machine.Step.{ComesIn}
@@ -68,7 +68,13 @@ module _ (M : Ledger) (c : Config) (out : List Item) (next count : ℕ) (boots :
     begins =
         λ key s k. record { config = k.config; output = k.output; id = k.id; sends = k.sends; sockets = k.sockets };
     sets =
-        λ key bytes s k. record { config = k.config; output = k.output; id = k.id; sends = k.sends; sockets = k.sockets };
+        λ key bytes s k. record {
+          config = k.config;
+          output = k.output;
+          id = k.id;
+          sends = k.sends;
+          sockets = k.sockets;
+        };
     finishes =
         λ key s k. record { config = k.config; output = k.output; id = k.id; sends = k.sends; sockets = k.sockets };
     fragment = λ s k. record { config = k.config; output = k.output; id = k.id; sends = k.sends; sockets = k.sockets };
@@ -76,7 +82,7 @@ module _ (M : Ledger) (c : Config) (out : List Item) (next count : ℕ) (boots :
   }
     where
       go : (fd : ℕ) (d : Datagram) (socket : Socket) → IsSound socket → (b : Bool)
-          → IsSound (cond b (Arrival.queued d socket) socket)
+          → IsSound (cond b (Arrival.with_datagram d socket) socket)
       go fd d socket g true = record { local = g.local; port = g.port; peer = g.peer }
       go fd d socket g false = g
 

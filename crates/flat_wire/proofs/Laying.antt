@@ -9,7 +9,7 @@ use Rattle.std.proofs.lemmas.Option.{none-some, same_Some}
 use Rattle.std.proofs.lemmas.Bool.{cases_lt, cases_order, leb-true, ltb-true, le-leb, le-ltb, cond-true, cond-false, and_parts, and_left, and_right}
 use Rattle.flat_model.specs.Fragments.Cuts.{part}
 use Rattle.flat_model.specs.Fragments.Overlay.{Held, Map, Fragment, fragment_end, stays, first_owned, brought, cut_back, is_within, lies, overlay}
-use Rattle.flat_model.specs.Runs.Laws.{bytes_of}
+use Rattle.flat_model.specs.Runs.Laws.{bytes_of_part}
 use Rattle.flat_wire.proofs.Maps.{overlay_keeps, overlay_brings}
 
 -- where the i-th part of n bytes ends
@@ -25,7 +25,7 @@ pub record IsIn (n c i offset : ℕ) : Type 0 where
 pub record IsCut (s : List ℕ) (c : ℕ) (f : Fragment) (i : ℕ) : Type 0 where
   pub inside : i * c < length s
   pub offset : f.offset ≡ i * c
-  pub bytes : f.bytes ≡ bytes_of s (part (length s) c i)
+  pub bytes : f.bytes ≡ bytes_of_part s (part (length s) c i)
   pub more : f.more ≡ nat_lt ((i + 1) * c) (length s)
 
 -- chunks don't overlap

@@ -9,8 +9,8 @@ use Rattle.std.proofs.lemmas.Bool.{cases_order, cases_lt, ltb-false, le-ltb}
 use Rattle.flat_model.specs.Fragments.Cuts.{Part, part, chunks, cuts}
 use Rattle.flat_model.specs.Fragments.Overlay.{Held, Fragment}
 use Rattle.flat_model.specs.Fragments.Whole.{IsWhole}
-use Rattle.flat_model.specs.Runs.Laws.{bytes_of}
-use Rattle.flat_wire.specs.Overlays.{IsFragmentOf, laid, IsLaid, OverlayOrder}
+use Rattle.flat_model.specs.Runs.Laws.{bytes_of_part}
+use Rattle.flat_wire.specs.Overlays.{IsFragmentOf, laid, IsPartLaid, OverlayOrder}
 use Rattle.flat_model.proofs.Laws.{chunks_needed, chunks_enough, grid, length-grid, get_or-grid}
 use Rattle.flat_wire.proofs.Grid.{cuts_grid, index_of}
 use Rattle.flat_wire.proofs.Laying.{IsCut, IsIn, IsOf, IsMade, same_index, laying_step}
@@ -171,10 +171,10 @@ overlay_order_lem s mtu fragments any low each =
       whole = (
         λ w p is.
             let at = index_of (length s) c p g.1 (subst (λ (ps : List Part). Contains ps p) g.2 is) in
-            subst (λ (q : Part). IsLaid fragments q) (sym at.2)
+            subst (λ (q : Part). IsPartLaid fragments q) (sym at.2)
             (any_from_index c at.0 fragments (each_laid s c g.1 any fragments made w at.0 at.1)),
         λ all. whole_from s c g.1 any fragments made (λ i l.
-            let on : IsLaid fragments (part (length s) c i) =
+            let on : IsPartLaid fragments (part (length s) c i) =
             all (part (length s) c i) (subst (λ (ps : List Part). Contains ps (part (length s) c i)) (sym g.2)
             (in_grid c i l)) in
             index_from_any c i fragments on.0 on.1 on.2 on.3 on.4),
@@ -182,7 +182,7 @@ overlay_order_lem s mtu fragments any low each =
       length = ends_at_length s c g.1 any fragments made;
     }
   where
-    laid_index : (c : ℕ) (p : Part) (i : ℕ) → p ≡ part (length s) c i → IsLaid fragments p → Index c fragments i
+    laid_index : (c : ℕ) (p : Part) (i : ℕ) → p ≡ part (length s) c i → IsPartLaid fragments p → Index c fragments i
     laid_index c p i e on = index_from_any c i fragments on.0 on.1 on.2 on.3 (on.4 ∙ ap (λ (q : Part). q.offset) e)
 
     place_of : (c : ℕ) (p : Part) (i offset : ℕ) → p ≡ part (length s) c i → p.offset ≤ offset
@@ -209,7 +209,7 @@ overlay_order_lem s mtu fragments any low each =
           record {
             inside = chunks_needed (length s) c at.0 some at.1;
             offset = is.offset ∙ ap (λ (p : Part). p.offset) at.2;
-            bytes = is.bytes ∙ ap (bytes_of s) at.2;
+            bytes = is.bytes ∙ ap (bytes_of_part s) at.2;
             more = is.more ∙ ap (λ (p : Part). p.more) at.2;
           },
         )

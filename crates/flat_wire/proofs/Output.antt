@@ -8,7 +8,7 @@ use Rattle.std.proofs.lemmas.List.Elements.{All-contains_itself, recursion_from_
 use Rattle.std.proofs.lemmas.Bool.{lt-ltb, cases_lt}
 use Rattle.params.specs.declared.TheConstants.{OUTPUT_QUEUE_PACKETS}
 use Rattle.flat_model.specs.Amounts.Weight.{Item}
-use Rattle.flat_model.specs.Amounts.Layout.{Entry}
+use Rattle.flat_model.specs.Amounts.Layout.{LayoutEntry}
 use Rattle.flat_model.specs.Fragments.Cuts.{Part, part, chunks, cuts}
 use Rattle.flat_model.specs.Machine.Sending.{items, later_weight}
 use Rattle.flat_model.proofs.Laws.{each-append, each-map_to, each-both, each-take, chunks_needed, chunks_enough}
@@ -17,7 +17,7 @@ use Rattle.flat_wire.proofs.Grid.{cuts_grid}
 abbrev pub all_bytes : List Item → List (List ℕ)
 all_bytes xs = map (λ (item : Item). item.bytes) xs
 
-pub bytes_of_packets : (entries : List Entry) (f : Part → List ℕ) (parts : List Part)
+pub bytes_of_packets : (entries : List LayoutEntry) (f : Part → List ℕ) (parts : List Part)
     → all_bytes (items entries f parts) ≡ map f parts
 bytes_of_packets entries f [] = refl
 bytes_of_packets entries f (p ∷ later) = ap (λ rest. f p ∷ rest) (go later)

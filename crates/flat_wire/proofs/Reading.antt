@@ -7,7 +7,7 @@ use Rattle.flat_model.specs.Fragments.Cuts.{Part, cuts}
 use Rattle.flat_model.specs.Packets.Header.{head_of, total_of}
 use Rattle.flat_model.specs.Fragments.Overlay.{Fragment, fragment_end}
 use Rattle.flat_model.specs.Amounts.Weight.{nothing}
-use Rattle.flat_model.specs.Runs.Laws.{bytes_of}
+use Rattle.flat_model.specs.Runs.Laws.{bytes_of_part}
 use Rattle.flat_model.specs.Machine.State.{loopback, limited_broadcast}
 use Rattle.flat_model.specs.declared.config.Config.{Config}
 use Rattle.flat_model.specs.Machine.Calls.{is_ours}
@@ -24,7 +24,7 @@ module _ (mtu : ℕ) (low : 28 ≤ mtu) (x : Sending) (p : Part) (is : IsSendabl
   size_of_datagram : length (datagram x) ≡ 8 + length x.bytes
   size_of_datagram = length-udp x.source x.to.ip x.port x.to.port x.bytes
 
-  is_head : IsHead (head_for x p) (length (bytes_of (datagram x) p))
+  is_head : IsHead (head_for x p) (length (bytes_of_part (datagram x) p))
   is_head = record {
     id = is.id;
     steps = part_steps (length (datagram x)) mtu p low in_cuts;
@@ -45,16 +45,16 @@ module _ (mtu : ℕ) (low : 28 ≤ mtu) (x : Sending) (p : Part) (is : IsSendabl
   }
 
   pub read_head : head_of (packet_for x p) ≡ head_for x p
-  read_head = head_read (head_for x p) (bytes_of (datagram x) p) is_head
+  read_head = head_read (head_for x p) (bytes_of_part (datagram x) p) is_head
 
-  pub read_carried : drop 20 (take (total_of (packet_for x p)) (packet_for x p)) ≡ bytes_of (datagram x) p
-  read_carried = carried_read (head_for x p) (bytes_of (datagram x) p)
+  pub read_carried : drop 20 (take (total_of (packet_for x p)) (packet_for x p)) ≡ bytes_of_part (datagram x) p
+  read_carried = carried_read (head_for x p) (bytes_of_part (datagram x) p)
 
   -- a part that is no fragment is the whole
-  pub read_whole : p.offset ≡ 0 → p.more ≡ false → bytes_of (datagram x) p ≡ datagram x
+  pub read_whole : p.offset ≡ 0 → p.more ≡ false → bytes_of_part (datagram x) p ≡ datagram x
   read_whole first last =
       let f : Fragment =
-      record { offset = p.offset; bytes = bytes_of (datagram x) p; more = p.more; weight = nothing } in
+      record { offset = p.offset; bytes = bytes_of_part (datagram x) p; more = p.more; weight = nothing } in
       let s : IsStretch (datagram x) f =
       part_is_stretch (datagram x) mtu p f (omega (arith, size_of_datagram)) low in_cuts refl refl refl in
       let all : fragment_end f ≡ length (datagram x) = s.last last in

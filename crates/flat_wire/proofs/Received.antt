@@ -103,7 +103,8 @@ received_law_lem L M first second sent before after s t fd most sender bytes w f
       bytes_are = was.bytes_are;
       to = law.0;
       answered =
-          subst (λ (a : Addr). IsAnswered L first sent s a.port law.0 was.datagram.item.bytes) (sym was.sender_is) law.1;
+          subst (λ (a : Addr). IsAnswered L first sent s a.port law.0 was.datagram.item.bytes) (sym was.sender_is)
+          law.1;
       here = law.3;
       then' = old;
       leads = parts.1;

@@ -18,7 +18,7 @@ use Rattle.flat_model.specs.declared.config.Config.{Config}
 use Rattle.flat_model.specs.Machine.Ledger.{Ledger, HasBuffers, need_mbufs, reclaimed}
 use Rattle.flat_model.specs.Machine.Arrival as Arrival
 use Rattle.flat_model.specs.Machine.Arrival.{Origin, By_wire, Looped}
-use Rattle.flat_model.specs.Runs.Laws.{bytes_of}
+use Rattle.flat_model.specs.Runs.Laws.{bytes_of_part}
 use Rattle.flat_model.specs.Machine.Sending.{Sending, datagram, packet_for, head_for}
 use Rattle.flat_wire.proofs.Sendable.{IsSendable}
 use Rattle.flat_wire.specs.Wire.{ComesFrom}
@@ -121,7 +121,7 @@ module _ (S A B mtu : ℕ) (P : Sending → Part → Type 0) (Answered : Sending
 
     -- a datagram comes into the queue of the sockets with a descriptor
     good_queued : (s : State) (fd : ℕ) (d : Datagram) → IsGood ports s → IsGoodDatagram (ports fd) d
-        → IsGood ports (change_socket fd (Arrival.queued d) s)
+        → IsGood ports (change_socket fd (Arrival.with_datagram d) s)
     good_queued s fd d good is = record {
       addr = good.addr;
       bcast = good.bcast;
@@ -130,7 +130,7 @@ module _ (S A B mtu : ℕ) (P : Sending → Part → Type 0) (Answered : Sending
     }
       where
         go : (socket : Socket) → IsGoodSocket ports socket → (b : Bool) → (socket.fd == fd) ≡ b
-            → IsGoodSocket ports (cond b (Arrival.queued d socket) socket)
+            → IsGoodSocket ports (cond b (Arrival.with_datagram d socket) socket)
         go socket g false e = g
         go socket g true e =
             let at : socket.port ≡ ports fd = g.port ∙ ap ports (eqb-true socket.fd fd e) in
@@ -298,7 +298,7 @@ module _ (S A B mtu : ℕ) (P : Sending → Part → Type 0) (Answered : Sending
       pub goes_to : sending.to.ip ≡ k.destination
       pub here : IsHere k.destination
       pub offset : f.offset ≡ part.offset
-      pub bytes : f.bytes ≡ bytes_of (datagram sending) part
+      pub bytes : f.bytes ≡ bytes_of_part (datagram sending) part
       pub more : f.more ≡ part.more
 
     key_source : (k : Key) (u : Unfinished) → is_key k u ≡ true → u.key.source ≡ k.source
@@ -466,7 +466,7 @@ module _ (S A B mtu : ℕ) (P : Sending → Part → Type 0) (Answered : Sending
         head_is : head_of item.bytes ≡ head_for x p
         head_is = ap head_of bytes_are ∙ read_head mtu low x p sendable (log.part x p given)
 
-        carried_is : (Arrival.carried item).bytes ≡ bytes_of (datagram x) p
+        carried_is : (Arrival.carried item).bytes ≡ bytes_of_part (datagram x) p
         carried_is =
             ap (λ bytes. drop 20 (take (total_of bytes) bytes)) bytes_are
             ∙ read_carried mtu low x p sendable (log.part x p given)

@@ -5,7 +5,7 @@ use Rattle.std.specs.List.{AllByRecursion as Each}
 use Rattle.std.proofs.lemmas.Bool.{false≢true, or_cases, eq-eqb, eqb-true, not-false}
 use Rattle.std.proofs.lemmas.Option.{none-some, same_Some}
 use Rattle.flat_model.specs.Amounts.Weight.{Item, nothing}
-use Rattle.flat_model.specs.Amounts.Layout.{Entry}
+use Rattle.flat_model.specs.Amounts.Layout.{LayoutEntry}
 use Rattle.flat_model.specs.Fragments.Cuts.{Part}
 use Rattle.flat_model.specs.Machine.Event.{Event, Reply, Open, Bind, Connect, Send, Receive, Close, Set_option, Comes, Transmit, Tick, Ask_counters, Ask_usage}
 use Rattle.flat_model.specs.declared.errno.Errno.{Errno}
@@ -14,7 +14,7 @@ use Rattle.flat_model.specs.declared.option.Opt.TheVariants.{Broadcast, ReusePor
 use Rattle.flat_model.specs.Machine.State.{State, Socket, Datagram, loopback, socket_at, change_socket}
 use Rattle.flat_model.specs.declared.config.Config.{Config}
 use Rattle.flat_model.specs.Machine.Calls as Calls
-use Rattle.flat_model.specs.Machine.Calls.{Refuses, Unless, OnSocket, GetsPort, unless_zero, is_ours, disconnected, set_option, source_for, fresh}
+use Rattle.flat_model.specs.Machine.Calls.{Refuses, Unless, OnSocket, GetsPort, unless_zero, is_ours, disconnected, set_option, source_for, new_socket}
 use Rattle.flat_model.specs.Machine.Ledger.{Ledger}
 use Rattle.flat_model.specs.Machine.Send.{to_self}
 use Rattle.flat_model.specs.Machine.Sending.{items, is_looped, head_for, packet_for, datagram, later_weight, parts_of}
@@ -80,7 +80,8 @@ module _ (S A B mtu : ℕ) (P : Sent.Sending → Part → Type 0) (Answered : Se
       addr = good.addr;
       bcast = good.bcast;
       sockets =
-          each-map_to (IsGoodSocket (set_port ports fd port)) _ (λ socket g. go socket g (socket.fd == fd) refl) s.sockets
+          each-map_to (IsGoodSocket (set_port ports fd port)) _ (λ socket g. go socket g (socket.fd == fd) refl)
+          s.sockets
           good.sockets;
       unfinished = good.unfinished;
     },
@@ -340,7 +341,8 @@ module _ (S A B mtu : ℕ) (P : Sent.Sending → Part → Type 0) (Answered : Se
   own_packet x p not from =
       absurd (not (sym (source_read (head_for x p) (take p.size (drop p.offset (datagram x)))) ∙ from.source))
 
-  own_items : (entries : List Entry) (bytes : Part → List ℕ) (parts : List Part) → ((p : Part) → IsGoodPacket (bytes p))
+  own_items : (entries : List LayoutEntry) (bytes : Part → List ℕ) (parts : List Part)
+      → ((p : Part) → IsGoodPacket (bytes p))
       → Each {X = Item} (λ item. IsGoodPacket item.bytes) (items entries bytes parts)
   own_items entries bytes [] good = tt
   own_items entries bytes (p ∷ parts) good = (good p, later parts)

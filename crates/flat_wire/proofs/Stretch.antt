@@ -4,7 +4,7 @@ use Rattle.std.specs.Prelude.{Contains}
 use Rattle.std.proofs.lemmas.Bool.{ltb-false}
 use Rattle.flat_model.specs.Fragments.Cuts.{Part, cuts}
 use Rattle.flat_model.specs.Fragments.Overlay.{Fragment, fragment_end}
-use Rattle.flat_model.specs.Runs.Laws.{bytes_of}
+use Rattle.flat_model.specs.Runs.Laws.{bytes_of_part}
 use Rattle.flat_model.proofs.Laws.{chunks_needed}
 use Rattle.flat_wire.proofs.Grid.{cuts_grid, index_of}
 use Rattle.flat_wire.proofs.Laying.{IsCut, end_of, fragment_end_is, brought_byte}
@@ -12,14 +12,14 @@ use Rattle.flat_wire.proofs.Maps.{IsStretch}
 
 pub part_is_stretch : (t : List ℕ) (mtu : ℕ) (p : Part) (f : Fragment) → 0 < length t → 28 ≤ mtu
     → Contains (cuts (length t) mtu) p
-    → f.offset ≡ p.offset → f.bytes ≡ bytes_of t p → f.more ≡ p.more → IsStretch t f
+    → f.offset ≡ p.offset → f.bytes ≡ bytes_of_part t p → f.more ≡ p.more → IsStretch t f
 part_is_stretch t mtu p f some low is offset bytes more =
     let g = cuts_grid (length t) mtu some low in
     let at = index_of (length t) g.0 p g.1 (subst (λ (ps : List Part). Contains ps p) g.2 is) in
     let cut : IsCut t g.0 f at.0 = record {
       inside = chunks_needed (length t) g.0 at.0 g.1 at.1;
       offset = offset ∙ ap (λ (q : Part). q.offset) at.2;
-      bytes = bytes ∙ ap (bytes_of t) at.2;
+      bytes = bytes ∙ ap (bytes_of_part t) at.2;
       more = more ∙ ap (λ (q : Part). q.more) at.2;
     } in
     go g.0 g.1 at.0 cut

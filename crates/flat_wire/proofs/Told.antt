@@ -51,7 +51,7 @@ module _ (L : Ledger) (fd port : ℕ) where
     queued =
         λ k d s h. (
           _,
-          find-changed fd k (Arrival.queued d) s.sockets h.0 (λ x. refl) h.1,
+          find-changed fd k (Arrival.with_datagram d) s.sockets h.0 (λ x. refl) h.1,
           at k d h.0 (h.0.fd == k)
               ∙ h.2,
         );
@@ -62,7 +62,7 @@ module _ (L : Ledger) (fd port : ℕ) where
     packet = λ s h. h;
   }
     where
-      at : (k : ℕ) (d : Datagram) (me : Socket) (b : Bool) → (cond b (Arrival.queued d me) me).port ≡ me.port
+      at : (k : ℕ) (d : Datagram) (me : Socket) (b : Bool) → (cond b (Arrival.with_datagram d me) me).port ≡ me.port
       at k d me true = refl
       at k d me false = refl
 
@@ -214,7 +214,8 @@ module _ (L : Ledger) (c : Config) (boots : IsConfig c) where
           (more_by 1 (value_of IpLocalout before.counters))
 
       counts_dropped : (b : Bool) (s : State)
-          → value_of IpLocalout (cond b (counts_more OutDropped 1 s.counters) s.counters) ≡ value_of IpLocalout s.counters
+          → value_of IpLocalout (cond b (counts_more OutDropped 1 s.counters) s.counters)
+          ≡ value_of IpLocalout s.counters
       counts_dropped true s = refl
       counts_dropped false s = refl
 
@@ -232,7 +233,8 @@ module _ (L : Ledger) (c : Config) (boots : IsConfig c) where
           left
       unfolding left
       left_is =
-          First.changes L c before.output ((before.next_id + 1) % 65536) (more_by 1 (value_of IpLocalout before.counters))
+          First.changes L c before.output ((before.next_id + 1) % 65536)
+          (more_by 1 (value_of IpLocalout before.counters))
           boots fd (λ socket. record socket { port = Some port })
           (counts_send (parts_of named.config x) named)
           (record {
@@ -331,7 +333,8 @@ module _ (L : Ledger) (c : Config) (boots : IsConfig c) where
           sendable e = record {
             id = let next : old.next_id ≡ (c.first_id + length told.log) % 65536 = k.id ∙ told.next in omega arith;
             source =
-                First.source_small L c before.output before.next_id (value_of IpLocalout before.counters) boots old.config
+                First.source_small L c before.output before.next_id (value_of IpLocalout before.counters) boots
+                old.config
                 me x.to.ip k.config sound.local;
             ip = aim.ip;
             to_port = aim.port;

@@ -4,14 +4,14 @@ use Rattle.std.specs.Prelude.{◌≡◌, ◌↔◌, ℕ, ◌+◌, ◌<◌, ◌�
 use Rattle.flat_model.specs.Fragments.Cuts.{Part, cuts}
 use Rattle.flat_model.specs.Fragments.Overlay.{Map, Fragment, empty, overlay}
 use Rattle.flat_model.specs.Fragments.Whole.{IsWhole}
-use Rattle.flat_model.specs.Runs.Laws.{bytes_of}
+use Rattle.flat_model.specs.Runs.Laws.{bytes_of_part}
 
 -- the fragment is a part of the cut string
 pub record IsFragmentOf (s : List ℕ) (mtu : ℕ) (f : Fragment) : Type 0 where
   pub part : Part
   pub is_part : Contains (cuts (length s) mtu) part
   pub offset : f.offset ≡ part.offset
-  pub bytes : f.bytes ≡ bytes_of s part
+  pub bytes : f.bytes ≡ bytes_of_part s part
   pub more : f.more ≡ part.more
 
 -- these fragments laid over an empty map, the last of the list first
@@ -20,17 +20,18 @@ laid [] = empty
 laid (f ∷ fragments) = overlay (laid fragments) f
 
 -- the part was laid
-abbrev pub IsLaid : List Fragment → Part → Type 0
-IsLaid fragments p = Any (λ f. f.offset ≡ p.offset) fragments
+abbrev pub IsPartLaid : List Fragment → Part → Type 0
+IsPartLaid fragments p = Any (λ f. f.offset ≡ p.offset) fragments
 
 -- In any order and with repeats: the string's byte at each offset of a part laid, and nothing elsewhere;
 -- and whole exactly where each part was laid.
 pub record OverlayOrder (s : List ℕ) (mtu : ℕ) (fragments : List Fragment) : Type 0 where
-  pub bytes : (p : Part) (offset : ℕ) → Contains (cuts (length s) mtu) p → IsLaid fragments p → p.offset ≤ offset
+  pub bytes : (p : Part) (offset : ℕ) → Contains (cuts (length s) mtu) p → IsPartLaid fragments p → p.offset ≤ offset
       → offset < p.offset + p.size →
       option_map (λ held. held.byte) (laid fragments offset) ≡ Some (slice_index s offset)
   pub elsewhere : (offset : ℕ) → IsSome (laid fragments offset) →
-      (p : Part) × Contains (cuts (length s) mtu) p × IsLaid fragments p × (p.offset ≤ offset)
+      (p : Part) × Contains (cuts (length s) mtu) p × IsPartLaid fragments p × (p.offset ≤ offset)
       × (offset < p.offset + p.size)
-  pub whole : IsWhole (laid fragments) (length s) ↔ ((p : Part) → Contains (cuts (length s) mtu) p → IsLaid fragments p)
+  pub whole : IsWhole (laid fragments) (length s)
+      ↔ ((p : Part) → Contains (cuts (length s) mtu) p → IsPartLaid fragments p)
   pub length : (n : ℕ) → IsWhole (laid fragments) n → n ≡ length s

@@ -33,14 +33,14 @@ abbrev pub packet_in : Turn → Option (List ℕ)
 packet_in turn = came_in turn.event
 
 -- the source that a packet of 16 bytes or more names
-abbrev pub source_of : List ℕ → ℕ
-source_of packet = u32_at 12 packet
+abbrev pub ip_source : List ℕ → ℕ
+ip_source packet = u32_at 12 packet
 
 -- A packet of UDP that names this source; one that is too short for the field names none. What other protocols carry
 -- reaches no queue, whoever sends it.
 pub record ComesFrom (address : ℕ) (packet : List ℕ) : Type 0 where
   pub long : 16 ≤ length packet
-  pub source : source_of packet ≡ address
+  pub source : ip_source packet ≡ address
   pub udp : slice_index packet 9 ≡ PROTOCOL_UDP
 
 -- A send that the run of these turns to `last` answered with its number of bytes: from which port, and where to,

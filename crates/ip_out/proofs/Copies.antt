@@ -8,7 +8,7 @@ use Rattle.flat_model.specs.Amounts.Layout.{entries_met}
 use Rattle.flat_model.specs.Machine.Sending.{items}
 use Rattle.std.proofs.lemmas.List.{length-map}
 use Rattle.mbuf_chain.specs.Chain.{Entry, ChainView, PoolView, IsLive, chain_of, no_chain, no_entry, flat_bytes, string, alone, held_mbufs, with_chain, without}
-use Rattle.mbuf_chain.specs.Owners.{Moves, IsOwned, times}
+use Rattle.mbuf_chain.specs.Owners.{Moves, IsOwned, times_among}
 use Rattle.mbuf_chain.specs.Train.{TrainView, QueuedPacket, queued_packets, numbers, IsHeld}
 use Rattle.mbuf_chain.proofs.Laws.Maps.{insert_same}
 use Rattle.mbuf_chain.proofs.Laws.Owners.{times-append, times_other, live_one, live_adds, moves_adds, moves_trans, moves_beside, moves_nothing, moves_reordered, owned_more}
@@ -16,13 +16,13 @@ use Rattle.mbuf_chain.proofs.Laws.Steps.{adds_in_place, live_beside}
 use Rattle.mbuf_chain.proofs.Laws.Trains.{Beside, beside_moves, length-queued_packets}
 use Rattle.chain_ops.specs.Makes.{Makes}
 use Rattle.chain_ops.specs.Copies.{copied_all}
-use Rattle.chain_ops.specs.Weights.{laid, HaveBytes}
+use Rattle.chain_ops.specs.Weights.{laid_entries, HaveBytes}
 use Rattle.chain_ops.proofs.Laws.Makes.{makes_kept, makes_held, apart_made}
 use Rattle.chain_ops.proofs.Laws.Strings.{copied_all_bytes}
 use Rattle.chain_ops.proofs.Laws.Weights.{copied_all-laid}
 use Rattle.ledger.specs.Accounts.{item_of}
 use Rattle.ip_out.specs.declared.head.IpHead.{IpHead}
-use Rattle.ip_out.specs.Packets.{IsDatagram, packets, packets_of, parts_of, part_bytes, later_need}
+use Rattle.ip_out.specs.Packets.{IsDatagramChain, train_packets, packets_of, chain_parts, part_bytes, later_need}
 use Rattle.ip_out.proofs.Outputs.{items_length}
 use Rattle.ip_out.proofs.Sends.{aside_gone}
 
@@ -50,7 +50,7 @@ pub record IsCopied (p q : PoolView) (c d : ℕ) (h : IpHead) (mtu : ℕ) : Type
   pub live : IsLive q c
   pub copy : IsLive q d
   pub apart : c ≢ d
-  pub datagram : IsDatagram (chain_of q d)
+  pub datagram : IsDatagramChain (chain_of q d)
   pub same_packets : packets_of (chain_of q d) h mtu ≡ packets_of (chain_of p c) h mtu
   pub same_need : later_need (chain_of q d) mtu ≡ later_need (chain_of p c) mtu
   pub held : held_mbufs q ≡ held_mbufs p + length (chain_of p c).entries
@@ -58,11 +58,11 @@ pub record IsCopied (p q : PoolView) (c d : ℕ) (h : IpHead) (mtu : ℕ) : Type
 
 pub copied : {p q : PoolView} (c d room : ℕ) (header : Bool) (h : IpHead) (mtu : ℕ)
     → Makes p q d (alone header) (copied_all room (chain_of p c).entries) → header ≡ true → IsLive p c
-    → IsDatagram (chain_of p c) → IsCopied p q c d h mtu
+    → IsDatagramChain (chain_of p c) → IsCopied p q c d h mtu
 copied {p} {q} c d room header h mtu m headed live dg =
     let es : List Entry = (chain_of p c).entries in
     let w : ChainView = chain_of q d in
-    let laid_is : laid w.entries ≡ laid es = ap laid m.entries ∙ copied_all-laid room es in
+    let laid_is : laid_entries w.entries ≡ laid_entries es = ap laid_entries m.entries ∙ copied_all-laid room es in
     let bytes : string w ≡ flat_bytes es = ap flat_bytes m.entries ∙ copied_all_bytes room es in
     let first = first_copied room es in
     record {
@@ -92,21 +92,21 @@ copied {p} {q} c d room header h mtu m headed live dg =
     }
 
 -- ---- the other chain while one becomes packets
-pub kept_other : {p q : PoolView} {xs ys : List ℕ} (k : ℕ) → Moves p xs q ys → IsLive p k → times k xs ≡ 0
+pub kept_other : {p q : PoolView} {xs ys : List ℕ} (k : ℕ) → Moves p xs q ys → IsLive p k → times_among k xs ≡ 0
     → (chain_of q k ≡ chain_of p k) × IsLive q k
 kept_other {p} {q} k m live none =
     let e : finmap.get q.chains k ≡ finmap.get p.chains k = m.others k live none in
     let shown : chain_of q k ≡ chain_of p k = ap (λ (o : Option ChainView). unwrap_or o no_chain) e in
     (shown, e ∙ live ∙ ap {B = Option ChainView} Some (sym shown))
 
-pub not_among : (c d : ℕ) → c ≢ d → times d (c ∷ []) ≡ 0
+pub not_among : (c d : ℕ) → c ≢ d → times_among d (c ∷ []) ≡ 0
 not_among c d ne = times_other d c [] (λ e. ne (sym e))
 
 -- the chain c became a train, and d stands beside it
 pub record IsFirst (q r : PoolView) (c d : ℕ) (t : TrainView) : Type 0 where
   pub same : chain_of r d ≡ chain_of q d
   pub live : IsLive r d
-  pub apart : times d (numbers r t) ≡ 0
+  pub apart : times_among d (numbers r t) ≡ 0
   pub owned : IsOwned r (numbers r t ++ d ∷ [])
   pub moves : Moves q (d ∷ c ∷ []) r (numbers r t ++ d ∷ [])
 
@@ -115,7 +115,8 @@ pub first_sent : {q r : PoolView} (c d : ℕ) (t : TrainView) → Moves q (c ∷
 first_sent {q} {r} c d t m live ne held =
     let none = not_among c d ne in
     let kept = kept_other d m live none in
-    let apart : times d (numbers r t) ≡ 0 = omega (arith, m.owned d, none, live_one q d live, live_one r d kept.1) in
+    let apart : times_among d (numbers r t) ≡ 0 =
+    omega (arith, m.owned d, none, live_one q d live, live_one r d kept.1) in
     let more = owned_more r d (numbers r t) held.owned kept.1 apart in
     record {
       same = kept.0;
@@ -131,7 +132,7 @@ first_sent {q} {r} c d t m live ne held =
 pub record IsSecond (p s : PoolView) (r : PoolView) (c : ℕ) (t u : TrainView) : Type 0 where
   pub held : IsHeld s t
   pub same_queued : queued_packets s t ≡ queued_packets r t
-  pub same_packets : packets s t ≡ packets r t
+  pub same_packets : train_packets s t ≡ train_packets r t
   pub moves : Moves p (c ∷ []) s (numbers s t ++ numbers s u)
 
 pub second_sent : {p q r s : PoolView} (c d : ℕ) (t u : TrainView) → Moves p (c ∷ []) q (d ∷ c ∷ []) → IsFirst q r c d t
@@ -141,7 +142,7 @@ second_sent {p} {q} {r} {s} c d t u one f m held =
     let last : Moves r (numbers r t ++ d ∷ []) s (numbers s t ++ numbers s u) =
     moves_beside (numbers r t ++ d ∷ []) (numbers s t ++ numbers s u) (numbers r t) m
     (λ k. times-append k (numbers r t) (d ∷ []))
-    (λ k. omega (arith, times-append k (numbers s t) (numbers s u), ap (times k) b.numbers)) in
+    (λ k. omega (arith, times-append k (numbers s t) (numbers s u), ap (times_among k) b.numbers)) in
     record {
       held = b.held;
       same_queued = b.queued_packets;
@@ -152,7 +153,7 @@ second_sent {p} {q} {r} {s} c d t u one f m held =
 -- ---- refusals
 -- the copy is freed, and then the train
 pub then_freed : {r s z : PoolView} (d : ℕ) (t : TrainView) → s ≡ without r d → IsLive r d → IsHeld r t
-    → times d (numbers r t) ≡ 0 → Moves s (numbers s t) z [] → Moves r (numbers r t ++ d ∷ []) z []
+    → times_among d (numbers r t) ≡ 0 → Moves s (numbers s t) z [] → Moves r (numbers r t ++ d ∷ []) z []
 then_freed {r} {s} {z} d t is live held apart freed =
     let gone = aside_gone d t is live held apart in
     moves_trans (moves_reordered (numbers r t ++ d ∷ []) (numbers s t) gone.1
@@ -171,11 +172,11 @@ gone_whole {p} {s} c m live =
 
 -- ---- how many packets
 pub is_cut : (p : PoolView) (t : TrainView) (v : ChainView) (h : IpHead) (mtu : ℕ) → IsHeld p t
-    → packets p t ≡ packets_of v h mtu → nat_lt 1 t.len ≡ nat_lt 1 (length (parts_of v mtu))
+    → train_packets p t ≡ packets_of v h mtu → nat_lt 1 t.len ≡ nat_lt 1 (length (chain_parts v mtu))
 is_cut p t v h mtu held is =
-    let n : t.len ≡ length (parts_of v mtu) =
+    let n : t.len ≡ length (chain_parts v mtu) =
     sym (length-queued_packets p t held)
     ∙ sym (length-map (queued_packets p t) (λ (queued_packet : QueuedPacket). item_of queued_packet.entries))
     ∙ ap (λ (xs : List Item). length xs) is
-    ∙ items_length (laid v.entries) (part_bytes h (drop 20 (string v))) (parts_of v mtu) in
+    ∙ items_length (laid_entries v.entries) (part_bytes h (drop 20 (string v))) (chain_parts v mtu) in
     ap (nat_lt 1) n

@@ -6,16 +6,16 @@ use Rattle.std.proofs.lemmas.Bool.{cases_lt}
 use Rattle.flat_model.specs.Amounts.Layout as flat
 use Rattle.flat_model.specs.Amounts.Layout.{Room, Plain, Cluster, size_of, filled, next_room, laid_on, sent}
 use Rattle.mbuf_chain.specs.Chain.{Entry, ChainView, no_entry, string}
-use Rattle.chain_ops.specs.Weights.{laid, HaveBytes}
+use Rattle.chain_ops.specs.Weights.{laid_entries, HaveBytes}
 use Rattle.chain_ops.proofs.Laws.Rooms.{next_some}
-use Rattle.ip_out.specs.Packets.{IsDatagram}
+use Rattle.ip_out.specs.Packets.{IsDatagramChain}
 use Rattle.ip_out.proofs.Counting.{sent_short, sent_long}
 
 abbrev HaveRoom : List Room → Type 0
 HaveRoom rooms = AllByRecursion (λ (r : Room). 0 < size_of r) rooms
 
-abbrev HaveSize : List flat.Entry → Type 0
-HaveSize xs = AllByRecursion (λ (x : flat.Entry). 0 < x.size) xs
+abbrev HaveSize : List flat.LayoutEntry → Type 0
+HaveSize xs = AllByRecursion (λ (x : flat.LayoutEntry). 0 < x.size) xs
 
 filled_some : (k large small left : ℕ) → 0 < large → 0 < small → HaveRoom (filled k large small left)
 unfolding filled
@@ -35,7 +35,7 @@ laid_on_some (c ∷ cs) (Plain n ∷ rooms) h = (h.0, laid_on_some (c ∷ cs) ro
 laid_on_some [] (Cluster n ∷ rooms) h = (h.0, laid_on_some [] rooms h.1)
 laid_on_some (c ∷ cs) (Cluster n ∷ rooms) h = (h.0, laid_on_some cs rooms h.1)
 
-entries_some : (es : List Entry) → HaveSize (laid es) → HaveBytes es
+entries_some : (es : List Entry) → HaveSize (laid_entries es) → HaveBytes es
 entries_some [] h = tt
 entries_some (e ∷ es) h = (h.0, entries_some es h.1)
 
@@ -45,22 +45,22 @@ unfolding laid_on
 plain_first [] n rooms = refl
 plain_first (c ∷ cs) n rooms = refl
 
-no_flat : flat.Entry
+no_flat : flat.LayoutEntry
 no_flat = record { size = 0; cluster = None }
 
-first_of : (es : List Entry) (x : flat.Entry) (xs : List flat.Entry) → laid es ≡ x ∷ xs
+first_of : (es : List Entry) (x : flat.LayoutEntry) (xs : List flat.LayoutEntry) → laid_entries es ≡ x ∷ xs
     → ((slice_index_or es 0 no_entry).cluster ≡ x.cluster) × (length (slice_index_or es 0 no_entry).bytes ≡ x.size)
-first_of [] x xs h = absurd (omega (arith, ap (λ (ys : List flat.Entry). length ys) h))
+first_of [] x xs h = absurd (omega (arith, ap (λ (ys : List flat.LayoutEntry). length ys) h))
 first_of (e ∷ es) x xs h = (
-  ap (λ (ys : List flat.Entry). (slice_index_or ys 0 no_flat).cluster) h,
-  ap (λ (ys : List flat.Entry). (slice_index_or ys 0 no_flat).size) h,
+  ap (λ (ys : List flat.LayoutEntry). (slice_index_or ys 0 no_flat).cluster) h,
+  ap (λ (ys : List flat.LayoutEntry). (slice_index_or ys 0 no_flat).size) h,
 )
 
 of_rooms : (v : ChainView) (cs : List ℕ) (n m : ℕ) (rooms : List Room) → v.front.header ≡ true
-    → laid v.entries ≡ laid_on cs (sent n) → sent n ≡ Plain m ∷ rooms → HaveRoom (Plain m ∷ rooms) → 20 ≤ m
-    → length (string v) ≤ 65535 → IsDatagram v
+    → laid_entries v.entries ≡ laid_on cs (sent n) → sent n ≡ Plain m ∷ rooms → HaveRoom (Plain m ∷ rooms) → 20 ≤ m
+    → length (string v) ≤ 65535 → IsDatagramChain v
 of_rooms v cs n m rooms headed is e some room most =
-    let whole : laid v.entries ≡ laid_on cs (Plain m ∷ rooms) = is ∙ ap (laid_on cs) e in
+    let whole : laid_entries v.entries ≡ laid_on cs (Plain m ∷ rooms) = is ∙ ap (laid_on cs) e in
     let first =
     first_of v.entries (record { size = m; cluster = None }) (laid_on cs rooms) (whole ∙ plain_first cs m rooms) in
     record {
@@ -71,11 +71,12 @@ of_rooms v cs n m rooms headed is e some room most =
       most = most;
     }
 
-pub datagram_sent : (v : ChainView) (cs : List ℕ) (n : ℕ) → v.front.header ≡ true → laid v.entries ≡ laid_on cs (sent n)
-    → length (string v) ≤ 65535 → IsDatagram v
+pub datagram_sent : (v : ChainView) (cs : List ℕ) (n : ℕ) → v.front.header ≡ true
+    → laid_entries v.entries ≡ laid_on cs (sent n)
+    → length (string v) ≤ 65535 → IsDatagramChain v
 datagram_sent v cs n headed is most = go (cases_lt 72 n)
   where
-    go : (72 < n) ⊎ (n ≤ 72) → IsDatagram v
+    go : (72 < n) ⊎ (n ≤ 72) → IsDatagramChain v
     go (inl long) =
         of_rooms v cs n 28 (filled n 1992 100 n) headed is (sent_long n long)
         (omega arith, filled_some n 1992 100 n (omega arith) (omega arith)) (omega arith) most

@@ -13,26 +13,26 @@ use Rattle.flat_model.specs.Machine.Sending.{items}
 use Rattle.mbuf_chain.specs.declared.place.Place.{Place}
 use Rattle.mbuf_chain.specs.Chain.{Entry, ChainView, PoolView, IsLive, chain_of, entry_of, entry_in, no_entry, flat_bytes, string, with_chain, held_mbufs, mbufs_of}
 use Rattle.mbuf_chain.specs.Steps.{narrowed, overwritten, with_entry, with_entry_in}
-use Rattle.mbuf_chain.specs.Owners.{Moves, times, IsOwned}
+use Rattle.mbuf_chain.specs.Owners.{Moves, times_among, IsOwned}
 use Rattle.mbuf_chain.specs.Train.{TrainView, QueuedPacket, queued_packets, numbers, IsHeld}
 use Rattle.mbuf_chain.proofs.Laws.Owners.{owned_more, moves_trans, moves_beside, times_same, moves_within, live_at_most, live_one, shown_with}
 use Rattle.mbuf_chain.proofs.Laws.Steps.{live_shown}
 use Rattle.mbuf_chain.proofs.Laws.Accounts.{held_moves}
 use Rattle.mbuf_chain.proofs.Laws.Trains.{Beside, beside_with, length-queued_packets}
-use Rattle.chain_ops.specs.Weights.{laid}
+use Rattle.chain_ops.specs.Weights.{laid_entries}
 use Rattle.chain_ops.specs.Trims.{only_first}
 use Rattle.chain_ops.proofs.Laws.Strings.{keep_enough, only_first_bytes}
 use Rattle.ledger.specs.Accounts as ledger
 use Rattle.ledger.specs.Accounts.{item_of}
 use Rattle.ip_out.specs.declared.head.IpHead.{IpHead}
 use Rattle.ip_out.specs.Headings.{head_bytes}
-use Rattle.ip_out.specs.Packets.{packets, packets_of, parts_of, part_need, later_need, head_for, part_bytes, AreBegunPlain, BeginPlain, IsDatagram}
-use Rattle.ip_out.specs.Inside.{later_item, parts_to, IsLater, IsCut}
+use Rattle.ip_out.specs.Packets.{train_packets, packets_of, chain_parts, part_need, later_need, part_head, part_bytes, AreBegunPlain, BeginPlain, IsDatagramChain}
+use Rattle.ip_out.specs.Inside.{later_item, parts_to, IsLater, IsCutInto}
 use Rattle.ip_out.proofs.Later.{length_head}
 use Rattle.ip_out.proofs.Outputs.{cut_none, kept_moves, plain_more, weight-laid, weigh_numbers, weigh_parts, length-laid}
 
 -- ---- bytes and weight
-only_weight : (k : ℕ) (es : List Entry) → ledger.weight_of (only_first k es) ≡ ledger.weight_of es
+only_weight : (k : ℕ) (es : List Entry) → ledger.entries_weight (only_first k es) ≡ ledger.entries_weight es
 only_weight k [] = refl
 only_weight k (e ∷ es) =
     let w = only_weight (k - length e.bytes) es in
@@ -57,7 +57,7 @@ drop_front (suc n) (x ∷ xs) ys h = drop_front n xs ys (omega arith)
 pub first_is : (es : List Entry) (k s : ℕ) (hdr : List ℕ) → 20 ≤ length (slice_index_or es 0 no_entry).bytes
     → k ≡ 20 + s → length hdr ≡ 20
     → item_of (slice_set (only_first k es) 0 (overwritten (slice_index_or (only_first k es) 0 no_entry) 0 hdr))
-    ≡ record { bytes = hdr ++ take s (drop 20 (flat_bytes es)); weight = weight_of (laid es) }
+    ≡ record { bytes = hdr ++ take s (drop 20 (flat_bytes es)); weight = weight_of (laid_entries es) }
 first_is [] k s hdr room e len = absurd (omega arith)
 first_is (f ∷ es) k s hdr room e len =
     let g : Entry = narrowed f 0 (min k (length f.bytes)) in
@@ -75,7 +75,7 @@ first_is (f ∷ es) k s hdr room e len =
 abbrev pub trimmed : ChainView → ℕ → ChainView
 trimmed v k = record v { entries = only_first k v.entries }
 
-pub apart_later : {p q : PoolView} {ys : List ℕ} (c : ℕ) → Moves p [] q ys → IsLive p c → times c ys ≡ 0
+pub apart_later : {p q : PoolView} {ys : List ℕ} (c : ℕ) → Moves p [] q ys → IsLive p c → times_among c ys ≡ 0
 apart_later {p} {q} {ys} c m live = omega (arith, m.owned c, live_at_most q c, live_one p c live)
 
 pub only_some : (es : List Entry) (k : ℕ) → 20 ≤ length (slice_index_or es 0 no_entry).bytes → 20 ≤ k
@@ -97,7 +97,7 @@ pub record Written (p q s : PoolView) (t : TrainView) (c k : ℕ) (hdr : List �
   pub shown : chain_of s c ≡ with_entry (trimmed (chain_of p c) k) 0
       (overwritten (entry_of (trimmed (chain_of p c) k) 0) 0 hdr)
   pub beside : Beside q s t
-  pub apart : times c (numbers s t) ≡ 0
+  pub apart : times_among c (numbers s t) ≡ 0
   pub moves : Moves p (c ∷ []) s (c ∷ numbers s t)
 
 pub written : {p q r s : PoolView} {t : TrainView} (c k : ℕ) (at : Place) (hdr : List ℕ) → Moves p [] q (numbers q t)
@@ -105,9 +105,9 @@ pub written : {p q r s : PoolView} {t : TrainView} (c k : ℕ) (at : Place) (hdr
     → r ≡ with_chain q c (trimmed (chain_of q c) k) → at.index ≡ 0
     → s ≡ with_entry_in r c at (overwritten (entry_in r c at) 0 hdr) → Written p q s t c k hdr
 written {p} {q} {r} {s} {t} c k at hdr m held live is_r index is_s =
-    let apart : times c (numbers q t) ≡ 0 = apart_later c m live in
+    let apart : times_among c (numbers q t) ≡ 0 = apart_later c m live in
     let one : Beside q r t = beside_with q r c (trimmed (chain_of q c) k) t is_r apart held in
-    let apart_r : times c (numbers r t) ≡ 0 = ap (times c) one.numbers ∙ apart in
+    let apart_r : times_among c (numbers r t) ≡ 0 = ap (times_among c) one.numbers ∙ apart in
     let w : ChainView = with_entry (chain_of r c) at.index (overwritten (entry_in r c at) 0 hdr) in
     let two : Beside r s t = beside_with r s c w t is_s apart_r one.held in
     let shown_r : chain_of r c ≡ trimmed (chain_of p c) k =
@@ -116,7 +116,7 @@ written {p} {q} {r} {s} {t} c k at hdr m held live is_r index is_s =
     let live_r : IsLive r c = live_shown q r c (trimmed (chain_of q c) k) is_r in
     let first : Moves p (c ∷ []) q (c ∷ numbers q t) =
     moves_beside (c ∷ []) (c ∷ numbers q t) (c ∷ []) m (λ j. omega arith) (λ j. omega arith) in
-    let here : (xs : List ℕ) → 0 < times c (c ∷ xs) = λ xs. omega (arith, times_same c xs) in
+    let here : (xs : List ℕ) → 0 < times_among c (c ∷ xs) = λ xs. omega (arith, times_same c xs) in
     let then_r : Moves q (c ∷ numbers q t) r (c ∷ numbers q t) =
     moves_within q r c (trimmed (chain_of q c) k) (c ∷ numbers q t) live_q (here (numbers q t)) is_r in
     let then_s : Moves r (c ∷ numbers q t) s (c ∷ numbers q t) =
@@ -128,9 +128,10 @@ written {p} {q} {r} {s} {t} c k at hdr m held live is_r index is_s =
           shown_with r s c w is_s ∙ (λ i. with_entry (shown_r i) (index i)
           (overwritten (entry_of (shown_r i) (index i)) 0 hdr));
       beside = record { held = two.held; numbers = same; queued_packets = two.queued_packets ∙ one.queued_packets };
-      apart = ap (times c) same ∙ apart;
+      apart = ap (times_among c) same ∙ apart;
       moves =
-          subst (λ (xs : List ℕ). Moves p (c ∷ []) s (c ∷ xs)) (sym same) (moves_trans first (moves_trans then_r then_s));
+          subst (λ (xs : List ℕ). Moves p (c ∷ []) s (c ∷ xs)) (sym same)
+          (moves_trans first (moves_trans then_r then_s));
     }
 
 -- ---- a chain that isn't cut
@@ -140,11 +141,11 @@ pub record IsHeaded (p s : PoolView) (t : TrainView) (c k : ℕ) (hdr : List ℕ
   pub shown : chain_of s c ≡ with_entry (trimmed (chain_of p c) k) 0
       (overwritten (entry_of (trimmed (chain_of p c) k) 0) 0 hdr)
   pub beside : Beside p s t
-  pub apart : times c (numbers s t) ≡ 0
+  pub apart : times_among c (numbers s t) ≡ 0
   pub moves : Moves p (c ∷ numbers p t) s (c ∷ numbers s t)
 
 pub headed_whole : {p s : PoolView} (t : TrainView) (c k : ℕ) (at : Place) (hdr : List ℕ) → IsHeld p t
-    → times c (numbers p t) ≡ 0 → IsLive p c → k ≡ length (string (chain_of p c))
+    → times_among c (numbers p t) ≡ 0 → IsLive p c → k ≡ length (string (chain_of p c))
     → at.index ≡ 0 → s ≡ with_entry_in p c at (overwritten (entry_in p c at) 0 hdr) → IsHeaded p s t c k hdr
 headed_whole {p} {s} t c k at hdr held apart live long index is =
     let v : ChainView = chain_of p c in
@@ -160,12 +161,12 @@ headed_whole {p} {s} t c k at hdr held apart live long index is =
           shown_with p s c w is ∙ (λ i. with_entry (stays i) (index i)
           (overwritten (entry_of (stays i) (index i)) 0 hdr));
       beside = b;
-      apart = ap (times c) b.numbers ∙ apart;
+      apart = ap (times_among c) b.numbers ∙ apart;
       moves = subst (λ (xs : List ℕ). Moves p (c ∷ numbers p t) s (c ∷ xs)) (sym b.numbers) within;
     }
 
 pub head_whole : (h h0 : IpHead) (n : ℕ) → n ≤ 65515 → h0 ≡ record h { total = 20 + n; more = false; offset = 0 }
-    → h0 ≡ head_for h (part n 65528 0)
+    → h0 ≡ part_head h (part n 65528 0)
 head_whole h h0 n short is =
     let total : 20 + n ≡ 20 + (part n 65528 0).size = omega arith in
     let more : false ≡ (part n 65528 0).more = sym (le-ltb ((0 + 1) * 65528) n (omega arith)) in
@@ -175,8 +176,8 @@ head_whole h h0 n short is =
 -- ---- all packets
 -- the first, before those of the later parts
 pub packets_from : (p s : PoolView) (c n size k count mtu : ℕ) (h h0 : IpHead) (hdr : List ℕ)
-    → IsDatagram (chain_of p c) → n + 20 ≡ length (string (chain_of p c)) → IsCut n mtu size count
-    → k ≡ 20 + min size n → h0 ≡ head_for h (part n size 0) → hdr ≡ head_bytes h0 → length hdr ≡ 20
+    → IsDatagramChain (chain_of p c) → n + 20 ≡ length (string (chain_of p c)) → IsCutInto n mtu size count
+    → k ≡ 20 + min size n → h0 ≡ part_head h (part n size 0) → hdr ≡ head_bytes h0 → length hdr ≡ 20
     → chain_of s c ≡ with_entry (trimmed (chain_of p c) k) 0 (overwritten (entry_of (trimmed (chain_of p c) k) 0) 0 hdr)
     → item_of (chain_of s c).entries ∷ map (later_item (chain_of p c) h) (parts_to n size count)
     ≡ packets_of (chain_of p c) h mtu
@@ -184,31 +185,33 @@ packets_from p s c n size k count mtu h h0 hdr d len is_cut ek eh eb el shown =
     let v : ChainView = chain_of p c in
     let fits : min size n ≡ (part n size 0).size = omega arith in
     let first : item_of (chain_of s c).entries
-    ≡ record { bytes = hdr ++ take (min size n) (drop 20 (string v)); weight = weight_of (laid v.entries) } =
+    ≡ record { bytes = hdr ++ take (min size n) (drop 20 (string v)); weight = weight_of (laid_entries v.entries) } =
     ap (λ (y : ChainView). item_of y.entries) shown ∙ first_is v.entries k (min size n) hdr d.room ek el in
     let off : 0 ≡ (part n size 0).offset = omega arith in
     let bytes : hdr ++ take (min size n) (drop 20 (string v)) ≡ part_bytes h (drop 20 (string v)) (part n size 0) =
     (λ i. (eb ∙ ap head_bytes eh) i ++ take (fits i) (drop (off i) (drop 20 (string v)))) in
-    let whole : items (laid v.entries) (part_bytes h (drop 20 (string v))) (part n size 0 ∷ parts_to n size count)
+    let whole : items (laid_entries v.entries) (part_bytes h (drop 20 (string v)))
+    (part n size 0 ∷ parts_to n size count)
     ≡ packets_of v h mtu =
-    ap (items (laid v.entries) (part_bytes h (drop 20 (string v)))) (sym is_cut.parts)
+    ap (items (laid_entries v.entries) (part_bytes h (drop 20 (string v)))) (sym is_cut.parts)
     ∙ (let e : n ≡ length (string v) - 20 = omega (arith, len) in
-    ap (λ (m : ℕ). items (laid v.entries) (part_bytes h (drop 20 (string v))) (cuts m mtu)) e) in
+    ap (λ (m : ℕ). items (laid_entries v.entries) (part_bytes h (drop 20 (string v))) (cuts m mtu)) e) in
     (λ i. first i ∷ map (later_item v h) (parts_to n size count))
-    ∙ ap (λ (xs : List ℕ). record { bytes = xs; weight = weight_of (laid v.entries) }
+    ∙ ap (λ (xs : List ℕ). record { bytes = xs; weight = weight_of (laid_entries v.entries) }
     ∷ map (later_item v h) (parts_to n size count)) bytes ∙ whole
 
 pub packets_are : {p q s : PoolView} {t : TrainView} (z : PoolView) (u : TrainView) (c n size k count mtu : ℕ)
-    (h h0 : IpHead) (hdr : List ℕ) → IsDatagram (chain_of p c) → n + 20 ≡ length (string (chain_of p c))
-    → IsCut n mtu size count
-    → IsLater p q t (chain_of p c) h (parts_to n size count) → k ≡ 20 + min size n → h0 ≡ head_for h (part n size 0)
+    (h h0 : IpHead) (hdr : List ℕ) → IsDatagramChain (chain_of p c) → n + 20 ≡ length (string (chain_of p c))
+    → IsCutInto n mtu size count
+    → IsLater p q t (chain_of p c) h (parts_to n size count) → k ≡ 20 + min size n → h0 ≡ part_head h (part n size 0)
     → hdr ≡ head_bytes h0 → length hdr ≡ 20 → Written p q s t c k hdr
     → queued_packets z u ≡ insert (queued_packets s t) 0
-    (record { number = c; entries = (chain_of s c).entries; tag = 0 }) → packets z u ≡ packets_of (chain_of p c) h mtu
+    (record { number = c; entries = (chain_of s c).entries; tag = 0 })
+    → train_packets z u ≡ packets_of (chain_of p c) h mtu
 packets_are {p} {q} {s} {t} z u c n size k count mtu h h0 hdr d len is_cut l ek eh eb el w in_queued_packets =
     let f : QueuedPacket → Item = λ queued_packet. item_of queued_packet.entries in
     let x : QueuedPacket = record { number = c; entries = (chain_of s c).entries; tag = 0 } in
-    let all : packets z u ≡ f x ∷ packets q t =
+    let all : train_packets z u ≡ f x ∷ train_packets q t =
     ap (map f) in_queued_packets ∙ ap (λ (xs : List QueuedPacket). f x ∷ map f xs) w.beside.queued_packets in
     all ∙ (λ i. f x ∷ l.items i) ∙ packets_from p s c n size k count mtu h h0 hdr d len is_cut ek eh eb el w.shown
 
@@ -220,7 +223,7 @@ cluster_written [] k hdr plain = refl
 cluster_written (e ∷ es) k hdr plain = plain
 
 pub begun_plain : {p q s : PoolView} {t : TrainView} (z : PoolView) (u : TrainView) (c k : ℕ) (hdr : List ℕ)
-    → IsDatagram (chain_of p c) → BeginPlain q t → Written p q s t c k hdr
+    → IsDatagramChain (chain_of p c) → BeginPlain q t → Written p q s t c k hdr
     → queued_packets z u ≡ insert (queued_packets s t) 0
     (record { number = c; entries = (chain_of s c).entries; tag = 0 }) → BeginPlain z u
 begun_plain {p} {q} {s} {t} z u c k hdr d later w in_queued_packets =
@@ -248,11 +251,11 @@ last_in {p} {s} {t} z u {c} w in_queued_packets =
     ∙ ap (λ (xs : List QueuedPacket). xs ++ x ∷ []) w.beside.queued_packets
 
 pub whole_added : {p s : PoolView} {t : TrainView} (z : PoolView) (u : TrainView) (c k mtu : ℕ) (h : IpHead)
-    (hdr : List ℕ) → IsDatagram (chain_of p c) → k ≡ length (string (chain_of p c)) → k ≤ mtu
+    (hdr : List ℕ) → IsDatagramChain (chain_of p c) → k ≡ length (string (chain_of p c)) → k ≤ mtu
     → hdr ≡ head_bytes (record h { total = k; more = false; offset = 0 }) → IsHeaded p s t c k hdr
     → queued_packets z u ≡ insert (queued_packets s t) t.len
     (record { number = c; entries = (chain_of s c).entries; tag = 0 })
-    → packets z u ≡ packets p t ++ packets_of (chain_of p c) h mtu
+    → train_packets z u ≡ train_packets p t ++ packets_of (chain_of p c) h mtu
 whole_added {p} {s} {t} z u c k mtu h hdr d is fits eb w in_queued_packets =
     let f : QueuedPacket → Item = λ queued_packet. item_of queued_packet.entries in
     let x : QueuedPacket = record { number = c; entries = (chain_of s c).entries; tag = 0 } in
@@ -267,10 +270,10 @@ whole_added {p} {s} {t} z u c k mtu h hdr d is fits eb w in_queued_packets =
     (head_whole h h0 n short (λ j. record h { total = total j; more = false; offset = 0 })) eb
     (ap (λ (xs : List ℕ). length xs) eb ∙ length_head h0) w.shown in
     ap (map f) (last_in z u w in_queued_packets) ∙ map-append f (queued_packets p t) (x ∷ [])
-    ∙ ap (λ (xs : List Item). packets p t ++ xs) one
+    ∙ ap (λ (xs : List Item). train_packets p t ++ xs) one
 
 pub plain_added : {p s : PoolView} {t : TrainView} (z : PoolView) (u : TrainView) (c k : ℕ) (hdr : List ℕ)
-    → IsDatagram (chain_of p c) → IsHeaded p s t c k hdr
+    → IsDatagramChain (chain_of p c) → IsHeaded p s t c k hdr
     → queued_packets z u ≡ insert (queued_packets s t) t.len
     (record { number = c; entries = (chain_of s c).entries; tag = 0 }) → BeginPlain p t → BeginPlain z u
 plain_added {p} {s} {t} z u c k hdr d w in_queued_packets before =
@@ -281,16 +284,16 @@ plain_added {p} {s} {t} z u c k hdr d w in_queued_packets before =
 
 -- how many mbufs they take beyond the chain's own
 pub held_packets : {p z : PoolView} (t : TrainView) (c n size k mtu : ℕ) (h : IpHead) → Moves p (c ∷ []) z (numbers z t)
-    → IsLive p c → IsCut n mtu size k → n + 20 ≡ length (string (chain_of p c))
-    → packets z t ≡ packets_of (chain_of p c) h mtu → held_mbufs z ≡ held_mbufs p + later_need (chain_of p c) mtu
+    → IsLive p c → IsCutInto n mtu size k → n + 20 ≡ length (string (chain_of p c))
+    → train_packets z t ≡ packets_of (chain_of p c) h mtu → held_mbufs z ≡ held_mbufs p + later_need (chain_of p c) mtu
 held_packets {p} {z} t c n size k mtu h m live is_cut len is =
     let v : ChainView = chain_of p c in
     let e : length (string v) - 20 ≡ n = omega (arith, len) in
-    let parts : parts_of v mtu ≡ part n size 0 ∷ parts_to n size k = ap (λ (j : ℕ). cuts j mtu) e ∙ is_cut.parts in
-    let all : packets z t ≡ record
-    { bytes = part_bytes h (drop 20 (string v)) (part n size 0); weight = weight_of (laid v.entries) }
+    let parts : chain_parts v mtu ≡ part n size 0 ∷ parts_to n size k = ap (λ (j : ℕ). cuts j mtu) e ∙ is_cut.parts in
+    let all : train_packets z t ≡ record
+    { bytes = part_bytes h (drop 20 (string v)) (part n size 0); weight = weight_of (laid_entries v.entries) }
     ∷ map (later_item v h) (parts_to n size k) =
-    is ∙ ap (items (laid v.entries) (part_bytes h (drop 20 (string v)))) parts in
+    is ∙ ap (items (laid_entries v.entries) (part_bytes h (drop 20 (string v)))) parts in
     let one : IsOwned p (c ∷ []) = owned_more p c [] (λ j. omega arith) live refl in
     omega (
       arith,
@@ -299,7 +302,10 @@ held_packets {p} {z} t c n size k mtu h m live is_cut len is =
       weigh_numbers z (numbers z t),
       ap (sum_by (λ (it : Item). it.weight.mbufs)) all,
       sum_by-cons (λ (it : Item). it.weight.mbufs)
-          (record { bytes = part_bytes h (drop 20 (string v)) (part n size 0); weight = weight_of (laid v.entries) })
+          (record {
+            bytes = part_bytes h (drop 20 (string v)) (part n size 0);
+            weight = weight_of (laid_entries v.entries);
+          })
           (map (later_item v h) (parts_to n size k)),
       weigh_parts v h (parts_to n size k),
       length-laid v.entries,

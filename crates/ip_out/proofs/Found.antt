@@ -10,11 +10,11 @@ use Rattle.mbuf_chain.specs.Train.{TrainView, QueuedPacket, no_queued_packet, qu
 use Rattle.mbuf_chain.proofs.Laws.Iterators.{concat_pieces}
 use Rattle.mbuf_chain.proofs.Laws.Trains.{length-queued_packets}
 use Rattle.ledger.specs.Accounts.{item_of}
-use Rattle.ip_out.specs.Packets.{packets}
+use Rattle.ip_out.specs.Packets.{train_packets}
 use Rattle.ip_out.specs.Questions.{nth_packet}
 
 pub nth_found : (p : PoolView) (t : TrainView) (i at : ℕ) (pieces : List (List ℕ)) → IsHeld p t → i < t.len → at ≡ i
-    → pieces ≡ pieces_of (queued_packet_at p t at).entries → nth_packet i (packets p t) ≡ Some (concat pieces)
+    → pieces ≡ pieces_of (queued_packet_at p t at).entries → nth_packet i (train_packets p t) ≡ Some (concat pieces)
 nth_found p t i at pieces held lt same is =
     let f : QueuedPacket → Item = λ queued_packet. item_of queued_packet.entries in
     let es : List Entry = (queued_packet_at p t i).entries in

@@ -23,12 +23,12 @@ use Rattle.ledger.specs.Accounts as ledger
 use Rattle.ledger.specs.Accounts.{item_of}
 use Rattle.chain_ops.specs.Makes.{Makes}
 use Rattle.chain_ops.specs.Copies.{copied}
-use Rattle.chain_ops.specs.Weights.{laid, HaveBytes}
+use Rattle.chain_ops.specs.Weights.{laid_entries, HaveBytes}
 use Rattle.chain_ops.proofs.Laws.Strings.{copied_bytes}
 use Rattle.ip_out.specs.declared.head.IpHead.{IpHead}
 use Rattle.ip_out.specs.Headings.{head_bytes}
-use Rattle.ip_out.specs.Packets.{head_for, part_need, AreBegunPlain}
-use Rattle.ip_out.specs.Inside.{head_entry, later_item, parts_to, IsLater, IsCut}
+use Rattle.ip_out.specs.Packets.{part_head, part_need, AreBegunPlain}
+use Rattle.ip_out.specs.Inside.{head_entry, later_item, parts_to, IsLater, IsCutInto}
 use Rattle.ip_out.proofs.Counting.{div_cases, mul_more}
 
 -- ---- the parts
@@ -38,7 +38,7 @@ chunk_unit c k e = omega (arith, e)
 abbrev same_parts : List Part → List Part → Type 0
 same_parts xs ys = xs ≡ ys
 
-pub cut_none : (n mtu : ℕ) → n ≤ 65515 → 20 + n ≤ mtu → IsCut n mtu 65528 1
+pub cut_none : (n mtu : ℕ) → n ≤ 65515 → 20 + n ≤ mtu → IsCutInto n mtu 65528 1
 unfolding cuts
 cut_none n mtu short h = record {
   some = omega arith;
@@ -53,10 +53,12 @@ cut_none n mtu short h = record {
 }
   where
     one_part : {o s : ℕ} {m : Bool} → 0 ≡ o → n ≡ s → false ≡ m
-        → same_parts (record { offset = 0; size = n; more = false } ∷ []) (record { offset = o; size = s; more = m } ∷ [])
+        → same_parts (record { offset = 0; size = n; more = false } ∷ [])
+        (record { offset = o; size = s; more = m } ∷ [])
     one_part eo es em = λ i. record { offset = eo i; size = es i; more = em i } ∷ []
 
-pub cut_some : (n mtu c : ℕ) → 68 ≤ mtu → mtu ≤ 65535 → mtu < 20 + n → c ≡ chunk mtu → IsCut n mtu c ((n + (c - 1)) / c)
+pub cut_some : (n mtu c : ℕ) → 68 ≤ mtu → mtu ≤ 65535 → mtu < 20 + n → c ≡ chunk mtu
+    → IsCutInto n mtu c ((n + (c - 1)) / c)
 unfolding cuts
 cut_some n mtu c least top h e =
     let big : 48 ≤ c = omega (arith, e) in
@@ -96,37 +98,38 @@ drop_both (suc a) b [] = drop_nil (suc a + b) ∙ sym (drop_nil b)
 drop_both (suc a) b (x ∷ xs) = let e : suc a + b ≡ suc (a + b) = omega arith in
     ap (λ (k : ℕ). drop k (x ∷ xs)) e ∙ drop_both a b xs
 
-pub length-laid : (es : List Entry) → length (laid es) ≡ length es
+pub length-laid : (es : List Entry) → length (laid_entries es) ≡ length es
 length-laid [] = refl
 length-laid (e ∷ es) = ap suc (length-laid es)
 
-bag-laid : (es : List Entry) → filter_map (λ (x : flat.Entry). x.cluster) (laid es)
+bag-laid : (es : List Entry) → filter_map (λ (x : flat.LayoutEntry). x.cluster) (laid_entries es)
     ≡ filter_map (λ (e : Entry). e.cluster) es
 bag-laid [] = refl
 bag-laid (e ∷ es) = ap (cons_option e.cluster) (bag-laid es)
 
 -- what entries weigh, in either word
-pub weight-laid : (es : List Entry) → weight_of (laid es) ≡ ledger.weight_of es
+pub weight-laid : (es : List Entry) → weight_of (laid_entries es) ≡ ledger.entries_weight es
 weight-laid es = λ i. record { mbufs = length-laid es i; bag = bag-laid es i }
 
 -- the copy of a range weighs what the entries weigh that share a byte with it: the law of chain_ops
 abbrev pub CopyWeighs : Type 0
 CopyWeighs =
     (header : Bool) (es : List Entry) (off len : ℕ) → HaveBytes es → 0 < len
-    → weight_of (laid (copied header es off len)) ≡ weight_of (entries_met (laid es) off (off + len))
+    → weight_of (laid_entries (copied header es off len)) ≡ weight_of (entries_met (laid_entries es) off (off + len))
 
 pub later_is : CopyWeighs → (v : ChainView) (h : IpHead) (p : Part) → HaveBytes v.entries → 0 < p.size
-    → item_of (head_entry (head_for h p) ∷ copied false v.entries (20 + p.offset) p.size) ≡ later_item v h p
+    → item_of (head_entry (part_head h p) ∷ copied false v.entries (20 + p.offset) p.size) ≡ later_item v h p
 later_is law v h p some pos =
     let es : List Entry = copied false v.entries (20 + p.offset) p.size in
     let bytes : flat_bytes es ≡ take p.size (drop p.offset (drop 20 (string v))) =
     copied_bytes false v.entries (20 + p.offset) p.size ∙ ap (take p.size) (drop_both 20 p.offset (string v)) in
-    let w : ledger.weight_of es ≡ weight_of (entries_met (laid v.entries) (20 + p.offset) (20 + p.offset + p.size)) =
+    let w : ledger.entries_weight es
+    ≡ weight_of (entries_met (laid_entries v.entries) (20 + p.offset) (20 + p.offset + p.size)) =
     sym (weight-laid es) ∙ law false v.entries (20 + p.offset) p.size some pos in
-    let one : ledger.weight_of (head_entry (head_for h p) ∷ es) ≡ mbuf ⊕ ledger.weight_of es =
+    let one : ledger.entries_weight (head_entry (part_head h p) ∷ es) ≡ mbuf ⊕ ledger.entries_weight es =
     (let m : suc (length es) ≡ 1 + length es = omega arith in
-    λ i. record { mbufs = m i; bag = (ledger.weight_of es).bag }) in
-    λ i. record { bytes = head_bytes (head_for h p) ++ bytes i; weight = (one ∙ ap (λ (x : Weight). mbuf ⊕ x) w) i }
+    λ i. record { mbufs = m i; bag = (ledger.entries_weight es).bag }) in
+    λ i. record { bytes = head_bytes (part_head h p) ++ bytes i; weight = (one ∙ ap (λ (x : Weight). mbuf ⊕ x) w) i }
 
 pub need_copied : CopyWeighs → (v : ChainView) (p : Part) → HaveBytes v.entries → 0 < p.size
     → 1 + length (copied false v.entries (20 + p.offset) p.size) ≡ part_need v p
@@ -237,7 +240,7 @@ offset_unit (suc i) c h =
     omega (arith, offset_unit i c h, more)
 
 -- ---- how many packets
-pub items_length : (es : List flat.Entry) (f : Part → List ℕ) (ps : List Part)
+pub items_length : (es : List flat.LayoutEntry) (f : Part → List ℕ) (ps : List Part)
     → length {A = Item} (items es f ps) ≡ length ps
 items_length es f [] = refl
 items_length es f (p ∷ ps) = ap suc (go ps)

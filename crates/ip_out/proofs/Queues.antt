@@ -8,16 +8,16 @@ use Rattle.std.proofs.lemmas.List.Edits.{insert_end}
 use Rattle.params.specs.declared.TheConstants.{OUTPUT_QUEUE_PACKETS}
 use Rattle.flat_model.specs.Amounts.Weight.{Item}
 use Rattle.mbuf_chain.specs.Chain.{Entry, PoolView, IsLive, chain_of, entry_of, no_entry}
-use Rattle.mbuf_chain.specs.Owners.{Moves, IsOwned, times}
+use Rattle.mbuf_chain.specs.Owners.{Moves, IsOwned, times_among}
 use Rattle.mbuf_chain.specs.Train.{TrainView, QueuedPacket, no_queued_packet, queued_packet_of, queued_packets, queued_packet_at, numbers, IsHeld}
 use Rattle.mbuf_chain.proofs.Laws.Owners.{moves_trans, moves_beside, owned_beside, times-append, live_at_most, live_owned, times_same}
 use Rattle.mbuf_chain.proofs.Laws.Trains.{Beside, beside_moves, length-queued_packets, none_left}
 use Rattle.ledger.specs.Accounts.{item_of}
-use Rattle.ip_out.specs.Packets.{packets, AreBegunPlain, BeginPlain}
+use Rattle.ip_out.specs.Packets.{train_packets, AreBegunPlain, BeginPlain}
 use Rattle.ip_out.specs.Inside.{IsMoving}
 use Rattle.ip_out.proofs.Outputs.{plain_more}
 
-pub packets_len : (p : PoolView) (t : TrainView) → IsHeld p t → length (packets p t) ≡ t.len
+pub packets_len : (p : PoolView) (t : TrainView) → IsHeld p t → length (train_packets p t) ≡ t.len
 packets_len p t h =
     length-map (queued_packets p t) (λ (queued_packet : QueuedPacket). item_of queued_packet.entries)
     ∙ length-queued_packets p t h
@@ -26,22 +26,23 @@ packets_len p t h =
 pub record IsTaken (p : PoolView) (t u : TrainView) (r : PoolView) (t' u'' : TrainView) (c : ℕ) : Type 0 where
   pub live : IsLive r c
   pub beside : IsHeld r t'
-  pub apart : times c (numbers r t') ≡ 0
+  pub apart : times_among c (numbers r t') ≡ 0
   pub rest : IsHeld r u''
   pub owned : IsOwned r (numbers r u'' ++ (c ∷ numbers r t'))
   pub moves : Moves p (numbers p t ++ numbers p u) r (numbers r u'' ++ (c ∷ numbers r t'))
-  pub items : packets r t' ++ item_of (chain_of r c).entries ∷ packets r u'' ≡ packets p t ++ packets p u
+  pub items : train_packets r t' ++ item_of (chain_of r c).entries ∷ train_packets r u''
+      ≡ train_packets p t ++ train_packets p u
   pub plain : BeginPlain p t → BeginPlain p u
       → BeginPlain r t' × ((entry_of (chain_of r c) 0).cluster ≡ None) × BeginPlain r u''
 
 pub first_out : (p r : PoolView) (u u' : TrainView) (c tag : ℕ) → IsHeld p u → 0 < u.len
     → queued_packets r u' ≡ remove (queued_packets p u) 0
     → queued_packet_at p u 0 ≡ record { number = c; entries = (chain_of r c).entries; tag = tag }
-    → packets p u ≡ item_of (chain_of r c).entries ∷ packets r u'
+    → train_packets p u ≡ item_of (chain_of r c).entries ∷ train_packets r u'
 first_out p r u u' c tag held some left is = go (queued_packets p u) refl
   where
     go : (xs : List QueuedPacket) → queued_packets p u ≡ xs
-        → packets p u ≡ item_of (chain_of r c).entries ∷ packets r u'
+        → train_packets p u ≡ item_of (chain_of r c).entries ∷ train_packets r u'
     go [] e = absurd (omega (arith, length-queued_packets p u held, some, ap length e))
     go (x ∷ xs) e =
         let one : item_of x.entries ≡ item_of (chain_of r c).entries =
@@ -78,15 +79,17 @@ pub takes : (p q r : PoolView) (t u t' u' u'' : TrainView) (c tag : ℕ) → IsM
 takes p q r t u t' u' u'' c tag m some left is held moves =
     let b : Beside q r t' = beside_moves t' moves m.owned m.queue in
     let whole : IsOwned r (numbers q t' ++ (c ∷ numbers r u'')) = owned_beside (numbers q t') moves m.owned in
-    let same : (k : ℕ) → times k (numbers r t') ≡ times k (numbers q t') = λ k. ap (times k) b.numbers in
-    let all : (k : ℕ) → times k (numbers r u'' ++ (c ∷ numbers r t')) ≡ times k (numbers q t' ++ (c ∷ numbers r u'')) =
+    let same : (k : ℕ) → times_among k (numbers r t') ≡ times_among k (numbers q t') =
+    λ k. ap (times_among k) b.numbers in
+    let all : (k : ℕ) → times_among k (numbers r u'' ++ (c ∷ numbers r t'))
+    ≡ times_among k (numbers q t' ++ (c ∷ numbers r u'')) =
     λ k. omega (
       arith,
       times-append k (numbers r u'') (c ∷ numbers r t'),
       times-append k (numbers q t') (c ∷ numbers r u''),
       same k,
     ) in
-    let here : (k : ℕ) → times k (c ∷ numbers r u'') ≤ times k (numbers q t' ++ (c ∷ numbers r u'')) =
+    let here : (k : ℕ) → times_among k (c ∷ numbers r u'') ≤ times_among k (numbers q t' ++ (c ∷ numbers r u'')) =
     λ k. omega (arith, times-append k (numbers q t') (c ∷ numbers r u'')) in
     record {
       live =
@@ -131,14 +134,14 @@ puts p r s t u t' u'' w c m few is held len moves =
     let queued_packets_are : queued_packets s w ≡ queued_packets r t' ++ x ∷ [] =
     is ∙ ap (λ (k : ℕ). insert (queued_packets r t') k x) (sym (length-queued_packets r t' m.beside))
     ∙ insert_end (queued_packets r t') x in
-    let items_are : packets s w ≡ packets r t' ++ f x ∷ [] =
+    let items_are : train_packets s w ≡ train_packets r t' ++ f x ∷ [] =
     ap (map f) queued_packets_are ∙ map-append f (queued_packets r t') (x ∷ []) in
-    let all : (k : ℕ) → times k (numbers s w ++ numbers s u'') ≡ times k (numbers r u'' ++ numbers s w) =
+    let all : (k : ℕ) → times_among k (numbers s w ++ numbers s u'') ≡ times_among k (numbers r u'' ++ numbers s w) =
     λ k. omega (
       arith,
       times-append k (numbers s w) (numbers s u''),
       times-append k (numbers r u'') (numbers s w),
-      ap (times k) b.numbers,
+      ap (times_among k) b.numbers,
     ) in
     record {
       queue = held;
@@ -150,7 +153,8 @@ puts p r s t u t' u'' w c m few is held len moves =
           (λ k. times-append k (numbers r u'') (c ∷ numbers r t'))
           (λ k. all k ∙ times-append k (numbers r u'') (numbers s w)));
       items =
-          (λ i. items_are i ++ map f (b.queued_packets i)) ∙ append_assoc (packets r t') (f x ∷ []) (packets r u'')
+          (λ i. items_are i ++ map f (b.queued_packets i))
+          ∙ append_assoc (train_packets r t') (f x ∷ []) (train_packets r u'')
           ∙ m.items;
       plain = λ queue more.
           let before = m.plain queue more in (
@@ -160,7 +164,7 @@ puts p r s t u t' u'' w c m few is held len moves =
       room = omega (arith, len, few);
     }
 
-pub none_wait : (p : PoolView) (t : TrainView) → t.len ≡ 0 → packets p t ≡ []
+pub none_wait : (p : PoolView) (t : TrainView) → t.len ≡ 0 → train_packets p t ≡ []
 none_wait p t e =
     ap (λ (xs : List ℕ). map (λ (queued_packet : QueuedPacket). item_of queued_packet.entries)
     (map (queued_packet_of p) xs)) (none_left p t e)
@@ -182,7 +186,7 @@ taken_50 xs ys le h = go OUTPUT_QUEUE_PACKETS xs ys le h
 
 pub record IsEnqueued (p : PoolView) (t u : TrainView) (s : PoolView) (w : TrainView) : Type 0 where
   pub queue : IsHeld s w
-  pub items : packets s w ≡ take OUTPUT_QUEUE_PACKETS (packets p t ++ packets p u)
+  pub items : train_packets s w ≡ take OUTPUT_QUEUE_PACKETS (train_packets p t ++ train_packets p u)
   pub plain : BeginPlain p t → BeginPlain p u → BeginPlain s w
   pub moves : Moves p (numbers p t ++ numbers p u) s (numbers s w)
 
@@ -196,33 +200,37 @@ enqueued p q s t u t' u' m ends freed =
       items =
           ap (map f) b.queued_packets ∙ sym
           (ap (take OUTPUT_QUEUE_PACKETS) (sym m.items)
-          ∙ taken_50 (packets q t') (packets q u') (omega (arith, packets_len q t' m.queue, m.room)) (elim ends [
+          ∙ taken_50 (train_packets q t') (train_packets q u') (omega (arith, packets_len q t' m.queue, m.room))
+          (elim ends [
             | inl e ↦ inl (omega (arith, packets_len q u' m.rest, e))
             | inr e ↦ inr (omega (arith, packets_len q t' m.queue, e))
           ]));
       plain = λ queue more. subst AreBegunPlain (sym b.queued_packets) (m.plain queue more).0;
       moves = moves_trans m.moves (moves_beside (numbers q t' ++ numbers q u') (numbers s t') (numbers q t') freed
-          (λ k. times-append k (numbers q t') (numbers q u')) (λ k. omega (arith, ap (times k) b.numbers)));
+          (λ k. times-append k (numbers q t') (numbers q u')) (λ k. omega (arith, ap (times_among k) b.numbers)));
     }
 
 pub full_is : (p q : PoolView) (t u t' u' : TrainView) → IsMoving p t u q t' u'
     → (u'.len ≡ 0) ⊎ (t'.len ≡ OUTPUT_QUEUE_PACKETS)
-    → nat_lt 0 u'.len ≡ nat_lt OUTPUT_QUEUE_PACKETS (length (packets p t ++ packets p u))
+    → nat_lt 0 u'.len ≡ nat_lt OUTPUT_QUEUE_PACKETS (length (train_packets p t ++ train_packets p u))
 full_is p q t u t' u' m ends = go u'.len refl
   where
-    total : length (packets p t ++ packets p u) ≡ t'.len + u'.len
+    total : length (train_packets p t ++ train_packets p u) ≡ t'.len + u'.len
     total =
         omega (
           arith,
           ap (λ (xs : List Item). length xs) m.items,
-          length-append (packets q t') (packets q u'),
+          length-append (train_packets q t') (train_packets q u'),
           packets_len q t' m.queue,
           packets_len q u' m.rest,
         )
 
-    go : (k : ℕ) → u'.len ≡ k → nat_lt 0 k ≡ nat_lt OUTPUT_QUEUE_PACKETS (length (packets p t ++ packets p u))
+    go : (k : ℕ) → u'.len ≡ k → nat_lt 0 k
+        ≡ nat_lt OUTPUT_QUEUE_PACKETS (length (train_packets p t ++ train_packets p u))
     go zero e =
-        sym (le-ltb OUTPUT_QUEUE_PACKETS (length (packets p t ++ packets p u)) (omega (arith, total, e, m.room)))
+        sym (le-ltb OUTPUT_QUEUE_PACKETS (length (train_packets p t ++ train_packets p u))
+        (omega (arith, total, e, m.room)))
     go (suc k) e =
         lt-ltb 0 (suc k) (omega arith)
-        ∙ sym (lt-ltb OUTPUT_QUEUE_PACKETS (length (packets p t ++ packets p u)) (omega (arith, total, e, ends)))
+        ∙ sym (lt-ltb OUTPUT_QUEUE_PACKETS (length (train_packets p t ++ train_packets p u))
+        (omega (arith, total, e, ends)))

@@ -7,8 +7,8 @@ use Rattle.flat_model.specs.Packets.Header.{flag, two_bytes, address_bytes, u16_
 use Rattle.ip_out.specs.declared.head.IpHead.{IpHead}
 
 -- bytes written over others, from a place on
-abbrev pub written : List ℕ → ℕ → List ℕ → List ℕ
-written bytes at new = take at bytes ++ (new ++ drop (at + length new) bytes)
+abbrev pub header_written : List ℕ → ℕ → List ℕ → List ℕ
+header_written bytes at new = take at bytes ++ (new ++ drop (at + length new) bytes)
 
 -- the field of flags and offset
 abbrev pub flags_of : IpHead → ℕ
@@ -17,12 +17,12 @@ flags_of h =
     else flag h.more 8192 + h.offset / FRAGMENT_UNIT
 
 -- the ten bytes in front of the checksum: version 4, 5 words of header, and what the header says
-abbrev pub front_of : IpHead → List ℕ
-front_of h = 69 ∷ h.tos ∷ two_bytes h.total ++ two_bytes h.id ++ two_bytes (flags_of h) ++ h.ttl ∷ h.proto ∷ []
+abbrev pub header_front : IpHead → List ℕ
+header_front h = 69 ∷ h.tos ∷ two_bytes h.total ++ two_bytes h.id ++ two_bytes (flags_of h) ++ h.ttl ∷ h.proto ∷ []
 
 -- the 20 bytes of a header whose checksum says that number
 abbrev pub bytes_with : IpHead → ℕ → List ℕ
-bytes_with h sum = front_of h ++ two_bytes sum ++ address_bytes h.src h.dst
+bytes_with h sum = header_front h ++ two_bytes sum ++ address_bytes h.src h.dst
 
 -- the 20 bytes with 0 in place of the checksum
 abbrev pub blank_bytes : IpHead → List ℕ

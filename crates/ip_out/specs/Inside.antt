@@ -8,10 +8,10 @@ use Rattle.flat_model.specs.Machine.Sending.{later_weight}
 use Rattle.mbuf_chain.specs.Chain.{Entry, PoolView, ChainView, string}
 use Rattle.mbuf_chain.specs.Train.{TrainView, numbers, IsHeld}
 use Rattle.mbuf_chain.specs.Owners.{Moves, IsOwned}
-use Rattle.chain_ops.specs.Weights.{laid}
+use Rattle.chain_ops.specs.Weights.{laid_entries}
 use Rattle.ip_out.specs.declared.head.IpHead.{IpHead}
 use Rattle.ip_out.specs.Headings.{head_bytes}
-use Rattle.ip_out.specs.Packets.{packets, part_bytes, BeginPlain}
+use Rattle.ip_out.specs.Packets.{train_packets, part_bytes, BeginPlain}
 
 -- ---- how many mbufs of a send its later fragments meet
 
@@ -38,7 +38,7 @@ head_entry h = record { bytes = head_bytes h; start = PACKET_START; cluster = No
 -- the packet of a later part
 abbrev pub later_item : ChainView → IpHead → Part → Item
 later_item v h p =
-    record { bytes = part_bytes h (drop IP_HEADER (string v)) p; weight = later_weight (laid v.entries) p }
+    record { bytes = part_bytes h (drop IP_HEADER (string v)) p; weight = later_weight (laid_entries v.entries) p }
 
 -- the parts after the first, up to part i
 abbrev pub parts_to : ℕ → ℕ → ℕ → List Part
@@ -48,11 +48,11 @@ parts_to n c i = map (part n c) (range_with_len 1 (i - 1))
 pub record IsLater (p q : PoolView) (t : TrainView) (v : ChainView) (h : IpHead) (parts : List Part) : Type 0 where
   pub held : IsHeld q t
   pub moves : Moves p [] q (numbers q t)
-  pub items : packets q t ≡ map (later_item v h) parts
+  pub items : train_packets q t ≡ map (later_item v h) parts
   pub plain : BeginPlain q t
 
 -- n bytes are cut into parts of c, k of them
-pub record IsCut (n mtu c k : ℕ) : Type 0 where
+pub record IsCutInto (n mtu c k : ℕ) : Type 0 where
   pub some : 0 < k
   pub least : 0 < c
   pub most : c ≤ IP_MAX_PACKET
@@ -68,6 +68,6 @@ pub record IsMoving (p : PoolView) (t u : TrainView) (q : PoolView) (t' u' : Tra
   pub rest : IsHeld q u'
   pub owned : IsOwned q (numbers q t' ++ numbers q u')
   pub moves : Moves p (numbers p t ++ numbers p u) q (numbers q t' ++ numbers q u')
-  pub items : packets q t' ++ packets q u' ≡ packets p t ++ packets p u
+  pub items : train_packets q t' ++ train_packets q u' ≡ train_packets p t ++ train_packets p u
   pub plain : BeginPlain p t → BeginPlain p u → BeginPlain q t' × BeginPlain q u'
   pub room : t'.len ≤ OUTPUT_QUEUE_PACKETS

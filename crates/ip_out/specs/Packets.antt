@@ -9,42 +9,42 @@ use Rattle.flat_model.specs.Amounts.Layout.{entries_met}
 use Rattle.flat_model.specs.Machine.Sending.{items}
 use Rattle.mbuf_chain.specs.Chain.{PoolView, ChainView, string, entry_of, no_entry}
 use Rattle.mbuf_chain.specs.Train.{TrainView, QueuedPacket, queued_packets}
-use Rattle.chain_ops.specs.Weights.{laid, HaveBytes}
+use Rattle.chain_ops.specs.Weights.{laid_entries, HaveBytes}
 use Rattle.ledger.specs.Accounts.{item_of}
 use Rattle.ip_out.specs.declared.head.IpHead.{IpHead}
 use Rattle.ip_out.specs.Headings.{head_bytes}
 
 -- the chains of a train as packets, in order: their bytes and what they weigh
-abbrev pub packets : PoolView → TrainView → List Item
-packets p t = map (λ (queued_packet : QueuedPacket). item_of queued_packet.entries) (queued_packets p t)
+abbrev pub train_packets : PoolView → TrainView → List Item
+train_packets p t = map (λ (queued_packet : QueuedPacket). item_of queued_packet.entries) (queued_packets p t)
 
 -- the header of the packet of one part
-abbrev pub head_for : IpHead → Part → IpHead
-head_for h p = record h { total = IP_HEADER + p.size; more = p.more; offset = p.offset }
+abbrev pub part_head : IpHead → Part → IpHead
+part_head h p = record h { total = IP_HEADER + p.size; more = p.more; offset = p.offset }
 
 -- the packet of one part of what is carried
 abbrev pub part_bytes : IpHead → List ℕ → Part → List ℕ
-part_bytes h carried p = head_bytes (head_for h p) ++ take p.size (drop p.offset carried)
+part_bytes h carried p = head_bytes (part_head h p) ++ take p.size (drop p.offset carried)
 
 -- the parts of a datagram that lies in a chain after 20 bytes for its header
-abbrev pub parts_of : ChainView → ℕ → List Part
-parts_of v mtu = cuts (length (string v) - IP_HEADER) mtu
+abbrev pub chain_parts : ChainView → ℕ → List Part
+chain_parts v mtu = cuts (length (string v) - IP_HEADER) mtu
 
 -- its packets: the first weighs what the chain weighs, each later one an mbuf and those in which its bytes lie
 abbrev pub packets_of : ChainView → IpHead → ℕ → List Item
-packets_of v h mtu = items (laid v.entries) (part_bytes h (drop IP_HEADER (string v))) (parts_of v mtu)
+packets_of v h mtu = items (laid_entries v.entries) (part_bytes h (drop IP_HEADER (string v))) (chain_parts v mtu)
 
 -- how many mbufs a later packet takes: one for its header, and one for each mbuf in which its bytes lie
 abbrev pub part_need : ChainView → Part → ℕ
-part_need v p = 1 + length (entries_met (laid v.entries) (IP_HEADER + p.offset) (IP_HEADER + p.offset + p.size))
+part_need v p = 1 + length (entries_met (laid_entries v.entries) (IP_HEADER + p.offset) (IP_HEADER + p.offset + p.size))
 
 -- how many all later packets take
 abbrev pub later_need : ChainView → ℕ → ℕ
-later_need v mtu = sum_by (part_need v) (drop 1 (parts_of v mtu))
+later_need v mtu = sum_by (part_need v) (drop 1 (chain_parts v mtu))
 
 -- A chain that can be output: its first mbuf is plain, has a packet header and begins with the 20 bytes of the
 -- IP header, whatever they are; none of its mbufs is empty, and no more bytes are there than a packet has.
-pub record IsDatagram (v : ChainView) : Type 0 where
+pub record IsDatagramChain (v : ChainView) : Type 0 where
   pub headed : v.front.header ≡ true
   pub plain : (entry_of v 0).cluster ≡ None
   pub room : IP_HEADER ≤ length (entry_of v 0).bytes

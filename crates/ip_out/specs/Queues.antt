@@ -7,18 +7,18 @@ use Rattle.flat_model.specs.declared.errno.Lack.TheVariants.{Pool, Queue}
 use Rattle.mbuf_chain.specs.Chain.{PoolView, without}
 use Rattle.mbuf_chain.specs.Train.{TrainView, IsHeld}
 use Rattle.chain_ops.specs.Makes.{HasMbufs, LacksMbufs}
-use Rattle.ip_out.specs.Packets.{packets}
+use Rattle.ip_out.specs.Packets.{train_packets}
 
 -- the queue and the pool fit together, and at most 50 packets wait
-pub record IsQueue (p : PoolView) (q : TrainView) : Type 0 where
+pub record IsOutputQueue (p : PoolView) (q : TrainView) : Type 0 where
   pub held : IsHeld p q
   pub room : q.len ≤ OUTPUT_QUEUE_PACKETS
 
 -- Why an output of the chain c as these packets, the later of which take so many mbufs, was refused, and what it left:
 -- the pool has too few, and the chain is gone; or the queue has no room for all, and those that fit are queued.
-abbrev pub IsRefused : Lack → PoolView → TrainView → ℕ → List Item → ℕ → PoolView → TrainView → Type 0
-IsRefused Pool p t c all need q u = LacksMbufs p need × (q ≡ without p c) × (u ≡ t)
-IsRefused Queue p t c all need q u =
+abbrev pub IsOutputRefused : Lack → PoolView → TrainView → ℕ → List Item → ℕ → PoolView → TrainView → Type 0
+IsOutputRefused Pool p t c all need q u = LacksMbufs p need × (q ≡ without p c) × (u ≡ t)
+IsOutputRefused Queue p t c all need q u =
     HasMbufs p need
-    × (OUTPUT_QUEUE_PACKETS < length (packets p t ++ all))
-    × (packets q u ≡ take OUTPUT_QUEUE_PACKETS (packets p t ++ all))
+    × (OUTPUT_QUEUE_PACKETS < length (train_packets p t ++ all))
+    × (train_packets q u ≡ take OUTPUT_QUEUE_PACKETS (train_packets p t ++ all))

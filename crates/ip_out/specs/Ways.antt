@@ -7,15 +7,15 @@ use Rattle.ip_out.specs.declared.ways.Way.TheVariants.{Link, Loopback, Both}
 use Rattle.ip_out.specs.Packets.{later_need}
 
 -- the packets that go to the link, and those that come back
-abbrev pub to_link : Way → List Item → List Item
-to_link Link items = items
-to_link Loopback items = []
-to_link Both items = items
+abbrev pub to_link_by : Way → List Item → List Item
+to_link_by Link items = items
+to_link_by Loopback items = []
+to_link_by Both items = items
 
-abbrev pub to_self : Way → List Item → List Item
-to_self Link items = []
-to_self Loopback items = items
-to_self Both items = items
+abbrev pub to_self_by : Way → List Item → List Item
+to_self_by Link items = []
+to_self_by Loopback items = items
+to_self_by Both items = items
 
 -- how many mbufs they take beyond those of the chain; a copy of a chain takes as many as the chain has
 abbrev pub way_need : Way → ChainView → ℕ → ℕ

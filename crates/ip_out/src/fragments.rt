@@ -3,13 +3,13 @@ ghost use Rattle.std.specs.Prelude.{◌≡◌, ℕ, ◌+◌, ◌-◌, ◌*◌, �
 ghost use Rattle.flat_model.specs.Fragments.Cuts.{part};
 ghost use Rattle.mbuf_chain.specs.Chain.{IsLive, chain_of, string, alone, held_mbufs, without, Adds};
 ghost use Rattle.mbuf_chain.specs.Steps.{one_mbuf};
-ghost use Rattle.mbuf_chain.specs.Owners.{Moves, times};
+ghost use Rattle.mbuf_chain.specs.Owners.{Moves, times_among};
 ghost use Rattle.mbuf_chain.specs.Train.{IsHeld, numbers};
 ghost use Rattle.chain_ops.specs.Makes.{Makes, HasMbufs, LacksMbufs};
 ghost use Rattle.chain_ops.specs.Copies.{copied};
 ghost use Rattle.chain_ops.specs.Cursors.{IsCursor};
-ghost use Rattle.ip_out.specs.Packets.{BeginPlain, IsDatagram, head_for, later_need, packets, packets_of, part_need};
-ghost use Rattle.ip_out.specs.Inside.{head_entry, parts_to, IsCut, IsLater};
+ghost use Rattle.ip_out.specs.Packets.{BeginPlain, IsDatagramChain, part_head, later_need, train_packets, packets_of, part_need};
+ghost use Rattle.ip_out.specs.Inside.{head_entry, parts_to, IsCutInto, IsLater};
 
 use crate::head::{IpHead, MAX_OFFSET, write_head};
 use chain_ops::theorems::copy_weight;
@@ -34,7 +34,7 @@ pub(crate) fn cut_of(n: u32, mtu: u32) -> Cut
     requires short { n ≤ IP_MAX_DATA }
     requires least { MIN_MTU ≤ mtu }
     requires most { mtu ≤ 65535 }
-    ensures cut { IsCut n mtu result.chunk result.count }
+    ensures cut { IsCutInto n mtu result.chunk result.count }
     ensures chunk { result.chunk ≡ (mtu - IP_HEADER) / FRAGMENT_UNIT * FRAGMENT_UNIT }
     ensures count { result.count ≡ (n + (result.chunk - 1)) / result.chunk }
 {
@@ -51,7 +51,7 @@ fn head_of(head: IpHead, n: u32, chunk: u32, i: u32) -> IpHead
     requires short { n ≤ IP_MAX_DATA }
     requires chunk { chunk ≤ IP_MAX_PACKET }
     requires some { i * chunk ≤ n }
-    ensures { result ≡ head_for head (part n chunk i) }
+    ensures { result ≡ part_head head (part n chunk i) }
 {
     let offset = i * chunk;
     IpHead {
@@ -114,7 +114,7 @@ fn fragment(
 /// The packets of the parts after the first of `n` bytes. The chain is walked once.
 fn later(pool: &mut Pool, chain: &Chain, head: IpHead, n: u32, cut: Cut) -> Result<Train, NoBufs>
     requires live { IsLive pool.old chain.now }
-    requires datagram { IsDatagram (chain_of pool.old chain.now) }
+    requires datagram { IsDatagramChain (chain_of pool.old chain.now) }
     requires len { n + IP_HEADER ≡ length (string (chain_of pool.old chain.now)) }
     requires chunk { 0 < cut.chunk }
     requires wide { cut.chunk ≤ IP_MAX_PACKET }
@@ -152,14 +152,14 @@ fn later(pool: &mut Pool, chain: &Chain, head: IpHead, n: u32, cut: Cut) -> Resu
 #[inline(always)]
 pub(crate) fn add_whole(pool: &mut Pool, train: &mut Train, chain: Chain, head: IpHead, len: u32)
     requires live { IsLive pool.old chain }
-    requires datagram { IsDatagram (chain_of pool.old chain) }
+    requires datagram { IsDatagramChain (chain_of pool.old chain) }
     requires len { len ≡ length (string (chain_of pool.old chain)) }
     requires held { IsHeld pool.old train.old }
-    requires apart { times chain (numbers pool.old train.old) ≡ 0 }
+    requires apart { times_among chain (numbers pool.old train.old) ≡ 0 }
     ensures held { IsHeld pool.new train.new }
     ensures len { train.new.len ≡ train.old.len + 1 }
-    ensures packets { (mtu : ℕ) → len ≤ mtu → packets pool.new train.new
-        ≡ packets pool.old train.old ++ packets_of (chain_of pool.old chain) head mtu }
+    ensures packets { (mtu : ℕ) → len ≤ mtu → train_packets pool.new train.new
+        ≡ train_packets pool.old train.old ++ packets_of (chain_of pool.old chain) head mtu }
     ensures plain { BeginPlain pool.old train.old → BeginPlain pool.new train.new }
     ensures moves { Moves pool.old (chain ∷ numbers pool.old train.old) pool.new (numbers pool.new train.new) }
 {
@@ -180,11 +180,11 @@ pub(crate) fn add_whole(pool: &mut Pool, train: &mut Train, chain: Chain, head: 
 /// The packet of a datagram of `len` bytes that isn't cut: see `add_whole`.
 fn one_packet(pool: &mut Pool, chain: Chain, head: IpHead, len: u32) -> Train
     requires live { IsLive pool.old chain }
-    requires datagram { IsDatagram (chain_of pool.old chain) }
+    requires datagram { IsDatagramChain (chain_of pool.old chain) }
     requires len { len ≡ length (string (chain_of pool.old chain)) }
     ensures held { IsHeld pool.new result }
     ensures packets { (mtu : ℕ) → len ≤ mtu
-        → packets pool.new result ≡ packets_of (chain_of pool.old chain) head mtu }
+        → train_packets pool.new result ≡ packets_of (chain_of pool.old chain) head mtu }
     ensures plain { BeginPlain pool.new result }
     ensures moves { Moves pool.old (chain ∷ []) pool.new (numbers pool.new result) }
     ensures count { (mtu : ℕ) → len ≤ mtu
@@ -208,10 +208,10 @@ fn cut_packets(
     requires len { len ≡ length (string (chain_of pool.old chain)) }
     requires long { mtu < len }
     requires live { IsLive pool.old chain }
-    requires datagram { IsDatagram (chain_of pool.old chain) }
+    requires datagram { IsDatagramChain (chain_of pool.old chain) }
     requires least { MIN_MTU ≤ mtu }
     ensures held { IfOk result (IsHeld pool.new) }
-    ensures packets { IfOk result (λ t. packets pool.new t ≡ packets_of (chain_of pool.old chain) head mtu) }
+    ensures packets { IfOk result (λ t. train_packets pool.new t ≡ packets_of (chain_of pool.old chain) head mtu) }
     ensures plain { IfOk result (BeginPlain pool.new) }
     ensures moves { IfOk result (λ t. Moves pool.old (chain ∷ []) pool.new (numbers pool.new t)) }
     ensures count { OnOk result
@@ -246,10 +246,10 @@ pub(crate) fn fragments(
     mtu: u16,
 ) -> Result<Train, NoBufs>
     requires live { IsLive pool.old chain }
-    requires datagram { IsDatagram (chain_of pool.old chain) }
+    requires datagram { IsDatagramChain (chain_of pool.old chain) }
     requires least { MIN_MTU ≤ mtu }
     ensures held { IfOk result (IsHeld pool.new) }
-    ensures packets { IfOk result (λ t. packets pool.new t ≡ packets_of (chain_of pool.old chain) head mtu) }
+    ensures packets { IfOk result (λ t. train_packets pool.new t ≡ packets_of (chain_of pool.old chain) head mtu) }
     ensures plain { IfOk result (BeginPlain pool.new) }
     ensures moves { IfOk result (λ t. Moves pool.old (chain ∷ []) pool.new (numbers pool.new t)) }
     ensures count { OnOk result

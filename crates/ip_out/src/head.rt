@@ -3,7 +3,7 @@ ghost use Rattle.std.specs.Prelude.{◌≡◌, ℕ, List, [], ◌∷◌, ◌+◌
 ghost use Rattle.flat_model.specs.Packets.Checksum.{checksum};
 ghost use Rattle.flat_model.specs.Packets.Header.{u16_at, u32_at, two_bytes, four_bytes, head_fault};
 ghost use Rattle.mbuf_chain.specs.Chain.{IsLive, chain_of, string};
-ghost use Rattle.ip_out.specs.Headings.{flags_of, written, blank_bytes, bytes_with, head_bytes, head_in};
+ghost use Rattle.ip_out.specs.Headings.{flags_of, header_written, blank_bytes, bytes_with, head_bytes, head_in};
 
 use byteorder::{BigEndian, ByteOrder};
 use chain_ops::m_copydata;
@@ -74,7 +74,7 @@ fn flags_of(head: &IpHead) -> u16
 #[inline(always)]
 fn put_u8(bytes: &mut [u8], at: usize, n: u8)
     requires { at + 1 ≤ length bytes.old }
-    ensures { bytes.new ≡ written bytes.old at (n ∷ []) }
+    ensures { bytes.new ≡ header_written bytes.old at (n ∷ []) }
 {
     bytes[at] = n;
 }
@@ -83,7 +83,7 @@ fn put_u8(bytes: &mut [u8], at: usize, n: u8)
 #[inline(always)]
 fn put_u16(bytes: &mut [u8], at: usize, n: u16)
     requires { at + 2 ≤ length bytes.old }
-    ensures { bytes.new ≡ written bytes.old at (two_bytes n) }
+    ensures { bytes.new ≡ header_written bytes.old at (two_bytes n) }
 {
     BigEndian::write_u16(&mut bytes[at..at + 2], n);
 }
@@ -92,7 +92,7 @@ fn put_u16(bytes: &mut [u8], at: usize, n: u16)
 #[inline(always)]
 fn put_u32(bytes: &mut [u8], at: usize, n: u32)
     requires { at + 4 ≤ length bytes.old }
-    ensures { bytes.new ≡ written bytes.old at (four_bytes n) }
+    ensures { bytes.new ≡ header_written bytes.old at (four_bytes n) }
 {
     BigEndian::write_u32(&mut bytes[at..at + 4], n);
 }

@@ -1,12 +1,12 @@
 //! The output queue.
 ghost use Rattle.std.specs.Prelude.{◌≡◌, ℕ, ◌+◌, ◌<◌, ◌≤◌, ◌==◌, ◌++◌, [], ◌∷◌, true, false, None, IfSome, MatchOption, option_map, drop, take, length, nat_lt, IfNone};
 ghost use Rattle.mbuf_chain.specs.Chain.{PoolView, IsLive, chain_of, entry_of, string, alone};
-ghost use Rattle.mbuf_chain.specs.Owners.{Moves, IsOwned, times};
+ghost use Rattle.mbuf_chain.specs.Owners.{Moves, IsOwned, times_among};
 ghost use Rattle.mbuf_chain.specs.Train.{IsHeld, numbers};
 ghost use Rattle.ledger.specs.Accounts.{item_at};
-ghost use Rattle.ip_out.specs.Packets.{BeginPlain, IsDatagram, packets, packets_of, parts_of};
+ghost use Rattle.ip_out.specs.Packets.{BeginPlain, IsDatagramChain, train_packets, packets_of, chain_parts};
 ghost use Rattle.ip_out.specs.Questions.{nth_packet, oldest_length};
-ghost use Rattle.ip_out.specs.Queues.{IsQueue};
+ghost use Rattle.ip_out.specs.Queues.{IsOutputQueue};
 
 use crate::fragments::add_whole;
 use crate::head::IpHead;
@@ -29,12 +29,12 @@ fn take_over(pool: &Pool, train: &mut Train, more: Train)
     requires none { train.old.len ≡ 0 }
     requires few { more.len ≤ OUTPUT_QUEUE_PACKETS }
     requires more { IsHeld pool.now more }
-    ensures packets { packets pool.now train.new
-        ≡ take OUTPUT_QUEUE_PACKETS (packets pool.now train.old ++ packets pool.now more) }
+    ensures packets { train_packets pool.now train.new
+        ≡ take OUTPUT_QUEUE_PACKETS (train_packets pool.now train.old ++ train_packets pool.now more) }
     ensures lost { false
-        ≡ nat_lt OUTPUT_QUEUE_PACKETS (length (packets pool.now train.old ++ packets pool.now more)) }
+        ≡ nat_lt OUTPUT_QUEUE_PACKETS (length (train_packets pool.now train.old ++ train_packets pool.now more)) }
     ensures plain { BeginPlain pool.now more → BeginPlain pool.now train.new }
-    ensures queue { IsQueue pool.now train.new }
+    ensures queue { IsOutputQueue pool.now train.new }
     ensures moves { Moves pool.now (numbers pool.now train.old ++ numbers pool.now more)
         pool.now (numbers pool.now train.new) }
 {
@@ -48,12 +48,12 @@ fn move_packets(pool: &mut Pool, train: &mut Train, more: Train) -> bool
     requires more { IsHeld pool.old more }
     requires owned { IsOwned pool.old (numbers pool.old train.old ++ numbers pool.old more) }
     requires room { train.old.len ≤ OUTPUT_QUEUE_PACKETS }
-    ensures packets { packets pool.new train.new
-        ≡ take OUTPUT_QUEUE_PACKETS (packets pool.old train.old ++ packets pool.old more) }
+    ensures packets { train_packets pool.new train.new
+        ≡ take OUTPUT_QUEUE_PACKETS (train_packets pool.old train.old ++ train_packets pool.old more) }
     ensures lost { result
-        ≡ nat_lt OUTPUT_QUEUE_PACKETS (length (packets pool.old train.old ++ packets pool.old more)) }
+        ≡ nat_lt OUTPUT_QUEUE_PACKETS (length (train_packets pool.old train.old ++ train_packets pool.old more)) }
     ensures plain { BeginPlain pool.old train.old → BeginPlain pool.old more → BeginPlain pool.new train.new }
-    ensures queue { IsQueue pool.new train.new }
+    ensures queue { IsOutputQueue pool.new train.new }
     ensures moves { Moves pool.old (numbers pool.old train.old ++ numbers pool.old more)
         pool.new (numbers pool.new train.new) }
 {
@@ -80,7 +80,7 @@ impl Queue {
     /// A queue without packets.
     pub const fn new() -> Queue
         ensures empty { result ≡ record { first = None; last = None; len = 0 } }
-        ensures queue { (p : PoolView) → IsQueue p result }
+        ensures queue { (p : PoolView) → IsOutputQueue p result }
         ensures plain { (p : PoolView) → BeginPlain p result }
     {
         Queue {
@@ -105,8 +105,8 @@ impl Queue {
     /// How many bytes the packet has that has waited longest; `None` where none waits. It changes nothing, and takes a
     /// number of steps that doesn't depend on the queue.
     pub fn next_len(&self, pool: &Pool) -> Option<u32>
-        requires { IsQueue pool.now self.now }
-        ensures { result ≡ oldest_length (packets pool.now self.now) }
+        requires { IsOutputQueue pool.now self.now }
+        ensures { result ≡ oldest_length (train_packets pool.now self.now) }
     {
         let at = self.train.first(pool)?;
         Some(self.train.len_at(pool, at))
@@ -116,9 +116,10 @@ impl Queue {
     /// many they are; `None` exactly if no more than `i` packets wait. The rest of the room stays as it was. Condition:
     /// the room has a place for each of the bytes. The packet stays where it is; it takes a step for each one in front.
     pub fn packet(&self, pool: &Pool, i: u32, room: &mut [u8]) -> Option<usize>
-        requires queue { IsQueue pool.now self.now }
-        requires fits { IfSome (nth_packet i (packets pool.now self.now)) (λ bytes. length bytes ≤ length room.old) }
-        ensures packet { option_map (λ n. take n room.new) result ≡ nth_packet i (packets pool.now self.now) }
+        requires queue { IsOutputQueue pool.now self.now }
+        requires fits { IfSome (nth_packet i (train_packets pool.now self.now))
+            (λ bytes. length bytes ≤ length room.old) }
+        ensures packet { option_map (λ n. take n room.new) result ≡ nth_packet i (train_packets pool.now self.now) }
         ensures within { IfSome result (λ n. n ≤ length room.new) }
         ensures same { IfNone result (room.new ≡ room.old) }
         ensures rest { IfSome result (λ n. drop n room.new ≡ drop n room.old) }
@@ -129,15 +130,16 @@ impl Queue {
     /// Puts a packet at the end. Conditions: fewer than 50 wait; the first mbuf has a packet header. It takes a number
     /// of steps that doesn't depend on the queue.
     pub fn push(&mut self, pool: &mut Pool, packet: Chain)
-        requires queue { IsQueue pool.old self.old }
+        requires queue { IsOutputQueue pool.old self.old }
         requires room { self.old.len < OUTPUT_QUEUE_PACKETS }
         requires live { IsLive pool.old packet }
         requires headed { (chain_of pool.old packet).front.header ≡ true }
-        requires apart { times packet (numbers pool.old self.old) ≡ 0 }
-        ensures packets { packets pool.new self.new ≡ packets pool.old self.old ++ item_at pool.old packet ∷ [] }
+        requires apart { times_among packet (numbers pool.old self.old) ≡ 0 }
+        ensures packets { train_packets pool.new self.new
+            ≡ train_packets pool.old self.old ++ item_at pool.old packet ∷ [] }
         ensures plain { (entry_of (chain_of pool.old packet) 0).cluster ≡ None → BeginPlain pool.old self.old
             → BeginPlain pool.new self.new }
-        ensures queue { IsQueue pool.new self.new }
+        ensures queue { IsOutputQueue pool.new self.new }
         ensures len { self.new.len ≡ self.old.len + 1 }
         ensures moves { Moves pool.old (packet ∷ numbers pool.old self.old) pool.new (numbers pool.new self.new) }
     {
@@ -155,17 +157,17 @@ impl Queue {
         head: IpHead,
         len: u32,
     ) -> bool
-        requires queue { IsQueue pool.old self.old }
+        requires queue { IsOutputQueue pool.old self.old }
         requires live { IsLive pool.old chain }
-        requires datagram { IsDatagram (chain_of pool.old chain) }
+        requires datagram { IsDatagramChain (chain_of pool.old chain) }
         requires len { len ≡ length (string (chain_of pool.old chain)) }
-        requires apart { times chain (numbers pool.old self.old) ≡ 0 }
-        ensures packets { (mtu : ℕ) → len ≤ mtu → packets pool.new self.new ≡ take OUTPUT_QUEUE_PACKETS
-            (packets pool.old self.old ++ packets_of (chain_of pool.old chain) head mtu) }
+        requires apart { times_among chain (numbers pool.old self.old) ≡ 0 }
+        ensures packets { (mtu : ℕ) → len ≤ mtu → train_packets pool.new self.new ≡ take OUTPUT_QUEUE_PACKETS
+            (train_packets pool.old self.old ++ packets_of (chain_of pool.old chain) head mtu) }
         ensures lost { (mtu : ℕ) → len ≤ mtu → result ≡ nat_lt OUTPUT_QUEUE_PACKETS
-            (length (packets pool.old self.old ++ packets_of (chain_of pool.old chain) head mtu)) }
+            (length (train_packets pool.old self.old ++ packets_of (chain_of pool.old chain) head mtu)) }
         ensures plain { BeginPlain pool.old self.old → BeginPlain pool.new self.new }
-        ensures queue { IsQueue pool.new self.new }
+        ensures queue { IsOutputQueue pool.new self.new }
         ensures moves { Moves pool.old (chain ∷ numbers pool.old self.old) pool.new (numbers pool.new self.new) }
     {
         if self.len() >= OUTPUT_QUEUE_PACKETS {
@@ -180,19 +182,19 @@ impl Queue {
     /// chain is as `send_packets` wants it. It takes a number of steps that doesn't depend on the queue.
     #[inline(always)]
     pub fn push_one(&mut self, pool: &mut Pool, chain: Chain, head: IpHead, len: u32)
-        requires queue { IsQueue pool.old self.old }
+        requires queue { IsOutputQueue pool.old self.old }
         requires room { self.old.len < OUTPUT_QUEUE_PACKETS }
         requires live { IsLive pool.old chain }
-        requires datagram { IsDatagram (chain_of pool.old chain) }
+        requires datagram { IsDatagramChain (chain_of pool.old chain) }
         requires len { len ≡ length (string (chain_of pool.old chain)) }
-        requires apart { times chain (numbers pool.old self.old) ≡ 0 }
-        ensures packets { (mtu : ℕ) → len ≤ mtu → packets pool.new self.new ≡ take OUTPUT_QUEUE_PACKETS
-            (packets pool.old self.old ++ packets_of (chain_of pool.old chain) head mtu) }
+        requires apart { times_among chain (numbers pool.old self.old) ≡ 0 }
+        ensures packets { (mtu : ℕ) → len ≤ mtu → train_packets pool.new self.new ≡ take OUTPUT_QUEUE_PACKETS
+            (train_packets pool.old self.old ++ packets_of (chain_of pool.old chain) head mtu) }
         ensures lost { (mtu : ℕ) → len ≤ mtu → false ≡ nat_lt OUTPUT_QUEUE_PACKETS
-            (length (packets pool.old self.old ++ packets_of (chain_of pool.old chain) head mtu)) }
-        ensures cut { (mtu : ℕ) → len ≤ mtu → false ≡ nat_lt 1 (length (parts_of (chain_of pool.old chain) mtu)) }
+            (length (train_packets pool.old self.old ++ packets_of (chain_of pool.old chain) head mtu)) }
+        ensures cut { (mtu : ℕ) → len ≤ mtu → false ≡ nat_lt 1 (length (chain_parts (chain_of pool.old chain) mtu)) }
         ensures plain { BeginPlain pool.old self.old → BeginPlain pool.new self.new }
-        ensures queue { IsQueue pool.new self.new }
+        ensures queue { IsOutputQueue pool.new self.new }
         ensures moves { Moves pool.old (chain ∷ numbers pool.old self.old) pool.new (numbers pool.new self.new) }
     {
         add_whole(pool, &mut self.train, chain, head, len);
@@ -201,17 +203,17 @@ impl Queue {
     /// Takes the packet that has waited longest, or answers `None` where none waits. It takes a number of steps that
     /// doesn't depend on the queue.
     pub fn pop(&mut self, pool: &mut Pool) -> Option<Chain>
-        requires { IsQueue pool.old self.old }
+        requires { IsOutputQueue pool.old self.old }
         ensures packets { MatchOption result
-            ((packets pool.old self.old ≡ []) × (pool.new ≡ pool.old) × (self.new ≡ self.old))
-            (λ packet. packets pool.old self.old ≡ item_at pool.new packet ∷ packets pool.new self.new) }
+            ((train_packets pool.old self.old ≡ []) × (pool.new ≡ pool.old) × (self.new ≡ self.old))
+            (λ packet. train_packets pool.old self.old ≡ item_at pool.new packet ∷ train_packets pool.new self.new) }
         ensures alone { MatchOption result (self.old.len ≡ 0)
             (λ packet. (chain_of pool.new packet).front ≡ alone true) }
         ensures plain { IfSome result (λ packet. BeginPlain pool.old self.old
             → ((entry_of (chain_of pool.new packet) 0).cluster ≡ None) × BeginPlain pool.new self.new) }
         ensures live { IfSome result (IsLive pool.new) }
-        ensures apart { IfSome result (λ packet. times packet (numbers pool.new self.new) ≡ 0) }
-        ensures queue { IsQueue pool.new self.new }
+        ensures apart { IfSome result (λ packet. times_among packet (numbers pool.new self.new) ≡ 0) }
+        ensures queue { IsOutputQueue pool.new self.new }
         ensures moves { MatchOption result (self.old.len ≡ 0)
             (λ packet. Moves pool.old (numbers pool.old self.old) pool.new (packet ∷ numbers pool.new self.new)) }
     {
@@ -224,15 +226,15 @@ impl Queue {
 
     /// Puts packets at the end, as many as there is room for, and frees the others. Answers whether there were others.
     pub fn push_all(&mut self, pool: &mut Pool, more: Train) -> bool
-        requires queue { IsQueue pool.old self.old }
+        requires queue { IsOutputQueue pool.old self.old }
         requires more { IsHeld pool.old more }
         requires owned { IsOwned pool.old (numbers pool.old self.old ++ numbers pool.old more) }
-        ensures packets { packets pool.new self.new
-            ≡ take OUTPUT_QUEUE_PACKETS (packets pool.old self.old ++ packets pool.old more) }
+        ensures packets { train_packets pool.new self.new
+            ≡ take OUTPUT_QUEUE_PACKETS (train_packets pool.old self.old ++ train_packets pool.old more) }
         ensures lost { result
-            ≡ nat_lt OUTPUT_QUEUE_PACKETS (length (packets pool.old self.old ++ packets pool.old more)) }
+            ≡ nat_lt OUTPUT_QUEUE_PACKETS (length (train_packets pool.old self.old ++ train_packets pool.old more)) }
         ensures plain { BeginPlain pool.old self.old → BeginPlain pool.old more → BeginPlain pool.new self.new }
-        ensures queue { IsQueue pool.new self.new }
+        ensures queue { IsOutputQueue pool.new self.new }
         ensures moves { Moves pool.old (numbers pool.old self.old ++ numbers pool.old more)
             pool.new (numbers pool.new self.new) }
     {
@@ -245,7 +247,7 @@ impl Queue {
 
     /// Frees all packets, and spends the queue.
     pub fn end(self, pool: &mut Pool)
-        requires { IsQueue pool.old self }
+        requires { IsOutputQueue pool.old self }
         ensures { Moves pool.old (numbers pool.old self) pool.new [] }
     {
         let Queue { train } = self;

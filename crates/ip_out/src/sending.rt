@@ -1,12 +1,12 @@
 //! Output: the packets of a datagram, and where they go.
 ghost use Rattle.std.specs.Prelude.{◌≡◌, ◌≤◌, ◌∷◌, ◌++◌, length, take, nat_lt, IfOk, OnOk, OnErr, IfErr};
 ghost use Rattle.mbuf_chain.specs.Chain.{IsLive, chain_of, without};
-ghost use Rattle.mbuf_chain.specs.Owners.{Moves, times};
+ghost use Rattle.mbuf_chain.specs.Owners.{Moves, times_among};
 ghost use Rattle.mbuf_chain.specs.Train.{IsHeld, numbers};
 ghost use Rattle.chain_ops.specs.Makes.{HasMbufs, LacksMbufs};
-ghost use Rattle.ip_out.specs.Packets.{BeginPlain, IsDatagram, later_need, packets, packets_of, parts_of};
-ghost use Rattle.ip_out.specs.Queues.{IsQueue, IsRefused};
-ghost use Rattle.ip_out.specs.Ways.{to_link, to_self, way_need};
+ghost use Rattle.ip_out.specs.Packets.{BeginPlain, IsDatagramChain, later_need, train_packets, packets_of, chain_parts};
+ghost use Rattle.ip_out.specs.Queues.{IsOutputQueue, IsOutputRefused};
+ghost use Rattle.ip_out.specs.Ways.{to_link_by, to_self_by, way_need};
 
 use crate::fragments::fragments;
 use crate::head::IpHead;
@@ -39,18 +39,18 @@ pub fn output(
     queue: &mut Queue,
 ) -> Result<(), Lack>
     requires live { IsLive pool.old chain }
-    requires datagram { IsDatagram (chain_of pool.old chain) }
+    requires datagram { IsDatagramChain (chain_of pool.old chain) }
     requires least { MIN_MTU ≤ mtu }
-    requires queue { IsQueue pool.old queue.old }
-    requires apart { times chain (numbers pool.old queue.old) ≡ 0 }
+    requires queue { IsOutputQueue pool.old queue.old }
+    requires apart { times_among chain (numbers pool.old queue.old) ≡ 0 }
     ensures ok { OnOk result (HasMbufs pool.old (later_need (chain_of pool.old chain) mtu)
-        × (packets pool.new queue.new
-        ≡ packets pool.old queue.old ++ packets_of (chain_of pool.old chain) head mtu)) }
-    ensures err { IfErr result (λ lack. IsRefused lack pool.old queue.old chain
+        × (train_packets pool.new queue.new
+        ≡ train_packets pool.old queue.old ++ packets_of (chain_of pool.old chain) head mtu)) }
+    ensures err { IfErr result (λ lack. IsOutputRefused lack pool.old queue.old chain
         (packets_of (chain_of pool.old chain) head mtu) (later_need (chain_of pool.old chain) mtu)
         pool.new queue.new) }
     ensures plain { BeginPlain pool.old queue.old → BeginPlain pool.new queue.new }
-    ensures queue { IsQueue pool.new queue.new }
+    ensures queue { IsOutputQueue pool.new queue.new }
     ensures moves { Moves pool.old (chain ∷ numbers pool.old queue.old) pool.new (numbers pool.new queue.new) }
 {
     let Ok(packets) = fragments(pool, chain, head, mtu) else {
@@ -89,21 +89,21 @@ impl Queue {
         way: Way,
     ) -> Result<Sent, NoBufs>
         requires live { IsLive pool.old chain }
-        requires datagram { IsDatagram (chain_of pool.old chain) }
+        requires datagram { IsDatagramChain (chain_of pool.old chain) }
         requires least { MIN_MTU ≤ mtu }
-        requires queue { IsQueue pool.old self.old }
-        requires apart { times chain (numbers pool.old self.old) ≡ 0 }
-        ensures link { OnOk result (packets pool.new self.new ≡ take OUTPUT_QUEUE_PACKETS
-            (packets pool.old self.old ++ to_link way (packets_of (chain_of pool.old chain) head mtu))) }
+        requires queue { IsOutputQueue pool.old self.old }
+        requires apart { times_among chain (numbers pool.old self.old) ≡ 0 }
+        ensures link { OnOk result (train_packets pool.new self.new ≡ take OUTPUT_QUEUE_PACKETS
+            (train_packets pool.old self.old ++ to_link_by way (packets_of (chain_of pool.old chain) head mtu))) }
         ensures lost { IfOk result (λ s. s.is_lost ≡ nat_lt OUTPUT_QUEUE_PACKETS (length
-            (packets pool.old self.old ++ to_link way (packets_of (chain_of pool.old chain) head mtu)))) }
+            (train_packets pool.old self.old ++ to_link_by way (packets_of (chain_of pool.old chain) head mtu)))) }
         ensures looped { IfOk result
-            (λ s. packets pool.new s.looped ≡ to_self way (packets_of (chain_of pool.old chain) head mtu)) }
-        ensures cut { IfOk result (λ s. s.is_cut ≡ nat_lt 1 (length (parts_of (chain_of pool.old chain) mtu))) }
+            (λ s. train_packets pool.new s.looped ≡ to_self_by way (packets_of (chain_of pool.old chain) head mtu)) }
+        ensures cut { IfOk result (λ s. s.is_cut ≡ nat_lt 1 (length (chain_parts (chain_of pool.old chain) mtu))) }
         ensures held { IfOk result (λ s. IsHeld pool.new s.looped) }
         ensures plain { IfOk result (λ s. BeginPlain pool.new s.looped) }
         ensures link_plain { BeginPlain pool.old self.old → BeginPlain pool.new self.new }
-        ensures queue { IsQueue pool.new self.new }
+        ensures queue { IsOutputQueue pool.new self.new }
         ensures moves { IfOk result (λ s. Moves pool.old (chain ∷ numbers pool.old self.old)
             pool.new (numbers pool.new s.looped ++ numbers pool.new self.new)) }
         ensures enough { OnOk result (HasMbufs pool.old (way_need way (chain_of pool.old chain) mtu)) }

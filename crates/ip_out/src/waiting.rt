@@ -2,7 +2,7 @@
 ghost use Rattle.std.specs.Prelude.{◌≡◌, ◌<◌, ◌≤◌, drop, length, take, option_map, IfNone, IfSome};
 ghost use Rattle.std.specs.List.{concat};
 ghost use Rattle.mbuf_chain.specs.Train.{IsHeld, IsQueuedPlace};
-ghost use Rattle.ip_out.specs.Packets.{packets};
+ghost use Rattle.ip_out.specs.Packets.{train_packets};
 ghost use Rattle.ip_out.specs.Questions.{nth_packet};
 
 use mbuf_chain::{Pieces, Pool, QueuedPlace, Train};
@@ -46,8 +46,8 @@ fn copy_all(pieces: Pieces<'_>, room: &mut [u8]) -> usize
 /// Copies the packet out in front of which `i` others wait: see `Queue::packet`.
 pub(crate) fn copy_packet(pool: &Pool, train: &Train, i: u32, room: &mut [u8]) -> Option<usize>
     requires held { IsHeld pool.now train.now }
-    requires fits { IfSome (nth_packet i (packets pool.now train.now)) (λ bytes. length bytes ≤ length room.old) }
-    ensures packet { option_map (λ n. take n room.new) result ≡ nth_packet i (packets pool.now train.now) }
+    requires fits { IfSome (nth_packet i (train_packets pool.now train.now)) (λ bytes. length bytes ≤ length room.old) }
+    ensures packet { option_map (λ n. take n room.new) result ≡ nth_packet i (train_packets pool.now train.now) }
     ensures within { IfSome result (λ n. n ≤ length room.new) }
     ensures same { IfNone result (room.new ≡ room.old) }
     ensures rest { IfSome result (λ n. drop n room.new ≡ drop n room.old) }

@@ -4,8 +4,8 @@ ghost use Rattle.mbuf_chain.specs.Chain.{IsLive, chain_of, without};
 ghost use Rattle.mbuf_chain.specs.Owners.{Moves};
 ghost use Rattle.mbuf_chain.specs.Train.{IsHeld, numbers};
 ghost use Rattle.chain_ops.specs.Makes.{HasMbufs, LacksMbufs};
-ghost use Rattle.ip_out.specs.Packets.{BeginPlain, IsDatagram, packets, packets_of, parts_of};
-ghost use Rattle.ip_out.specs.Ways.{to_link, to_self, way_need};
+ghost use Rattle.ip_out.specs.Packets.{BeginPlain, IsDatagramChain, train_packets, packets_of, chain_parts};
+ghost use Rattle.ip_out.specs.Ways.{to_link_by, to_self_by, way_need};
 
 use crate::fragments::fragments;
 use crate::head::IpHead;
@@ -38,11 +38,12 @@ pub struct Packets {
 /// The packets of a datagram that goes both ways: see `make_packets`.
 fn both_ways(pool: &mut Pool, chain: Chain, head: IpHead, mtu: u16) -> Result<Packets, NoBufs>
     requires live { IsLive pool.old chain }
-    requires datagram { IsDatagram (chain_of pool.old chain) }
+    requires datagram { IsDatagramChain (chain_of pool.old chain) }
     requires least { MIN_MTU ≤ mtu }
-    ensures link { IfOk result (λ s. packets pool.new s.link ≡ packets_of (chain_of pool.old chain) head mtu) }
-    ensures looped { IfOk result (λ s. packets pool.new s.looped ≡ packets_of (chain_of pool.old chain) head mtu) }
-    ensures cut { IfOk result (λ s. s.is_cut ≡ nat_lt 1 (length (parts_of (chain_of pool.old chain) mtu))) }
+    ensures link { IfOk result (λ s. train_packets pool.new s.link ≡ packets_of (chain_of pool.old chain) head mtu) }
+    ensures looped { IfOk result (λ s. train_packets pool.new s.looped
+        ≡ packets_of (chain_of pool.old chain) head mtu) }
+    ensures cut { IfOk result (λ s. s.is_cut ≡ nat_lt 1 (length (chain_parts (chain_of pool.old chain) mtu))) }
     ensures held { IfOk result (λ s. IsHeld pool.new s.link × IsHeld pool.new s.looped) }
     ensures plain { IfOk result (λ s. BeginPlain pool.new s.link × BeginPlain pool.new s.looped) }
     ensures moves { IfOk result (λ s. Moves pool.old (chain ∷ [])
@@ -86,13 +87,13 @@ pub fn make_packets(
     way: Way,
 ) -> Result<Packets, NoBufs>
     requires live { IsLive pool.old chain }
-    requires datagram { IsDatagram (chain_of pool.old chain) }
+    requires datagram { IsDatagramChain (chain_of pool.old chain) }
     requires least { MIN_MTU ≤ mtu }
     ensures link { IfOk result
-        (λ s. packets pool.new s.link ≡ to_link way (packets_of (chain_of pool.old chain) head mtu)) }
+        (λ s. train_packets pool.new s.link ≡ to_link_by way (packets_of (chain_of pool.old chain) head mtu)) }
     ensures looped { IfOk result
-        (λ s. packets pool.new s.looped ≡ to_self way (packets_of (chain_of pool.old chain) head mtu)) }
-    ensures cut { IfOk result (λ s. s.is_cut ≡ nat_lt 1 (length (parts_of (chain_of pool.old chain) mtu))) }
+        (λ s. train_packets pool.new s.looped ≡ to_self_by way (packets_of (chain_of pool.old chain) head mtu)) }
+    ensures cut { IfOk result (λ s. s.is_cut ≡ nat_lt 1 (length (chain_parts (chain_of pool.old chain) mtu))) }
     ensures held { IfOk result (λ s. IsHeld pool.new s.link × IsHeld pool.new s.looped) }
     ensures plain { IfOk result (λ s. BeginPlain pool.new s.link × BeginPlain pool.new s.looped) }
     ensures moves { IfOk result (λ s. Moves pool.old (chain ∷ [])

@@ -12,7 +12,7 @@ use Rattle.std.proofs.lemmas.List.Sums.{sum_by-cons}
 use Rattle.flat_model.specs.Machine.State.{State, Key, Unfinished, is_key}
 use Rattle.flat_model.proofs.Laws.{count_cons}
 use Rattle.mbuf_chain.specs.Chain.{PoolView}
-use Rattle.mbuf_chain.specs.Owners.{times, Moves}
+use Rattle.mbuf_chain.specs.Owners.{times_among, Moves}
 use Rattle.mbuf_chain.proofs.Laws.Owners.{times-append, moves_beside}
 use Rattle.ip_reass.specs.Table.{aged, held, held_all, holds, IsUnfinished, AllUnfinished, IsTable, unfinished_of, unfinished, AreDistinct}
 use Rattle.flat_model.specs.Machine.Step.{ticked}
@@ -20,7 +20,7 @@ use Rattle.flat_model.specs.Machine.Count.{counts_more}
 use Rattle.flat_model.specs.declared.counters.Counters.{Counters}
 use Rattle.flat_model.specs.declared.counter.Counter.TheVariants.{IpFragtimeout}
 use Rattle.mbuf_chain.specs.Frames.{SameAt}
-use Rattle.ip_reass.specs.Arrivals.{machine}
+use Rattle.ip_reass.specs.Arrivals.{machine_with}
 use Rattle.ip_reass.specs.Same.{unfinished_same}
 use Rattle.ip_reass.specs.declared.datagram.Datagram.{Datagram}
 
@@ -181,7 +181,7 @@ arm_kept old now swapped next kept i k d e a l t after perm is k_is =
     (subst (λ (zs : List Datagram). Aging old zs (suc kept) (suc i)) (sym is) go))
 
 -- ---- a tick
-pub times_all : (p : PoolView) (k : ℕ) (ds : List Datagram) → times k (held_all p ds) ≡ sum_by (holds p k) ds
+pub times_all : (p : PoolView) (k : ℕ) (ds : List Datagram) → times_among k (held_all p ds) ≡ sum_by (holds p k) ds
 times_all p k [] = refl
 times_all p k (d ∷ ds) =
     times-append k (held p d) (held_all p ds)
@@ -249,7 +249,7 @@ gone_is p (d ∷ ds) = elim (cases_lt 1 d.ticks) [
 -- **a tick of the flat machine**
 pub tick_step : (rest : State) (c : Counters) (p q : PoolView) (old new : List Datagram) (n : ℕ) → new ≡ aged old
     → SameAt p q (held_all p new) → n + length (aged old) ≡ length old
-    → ticked (machine p old c rest) ≡ machine q new (counts_more IpFragtimeout n c) rest
+    → ticked (machine_with p old c rest) ≡ machine_with q new (counts_more IpFragtimeout n c) rest
 tick_step rest c p q old new n e same left =
     let shows : unfinished q new ≡ filter (λ (u : Unfinished). ltb 0 u.ticks) (older (unfinished p old)) =
     unfinished_same p q new same ∙ (ap (unfinished p) e ∙ aged_is p old) in

@@ -25,7 +25,7 @@ use Rattle.chain_ops.specs.Pulls as ops
 use Rattle.chain_ops.specs.Pulls.{moved, pulled_len}
 use Rattle.chain_ops.specs.Trims.{without_first}
 use Rattle.chain_ops.proofs.Laws.Strings.{without_first_bytes, pulled_up_bytes}
-use Rattle.ledger.specs.Accounts.{IsAccounted, Shifts, weight_of, weight_at, weight_owned}
+use Rattle.ledger.specs.Accounts.{IsAccounted, Shifts, entries_weight, weight_at, weight_owned}
 use Rattle.ledger.proofs.Laws.{accounted_after}
 use Rattle.ip_out.specs.declared.head.IpHead.{IpHead}
 use Rattle.ip_reass.specs.Fragments.{fragment_of}
@@ -34,16 +34,16 @@ use Rattle.ip_reass.specs.Table.{has_key, held_all, AreDistinct, IsTable, unfini
 use Rattle.ip_reass.specs.Inside.Steps.{datagram_at}
 use Rattle.ip_reass.specs.Same.{held_all_same, table_same, unfinished_same, queues_same, table_weighs}
 use Rattle.ip_reass.specs.Layouts.{queues, fragment_carried, ChainArrives}
-use Rattle.ip_reass.specs.Arrivals.{machine, flat_head, key_in, IsPulled, pulled_entries, carried_entries}
+use Rattle.ip_reass.specs.Arrivals.{machine_with, flat_head, key_in, IsPulled, pulled_entries, carried_entries}
 use Rattle.ip_reass.specs.declared.datagram.Datagram.{Datagram}
 use Rattle.ip_reass.proofs.Places.{found_passes}
 
 -- ---- the accounts after a step: those of what is in hand and of the table
 pub accounts : (p q : PoolView) (xs ys : List ℕ) (rest : State) (held a b : Weight) (ds es : List Datagram)
-    (c d : Counters) → IsAccounted p (machine p ds c rest) (held ⊕ a)
+    (c d : Counters) → IsAccounted p (machine_with p ds c rest) (held ⊕ a)
     → Moves p (xs ++ held_all p ds) q (ys ++ held_all q es)
     → IsOwned p (xs ++ held_all p ds) → IsTable p ds → IsTable q es → SameWeight (weight_owned p xs) a
-    → SameWeight (weight_owned q ys) b → IsAccounted q (machine q es d rest) (held ⊕ b)
+    → SameWeight (weight_owned q ys) b → IsAccounted q (machine_with q es d rest) (held ⊕ b)
 accounts p q xs ys rest held a b ds es c d acc m owns is after wa wb =
     let sockets : Weight = all_of (λ (socket : Socket). all_of (λ x. x.item.weight) socket.queue) rest.sockets in
     let output : Weight = all_of (λ (item : Item). item.weight) rest.output in
@@ -55,7 +55,8 @@ accounts p q xs ys rest held a b ds es c d acc m owns is after wa wb =
     all_of-append (weight_at q) ys (held_all q es) in
     let tp = table_weighs p ds is.each in
     let tq = table_weighs q es after.each in
-    let shifts : Shifts (machine p ds c rest) (held ⊕ a) (weight_owned p (xs ++ held_all p ds)) (machine q es d rest)
+    let shifts : Shifts (machine_with p ds c rest) (held ⊕ a) (weight_owned p (xs ++ held_all p ds))
+    (machine_with q es d rest)
     (held ⊕ b) (weight_owned q (ys ++ held_all q es)) = record {
       mbufs =
           omega (
@@ -116,7 +117,8 @@ trimmed_off q r es n is owns gone =
     let m : Moves q (n ∷ held_all q es) r (n ∷ held_all r es) =
     moves_beside (n ∷ held_all q es) (n ∷ held_all r es) (held_all q es)
     (moves_with q r n (record (chain_of q n) { entries = without_first 20 (chain_of q n).entries })
-    (live_first q n (held_all q es) owns) gone) (λ k. omega arith) (λ k. omega (arith, ap (owners.times k) all)) in
+    (live_first q n (held_all q es) owns) gone) (λ k. omega arith) (λ k. omega
+    (arith, ap (owners.times_among k) all)) in
     record {
       table = table_same q r es same is;
       shows = unfinished_same q r es same;
@@ -131,7 +133,7 @@ pub carried_bytes : (v : ChainView) → flat_bytes (carried_entries v) ≡ drop 
 carried_bytes v =
     without_first_bytes 20 (pulled_entries v) ∙ ap (drop 20) (pulled_bytes (is_some (entry_of v 0).cluster))
   where
-    pulled_bytes : (b : Bool) → flat_bytes (cond b (ops.pulled_up v 20) v.entries) ≡ string v
+    pulled_bytes : (b : Bool) → flat_bytes (cond b (ops.entries_pulled v 20) v.entries) ≡ string v
     pulled_bytes true = pulled_up_bytes v 20
     pulled_bytes false = refl
 
@@ -144,7 +146,7 @@ module _ (held : Weight) (old new : State) (h : IpHead) (v : ChainView) where
 
   -- a first mbuf that is a cluster
   pub arrives_cluster : is_bad_fragment (flat_head h) (h.total - 20) ≡ false → is_some (entry_of v 0).cluster ≡ true
-      → Tests exact_ledger (counts_fragment old) (held ⊕ weight_of v.entries) 1 new
+      → Tests exact_ledger (counts_fragment old) (held ⊕ entries_weight v.entries) 1 new
       (λ mid. Joins exact_ledger held (key_in h) (fragment_of (fragment_carried v h)) mid new)
       → ChainArrives held h v old new
   arrives_cluster good cluster tests = record {
@@ -164,28 +166,28 @@ module _ (held : Weight) (old new : State) (h : IpHead) (v : ChainView) where
 -- a test for the header's mbuf, and where it passed, that the fragment joins
 pub tests_of : (rest : State) (held : Weight) (new : State) (k : Key) (f : Fragment) (w : Weight) (p q : PoolView)
     (ds es : List Datagram) (c d : Counters) (answer : Bool) → IsPulled p ds c w answer q es d rest held
-    → (answer ≡ true → Joins exact_ledger held k f (machine q es d rest) new)
-    → (answer ≡ false → new ≡ machine q es d rest)
-    → Tests exact_ledger (machine p ds c rest) (held ⊕ w) 1 new (λ mid. Joins exact_ledger held k f mid new)
+    → (answer ≡ true → Joins exact_ledger held k f (machine_with q es d rest) new)
+    → (answer ≡ false → new ≡ machine_with q es d rest)
+    → Tests exact_ledger (machine_with p ds c rest) (held ⊕ w) 1 new (λ mid. Joins exact_ledger held k f mid new)
 tests_of rest held new k f w p q ds es c d true t joins ended = record {
   answer = true;
-  mid = machine q es t.mid rest;
+  mid = machine_with q es t.mid rest;
   has_buffers = t.has_buffers;
   goes_on =
       record {
-        yes = λ e. subst (λ (x : Counters). Joins exact_ledger held k f (machine q es x rest) new) t.counts
+        yes = λ e. subst (λ (x : Counters). Joins exact_ledger held k f (machine_with q es x rest) new) t.counts
             (joins refl);
         no = λ e. absurd (false≢true (sym e));
       };
 }
 tests_of rest held new k f w p q ds es c d false t joins ended = record {
   answer = false;
-  mid = machine q es t.mid rest;
+  mid = machine_with q es t.mid rest;
   has_buffers = t.has_buffers;
   goes_on =
       record {
         yes = λ e. absurd (false≢true e);
-        no = λ e. ended refl ∙ ap (λ (x : Counters). machine q es x rest) t.counts;
+        no = λ e. ended refl ∙ ap (λ (x : Counters). machine_with q es x rest) t.counts;
       };
 }
 
@@ -222,20 +224,20 @@ some_by_key p k (d ∷ ds) x e = go (is_key k (unfinished_of p d)) refl (some_by
 -- ---- a fragment joins the others with its key
 pub joins_none : (rest : State) (held : Weight) (new : State) (k : Key) (f : Fragment) (p : PoolView)
     (ds : List Datagram) (c : Counters) → find (is_key k) (unfinished p ds) ≡ None
-    → Tests exact_ledger (machine p ds c rest) (held ⊕ f.weight) 1 new
+    → Tests exact_ledger (machine_with p ds c rest) (held ⊕ f.weight) 1 new
     (λ mid. Lays exact_ledger held k f (begun k) (begin_unfinished k mid) new)
-    → Joins exact_ledger held k f (machine p ds c rest) new
+    → Joins exact_ledger held k f (machine_with p ds c rest) new
 joins_none rest held new k f p ds c none tests =
     record { none = λ e. tests; some = λ x e. absurd (none-some x (sym none ∙ e)) }
 
 pub joins_some : (rest : State) (held : Weight) (new : State) (k : Key) (f : Fragment) (p : PoolView)
     (ds : List Datagram) (c : Counters) (d : Datagram) → find (is_key k) (unfinished p ds) ≡ Some (unfinished_of p d)
-    → Lays exact_ledger held k f (unfinished_of p d) (machine p ds c rest) new
-    → Joins exact_ledger held k f (machine p ds c rest) new
+    → Lays exact_ledger held k f (unfinished_of p d) (machine_with p ds c rest) new
+    → Joins exact_ledger held k f (machine_with p ds c rest) new
 joins_some rest held new k f p ds c d found lays = record {
   none = λ e. absurd (none-some (unfinished_of p d) (sym e ∙ found));
   some =
-      λ x e. subst (λ (u : Unfinished). Lays exact_ledger held k f u (machine p ds c rest) new)
+      λ x e. subst (λ (u : Unfinished). Lays exact_ledger held k f u (machine_with p ds c rest) new)
       (ap or_d (sym found ∙ e)) lays;
 }
   where
@@ -254,8 +256,8 @@ pub joins_found : (rest : State) (held : Weight) (new : State) (k k' : Key) (f :
     → find (has_key k') slice ≡ slice_get slice i
     → AreDistinct p ds → (is_key k (unfinished_of p (datagram_at items i)) ≡ true
     → count_by (is_key k) (unfinished p items) ≤ 1
-    → Lays exact_ledger held k f (unfinished_of p (datagram_at items i)) (machine p items c rest)
-    new) → Joins exact_ledger held k f (machine p ds c rest) new
+    → Lays exact_ledger held k f (unfinished_of p (datagram_at items i)) (machine_with p items c rest)
+    new) → Joins exact_ledger held k f (machine_with p ds c rest) new
 joins_found rest held new k k' f p slice items ds c i a b e l found distinct step =
     let same : slice ≡ ds = a ∙ b in
     let at : find (has_key k) ds ≡ slice_get ds i =
@@ -267,10 +269,10 @@ joins_found rest held new k k' f p slice items ds c i a b e l found distinct ste
     let here : is_key k (unfinished_of p (datagram_at ds i)) ≡ true =
     found_passes (is_key k) (unfinished p ds) (unfinished_of p (datagram_at ds i)) key in
     let step' : is_key k (unfinished_of p (datagram_at ds i)) ≡ true → count_by (is_key k) (unfinished p ds) ≤ 1
-    → Lays exact_ledger held k f (unfinished_of p (datagram_at ds i)) (machine p ds c rest) new =
+    → Lays exact_ledger held k f (unfinished_of p (datagram_at ds i)) (machine_with p ds c rest) new =
     subst (λ (zs : List Datagram). is_key k (unfinished_of p (datagram_at zs i)) ≡ true
     → count_by (is_key k) (unfinished p zs) ≤ 1
-    → Lays exact_ledger held k f (unfinished_of p (datagram_at zs i)) (machine p zs c rest) new) b step in
+    → Lays exact_ledger held k f (unfinished_of p (datagram_at zs i)) (machine_with p zs c rest) new) b step in
     joins_some rest held new k f p ds c (datagram_at ds i) key (step' here (distinct k))
 
 -- it is held under no datagram
@@ -283,29 +285,30 @@ none_found_in p k k' slice ds same e none =
 -- ---- the header's mbuf
 pub pulled_lacking : (rest : State) (held w : Weight) (p q r : PoolView) (ds es : List Datagram) (c mid d : Counters)
     (answer : Bool) → answer ≡ false
-    → HasBuffers exact_ledger (machine p ds c rest) (held ⊕ w) (need_mbufs 1) answer (machine q es mid rest)
+    → HasBuffers exact_ledger (machine_with p ds c rest) (held ⊕ w) (need_mbufs 1) answer (machine_with q es mid rest)
     → unfinished r es ≡ unfinished q es → d ≡ counted NoBufs mid → IsPulled p ds c w false r es d rest held
 pulled_lacking rest held w p q r ds es c mid d answer refused af shows counts = record {
   mid = mid;
   has_buffers =
-      subst (λ (us : List Unfinished). HasBuffers exact_ledger (machine p ds c rest) (held ⊕ w) (need_mbufs 1) false
+      subst (λ (us : List Unfinished). HasBuffers exact_ledger (machine_with p ds c rest) (held ⊕ w) (need_mbufs 1)
+      false
       (record rest { unfinished = us; counters = mid })) (sym shows)
-      (subst (λ (b : Bool). HasBuffers exact_ledger (machine p ds c rest) (held ⊕ w) (need_mbufs 1) b
-      (machine q es mid rest)) refused af);
+      (subst (λ (b : Bool). HasBuffers exact_ledger (machine_with p ds c rest) (held ⊕ w) (need_mbufs 1) b
+      (machine_with q es mid rest)) refused af);
   counts = counts;
 }
 
 pub pulled_done : (rest : State) (held w : Weight) (p q r : PoolView) (ds es : List Datagram) (c mid : Counters)
     (answer : Bool) → answer ≡ true
-    → HasBuffers exact_ledger (machine p ds c rest) (held ⊕ w) (need_mbufs 1) answer (machine q es mid rest)
+    → HasBuffers exact_ledger (machine_with p ds c rest) (held ⊕ w) (need_mbufs 1) answer (machine_with q es mid rest)
     → unfinished r es ≡ unfinished q es → IsPulled p ds c w true r es mid rest held
 pulled_done rest held w p q r ds es c mid answer agrees af shows = record {
   mid = mid;
   has_buffers =
-      subst (λ (us : List Unfinished). HasBuffers exact_ledger (machine p ds c rest) (held ⊕ w) (need_mbufs 1) true
+      subst (λ (us : List Unfinished). HasBuffers exact_ledger (machine_with p ds c rest) (held ⊕ w) (need_mbufs 1) true
       (record rest { unfinished = us; counters = mid })) (sym shows)
-      (subst (λ (b : Bool). HasBuffers exact_ledger (machine p ds c rest) (held ⊕ w) (need_mbufs 1) b
-      (machine q es mid rest)) agrees af);
+      (subst (λ (b : Bool). HasBuffers exact_ledger (machine_with p ds c rest) (held ⊕ w) (need_mbufs 1) b
+      (machine_with q es mid rest)) agrees af);
   counts = refl;
 }
 
@@ -331,7 +334,7 @@ pulled p q r ds es c d f entries st is made =
       rows = queues_same q r es same;
       moves =
           moves_trans st.moves (moves_beside (c ∷ held_all q es) (d ∷ held_all r es) (held_all q es) step
-          (λ k. omega arith) (λ k. omega (arith, ap (owners.times k) all)));
+          (λ k. omega arith) (λ k. omega (arith, ap (owners.times_among k) all)));
     }
 
 -- ---- a fragment that can be
@@ -347,7 +350,7 @@ module _ (rest : State) (held : Weight) (new : State) (h : IpHead) (p q r : Pool
     (c c1 d : Counters) (n n' : ℕ) (good : is_bad_fragment (flat_head h) (h.total - 20) ≡ false)
     (counts : c1 ≡ counts_more IpFragments 1 c)
     (entries : (chain_of q n').entries ≡ pulled_entries (chain_of p n)) (t : Trimmed q es n' r)
-    (joins : Joins exact_ledger held (key_in h) (fragment_of (arrived r n' h.offset h.more)) (machine r es d rest)
+    (joins : Joins exact_ledger held (key_in h) (fragment_of (arrived r n' h.offset h.more)) (machine_with r es d rest)
     new) where
   carried_now : fragment_of (arrived r n' h.offset h.more) ≡ fragment_of (fragment_carried (chain_of p n) h)
   carried_now =
@@ -355,44 +358,47 @@ module _ (rest : State) (held : Weight) (new : State) (h : IpHead) (p q r : Pool
       (ap (λ (v : ChainView). v.entries) t.chain ∙ ap (without_first 20) entries)
 
   -- what joins, from the state that the test of its header leaves
-  joins_then : (s : State) → machine r es d rest ≡ s
+  joins_then : (s : State) → machine_with r es d rest ≡ s
       → Joins exact_ledger held (key_in h) (fragment_of (fragment_carried (chain_of p n) h)) s new
   joins_then s now =
       subst (λ (x : State). Joins exact_ledger held (key_in h) (fragment_of (fragment_carried (chain_of p n) h)) x new)
-      now (subst (λ (x : Fragment). Joins exact_ledger held (key_in h) x (machine r es d rest) new) carried_now joins)
+      now (subst (λ (x : Fragment). Joins exact_ledger held (key_in h) x (machine_with r es d rest) new) carried_now
+      joins)
 
   pub some_plain : is_some (entry_of (chain_of p n) 0).cluster ≡ false → q ≡ p → es ≡ ds → d ≡ c1
-      → ChainArrives held h (chain_of p n) (machine p ds c rest) new
+      → ChainArrives held h (chain_of p n) (machine_with p ds c rest) new
   some_plain plain q_is es_is d_is =
       let shows : unfinished r es ≡ unfinished p ds = t.shows ∙ (λ j. unfinished (q_is j) (es_is j)) in
-      let now : machine r es d rest ≡ counts_fragment (machine p ds c rest) =
+      let now : machine_with r es d rest ≡ counts_fragment (machine_with p ds c rest) =
       λ j. record rest { unfinished = shows j; counters = (d_is ∙ counts) j } in
-      arrives_plain held (machine p ds c rest) new h (chain_of p n) good plain
-      (joins_then (counts_fragment (machine p ds c rest)) now)
+      arrives_plain held (machine_with p ds c rest) new h (chain_of p n) good plain
+      (joins_then (counts_fragment (machine_with p ds c rest)) now)
 
   pub some_cluster : is_some (entry_of (chain_of p n) 0).cluster ≡ true
       → IsPulled p ds c1 (weight_at p n) true q es d rest held
-      → ChainArrives held h (chain_of p n) (machine p ds c rest) new
+      → ChainArrives held h (chain_of p n) (machine_with p ds c rest) new
   some_cluster cluster tested =
-      let now : machine r es d rest ≡ machine q es d rest = λ j. record rest { unfinished = t.shows j; counters = d } in
-      let was : machine p ds c1 rest ≡ counts_fragment (machine p ds c rest) =
-      ap (λ (x : Counters). machine p ds x rest) counts in
-      arrives_cluster held (machine p ds c rest) new h (chain_of p n) good cluster
+      let now : machine_with r es d rest ≡ machine_with q es d rest =
+      λ j. record rest { unfinished = t.shows j; counters = d } in
+      let was : machine_with p ds c1 rest ≡ counts_fragment (machine_with p ds c rest) =
+      ap (λ (x : Counters). machine_with p ds x rest) counts in
+      arrives_cluster held (machine_with p ds c rest) new h (chain_of p n) good cluster
       (subst (λ (s : State). Tests exact_ledger s (held ⊕ weight_at p n) 1 new
       (λ mid. Joins exact_ledger held (key_in h) (fragment_of (fragment_carried (chain_of p n) h)) mid new)) was
       (tests_of rest held new (key_in h) (fragment_of (fragment_carried (chain_of p n) h)) (weight_at p n) p q ds es c1
-      d true tested (λ e. joins_then (machine q es d rest) now) (λ e. absurd (false≢true (sym e)))))
+      d true tested (λ e. joins_then (machine_with q es d rest) now) (λ e. absurd (false≢true (sym e)))))
 
 -- **no mbuf was had for its header**
 pub none_cluster : (rest : State) (held : Weight) (new : State) (h : IpHead) (p q : PoolView) (ds es : List Datagram)
     (c c1 d : Counters) (n : ℕ) (answer : Bool) → is_bad_fragment (flat_head h) (h.total - 20) ≡ false
     → c1 ≡ counts_more IpFragments 1 c
     → is_some (entry_of (chain_of p n) 0).cluster ≡ true → IsPulled p ds c1 (weight_at p n) answer q es d rest held
-    → answer ≡ false → new ≡ machine q es d rest → ChainArrives held h (chain_of p n) (machine p ds c rest) new
+    → answer ≡ false → new ≡ machine_with q es d rest
+    → ChainArrives held h (chain_of p n) (machine_with p ds c rest) new
 none_cluster rest held new h p q ds es c c1 d n answer good counts cluster tested refused is =
-    let was : machine p ds c1 rest ≡ counts_fragment (machine p ds c rest) =
-    ap (λ (x : Counters). machine p ds x rest) counts in
-    arrives_cluster held (machine p ds c rest) new h (chain_of p n) good cluster
+    let was : machine_with p ds c1 rest ≡ counts_fragment (machine_with p ds c rest) =
+    ap (λ (x : Counters). machine_with p ds x rest) counts in
+    arrives_cluster held (machine_with p ds c rest) new h (chain_of p n) good cluster
     (subst (λ (s : State). Tests exact_ledger s (held ⊕ weight_at p n) 1 new
     (λ mid. Joins exact_ledger held (key_in h) (fragment_of (fragment_carried (chain_of p n) h)) mid new)) was
     (tests_of rest held new (key_in h) (fragment_of (fragment_carried (chain_of p n) h)) (weight_at p n) p q ds es c1 d
@@ -410,6 +416,6 @@ carried_len p r n n' len long e = omega (arith, carried_size p n len long, ap le
 
 -- the same weight beside other counters
 pub accounted_counters : (p : PoolView) (ds : List Datagram) (c d : Counters) (rest : State) (held : Weight)
-    → IsAccounted p (machine p ds c rest) held → IsAccounted p (machine p ds d rest) held
+    → IsAccounted p (machine_with p ds c rest) held → IsAccounted p (machine_with p ds d rest) held
 accounted_counters p ds c d rest held a =
     record { mbufs = a.mbufs; clusters = a.clusters; total = a.total; references = a.references }

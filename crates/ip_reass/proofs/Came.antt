@@ -16,7 +16,7 @@ use Rattle.mbuf_chain.specs.Steps.{narrowed, with_back, empty_entry}
 use Rattle.chain_ops.specs.Pulls as ops
 use Rattle.chain_ops.specs.Pulls.{moved, pulled_len}
 use Rattle.chain_ops.specs.Rooms.{room_low}
-use Rattle.ledger.specs.Accounts.{weight_of}
+use Rattle.ledger.specs.Accounts.{entries_weight}
 use Rattle.ip_out.specs.declared.head.IpHead.{IpHead}
 use Rattle.ip_reass.specs.Fragments.{fragment_of}
 use Rattle.ip_reass.specs.AtOnce as at_once
@@ -50,7 +50,7 @@ moved_part x e es n some less =
 
 pulled_weighs : (e x : Entry) (es : List Entry) (k n total : ℕ) → e.cluster ≡ Some k → x.cluster ≡ None
     → length e.bytes ≤ total → n ≡ min 40 total → 0 < n → (total ≤ length e.bytes) ⊎ (40 < length e.bytes)
-    → weight_of (moved n x (e ∷ es)) ≡ flat.pulled_up total (weight_of (e ∷ es))
+    → entries_weight (moved n x (e ∷ es)) ≡ flat.pulled_up total (entries_weight (e ∷ es))
 pulled_weighs e x es k n total is none long n_is some holds = elim (cases_lt 40 total) [
   | inl more ↦
       let less : n < length e.bytes = elim holds [ inl a ↦ omega arith | inr a ↦ omega arith ] in
@@ -58,24 +58,25 @@ pulled_weighs e x es k n total is none long n_is some holds = elim (cases_lt 40 
       omega arith in
       let bag : bag_of (with_back x (take n e.bytes) ∷ narrowed e n (length e.bytes - n) ∷ es) ≡ bag_of (e ∷ es) =
       ap (λ (o : Option ℕ). cons_option o (cons_option e.cluster (bag_of es))) none in
-      ap weight_of (moved_part x e es n some less)
+      ap entries_weight (moved_part x e es n some less)
       ∙ ((λ i. record { mbufs = mbufs i; bag = bag i }) ∙ sym (cond-true _ _ _ (lt-ltb 40 total more)))
   | inr fewer ↦
       let same : length e.bytes ≡ n = elim holds [ inl a ↦ omega arith | inr a ↦ absurd (omega arith) ] in
       let bag : bag_of (with_back x e.bytes ∷ es) ≡ drop 1 (bag_of (e ∷ es)) =
       ap (λ (o : Option ℕ). cons_option o (bag_of es)) none
       ∙ ap (λ (o : Option ℕ). drop 1 (cons_option o (bag_of es))) (sym is) in
-      ap weight_of (moved_whole x e es n some same)
+      ap entries_weight (moved_whole x e es n some same)
       ∙ ((λ i. record { mbufs = suc (length es); bag = bag i }) ∙ sym (cond-false _ _ _ (le-ltb 40 total fewer)))
 ]
 
 -- **a packet whose first mbuf is a cluster weighs what the flat machine says once its header is pulled up**
 pub pulled_is : (v : ChainView) → is_some (entry_of v 0).cluster ≡ true → 20 ≤ length (string v)
     → (length (string v) ≤ length (entry_of v 0).bytes) ⊎ (40 < length (entry_of v 0).bytes)
-    → weight_of (ops.pulled_up v 20) ≡ flat.pulled_up (length (string v)) (weight_of v.entries)
-pulled_is v is some holds = ap weight_of plain ∙ go v.entries is some holds
+    → entries_weight (ops.entries_pulled v 20) ≡ flat.pulled_up (length (string v)) (entries_weight v.entries)
+pulled_is v is some holds = ap entries_weight plain ∙ go v.entries is some holds
   where
-    plain : ops.pulled_up v 20 ≡ moved (pulled_len 20 v.entries) (empty_entry (room_low v.front.header) None) v.entries
+    plain : ops.entries_pulled v 20
+        ≡ moved (pulled_len 20 v.entries) (empty_entry (room_low v.front.header) None) v.entries
     plain = cond-false _ _ _ (and_left _ _ (ap not is))
 
     cluster_of : (o : Option ℕ) → is_some o ≡ true → (k : ℕ) × (o ≡ Some k)
@@ -84,8 +85,8 @@ pulled_is v is some holds = ap weight_of plain ∙ go v.entries is some holds
 
     go : (es : List Entry) → is_some (get_or es 0 no_entry).cluster ≡ true → 20 ≤ length (flat_bytes es)
         → (length (flat_bytes es) ≤ length (get_or es 0 no_entry).bytes) ⊎ (40 < length (get_or es 0 no_entry).bytes)
-        → weight_of (moved (pulled_len 20 es) (empty_entry (room_low v.front.header) None) es)
-        ≡ flat.pulled_up (length (flat_bytes es)) (weight_of es)
+        → entries_weight (moved (pulled_len 20 es) (empty_entry (room_low v.front.header) None) es)
+        ≡ flat.pulled_up (length (flat_bytes es)) (entries_weight es)
     go [] e l h = absurd (false≢true e)
     go (e ∷ es) is l h =
         let k = cluster_of e.cluster is in
@@ -95,12 +96,12 @@ pulled_is v is some holds = ap weight_of plain ∙ go v.entries is some holds
 
 -- ---- the fragment that joins
 carried_is : (v : ChainView) (h : IpHead) (es : List Entry) (w : Weight) → es ≡ carried_entries v
-    → weight_of (pulled_entries v) ≡ w
+    → entries_weight (pulled_entries v) ≡ w
     → fragment_of (record { offset = h.offset; more = h.more; entries = es })
     ≡ record { offset = h.offset; bytes = drop 20 (string v); more = h.more; weight = w }
 carried_is v h es w e is =
     let bytes : flat_bytes es ≡ drop 20 (string v) = ap flat_bytes e ∙ carried_bytes v in
-    let weight : weight_of es ≡ w = ap weight_of e ∙ (weight_trimmed 20 (pulled_entries v) ∙ is) in
+    let weight : entries_weight es ≡ w = ap entries_weight e ∙ (weight_trimmed 20 (pulled_entries v) ∙ is) in
     λ i. record { offset = h.offset; bytes = bytes i; more = h.more; weight = weight i }
 
 -- what came by the wire in a cluster holds enough of the packet
@@ -120,7 +121,7 @@ pub view_arrives : (held : Weight) (origin : Origin) (h : IpHead) (v : ChainView
     → length (string v) ≡ h.total → 20 ≤ h.total
     → ChainArrives held h v old new
     → FragmentArrives exact_ledger origin held (flat_head h)
-    (record { bytes = drop 20 (string v); weight = weight_of v.entries }) old new
+    (record { bytes = drop 20 (string v); weight = entries_weight v.entries }) old new
 view_arrives held origin h v old new came total least step = record {
   yes = λ bad. step.yes (ap (is_bad_fragment (flat_head h)) (sym size) ∙ bad);
   no = λ good. pulls origin came (step.no (ap (is_bad_fragment (flat_head h)) (sym size) ∙ good));
@@ -131,35 +132,38 @@ view_arrives held origin h v old new came total least step = record {
 
     plain : is_some (entry_of v 0).cluster ≡ false
         → Joins exact_ledger held (key_in h) (fragment_of (fragment_carried v h)) (counts_fragment old) new
-        → Joins exact_ledger held (key_in h) (with_weight h v (weight_of v.entries)) (counts_fragment old) new
+        → Joins exact_ledger held (key_in h) (with_weight h v (entries_weight v.entries)) (counts_fragment old) new
     plain is joins =
         subst (λ (f : Fragment). Joins exact_ledger held (key_in h) f (counts_fragment old) new)
-        (carried_is v h (carried_entries v) (weight_of v.entries) refl (ap weight_of (cond-false _ _ _ is))) joins
+        (carried_is v h (carried_entries v) (entries_weight v.entries) refl (ap entries_weight (cond-false _ _ _ is)))
+        joins
 
     whole_size : length (string v) ≡ 20 + length (drop 20 (string v))
     whole_size = omega (arith, size)
 
     in_cluster : (received : ℕ) → CameBy (By_wire received) v → is_some (entry_of v 0).cluster ≡ true
-        → Tests exact_ledger (counts_fragment old) (held ⊕ weight_of v.entries) 1 new
+        → Tests exact_ledger (counts_fragment old) (held ⊕ entries_weight v.entries) 1 new
         (λ mid. Joins exact_ledger held (key_in h) (fragment_of (fragment_carried v h)) mid new)
-        → Tests exact_ledger (counts_fragment old) (held ⊕ weight_of v.entries) 1 new
+        → Tests exact_ledger (counts_fragment old) (held ⊕ entries_weight v.entries) 1 new
         (λ mid. Joins exact_ledger held (key_in h)
-        (with_weight h v (flat.pulled_up (20 + length (drop 20 (string v))) (weight_of v.entries))) mid new)
+        (with_weight h v (flat.pulled_up (20 + length (drop 20 (string v))) (entries_weight v.entries))) mid new)
     in_cluster received came cluster tests =
-        let weight : weight_of (pulled_entries v)
-        ≡ flat.pulled_up (20 + length (drop 20 (string v))) (weight_of v.entries) =
-        ap weight_of (cond-true _ _ _ cluster)
+        let weight : entries_weight (pulled_entries v)
+        ≡ flat.pulled_up (20 + length (drop 20 (string v))) (entries_weight v.entries) =
+        ap entries_weight (cond-true _ _ _ cluster)
         ∙ (pulled_is v cluster (omega (arith, total, least)) (holds_of (By_wire received) v came cluster)
-        ∙ ap (λ (m : ℕ). flat.pulled_up m (weight_of v.entries)) whole_size) in
-        subst (λ (f : Fragment). Tests exact_ledger (counts_fragment old) (held ⊕ weight_of v.entries) 1 new
+        ∙ ap (λ (m : ℕ). flat.pulled_up m (entries_weight v.entries)) whole_size) in
+        subst (λ (f : Fragment). Tests exact_ledger (counts_fragment old) (held ⊕ entries_weight v.entries) 1 new
         (λ mid. Joins exact_ledger held (key_in h) f mid new))
-        (carried_is v h (carried_entries v) (flat.pulled_up (20 + length (drop 20 (string v))) (weight_of v.entries))
+        (carried_is v h (carried_entries v)
+        (flat.pulled_up (20 + length (drop 20 (string v))) (entries_weight v.entries))
         refl weight) tests
 
     pulls : (o : Origin) → CameBy o v
         → PullsUpHeader v held (counts_fragment old) new
         (λ mid. Joins exact_ledger held (key_in h) (fragment_of (fragment_carried v h)) mid new)
-        → PullsUp exact_ledger o held (weight_of v.entries) (20 + length (drop 20 (string v))) (counts_fragment old) new
+        → PullsUp exact_ledger o held (entries_weight v.entries) (20 + length (drop 20 (string v)))
+        (counts_fragment old) new
         (λ w mid. Joins exact_ledger held (key_in h) (with_weight h v w) mid new)
     pulls Looped o_came s = plain (ap is_some o_came) (s.no (ap is_some o_came))
     pulls (By_wire received) o_came s = record {

@@ -4,7 +4,7 @@ use Rattle.std.proofs.lemmas.List.{get_or_push, length_push, take_at}
 use Rattle.std.specs.List.{cons_option}
 use Rattle.mbuf_chain.specs.Chain.{Entry}
 use Rattle.chain_ops.specs.Trims.{without_first}
-use Rattle.ledger.specs.Accounts.{weight_of}
+use Rattle.ledger.specs.Accounts.{entries_weight}
 
 -- ---- edits
 module _ {X : Type 0} where
@@ -80,5 +80,5 @@ trimmed_bag n [] = refl
 trimmed_bag n (e ∷ es) = ap (cons_option e.cluster) (trimmed_bag (n - length e.bytes) es)
 
 -- no mbuf goes
-pub weight_trimmed : (n : ℕ) (es : List Entry) → weight_of (without_first n es) ≡ weight_of es
+pub weight_trimmed : (n : ℕ) (es : List Entry) → entries_weight (without_first n es) ≡ entries_weight es
 weight_trimmed n es = λ i. record { mbufs = trimmed_mbufs n es i; bag = trimmed_bag n es i }

@@ -4,12 +4,12 @@ use Rattle.std.proofs.lemmas.Bool.{OnTrue_at, OnTrue_from, OnFalse_at, OnFalse_f
 use Rattle.std.proofs.lemmas.List.{get_or_default, get_or-map, get_or-set_same, length-map}
 use Rattle.flat_model.specs.Fragments.Overlay.{Map}
 use Rattle.mbuf_chain.specs.Chain.{ChainView, PoolView, chain_of, alone, without}
-use Rattle.mbuf_chain.specs.Owners.{times, IsOwned, Moves}
+use Rattle.mbuf_chain.specs.Owners.{times_among, IsOwned, Moves}
 use Rattle.mbuf_chain.specs.Frames.{SameAt}
 use Rattle.mbuf_chain.specs.Train.{TrainView, numbers, IsHeld}
 use Rattle.mbuf_chain.proofs.Laws.Owners.{times_same, chain_same, moves_trans, moves_beside, same_beside, owned_after, live_at_most}
-use Rattle.ledger.specs.Accounts.{weight_of}
-use Rattle.ip_reass.specs.Fragments.{QueuedFragment, fragment_of, fragments, queued, joined, map_of}
+use Rattle.ledger.specs.Accounts.{entries_weight}
+use Rattle.ip_reass.specs.Fragments.{QueuedFragment, fragment_of, fragments, queued, joined_fragments, map_of}
 use Rattle.ip_reass.specs.Table.{held, held_all, IsUnfinished, IsTable, unfinished, unfinished_of}
 use Rattle.ip_reass.specs.Layouts.{queue_of, queues}
 use Rattle.ip_reass.specs.Inside.Steps.{datagram_at, no_datagram, IsLaid, LaysIn, TakesOut}
@@ -36,8 +36,8 @@ in_place p q ds i c f answer t n is l owns b =
     (held q (record (datagram_at ds i) { fragments = t; bytes = n })) =
     moves_beside (c ∷ held p (datagram_at ds i)) (held q (record (datagram_at ds i) { fragments = t; bytes = n }))
     ((datagram_at ds i).holder ∷ []) b.moves (λ k. omega arith) (λ k. omega arith) in
-    let split : (k : ℕ) → times k (held_all p ds)
-    ≡ times k (held p (datagram_at ds i)) + times k (held_all p (remove ds i)) =
+    let split : (k : ℕ) → times_among k (held_all p ds)
+    ≡ times_among k (held p (datagram_at ds i)) + times_among k (held_all p (remove ds i)) =
     λ k. held_at p k ds i no_datagram l in
     let holds : SameAt p q ((datagram_at ds i).holder ∷ []) =
     same_beside ((datagram_at ds i).holder ∷ []) b.moves (λ k. omega (arith, owns k, split k))
@@ -46,7 +46,7 @@ in_place p q ds i c f answer t n is l owns b =
       queue = b.queue;
       counted = b.counted;
       holder =
-          ap (λ (v : ChainView). weight_of v.entries)
+          ap (λ (v : ChainView). entries_weight v.entries)
           (chain_same p q ((datagram_at ds i).holder ∷ []) (datagram_at ds i).holder holds
           (omega (arith, times_same (datagram_at ds i).holder []))) ∙ one.holder;
     } in
@@ -122,14 +122,14 @@ datagram_put ds i e l = get_or-set_same ds i e no_datagram l
 -- ---- a datagram taken out
 pub taken_out : (p r q : PoolView) (ds : List Datagram) (i c : ℕ) (d : Datagram) → IsTable p ds → i < length ds
     → d ≡ get_or ds i d → r ≡ without p d.holder
-    → (chain_of q c).entries ≡ joined (queued r d.fragments) → (chain_of q c).front ≡ alone true
+    → (chain_of q c).entries ≡ joined_fragments (queued r d.fragments) → (chain_of q c).front ≡ alone true
     → Moves r (numbers r d.fragments) q (c ∷ []) → TakesOut p ds i c q (remove ds i)
 taken_out p r q ds i c d is l e gone entries front joins =
     let here : d ≡ datagram_at ds i = e ∙ get_or_default ds i d no_datagram l in
-    let split : (k : ℕ) → times k (held_all p ds)
-    ≡ times k (held p (get_or ds i d)) + times k (held_all p (remove ds i)) = λ k. held_at p k ds i d l in
-    let same_d : (k : ℕ) → times k (held p (get_or ds i d)) ≡ times k (held p d) =
-    λ k. ap (λ (x : Datagram). times k (held p x)) (sym e) in
+    let split : (k : ℕ) → times_among k (held_all p ds)
+    ≡ times_among k (held p (get_or ds i d)) + times_among k (held_all p (remove ds i)) = λ k. held_at p k ds i d l in
+    let same_d : (k : ℕ) → times_among k (held p (get_or ds i d)) ≡ times_among k (held p d) =
+    λ k. ap (λ (x : Datagram). times_among k (held p x)) (sym e) in
     let owns_d : IsOwned p (held p d) = λ k. omega (arith, is.owned k, split k, same_d k) in
     let one : IsUnfinished p d = subst (IsUnfinished p) (sym e) (each_at p ds i d l is.each).0 in
     let empty : Emptied p d r = emptied p r d owns_d one.queue.held gone in
@@ -142,7 +142,7 @@ taken_out p r q ds i c d is l e gone entries front joins =
     gone_moves p q ds i d [] (c ∷ []) l is.owned is m in
     record {
       change = refl;
-      entries = entries ∙ ap joined queue;
+      entries = entries ∙ ap joined_fragments queue;
       front = front;
       shows = gone_shows p q ds i d [] (c ∷ []) l is.owned is m;
       rows = gone_queues p q ds i d [] (c ∷ []) l is.owned is m;
@@ -156,7 +156,7 @@ taken_out p r q ds i c d is l e gone entries front joins =
 
 -- the chain that came is none of a datagram's
 pub apart_at : (p : PoolView) (ds : List Datagram) (i c : ℕ) (x : Datagram) → i < length ds
-    → IsOwned p (c ∷ held_all p ds) → times c (numbers p (get_or ds i x).fragments) ≡ 0
+    → IsOwned p (c ∷ held_all p ds) → times_among c (numbers p (get_or ds i x).fragments) ≡ 0
 apart_at p ds i c x l owns = omega (arith, owns c, live_at_most p c, times_same c (held_all p ds), held_at p c ds i x l)
 
 -- the fragments of a datagram whose key's mbuf was freed
@@ -168,5 +168,5 @@ held_then p r ds i d is l e gone =
       arith,
       is.owned k,
       held_at p k ds i d l,
-      ap (λ (x : Datagram). times k (held p x)) (sym e),
+      ap (λ (x : Datagram). times_among k (held p x)) (sym e),
     )) one.queue.held gone).held_q

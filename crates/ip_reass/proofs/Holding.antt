@@ -4,7 +4,7 @@ use Rattle.std.specs.Prelude.{nat_le, nat_lt}
 use Rattle.std.specs.List.{AllByRecursion}
 use Rattle.flat_model.specs.Machine.State.{Key}
 use Rattle.mbuf_chain.specs.Chain.{PoolView}
-use Rattle.ip_reass.specs.Fragments.{QueuedFragment, cut, cut_to, laid, laid_after, queued_end}
+use Rattle.ip_reass.specs.Fragments.{QueuedFragment, cut, cut_to, laid_into, laid_after, queued_end}
 use Rattle.ip_reass.specs.Layouts.{KeyedQueue, HasLayout, Leaves, goes_by, laid_under, queues, with_laid, without_key}
 use Rattle.ip_reass.specs.Table.{AllUnfinished, HaveFragments, IsTable, aged}
 use Rattle.ip_reass.specs.declared.arrival.Arrival.{Arrival}
@@ -30,7 +30,7 @@ either_some : (b : Bool) (x y : QueuedFragment) (xs ys : List QueuedFragment) �
 either_some true x y xs ys = omega arith
 either_some false x y xs ys = omega arith
 
-laid_some : (f : QueuedFragment) (qs : List QueuedFragment) → 0 < length (laid f qs)
+laid_some : (f : QueuedFragment) (qs : List QueuedFragment) → 0 < length (laid_into f qs)
 laid_some f [] = omega arith
 laid_some f (q ∷ qs) =
     either_some (nat_le q.offset f.offset) q (cut (0 - f.offset) f) (laid_after (queued_end q) f qs)

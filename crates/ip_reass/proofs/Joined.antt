@@ -20,12 +20,12 @@ use Rattle.mbuf_chain.proofs.Laws.Steps.{live_without}
 use Rattle.mbuf_chain.proofs.Laws.Trains.{Beside, beside}
 use Rattle.chain_ops.specs.Makes.{Makes}
 use Rattle.chain_ops.specs.Joins.{cat, filled_up}
-use Rattle.chain_ops.specs.Weights.{laid, AreFit}
+use Rattle.chain_ops.specs.Weights.{laid_entries, AreFit}
 use Rattle.chain_ops.proofs.Laws.Strings.{cat_bytes}
 use Rattle.chain_ops.proofs.Laws.Joins.{cat_length, cat_bag, cat_fit, covers_fit}
-use Rattle.ledger.specs.Accounts.{weight_of}
+use Rattle.ledger.specs.Accounts.{entries_weight}
 use Rattle.flat_model.proofs.Laws.{times-both}
-use Rattle.ip_reass.specs.Fragments.{QueuedFragment, queued_of, queued, fragment_of, fragments, joined, joined_after, IsQueue, map_of}
+use Rattle.ip_reass.specs.Fragments.{QueuedFragment, queued_of, queued, fragment_of, fragments, joined_fragments, joined_after, IsQueue, map_of}
 use Rattle.ip_reass.specs.Inside.Walks.{bytes_of, queued_at, AllFit, AllSome}
 use Rattle.ip_reass.proofs.Steps.{fragments_are, length-queued, queued_is}
 use Rattle.ip_reass.proofs.Edits.{map-remove}
@@ -42,7 +42,7 @@ joined_next es (q ∷ qs) l = refl
 pub record Joins (p q : PoolView) (t : TrainView) (c : ℕ) (r : PoolView) (u : TrainView) : Type 0 where
   pub live : IsLive r c
   pub held : IsHeld r u
-  pub apart : owners.times c (numbers r u) ≡ 0
+  pub apart : owners.times_among c (numbers r u) ≡ 0
   pub queued_packets_are : queued_packets r u ≡ queued_packets q u
   pub moves : Moves p (c ∷ numbers p t) r (c ∷ numbers r u)
 
@@ -54,12 +54,13 @@ pub record InHand (p q : PoolView) (u : TrainView) (c d : ℕ) : Type 0 where
   pub apart : c ≢ d
   pub owned : IsOwned q (c ∷ d ∷ numbers q u)
 
-pub in_hand : (p q : PoolView) (t u : TrainView) (c d : ℕ) → IsHeld p t → IsLive p c → owners.times c (numbers p t) ≡ 0
+pub in_hand : (p q : PoolView) (t u : TrainView) (c d : ℕ) → IsHeld p t → IsLive p c
+    → owners.times_among c (numbers p t) ≡ 0
     → Moves p (numbers p t) q (d ∷ numbers q u) → InHand p q u c d
 in_hand p q t u c d held live apart m =
     let same : finmap.get q.chains c ≡ finmap.get p.chains c = m.others c live apart in
     let live_q : IsLive q c = live_from q c (omega (arith, live_same p q c same, live_one p c live)) in
-    let none : owners.times c (d ∷ numbers q u) ≡ 0 = omega (arith, m.owned c, live_same p q c same) in
+    let none : owners.times_among c (d ∷ numbers q u) ≡ 0 = omega (arith, m.owned c, live_same p q c same) in
     let owned : IsOwned q (d ∷ numbers q u) = owned_after m held.owned in
     record {
       live = live_q;
@@ -69,7 +70,7 @@ in_hand p q t u c d held live apart m =
           λ e. absurd (omega (
             arith,
             none,
-            ap (λ (j : ℕ). owners.times j (d ∷ numbers q u)) e,
+            ap (λ (j : ℕ). owners.times_among j (d ∷ numbers q u)) e,
             times_same d (numbers q u),
           ));
       owned = owned_more q c (d ∷ numbers q u) owned live_q none;
@@ -88,7 +89,7 @@ joins p q r t u c d f es h m held made =
     let b : Beside q r u = beside q r u same held in
     let all : Moves q (c ∷ d ∷ numbers q u) r (c ∷ numbers r u) =
     moves_beside (c ∷ d ∷ numbers q u) (c ∷ numbers r u) (numbers q u) step (λ k. omega arith)
-    (λ k. omega (arith, ap (owners.times k) b.numbers)) in
+    (λ k. omega (arith, ap (owners.times_among k) b.numbers)) in
     let owned : IsOwned r (c ∷ numbers r u) = owned_after all h.owned in
     record {
       live = live_first r c (numbers r u) owned;
@@ -109,19 +110,19 @@ all_bytes es (q ∷ cs) =
     ∙ (ap (λ (xs : List ℕ). xs ++ bytes_of (map fragment_of cs)) (cat_bytes es q.entries)
     ∙ append_assoc (flat_bytes es) (flat_bytes q.entries) (bytes_of (map fragment_of cs)))
 
-pub queue_bytes : (cs : List QueuedFragment) → flat_bytes (joined cs) ≡ bytes_of (map fragment_of cs)
+pub queue_bytes : (cs : List QueuedFragment) → flat_bytes (joined_fragments cs) ≡ bytes_of (map fragment_of cs)
 queue_bytes [] = refl
 queue_bytes (q ∷ cs) = all_bytes q.entries cs
 
 -- ---- the weight
 abbrev pub queue_weight : List QueuedFragment → Weight
-queue_weight cs = all_of (λ (q : QueuedFragment). weight_of q.entries) cs
+queue_weight cs = all_of (λ (q : QueuedFragment). entries_weight q.entries) cs
 
-laid_bag : (es : List Entry) → (flat.weight_of (laid es)).bag ≡ (weight_of es).bag
+laid_bag : (es : List Entry) → (flat.weight_of (laid_entries es)).bag ≡ (entries_weight es).bag
 laid_bag [] = refl
 laid_bag (e ∷ es) = ap (cons_option e.cluster) (laid_bag es)
 
-laid_mbufs : (es : List Entry) → (flat.weight_of (laid es)).mbufs ≡ (weight_of es).mbufs
+laid_mbufs : (es : List Entry) → (flat.weight_of (laid_entries es)).mbufs ≡ (entries_weight es).mbufs
 laid_mbufs es = length-map es _
 
 all_mbufs : (es : List Entry) (cs : List QueuedFragment)
@@ -130,7 +131,7 @@ all_mbufs es [] = omega arith
 all_mbufs es (q ∷ cs) = omega (arith, all_mbufs (cat es q.entries) cs, cat_length es q.entries)
 
 cat_times : (c : ℕ) (es fs : List Entry)
-    → times c (weight_of (cat es fs)).bag ≤ times c (weight_of es).bag + times c (weight_of fs).bag
+    → times c (entries_weight (cat es fs)).bag ≤ times c (entries_weight es).bag + times c (entries_weight fs).bag
 cat_times c es fs =
     omega (
       arith,
@@ -138,18 +139,19 @@ cat_times c es fs =
       ap (times c) (laid_bag (cat es fs)),
       ap (times c) (laid_bag es),
       ap (times c) (laid_bag fs),
-      times-both c (flat.weight_of (laid es)) (flat.weight_of (laid fs)),
+      times-both c (flat.weight_of (laid_entries es)) (flat.weight_of (laid_entries fs)),
     )
 
 all_times : (c : ℕ) (es : List Entry) (cs : List QueuedFragment)
-    → times c (weight_of (joined_after es cs)).bag ≤ times c (weight_of es).bag + times c (queue_weight cs).bag
+    → times c (entries_weight (joined_after es cs)).bag
+    ≤ times c (entries_weight es).bag + times c (queue_weight cs).bag
 all_times c es [] = omega arith
 all_times c es (q ∷ cs) =
     omega (
       arith,
       all_times c (cat es q.entries) cs,
       cat_times c es q.entries,
-      times-both c (weight_of q.entries) (queue_weight cs),
+      times-both c (entries_weight q.entries) (queue_weight cs),
     )
 
 filled_some : (e : Entry) (fs : List Entry) → 0 < length (filled_up e fs)
@@ -176,49 +178,51 @@ all_fit es (q ∷ cs) f a = all_fit (cat es q.entries) cs (cat_fit es q.entries 
 
 map_weight : (cs : List QueuedFragment) → all_of (λ (p : Fragment). p.weight) (map fragment_of cs) ≡ queue_weight cs
 map_weight [] = refl
-map_weight (q ∷ cs) = ap (λ (w : Weight). weight_of q.entries ⊕ w) (map_weight cs)
+map_weight (q ∷ cs) = ap (λ (w : Weight). entries_weight q.entries ⊕ w) (map_weight cs)
 
-covers_of : (es : List Entry) → 0 < length es → AreFit es → Covers (weight_of es) (length (flat_bytes es))
+covers_of : (es : List Entry) → 0 < length es → AreFit es → Covers (entries_weight es) (length (flat_bytes es))
 covers_of es l f =
     let c = covers_fit es l f in
-    let m : (flat.weight_of (laid es)).mbufs ≡ (weight_of es).mbufs = laid_mbufs es in
-    let b : length (flat.weight_of (laid es)).bag ≡ length (weight_of es).bag =
+    let m : (flat.weight_of (laid_entries es)).mbufs ≡ (entries_weight es).mbufs = laid_mbufs es in
+    let b : length (flat.weight_of (laid_entries es)).bag ≡ length (entries_weight es).bag =
     ap (λ (xs : List ℕ). length xs) (laid_bag es) in
     subst (λ (w : Weight). Covers w (length (flat_bytes es))) (λ i. record { mbufs = m i; bag = laid_bag es i }) c
 
 -- **the join is one that the flat machine allows**
 pub join_is : (p : PoolView) (t : TrainView) (n : ℕ) → IsQueue p t → AllSome (queued p t) → AllFit (queued p t)
     → IsWhole (map_of (fragments p t)) n
-    → IsJoin (weight_of_pieces (map_of (fragments p t))) (weight_of (joined (queued p t))) n
+    → IsJoin (weight_of_pieces (map_of (fragments p t))) (entries_weight (joined_fragments (queued p t))) n
 join_is p t n is some fit w =
     let same : fragments p t ≡ map fragment_of (queued p t) = fragments_are p t in
     let e : weight_of_pieces (map_of (fragments p t)) ≡ queue_weight (queued p t) =
     weight_is (fragments p t) is.apart is.small
     ∙ (ap (all_of (λ (f : Fragment). f.weight)) same ∙ map_weight (queued p t)) in
-    let len : n ≡ length (flat_bytes (joined (queued p t))) =
+    let len : n ≡ length (flat_bytes (joined_fragments (queued p t))) =
     (bytes_are (fragments p t) n is.apart w).1
     ∙ ap (λ (xs : List ℕ). length xs) (ap bytes_of same ∙ sym (queue_bytes (queued p t))) in
-    subst (λ (v : Weight). IsJoin v (weight_of (joined (queued p t))) n) (sym e) (go (queued p t) some fit len)
+    subst (λ (v : Weight). IsJoin v (entries_weight (joined_fragments (queued p t))) n) (sym e)
+    (go (queued p t) some fit len)
   where
-    go : (qs : List QueuedFragment) → AllSome qs → AllFit qs → n ≡ length (flat_bytes (joined qs))
-        → IsJoin (queue_weight qs) (weight_of (joined qs)) n
+    go : (qs : List QueuedFragment) → AllSome qs → AllFit qs → n ≡ length (flat_bytes (joined_fragments qs))
+        → IsJoin (queue_weight qs) (entries_weight (joined_fragments qs)) n
     go [] s f l = absurd (omega (arith, l, w.some))
     go (q ∷ qs) s f l = record {
       mbufs = all_mbufs q.entries qs;
-      bag = λ c. omega (arith, all_times c q.entries qs, times-both c (weight_of q.entries) (queue_weight qs));
+      bag = λ c. omega (arith, all_times c q.entries qs, times-both c (entries_weight q.entries) (queue_weight qs));
       covers =
-          subst (Covers (weight_of (joined_after q.entries qs))) (sym l)
+          subst (Covers (entries_weight (joined_after q.entries qs))) (sym l)
           (covers_of (joined_after q.entries qs) (all_some q.entries qs s.0) (all_fit q.entries qs f.0 f.1));
     }
 
 -- **the bytes of the join are those of the map, in order**
 pub joined_bytes : (p : PoolView) (t : TrainView) (n : ℕ) → IsQueue p t → IsWhole (map_of (fragments p t)) n
-    → Rattle.flat_model.specs.Fragments.Whole.bytes_below (map_of (fragments p t)) n ≡ flat_bytes (joined (queued p t))
+    → Rattle.flat_model.specs.Fragments.Whole.bytes_below (map_of (fragments p t)) n
+    ≡ flat_bytes (joined_fragments (queued p t))
 joined_bytes p t n is w =
     (bytes_are (fragments p t) n is.apart w).0 ∙ (ap bytes_of (fragments_are p t) ∙ sym (queue_bytes (queued p t)))
 
 pub joined_len : (p : PoolView) (t : TrainView) (n : ℕ) → IsQueue p t → IsWhole (map_of (fragments p t)) n
-    → n ≡ length (flat_bytes (joined (queued p t)))
+    → n ≡ length (flat_bytes (joined_fragments (queued p t)))
 joined_len p t n is w =
     (bytes_are (fragments p t) n is.apart w).1
     ∙ ap (λ (xs : List ℕ). length xs) (ap bytes_of (fragments_are p t) ∙ sym (queue_bytes (queued p t)))

@@ -5,19 +5,19 @@ use Rattle.std.proofs.lemmas.Bool.{cases_lt, le-leb, lt-leb, lt-ltb, le-ltb, and
 use Rattle.flat_model.specs.Fragments.Overlay.{Held, Piece, Map, Fragment, stays, first_owned, is_covered, brought, cut_back, is_within, lies, overlay}
 use Rattle.flat_model.specs.Fragments.Overlay as flat
 use Rattle.flat_model.proofs.Laws.{count_cons}
-use Rattle.ip_reass.specs.Fragments.{end_of, own, map_of, Apart}
+use Rattle.ip_reass.specs.Fragments.{end_of_fragment, own, map_of, Apart}
 use Rattle.ip_reass.specs.Inside.Walks.{reach, AllUpto, AllAbove, trimmed, left_from}
-use Rattle.ip_reass.specs.Inside.Known.{known_here, known_below, known_past, below, within, past, place, none_or_some, nothing_past, nothing_upto, known_left, known_right, apart_join, apart_lower, left, left_whole, left_none, left_cut, end_trimmed, byte_trimmed, left_from_none, left_from_apart}
+use Rattle.ip_reass.specs.Inside.Known.{known_here, known_below, known_past, below, within, past, known_place, none_or_some, nothing_past, nothing_upto, known_left, known_right, apart_join, apart_lower, left_after, left_whole, left_none, left_cut, end_trimmed, byte_trimmed, left_from_none, left_from_apart}
 
 -- ---- the fragments that begin up to a, and those that begin above
 -- between a and where the last of them ends, the fragments before know each byte
 pub covered : (a low : ℕ) (xs : List Fragment) (k : ℕ) → Apart low xs → AllUpto a xs → a ≤ k → k < reach low xs
     → (k < low) ⊎ ((c : Held) × (map_of xs k ≡ Some c))
 covered a low [] k h u l m = inl m
-covered a low (p ∷ xs) k h u l m = elim (place p k) [
+covered a low (p ∷ xs) k h u l m = elim (known_place p k) [
   | below b ↦ absurd (omega arith)
   | within b c ↦ inr (own p k, known_here p xs k b c)
-  | past b ↦ elim (covered a (end_of p) xs k h.2 u.1 l m) [
+  | past b ↦ elim (covered a (end_of_fragment p) xs k h.2 u.1 l m) [
     | inl c ↦ absurd (omega arith)
     | inr r ↦ inr (r.0, known_past p xs k b ∙ r.1)
   ]
@@ -32,7 +32,7 @@ first_in (Some c) = c.piece.first
 pub begins_upto : (a : ℕ) (xs : List Fragment) (k : ℕ) (c : Held) → AllUpto a xs → map_of xs k ≡ Some c
     → c.piece.first ≤ a
 begins_upto a [] k c u e = absurd (let f : None ≡ Some c = e in cc)
-begins_upto a (p ∷ xs) k c u e = elim (place p k) [
+begins_upto a (p ∷ xs) k c u e = elim (known_place p k) [
   | below b ↦ begins_upto a xs k c u.1 (sym (known_below p xs k b) ∙ e)
   | past b ↦ begins_upto a xs k c u.1 (sym (known_past p xs k b) ∙ e)
   | within b d ↦
@@ -44,7 +44,7 @@ begins_upto a (p ∷ xs) k c u e = elim (place p k) [
 pub begins_above : (a : ℕ) (ys : List Fragment) (k : ℕ) (c : Held) → AllAbove a ys → map_of ys k ≡ Some c
     → a < c.piece.first
 begins_above a [] k c u e = absurd (let f : None ≡ Some c = e in cc)
-begins_above a (p ∷ ys) k c u e = elim (place p k) [
+begins_above a (p ∷ ys) k c u e = elim (known_place p k) [
   | below b ↦ begins_above a ys k c u.1 (sym (known_below p ys k b) ∙ e)
   | past b ↦ begins_above a ys k c u.1 (sym (known_past p ys k b) ∙ e)
   | within b d ↦
@@ -93,12 +93,12 @@ pub left_alone : (m : Map) (f : Fragment) (low : ℕ) (ps : List Fragment) (k : 
     → flat.fragment_end f ≤ low → lies m f k false (map_of ps k) ≡ map_of ps k
 left_alone m f low [] k a l = refl
 left_alone m f low (p ∷ ps) k a l =
-    let g : p.offset ≤ end_of p = omega arith in
-    elim (place p k) [
+    let g : p.offset ≤ end_of_fragment p = omega arith in
+    elim (known_place p k) [
       | below b ↦ ap (lies m f k false) (known_below p ps k b)
-          ∙ (left_alone m f (end_of p) ps k a.2 (omega arith) ∙ sym (known_below p ps k b))
+          ∙ (left_alone m f (end_of_fragment p) ps k a.2 (omega arith) ∙ sym (known_below p ps k b))
       | past b ↦ ap (lies m f k false) (known_past p ps k b)
-          ∙ (left_alone m f (end_of p) ps k a.2 (omega arith) ∙ sym (known_past p ps k b))
+          ∙ (left_alone m f (end_of_fragment p) ps k a.2 (omega arith) ∙ sym (known_past p ps k b))
       | within b c ↦ ap (lies m f k false) (known_here p ps k b c)
           ∙ (cut_none f (own p k) (inr (omega arith)) ∙ sym (known_here p ps k b c))
     ]
@@ -108,17 +108,18 @@ pub left_from_known : (m : Map) (f : Fragment) (low : ℕ) (ps : List Fragment) 
     → AllAbove f.offset ps → flat.fragment_end f ≤ k
     → map_of (left_from (flat.fragment_end f) ps) k ≡ lies m f k false (map_of ps k)
 left_from_known m f low [] k a u l = refl
-left_from_known m f low (p ∷ ps) k a u l = elim (left (flat.fragment_end f) p ps) [
+left_from_known m f low (p ∷ ps) k a u l = elim (left_after (flat.fragment_end f) p ps) [
   | left_whole h is ↦ ap (λ (qs : List Fragment). map_of qs k) is
       ∙ sym (left_alone m f (flat.fragment_end f) (p ∷ ps) k (h, a.1, a.2) (omega arith))
   | left_none h is ↦ ap (λ (qs : List Fragment). map_of qs k) is
-      ∙ (left_from_known m f (end_of p) ps k a.2 u.1 l ∙ ap (lies m f k false) (sym (known_past p ps k (omega arith))))
+      ∙ (left_from_known m f (end_of_fragment p) ps k a.2 u.1 l
+      ∙ ap (lies m f k false) (sym (known_past p ps k (omega arith))))
   | left_cut h n is ↦
       let e = flat.fragment_end f in
       let q : Fragment = trimmed (flat.fragment_end f - p.offset) p in
       let long = end_trimmed (flat.fragment_end f - p.offset) p (omega arith) in
       ap (λ (qs : List Fragment). map_of qs k) is
-      ∙ elim (cases_lt k (end_of p)) [
+      ∙ elim (cases_lt k (end_of_fragment p)) [
         | inl b ↦
             let first : p.offset + (flat.fragment_end f - p.offset) ≡ flat.fragment_end f = omega arith in
             let mine : own q k ≡ record (own p k) { piece = record ((own p k).piece) { first = flat.fragment_end f } } =
@@ -130,7 +131,8 @@ left_from_known m f low (p ∷ ps) k a u l = elim (left (flat.fragment_end f) p 
             ∙ (ap Some (mine ∙ sym (cut_some f (own p k) u.0 h))
             ∙ ap (lies m f k false) (sym (known_here p ps k (omega arith) b)))
         | inr b ↦ known_past q ps k (omega (arith, long))
-            ∙ (sym (left_alone m f (end_of p) ps k a.2 (omega arith)) ∙ ap (lies m f k false) (sym (known_past p ps k b)))
+            ∙ (sym (left_alone m f (end_of_fragment p) ps k a.2 (omega arith))
+            ∙ ap (lies m f k false) (sym (known_past p ps k b)))
       ]
 ]
 
@@ -232,7 +234,7 @@ module _ (f : Fragment) (xs ys : List Fragment) (w : Around f.offset xs ys) wher
 
       rest : (k : ℕ) → map_of xs k ≡ None
           → map_of (trimmed cut f ∷ left_from (flat.fragment_end f) ys) k ≡ overlay (map_of (xs ++ ys)) f k
-      rest k e = elim (place f k) [
+      rest k e = elim (known_place f k) [
         | below b ↦
             known_below (trimmed cut f) (left_from (flat.fragment_end f) ys) k (omega arith)
             ∙ (left_from_none (reach 0 xs) (flat.fragment_end f) ys k w.after (omega arith)
@@ -265,7 +267,7 @@ module _ (f : Fragment) (xs ys : List Fragment) (w : Around f.offset xs ys) wher
       apart_join 0 xs (trimmed cut f ∷ left_from (flat.fragment_end f) ys) w.before (
         omega arith,
         omega (arith, length-drop cut f.bytes),
-        apart_lower (flat.fragment_end f) (end_of (trimmed cut f)) (left_from (flat.fragment_end f) ys)
+        apart_lower (flat.fragment_end f) (end_of_fragment (trimmed cut f)) (left_from (flat.fragment_end f) ys)
             (omega (arith, end_trimmed cut f (omega arith)))
             (left_from_apart (reach 0 xs) (flat.fragment_end f) ys w.after),
       )

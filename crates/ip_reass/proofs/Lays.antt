@@ -5,12 +5,12 @@ use Rattle.std.proofs.lemmas.Bool.{cond-true, cond-false, le-leb, lt-leb}
 use Rattle.std.proofs.lemmas.List.{drop_all, take_all, take-append-drop, take_at, drop_at, length-take-le, take-map, drop-map, map-append}
 use Rattle.flat_model.specs.Fragments.Overlay.{Fragment, overlay, is_covered}
 use Rattle.mbuf_chain.specs.Chain.{Entry, ChainView, PoolView, IsLive, chain_of, without, flat_bytes, string, no_chain}
-use Rattle.mbuf_chain.specs.Owners.{times, Moves}
+use Rattle.mbuf_chain.specs.Owners.{times_among, Moves}
 use Rattle.mbuf_chain.specs.Train.{TrainView, numbers, queued_packets, IsHeld}
 use Rattle.mbuf_chain.proofs.Laws.Owners.{moves_trans, moves_beside, moves_without, live_same, live_one, live_from}
 use Rattle.mbuf_chain.proofs.Laws.Trains.{Beside, beside_without}
 use Rattle.chain_ops.specs.Trims.{without_first}
-use Rattle.ip_reass.specs.Fragments.{QueuedFragment, queued_of, queued, queued_end, cut, cut_to, laid, laid_after, fragment_of, fragment_in, fragments, map_of, Apart, AllEnd, IsQueue, end_of}
+use Rattle.ip_reass.specs.Fragments.{QueuedFragment, queued_of, queued, queued_end, cut, cut_to, laid_into, laid_after, fragment_of, fragment_in, fragments, map_of, Apart, AllEnd, IsQueue, end_of_fragment}
 use Rattle.ip_reass.specs.Inside.Walks.{arrived, reach, AllUpto, AllAbove, trimmed, left_from, fragment_at}
 use Rattle.ip_reass.proofs.Walks.{length-fragments, reach_last}
 use Rattle.ip_reass.proofs.Whole.{last_here, reach_laid}
@@ -24,10 +24,10 @@ use Rattle.ip_reass.proofs.Steps.{length-queued, fragments_are, Changed}
 pub record Waits (c : ℕ) (v : ChainView) (q : PoolView) (u : TrainView) : Type 0 where
   pub live : IsLive q c
   pub shown : chain_of q c ≡ v
-  pub apart : times c (numbers q u) ≡ 0
+  pub apart : times_among c (numbers q u) ≡ 0
 
 pub waits : (r q : PoolView) (t u : TrainView) (c : ℕ) (v : ChainView) → IsLive r c → chain_of r c ≡ v
-    → times c (numbers r t) ≡ 0 → Moves r (numbers r t) q (numbers q u) → Waits c v q u
+    → times_among c (numbers r t) ≡ 0 → Moves r (numbers r t) q (numbers q u) → Waits c v q u
 waits r q t u c v live shown apart moves =
     let same : finmap.get q.chains c ≡ finmap.get r.chains c = moves.others c live apart in
     record {
@@ -143,7 +143,7 @@ made_is p s t w i n c q done =
 pub record Laid (p : PoolView) (t : TrainView) (q : QueuedFragment) (s : PoolView) (w : TrainView) : Type 0 where
   pub covered : is_covered (map_of (fragments p t)) (fragment_of q) ≡ false
   pub map_is : map_of (fragments s w) ≡ overlay (map_of (fragments p t)) (fragment_of q)
-  pub queue_is : queued s w ≡ laid q (queued p t)
+  pub queue_is : queued s w ≡ laid_into q (queued p t)
   pub apart : Apart 0 (fragments s w)
   pub small : AllEnd 65515 (fragments s w)
 
@@ -239,7 +239,7 @@ appended p s t w c i offset tag more is_i held half odd put goes =
 pub record IsLast (s : PoolView) (w : TrainView) (i : ℕ) (f : Fragment) : Type 0 where
   pub len : i + 1 ≡ length (fragments s w)
   pub more : (fragment_at (fragments s w) i).more ≡ f.more
-  pub end : reach 0 (fragments s w) ≡ end_of f
+  pub end : reach 0 (fragments s w) ≡ end_of_fragment f
 
 pub is_last : (p s : PoolView) (t w : TrainView) (i c : ℕ) (q : QueuedFragment) → IsHeld p t → i ≡ t.len
     → Settled p t i 0 c q s w → IsLast s w i (fragment_of q)
@@ -264,7 +264,7 @@ is_last p s t w i c q held is_i done =
     record {
       len = len;
       more = ap (λ (f : Fragment). f.more) at;
-      end = reach_last 0 i (fragments s w) len ∙ (ap end_of at ∙ end_trimmed 0 (fragment_of q) (omega arith));
+      end = reach_last 0 i (fragments s w) len ∙ (ap end_of_fragment at ∙ end_trimmed 0 (fragment_of q) (omega arith));
     }
 
 -- the fragments reach as far as before
@@ -292,7 +292,8 @@ queue_same p r t b is =
     record { held = b.held; apart = subst (Apart 0) (sym e) is.apart; small = subst (AllEnd 65515) (sym e) is.small }
 
 pub covered_in : (p r : PoolView) (t : TrainView) (i c : ℕ) (f : Fragment) → IsQueue p t → IsLive p c
-    → times c (numbers p t) ≡ 0 → AllUpto f.offset (take i (fragments p t)) → AllAbove f.offset (drop i (fragments p t))
+    → times_among c (numbers p t) ≡ 0 → AllUpto f.offset (take i (fragments p t))
+    → AllAbove f.offset (drop i (fragments p t))
     → length f.bytes ≤ reach 0 (take i (fragments p t)) - f.offset → r ≡ without p c → Covered p t c f r
 covered_in p r t i c f is live apart upto above none gone =
     let b : Beside p r t = beside_without p r c t gone apart is.held in
@@ -306,5 +307,5 @@ covered_in p r t i c f is live apart upto above none gone =
       is = queue_same p r t b is;
       moves =
           moves_beside (c ∷ numbers p t) (numbers r t) (numbers p t) (moves_without p r c live gone) (λ k. omega arith)
-          (λ k. omega (arith, ap (times k) b.numbers));
+          (λ k. omega (arith, ap (times_among k) b.numbers));
     }

@@ -5,7 +5,7 @@ use Rattle.std.proofs.lemmas.Option.{none-some}
 use Rattle.flat_model.specs.Machine.State.{Unfinished}
 use Rattle.flat_model.proofs.Laws.{count_cons}
 use Rattle.mbuf_chain.specs.Chain.{PoolView}
-use Rattle.mbuf_chain.specs.Owners.{times, IsOwned, Moves}
+use Rattle.mbuf_chain.specs.Owners.{times_among, IsOwned, Moves}
 use Rattle.mbuf_chain.specs.Frames.{SameAt}
 use Rattle.mbuf_chain.proofs.Laws.Owners.{times-append, same_beside, moves_beside, live_at_most}
 use Rattle.ip_reass.specs.Table.{held, held_all, IsUnfinished, AllUnfinished, IsTable, unfinished_of, unfinished}
@@ -16,7 +16,7 @@ use Rattle.ip_reass.proofs.Edits.{insert_remove, map-remove, map-insert}
 
 -- ---- a table by place
 pub held_at : (p : PoolView) (k : ℕ) (ds : List Datagram) (i : ℕ) (x : Datagram) → i < length ds
-    → times k (held_all p ds) ≡ times k (held p (get_or ds i x)) + times k (held_all p (remove ds i))
+    → times_among k (held_all p ds) ≡ times_among k (held p (get_or ds i x)) + times_among k (held_all p (remove ds i))
 held_at p k [] i x l = absurd (omega arith)
 held_at p k (d ∷ ds) zero x l = times-append k (held p d) (held_all p ds)
 held_at p k (d ∷ ds) (suc i) x l =
@@ -28,7 +28,7 @@ held_at p k (d ∷ ds) (suc i) x l =
     )
 
 pub held_put : (p : PoolView) (k : ℕ) (ds : List Datagram) (i : ℕ) (y : Datagram) → i < length ds
-    → times k (held_all p (set ds i y)) ≡ times k (held p y) + times k (held_all p (remove ds i))
+    → times_among k (held_all p (set ds i y)) ≡ times_among k (held p y) + times_among k (held_all p (remove ds i))
 held_put p k [] i y l = absurd (omega arith)
 held_put p k (d ∷ ds) zero y l = times-append k (held p y) (held_all p ds)
 held_put p k (d ∷ ds) (suc i) y l =
@@ -54,8 +54,8 @@ each_put p (d ∷ ds) (suc i) y l a h = (a.0, each_put p ds i y (omega arith) a.
 -- ---- a step of one datagram, with the chains xs beside it before
 module _ (p q : PoolView) (ds : List Datagram) (i : ℕ) (x : Datagram) (xs zs : List ℕ) (l : i < length ds)
     (owns : IsOwned p (xs ++ held_all p ds)) (is : IsTable p ds) (m : Moves p (xs ++ held p (get_or ds i x)) q zs) where
-  split : (k : ℕ) → times k (xs ++ held_all p ds)
-      ≡ times k (held_all p (remove ds i)) + times k (xs ++ held p (get_or ds i x))
+  split : (k : ℕ) → times_among k (xs ++ held_all p ds)
+      ≡ times_among k (held_all p (remove ds i)) + times_among k (xs ++ held p (get_or ds i x))
   split k =
       omega (arith, times-append k xs (held_all p ds), times-append k xs (held p (get_or ds i x)), held_at p k ds i x l)
 
@@ -72,7 +72,8 @@ module _ (p q : PoolView) (ds : List Datagram) (i : ℕ) (x : Datagram) (xs zs :
   others_each = each_same p q (remove ds i) others_same (each_at p ds i x l is.each).1
 
   -- it stands in its place again, as y, and ys came out
-  pub put_moves : (y : Datagram) (ys : List ℕ) → ((k : ℕ) → times k zs ≡ times k ys + times k (held q y))
+  pub put_moves : (y : Datagram) (ys : List ℕ)
+      → ((k : ℕ) → times_among k zs ≡ times_among k ys + times_among k (held q y))
       → Moves p (xs ++ held_all p ds) q (ys ++ held_all q (set ds i y))
   put_moves y ys is_zs =
       moves_beside (xs ++ held_all p ds) (ys ++ held_all q (set ds i y)) (held_all p (remove ds i)) m split
@@ -81,7 +82,7 @@ module _ (p q : PoolView) (ds : List Datagram) (i : ℕ) (x : Datagram) (xs zs :
         times-append k ys (held_all q (set ds i y)),
         held_put q k ds i y l,
         is_zs k,
-        ap (times k) others_held,
+        ap (times_among k) others_held,
       ))
 
   pub put_shows : (y : Datagram) → unfinished q (set ds i y) ≡ set (unfinished p ds) i (unfinished_of q y)
@@ -104,7 +105,7 @@ module _ (p q : PoolView) (ds : List Datagram) (i : ℕ) (x : Datagram) (xs zs :
   pub gone_moves : Moves p (xs ++ held_all p ds) q (zs ++ held_all q (remove ds i))
   gone_moves =
       moves_beside (xs ++ held_all p ds) (zs ++ held_all q (remove ds i)) (held_all p (remove ds i)) m split
-      (λ k. omega (arith, times-append k zs (held_all q (remove ds i)), ap (times k) others_held))
+      (λ k. omega (arith, times-append k zs (held_all q (remove ds i)), ap (times_among k) others_held))
 
   pub gone_shows : unfinished q (remove ds i) ≡ remove (unfinished p ds) i
   gone_shows = unfinished_same p q (remove ds i) others_same ∙ map-remove (unfinished_of p) ds i

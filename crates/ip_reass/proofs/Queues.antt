@@ -14,11 +14,11 @@ use Rattle.mbuf_chain.specs.Chain.{Entry, ChainView, PoolView, chain_of, string}
 use Rattle.ip_out.specs.declared.head.IpHead.{IpHead}
 use Rattle.ledger.specs.Reserve.{are_free}
 use Rattle.ip_reass.specs.Arrivals.{carried_entries, flat_head, key_in}
-use Rattle.ip_reass.specs.Fragments.{QueuedFragment, laid, joined, fragment_of, fragments, map_of}
+use Rattle.ip_reass.specs.Fragments.{QueuedFragment, laid_into, joined_fragments, fragment_of, fragments, map_of}
 use Rattle.ip_reass.specs.Inside.Walks.{arrived}
 use Rattle.ip_reass.specs.Table.{TableView, has_key}
 use Rattle.ip_reass.specs.Inside.Steps.{datagram_at, no_datagram, LaysIn}
-use Rattle.ip_reass.specs.Layouts.{KeyedQueue, queue_of, queues, goes_by, with_laid, laid_under, under, without_key, Leaves, WaitOrNone, HasLayout, HasCause, cause_among, cause_of, fragment_carried, no_queue, queue_at, LeavesAt}
+use Rattle.ip_reass.specs.Layouts.{KeyedQueue, queue_of, queues, goes_by, with_laid, laid_under, under, without_key, Leaves, WaitOrNone, HasLayout, HasCause, cause_among, cause_of, fragment_carried, no_queue, keyed_queue_at, LeavesAt}
 use Rattle.ip_reass.specs.declared.datagram.Datagram.{Datagram}
 use Rattle.ip_reass.specs.declared.arrival.Arrival.{Arrival}
 use Rattle.ip_reass.specs.declared.arrival.Arrival.TheVariants.{Kept, Whole, Dropped}
@@ -63,7 +63,7 @@ module _ (k : Key) (f : QueuedFragment) where
   ]
 
   laid_here : (qs : List KeyedQueue) (i : ℕ) → i < length qs → find (goes_by k) (take i qs) ≡ None
-      → goes_by k (queue_at qs i) ≡ true → laid_under k f qs ≡ set qs i (with_laid f (queue_at qs i))
+      → goes_by k (keyed_queue_at qs i) ≡ true → laid_under k f qs ≡ set qs i (with_laid f (keyed_queue_at qs i))
   laid_here [] i l n e = absurd (omega arith)
   laid_here (q ∷ qs) zero l n e = cond-true _ _ _ e
   laid_here (q ∷ qs) (suc i) l n e = elim (cases_Bool (goes_by k q)) [
@@ -73,7 +73,7 @@ module _ (k : Key) (f : QueuedFragment) where
   ]
 
   under_here : (qs : List KeyedQueue) (i : ℕ) → i < length qs → find (goes_by k) (take i qs) ≡ None
-      → goes_by k (queue_at qs i) ≡ true → under k qs ≡ (queue_at qs i).fragments
+      → goes_by k (keyed_queue_at qs i) ≡ true → under k qs ≡ (keyed_queue_at qs i).fragments
   under_here [] i l n e = absurd (omega arith)
   under_here (q ∷ qs) zero l n e = cond-true _ _ _ e
   under_here (q ∷ qs) (suc i) l n e = elim (cases_Bool (goes_by k q)) [
@@ -82,7 +82,7 @@ module _ (k : Key) (f : QueuedFragment) where
   ]
 
   without_here : (qs : List KeyedQueue) (i : ℕ) → i < length qs → find (goes_by k) (take i qs) ≡ None
-      → goes_by k (queue_at qs i) ≡ true → without_key k qs ≡ remove qs i
+      → goes_by k (keyed_queue_at qs i) ≡ true → without_key k qs ≡ remove qs i
   without_here [] i l n e = absurd (omega arith)
   without_here (q ∷ qs) zero l n e = cond-true _ _ _ e
   without_here (q ∷ qs) (suc i) l n e = elim (cases_Bool (goes_by k q)) [
@@ -93,11 +93,12 @@ module _ (k : Key) (f : QueuedFragment) where
 
 -- what is left by place is what is left by key, where the first queue with the key stands there
 leaves_here : (k : Key) (f : QueuedFragment) (qs : List KeyedQueue) (i : ℕ) (q : PoolView) (result : Arrival)
-    (now : List KeyedQueue) → i < length qs → find (goes_by k) (take i qs) ≡ None → goes_by k (queue_at qs i) ≡ true
+    (now : List KeyedQueue) → i < length qs → find (goes_by k) (take i qs) ≡ None
+    → goes_by k (keyed_queue_at qs i) ≡ true
     → LeavesAt i f qs q result now → Leaves k f qs q result now
 leaves_here k f qs i q Kept now l n e h = h ∙ sym (laid_here k f qs i l n e)
 leaves_here k f qs i q (Whole c x) now l n e h = (
-  h.0 ∙ ap (λ (fs : List QueuedFragment). joined (laid f fs)) (sym (under_here k f qs i l n e)),
+  h.0 ∙ ap (λ (fs : List QueuedFragment). joined_fragments (laid_into f fs)) (sym (under_here k f qs i l n e)),
   h.1
       ∙ sym (without_here k f qs i l n e),
 )
@@ -105,7 +106,8 @@ leaves_here k f qs i q (Dropped why) now l n e h = h.0
 
 -- and so is the cause
 cause_here : (k : Key) (f : QueuedFragment) (qs : List KeyedQueue) (i : ℕ) (q : PoolView) (result : Arrival)
-    (now : List KeyedQueue) → i < length qs → find (goes_by k) (take i qs) ≡ None → goes_by k (queue_at qs i) ≡ true
+    (now : List KeyedQueue) → i < length qs → find (goes_by k) (take i qs) ≡ None
+    → goes_by k (keyed_queue_at qs i) ≡ true
     → LeavesAt i f qs q result now
     → HasCause FragmentDropped result → HasCause (cause_among (under k now) f) result
 cause_here k f qs i q Kept now l n e h is = tt
@@ -141,8 +143,8 @@ leaves_new k f qs q Kept now l n h =
     ∙ (set_end qs (record { key = k; fragments = [] }) (with_laid f (record { key = k; fragments = [] }))
     ∙ sym (laid_none k f qs n)))
 leaves_new k f qs q (Whole c x) now l n h = (
-  h.0 ∙ ((λ j. joined (laid f (at_end qs (record { key = k; fragments = [] }) no_queue j).fragments))
-      ∙ ap (λ (fs : List QueuedFragment). joined (laid f fs)) (sym (under_none k f qs n))),
+  h.0 ∙ ((λ j. joined_fragments (laid_into f (at_end qs (record { key = k; fragments = [] }) no_queue j).fragments))
+      ∙ ap (λ (fs : List QueuedFragment). joined_fragments (laid_into f fs)) (sym (under_none k f qs n))),
   h.1 ∙ (gone_end qs (record { key = k; fragments = [] }) ∙ sym (without_none k f qs n)),
 )
 leaves_new k f qs q (Dropped why) now l n h =
@@ -250,7 +252,7 @@ begins_cause cause p q r t es hs ts k n i offset more result some chain rows i_i
 record Found (p : PoolView) (ds : List Datagram) (k : Key) (i : ℕ) : Type 0 where
   within : i < length (queues p ds)
   front : find (goes_by k) (take i (queues p ds)) ≡ None
-  here : goes_by k (queue_at (queues p ds) i) ≡ true
+  here : goes_by k (keyed_queue_at (queues p ds) i) ≡ true
 
 found : (p : PoolView) (slice items ds : List Datagram) (k k' : Key) (i : ℕ) → slice ≡ items → items ≡ ds → k' ≡ k
     → i < length slice → find (has_key k') slice ≡ slice_get slice i → find (has_key k') (take i slice) ≡ None
@@ -327,7 +329,7 @@ pub covered_layout : (p q : PoolView) (ds slice es back : List Datagram) (i c n 
     (answer : Bool) → i < length ds → n ≡ length ds → slice ≡ ds → answer ≡ false → LaysIn p slice i c f answer q es
     → back ≡ take n (es ++ drop (length es) ds)
     → (queues q back ≡ queues p ds)
-    × (is_covered (map_of (map fragment_of (queue_at (queues p ds) i).fragments)) (fragment_of f) ≡ true)
+    × (is_covered (map_of (map fragment_of (keyed_queue_at (queues p ds) i).fragments)) (fragment_of f) ≡ true)
 covered_layout p q ds slice es back i c n f answer l n_is was refused la back_is =
     let here : LaysIn p ds i c f false q es =
     subst (λ (zs : List Datagram). LaysIn p zs i c f false q es) was
@@ -340,7 +342,7 @@ covered_layout p q ds slice es back i c n f answer l n_is was refused la back_is
       n_is,
     ) in
     let same : back ≡ es = back_is ∙ lent n ds es long in
-    let at : map fragment_of (queue_at (queues p ds) i).fragments ≡ fragments p (datagram_at ds i).fragments =
+    let at : map fragment_of (keyed_queue_at (queues p ds) i).fragments ≡ fragments p (datagram_at ds i).fragments =
     ap (λ (q : KeyedQueue). map fragment_of q.fragments) (get_or-map (queue_of p) ds i no_datagram no_queue l)
     ∙ sym (fragments_are p (datagram_at ds i).fragments) in (
       ap (queues q) same ∙ here.rows_same,

@@ -9,9 +9,9 @@ use Rattle.params.specs.declared.TheConstants.{IP_MAX_DATA}
 use Rattle.flat_model.specs.Fragments.Overlay.{Map, Fragment}
 use Rattle.flat_model.proofs.Laws.{count_cons}
 use Rattle.mbuf_chain.specs.Chain.{PoolView}
-use Rattle.ip_reass.specs.Fragments.{end_of, piece_of, map_of, bytes_held, fragments, Apart, AllEnd}
+use Rattle.ip_reass.specs.Fragments.{end_of_fragment, piece_of, map_of, bytes_held, fragments, Apart, AllEnd}
 use Rattle.ip_reass.specs.Inside.Walks.{fragment_at, no_fragment}
-use Rattle.ip_reass.specs.Inside.Known.{known_here, known_below, known_past, below, within, past, place, nothing_below}
+use Rattle.ip_reass.specs.Inside.Known.{known_here, known_below, known_past, below, within, past, known_place, nothing_below}
 use Rattle.ip_reass.specs.Inside.Weighs.{pieces_are}
 use Rattle.ip_reass.specs.Questions.{is_of, owned_below, range_of, ranges, nth_of, told_of, nth_unfinished, range_in, nth_range}
 use Rattle.ip_reass.specs.Table.{IsUnfinished, AllUnfinished, unfinished_of, unfinished}
@@ -44,9 +44,9 @@ count_between test a e at (suc n) o l hit low high =
 -- what begins in front of them all owns nothing of them
 later : (a low : ℕ) (fs : List Fragment) (k : ℕ) → Apart low fs → a < low → is_of a (map_of fs k) ≡ false
 later a low [] k h l = refl
-later a low (f ∷ fs) k h l = elim (place f k) [
-  | below b ↦ ap (is_of a) (known_below f fs k b) ∙ later a (end_of f) fs k h.2 (omega arith)
-  | past b ↦ ap (is_of a) (known_past f fs k b) ∙ later a (end_of f) fs k h.2 (omega arith)
+later a low (f ∷ fs) k h l = elim (known_place f k) [
+  | below b ↦ ap (is_of a) (known_below f fs k b) ∙ later a (end_of_fragment f) fs k h.2 (omega arith)
+  | past b ↦ ap (is_of a) (known_past f fs k b) ∙ later a (end_of_fragment f) fs k h.2 (omega arith)
   | within b c ↦ ap (is_of a) (known_here f fs k b c) ∙ ne_eqb f.offset a (λ e. absurd (omega arith))
 ]
 
@@ -56,12 +56,12 @@ record IsFrom (m : Map) (low : ℕ) (fs : List Fragment) : Type 0 where
   pub under : (a k : ℕ) → low ≤ a → k < low → is_of a (m k) ≡ false
 
 passed : (m : Map) (low : ℕ) (f : Fragment) (fs : List Fragment) → Apart low (f ∷ fs) → IsFrom m low (f ∷ fs)
-    → IsFrom m (end_of f) fs
+    → IsFrom m (end_of_fragment f) fs
 passed m low f fs h c = record {
   same = λ k l. c.same k (omega arith) ∙ known_past f fs k l;
   under = λ a k l s. elim (cases_lt k low) [
     | inl b ↦ c.under a k (omega arith) b
-    | inr b ↦ ap (is_of a) (c.same k b) ∙ elim (place f k) [
+    | inr b ↦ ap (is_of a) (c.same k b) ∙ elim (known_place f k) [
       | below d ↦ ap (is_of a) (nothing_below f.offset (f ∷ fs) k (omega arith, h.1, h.2) d)
       | within d e ↦ ap (is_of a) (known_here f fs k d e) ∙ ne_eqb f.offset a (λ g. absurd (omega arith))
       | past d ↦ absurd (omega arith)
@@ -71,17 +71,18 @@ passed m low f fs h c = record {
 
 -- a fragment's piece owns as many offsets as it has bytes
 owned : (most : ℕ) (m : Map) (low : ℕ) (f : Fragment) (fs : List Fragment) → Apart low (f ∷ fs) → IsFrom m low (f ∷ fs)
-    → end_of f ≤ most → owned_below most m f.offset ≡ length f.bytes
+    → end_of_fragment f ≤ most → owned_below most m f.offset ≡ length f.bytes
 unfolding owned_below
 owned most m low f fs h c l =
-    let all = count_between (λ (k : ℕ). is_of f.offset (m k)) f.offset (end_of f) 0 most (omega arith) (omega arith)
+    let all =
+    count_between (λ (k : ℕ). is_of f.offset (m k)) f.offset (end_of_fragment f) 0 most (omega arith) (omega arith)
     (λ k a b. ap (is_of f.offset) (c.same k (omega arith) ∙ known_here f fs k a b) ∙ eq-eqb f.offset f.offset refl)
     (λ k a. elim (cases_lt k low) [
       | inl b ↦ c.under f.offset k (omega arith) b
       | inr b ↦ ap (is_of f.offset) (c.same k b ∙ nothing_below f.offset (f ∷ fs) k (omega arith, h.1, h.2) a)
     ])
     (λ k a. ap (is_of f.offset) (c.same k (omega arith) ∙ known_past f fs k a)
-    ∙ later f.offset (end_of f) fs k h.2 (omega arith)) in
+    ∙ later f.offset (end_of_fragment f) fs k h.2 (omega arith)) in
     omega (arith, all)
 
 each_held : (m : Map) (low : ℕ) (fs : List Fragment) → Apart low fs → AllEnd IP_MAX_DATA fs → IsFrom m low fs
@@ -89,7 +90,7 @@ each_held : (m : Map) (low : ℕ) (fs : List Fragment) → Apart low fs → AllE
 each_held m low [] h e c = refl
 each_held m low (f ∷ fs) h e c =
     let len = owned IP_MAX_DATA m low f fs h c e.0 in
-    let others = each_held m (end_of f) fs h.2 e.1 (passed m low f fs h c) in
+    let others = each_held m (end_of_fragment f) fs h.2 e.1 (passed m low f fs h c) in
     λ i. record { offset = f.offset; len = len i; more = f.more } ∷ others i
 
 -- **the ranges are what the fragments hold**

@@ -13,7 +13,7 @@ use Rattle.flat_model.specs.declared.counters.Why.TheVariants.{NoBufs}
 use Rattle.flat_model.proofs.Laws.{count-append}
 use Rattle.mbuf_chain.specs.Chain.{ChainView, PoolView, IsLive, chain_of, without, Adds}
 use Rattle.mbuf_chain.specs.Steps.{one_mbuf, empty_entry}
-use Rattle.mbuf_chain.specs.Owners.{times, IsOwned, Moves}
+use Rattle.mbuf_chain.specs.Owners.{times_among, IsOwned, Moves}
 use Rattle.mbuf_chain.specs.Frames.{IsBounded, SameAt}
 use Rattle.mbuf_chain.proofs.Laws.Owners.{times_same, chain_same, moves_trans, moves_beside, moves_without, same_beside, same_without, owned_after, live_first, apart_first, live_at_most}
 use Rattle.mbuf_chain.proofs.Laws.Accounts.{owned_at_most}
@@ -23,7 +23,7 @@ use Rattle.ip_reass.specs.Table.{held, held_all, new_datagram, AllUnfinished, Ha
 use Rattle.ip_reass.specs.Same.{held_all_same, table_same, unfinished_same, queues_same}
 use Rattle.ip_reass.specs.Layouts.{queues}
 use Rattle.ip_reass.specs.Inside.Steps.{datagram_at, no_datagram}
-use Rattle.ip_reass.specs.Arrivals.{machine, BeginsAt}
+use Rattle.ip_reass.specs.Arrivals.{machine_with, BeginsAt}
 use Rattle.ip_reass.specs.declared.datagram.Datagram.{Datagram}
 use Rattle.ip_reass.specs.declared.arrival.Arrival.{Arrival}
 use Rattle.ip_reass.proofs.Places.{none_found}
@@ -69,19 +69,19 @@ freed p q r ds es c st is gone =
       rows = queues_same q r es same;
       moves =
           moves_trans st.moves (moves_beside (c ∷ held_all q es) (held_all r es) (held_all q es)
-          (moves_without q r c st.live gone) (λ k. omega arith) (λ k. omega (arith, ap (times k) all)));
+          (moves_without q r c st.live gone) (λ k. omega arith) (λ k. omega (arith, ap (times_among k) all)));
     }
 
 -- ---- the two ends of the test for a key's mbuf
 pub lacking : (rest : State) (held : Weight) (new : State) (k : Key) (f : Fragment) (w : Weight) (p q r : PoolView)
     (ds es : List Datagram) (c mid d : Counters) (result : Arrival) (answer : Bool) → answer ≡ false
-    → HasBuffers exact_ledger (machine p ds c rest) (held ⊕ w) (need_mbufs 1) answer (machine q es mid rest)
-    → unfinished r es ≡ unfinished q es → d ≡ counted NoBufs mid → new ≡ machine r es d rest
+    → HasBuffers exact_ledger (machine_with p ds c rest) (held ⊕ w) (need_mbufs 1) answer (machine_with q es mid rest)
+    → unfinished r es ≡ unfinished q es → d ≡ counted NoBufs mid → new ≡ machine_with r es d rest
     → BeginsAt p ds c k f w result r es d rest held new
 lacking rest held new k f w p q r ds es c mid d result answer refused af shows counts is = record {
   tests = record {
     answer = answer;
-    mid = machine q es mid rest;
+    mid = machine_with q es mid rest;
     has_buffers = af;
     goes_on = record {
       yes = λ e. absurd (false≢true (sym refused ∙ e));
@@ -93,7 +93,7 @@ lacking rest held new k f w p q r ds es c mid d result answer refused af shows c
 -- what is left of the datagrams after a test
 pub none_then : (rest : State) (w : Weight) (k : Key) (p q : PoolView) (ds es : List Datagram) (c mid : Counters)
     (answer : Bool) → find (is_key k) (unfinished p ds) ≡ None
-    → HasBuffers exact_ledger (machine p ds c rest) w (need_mbufs 1) answer (machine q es mid rest)
+    → HasBuffers exact_ledger (machine_with p ds c rest) w (need_mbufs 1) answer (machine_with q es mid rest)
     → count_by (is_key k) (unfinished q es) ≡ 0
 none_then rest w k p q ds es c mid true none (inl a) =
     ap (λ (s : State). count_by (is_key k) s.unfinished) a.1 ∙ none_found (is_key k) (unfinished p ds) none
@@ -136,11 +136,11 @@ pub begins_here : (rest : State) (held : Weight) (new : State) (k : Key) (w : We
     (ds es hs : List Datagram) (c mid d : Counters) (n i offset : ℕ) (more : Bool) (result : Arrival) (t : PoolView)
     (ts : List Datagram) (answer : Bool) → answer ≡ true
     → find (is_key k) (unfinished p ds) ≡ None
-    → HasBuffers exact_ledger (machine p ds c rest) (held ⊕ w) (need_mbufs 1) answer (machine q es mid rest)
+    → HasBuffers exact_ledger (machine_with p ds c rest) (held ⊕ w) (need_mbufs 1) answer (machine_with q es mid rest)
     → chain_of r n ≡ chain_of p n → Began q es n k r hs i
     → (is_key k (unfinished_of r (datagram_at hs i)) ≡ true → count_by (is_key k) (unfinished r hs) ≤ 1
     → Lays exact_ledger held k (fragment_of (arrived r n offset more)) (unfinished_of r (datagram_at hs i))
-    (machine r hs mid rest) new)
+    (machine_with r hs mid rest) new)
     → BeginsAt p ds c k (fragment_of (arrived p n offset more)) w result t ts d rest held new
 begins_here rest held new k w p q r ds es hs c mid d n i offset more result t ts answer agrees none af chain b step =
     let zero_then : count_by (is_key k) (unfinished q es) ≡ 0 =
@@ -157,21 +157,22 @@ begins_here rest held new k w p q r ds es hs c mid d n i offset more result t ts
     ) in
     let lays = step here most in
     let a : Lays exact_ledger held k (fragment_of (arrived p n offset more)) (unfinished_of r (datagram_at hs i))
-    (machine r hs mid rest) new =
+    (machine_with r hs mid rest) new =
     subst (λ (v : ChainView). Lays exact_ledger held k
     (fragment_of (record { offset = offset; more = more; entries = v.entries })) (unfinished_of r (datagram_at hs i))
-    (machine r hs mid rest) new) chain lays in
-    let b' : Lays exact_ledger held k (fragment_of (arrived p n offset more)) (begun k) (machine r hs mid rest) new =
+    (machine_with r hs mid rest) new) chain lays in
+    let b' : Lays exact_ledger held k (fragment_of (arrived p n offset more)) (begun k) (machine_with r hs mid rest)
+    new =
     subst (λ (u : Unfinished). Lays exact_ledger held k (fragment_of (arrived p n offset more)) u
-    (machine r hs mid rest) new) b.at a in
+    (machine_with r hs mid rest) new) b.at a in
     let c' : Lays exact_ledger held k (fragment_of (arrived p n offset more)) (begun k)
-    (begin_unfinished k (machine q es mid rest)) new =
+    (begin_unfinished k (machine_with q es mid rest)) new =
     subst (λ (us : List Unfinished). Lays exact_ledger held k (fragment_of (arrived p n offset more)) (begun k)
     (record rest { unfinished = us; counters = mid }) new) b.shows b' in
     record {
       tests = record {
         answer = answer;
-        mid = machine q es mid rest;
+        mid = machine_with q es mid rest;
         has_buffers = af;
         goes_on = record {
           yes = λ e. c';

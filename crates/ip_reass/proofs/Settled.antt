@@ -13,12 +13,12 @@ use Rattle.flat_model.specs.declared.counters.Counters.{Counters}
 use Rattle.flat_model.specs.declared.counter.Counter.TheVariants.{IpReassembled}
 use Rattle.mbuf_chain.specs.Chain.{Entry, PoolView, chain_of, flat_bytes, string}
 use Rattle.mbuf_chain.specs.Train.{TrainView}
-use Rattle.ledger.specs.Accounts.{item_of, item_at, weight_of}
-use Rattle.ip_reass.specs.Fragments.{QueuedFragment, fragment_of, fragments, map_of, queued, laid, joined, IsQueue}
-use Rattle.ip_reass.specs.Layouts.{KeyedQueue, queue_of, queues, no_queue, queue_at}
+use Rattle.ledger.specs.Accounts.{item_of, item_at, entries_weight}
+use Rattle.ip_reass.specs.Fragments.{QueuedFragment, fragment_of, fragments, map_of, queued, laid_into, joined_fragments, IsQueue}
+use Rattle.ip_reass.specs.Layouts.{KeyedQueue, queue_of, queues, no_queue, keyed_queue_at}
 use Rattle.ip_reass.specs.Table.{unfinished, unfinished_of}
 use Rattle.ip_reass.specs.Inside.Steps.{datagram_at, no_datagram, LaysIn, TakesOut}
-use Rattle.ip_reass.specs.Arrivals.{machine}
+use Rattle.ip_reass.specs.Arrivals.{machine_with}
 use Rattle.ip_reass.specs.declared.datagram.Datagram.{Datagram}
 use Rattle.mbuf_chain.specs.Owners.{Moves}
 use Rattle.mbuf_chain.specs.Frames.{IsBounded}
@@ -63,8 +63,8 @@ pub settles_kept : (rest : State) (held : Weight) (k : Key) (p q : PoolView) (ds
     (i n : ℕ) (f : QueuedFragment) (new : State) → i < length ds
     → is_key k (unfinished_of p (datagram_at ds i)) ≡ true → count_by (is_key k) (unfinished p ds) ≤ 1
     → (la : LaysIn p ds i n f true q es) → ((m : ℕ) → ¬ IsWhole (map_of (fragments q la.train)) m)
-    → new ≡ machine q es c rest → Lays exact_ledger held k (fragment_of f) (unfinished_of p (datagram_at ds i))
-    (machine p ds c rest) new
+    → new ≡ machine_with q es c rest → Lays exact_ledger held k (fragment_of f) (unfinished_of p (datagram_at ds i))
+    (machine_with p ds c rest) new
 settles_kept rest held k p q ds es c i n f new l here most la waits is = record {
   yes = λ e. absurd (false≢true (sym la.covered ∙ e));
   no = λ e. inr (
@@ -84,40 +84,45 @@ pub settles_whole : (rest : State) (held : Weight) (k : Key) (p q r : PoolView) 
     → is_key k (unfinished_of p (datagram_at ds i)) ≡ true → count_by (is_key k) (unfinished p ds) ≤ 1
     → (la : LaysIn p ds i n f true q es) → (ta : TakesOut q es i out r hs)
     → IsWhole (map_of (fragments q la.train)) m
-    → IsJoin (weight_of_pieces (map_of (fragments q la.train))) (weight_of (joined (queued q la.train))) m
-    → bytes_below (map_of (fragments q la.train)) m ≡ flat_bytes (joined (queued q la.train))
-    → (chain_of r out).entries ≡ joined (queued q la.train) → d ≡ counts_more IpReassembled 1 c
-    → WholeArrives exact_ledger held k.source k.destination k.protocol (item_at r out) (machine r hs d rest) new
-    → Lays exact_ledger held k (fragment_of f) (unfinished_of p (datagram_at ds i)) (machine p ds c rest) new
+    → IsJoin (weight_of_pieces (map_of (fragments q la.train))) (entries_weight (joined_fragments (queued q la.train)))
+    m
+    → bytes_below (map_of (fragments q la.train)) m ≡ flat_bytes (joined_fragments (queued q la.train))
+    → (chain_of r out).entries ≡ joined_fragments (queued q la.train) → d ≡ counts_more IpReassembled 1 c
+    → WholeArrives exact_ledger held k.source k.destination k.protocol (item_at r out) (machine_with r hs d rest) new
+    → Lays exact_ledger held k (fragment_of f) (unfinished_of p (datagram_at ds i)) (machine_with p ds c rest) new
 settles_whole rest held k p q r ds es hs c d i n out m f new l here most la ta whole join bytes entries counts goes =
     let bs : Map = overlay (map_of (fragments p (datagram_at ds i).fragments)) (fragment_of f) in
-    let item : item_at r out ≡ record
-    { bytes = bytes_below (map_of (fragments q la.train)) m; weight = weight_of (joined (queued q la.train)) } =
-    ap item_of entries ∙ ap (λ (xs : List ℕ). record { bytes = xs; weight = weight_of (joined (queued q la.train)) })
+    let item : item_at r out ≡ record {
+      bytes = bytes_below (map_of (fragments q la.train)) m;
+      weight = entries_weight (joined_fragments (queued q la.train));
+    } =
+    ap item_of entries ∙ ap (λ (xs : List ℕ). record
+    { bytes = xs; weight = entries_weight (joined_fragments (queued q la.train)) })
     (sym bytes) in
     let left : unfinished r hs ≡ filter (λ (u : Unfinished). not (is_key k u)) (unfinished p ds) =
     ta.shows ∙ (ap (λ (us : List Unfinished). remove us i) la.shows
     ∙ (remove-set (unfinished p ds) i _ ∙ sym (ended k p ds i l here most))) in
-    let now : machine r hs d rest ≡ counts_reassembled (end_unfinished k (machine p ds c rest)) =
+    let now : machine_with r hs d rest ≡ counts_reassembled (end_unfinished k (machine_with p ds c rest)) =
     λ j. record rest { unfinished = left j; counters = counts j } in
     let arrives : WholeArrives exact_ledger held k.source k.destination k.protocol
     (record {
       bytes = bytes_below (map_of (fragments q la.train)) m;
       weight =
-          weight_of (joined (queued q la.train));
-    }) (counts_reassembled (end_unfinished k (machine p ds c rest))) new =
+          entries_weight (joined_fragments (queued q la.train));
+    }) (counts_reassembled (end_unfinished k (machine_with p ds c rest))) new =
     subst (λ (s : State). WholeArrives exact_ledger held k.source k.destination k.protocol
     (record {
       bytes = bytes_below (map_of (fragments q la.train)) m;
-      weight = weight_of (joined (queued q la.train));
+      weight = entries_weight (joined_fragments (queued q la.train));
     }) s new) now
-    (subst (λ (x : Item). WholeArrives exact_ledger held k.source k.destination k.protocol x (machine r hs d rest) new)
+    (subst (λ (x : Item). WholeArrives exact_ledger held k.source k.destination k.protocol x (machine_with r hs d rest)
+    new)
     item goes) in
-    let settled : Settles exact_ledger held k (map_of (fragments q la.train)) (machine p ds c rest) new =
-    inl (m, whole, weight_of (joined (queued q la.train)), join, arrives) in
+    let settled : Settles exact_ledger held k (map_of (fragments q la.train)) (machine_with p ds c rest) new =
+    inl (m, whole, entries_weight (joined_fragments (queued q la.train)), join, arrives) in
     record {
       yes = λ e. absurd (false≢true (sym la.covered ∙ e));
-      no = λ e. subst (λ (b : Map). Settles exact_ledger held k b (machine p ds c rest) new) la.map settled;
+      no = λ e. subst (λ (b : Map). Settles exact_ledger held k b (machine_with p ds c rest) new) la.map settled;
     }
 
 -- ---- as the code sees it: the table was lent as a slice
@@ -161,12 +166,12 @@ module _ (p q : PoolView) (ds es back : List Datagram) (i n : ℕ) (f : QueuedFr
     -- it waits
     pub lent_kept : (rest : State) (held : Weight) (k : Key) (c : Counters) (new : State) → i < length ds
         → is_key k (unfinished_of p (datagram_at ds i)) ≡ true → count_by (is_key k) (unfinished p ds) ≤ 1
-        → ((m : ℕ) → ¬ IsWhole (map_of (fragments q (datagram_at es i).fragments)) m) → new ≡ machine q back c rest
-        → Lays exact_ledger held k (fragment_of f) (unfinished_of p (datagram_at ds i)) (machine p ds c rest) new
+        → ((m : ℕ) → ¬ IsWhole (map_of (fragments q (datagram_at es i).fragments)) m) → new ≡ machine_with q back c rest
+        → Lays exact_ledger held k (fragment_of f) (unfinished_of p (datagram_at ds i)) (machine_with p ds c rest) new
     lent_kept rest held k c new l here most waits is =
         settles_kept rest held k p q ds es c i n f new l here most e.lays
         (λ m w. waits m (subst (λ (t : TrainView). IsWhole (map_of (fragments q t)) m) (sym e.train_is) w))
-        (is ∙ ap (λ (zs : List Datagram). machine q zs c rest) e.back_is)
+        (is ∙ ap (λ (zs : List Datagram). machine_with q zs c rest) e.back_is)
 
     whole_here : (m : ℕ) → IsWhole (map_of (fragments q (datagram_at es i).fragments)) m
         → IsWhole (map_of (fragments q e.lays.train)) m
@@ -182,14 +187,15 @@ module _ (p q : PoolView) (ds es back : List Datagram) (i n : ℕ) (f : QueuedFr
       taken : TakesOut q es i out r hs
       taken = subst (λ (zs : List Datagram). TakesOut q zs i out r hs) e.back_is takes
 
-      pub lent_entries : (chain_of r out).entries ≡ joined (queued q e.lays.train)
-      lent_entries = taken.entries ∙ ap (λ (t : TrainView). joined (queued q t)) e.train_is
+      pub lent_entries : (chain_of r out).entries ≡ joined_fragments (queued q e.lays.train)
+      lent_entries = taken.entries ∙ ap (λ (t : TrainView). joined_fragments (queued q t)) e.train_is
 
       pub lent_whole : (rest : State) (held : Weight) (k : Key) (c d : Counters) (new : State)
           → is_key k (unfinished_of p (datagram_at ds i)) ≡ true → count_by (is_key k) (unfinished p ds) ≤ 1
           → d ≡ counts_more IpReassembled 1 c
-          → WholeArrives exact_ledger held k.source k.destination k.protocol (item_at r out) (machine r hs d rest) new
-          → Lays exact_ledger held k (fragment_of f) (unfinished_of p (datagram_at ds i)) (machine p ds c rest) new
+          → WholeArrives exact_ledger held k.source k.destination k.protocol (item_at r out) (machine_with r hs d rest)
+          new
+          → Lays exact_ledger held k (fragment_of f) (unfinished_of p (datagram_at ds i)) (machine_with p ds c rest) new
       lent_whole rest held k c d new here most counts goes =
           let whole : IsWhole (map_of (fragments q e.lays.train)) m = whole_here m w in
           settles_whole rest held k p q r ds es hs c d i n out m f new l here most e.lays taken whole
@@ -197,12 +203,14 @@ module _ (p q : PoolView) (ds es back : List Datagram) (i n : ℕ) (f : QueuedFr
           (all_fit q e.lays.train bounded e.queue.held) whole)
           (joined_bytes q e.lays.train m e.queue whole) lent_entries counts goes
 
-      pub lent_leaves : ((chain_of r out).entries ≡ joined (laid f (queue_at (queues p ds) i).fragments))
+      pub lent_leaves : ((chain_of r out).entries
+          ≡ joined_fragments (laid_into f (keyed_queue_at (queues p ds) i).fragments))
           × (queues r hs ≡ remove (queues p ds) i)
       lent_leaves =
-          let here : queue_at (queues p ds) i ≡ queue_of p (datagram_at ds i) =
+          let here : keyed_queue_at (queues p ds) i ≡ queue_of p (datagram_at ds i) =
           get_or-map (queue_of p) ds i no_datagram no_queue l in (
-            lent_entries ∙ (ap joined e.lays.queue ∙ ap (λ (y : KeyedQueue). joined (laid f y.fragments)) (sym here)),
+            lent_entries ∙ (ap joined_fragments e.lays.queue
+                ∙ ap (λ (y : KeyedQueue). joined_fragments (laid_into f y.fragments)) (sym here)),
             taken.rows ∙ (ap (λ (ys : List KeyedQueue). remove ys i) e.lays.rows ∙ remove-set (queues p ds) i _),
           )
 

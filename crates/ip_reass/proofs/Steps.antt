@@ -4,12 +4,12 @@ use Rattle.std.proofs.lemmas.Bool.{cond-true, cond-false, le-leb, lt-leb}
 use Rattle.std.proofs.lemmas.List.{get_or-map, drop_all, set_split, length-map, take-append-drop}
 use Rattle.flat_model.specs.Fragments.Overlay.{Fragment}
 use Rattle.mbuf_chain.specs.Chain.{Entry, flat_bytes, ChainView, PoolView, IsLive, chain_of, with_chain}
-use Rattle.mbuf_chain.specs.Owners.{times, Moves}
+use Rattle.mbuf_chain.specs.Owners.{times_among, Moves}
 use Rattle.mbuf_chain.specs.Train.{TrainView, QueuedPacket, no_queued_packet, queued_packet_at, numbers, queued_packets, IsHeld}
 use Rattle.mbuf_chain.proofs.Laws.Owners.{moves_trans, moves_beside, moves_with, live_with, shown_with}
 use Rattle.mbuf_chain.proofs.Laws.Trains.{Beside, beside_with, FreedPacket, length-queued_packets}
 use Rattle.chain_ops.specs.Trims.{without_first}
-use Rattle.ip_reass.specs.Fragments.{QueuedFragment, queued_of, queued, queued_end, cut, cut_to, fragment_of, fragment_in, fragments, end_of, AllEnd}
+use Rattle.ip_reass.specs.Fragments.{QueuedFragment, queued_of, queued, queued_end, cut, cut_to, fragment_of, fragment_in, fragments, end_of_fragment, AllEnd}
 use Rattle.ip_reass.specs.Inside.Walks.{queued_at, no_queued, fragment_at}
 use Rattle.ip_reass.proofs.Walks.{fragment_is}
 use Rattle.ip_reass.proofs.Edits.{insert_remove, take-remove, drop-remove, map-remove, map-insert}
@@ -31,7 +31,7 @@ begin_is p t i h l =
     ∙ ap (λ (f : Fragment). f.offset) (sym (fragment_is p t i h l))
 
 pub end_is : (p : PoolView) (t : TrainView) (i b n : ℕ) → IsHeld p t → i < t.len → b ≡ (queued_at (queued p t) i).offset
-    → n ≡ length (flat_bytes (queued_packet_at p t i).entries) → b + n ≡ end_of (fragment_at (fragments p t) i)
+    → n ≡ length (flat_bytes (queued_packet_at p t i).entries) → b + n ≡ end_of_fragment (fragment_at (fragments p t) i)
 end_is p t i b n h l e f =
     omega (arith, begin_is p t i h l, e, f, ap (λ (g : Fragment). length g.bytes) (fragment_is p t i h l))
 
@@ -85,11 +85,11 @@ pub record Changed (q : PoolView) (u : TrainView) (c : ℕ) (v : ChainView) (r :
   pub live : IsLive r c
   pub shown : chain_of r c ≡ v
   pub held : IsHeld r u
-  pub apart : times c (numbers r u) ≡ 0
+  pub apart : times_among c (numbers r u) ≡ 0
   pub queued_packets_are : queued_packets r u ≡ queued_packets q u
   pub moves : Moves q (c ∷ numbers q u) r (c ∷ numbers r u)
 
-pub changed : (q r : PoolView) (u : TrainView) (c : ℕ) (v : ChainView) → IsLive q c → times c (numbers q u) ≡ 0
+pub changed : (q r : PoolView) (u : TrainView) (c : ℕ) (v : ChainView) → IsLive q c → times_among c (numbers q u) ≡ 0
     → IsHeld q u → r ≡ with_chain q c v → Changed q u c v r
 changed q r u c v live apart holds is =
     let b : Beside q r u = beside_with q r c v u is apart holds in
@@ -97,11 +97,11 @@ changed q r u c v live apart holds is =
       live = live_with q r c v c is live;
       shown = shown_with q r c v is;
       held = b.held;
-      apart = ap (times c) b.numbers ∙ apart;
+      apart = ap (times_among c) b.numbers ∙ apart;
       queued_packets_are = b.queued_packets;
       moves =
           moves_beside (c ∷ numbers q u) (c ∷ numbers r u) (numbers q u) (moves_with q r c v live is) (λ k. omega arith)
-          (λ k. omega (arith, ap (times k) b.numbers));
+          (λ k. omega (arith, ap (times_among k) b.numbers));
     }
 
 -- ---- a fragment cut

@@ -3,12 +3,12 @@ use Rattle.std.proofs.Common.{◌≡◌, ℕ, zero, suc, ◌+◌, ◌<◌, Bool,
 use Rattle.std.proofs.lemmas.List.{map-append}
 use Rattle.flat_model.specs.Machine.State.{Unfinished, begun}
 use Rattle.mbuf_chain.specs.Chain.{PoolView, without}
-use Rattle.mbuf_chain.specs.Owners.{times, IsOwned, Moves}
+use Rattle.mbuf_chain.specs.Owners.{times_among, IsOwned, Moves}
 use Rattle.mbuf_chain.specs.Frames.{SameAt}
 use Rattle.mbuf_chain.specs.Train.{numbers, IsHeld}
 use Rattle.mbuf_chain.proofs.Laws.Owners.{times-append, same_part, same_trans, same_beside, moves_beside, moves_without, owned_after, apart_first, live_first, live_at_most}
 use Rattle.mbuf_chain.proofs.Laws.Trains.{Beside, beside_without}
-use Rattle.ledger.specs.Accounts.{weight_of}
+use Rattle.ledger.specs.Accounts.{entries_weight}
 use Rattle.ip_reass.specs.Table.{held, held_all, new_datagram, IsUnfinished, AllUnfinished, IsTable, unfinished_of, unfinished}
 use Rattle.ip_reass.specs.Fragments.{queued, queued_of}
 use Rattle.ip_reass.specs.declared.datagram.Datagram.{Datagram}
@@ -26,7 +26,7 @@ use Rattle.ip_reass.specs.Layouts.{KeyedQueue, queue_of, queues}
 
 -- ---- datagrams freed
 pub held_all-append : (p : PoolView) (k : ℕ) (xs ys : List Datagram)
-    → times k (held_all p (xs ++ ys)) ≡ times k (held_all p xs) + times k (held_all p ys)
+    → times_among k (held_all p (xs ++ ys)) ≡ times_among k (held_all p xs) + times_among k (held_all p ys)
 held_all-append p k [] ys = omega arith
 held_all-append p k (d ∷ xs) ys =
     omega (
@@ -51,7 +51,7 @@ last_of p xs ys d e is = record {
       λ k. omega (
         arith,
         is.owned k,
-        ap (λ (zs : List Datagram). times k (held_all p zs)) e,
+        ap (λ (zs : List Datagram). times_among k (held_all p zs)) e,
         held_all-append p k ys (d ∷ []),
         times-append k (held p d) [],
       );
@@ -67,10 +67,10 @@ pub record Shorter (p : PoolView) (xs : List Datagram) (r : PoolView) (ys : List
 pub shorter : (p r : PoolView) (xs ys : List Datagram) (d : Datagram) → xs ≡ ys ++ d ∷ [] → IsTable p xs
     → Moves p (held p d) r [] → Shorter p xs r ys
 shorter p r xs ys d e is m =
-    let split : (k : ℕ) → times k (held_all p xs) ≡ times k (held_all p ys) + times k (held p d) =
+    let split : (k : ℕ) → times_among k (held_all p xs) ≡ times_among k (held_all p ys) + times_among k (held p d) =
     λ k. omega (
       arith,
-      ap (λ (zs : List Datagram). times k (held_all p zs)) e,
+      ap (λ (zs : List Datagram). times_among k (held_all p zs)) e,
       held_all-append p k ys (d ∷ []),
       times-append k (held p d) [],
     ) in
@@ -79,7 +79,7 @@ shorter p r xs ys d e is m =
     same_beside (held_all p ys) m owns (λ k l. omega (arith, is.owned k, split k, live_at_most p k)) in
     let all : held_all r ys ≡ held_all p ys = held_all_same p r ys same in
     let moves : Moves p (held_all p xs) r (held_all r ys) =
-    moves_beside (held_all p xs) (held_all r ys) (held_all p ys) m split (λ k. omega (arith, ap (times k) all)) in
+    moves_beside (held_all p xs) (held_all r ys) (held_all p ys) m split (λ k. omega (arith, ap (times_among k) all)) in
     record {
       table = record {
         owned = owned_after moves is.owned;
@@ -106,7 +106,7 @@ emptied p q d owns holds is =
       moves =
           moves_beside (held p d) (numbers q d.fragments) (numbers p d.fragments)
           (moves_without p q d.holder (live_first p d.holder (numbers p d.fragments) owns) is) (λ k. omega arith)
-          (λ k. omega (arith, ap (times k) b.numbers));
+          (λ k. omega (arith, ap (times_among k) b.numbers));
     }
 
 -- the datagrams that stay are as they were, step by step
@@ -115,7 +115,8 @@ pub same_more : (p q r : PoolView) (xs ys : List Datagram) (d : Datagram) → xs
 same_more p q r xs ys d e s n =
     let here : SameAt p q (held_all p ys) =
     same_part p q (held_all p xs) (held_all p ys) s
-    (λ k. omega (arith, ap (λ (zs : List Datagram). times k (held_all p zs)) e, held_all-append p k ys (d ∷ []))) in
+    (λ k. omega (arith, ap (λ (zs : List Datagram). times_among k (held_all p zs)) e, held_all-append p k ys (d ∷ [])))
+    in
     same_trans p q r (held_all p ys) here (subst (SameAt q r) (held_all_same p q ys here) n)
 
 pub same_none : (p : PoolView) (xs : List ℕ) → SameAt p p xs
@@ -169,19 +170,19 @@ begins p q ds es k c is a e =
     let d : Datagram = new_datagram k c in
     let same : SameAt p q (held_all p ds) = same_adds (held_all p ds) a is.owned in
     let all : held_all q ds ≡ held_all p ds = held_all_same p q ds same in
-    let times_is : (j : ℕ) → times j (held_all q es) ≡ times j (held_all p ds) + times j (c ∷ []) =
+    let times_is : (j : ℕ) → times_among j (held_all q es) ≡ times_among j (held_all p ds) + times_among j (c ∷ []) =
     λ j. omega (
       arith,
-      ap (λ (zs : List Datagram). times j (held_all q zs)) e,
+      ap (λ (zs : List Datagram). times_among j (held_all q zs)) e,
       held_all-append q j ds (d ∷ []),
-      ap (times j) all,
+      ap (times_among j) all,
     ) in
     let moves : Moves p (held_all p ds) q (held_all q es) =
     moves_beside (held_all p ds) (held_all q es) (held_all p ds) (moves_adds a) (λ j. omega arith) times_is in
     let mine : IsUnfinished q d = record {
       queue = record { held = held_none q d.fragments refl; apart = tt; small = tt };
       counted = refl;
-      holder = ap (λ v. weight_of v.entries) (shown_adds a);
+      holder = ap (λ v. entries_weight v.entries) (shown_adds a);
     } in
     record {
       table =

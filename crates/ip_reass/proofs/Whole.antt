@@ -7,14 +7,14 @@ use Rattle.flat_model.specs.Fragments.Overlay.{Held}
 use Rattle.flat_model.specs.Fragments.Whole.{IsWhole, bytes_below}
 use Rattle.flat_model.proofs.Laws.{whole_bytes}
 use Rattle.flat_model.specs.Fragments.Overlay.{Fragment}
-use Rattle.ip_reass.specs.Fragments.{end_of, own, map_of, bytes_held, AllEnd, Apart}
+use Rattle.ip_reass.specs.Fragments.{end_of_fragment, own, map_of, bytes_held, AllEnd, Apart}
 use Rattle.ip_reass.specs.Inside.Walks.{reach, bytes_of, fragment_at, trimmed, left_from}
-use Rattle.ip_reass.specs.Inside.Known.{known_here, known_below, known_past, below, within, past, place, nothing_below, nothing_past, reach_grows, left, left_whole, left_none, left_cut, end_trimmed}
+use Rattle.ip_reass.specs.Inside.Known.{known_here, known_below, known_past, below, within, past, known_place, nothing_below, nothing_past, reach_grows, left_after, left_whole, left_none, left_cut, end_trimmed}
 
 -- each begins where the one before ends, the first at low
 abbrev pub InRow : ℕ → List Fragment → Type 0
 InRow low [] = Unit {0}
-InRow low (p ∷ ps) = (p.offset ≡ low) × InRow (end_of p) ps
+InRow low (p ∷ ps) = (p.offset ≡ low) × InRow (end_of_fragment p) ps
 
 -- whether more come after the last
 abbrev pub last_more : List Fragment → Bool
@@ -25,9 +25,9 @@ last_more (p ∷ q ∷ ps) = last_more (q ∷ ps)
 pub row_known : (low : ℕ) (ps : List Fragment) (k : ℕ) → InRow low ps → low ≤ k → k < reach low ps
     → IsSome (map_of ps k)
 row_known low [] k r l m = absurd (omega arith)
-row_known low (p ∷ ps) k r l m = elim (cases_lt k (end_of p)) [
+row_known low (p ∷ ps) k r l m = elim (cases_lt k (end_of_fragment p)) [
   | inl b ↦ subst IsSome (sym (known_here p ps k (omega arith) b)) refl
-  | inr b ↦ subst IsSome (sym (known_past p ps k b)) (row_known (end_of p) ps k r.1 b m)
+  | inr b ↦ subst IsSome (sym (known_past p ps k b)) (row_known (end_of_fragment p) ps k r.1 b m)
 ]
 
 -- what is known lies below the end
@@ -42,8 +42,8 @@ pub last_is : (low : ℕ) (p : Fragment) (ps : List Fragment) (k : ℕ) → Apar
     → (c : Held) × (map_of (p ∷ ps) k ≡ Some c) × (c.piece.more ≡ last_more (p ∷ ps))
 last_is low p [] k a e = (own p k, known_here p [] k (omega arith) (omega arith), refl)
 last_is low p (q ∷ ps) k a e =
-    let g : end_of q ≤ reach (end_of q) ps = reach_grows (end_of q) ps a.2.2 in
-    let r = last_is (end_of p) q ps k a.2 e in
+    let g : end_of_fragment q ≤ reach (end_of_fragment q) ps = reach_grows (end_of_fragment q) ps a.2.2 in
+    let r = last_is (end_of_fragment p) q ps k a.2 e in
     (r.0, known_past p (q ∷ ps) k (omega arith) ∙ r.1, r.2)
 
 -- **fragments in a row whose last has no more are whole**
@@ -51,7 +51,7 @@ pub whole_from : (ps : List Fragment) (n : ℕ) → Apart 0 ps → InRow 0 ps �
     → IsWhole (map_of ps) n
 whole_from [] n a row last e = absurd (let f : true ≡ false = last in cc)
 whole_from (p ∷ ps) n a row last e =
-    let g : end_of p ≤ reach (end_of p) ps = reach_grows (end_of p) ps a.2 in
+    let g : end_of_fragment p ≤ reach (end_of_fragment p) ps = reach_grows (end_of_fragment p) ps a.2 in
     let r = last_is 0 p ps (n - 1) a (omega arith) in
     record {
       some = omega arith;
@@ -68,26 +68,26 @@ row_from low n [] a l some none =
 row_from low n (p ∷ ps) a l some none =
     let first : p.offset < n =
     none p.offset (subst IsSome (sym (known_here p ps p.offset (omega arith) (omega arith))) refl) in
-    let last : end_of p ≤ n =
+    let last : end_of_fragment p ≤ n =
     let m : p.offset + length p.bytes - 1 < n =
     none (p.offset + length p.bytes - 1)
     (subst IsSome (sym (known_here p ps (p.offset + length p.bytes - 1) (omega arith) (omega arith))) refl) in
     omega arith in
-    let at_low : p.offset ≡ low = elim (place p low) [
+    let at_low : p.offset ≡ low = elim (known_place p low) [
       | below b ↦ absurd (false≢true
-          (subst IsSome (known_below p ps low b ∙ nothing_below (end_of p) ps low a.2 (omega arith))
+          (subst IsSome (known_below p ps low b ∙ nothing_below (end_of_fragment p) ps low a.2 (omega arith))
           (some low (omega arith) (omega arith))))
       | within b c ↦ omega arith
       | past b ↦ omega arith
     ] in
     let r =
-    row_from (end_of p) n ps a.2 last (λ k b m. subst IsSome (known_past p ps k b) (some k (omega arith) m))
+    row_from (end_of_fragment p) n ps a.2 last (λ k b m. subst IsSome (known_past p ps k b) (some k (omega arith) m))
     (later none) in
     ((at_low, r.0), r.1)
   where
     later : ((k : ℕ) → IsSome (map_of (p ∷ ps) k) → k < n) → (k : ℕ) → IsSome (map_of ps k) → k < n
-    later none k h = elim (cases_lt k (end_of p)) [
-      | inl b ↦ absurd (false≢true (subst IsSome (nothing_below (end_of p) ps k a.2 b) h))
+    later none k h = elim (cases_lt k (end_of_fragment p)) [
+      | inl b ↦ absurd (false≢true (subst IsSome (nothing_below (end_of_fragment p) ps k a.2 b) h))
       | inr b ↦ none k (subst IsSome (sym (known_past p ps k b)) h)
     ]
 
@@ -114,8 +114,8 @@ joined_at low (p ∷ ps) k c r e = elim (cases_lt k (length p.bytes)) [
       sym (get_or_append_left p.bytes (bytes_of ps) 0 k l
       ∙ (ap (λ (j : ℕ). get_or p.bytes j 0) (sym at_k) ∙ ap byte_in same))
   | inr l ↦
-      let moved : low + k ≡ end_of p + (k - length p.bytes) = omega arith in
-      joined_at (end_of p) ps (k - length p.bytes) c r.1
+      let moved : low + k ≡ end_of_fragment p + (k - length p.bytes) = omega arith in
+      joined_at (end_of_fragment p) ps (k - length p.bytes) c r.1
       (ap (map_of ps) (sym moved) ∙ (sym (known_past p ps (low + k) (omega arith)) ∙ e))
       ∙ sym (get_or-append_right p.bytes (bytes_of ps) (length p.bytes) k 0 refl l)
 ]
@@ -126,7 +126,8 @@ joined_at low (p ∷ ps) k c r e = elim (cases_lt k (length p.bytes)) [
 
 pub length-joined : (low : ℕ) (ps : List Fragment) → InRow low ps → low + length (bytes_of ps) ≡ reach low ps
 length-joined low [] r = omega arith
-length-joined low (p ∷ ps) r = omega (arith, length-joined (end_of p) ps r.1, length-append p.bytes (bytes_of ps))
+length-joined low (p ∷ ps) r =
+    omega (arith, length-joined (end_of_fragment p) ps r.1, length-append p.bytes (bytes_of ps))
 
 -- **what is whole is the fragments joined**
 pub bytes_are : (ps : List Fragment) (n : ℕ) → Apart 0 ps → IsWhole (map_of ps) n
@@ -147,16 +148,17 @@ bytes_are ps n a w =
 -- together they have at most as many bytes as lie below the end of the last
 pub held_most : (low : ℕ) (ps : List Fragment) → Apart low ps → low + bytes_held ps ≤ reach low ps
 held_most low [] a = omega arith
-held_most low (p ∷ ps) a = omega (arith, held_most (end_of p) ps a.2)
+held_most low (p ∷ ps) a = omega (arith, held_most (end_of_fragment p) ps a.2)
 
 -- in a row they have as many, and only those in a row have
 row_held : (low : ℕ) (ps : List Fragment) → InRow low ps → low + bytes_held ps ≡ reach low ps
 row_held low [] r = omega arith
-row_held low (p ∷ ps) r = omega (arith, row_held (end_of p) ps r.1)
+row_held low (p ∷ ps) r = omega (arith, row_held (end_of_fragment p) ps r.1)
 
 held_row : (low : ℕ) (ps : List Fragment) → Apart low ps → reach low ps ≤ low + bytes_held ps → InRow low ps
 held_row low [] a l = tt
-held_row low (p ∷ ps) a l = (omega (arith, held_most (end_of p) ps a.2), held_row (end_of p) ps a.2 (omega arith))
+held_row low (p ∷ ps) a l =
+    (omega (arith, held_most (end_of_fragment p) ps a.2), held_row (end_of_fragment p) ps a.2 (omega arith))
 
 last_at : (i : ℕ) (ps : List Fragment) → i + 1 ≡ length ps → last_more ps ≡ (fragment_at ps i).more
 last_at i [] e = absurd (omega arith)
@@ -187,7 +189,7 @@ whole_held ps i a l m most =
 
 reach_within : (low : ℕ) (qs : List Fragment) → low ≤ 65515 → AllEnd 65515 qs → reach low qs ≤ 65515
 reach_within low [] l s = l
-reach_within low (q ∷ qs) l s = reach_within (end_of q) qs s.0 s.1
+reach_within low (q ∷ qs) l s = reach_within (end_of_fragment q) qs s.0 s.1
 
 -- they end within the limit, and so they have no more bytes
 pub ends_within : (ps : List Fragment) → AllEnd 65515 ps → reach 0 ps ≤ 65515
@@ -203,14 +205,14 @@ whole_most ps n a small w = omega (arith, (whole_only n ps a w).1, ends_within p
 -- ---- what is laid
 reach_join : (low : ℕ) (xs ys : List Fragment) → reach low (xs ++ ys) ≡ reach (reach low xs) ys
 reach_join low [] ys = refl
-reach_join low (p ∷ xs) ys = reach_join (end_of p) xs ys
+reach_join low (p ∷ xs) ys = reach_join (end_of_fragment p) xs ys
 
 -- what is left of fragments reaches as far, or what they're left to does
 reach_left : (low e x : ℕ) (ps : List Fragment) → low ≤ x → e ≤ x → reach low ps ≤ reach x (left_from e ps)
 reach_left low e x [] l m = l
-reach_left low e x (p ∷ ps) l m = elim (left e p ps) [
+reach_left low e x (p ∷ ps) l m = elim (left_after e p ps) [
   | left_whole h is ↦ omega (arith, ap (reach x) is)
-  | left_none h is ↦ omega (arith, ap (reach x) is, reach_left (end_of p) e x ps (omega arith) m)
+  | left_none h is ↦ omega (arith, ap (reach x) is, reach_left (end_of_fragment p) e x ps (omega arith) m)
   | left_cut h n is ↦ omega (
     arith,
     ap (reach x) is,
@@ -219,14 +221,14 @@ reach_left low e x (p ∷ ps) l m = elim (left e p ps) [
 ]
 
 pub reach_laid : (n : ℕ) (f : Fragment) (xs ys : List Fragment) → n ≡ reach 0 xs - f.offset → n < length f.bytes
-    → reach 0 (xs ++ ys) ≤ reach 0 (xs ++ trimmed n f ∷ left_from (end_of f) ys)
+    → reach 0 (xs ++ ys) ≤ reach 0 (xs ++ trimmed n f ∷ left_from (end_of_fragment f) ys)
 reach_laid n f xs ys is some =
-    let end : end_of (trimmed n f) ≡ end_of f = end_trimmed n f (omega arith) in
+    let end : end_of_fragment (trimmed n f) ≡ end_of_fragment f = end_trimmed n f (omega arith) in
     omega (
       arith,
       reach_join 0 xs ys,
-      reach_join 0 xs (trimmed n f ∷ left_from (end_of f) ys),
-      reach_left (reach 0 xs) (end_of f) (end_of (trimmed n f)) ys (omega arith) (omega arith),
+      reach_join 0 xs (trimmed n f ∷ left_from (end_of_fragment f) ys),
+      reach_left (reach 0 xs) (end_of_fragment f) (end_of_fragment (trimmed n f)) ys (omega arith) (omega arith),
     )
 
 -- the last of them

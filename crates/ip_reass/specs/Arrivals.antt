@@ -12,7 +12,7 @@ use Rattle.flat_model.specs.Machine.Arrival.{Origin, By_wire, Looped, Tests, Lay
 use Rattle.flat_model.specs.declared.counters.Counters.{Counters}
 use Rattle.flat_model.specs.declared.counters.Why.TheVariants.{NoBufs}
 use Rattle.mbuf_chain.specs.Chain.{ChainView, Entry, PoolView, alone, chain_of, entry_of, string}
-use Rattle.chain_ops.specs.Pulls.{pulled_up}
+use Rattle.chain_ops.specs.Pulls.{entries_pulled}
 use Rattle.chain_ops.specs.Trims.{without_first}
 use Rattle.ledger.specs.Accounts.{item_at, weight_at}
 use Rattle.ip_out.specs.declared.head.IpHead.{IpHead}
@@ -22,8 +22,8 @@ use Rattle.ip_reass.specs.declared.arrival.Arrival.{Arrival}
 use Rattle.ip_reass.specs.declared.arrival.Arrival.TheVariants.{Kept, Whole, Dropped}
 
 -- the machine with these unfinished datagrams and counters, in all else the machine `rest`
-abbrev pub machine : PoolView → List Datagram → Counters → State → State
-machine p ds c rest = record rest { unfinished = unfinished p ds; counters = c }
+abbrev pub machine_with : PoolView → List Datagram → Counters → State → State
+machine_with p ds c rest = record rest { unfinished = unfinished p ds; counters = c }
 
 -- what the flat machine reads of a header, and the key that its fragment goes by
 abbrev pub flat_head : IpHead → Head
@@ -81,22 +81,22 @@ GoesOn held q (Dropped why) now new = new ≡ now
 pub record BeginsAt (p : PoolView) (ds : List Datagram) (c : Counters) (k : Key) (f : Fragment) (w : Weight)
     (result : Arrival) (q : PoolView) (es : List Datagram) (d : Counters) (rest : State) (held : Weight) (new : State)
     : Type 0 where
-  pub tests : Tests exact_ledger (machine p ds c rest) (held ⊕ w) 1 new
+  pub tests : Tests exact_ledger (machine_with p ds c rest) (held ⊕ w) 1 new
       (λ mid. Lays exact_ledger held k f (begun k) (begin_unfinished k mid) new)
 
 -- The header of chain v was pulled up: from p, ds and counters c on to q, es and d.
 pub record IsPulled (p : PoolView) (ds : List Datagram) (c : Counters) (w : Weight) (answer : Bool) (q : PoolView)
     (es : List Datagram) (d : Counters) (rest : State) (held : Weight) : Type 0 where
   pub mid : Counters
-  pub has_buffers : HasBuffers exact_ledger (machine p ds c rest) (held ⊕ w) (need_mbufs 1) answer
-      (machine q es mid rest)
+  pub has_buffers : HasBuffers exact_ledger (machine_with p ds c rest) (held ⊕ w) (need_mbufs 1) answer
+      (machine_with q es mid rest)
   pub counts : d ≡ (if answer then mid else counted NoBufs mid)
 
 -- ---- layouts
 
 -- the mbufs of a packet once its header is pulled up, where its first mbuf is a cluster
 abbrev pub pulled_entries : ChainView → List Entry
-pulled_entries v = if is_some (entry_of v 0).cluster then pulled_up v IP_HEADER else v.entries
+pulled_entries v = if is_some (entry_of v 0).cluster then entries_pulled v IP_HEADER else v.entries
 
 -- the same once the header is taken off, which leaves all mbufs
 abbrev pub carried_entries : ChainView → List Entry

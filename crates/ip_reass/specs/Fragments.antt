@@ -7,7 +7,7 @@ use Rattle.chain_ops.specs.Joins.{cat}
 use Rattle.flat_model.specs.Fragments.Overlay.{Piece, Held, Map, Fragment}
 use Rattle.mbuf_chain.specs.Chain.{Entry, PoolView, flat_bytes}
 use Rattle.mbuf_chain.specs.Train.{QueuedPacket, TrainView, queued_packets, IsHeld}
-use Rattle.ledger.specs.Accounts.{weight_of}
+use Rattle.ledger.specs.Accounts.{entries_weight}
 
 -- ---- a queue of fragments
 
@@ -19,7 +19,8 @@ pub record QueuedFragment : Type 0 where
 
 -- the flat machine's fragment
 abbrev pub fragment_of : QueuedFragment → Fragment
-fragment_of q = record { offset = q.offset; bytes = flat_bytes q.entries; more = q.more; weight = weight_of q.entries }
+fragment_of q =
+    record { offset = q.offset; bytes = flat_bytes q.entries; more = q.more; weight = entries_weight q.entries }
 
 -- a chain in a train of fragments: its tag is the offset times 2, plus 1 where more come after it
 abbrev pub queued_of : QueuedPacket → QueuedFragment
@@ -56,8 +57,8 @@ laid_after end f (q ∷ qs) =
     then q ∷ laid_after (queued_end q) f qs
     else cut (end - f.offset) f ∷ cut_to (queued_end f) (q ∷ qs)
 
-abbrev pub laid : QueuedFragment → List QueuedFragment → List QueuedFragment
-laid f qs = laid_after 0 f qs
+abbrev pub laid_into : QueuedFragment → List QueuedFragment → List QueuedFragment
+laid_into f qs = laid_after 0 f qs
 
 -- entries, and the queued fragments joined after them one after another (`m_cat`)
 abbrev pub joined_after : List Entry → List QueuedFragment → List Entry
@@ -65,9 +66,9 @@ joined_after es [] = es
 joined_after es (q ∷ qs) = joined_after (cat es q.entries) qs
 
 -- the mbufs of the queue's fragments, joined in order
-abbrev pub joined : List QueuedFragment → List Entry
-joined [] = []
-joined (q ∷ qs) = joined_after q.entries qs
+abbrev pub joined_fragments : List QueuedFragment → List Entry
+joined_fragments [] = []
+joined_fragments (q ∷ qs) = joined_after q.entries qs
 
 -- ---- what the flat machine sees of it
 
@@ -79,8 +80,8 @@ abbrev pub fragments : PoolView → TrainView → List Fragment
 fragments p t = map fragment_in (queued_packets p t)
 
 -- the first offset after a fragment
-abbrev pub end_of : Fragment → ℕ
-end_of f = f.offset + length f.bytes
+abbrev pub end_of_fragment : Fragment → ℕ
+end_of_fragment f = f.offset + length f.bytes
 
 -- the flat machine's piece
 abbrev pub piece_of : Fragment → Piece
@@ -93,14 +94,14 @@ own f k = record { byte = slice_index f.bytes (k - f.offset); piece = piece_of f
 -- what lies at an offset
 abbrev pub map_of : List Fragment → Map
 map_of [] k = None
-map_of (f ∷ fs) k = if nat_le f.offset k && nat_lt k (end_of f) then Some (own f k) else map_of fs k
+map_of (f ∷ fs) k = if nat_le f.offset k && nat_lt k (end_of_fragment f) then Some (own f k) else map_of fs k
 
 -- ---- in order and apart
 
 -- in order, apart, none empty, none before low
 abbrev pub Apart : ℕ → List Fragment → Type 0
 Apart low [] = Unit {0}
-Apart low (f ∷ fs) = (low ≤ f.offset) × (0 < length f.bytes) × Apart (end_of f) fs
+Apart low (f ∷ fs) = (low ≤ f.offset) × (0 < length f.bytes) × Apart (end_of_fragment f) fs
 
 -- how many bytes they have together
 abbrev pub bytes_held : List Fragment → ℕ
@@ -110,7 +111,7 @@ bytes_held (f ∷ fs) = length f.bytes + bytes_held fs
 -- none ends beyond n
 abbrev pub AllEnd : ℕ → List Fragment → Type 0
 AllEnd n [] = Unit {0}
-AllEnd n (f ∷ fs) = (end_of f ≤ n) × AllEnd n fs
+AllEnd n (f ∷ fs) = (end_of_fragment f ≤ n) × AllEnd n fs
 
 -- a train of fragments in order and apart, none beyond the longest datagram
 pub record IsQueue (p : PoolView) (t : TrainView) : Type 0 where

@@ -12,10 +12,10 @@ use Rattle.flat_model.specs.Machine.State.{State, Key, ends}
 use Rattle.flat_model.specs.declared.counters.Why.{Why}
 use Rattle.flat_model.specs.declared.counters.Why.TheVariants.{BadFragment, FragmentDropped, NoBufs}
 use Rattle.mbuf_chain.specs.Chain.{ChainView, PoolView, chain_of, entry_of}
-use Rattle.ledger.specs.Accounts.{weight_of}
+use Rattle.ledger.specs.Accounts.{entries_weight}
 use Rattle.ip_out.specs.declared.head.IpHead.{IpHead}
 use Rattle.ip_reass.specs.Arrivals.{carried_entries, flat_head, key_in}
-use Rattle.ip_reass.specs.Fragments.{QueuedFragment, queued, laid, joined, fragment_of, map_of}
+use Rattle.ip_reass.specs.Fragments.{QueuedFragment, queued, laid_into, joined_fragments, fragment_of, map_of}
 use Rattle.ip_reass.specs.declared.datagram.Datagram.{Datagram}
 use Rattle.ip_reass.specs.declared.arrival.Arrival.{Arrival}
 use Rattle.ip_reass.specs.declared.arrival.Arrival.TheVariants.{Kept, Whole, Dropped}
@@ -39,7 +39,7 @@ goes_by k q = (q.key.source == k.source) && (q.key.destination == k.destination)
 
 -- a fragment laid in a queue
 abbrev pub with_laid : QueuedFragment → KeyedQueue → KeyedQueue
-with_laid f q = record { key = q.key; fragments = laid f q.fragments }
+with_laid f q = record { key = q.key; fragments = laid_into f q.fragments }
 
 -- a fragment laid in the queue with its key, or in a new one after the others
 abbrev pub laid_under : Key → QueuedFragment → List KeyedQueue → List KeyedQueue
@@ -63,7 +63,8 @@ fragment_carried v h = record { offset = h.offset; more = h.more; entries = carr
 -- what an arrival of the fragment f leaves, where the queues `qs` waited
 abbrev pub Leaves : Key → QueuedFragment → List KeyedQueue → PoolView → Arrival → List KeyedQueue → Type 0
 Leaves k f qs q Kept now = now ≡ laid_under k f qs
-Leaves k f qs q (Whole c h) now = ((chain_of q c).entries ≡ joined (laid f (under k qs))) × (now ≡ without_key k qs)
+Leaves k f qs q (Whole c h) now =
+    ((chain_of q c).entries ≡ joined_fragments (laid_into f (under k qs))) × (now ≡ without_key k qs)
 Leaves k f qs q (Dropped why) now = now ≡ qs
 
 -- what waited in p and ds waits in q and es, or all of it was dropped for want of an mbuf
@@ -84,7 +85,8 @@ pub record HasLayout (p : PoolView) (ds : List Datagram) (k : Key) (f : QueuedFr
 -- before the key is looked for.
 abbrev pub PullsUpHeader : ChainView → Weight → State → State → (State → Type 0) → Type 0
 PullsUpHeader v held old new Then =
-    Choice (is_some (entry_of v 0).cluster) (Tests exact_ledger old (held ⊕ weight_of v.entries) 1 new Then) (Then old)
+    Choice (is_some (entry_of v 0).cluster) (Tests exact_ledger old (held ⊕ entries_weight v.entries) 1 new Then)
+    (Then old)
 
 -- The packet in chain v arrives as a fragment, whatever its layout: the flat machine's `FragmentArrives`, with the
 -- chain's own mbufs in place of what is known by the packet's origin.
@@ -117,13 +119,14 @@ HasCause cause (Dropped why) = why ≡ cause
 abbrev pub no_queue : KeyedQueue
 no_queue = record { key = record { source = 0; destination = 0; id = 0; protocol = 0 }; fragments = [] }
 
-abbrev pub queue_at : List KeyedQueue → ℕ → KeyedQueue
-queue_at qs i = slice_index_or qs i no_queue
+abbrev pub keyed_queue_at : List KeyedQueue → ℕ → KeyedQueue
+keyed_queue_at qs i = slice_index_or qs i no_queue
 
 -- what a fragment leaves that is laid in the queue at a place
 abbrev pub LeavesAt : ℕ → QueuedFragment → List KeyedQueue → PoolView → Arrival → List KeyedQueue → Type 0
-LeavesAt i f qs q Kept now = now ≡ slice_set qs i (with_laid f (queue_at qs i))
-LeavesAt i f qs q (Whole c h) now = ((chain_of q c).entries ≡ joined (laid f (queue_at qs i).fragments))
+LeavesAt i f qs q Kept now = now ≡ slice_set qs i (with_laid f (keyed_queue_at qs i))
+LeavesAt i f qs q (Whole c h) now =
+    ((chain_of q c).entries ≡ joined_fragments (laid_into f (keyed_queue_at qs i).fragments))
     × (now ≡ remove qs i)
 LeavesAt i f qs q (Dropped why) now = (now ≡ qs)
-    × (is_covered (map_of (map fragment_of (queue_at qs i).fragments)) (fragment_of f) ≡ true)
+    × (is_covered (map_of (map fragment_of (keyed_queue_at qs i).fragments)) (fragment_of f) ≡ true)

@@ -13,7 +13,7 @@ use Rattle.mbuf_chain.specs.Frames.{SameAt}
 use Rattle.mbuf_chain.specs.Train.{TrainView, QueuedPacket, queued_packet_of, numbers, queued_packets}
 use Rattle.mbuf_chain.proofs.Laws.Owners.{times-append, times_same, chain_same, same_part, owned_same}
 use Rattle.mbuf_chain.specs.Kept.{numbers_same, queued_packets_same, held_same}
-use Rattle.ledger.specs.Accounts.{weight_of, weight_at, weight_owned}
+use Rattle.ledger.specs.Accounts.{entries_weight, weight_at, weight_owned}
 use Rattle.flat_model.proofs.Laws.{times-both, all_of-append}
 use Rattle.flat_model.specs.Fragments.Overlay.{Fragment}
 use Rattle.ip_reass.specs.Fragments.{queued_of, fragment_in, bytes_held, fragments, map_of, Apart, AllEnd, IsQueue}
@@ -64,7 +64,7 @@ one_same p q d s is = record {
   queue = queue_same p q d.fragments (train_same p q d s) is.queue;
   counted = is.counted ∙ ap (λ (cs : List QueuedPacket). bytes_held (map fragment_in cs))
       (sym (queued_packets_same p q d.fragments (train_same p q d s)));
-  holder = ap (λ v. weight_of v.entries) (chain_same p q (held p d) d.holder s
+  holder = ap (λ v. entries_weight v.entries) (chain_same p q (held p d) d.holder s
       (omega (arith, times_same d.holder (numbers p d.fragments)))) ∙ is.holder;
 }
 

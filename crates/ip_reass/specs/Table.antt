@@ -5,7 +5,7 @@ use Rattle.params.specs.declared.TheConstants.{FRAGMENT_TICKS}
 use Rattle.flat_model.specs.Amounts.Weight.{mbuf}
 use Rattle.flat_model.specs.Machine.State.{Key, Unfinished, is_key}
 use Rattle.mbuf_chain.specs.Chain.{PoolView}
-use Rattle.mbuf_chain.specs.Owners.{times, IsOwned}
+use Rattle.mbuf_chain.specs.Owners.{times_among, IsOwned}
 use Rattle.mbuf_chain.specs.Train.{numbers}
 use Rattle.ledger.specs.Accounts.{weight_at}
 use Rattle.ip_reass.specs.Fragments.{IsQueue, bytes_held, fragments, map_of}
@@ -33,7 +33,7 @@ held_all p (d ∷ ds) = held p d ++ held_all p ds
 
 -- how often a number is that of a chain of the datagram
 abbrev pub holds : PoolView → ℕ → Datagram → ℕ
-holds p k d = times k (held p d)
+holds p k d = times_among k (held p d)
 
 -- a datagram's fragments are in order, their bytes are counted, and its key has one plain mbuf
 pub record IsUnfinished (p : PoolView) (d : Datagram) : Type 0 where

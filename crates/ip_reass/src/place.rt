@@ -2,7 +2,7 @@
 //! taken out or put in with no further walk.
 ghost use Rattle.std.specs.Prelude.{◌≡◌, ◌+◌, ◌<◌, ◌∷◌, true, length, insert, remove, MatchOption};
 ghost use Rattle.mbuf_chain.specs.Chain.{IsLive, chain_of, alone};
-ghost use Rattle.mbuf_chain.specs.Owners.{times, Moves};
+ghost use Rattle.mbuf_chain.specs.Owners.{times_among, Moves};
 ghost use Rattle.mbuf_chain.specs.Train.{queued_packets, queued_packet_at, numbers, IsQueuedPlace, IsHeld};
 ghost use Rattle.ip_reass.specs.Inside.Walks.{IsFront, after};
 
@@ -67,7 +67,7 @@ pub(crate) fn insert_after(
     requires live { IsLive pool.old chain }
     requires headed { (chain_of pool.old chain).front.header ≡ true }
     requires held { IsHeld pool.old train.old }
-    requires apart { times chain (numbers pool.old train.old) ≡ 0 }
+    requires apart { times_among chain (numbers pool.old train.old) ≡ 0 }
     ensures queued_packets { queued_packets pool.new train.new ≡
         insert (queued_packets pool.old train.old) (after front)
         (record { number = chain; entries = (chain_of pool.old chain).entries; tag = tag }) }

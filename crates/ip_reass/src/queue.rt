@@ -1,9 +1,9 @@
 //! The fragments of an unfinished datagram, in order of offset, as a train (TCP/IP Illustrated, volume 2, chapter 10).
 ghost use Rattle.std.specs.Prelude.{◌≡◌, ℕ, ◌+◌, ◌-◌, ◌<◌, ◌≤◌, ◌++◌, ◌∷◌, [], true, length, take, drop, remove, slice_set};
 ghost use Rattle.mbuf_chain.specs.Chain.{IsLive, chain_of, string, alone, flat_bytes};
-ghost use Rattle.mbuf_chain.specs.Owners.{times, Moves};
+ghost use Rattle.mbuf_chain.specs.Owners.{times_among, Moves};
 ghost use Rattle.mbuf_chain.specs.Train.{numbers, queued_packet_at, IsQueuedPlace, IsHeld};
-ghost use Rattle.ip_reass.specs.Fragments.{AllEnd, IsQueue, bytes_held, cut, cut_to, fragments, joined, map_of, queued, queued_end};
+ghost use Rattle.ip_reass.specs.Fragments.{AllEnd, IsQueue, bytes_held, cut, cut_to, fragments, joined_fragments, map_of, queued, queued_end};
 ghost use Rattle.ip_reass.specs.Inside.Walks.{AllAbove, AllUpto, IsFront, TellsWhole, arrived, after, is_left, queued_at, reach};
 ghost use Rattle.ip_reass.specs.Inside.Steps.{IsLaid};
 
@@ -172,7 +172,7 @@ fn lay_after(pool: &mut Pool, train: &mut Train, chain: Chain, before: Before, s
     requires few { bytes_held (fragments pool.old train.old) ≤ IP_MAX_DATA }
     requires live { IsLive pool.old chain }
     requires headed { (chain_of pool.old chain).front.header ≡ true }
-    requires apart { times chain (numbers pool.old train.old) ≡ 0 }
+    requires apart { times_among chain (numbers pool.old train.old) ≡ 0 }
     requires left { before.end - span.offset < length (string (chain_of pool.old chain)) }
     requires within { span.offset + length (string (chain_of pool.old chain)) ≤ IP_MAX_DATA }
     ensures queue { let f = arrived pool.old chain span.offset span.more in
@@ -236,7 +236,7 @@ fn append(pool: &mut Pool, datagram: &mut Datagram, chain: Chain, span: Span) ->
     requires counted { datagram.old.bytes ≡ bytes_held (fragments pool.old datagram.old.fragments) }
     requires live { IsLive pool.old chain }
     requires headed { (chain_of pool.old chain).front.header ≡ true }
-    requires apart { times chain (numbers pool.old datagram.old.fragments) ≡ 0 }
+    requires apart { times_among chain (numbers pool.old datagram.old.fragments) ≡ 0 }
     requires some { 0 < length (string (chain_of pool.old chain)) }
     requires small { span.offset + length (string (chain_of pool.old chain)) ≤ IP_MAX_DATA }
     requires past { reach 0 (fragments pool.old datagram.old.fragments) ≤ span.offset }
@@ -270,7 +270,7 @@ fn lay_between(pool: &mut Pool, datagram: &mut Datagram, chain: Chain, span: Spa
     requires counted { datagram.old.bytes ≡ bytes_held (fragments pool.old datagram.old.fragments) }
     requires live { IsLive pool.old chain }
     requires headed { (chain_of pool.old chain).front.header ≡ true }
-    requires apart { times chain (numbers pool.old datagram.old.fragments) ≡ 0 }
+    requires apart { times_among chain (numbers pool.old datagram.old.fragments) ≡ 0 }
     requires some { 0 < length (string (chain_of pool.old chain)) }
     requires small { span.offset + length (string (chain_of pool.old chain)) ≤ IP_MAX_DATA }
     ensures laid { IsLaid pool.old datagram.old chain (arrived pool.old chain span.offset span.more) result
@@ -301,7 +301,7 @@ pub(crate) fn lay(pool: &mut Pool, datagram: &mut Datagram, chain: Chain, span: 
     requires counted { datagram.old.bytes ≡ bytes_held (fragments pool.old datagram.old.fragments) }
     requires live { IsLive pool.old chain }
     requires headed { (chain_of pool.old chain).front.header ≡ true }
-    requires apart { times chain (numbers pool.old datagram.old.fragments) ≡ 0 }
+    requires apart { times_among chain (numbers pool.old datagram.old.fragments) ≡ 0 }
     requires some { 0 < length (string (chain_of pool.old chain)) }
     requires small { span.offset + length (string (chain_of pool.old chain)) ≤ IP_MAX_DATA }
     ensures laid { IsLaid pool.old datagram.old chain (arrived pool.old chain span.offset span.more) (is_left result)
@@ -326,7 +326,7 @@ pub(crate) fn lay(pool: &mut Pool, datagram: &mut Datagram, chain: Chain, span: 
 pub(crate) fn join_all(pool: &mut Pool, train: Train) -> Chain
     requires held { IsHeld pool.old train }
     requires some { 0 < train.len }
-    ensures entries { (chain_of pool.new result).entries ≡ joined (queued pool.old train) }
+    ensures entries { (chain_of pool.new result).entries ≡ joined_fragments (queued pool.old train) }
     ensures front { (chain_of pool.new result).front ≡ alone true }
     ensures moves { Moves pool.old (numbers pool.old train) pool.new (result ∷ []) }
 {

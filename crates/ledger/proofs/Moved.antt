@@ -8,7 +8,7 @@ use Rattle.flat_model.specs.Amounts.Weight.{Weight, times as bag_times}
 use Rattle.flat_model.specs.Machine.State.{State}
 use Rattle.flat_model.specs.declared.config.Config.{Config}
 use Rattle.mbuf_chain.specs.Chain.{ChainView, PoolView, IsLive, chain_of, without, mbufs_of, references_of, held_mbufs, references}
-use Rattle.mbuf_chain.specs.Owners.{times, live_at, IsOwned, Moves}
+use Rattle.mbuf_chain.specs.Owners.{times_among, live_at, IsOwned, Moves}
 use Rattle.mbuf_chain.proofs.Laws.Owners.{times_same, times_other, live_same, live_from, live_first, live_at_most, none_from, apart_first, chain_left}
 use Rattle.mbuf_chain.proofs.Laws.Maps.{same, get_gone, get_left}
 use Rattle.mbuf_chain.proofs.Laws.Accounts.{held-without, references-without}
@@ -40,15 +40,15 @@ gone_left p (x ∷ xs) k e = elim (cases_eq k x) [
   | inr ne ↦ gone_left (without p x) xs k (get_left p.chains x k ne ∙ e)
 ]
 
-out_left : (p : PoolView) (xs : List ℕ) (k : ℕ) → times k xs ≡ 0
+out_left : (p : PoolView) (xs : List ℕ) (k : ℕ) → times_among k xs ≡ 0
     → finmap.get (left p xs).chains k ≡ finmap.get p.chains k
 unfolding left
 out_left p [] k h = refl
 out_left p (x ∷ xs) k h =
-    let ne : k ≢ x = λ e. absurd (omega (arith, h, times_same x xs, ap (λ (j : ℕ). times j (x ∷ xs)) e)) in
+    let ne : k ≢ x = λ e. absurd (omega (arith, h, times_same x xs, ap (λ (j : ℕ). times_among j (x ∷ xs)) e)) in
     out_left (without p x) xs k (omega (arith, h, times_other k x xs ne)) ∙ get_left p.chains x k ne
 
-in_left : (p : PoolView) (xs : List ℕ) (k : ℕ) → 0 < times k xs → finmap.get (left p xs).chains k ≡ None
+in_left : (p : PoolView) (xs : List ℕ) (k : ℕ) → 0 < times_among k xs → finmap.get (left p xs).chains k ≡ None
 unfolding left
 in_left p [] k h = absurd (omega arith)
 in_left p (x ∷ xs) k h = elim (cases_eq k x) [
@@ -61,13 +61,14 @@ in_left p (x ∷ xs) k h = elim (cases_eq k x) [
 same_left : {p q : PoolView} {xs ys : List ℕ} → Moves p xs q ys → left p xs ≡ left q ys
 same_left {p} {q} {xs} {ys} m =
     let chains : (left p xs).chains ≡ (left q ys).chains =
-    same (left p xs).chains (left q ys).chains (λ k. at k (times k xs) (times k ys) (live_at p k) refl refl refl) in
+    same (left p xs).chains (left q ys).chains
+    (λ k. at k (times_among k xs) (times_among k ys) (live_at p k) refl refl refl) in
     let mbufs : (left p xs).mbufs ≡ (left q ys).mbufs = left_mbufs p xs ∙ sym m.mbufs ∙ sym (left_mbufs q ys) in
     let clusters : (left p xs).clusters ≡ (left q ys).clusters =
     left_clusters p xs ∙ sym m.clusters ∙ sym (left_clusters q ys) in
     λ i. record { mbufs = mbufs i; clusters = clusters i; chains = chains i }
   where
-    at : (k a b l : ℕ) → times k xs ≡ a → times k ys ≡ b → live_at p k ≡ l
+    at : (k a b l : ℕ) → times_among k xs ≡ a → times_among k ys ≡ b → live_at p k ≡ l
         → finmap.get (left p xs).chains k ≡ finmap.get (left q ys).chains k
     at k (suc a) (suc b) l is_a is_b is_l = in_left p xs k (omega arith) ∙ sym (in_left q ys k (omega arith))
     at k (suc a) zero l is_a is_b is_l =
@@ -85,11 +86,11 @@ same_left {p} {q} {xs} {ys} m =
 -- ---- a count F that loses f of a chain with that chain
 module _ (F : PoolView → ℕ) (f : ChainView → ℕ)
     (falls : (p q : PoolView) (c : ℕ) → IsLive p c → q ≡ without p c → F q + f (chain_of p c) ≡ F p) where
-  sum_left : (p : PoolView) (c : ℕ) (xs : List ℕ) → times c xs ≡ 0
+  sum_left : (p : PoolView) (c : ℕ) (xs : List ℕ) → times_among c xs ≡ 0
       → sum_by (λ k. f (chain_of (without p c) k)) xs ≡ sum_by (λ k. f (chain_of p k)) xs
   sum_left p c [] h = refl
   sum_left p c (x ∷ xs) h =
-      let ne : x ≢ c = λ e. absurd (omega (arith, ap (λ (j : ℕ). times j (x ∷ xs)) e, times_same x xs)) in
+      let ne : x ≢ c = λ e. absurd (omega (arith, ap (λ (j : ℕ). times_among j (x ∷ xs)) e, times_same x xs)) in
       omega (
         arith,
         sum_by-cons (λ k. f (chain_of (without p c) k)) x xs,
@@ -100,9 +101,9 @@ module _ (F : PoolView → ℕ) (f : ChainView → ℕ)
 
   owned_left : (p : PoolView) (c : ℕ) (xs : List ℕ) → IsOwned p (c ∷ xs) → IsOwned (without p c) xs
   owned_left p c xs o =
-      let gone : times c xs ≡ 0 = apart_first p c xs o in
+      let gone : times_among c xs ≡ 0 = apart_first p c xs o in
       λ k. elim (cases_eq k c) [
-        | inl e ↦ subst (λ (j : ℕ). times j xs ≤ live_at (without p c) j) (sym e) (omega (arith, gone))
+        | inl e ↦ subst (λ (j : ℕ). times_among j xs ≤ live_at (without p c) j) (sym e) (omega (arith, gone))
         | inr ne ↦ omega (arith, o k, times_other k c xs ne, live_same p (without p c) k (get_left p.chains c k ne))
       ]
 

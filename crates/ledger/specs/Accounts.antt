@@ -8,12 +8,12 @@ use Rattle.mbuf_chain.specs.Chain.{Entry, PoolView, chain_of, flat_bytes, held_m
 -- ---- what chains weigh
 
 -- what entries weigh: one mbuf each, and the clusters to which they refer
-abbrev pub weight_of : List Entry → Weight
-weight_of es = record { mbufs = length es; bag = filter_map (λ e. e.cluster) es }
+abbrev pub entries_weight : List Entry → Weight
+entries_weight es = record { mbufs = length es; bag = filter_map (λ e. e.cluster) es }
 
 -- entries as an item: all their bytes, and what they weigh
 abbrev pub item_of : List Entry → Item
-item_of es = record { bytes = flat_bytes es; weight = weight_of es }
+item_of es = record { bytes = flat_bytes es; weight = entries_weight es }
 
 -- the chain with that number as an item
 abbrev pub item_at : PoolView → ℕ → Item
@@ -21,7 +21,7 @@ item_at p c = item_of (chain_of p c).entries
 
 -- what the chain with that number weighs
 abbrev pub weight_at : PoolView → ℕ → Weight
-weight_at p c = weight_of (chain_of p c).entries
+weight_at p c = entries_weight (chain_of p c).entries
 
 -- what an owner's chains weigh together
 abbrev pub weight_owned : PoolView → List ℕ → Weight

@@ -4,7 +4,7 @@ use mir.Syntax.{w32}
 use mir.Val.{SFits, of_z, to_z}
 use Rattle.std.proofs.lemmas.Int.{to_z-of_z}
 use Rattle.net_stack.specs.Stack.{StackView}
-use Rattle.libbsdudp.specs.Calls.{Answers, IsAsked}
+use Rattle.libbsdudp.specs.Calls.{Answers, AnswersQuestion}
 
 pub answered : {before after : Option StackView} (answer : ℤ) (idle : Type 0) (call : StackView → StackView → Type 0)
     (s n : StackView) → before ≡ Some s → after ≡ Some n → call s n → Answers before answer after idle call
@@ -12,9 +12,9 @@ answered {after = after} answer idle call s n is will did =
     subst (λ (b : Option StackView). Answers b answer after idle call) (sym is) (n, will, did)
 
 pub asked : {before after : Option StackView} (answer : ℤ) (idle : Type 0) (Says : StackView → Type 0) (s : StackView)
-    → before ≡ Some s → after ≡ Some s → Says s → Answers before answer after idle (IsAsked Says)
+    → before ≡ Some s → after ≡ Some s → Says s → Answers before answer after idle (AnswersQuestion Says)
 asked answer idle Says s is will says =
-    answered answer idle (IsAsked Says) s s is will (record { same = refl; says = says })
+    answered answer idle (AnswersQuestion Says) s s is will (record { same = refl; says = says })
 
 -- the same, of an answer as the machine passes it
 pub answered_by : {before after : Option StackView} (answer : ℤ) (idle : Type 0)

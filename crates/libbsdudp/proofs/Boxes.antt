@@ -29,7 +29,13 @@ stack_box =
     record {
       row = owned.the_row;
       laws = owned_laws.the_row_laws;
-      al = record { row = heap.the_row; laws = heap_laws.the_row_laws; g = ghosts; d = dict; drops = impl [] tnil dnil };
+      al = record {
+        row = heap.the_row;
+        laws = heap_laws.the_row_laws;
+        g = ghosts;
+        d = dict;
+        drops = impl [] tnil dnil;
+      };
     }
 
 -- pointer and allocator of a box, side by side

@@ -35,7 +35,7 @@ pub record HasTicked (answer : ℤ) (event : Event) (s n : StackView) : Type 0 w
   pub step : StepsTo event Done s n
 
 -- `bind`, `connect`, `close` and `setsockopt`: the answer is 0, or why it's refused
-pub record IsDone (event : Event) (answer : ℤ) (s n : StackView) : Type 0 where
+pub record AnswersCall (event : Event) (answer : ℤ) (s n : StackView) : Type 0 where
   pub told : Result (Unit {0}) Errno
   pub is : answer ≡ done_code told
   pub step : StepsTo event (done_reply told) s n
@@ -47,7 +47,7 @@ pub record IsOpened (answer : ℤ) (s n : StackView) : Type 0 where
   pub step : StepsTo Open (opened_reply told) s n
 
 -- `sendto` and `send`: the answer is how many bytes were sent, or why it's refused
-pub record IsSent (event : Event) (answer : ℤ) (s n : StackView) : Type 0 where
+pub record AnswersSend (event : Event) (answer : ℤ) (s n : StackView) : Type 0 where
   pub told : Result ℕ Errno
   pub is : answer ≡ counted_code told
   pub step : StepsTo event (sent_reply told) s n
@@ -69,12 +69,12 @@ pub record IsReceived (fd : ℕ) (answer : ℤ) (before room : List ℕ) (old fr
   pub step : StepsTo (Receive fd (length before)) (received_reply told room) s n
 
 -- `rx`: the answer is 0, or -EMSGSIZE of what is longer than a packet, and then nothing changes
-pub record HasCome (packet : List ℕ) (answer : ℤ) (s n : StackView) : Type 0 where
+pub record AnswersArrival (packet : List ℕ) (answer : ℤ) (s n : StackView) : Type 0 where
   pub long : IP_MAX_PACKET < length packet → (answer ≡ bad_length) × (n ≡ s)
   pub comes : length packet ≤ IP_MAX_PACKET → (answer ≡ pos 0) × StepsTo (Comes packet) Done s n
 
 -- a packet for the link stands in front of the room, or none waits; the rest of the room stays as it was
-pub record Gives (before room : List ℕ) (answer : ℤ) (s n : StackView) : Type 0 where
+pub record GivesPacket (before room : List ℕ) (answer : ℤ) (s n : StackView) : Type 0 where
   pub told : Option ℕ
   pub is : answer ≡ given_code told
   pub fits : IfSome told (λ len. len ≤ length room)
@@ -84,11 +84,11 @@ pub record Gives (before room : List ℕ) (answer : ℤ) (s n : StackView) : Typ
 
 -- `tx`: the answer is the packet's length, 0 if none waits, or -EMSGSIZE if the room is shorter than the MTU, and then
 -- nothing changes
-pub record IsGiven (before room : List ℕ) (answer : ℤ) (s n : StackView) : Type 0 where
+pub record AnswersTransmit (before room : List ℕ) (answer : ℤ) (s n : StackView) : Type 0 where
   pub short : length before < s.config.mtu → (answer ≡ bad_length) × (n ≡ s) × (room ≡ before)
-  pub gives : s.config.mtu ≤ length before → Gives before room answer s n
+  pub gives : s.config.mtu ≤ length before → GivesPacket before room answer s n
 
 -- a question: the stack is as it was, and the answer says something of it
-pub record IsAsked (Says : StackView → Type 0) (s n : StackView) : Type 0 where
+pub record AnswersQuestion (Says : StackView → Type 0) (s n : StackView) : Type 0 where
   pub same : n ≡ s
   pub says : Says s

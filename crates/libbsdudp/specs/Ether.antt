@@ -14,8 +14,8 @@ use Rattle.flat_ether.specs.declared.neighbour.Neighbour.{Neighbour}
 use Rattle.flat_ether.specs.declared.sizes.TheConstants.{ETHER_HEADER, ETHER_MTU}
 use Rattle.flat_model.specs.declared.errno.Errno.{Errno}
 use Rattle.net_stack.specs.Stack.{StackView}
-use Rattle.ether_host.specs.Fronts.{front}
-use Rattle.ether_host.specs.Inside.{seen}
+use Rattle.ether_host.specs.Fronts.{room_front}
+use Rattle.ether_host.specs.Inside.{link_seen}
 use Rattle.ether_host.specs.View.{HostView, host_of}
 use Rattle.libbsdudp.specs.declared.link_handle.LinkHandle.{LinkHandle}
 use Rattle.libbsdudp.specs.declared.link_plain.CLink.{CLink}
@@ -23,7 +23,7 @@ use Rattle.libbsdudp.specs.declared.link_plain.CNeighbour.{CNeighbour}
 use Rattle.libbsdudp.specs.declared.link_plain.CTallies.{CTallies}
 use Rattle.libbsdudp.specs.declared.plain.CConfig.{CConfig}
 use Rattle.libbsdudp.specs.Answers.{no_stack, bad_length, invalid, given_code, refusal_code}
-use Rattle.libbsdudp.specs.LinkPlain.{link_of, neighbour_told, tallies_told}
+use Rattle.libbsdudp.specs.LinkPlain.{plain_link, neighbour_told, tallies_told}
 use Rattle.libbsdudp.specs.Plain.{config_of}
 
 -- EOPNOTSUPP, 45
@@ -31,8 +31,8 @@ abbrev pub no_link : ℤ
 no_link = negsuc 44
 
 -- the link that a handle holds
-abbrev pub link_in : LinkHandle → Option LinkState
-link_in h = if h.live == 1651731563 then option_map (λ b. seen b.layer) h.held.kept else None
+abbrev pub handle_link : LinkHandle → Option LinkState
+handle_link h = if h.live == 1651731563 then option_map (λ b. link_seen b.layer) h.held.kept else None
 
 -- the halves of a host
 abbrev pub both : StackView → LinkState → HostView
@@ -66,7 +66,7 @@ pub record GivesFrame (room : List ℕ) (answer : ℤ) (h n : HostView) : Type 0
   pub told : Option ℕ
   pub is : answer ≡ given_code told
   pub fits : IfSome told (λ len. len ≤ length room)
-  pub step : (front told room, host_of n) ≡ gives (host_of h)
+  pub step : (room_front told room, host_of n) ≡ gives (host_of h)
 
 -- `transmit`: the answer is the frame's length, 0 if none waits, or -EMSGSIZE if the room is too short, or the stack's
 -- packets are too long for an Ethernet, and then nothing changes
@@ -132,11 +132,11 @@ link_boot_code None = negsuc 11
 -- a link of which nothing is known, or memory was refused
 pub record IsLinkUp (config : CConfig) (link : CLink) (answer : ℤ) (after : Option LinkState) : Type 0 where
   pub is : answer ≡ link_boot_code after
-  pub up : IfSome after (λ l. l ≡ link_up (config_of config) (link_of link))
+  pub up : IfSome after (λ l. l ≡ link_up (config_of config) (plain_link link))
 
 pub record HasLinkBooted (config : CConfig) (link : CLink) (answer : ℤ) (after : Option LinkState) : Type 0 where
-  pub bad : is_link (config_of config) (link_of link) ≡ false → (answer ≡ invalid) × (after ≡ None)
-  pub good : is_link (config_of config) (link_of link) ≡ true → IsLinkUp config link answer after
+  pub bad : is_link (config_of config) (plain_link link) ≡ false → (answer ≡ invalid) × (after ≡ None)
+  pub good : is_link (config_of config) (plain_link link) ≡ true → IsLinkUp config link answer after
 
 -- A link is booted into a handle without one. If it has one, that stays as it was, and the answer is -ENXIO.
 abbrev pub IsLinkBooted : Option LinkState → CConfig → CLink → ℤ → Option LinkState → Type 0

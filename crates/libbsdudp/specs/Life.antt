@@ -15,9 +15,9 @@ boot_code (Err Memory) = negsuc 11
 boot_code (Err BadSizes) = negsuc 32
 boot_code (Err BadConfig) = invalid
 
-abbrev pub booted : Result StackView BootFault → Option StackView
-booted (Ok s) = Some s
-booted (Err fault) = None
+abbrev pub booted_stack : Result StackView BootFault → Option StackView
+booted_stack (Ok s) = Some s
+booted_stack (Err fault) = None
 
 -- what a configuration gives: a stack in the state of boot, or why there is none
 abbrev pub Boots : CConfig → Result StackView BootFault → Type 0
@@ -30,7 +30,7 @@ pub record HasBooted (config : CConfig) (answer : ℤ) (after : Option StackView
   pub told : Result StackView BootFault
   pub boots : Boots config told
   pub is : answer ≡ boot_code told
-  pub leaves : after ≡ booted told
+  pub leaves : after ≡ booted_stack told
 
 -- A stack is booted into a handle without one. If it has one, that stays as it was, and the answer is -ENXIO.
 abbrev pub IsBooted : Option StackView → CConfig → ℤ → Option StackView → Type 0

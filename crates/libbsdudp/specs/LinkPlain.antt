@@ -8,14 +8,14 @@ use Rattle.flat_ether.specs.declared.tallies.Tallies.{Tallies}
 use Rattle.libbsdudp.specs.declared.link_plain.CLink.{CLink}
 use Rattle.libbsdudp.specs.declared.link_plain.CNeighbour.{CNeighbour}
 use Rattle.libbsdudp.specs.declared.link_plain.CTallies.{CTallies}
-use Rattle.libbsdudp.specs.Plain.{flag}
+use Rattle.libbsdudp.specs.Plain.{flag_number}
 
 -- 0 stands for no gateway
 abbrev pub gateway_of : ℕ → Option ℕ
 gateway_of n = if n == 0 then None else Some n
 
-abbrev pub link_of : CLink → Link
-link_of l =
+abbrev pub plain_link : CLink → Link
+plain_link l =
     record {
       mac = record { high = l.mac_high; low = l.mac_low };
       mask = l.mask;
@@ -33,7 +33,7 @@ neighbour_told n =
       mac_high = mac.high;
       ticks = n.ticks;
       tries = n.tries;
-      known = flag (is_some n.mac);
+      known = flag_number (is_some n.mac);
     }
 
 abbrev pub tallies_told : Tallies → CTallies

@@ -44,8 +44,8 @@ usage_told m =
     }
 
 -- 1 for yes
-abbrev pub flag : Bool → ℕ
-flag b = if b then 1 else 0
+abbrev pub flag_number : Bool → ℕ
+flag_number b = if b then 1 else 0
 
 -- 0 for what is unset
 abbrev pub name_told : SocketName → CName
@@ -56,8 +56,8 @@ name_told n =
       peer_ip = peer.ip;
       local_port = unwrap_or n.port 0;
       peer_port = peer.port;
-      broadcast = flag n.broadcast;
-      reuse_port = flag n.reuse_port;
+      broadcast = flag_number n.broadcast;
+      reuse_port = flag_number n.reuse_port;
     }
 
 abbrev pub next_told : NextDatagram → CNext
@@ -76,4 +76,4 @@ unfinished_told d =
     }
 
 abbrev pub range_told : HeldRange → CRange
-range_told r = record { offset = r.offset; len = r.len; more = flag r.more }
+range_told r = record { offset = r.offset; len = r.len; more = flag_number r.more }

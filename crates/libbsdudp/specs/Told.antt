@@ -24,12 +24,12 @@ use Rattle.libbsdudp.specs.Answers.{invalid, refusal_code, count_code, given_cod
 use Rattle.libbsdudp.specs.Plain.{name_told, next_told, range_told, unfinished_told, usage_told}
 
 -- a name is told, or why there is none
-abbrev pub IsName : Result SocketName Errno → ℤ → CName → CName → Type 0
-IsName (Ok name) answer old new = (answer ≡ pos 0) × (new ≡ name_told name)
-IsName (Err errno) answer old new = (answer ≡ refusal_code errno) × (new ≡ old)
+abbrev pub AnswersName : Result SocketName Errno → ℤ → CName → CName → Type 0
+AnswersName (Ok name) answer old new = (answer ≡ pos 0) × (new ≡ name_told name)
+AnswersName (Err errno) answer old new = (answer ≡ refusal_code errno) × (new ≡ old)
 
 pub record TellsName (fd : ℕ) (answer : ℤ) (old new : CName) (s : StackView) : Type 0 where
-  pub is : IsName (socket_name fd (state_of s)) answer old new
+  pub is : AnswersName (socket_name fd (state_of s)) answer old new
 
 -- the oldest datagram is told, or why there is none
 abbrev pub IsNext : Result NextDatagram Errno → ℤ → CNext → CNext → Type 0
@@ -74,17 +74,17 @@ pub record TellsWaiting (answer : ℤ) (s : StackView) : Type 0 where
   pub is : answer ≡ count_code (length (state_of s).unfinished)
 
 -- an unfinished datagram is told, or -EINVAL if there is none at this place
-abbrev pub IsUnfinished : Option UnfinishedDatagram → ℤ → CUnfinished → CUnfinished → Type 0
-IsUnfinished (Some datagram) answer old new = (answer ≡ pos 0) × (new ≡ unfinished_told datagram)
-IsUnfinished None answer old new = (answer ≡ invalid) × (new ≡ old)
+abbrev pub AnswersUnfinished : Option UnfinishedDatagram → ℤ → CUnfinished → CUnfinished → Type 0
+AnswersUnfinished (Some datagram) answer old new = (answer ≡ pos 0) × (new ≡ unfinished_told datagram)
+AnswersUnfinished None answer old new = (answer ≡ invalid) × (new ≡ old)
 
 pub record TellsUnfinished (i : ℕ) (answer : ℤ) (old new : CUnfinished) (s : StackView) : Type 0 where
-  pub is : IsUnfinished (nth_unfinished i (state_of s).unfinished) answer old new
+  pub is : AnswersUnfinished (nth_unfinished i (state_of s).unfinished) answer old new
 
 -- a range of its bytes is told, or -EINVAL if there is none at this place
-abbrev pub IsRange : Option HeldRange → ℤ → CRange → CRange → Type 0
-IsRange (Some range) answer old new = (answer ≡ pos 0) × (new ≡ range_told range)
-IsRange None answer old new = (answer ≡ invalid) × (new ≡ old)
+abbrev pub AnswersRange : Option HeldRange → ℤ → CRange → CRange → Type 0
+AnswersRange (Some range) answer old new = (answer ≡ pos 0) × (new ≡ range_told range)
+AnswersRange None answer old new = (answer ≡ invalid) × (new ≡ old)
 
 pub record TellsRange (i k : ℕ) (answer : ℤ) (old new : CRange) (s : StackView) : Type 0 where
-  pub is : IsRange (nth_range i k (state_of s).unfinished) answer old new
+  pub is : AnswersRange (nth_range i k (state_of s).unfinished) answer old new

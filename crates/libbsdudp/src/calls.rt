@@ -2,7 +2,7 @@
 ghost use Rattle.std.specs.Prelude.{◌≤◌, length};
 ghost use Rattle.params.specs.declared.TheConstants.{IP_MAX_PACKET};
 ghost use Rattle.flat_model.specs.Machine.Event.{Bind, Close, Comes, Connect, Done, Send, Set_option, Tick};
-ghost use Rattle.libbsdudp.specs.Calls.{Gives, HasCome, HasTicked, IsDone, IsGiven, IsOpened, IsReceived, IsSent, StepsTo};
+ghost use Rattle.libbsdudp.specs.Calls.{GivesPacket, AnswersArrival, HasTicked, AnswersCall, AnswersTransmit, IsOpened, IsReceived, AnswersSend, StepsTo};
 
 use crate::errors::{BAD_LENGTH, count, done, refused};
 use crate::plain::CAddr;
@@ -22,21 +22,21 @@ pub(crate) fn socket(stack: &mut Stack) -> i32
 
 /// Gives a socket its local address and port.
 pub(crate) fn bind(stack: &mut Stack, fd: u32, local: Addr) -> i32
-    ensures { IsDone (Bind fd local) result stack.old stack.new }
+    ensures { AnswersCall (Bind fd local) result stack.old stack.new }
 {
     done(stack.bind(fd, local))
 }
 
 /// Connects a socket.
 pub(crate) fn connect(stack: &mut Stack, fd: u32, to: Addr) -> i32
-    ensures { IsDone (Connect fd to) result stack.old stack.new }
+    ensures { AnswersCall (Connect fd to) result stack.old stack.new }
 {
     done(stack.connect(fd, to))
 }
 
 /// Closes a socket.
 pub(crate) fn close(stack: &mut Stack, fd: u32) -> i32
-    ensures { IsDone (Close fd) result stack.old stack.new }
+    ensures { AnswersCall (Close fd) result stack.old stack.new }
 {
     done(stack.close(fd))
 }
@@ -45,14 +45,14 @@ pub(crate) fn close(stack: &mut Stack, fd: u32) -> i32
 // Apart: two exports call it, which nobody calls for each datagram.
 #[inline(never)]
 pub(crate) fn set(stack: &mut Stack, fd: u32, option: Opt, on: bool) -> i32
-    ensures { IsDone (Set_option fd option on) result stack.old stack.new }
+    ensures { AnswersCall (Set_option fd option on) result stack.old stack.new }
 {
     done(stack.setsockopt(fd, option, on))
 }
 
 /// Sends a datagram to an address, or without one to the peer.
 pub(crate) fn send(stack: &mut Stack, fd: u32, to: Option<Addr>, bytes: &[u8]) -> i32
-    ensures { IsSent (Send fd to bytes.now) result stack.old stack.new }
+    ensures { AnswersSend (Send fd to bytes.now) result stack.old stack.new }
 {
     match stack.sendto(fd, to, bytes) {
         Ok(len) => count(len),
@@ -83,7 +83,7 @@ fn come(stack: &mut Stack, packet: &[u8])
 
 /// A packet comes.
 pub(crate) fn rx(stack: &mut Stack, packet: &[u8]) -> i32
-    ensures { HasCome packet.now result stack.old stack.new }
+    ensures { AnswersArrival packet.now result stack.old stack.new }
 {
     if packet.len() > IP_MAX_PACKET as usize {
         return BAD_LENGTH;
@@ -95,7 +95,7 @@ pub(crate) fn rx(stack: &mut Stack, packet: &[u8]) -> i32
 /// The packet that has waited longest, into a room that is long enough.
 fn give(stack: &mut Stack, room: &mut [u8]) -> i32
     requires { stack.old.config.mtu ≤ length room.old }
-    ensures { Gives room.old room.new result stack.old stack.new }
+    ensures { GivesPacket room.old room.new result stack.old stack.new }
 {
     match stack.tx(room) {
         Some(len) => count(len),
@@ -105,7 +105,7 @@ fn give(stack: &mut Stack, room: &mut [u8]) -> i32
 
 /// The packet that has waited longest.
 pub(crate) fn tx(stack: &mut Stack, room: &mut [u8]) -> i32
-    ensures { IsGiven room.old room.new result stack.old stack.new }
+    ensures { AnswersTransmit room.old room.new result stack.old stack.new }
 {
     if room.len() < stack.mtu() as usize {
         return BAD_LENGTH;

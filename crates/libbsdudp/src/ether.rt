@@ -2,7 +2,7 @@
 //! host: a call on a stack changes nothing of its link, and it's booted and ended apart.
 ghost use Rattle.std.specs.Prelude.{◌≡◌, ⊤};
 ghost use Rattle.libbsdudp.specs.Calls.{stack_in};
-ghost use Rattle.libbsdudp.specs.Ether.{AnswersHost, AnswersLink, HasAged, HasHeard, IsFramed, IsLinkAsked, IsLinkBooted, IsLinkEnded, TellsAddress, TellsError, TellsNeighbour, TellsTallies, link_in};
+ghost use Rattle.libbsdudp.specs.Ether.{AnswersHost, AnswersLink, HasAged, HasHeard, IsFramed, IsLinkAsked, IsLinkBooted, IsLinkEnded, TellsAddress, TellsError, TellsNeighbour, TellsTallies, handle_link};
 
 use crate::errors::{INVALID, NO_LINK, NO_MEMORY, NO_STACK};
 use crate::ether_calls;
@@ -28,7 +28,7 @@ pub extern "C" fn bsdudp_core_ether_boot(
     config: &CConfig,
     link: &CLink,
 ) -> i32
-    ensures { IsLinkBooted (link_in handle.old) config.now link.now result (link_in handle.new) }
+    ensures { IsLinkBooted (handle_link handle.old) config.now link.now result (handle_link handle.new) }
 {
     if let Some(boxed) = handle.take(alloc) {
         handle.put(boxed);
@@ -58,7 +58,7 @@ pub extern "C" fn bsdudp_core_ether_boot(
 /// 0, or -EOPNOTSUPP if the handle holds no link.
 #[unsafe(no_mangle)]
 pub extern "C" fn bsdudp_core_ether_end(alloc: Global, handle: &mut LinkHandle) -> i32
-    ensures { IsLinkEnded (link_in handle.old) result (link_in handle.new) }
+    ensures { IsLinkEnded (handle_link handle.old) result (handle_link handle.new) }
 {
     match handle.take(alloc) {
         Some(boxed) => {
@@ -80,7 +80,8 @@ pub extern "C" fn bsdudp_core_ether_receive(
     link: &mut LinkHandle,
     frame: &[u8],
 ) -> i32
-    ensures { AnswersHost (stack_in handle.old) (link_in link.old) result (stack_in handle.new) (link_in link.new) ⊤
+    ensures { AnswersHost (stack_in handle.old) (handle_link link.old) result (stack_in handle.new)
+        (handle_link link.new) ⊤
         (HasHeard frame.now result) }
 {
     let Some(mut stack) = handle.take(alloc) else {
@@ -108,7 +109,8 @@ pub extern "C" fn bsdudp_core_ether_transmit(
     link: &mut LinkHandle,
     room: &mut [u8],
 ) -> i32
-    ensures { AnswersHost (stack_in handle.old) (link_in link.old) result (stack_in handle.new) (link_in link.new)
+    ensures { AnswersHost (stack_in handle.old) (handle_link link.old) result (stack_in handle.new)
+        (handle_link link.new)
         (room.new ≡ room.old) (IsFramed room.old room.new result) }
 {
     let Some(mut stack) = handle.take(alloc) else {
@@ -136,7 +138,8 @@ pub extern "C" fn bsdudp_core_ether_last_error(
     link: &mut LinkHandle,
     fd: u32,
 ) -> i32
-    ensures { AnswersHost (stack_in handle.old) (link_in link.old) result (stack_in handle.new) (link_in link.new) ⊤
+    ensures { AnswersHost (stack_in handle.old) (handle_link link.old) result (stack_in handle.new)
+        (handle_link link.new) ⊤
         (TellsError fd result) }
 {
     let Some(stack) = handle.take(alloc) else {
@@ -158,7 +161,7 @@ pub extern "C" fn bsdudp_core_ether_last_error(
 #[tactic(auto, using(crate::proofs::EtherAnswered::link_answered))]
 #[unsafe(no_mangle)]
 pub extern "C" fn bsdudp_core_ether_tick(alloc: Global, link: &mut LinkHandle) -> i32
-    ensures { AnswersLink (link_in link.old) result (link_in link.new) ⊤ (HasAged result) }
+    ensures { AnswersLink (handle_link link.old) result (handle_link link.new) ⊤ (HasAged result) }
 {
     with_held!(link, alloc, NO_LINK, boxed => ether_calls::tick(&mut boxed.layer))
 }
@@ -170,7 +173,7 @@ pub extern "C" fn bsdudp_core_ether_tick(alloc: Global, link: &mut LinkHandle) -
 #[tactic(auto, using(crate::proofs::EtherAnswered::link_asked))]
 #[unsafe(no_mangle)]
 pub extern "C" fn bsdudp_core_ether_address(alloc: Global, link: &mut LinkHandle) -> i32
-    ensures { AnswersLink (link_in link.old) result (link_in link.new) ⊤ (IsLinkAsked (TellsAddress result)) }
+    ensures { AnswersLink (handle_link link.old) result (handle_link link.new) ⊤ (IsLinkAsked (TellsAddress result)) }
 {
     with_held!(link, alloc, NO_LINK, boxed => ether_calls::address(&boxed.layer))
 }
@@ -185,7 +188,7 @@ pub extern "C" fn bsdudp_core_ether_tallies(
     link: &mut LinkHandle,
     tallies: &mut CTallies,
 ) -> i32
-    ensures { AnswersLink (link_in link.old) result (link_in link.new) (tallies.new ≡ tallies.old)
+    ensures { AnswersLink (handle_link link.old) result (handle_link link.new) (tallies.new ≡ tallies.old)
         (IsLinkAsked (TellsTallies result tallies.new)) }
 {
     with_held!(link, alloc, NO_LINK, boxed => ether_calls::tallies(&boxed.layer, tallies))
@@ -202,7 +205,7 @@ pub extern "C" fn bsdudp_core_ether_neighbour(
     i: u32,
     neighbour: &mut CNeighbour,
 ) -> i32
-    ensures { AnswersLink (link_in link.old) result (link_in link.new) (neighbour.new ≡ neighbour.old)
+    ensures { AnswersLink (handle_link link.old) result (handle_link link.new) (neighbour.new ≡ neighbour.old)
         (IsLinkAsked (TellsNeighbour i result neighbour.old neighbour.new)) }
 {
     with_held!(link, alloc, NO_LINK, boxed => ether_calls::neighbour(&boxed.layer, i, neighbour))

@@ -3,7 +3,7 @@ ghost use Rattle.std.specs.Prelude.{◌≡◌, ◌+◌, ◌≤◌, length, IfSom
 ghost use Rattle.params.specs.declared.TheConstants.{IP_MAX_PACKET};
 ghost use Rattle.flat_ether.specs.Hosts.{Hears, gives};
 ghost use Rattle.flat_ether.specs.declared.sizes.TheConstants.{ETHER_HEADER, ETHER_MTU};
-ghost use Rattle.ether_host.specs.Inside.{seen};
+ghost use Rattle.ether_host.specs.Inside.{link_seen};
 ghost use Rattle.ether_host.specs.View.{host_of};
 ghost use Rattle.libbsdudp.specs.Ether.{GivesFrame, HasAged, HasHeard, IsFramed, TellsAddress, TellsError, TellsNeighbour, TellsTallies, both};
 
@@ -24,7 +24,7 @@ const ROOM: usize = (ETHER_HEADER + ETHER_MTU) as usize;
 
 /// A frame comes.
 pub(crate) fn receive(stack: &mut Stack, layer: &mut LinkLayer, frame: &[u8]) -> i32
-    ensures { HasHeard frame.now result (both stack.old (seen layer.old)) (both stack.new (seen layer.new)) }
+    ensures { HasHeard frame.now result (both stack.old (link_seen layer.old)) (both stack.new (link_seen layer.new)) }
 {
     if frame.len() > LONGEST {
         return BAD_LENGTH;
@@ -37,7 +37,7 @@ pub(crate) fn receive(stack: &mut Stack, layer: &mut LinkLayer, frame: &[u8]) ->
 fn give(stack: &mut Stack, layer: &mut LinkLayer, room: &mut [u8]) -> i32
     requires mtu { stack.old.config.mtu ≤ ETHER_MTU }
     requires room { ETHER_HEADER + ETHER_MTU ≤ length room.old }
-    ensures { GivesFrame room.new result (both stack.old (seen layer.old)) (both stack.new (seen layer.new)) }
+    ensures { GivesFrame room.new result (both stack.old (link_seen layer.old)) (both stack.new (link_seen layer.new)) }
 {
     match layer.transmit(stack, room) {
         Some(len) => count(len),
@@ -47,7 +47,8 @@ fn give(stack: &mut Stack, layer: &mut LinkLayer, room: &mut [u8]) -> i32
 
 /// The next frame.
 pub(crate) fn transmit(stack: &mut Stack, layer: &mut LinkLayer, room: &mut [u8]) -> i32
-    ensures { IsFramed room.old room.new result (both stack.old (seen layer.old)) (both stack.new (seen layer.new)) }
+    ensures { IsFramed room.old room.new result (both stack.old (link_seen layer.old))
+        (both stack.new (link_seen layer.new)) }
 {
     if room.len() < ROOM || u32::from(stack.mtu()) > ETHER_MTU {
         return BAD_LENGTH;
@@ -58,7 +59,7 @@ pub(crate) fn transmit(stack: &mut Stack, layer: &mut LinkLayer, room: &mut [u8]
 /// What others reported of a socket's datagrams: 0 for nothing, ECONNREFUSED or EHOSTUNREACH, or why the call is
 /// refused.
 pub(crate) fn last_error(stack: &Stack, layer: &mut LinkLayer, fd: u32) -> i32
-    ensures { TellsError fd result (both stack.now (seen layer.old)) (both stack.now (seen layer.new)) }
+    ensures { TellsError fd result (both stack.now (link_seen layer.old)) (both stack.now (link_seen layer.new)) }
 {
     match layer.last_error(stack, fd) {
         Ok(None) => 0,
@@ -70,7 +71,7 @@ pub(crate) fn last_error(stack: &Stack, layer: &mut LinkLayer, fd: u32) -> i32
 
 /// Half a second passed.
 pub(crate) fn tick(layer: &mut LinkLayer) -> i32
-    ensures { HasAged result (seen layer.old) (seen layer.new) }
+    ensures { HasAged result (link_seen layer.old) (link_seen layer.new) }
 {
     layer.tick();
     0
@@ -78,7 +79,7 @@ pub(crate) fn tick(layer: &mut LinkLayer) -> i32
 
 /// How far the host is with its address.
 pub(crate) fn address(layer: &LinkLayer) -> i32
-    ensures { TellsAddress result (seen layer.now) }
+    ensures { TellsAddress result (link_seen layer.now) }
 {
     match layer.address() {
         AddressState::Probing => 0,
@@ -89,7 +90,7 @@ pub(crate) fn address(layer: &LinkLayer) -> i32
 
 /// What was counted of the link.
 pub(crate) fn tallies(layer: &LinkLayer, tallies: &mut CTallies) -> i32
-    ensures { TellsTallies result tallies.new (seen layer.now) }
+    ensures { TellsTallies result tallies.new (link_seen layer.now) }
 {
     *tallies = CTallies::of(layer.tallies());
     0
@@ -97,7 +98,7 @@ pub(crate) fn tallies(layer: &LinkLayer, tallies: &mut CTallies) -> i32
 
 /// The neighbour at a place.
 pub(crate) fn neighbour(layer: &LinkLayer, i: u32, neighbour: &mut CNeighbour) -> i32
-    ensures { TellsNeighbour i result neighbour.old neighbour.new (seen layer.now) }
+    ensures { TellsNeighbour i result neighbour.old neighbour.new (link_seen layer.now) }
 {
     match layer.neighbours().get(i as usize) {
         Some(told) => {

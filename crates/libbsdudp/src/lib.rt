@@ -5,7 +5,7 @@
 ghost use Rattle.std.specs.Prelude.{◌≡◌, None, Some, ⊤};
 ghost use Rattle.flat_model.specs.Machine.Event.{Bind, Close, Connect, Send, Set_option, Tick};
 ghost use Rattle.flat_model.specs.declared.option.Opt.TheVariants.{Broadcast, ReusePort};
-ghost use Rattle.libbsdudp.specs.Calls.{Answers, HasCome, HasTicked, IsDone, IsGiven, IsOpened, IsReceived, IsSent, stack_in};
+ghost use Rattle.libbsdudp.specs.Calls.{Answers, AnswersArrival, HasTicked, AnswersCall, AnswersTransmit, IsOpened, IsReceived, AnswersSend, stack_in};
 ghost use Rattle.libbsdudp.specs.Plain.{addr_of};
 
 mod asks;
@@ -42,7 +42,7 @@ use std::alloc::Global;
 #[tactic(auto, using(crate::proofs::Answered::answered))]
 #[unsafe(no_mangle)]
 pub extern "C" fn bsdudp_core_rx(alloc: Global, handle: &mut Handle, packet: &[u8]) -> i32
-    ensures { Answers (stack_in handle.old) result (stack_in handle.new) ⊤ (HasCome packet.now result) }
+    ensures { Answers (stack_in handle.old) result (stack_in handle.new) ⊤ (AnswersArrival packet.now result) }
 {
     with_held!(handle, alloc, NO_STACK, boxed => calls::rx(&mut boxed.stack, packet))
 }
@@ -55,7 +55,7 @@ pub extern "C" fn bsdudp_core_rx(alloc: Global, handle: &mut Handle, packet: &[u
 #[unsafe(no_mangle)]
 pub extern "C" fn bsdudp_core_tx(alloc: Global, handle: &mut Handle, room: &mut [u8]) -> i32
     ensures { Answers (stack_in handle.old) result (stack_in handle.new) (room.new ≡ room.old)
-        (IsGiven room.old room.new result) }
+        (AnswersTransmit room.old room.new result) }
 {
     with_held!(handle, alloc, NO_STACK, boxed => calls::tx(&mut boxed.stack, room))
 }
@@ -94,7 +94,7 @@ pub extern "C" fn bsdudp_core_bind(
     local: &CAddr,
 ) -> i32
     ensures { Answers (stack_in handle.old) result (stack_in handle.new) ⊤
-        (IsDone (Bind fd (addr_of local.now)) result) }
+        (AnswersCall (Bind fd (addr_of local.now)) result) }
 {
     with_held!(handle, alloc, NO_STACK, boxed => calls::bind(&mut boxed.stack, fd, local.addr()))
 }
@@ -111,7 +111,7 @@ pub extern "C" fn bsdudp_core_connect(
     to: &CAddr,
 ) -> i32
     ensures { Answers (stack_in handle.old) result (stack_in handle.new) ⊤
-        (IsDone (Connect fd (addr_of to.now)) result) }
+        (AnswersCall (Connect fd (addr_of to.now)) result) }
 {
     with_held!(handle, alloc, NO_STACK, boxed => calls::connect(&mut boxed.stack, fd, to.addr()))
 }
@@ -129,7 +129,7 @@ pub extern "C" fn bsdudp_core_sendto(
     bytes: &[u8],
 ) -> i32
     ensures { Answers (stack_in handle.old) result (stack_in handle.new) ⊤
-        (IsSent (Send fd (Some (addr_of to.now)) bytes.now) result) }
+        (AnswersSend (Send fd (Some (addr_of to.now)) bytes.now) result) }
 {
     with_held!(handle, alloc, NO_STACK, boxed => calls::send(&mut boxed.stack, fd, Some(to.addr()), bytes))
 }
@@ -140,7 +140,8 @@ pub extern "C" fn bsdudp_core_sendto(
 #[tactic(auto, using(crate::proofs::Answered::answered))]
 #[unsafe(no_mangle)]
 pub extern "C" fn bsdudp_core_send(alloc: Global, handle: &mut Handle, fd: u32, bytes: &[u8]) -> i32
-    ensures { Answers (stack_in handle.old) result (stack_in handle.new) ⊤ (IsSent (Send fd None bytes.now) result) }
+    ensures { Answers (stack_in handle.old) result (stack_in handle.new) ⊤
+        (AnswersSend (Send fd None bytes.now) result) }
 {
     with_held!(handle, alloc, NO_STACK, boxed => calls::send(&mut boxed.stack, fd, None, bytes))
 }
@@ -169,7 +170,7 @@ pub extern "C" fn bsdudp_core_recvfrom(
 #[tactic(auto, using(crate::proofs::Answered::answered))]
 #[unsafe(no_mangle)]
 pub extern "C" fn bsdudp_core_close(alloc: Global, handle: &mut Handle, fd: u32) -> i32
-    ensures { Answers (stack_in handle.old) result (stack_in handle.new) ⊤ (IsDone (Close fd) result) }
+    ensures { Answers (stack_in handle.old) result (stack_in handle.new) ⊤ (AnswersCall (Close fd) result) }
 {
     with_held!(handle, alloc, NO_STACK, boxed => calls::close(&mut boxed.stack, fd))
 }
@@ -186,7 +187,7 @@ pub extern "C" fn bsdudp_core_set_broadcast(
     on: bool,
 ) -> i32
     ensures { Answers (stack_in handle.old) result (stack_in handle.new) ⊤
-        (IsDone (Set_option fd Broadcast on) result) }
+        (AnswersCall (Set_option fd Broadcast on) result) }
 {
     with_held!(handle, alloc, NO_STACK, boxed => calls::set(&mut boxed.stack, fd, Opt::Broadcast, on))
 }
@@ -203,7 +204,7 @@ pub extern "C" fn bsdudp_core_set_reuse_port(
     on: bool,
 ) -> i32
     ensures { Answers (stack_in handle.old) result (stack_in handle.new) ⊤
-        (IsDone (Set_option fd ReusePort on) result) }
+        (AnswersCall (Set_option fd ReusePort on) result) }
 {
     with_held!(handle, alloc, NO_STACK, boxed => calls::set(&mut boxed.stack, fd, Opt::ReusePort, on))
 }

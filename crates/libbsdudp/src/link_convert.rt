@@ -1,13 +1,13 @@
 //! What C's structs say of a link, and how C is told of it.
 ghost use Rattle.std.specs.Prelude.{◌≡◌};
-ghost use Rattle.libbsdudp.specs.LinkPlain.{link_of, neighbour_told, tallies_told};
+ghost use Rattle.libbsdudp.specs.LinkPlain.{plain_link, neighbour_told, tallies_told};
 
 use crate::link_plain::{CLink, CNeighbour, CTallies};
 use flat_ether::{Link, Mac, NO_MAC, Neighbour, Tallies};
 
 impl CLink {
     pub(crate) fn link(&self) -> Link
-        ensures { result ≡ link_of self.now }
+        ensures { result ≡ plain_link self.now }
     {
         let gateway = if self.gateway == 0 {
             None

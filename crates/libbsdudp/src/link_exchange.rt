@@ -1,7 +1,7 @@
 //! How a link is taken out of its handle, and put back.
 ghost use Rattle.std.specs.Prelude.{◌≡◌, MatchOption, None, Some};
-ghost use Rattle.ether_host.specs.Inside.{seen};
-ghost use Rattle.libbsdudp.specs.Ether.{link_in};
+ghost use Rattle.ether_host.specs.Inside.{link_seen};
+ghost use Rattle.libbsdudp.specs.Ether.{handle_link};
 
 use crate::link_handle::LinkHandle;
 use crate::link_held::LinkHeld;
@@ -26,9 +26,9 @@ impl LinkHandle {
 
     /// Takes out the link, and leaves the handle without one. `None` if it has none, and then it stays without.
     pub(crate) fn take(&mut self, alloc: Global) -> Option<Box<OwnedLink, Global>>
-        ensures taken { MatchOption result (link_in self.old ≡ None)
-            (λ b. link_in self.old ≡ Some (seen b.value.layer)) }
-        ensures left { link_in self.new ≡ None }
+        ensures taken { MatchOption result (handle_link self.old ≡ None)
+            (λ b. handle_link self.old ≡ Some (link_seen b.value.layer)) }
+        ensures left { handle_link self.new ≡ None }
     {
         if self.live != LIVE {
             return None;
@@ -39,7 +39,7 @@ impl LinkHandle {
 
     /// Puts a link in. The handle has to be without one, or that one isn't ended.
     pub(crate) fn put(&mut self, boxed: Box<OwnedLink, Global>)
-        ensures { link_in self.new ≡ Some (seen boxed.value.layer) }
+        ensures { handle_link self.new ≡ Some (link_seen boxed.value.layer) }
     {
         *self = LinkHandle {
             live: LIVE,

@@ -1,6 +1,6 @@
 //! The handle of a link as C has it.
 ghost use Rattle.std.specs.Prelude.{◌≡◌};
-ghost use Rattle.libbsdudp.specs.LinkHeld.{IsFull};
+ghost use Rattle.libbsdudp.specs.LinkHeld.{IsLinkFull};
 
 use crate::link_held::LinkHeld;
 
@@ -11,5 +11,5 @@ use crate::link_held::LinkHeld;
 pub struct LinkHandle {
     pub(crate) live: u32,
     pub(crate) held: LinkHeld,
-    ghost full: { live ≡ 1651731563 → IsFull held.kept },
+    ghost full: { live ≡ 1651731563 → IsLinkFull held.kept },
 }

@@ -1,6 +1,6 @@
 //! A boxed link as C keeps it, as `held` has it of a stack.
 ghost use Rattle.std.specs.Prelude.{◌≡◌, None, Some};
-ghost use Rattle.libbsdudp.specs.LinkHeld.{IsFull, Kept, kept_coded, kept_owns};
+ghost use Rattle.libbsdudp.specs.LinkHeld.{IsLinkFull, LinkKept, link_kept_coded, link_kept_owns};
 
 use crate::link_owned::OwnedLink;
 use crate::parts::Parts;
@@ -15,11 +15,11 @@ use std::ptr::null_mut;
 pub struct LinkHeld {
     at: *mut u8,
     alloc: Global,
-    pub(crate) ghost kept: { Kept } by { kept_coded },
+    pub(crate) ghost kept: { LinkKept } by { link_kept_coded },
 }
 
 impl Model for LinkHeld {
-    ghost also_owns = { λ h. kept_owns h.alloc h.at h.kept };
+    ghost also_owns = { λ h. link_kept_owns h.alloc h.at h.kept };
 }
 
 impl LinkHeld {
@@ -46,7 +46,7 @@ impl LinkHeld {
 
     /// The parts of the box at the place. There has to be one.
     pub(crate) fn into_parts(self) -> Parts<OwnedLink, Global>
-        requires { IsFull self.kept }
+        requires { IsLinkFull self.kept }
         ensures { self.kept ≡ Some result.value }
     {
         let LinkHeld { at, alloc } = self;

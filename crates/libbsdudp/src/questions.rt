@@ -1,6 +1,6 @@
 //! The questions, which leave the stack as it is.
 ghost use Rattle.std.specs.Prelude.{◌≡◌, ⊤};
-ghost use Rattle.libbsdudp.specs.Calls.{Answers, IsAsked, stack_in};
+ghost use Rattle.libbsdudp.specs.Calls.{Answers, AnswersQuestion, stack_in};
 ghost use Rattle.libbsdudp.specs.Told.{TellsCounter, TellsName, TellsNext, TellsOutput, TellsPacket, TellsRange, TellsReadable, TellsUnfinished, TellsUsage, TellsWaiting};
 
 use crate::asks;
@@ -22,7 +22,7 @@ pub extern "C" fn bsdudp_core_name(
     name: &mut CName,
 ) -> i32
     ensures { Answers (stack_in handle.old) result (stack_in handle.new) (name.new ≡ name.old)
-        (IsAsked (TellsName fd result name.old name.new)) }
+        (AnswersQuestion (TellsName fd result name.old name.new)) }
 {
     with_held!(handle, alloc, NO_STACK, boxed => asks::name(&boxed.stack, fd, name))
 }
@@ -39,7 +39,7 @@ pub extern "C" fn bsdudp_core_next(
     next: &mut CNext,
 ) -> i32
     ensures { Answers (stack_in handle.old) result (stack_in handle.new) (next.new ≡ next.old)
-        (IsAsked (TellsNext fd result next.old next.new)) }
+        (AnswersQuestion (TellsNext fd result next.old next.new)) }
 {
     with_held!(handle, alloc, NO_STACK, boxed => asks::next(&boxed.stack, fd, next))
 }
@@ -51,7 +51,7 @@ pub extern "C" fn bsdudp_core_next(
 #[unsafe(no_mangle)]
 pub extern "C" fn bsdudp_core_readable(alloc: Global, handle: &mut Handle, set: &mut u64) -> i32
     ensures { Answers (stack_in handle.old) result (stack_in handle.new) (set.new ≡ set.old)
-        (IsAsked (TellsReadable result set.new)) }
+        (AnswersQuestion (TellsReadable result set.new)) }
 {
     with_held!(handle, alloc, NO_STACK, boxed => asks::readable(&boxed.stack, set))
 }
@@ -62,7 +62,7 @@ pub extern "C" fn bsdudp_core_readable(alloc: Global, handle: &mut Handle, set: 
 #[tactic(auto, using(crate::proofs::Answered::asked))]
 #[unsafe(no_mangle)]
 pub extern "C" fn bsdudp_core_output_len(alloc: Global, handle: &mut Handle) -> i32
-    ensures { Answers (stack_in handle.old) result (stack_in handle.new) ⊤ (IsAsked (TellsOutput result)) }
+    ensures { Answers (stack_in handle.old) result (stack_in handle.new) ⊤ (AnswersQuestion (TellsOutput result)) }
 {
     with_held!(handle, alloc, NO_STACK, boxed => asks::output_len(&boxed.stack))
 }
@@ -73,7 +73,7 @@ pub extern "C" fn bsdudp_core_output_len(alloc: Global, handle: &mut Handle) -> 
 #[tactic(auto, using(crate::proofs::Answered::asked))]
 #[unsafe(no_mangle)]
 pub extern "C" fn bsdudp_core_next_packet(alloc: Global, handle: &mut Handle) -> i32
-    ensures { Answers (stack_in handle.old) result (stack_in handle.new) ⊤ (IsAsked (TellsPacket result)) }
+    ensures { Answers (stack_in handle.old) result (stack_in handle.new) ⊤ (AnswersQuestion (TellsPacket result)) }
 {
     with_held!(handle, alloc, NO_STACK, boxed => asks::next_packet(&boxed.stack))
 }
@@ -90,7 +90,7 @@ pub extern "C" fn bsdudp_core_counter(
     value: &mut u64,
 ) -> i32
     ensures { Answers (stack_in handle.old) result (stack_in handle.new) (value.new ≡ value.old)
-        (IsAsked (TellsCounter which result value.old value.new)) }
+        (AnswersQuestion (TellsCounter which result value.old value.new)) }
 {
     with_held!(handle, alloc, NO_STACK, boxed => asks::counter(&boxed.stack, which, value))
 }
@@ -102,7 +102,7 @@ pub extern "C" fn bsdudp_core_counter(
 #[unsafe(no_mangle)]
 pub extern "C" fn bsdudp_core_mbstat(alloc: Global, handle: &mut Handle, usage: &mut CMbstat) -> i32
     ensures { Answers (stack_in handle.old) result (stack_in handle.new) (usage.new ≡ usage.old)
-        (IsAsked (TellsUsage result usage.new)) }
+        (AnswersQuestion (TellsUsage result usage.new)) }
 {
     with_held!(handle, alloc, NO_STACK, boxed => asks::mbstat(&boxed.stack, usage))
 }
@@ -113,7 +113,7 @@ pub extern "C" fn bsdudp_core_mbstat(alloc: Global, handle: &mut Handle, usage: 
 #[tactic(auto, using(crate::proofs::Answered::asked))]
 #[unsafe(no_mangle)]
 pub extern "C" fn bsdudp_core_unfinished_len(alloc: Global, handle: &mut Handle) -> i32
-    ensures { Answers (stack_in handle.old) result (stack_in handle.new) ⊤ (IsAsked (TellsWaiting result)) }
+    ensures { Answers (stack_in handle.old) result (stack_in handle.new) ⊤ (AnswersQuestion (TellsWaiting result)) }
 {
     with_held!(handle, alloc, NO_STACK, boxed => asks::unfinished_len(&boxed.stack))
 }
@@ -130,7 +130,7 @@ pub extern "C" fn bsdudp_core_unfinished(
     datagram: &mut CUnfinished,
 ) -> i32
     ensures { Answers (stack_in handle.old) result (stack_in handle.new) (datagram.new ≡ datagram.old)
-        (IsAsked (TellsUnfinished i result datagram.old datagram.new)) }
+        (AnswersQuestion (TellsUnfinished i result datagram.old datagram.new)) }
 {
     with_held!(handle, alloc, NO_STACK, boxed => asks::unfinished(&boxed.stack, i, datagram))
 }
@@ -149,7 +149,7 @@ pub extern "C" fn bsdudp_core_unfinished_range(
     range: &mut CRange,
 ) -> i32
     ensures { Answers (stack_in handle.old) result (stack_in handle.new) (range.new ≡ range.old)
-        (IsAsked (TellsRange i k result range.old range.new)) }
+        (AnswersQuestion (TellsRange i k result range.old range.new)) }
 {
     with_held!(handle, alloc, NO_STACK, boxed => asks::unfinished_range(&boxed.stack, i, k, range))
 }

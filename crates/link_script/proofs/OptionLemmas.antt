@@ -3,7 +3,7 @@ use Rattle.std.proofs.Common.{◌≡◌, ℕ, suc, ◌-◌, List, [], ◌∷◌,
 use Rattle.std.specs.Prelude.{MatchOption}
 use Rattle.clap.specs.Words.{Row, first_of, subcommand_of, fault_of}
 use Rattle.flat_model.specs.declared.config.Config.{Config}
-use Rattle.link_script.specs.Options.{whole_app, Names, NamesSizes, NamesTask, Gives}
+use Rattle.link_script.specs.Options.{whole_app, Names, NamesSizes, NamesTask, AsksForTask}
 use Rattle.mbuf_pool.specs.declared.sizes.Sizes.{Sizes}
 use Rattle.link_script.specs.declared.options.Task.{Task}
 use Rattle.link_script.specs.declared.options.Task.TheVariants.{Run, Chain}
@@ -46,7 +46,7 @@ pub Gives-names : (d : Config) (words : List (List ℕ)) (name : List ℕ) (f : 
     → fault_of whole_app words ≡ [] → subcommand_of whole_app words ≡ Some (name, rows)
     → ((id : List ℕ) → f id ≡ first_of id rows)
     → MatchOption r ((t : Task) → NamesTask d name f t → ⊥) (NamesTask d name f)
-    → MatchOption r ((t : Task) → Gives d words t → ⊥) (Gives d words)
+    → MatchOption r ((t : Task) → AsksForTask d words t → ⊥) (AsksForTask d words)
 Gives-names d words name f rows (Some t) taken found same names = record {
   taken = taken;
   name = name;

@@ -10,12 +10,12 @@ use Rattle.flat_model.specs.Scripts.Script as script
 use Rattle.flat_model.specs.Scripts.Script.{PrintsRun, all_events}
 use Rattle.flat_model.proofs.Laws.{print_of_run}
 use Rattle.script_loop.specs.Printed.{Prints}
-use Rattle.link_script.specs.Says.{Says}
+use Rattle.link_script.specs.Says.{SaysBy}
 
 -- what a machine prints by its answers is what it prints by its steps
 pub Prints-answers : (step : State → Event → Reply → State → Type 0) (old new : State) (lines : List (List ℕ))
     (printed : List ℕ)
-    → Prints (Says step) old lines printed new → script.Prints all_events step old lines printed new
+    → Prints (SaysBy step) old lines printed new → script.Prints all_events step old lines printed new
 Prints-answers step old new [] printed h = ([], h.0, h.1)
 Prints-answers step old new (line ∷ lines) printed h =
     let rest = Prints-answers step h.0 new lines h.2 h.4 in (
@@ -27,7 +27,7 @@ Prints-answers step old new (line ∷ lines) printed h =
 
 -- and from boot it's told by a run
 pub Prints-run : (config : Config) (new : State) (lines : List (List ℕ)) (printed : List ℕ)
-    → Prints (Says Step) (boot config) lines printed new → PrintsRun config lines printed new
+    → Prints (SaysBy Step) (boot config) lines printed new → PrintsRun config lines printed new
 Prints-run config new lines printed h =
     print_of_run exact_ledger all_events (boot config) new lines printed
     (Prints-answers Step (boot config) new lines printed h)

@@ -14,14 +14,14 @@ refused_as boot.BadSizes = BadSizes
 refused_as boot.BadConfig = BadConfig
 
 -- why there is no machine: the sizes are tested first, then all else of the configuration
-abbrev pub IsUnbooted : Config → RunFault → Type 0
-IsUnbooted c BadSizes = ¬ HasSizes c
-IsUnbooted c BadConfig = HasSizes c × ¬ IsConfig c
-IsUnbooted c Memory = IsConfig c
-IsUnbooted c _ = ⊥
+abbrev pub IsRunUnbooted : Config → RunFault → Type 0
+IsRunUnbooted c BadSizes = ¬ HasSizes c
+IsRunUnbooted c BadConfig = HasSizes c × ¬ IsConfig c
+IsRunUnbooted c Memory = IsConfig c
+IsRunUnbooted c _ = ⊥
 
 -- the same of a whole run, which may fail later
-abbrev pub Boots : Config → Result Unit RunFault → Type 0
-Boots c (Err BadSizes) = ¬ HasSizes c
-Boots c (Err BadConfig) = HasSizes c × ¬ IsConfig c
-Boots c _ = IsConfig c
+abbrev pub BootsRun : Config → Result Unit RunFault → Type 0
+BootsRun c (Err BadSizes) = ¬ HasSizes c
+BootsRun c (Err BadConfig) = HasSizes c × ¬ IsConfig c
+BootsRun c _ = IsConfig c

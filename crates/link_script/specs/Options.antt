@@ -77,7 +77,7 @@ NamesTask defaults name text (Run c) = (name ≡ codes "run") × Names defaults 
 NamesTask defaults name text (Chain z) = (name ≡ codes "chain") × NamesSizes defaults text z
 
 -- The words, the program's name first, are a subcommand with options that name this task.
-pub record Gives (defaults : Config) (words : List (List ℕ)) (task : Task) : Type 0 where
+pub record AsksForTask (defaults : Config) (words : List (List ℕ)) (task : Task) : Type 0 where
   pub taken : fault_of whole_app words ≡ []
   pub name : List ℕ
   pub rows : List Row
@@ -86,7 +86,7 @@ pub record Gives (defaults : Config) (words : List (List ℕ)) (task : Task) : T
 
 -- So do the words of a command line, which `--` doesn't end.
 pub record IsCommand (defaults : Config) (words : List (List ℕ)) (task : Task) : Type 0 where
-  pub gives : Gives defaults words task
+  pub gives : AsksForTask defaults words task
   pub ended : slice_get words (length words - 1) ≢ Some (codes "--")
 
 -- The words ask for this task, where they could be had. `texts` are their bytes.

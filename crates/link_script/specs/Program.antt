@@ -3,11 +3,11 @@ use Rattle.std.specs.Prelude.{◌≡◌, ◌⊎◌, ℕ, List, [], Option, Resul
 use Rattle.flat_model.specs.Machine.State.{State, boot}
 use Rattle.flat_model.specs.Machine.Step.{Step}
 use Rattle.flat_model.specs.declared.config.Config.{Config}
-use Rattle.script_loop.specs.Serves.{Serves, Moves}
+use Rattle.script_loop.specs.Serves.{Serves, ReadsAndWrites}
 use Rattle.script_loop.specs.declared.fault.RunFault.{RunFault}
 use Rattle.script_loop.specs.declared.fault.RunFault.TheVariants.{Read, Write, Memory, TooManyLines, BadSizes, BadConfig}
-use Rattle.link_script.specs.Says.{Says}
-use Rattle.link_script.specs.Boots.{Boots}
+use Rattle.link_script.specs.Says.{SaysBy}
+use Rattle.link_script.specs.Boots.{BootsRun}
 use Rattle.link_script.specs.declared.command_line.Failure.{Failure}
 use Rattle.link_script.specs.declared.command_line.Failure.TheVariants as failure
 use Rattle.link_script.specs.declared.command_line.Failure.TheVariants.{Usage}
@@ -41,17 +41,18 @@ IsWordsFault asks (failure.Run fault) = fault ≡ Memory
 abbrev pub Served : Task → Option (List ℕ) → Option (List ℕ) → Option (List ℕ) → Option (List ℕ) → Result Unit RunFault
     → Type 0
 Served (task.Run config) unread rest before after outcome =
-    Boots config outcome × (new : State) × Serves (Says Step) (boot config) new unread rest before after outcome
+    BootsRun config outcome × (new : State) × Serves (SaysBy Step) (boot config) new unread rest before after outcome
 Served (task.Chain sizes) unread rest before after outcome =
-    chains.Boots sizes outcome × (new : Machine)
+    chains.BootsChains sizes outcome × (new : Machine)
     × Serves steps.Says (booted sizes.mbufs sizes.clusters) new unread rest before after outcome
 
 -- What was done by words that ask for these tasks. They ask for none, or memory was lacking to read them, and nothing
 -- was read or written; or the script that they ask for was served.
 abbrev pub Ran : (Task → Type 0) → Option (List ℕ) → Option (List ℕ) → Option (List ℕ) → Option (List ℕ)
     → Result Unit Failure → Type 0
-Ran asks unread rest before after (Err Usage) = ((task : Task) → ¬ asks task) × Moves unread rest [] before after []
+Ran asks unread rest before after (Err Usage) =
+    ((task : Task) → ¬ asks task) × ReadsAndWrites unread rest [] before after []
 Ran asks unread rest before after (Err (failure.Run fault)) =
-    ((fault ≡ Memory) × Moves unread rest [] before after [])
+    ((fault ≡ Memory) × ReadsAndWrites unread rest [] before after [])
     ⊎ ((task : Task) × asks task × Served task unread rest before after (Err fault))
 Ran asks unread rest before after (Ok done) = (task : Task) × asks task × Served task unread rest before after (Ok done)

@@ -6,6 +6,6 @@ use Rattle.flat_model.specs.Scripts.Texts.{answer_text}
 use Rattle.flat_model.specs.Scripts.Script.{Answers, all_events}
 
 -- the text of an answer that it may give; all lines are served
-abbrev pub Says : (State → Event → Reply → State → Type 0) → State → List ℕ → List ℕ → State → Type 0
-Says step old line text new =
+abbrev pub SaysBy : (State → Event → Reply → State → Type 0) → State → List ℕ → List ℕ → State → Type 0
+SaysBy step old line text new =
     (answer : Option Reply) × Answers all_events step old line answer new × (text ≡ answer_text answer)

@@ -3,8 +3,8 @@ ghost use Rattle.std.specs.Prelude.{◌≡◌, ◌*◌, ◌≤◌, ◌++◌, Lis
 ghost use Rattle.params.specs.declared.TheConstants.{IP_MAX_PACKET};
 ghost use Rattle.flat_model.specs.Machine.State.{State};
 ghost use Rattle.net_stack.specs.Stack.{state_of};
-ghost use Rattle.stack_call.specs.Moves.{Moves};
-ghost use Rattle.link_script.specs.Says.{Says};
+ghost use Rattle.stack_call.specs.Moves.{StackSteps};
+ghost use Rattle.link_script.specs.Says.{SaysBy};
 
 use net_stack::Stack;
 use params::IP_MAX_PACKET;
@@ -25,7 +25,7 @@ fn put_answer(
     requires bytes { length bytes.old ≡ IP_MAX_PACKET }
     requires digits { length digits.old ≡ 2 * IP_MAX_PACKET }
     ensures { (reply : List ℕ)
-        × Says Moves (state_of stack.old) line.now reply (state_of stack.new)
+        × SaysBy StackSteps (state_of stack.old) line.now reply (state_of stack.new)
         × (text.new ≡ text.old ++ reply) }
 {
     let (named, _) = digits.split_at_mut(IP_MAX_PACKET as usize);
@@ -52,7 +52,7 @@ impl Answers<TEXT> for Caller {
 
     ghost state = { λ c. state_of c.machine };
 
-    ghost may_answer = { Says Moves };
+    ghost may_answer = { SaysBy StackSteps };
 
     fn answer(&mut self, line: &[u8], text: &mut Buffer<TEXT>) {
         put_answer(

@@ -6,7 +6,7 @@ ghost use Rattle.clap.specs.declared.error.kind.ErrorKind.TheVariants.{OutOfMemo
 ghost use Rattle.flat_model.specs.declared.config.Config.{Config};
 ghost use Rattle.mbuf_pool.specs.declared.sizes.Sizes.{Sizes};
 ghost use Rattle.link_script.specs.declared.options.Task.{Task};
-ghost use Rattle.link_script.specs.Options.{option_rule, whole_app, HasNumber, HasAddress, Names, NamesSizes, NamesTask, Gives, IsCommand};
+ghost use Rattle.link_script.specs.Options.{option_rule, whole_app, HasNumber, HasAddress, Names, NamesSizes, NamesTask, AsksForTask, IsCommand};
 ghost use Rattle.link_script.specs.Program.{defaults, IsWordsFault};
 
 use crate::command_line::{DEFAULTS, Failure};
@@ -130,8 +130,8 @@ fn command<'a>(alloc: Global) -> Result<Command<'a>, AllocError>
 /// The task that the words ask for, where they are a command, by crate clap's reading of them.
 fn named(alloc: Global, words: &[String]) -> Result<Option<Task>, ClapError>
     ensures { MatchResult result
-        (λ r. MatchOption r ((t : Task) → Gives defaults (map string_bytes words.now) t → ⊥)
-        (Gives defaults (map string_bytes words.now)))
+        (λ r. MatchOption r ((t : Task) → AsksForTask defaults (map string_bytes words.now) t → ⊥)
+        (AsksForTask defaults (map string_bytes words.now)))
         (λ e. (kind_of e ≡ OutOfMemory) ⊎ (fault_of whole_app (map string_bytes words.now) ≢ [])) }
 {
     let matches = command(alloc)?.try_get_matches_from(words)?;

@@ -3,10 +3,10 @@ ghost use Rattle.std.specs.Prelude.{◌≡◌, MatchResult};
 ghost use Rattle.flat_model.specs.Machine.State.{State, IsConfig, boot};
 ghost use Rattle.flat_model.specs.Machine.Step.{Step};
 ghost use Rattle.script_loop.specs.Streams.{MoreBy, reader_failures, writer_failures};
-ghost use Rattle.link_script.specs.Says.{Says};
-ghost use Rattle.link_script.specs.Boots.{Boots, IsUnbooted, refused_as};
+ghost use Rattle.link_script.specs.Says.{SaysBy};
+ghost use Rattle.link_script.specs.Boots.{BootsRun, IsRunUnbooted, refused_as};
 ghost use Rattle.net_stack.specs.Stack.{state_of};
-ghost use Rattle.stack_call.specs.Moves.{Moves};
+ghost use Rattle.stack_call.specs.Moves.{StackSteps};
 ghost use Rattle.script_loop.specs.Serves.{Serves, IsServed};
 
 use crate::caller::Caller;
@@ -28,7 +28,7 @@ fn refusal_of(fault: BootFault) -> RunFault
 
 /// A stack that has just started.
 pub fn booted(alloc: Global, config: Config) -> Result<Stack, RunFault>
-    ensures { MatchResult result (λ s. IsConfig config × (state_of s ≡ boot config)) (IsUnbooted config) }
+    ensures { MatchResult result (λ s. IsConfig config × (state_of s ≡ boot config)) (IsRunUnbooted config) }
 {
     match Stack::boot(alloc, config) {
         Ok(stack) => Ok(stack),
@@ -45,7 +45,7 @@ fn serve_stack<R: Source, W: Sink>(
 ) -> Result<(), RunFault>
     ensures read { MoreBy (reader_failures result) (R.failures reader.old) (R.failures reader.new) }
     ensures wrote { MoreBy (writer_failures result) (W.failures writer.old) (W.failures writer.new) }
-    ensures served { (new : State) × Serves (Says Moves) (state_of machine) new
+    ensures served { (new : State) × Serves (SaysBy StackSteps) (state_of machine) new
         (R.remaining reader.old) (R.remaining reader.new) (W.contents writer.old) (W.contents writer.new) result }
     ensures started { IsServed result }
 {
@@ -79,20 +79,20 @@ fn serve_stack<R: Source, W: Sink>(
 /// an error, or takes none of the bytes that it is given: a front of the replies was written. `TooManyLines` at a byte
 /// after the 10,000,000th line, or one that makes a line longer than 1,048,576 bytes: each whole line before it was
 /// answered.
-#[tactic(auto, unfolding(stack_call::specs::Moves::Moves))]
+#[tactic(auto, unfolding(stack_call::specs::Moves::StackSteps))]
 pub fn run<R: Source, W: Sink>(
     alloc: Global,
     config: Config,
     reader: &mut R,
     writer: &mut W,
 ) -> Result<(), RunFault>
-    ensures booted { Boots config result }
+    ensures booted { BootsRun config result }
     // The reader failed once where the fault is `Read`, and the writer where it is `Write`; else they didn't.
     ensures read { MoreBy (reader_failures result) (R.failures reader.old) (R.failures reader.new) }
     ensures wrote { MoreBy (writer_failures result) (W.failures writer.old) (W.failures writer.new) }
     // What is written is printed on the way of the machine with exact accounts from boot, over the lines of what is
     // read, and nothing else.
-    ensures served { (new : State) × Serves (Says Step) (boot config) new
+    ensures served { (new : State) × Serves (SaysBy Step) (boot config) new
         (R.remaining reader.old) (R.remaining reader.new) (W.contents writer.old) (W.contents writer.new) result }
 {
     let machine = booted(alloc, config)?;

@@ -2,8 +2,8 @@
 use Rattle.std.proofs.Common.{◌≡◌, ℕ, zero, suc, ◌+◌, ◌-◌, ◌<◌, ◌≤◌, List, [], ◌∷◌, length, Option, None, Some, refl, sym, ap, ◌∙◌, subst, arith, take, drop, take-append-drop, slice_index, true}
 use Rattle.std.specs.Option.{IsSome}
 use Rattle.mbuf_pool.specs.Cells.{Head}
-use Rattle.mbuf_pool.specs.Store.{StoreView, is_out, head_of, IsStore}
-use Rattle.mbuf_chain.specs.Inside.Cells.{weigh, one, len_at, cells_from, IsWhole, last_of}
+use Rattle.mbuf_pool.specs.Store.{StoreView, is_out, mbuf_head, IsStore}
+use Rattle.mbuf_chain.specs.Inside.Cells.{weigh, one, len_at, cells_from, LeadsToEnd, last_of}
 use Rattle.mbuf_chain.proofs.Lists.{walk_on, walk_end, few_cells, bytes_bound}
 use Rattle.mbuf_chain.proofs.Joins.{weigh-append}
 
@@ -34,19 +34,20 @@ ones_drop (suc n) (x ∷ xs) le = omega (arith, ones_drop n xs (omega arith))
 
 -- an mbuf on the way, and what stands after it
 pub record OnWay (s : StoreView) (l : List ℕ) (i at : ℕ) : Type 0 where
-  pub here : drop (i - 1) l ≡ at ∷ cells_from s (head_of s at).next
-  pub after : cells_from s (head_of s at).next ≡ drop i l
-  pub whole : IsWhole s (head_of s at).next
+  pub here : drop (i - 1) l ≡ at ∷ cells_from s (mbuf_head s at).next
+  pub after : cells_from s (mbuf_head s at).next ≡ drop i l
+  pub whole : LeadsToEnd s (mbuf_head s at).next
 
-pub on_way : (s : StoreView) (l : List ℕ) (i at : ℕ) → 1 ≤ i → IsWhole s (Some at)
+pub on_way : (s : StoreView) (l : List ℕ) (i at : ℕ) → 1 ≤ i → LeadsToEnd s (Some at)
     → cells_from s (Some at) ≡ drop (i - 1) l → OnWay s l i at
 on_way s l i at some whole rest =
     let w = walk_on s (Some at) at refl whole in
-    let here : drop (i - 1) l ≡ at ∷ cells_from s (head_of s at).next = sym rest ∙ w.cells in
+    let here : drop (i - 1) l ≡ at ∷ cells_from s (mbuf_head s at).next = sym rest ∙ w.cells in
     let same : suc (i - 1) ≡ i = omega arith in
     record { here = here; after = sym (drop_more (i - 1) at l _ here) ∙ ap (λ (n : ℕ). drop n l) same; whole = w.whole }
 
-pub has_next : (s : StoreView) (l : List ℕ) (i at : ℕ) (h : Head) → OnWay s l i at → h ≡ head_of s at → i < weigh one l
+pub has_next : (s : StoreView) (l : List ℕ) (i at : ℕ) (h : Head) → OnWay s l i at → h ≡ mbuf_head s at
+    → i < weigh one l
     → IsSome h.next
 has_next s l i at h w e lt = go h.next refl
   where
@@ -56,24 +57,24 @@ has_next s l i at h w e lt = go h.next refl
         absurd (omega (
           arith,
           ones_drop i l (omega arith),
-          ap (weigh one) (sym w.after ∙ walk_end s (head_of s at).next (ap (λ (y : Head). y.next) (sym e) ∙ is)),
+          ap (weigh one) (sym w.after ∙ walk_end s (mbuf_head s at).next (ap (λ (y : Head). y.next) (sym e) ∙ is)),
         ))
 
 -- the next one
 pub record NextOn (s : StoreView) (l : List ℕ) (i next : ℕ) : Type 0 where
   pub out : is_out s next ≡ true
-  pub whole : IsWhole s (Some next)
+  pub whole : LeadsToEnd s (Some next)
   pub rest : cells_from s (Some next) ≡ drop i l
   pub sum : (g : ℕ → ℕ) → g next + weigh g (drop (i + 1) l) ≡ weigh g (drop i l)
 
-pub next_on : (s : StoreView) (l : List ℕ) (i at next : ℕ) (h : Head) → OnWay s l i at → h ≡ head_of s at
+pub next_on : (s : StoreView) (l : List ℕ) (i at next : ℕ) (h : Head) → OnWay s l i at → h ≡ mbuf_head s at
     → h.next ≡ Some next → NextOn s l i next
 next_on s l i at next h w e is =
-    let next_is : (head_of s at).next ≡ Some next = ap (λ (y : Head). y.next) (sym e) ∙ is in
-    let whole : IsWhole s (Some next) = subst (IsWhole s) next_is w.whole in
+    let next_is : (mbuf_head s at).next ≡ Some next = ap (λ (y : Head). y.next) (sym e) ∙ is in
+    let whole : LeadsToEnd s (Some next) = subst (LeadsToEnd s) next_is w.whole in
     let rest : cells_from s (Some next) ≡ drop i l = ap (cells_from s) (sym next_is) ∙ w.after in
     let step = walk_on s (Some next) next refl whole in
-    let more : drop (suc i) l ≡ cells_from s (head_of s next).next = drop_more i next l _ (sym rest ∙ step.cells) in
+    let more : drop (suc i) l ≡ cells_from s (mbuf_head s next).next = drop_more i next l _ (sym rest ∙ step.cells) in
     let same : suc i ≡ i + 1 = omega arith in
     record {
       out = step.out;
@@ -88,7 +89,7 @@ next_on s l i at next h w e is =
           );
     }
 
-pub all_bytes : (s : StoreView) (first : ℕ) → IsWhole s (Some first) → IsStore s
+pub all_bytes : (s : StoreView) (first : ℕ) → LeadsToEnd s (Some first) → IsStore s
     → weigh (len_at s) (cells_from s (Some first)) ≤ 134215680
 all_bytes s first whole store =
     omega (arith, bytes_bound s (Some first) (cells_from s (Some first)) whole, few_cells s (Some first), store.mbufs)

@@ -2,11 +2,11 @@
 use Rattle.std.proofs.Common.{◌≡◌, ◌≢◌, ℕ, zero, suc, ◌+◌, ◌<◌, ◌≤◌, List, [], ◌∷◌, length, Option, Some, None, refl, sym, ap, ◌∙◌, arith, slice_get, slice_index}
 use Rattle.std.specs.Option.{IfSome}
 use Rattle.mbuf_pool.specs.Cells.{IsLink}
-use Rattle.mbuf_pool.specs.Store.{StoreView, head_of, is_out}
+use Rattle.mbuf_pool.specs.Store.{StoreView, mbuf_head, is_out}
 use Rattle.mbuf_chain.specs.declared.place.Place.{Place}
 use Rattle.mbuf_chain.specs.Chain.{ChainView, chain_of, IsLive, IsPlace}
 use Rattle.mbuf_chain.specs.Inside.Cells.{pool_of, IsPool, weigh, is_at, read_chain}
-use Rattle.mbuf_chain.specs.Owners.{times}
+use Rattle.mbuf_chain.specs.Owners.{times_among}
 use Rattle.mbuf_chain.specs.Frames.{Fits, IsBounded}
 use Rattle.mbuf_chain.proofs.Lists.{few_out, out_below, small}
 use Rattle.mbuf_chain.proofs.Changes.{held_is}
@@ -25,7 +25,7 @@ get_index (x ∷ xs) (suc i) h = get_index xs i (omega arith)
 fits : (s : StoreView) (c : ℕ) (at : Place) → IsPool s → IsLive (pool_of s) c → IsPlace (chain_of (pool_of s) c) at
     → Fits (pool_of s) (chain_of (pool_of s) c) at.index
 fits s c at ok live place =
-    let r = rooms_at s c at (head_of s at.cell) ok live place refl in
+    let r = rooms_at s c at (mbuf_head s at.cell) ok live place refl in
     record {
       low = omega (arith, r.low, r.low_is, r.start);
       high = omega (arith, r.high, r.high_is, r.start, r.len);
@@ -33,21 +33,21 @@ fits s c at ok live place =
     }
 
 -- how often a number stands in a list of mbufs
-times_weigh : (k : ℕ) (l : List ℕ) → times k l ≡ weigh (is_at k) l
+times_weigh : (k : ℕ) (l : List ℕ) → times_among k l ≡ weigh (is_at k) l
 times_weigh k [] = refl
 times_weigh k (x ∷ xs) = ap (λ (n : ℕ). is_at k x + n) (times_weigh k xs)
 
 times_cells : (s : StoreView) (k : ℕ) (l : List ℕ) (v : ChainView) → read_chain s l ≡ v
-    → times k v.cells ≡ weigh (is_at k) l
-times_cells s k l v shows = ap (λ (w : ChainView). times k w.cells) (sym shows) ∙ times_weigh k l
+    → times_among k v.cells ≡ weigh (is_at k) l
+times_cells s k l v shows = ap (λ (w : ChainView). times_among k w.cells) (sym shows) ∙ times_weigh k l
 
-once : (s : StoreView) (c k : ℕ) → IsPool s → IsLive (pool_of s) c → times k (chain_of (pool_of s) c).cells ≤ 1
+once : (s : StoreView) (c k : ℕ) → IsPool s → IsLive (pool_of s) c → times_among k (chain_of (pool_of s) c).cells ≤ 1
 once s c k ok live =
     let o = open_on s c ok live in
     omega (arith, once_in s c o.at k, times_cells s k o.at.cells (chain_of (pool_of s) c) o.at.shows)
 
 apart : (s : StoreView) (c d k : ℕ) → IsPool s → IsLive (pool_of s) c → IsLive (pool_of s) d → c ≢ d
-    → times k (chain_of (pool_of s) c).cells + times k (chain_of (pool_of s) d).cells ≤ 1
+    → times_among k (chain_of (pool_of s) c).cells + times_among k (chain_of (pool_of s) d).cells ≤ 1
 apart s c d k ok live_c live_d ne =
     let two = open_two s c d ok live_c live_d ne in
     omega (

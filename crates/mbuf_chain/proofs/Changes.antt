@@ -9,9 +9,9 @@ use Rattle.std.proofs.lemmas.Bool.{cases_lt}
 use Rattle.std.proofs.lemmas.List.{get_or_past}
 use Rattle.std.proofs.lemmas.List.Sums.{sum_by-cons}
 use Rattle.mbuf_pool.specs.Cells.{Head}
-use Rattle.mbuf_pool.specs.Store.{StoreView, MbufView, mbuf_of, head_of, cluster_of, is_out, mbufs_out, count_of, IsStore}
+use Rattle.mbuf_pool.specs.Store.{StoreView, MbufView, mbuf_of, mbuf_head, cluster_of, is_out, mbufs_out, cluster_count, IsStore}
 use Rattle.mbuf_chain.specs.Chain.{ChainView, mbufs_of, references_of, refers}
-use Rattle.mbuf_chain.specs.Inside.Cells.{weigh, weigh_all, is_at, one, place_bytes, entry_from, entry_at, front_of, refers_at, first_of, read_chain, cells_from, is_pointed, chain_at, view_of, IsLinked, IsFollower, AllFollow, IsChain, IsTotal, IsSound, IsFit, len_at, out_at}
+use Rattle.mbuf_chain.specs.Inside.Cells.{weigh, weigh_all, is_at, one, place_bytes, entry_from, entry_at, front_of, refers_at, first_of, read_chain, cells_from, is_pointed, chain_at, view_of, IsLinked, IsFollower, AllFollow, IsChain, IsTotal, AreSoundChains, IsFit, len_at, out_at}
 use Rattle.mbuf_chain.proofs.Maps.{same, get-tabulate, total_is, total-insert, total-empty}
 use Rattle.mbuf_chain.proofs.Lists.{chains_of, get-chains_of, chain_is, find_chain, Found, heads_at, heads-tails, split_first, is_at_same, not_first, small}
 
@@ -25,22 +25,22 @@ get-view_of s q =
     ]
 
 -- the pool shows the chains of the lists
-pub view_is : (s : StoreView) (lists : List (List ℕ)) → IsSound s lists → view_of s ≡ chains_of s lists
+pub view_is : (s : StoreView) (lists : List (List ℕ)) → AreSoundChains s lists → view_of s ≡ chains_of s lists
 view_is s lists ok = same _ _ (λ q. get-view_of s q ∙ chain_is s lists ok q ∙ sym (get-chains_of s lists q))
 
 -- ---- one chain brought to the front
 pub record Focus (s : StoreView) (lists : List (List ℕ)) (c : ℕ) (v : ChainView) : Type 0 where
   pub found : Found s c v lists
-  pub sound : IsSound s (found.cells ∷ found.rest)
+  pub sound : AreSoundChains s (found.cells ∷ found.rest)
   pub fresh : finmap.get (chains_of s found.rest) c ≡ None
   pub map_is : view_of s ≡ finmap.insert (chains_of s found.rest) c v
 
-pub focus : (s : StoreView) (lists : List (List ℕ)) (c : ℕ) (v : ChainView) → IsSound s lists
+pub focus : (s : StoreView) (lists : List (List ℕ)) (c : ℕ) (v : ChainView) → AreSoundChains s lists
     → finmap.get (view_of s) c ≡ Some v → Focus s lists c v
 focus s lists c v ok is =
     let found = find_chain s c v lists (sym (chain_is s lists ok c) ∙ sym (get-view_of s c) ∙ is) in
     let parts = found.chains ok.linked in
-    let sound : IsSound s (found.cells ∷ found.rest) = record {
+    let sound : AreSoundChains s (found.cells ∷ found.rest) = record {
       linked = parts;
       once = λ k. sym (found.weight (is_at k)) ∙ ok.once k;
       total = sym (found.weight one) ∙ ok.total;
@@ -69,31 +69,31 @@ focus s lists c v ok is =
 
 -- ---- chains that a step leaves alone
 pub record SameCell (s t : StoreView) (k : ℕ) : Type 0 where
-  pub head : head_of t k ≡ head_of s k
+  pub head : mbuf_head t k ≡ mbuf_head s k
   pub entry : entry_at t k ≡ entry_at s k
   pub out : is_out t k ≡ is_out s k
 
 -- an mbuf that is as it was, with its cluster's bytes, shows the same
 pub same_cell : (s t : StoreView) (k : ℕ) → mbuf_of t k ≡ mbuf_of s k → is_out t k ≡ is_out s k
-    → ((c : ℕ) → (head_of s k).cluster ≡ Some c → (cluster_of t c).bytes ≡ (cluster_of s c).bytes) → SameCell s t k
+    → ((c : ℕ) → (mbuf_head s k).cluster ≡ Some c → (cluster_of t c).bytes ≡ (cluster_of s c).bytes) → SameCell s t k
 same_cell s t k e out d =
-    let head : head_of t k ≡ head_of s k = ap (λ (m : MbufView). m.head) e in
+    let head : mbuf_head t k ≡ mbuf_head s k = ap (λ (m : MbufView). m.head) e in
     record {
       head = head;
-      entry = ap (entry_from t k) head ∙ go (head_of s k) (head_of s k).cluster refl;
+      entry = ap (entry_from t k) head ∙ go (mbuf_head s k) (mbuf_head s k).cluster refl;
       out = out;
     }
   where
-    bytes : (o : Option ℕ) → (head_of s k).cluster ≡ o → place_bytes t k o ≡ place_bytes s k o
+    bytes : (o : Option ℕ) → (mbuf_head s k).cluster ≡ o → place_bytes t k o ≡ place_bytes s k o
     bytes None is = ap (λ (m : MbufView). m.bytes) e
     bytes (Some c) is = d c is
 
-    go : (h : Head) (o : Option ℕ) → h.cluster ≡ o → entry_from t k (head_of s k) ≡ entry_from s k (head_of s k)
+    go : (h : Head) (o : Option ℕ) → h.cluster ≡ o → entry_from t k (mbuf_head s k) ≡ entry_from s k (mbuf_head s k)
     go h o is =
         λ i. record {
-          bytes = take (head_of s k).len (drop (head_of s k).start (bytes (head_of s k).cluster refl i));
-          start = (head_of s k).start;
-          cluster = (head_of s k).cluster;
+          bytes = take (mbuf_head s k).len (drop (mbuf_head s k).start (bytes (mbuf_head s k).cluster refl i));
+          start = (mbuf_head s k).start;
+          cluster = (mbuf_head s k).cluster;
         }
 
 pub record SameList (s t : StoreView) (l : List ℕ) : Type 0 where
@@ -121,10 +121,10 @@ links_kept s t at (x ∷ xs) kept h =
       here.out ∙ h.1,
       subst IsFit (sym here.head) h.2,
       subst (λ (y : Head). IsLinked t y.next xs) (sym here.head)
-          (links_kept s t (head_of s x).next xs (λ k p. kept k (omega (arith, p))) h.3),
+          (links_kept s t (mbuf_head s x).next xs (λ k p. kept k (omega (arith, p))) h.3),
     )
 
-pub follow_kept : (s t : StoreView) (l : List ℕ) → ((k : ℕ) → 0 < weigh (is_at k) l → head_of t k ≡ head_of s k)
+pub follow_kept : (s t : StoreView) (l : List ℕ) → ((k : ℕ) → 0 < weigh (is_at k) l → mbuf_head t k ≡ mbuf_head s k)
     → AllFollow s l → AllFollow t l
 follow_kept s t [] kept h = h
 follow_kept s t (x ∷ xs) kept h = (
@@ -190,16 +190,16 @@ pub record Step (s t : StoreView) (before after rest : List (List ℕ)) : Type 0
   pub linked : AllByRecursion (IsChain t) after
   pub once : (k : ℕ) → weigh_all (is_at k) after + out_at s k ≡ weigh_all (is_at k) before + out_at t k
   pub total : weigh_all one after + mbufs_out s ≡ weigh_all one before + mbufs_out t
-  pub counted : (c : ℕ) → count_of t c + weigh_all (refers_at s c) before
-      ≡ count_of s c + weigh_all (refers_at t c) after
+  pub counted : (c : ℕ) → cluster_count t c + weigh_all (refers_at s c) before
+      ≡ cluster_count s c + weigh_all (refers_at t c) after
   pub store : IsStore t
 
 pub record Stepped (s t : StoreView) (after rest : List (List ℕ)) : Type 0 where
-  pub sound : IsSound t (after ++ rest)
+  pub sound : AreSoundChains t (after ++ rest)
   pub map_is : chains_of t rest ≡ chains_of s rest
   pub totals : AllByRecursion (IsTotal s) rest → AllByRecursion (IsTotal t) rest
 
-pub step : (s t : StoreView) (before after rest : List (List ℕ)) → IsSound s (before ++ rest)
+pub step : (s t : StoreView) (before after rest : List (List ℕ)) → AreSoundChains s (before ++ rest)
     → Step s t before after rest → Stepped s t after rest
 step s t before after rest ok to =
     let kept = all_kept s t rest to.kept (later_linked s before rest ok.linked) in
@@ -258,17 +258,18 @@ sums s f g each (l ∷ ls) linked once =
     ∙ total-insert f (chains_of s ls) c (read_chain s l) (get-chains_of s ls c ∙ not_first s c ls alone)
     ∙ (λ i. each l i + (total_is f (chains_of s ls) ∙ below) i)
 
-once_at_most : (s : StoreView) (lists : List (List ℕ)) → IsSound s lists → (k : ℕ) → weigh_all (is_at k) lists ≤ 1
+once_at_most : (s : StoreView) (lists : List (List ℕ)) → AreSoundChains s lists → (k : ℕ)
+    → weigh_all (is_at k) lists ≤ 1
 once_at_most s lists ok k = omega (arith, ok.once k, small (is_out s k))
 
-pub held_is : (s : StoreView) (lists : List (List ℕ)) → IsSound s lists
+pub held_is : (s : StoreView) (lists : List (List ℕ)) → AreSoundChains s lists
     → sum_by mbufs_of (finmap.values (view_of s)) ≡ mbufs_out s
 held_is s lists ok =
     ap (λ (m : FinMap nat_cmp ChainView). sum_by mbufs_of (finmap.values m)) (view_is s lists ok)
     ∙ sums s mbufs_of one (count_ones s) lists ok.linked (once_at_most s lists ok) ∙ ok.total
 
-pub references_is : (s : StoreView) (lists : List (List ℕ)) → IsSound s lists → (c : ℕ)
-    → sum_by (references_of c) (finmap.values (view_of s)) ≡ count_of s c
+pub references_is : (s : StoreView) (lists : List (List ℕ)) → AreSoundChains s lists → (c : ℕ)
+    → sum_by (references_of c) (finmap.values (view_of s)) ≡ cluster_count s c
 references_is s lists ok c =
     ap (λ (m : FinMap nat_cmp ChainView). sum_by (references_of c) (finmap.values m)) (view_is s lists ok)
     ∙ sums s (references_of c) (refers_at s c) (count_entries s c) lists ok.linked (once_at_most s lists ok)

@@ -6,10 +6,10 @@ use Rattle.std.specs.Ordering.{nat_cmp}
 use Rattle.std.specs.Option.{IsSome}
 use Rattle.std.proofs.lemmas.Option.{none-some, same_Some}
 use Rattle.mbuf_pool.specs.Cells.{Head, PacketHeader}
-use Rattle.mbuf_pool.specs.Store.{StoreView, is_out, head_of, SetsHead, IsStore}
+use Rattle.mbuf_pool.specs.Store.{StoreView, is_out, mbuf_head, SetsHead, IsStore}
 use Rattle.mbuf_chain.specs.Chain.{ChainView, alone, chain_of, IsLive, with_chain, Adds}
 use Rattle.mbuf_chain.specs.Steps.{first_part, second_part}
-use Rattle.mbuf_chain.specs.Inside.Cells.{weigh, weigh_all, is_at, one, len_at, entry_at, front_of, arrival_of, packet_len, total_of, refers_at, first_of, read_chain, cells_from, view_of, IsLinked, IsFollower, AllFollow, IsChain, IsOff, IsFit, pool_of, IsPool, last_of}
+use Rattle.mbuf_chain.specs.Inside.Cells.{weigh, weigh_all, is_at, one, len_at, entry_at, front_of, arrival_of, packet_len, packet_total, refers_at, first_of, read_chain, cells_from, view_of, IsLinked, IsFollower, AllFollow, IsChain, IsOff, IsFit, pool_of, IsPool, last_of}
 use Rattle.mbuf_chain.proofs.Maps.{get_there, one_to_two}
 use Rattle.mbuf_chain.proofs.Lists.{is_at_same, chains_of, get-chains_of, heads_at, heads-tails, not_first, bytes_bound, few_out}
 use Rattle.mbuf_chain.proofs.Changes.{SameCell, step, view_is, links_kept}
@@ -42,10 +42,10 @@ first_take (suc n) (x ∷ xs) lt = refl
 -- ---- links
 cut_links : (s t : StoreView) (x : ℕ) → Relinked s t x None → (at : Option ℕ) (y : ℕ) (ys m : List ℕ)
     → IsLinked s at ((y ∷ ys) ++ m) → last_of (y ∷ ys) ≡ x → ((k : ℕ) → weigh (is_at k) (y ∷ ys) ≤ 1)
-    → IsLinked t at (y ∷ ys) × IsLinked s (head_of s x).next m
+    → IsLinked t at (y ∷ ys) × IsLinked s (mbuf_head s x).next m
 cut_links s t x r at y [] m h last once = (
-  (h.0, (r.likes y).out ∙ h.1, (r.likes y).fit h.2, ap (λ (j : ℕ). (head_of t j).next) last ∙ r.next_is),
-  subst (λ (j : ℕ). IsLinked s (head_of s j).next m) last h.3,
+  (h.0, (r.likes y).out ∙ h.1, (r.likes y).fit h.2, ap (λ (j : ℕ). (mbuf_head t j).next) last ∙ r.next_is),
+  subst (λ (j : ℕ). IsLinked s (mbuf_head s j).next m) last h.3,
 )
 cut_links s t x r at y (z ∷ zs) m h last once =
     let apart : y ≢ x =
@@ -57,7 +57,7 @@ cut_links s t x r at y (z ∷ zs) m h last once =
       ap (is_at x) e,
       is_at_same x,
     )) in
-    let below = cut_links s t x r (head_of s y).next z zs m h.3 last (λ k. omega (arith, once k)) in (
+    let below = cut_links s t x r (mbuf_head s y).next z zs m h.3 last (λ k. omega (arith, once k)) in (
       (
         h.0,
         (r.likes y).out ∙ h.1,
@@ -77,11 +77,11 @@ pub record Parts (s t : StoreView) (a b : ℕ) (l m : List ℕ) : Type 0 where
   pub back : IsChain t m
   pub front_first : first_of l ≡ a
   pub back_first : first_of m ≡ b
-  pub bare : IsFollower (head_of s b)
+  pub bare : IsFollower (mbuf_head s b)
 
 parts : (s t : StoreView) (x a b : ℕ) → Relinked s t x None → (l m : List ℕ) → IsChain s (l ++ m)
     → IsLinked s (Some a) (l ++ m) → last_of l ≡ x → 0 < weigh one l → 0 < weigh one m
-    → ((k : ℕ) → weigh (is_at k) l + weigh (is_at k) m ≤ 1) → (head_of s x).next ≡ Some b → Parts s t a b l m
+    → ((k : ℕ) → weigh (is_at k) l + weigh (is_at k) m ≤ 1) → (mbuf_head s x).next ≡ Some b → Parts s t a b l m
 parts s t x a b r [] m chain linked last some some' once next = absurd (omega arith)
 parts s t x a b r (y ∷ ys) [] chain linked last some some' once next = absurd (omega arith)
 parts s t x a b r (y ∷ ys) (z ∷ zs) chain linked last some some' once next =
@@ -104,7 +104,7 @@ parts s t x a b r (y ∷ ys) (z ∷ zs) chain linked last some some' once next =
       back = (after, follow_like s t r.likes zs follows.1.1);
       front_first = sym (same_Some a y linked.0);
       back_first = sym first;
-      bare = subst (λ (j : ℕ). IsFollower (head_of s j)) (sym first) follows.1.0;
+      bare = subst (λ (j : ℕ). IsFollower (mbuf_head s j)) (sym first) follows.1.0;
     }
 
 -- ---- a chain cut in two
@@ -120,9 +120,9 @@ bare_front h f = λ i. record { header = is_some (f.packet i); after = f.after i
 
 pub cut_made : {s t : StoreView} (a : ℕ) {b keep x kept whole : ℕ} → IsPool s → IsLive (pool_of s) a → 0 < keep
     → keep < length (chain_of (pool_of s) a).entries → x ≡ last_of (take keep (cells_from s (Some a)))
-    → kept ≡ weigh (len_at s) (take keep (cells_from s (Some a))) → whole ≡ packet_len (head_of s a)
-    → (head_of s x).next ≡ Some b → is_out s x ≡ true → IsFit (head_of s x)
-    → SetsHead s t x (record (head_of s x) { next = None }) → IsStore t → IsCut s t a b keep kept whole
+    → kept ≡ weigh (len_at s) (take keep (cells_from s (Some a))) → whole ≡ packet_len (mbuf_head s a)
+    → (mbuf_head s x).next ≡ Some b → is_out s x ≡ true → IsFit (mbuf_head s x)
+    → SetsHead s t x (record (mbuf_head s x) { next = None }) → IsStore t → IsCut s t a b keep kept whole
 cut_made {s} {t} a {b} {keep} {x} {kept} {whole} pool live some within x_is kept_is whole_is next out fit sets store =
     let o = open_on s a pool live in
     let f = o.at in
@@ -165,14 +165,16 @@ cut_made {s} {t} a {b} {keep} {x} {kept} {whole} pool live some within x_is kept
     let shown_front : read_chain t (take keep f.cells) ≡ first_part keep (chain_of (pool_of s) a) =
     (λ i. record {
       front =
-          (ap (λ (j : ℕ). front_of (head_of t j)) (first_take keep f.cells some) ∙ (r.likes (first_of f.cells)).front) i;
+          (ap (λ (j : ℕ). front_of (mbuf_head t j)) (first_take keep f.cells some) ∙ (r.likes (first_of f.cells)).front)
+          i;
       entries = (entries_like s t r.likes (take keep f.cells) ∙ map_take (entry_at s) keep f.cells) i;
       cells = take keep f.cells;
     }) ∙ ap (first_part keep) f.shows in
     let shown_back : read_chain t (drop keep f.cells) ≡ second_part keep (chain_of (pool_of s) a) =
     (λ i. record {
       front =
-          (ap (λ (j : ℕ). front_of (head_of t j)) p.back_first ∙ (r.likes b).front ∙ bare_front (head_of s b) p.bare) i;
+          (ap (λ (j : ℕ). front_of (mbuf_head t j)) p.back_first ∙ (r.likes b).front
+          ∙ bare_front (mbuf_head s b) p.bare) i;
       entries = (entries_like s t r.likes (drop keep f.cells) ∙ map_drop (entry_at s) keep f.cells) i;
       cells = drop keep f.cells;
     }) ∙ ap (second_part keep) f.shows in
@@ -204,8 +206,8 @@ cut_made {s} {t} a {b} {keep} {x} {kept} {whole} pool live some within x_is kept
           (finmap.insert q a (first_part keep (chain_of (pool_of s) a))) b
           (second_part keep (chain_of (pool_of s) a))) (sym f.map_is)) j;
     } in
-    let first_is : (head_of t (first_of (take keep f.cells))).packet ≡ (head_of s a).packet =
-    ap (λ (j : ℕ). (head_of t j).packet) p.front_first ∙ (r.likes a).packet in
+    let first_is : (mbuf_head t (first_of (take keep f.cells))).packet ≡ (mbuf_head s a).packet =
+    ap (λ (j : ℕ). (mbuf_head t j).packet) p.front_first ∙ (r.likes a).packet in
     record {
       off = (
         take keep f.cells ∷ drop keep f.cells ∷ f.rest,
@@ -214,7 +216,7 @@ cut_made {s} {t} a {b} {keep} {x} {kept} {whole} pool live some within x_is kept
           λ packet is. omega (
             arith,
             whole_is,
-            ap total_of (sym first_is ∙ is),
+            ap packet_total (sym first_is ∙ is),
             kept_is,
             ap (λ (cs : List ℕ). weigh (len_at s) (take keep cs)) f.walks,
             lens_like s t r.likes (take keep f.cells),
@@ -223,7 +225,8 @@ cut_made {s} {t} a {b} {keep} {x} {kept} {whole} pool live some within x_is kept
           ),
           (
             (λ packet is. absurd (none-some packet
-                (sym p.bare.packet ∙ sym (ap (λ (j : ℕ). (head_of t j).packet) p.back_first ∙ (r.likes b).packet) ∙ is))),
+                (sym p.bare.packet ∙ sym (ap (λ (j : ℕ). (mbuf_head t j).packet) p.back_first ∙ (r.likes b).packet)
+                ∙ is))),
             rest_by t a kept whole f.rest (alone_first s a f) (went.totals o.totals.1),
           ),
         ),
@@ -231,7 +234,7 @@ cut_made {s} {t} a {b} {keep} {x} {kept} {whole} pool live some within x_is kept
       live =
           live_with _ _ b (second_part keep (chain_of (pool_of s) a)) a map_is
           (live_here (pool_of s) a (first_part keep (chain_of (pool_of s) a)));
-      few = omega (arith, whole_is, bounded o (head_of s a).packet refl);
+      few = omega (arith, whole_is, bounded o (mbuf_head s a).packet refl);
       adds = record {
         fresh = get_there (view_of s) a (first_part keep (chain_of (pool_of s) a)) b (λ e. ne (sym e))
             ∙ ap (λ (q : FinMap nat_cmp ChainView). finmap.get q b) f.map_is
@@ -245,12 +248,12 @@ cut_made {s} {t} a {b} {keep} {x} {kept} {whole} pool live some within x_is kept
     last_inside [] e lt = absurd (omega arith)
     last_inside (y ∷ ys) e lt = subst (λ (j : ℕ). 0 < weigh (is_at j) (y ∷ ys)) e (last_in y ys)
 
-    bounded : Opened s a → (p : Option PacketHeader) → (head_of s a).packet ≡ p → total_of p ≤ 134215680
+    bounded : Opened s a → (p : Option PacketHeader) → (mbuf_head s a).packet ≡ p → packet_total p ≤ 134215680
     bounded o None is = omega arith
     bounded o (Some packet) is =
         omega (
           arith,
-          o.totals.0 packet (ap (λ (j : ℕ). (head_of s j).packet) o.at.first ∙ is),
+          o.totals.0 packet (ap (λ (j : ℕ). (mbuf_head s j).packet) o.at.first ∙ is),
           bytes_bound s (Some a) o.at.cells o.at.linked,
           o.at.sound.total,
           few_out s,
@@ -260,8 +263,8 @@ cut_made {s} {t} a {b} {keep} {x} {kept} {whole} pool live some within x_is kept
 -- the mbuf before the cut
 pub record CutPlace (s : StoreView) (x : ℕ) : Type 0 where
   pub out : is_out s x ≡ true
-  pub fit : IsFit (head_of s x)
-  pub some : (h : Head) → h ≡ head_of s x → IsSome h.next
+  pub fit : IsFit (mbuf_head s x)
+  pub some : (h : Head) → h ≡ mbuf_head s x → IsSome h.next
 
 pub cut_place : {s : StoreView} (a : ℕ) {keep x : ℕ} → IsPool s → IsLive (pool_of s) a → 0 < keep
     → keep < length (chain_of (pool_of s) a).entries → x ≡ last_of (take keep (cells_from s (Some a))) → CutPlace s x
@@ -284,8 +287,9 @@ cut_place {s} a {keep} {x} pool live some within x_is =
           out = h.1;
           fit = h.2;
           some =
-              λ g is. subst (λ (w : Head). IsSome w.next) (sym is) (next_some (head_of s y).next ys h.3 (omega arith));
+              λ g is. subst (λ (w : Head). IsSome w.next) (sym is)
+              (next_some (mbuf_head s y).next ys h.3 (omega arith));
         })
     go at (suc (suc n)) (y ∷ []) h lt pos e = absurd (omega arith)
     go at (suc (suc n)) (y ∷ z ∷ zs) h lt pos e =
-        go (head_of s y).next (suc n) (z ∷ zs) h.3 (omega arith) (omega arith) e
+        go (mbuf_head s y).next (suc n) (z ∷ zs) h.3 (omega arith) (omega arith) e

@@ -2,11 +2,11 @@
 use Rattle.std.proofs.Common.{◌≡◌, ℕ, ◌+◌, ◌≤◌, Bool, List, length, None, refl, sym, ap, ◌∙◌, subst, arith, take, drop}
 use Rattle.std.proofs.lemmas.Option.{none-some}
 use Rattle.mbuf_pool.specs.Cells.{Head, over}
-use Rattle.mbuf_pool.specs.Store.{StoreView, mbuf_of, head_of, IsStore}
+use Rattle.mbuf_pool.specs.Store.{StoreView, mbuf_of, mbuf_head, IsStore}
 use Rattle.mbuf_chain.specs.declared.place.Place.{Place}
 use Rattle.mbuf_chain.specs.Chain.{Entry, ChainView, chain_of, entry_of, IsLive, IsPlace, IsUnshared, with_chain, Adds}
 use Rattle.mbuf_chain.specs.Steps.{one_mbuf, with_entry}
-use Rattle.mbuf_chain.specs.Inside.Cells.{place_bytes, entry_over, pool_of, IsPool, Taken, head_for, start_of, room_low, room_high, WritesPlace}
+use Rattle.mbuf_chain.specs.Inside.Cells.{place_bytes, entry_over, pool_of, IsPool, Taken, only_head, start_of, head_room_low, room_high, WritesPlace}
 use Rattle.mbuf_chain.proofs.Made.{new_plain, plain_made, low_for}
 use Rattle.mbuf_chain.proofs.Bytes.{run_written}
 use Rattle.mbuf_chain.proofs.Laws.Owners.{live_adds, shown_adds}
@@ -22,18 +22,18 @@ pub record Blank (s t : StoreView) (i : ℕ) (header : Bool) (start : ℕ) (ws :
   pub live : IsLive (pool_of t) i
   pub place : IsPlace (chain_of (pool_of t) i) (only i)
   pub unshared : IsUnshared (pool_of t) (entry_of (chain_of (pool_of t) i) 0)
-  pub cluster : None ≡ (head_of t i).cluster
-  pub low : room_low (head_of t i) ≤ start
-  pub high : start + length ws ≤ room_high (head_of t i)
+  pub cluster : None ≡ (mbuf_head t i).cluster
+  pub low : head_room_low (mbuf_head t i) ≤ start
+  pub high : start + length ws ≤ room_high (mbuf_head t i)
   pub done : (u : StoreView) → WritesPlace t u i (only i) start ws
       → Adds (pool_of s) (pool_of u) i (one_mbuf header (record { bytes = ws; start = start; cluster = None }) i)
 
 pub blank : (s t : StoreView) (i : ℕ) (header : Bool) (start : ℕ) (ws : List ℕ) → IsPool s
-    → Taken s t i (head_for header start (length ws) None) → IsStore t → start_of header ≤ start
+    → Taken s t i (only_head header start (length ws) None) → IsStore t → start_of header ≤ start
     → start + length ws ≤ 128 → Blank s t i header start ws
 blank s t i header start ws pool got store low high =
     let m = plain_made s t i header start (length ws) pool got store low high in
-    let n = new_plain s t i (head_for header start (length ws) None) got refl store in
+    let n = new_plain s t i (only_head header start (length ws) None) got refl store in
     let old : Entry =
     record { bytes = take (length ws) (drop start (mbuf_of t i).bytes); start = start; cluster = None } in
     let shows = new_entry (pool_of s) (pool_of t) i 0 header old m.adds refl in
@@ -46,7 +46,7 @@ blank s t i header start ws pool got store low high =
           (record { within = omega arith; cell = refl });
       unshared = λ c is. absurd (none-some c (ap (λ (e : Entry). e.cluster) (sym shows) ∙ is));
       cluster = ap (λ (h : Head). h.cluster) (sym n.head);
-      low = omega (arith, low, ap room_low n.head, low_for header start (length ws));
+      low = omega (arith, low, ap head_room_low n.head, low_for header start (length ws));
       high = omega (arith, high, ap room_high n.head);
       done =
           λ u w. filled (pool_of s) (pool_of t) (pool_of u) i 0 header old
@@ -55,7 +55,7 @@ blank s t i header start ws pool got store low high =
           (written n.head long));
     }
   where
-    written : head_of t i ≡ head_for header start (length ws) None → length (mbuf_of t i).bytes ≡ 128
+    written : mbuf_head t i ≡ only_head header start (length ws) None → length (mbuf_of t i).bytes ≡ 128
         → entry_over t i start ws ≡ record { bytes = ws; start = start; cluster = None }
     written e long =
         ap (λ (h : Head). record {

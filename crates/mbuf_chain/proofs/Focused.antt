@@ -3,10 +3,10 @@ use Rattle.std.proofs.Common.{◌≡◌, ℕ, zero, suc, ◌+◌, ◌<◌, ◌�
 use Rattle.std.specs.FinMap as finmap
 use Rattle.std.specs.List.{AllByRecursion}
 use Rattle.std.proofs.lemmas.Option.{get_or_from_slice_get, same_Some}
-use Rattle.mbuf_pool.specs.Store.{StoreView, head_of, is_out}
+use Rattle.mbuf_pool.specs.Store.{StoreView, mbuf_head, is_out}
 use Rattle.mbuf_chain.specs.declared.place.Place.{Place}
 use Rattle.mbuf_chain.specs.Chain.{ChainView, chain_of, IsLive, entry_of, no_entry, IsPlace}
-use Rattle.mbuf_chain.specs.Inside.Cells.{weigh, weigh_all, is_at, one, entry_at, refers_at, first_of, read_chain, cells_from, view_of, IsLinked, IsChain, IsTotal, IsTotalBy, IsOff, IsSound, IsFit, pool_of, IsPool, IsFreeable, IsWhole}
+use Rattle.mbuf_chain.specs.Inside.Cells.{weigh, weigh_all, is_at, one, entry_at, refers_at, first_of, read_chain, cells_from, view_of, IsLinked, IsChain, IsTotal, IsTotalBy, IsOff, AreSoundChains, IsFit, pool_of, IsPool, IsFreeable, LeadsToEnd}
 use Rattle.std.proofs.lemmas.Bool.{cases_eq, cases_lt}
 use Rattle.mbuf_chain.proofs.Lists.{chains_of, walk_is, is_at_same, is_at_other, small, bit, few_out}
 use Rattle.mbuf_chain.proofs.Changes.{Focus, focus, count_ones}
@@ -15,7 +15,7 @@ use Rattle.mbuf_chain.proofs.Changes.{Focus, focus, count_ones}
 pub record Focused (s : StoreView) (c : ℕ) : Type 0 where
   pub cells : List ℕ
   pub rest : List (List ℕ)
-  pub sound : IsSound s (cells ∷ rest)
+  pub sound : AreSoundChains s (cells ∷ rest)
   pub chain : IsChain s cells
   pub linked : IsLinked s (Some c) cells
   pub walks : cells_from s (Some c) ≡ cells
@@ -74,7 +74,7 @@ freeable s c f = record {
   counted = λ q. omega (arith, ap (weigh (refers_at s q)) f.walks, f.sound.counted q);
 }
 
-pub whole_of : (s : StoreView) (c : ℕ) → Focused s c → IsWhole s (Some c)
+pub whole_of : (s : StoreView) (c : ℕ) → Focused s c → LeadsToEnd s (Some c)
 whole_of s c f = subst (IsLinked s (Some c)) (sym f.walks) f.linked
 
 pub once_in : (s : StoreView) (c : ℕ) → (f : Focused s c) → (k : ℕ)
@@ -94,10 +94,10 @@ entry_in s (x ∷ xs) zero h = refl
 entry_in s (x ∷ xs) (suc i) h = entry_in s xs i (omega arith)
 
 pub fit_in : (s : StoreView) (at : Option ℕ) (l : List ℕ) (i : ℕ) → IsLinked s at l → i < weigh one l
-    → IsFit (head_of s (slice_index l i))
+    → IsFit (mbuf_head s (slice_index l i))
 fit_in s at [] i h lt = absurd (omega arith)
 fit_in s at (x ∷ xs) zero h lt = h.2
-fit_in s at (x ∷ xs) (suc i) h lt = fit_in s (head_of s x).next xs i h.3 (omega arith)
+fit_in s at (x ∷ xs) (suc i) h lt = fit_in s (mbuf_head s x).next xs i h.3 (omega arith)
 
 -- what is known of the mbuf at a place of a live chain
 pub record Entered (s : StoreView) (c : ℕ) (f : Focused s c) (i x : ℕ) : Type 0 where
@@ -106,7 +106,7 @@ pub record Entered (s : StoreView) (c : ℕ) (f : Focused s c) (i x : ℕ) : Typ
   pub inside : 0 < weigh (is_at x) f.cells
   pub out : is_out s x ≡ true
   pub shows : entry_of (chain_of (pool_of s) c) i ≡ entry_at s x
-  pub fit : IsFit (head_of s x)
+  pub fit : IsFit (mbuf_head s x)
 
 pub count_cells : (s : StoreView) (c : ℕ) → (f : Focused s c)
     → length (chain_of (pool_of s) c).entries ≡ weigh one f.cells
@@ -129,7 +129,7 @@ enter s c at f is =
       shows =
           ap (λ (v : ChainView). entry_of v at.index) (sym f.shows) ∙ entry_in s f.cells at.index below
           ∙ ap (entry_at s) cell;
-      fit = subst (λ (j : ℕ). IsFit (head_of s j)) cell (fit_in s (Some c) f.cells at.index f.linked below);
+      fit = subst (λ (j : ℕ). IsFit (mbuf_head s j)) cell (fit_in s (Some c) f.cells at.index f.linked below);
     }
 
 -- the first mbuf is handed out

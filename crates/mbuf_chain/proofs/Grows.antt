@@ -2,11 +2,11 @@
 use Rattle.std.proofs.Common.{◌≡◌, ℕ, zero, suc, Bool, true, false, [], ◌∷◌, slice_index, ◌+◌, ◌-◌, ◌<◌, ◌≤◌, cond, List, length, Option, None, Some, is_some, refl, sym, ap, ◌∙◌, subst, arith, inl, inr}
 use Rattle.std.proofs.lemmas.Bool.{cases_eq, eq-eqb, ne_eqb}
 use Rattle.mbuf_pool.specs.Cells.{Head, PacketHeader}
-use Rattle.mbuf_pool.specs.Store.{StoreView, head_of, is_out}
+use Rattle.mbuf_pool.specs.Store.{StoreView, mbuf_head, is_out}
 use Rattle.mbuf_chain.specs.declared.place.Place.{Place}
 use Rattle.mbuf_chain.specs.Chain.{Entry, chain_of, IsLive, IsPlace, with_chain, entry_of, room_start, room_end, leading_space, trailing_space}
 use Rattle.mbuf_chain.specs.Steps.{with_entry, with_front, with_back}
-use Rattle.mbuf_chain.specs.Inside.Cells.{weigh, one, entry_from, IsFollower, AllFollow, IsChain, pool_of, IsPool, room_low, room_high, with_segment, WritesPlace}
+use Rattle.mbuf_chain.specs.Inside.Cells.{weigh, one, entry_from, IsFollower, AllFollow, IsChain, pool_of, IsPool, head_room_low, room_high, with_segment, WritesPlace}
 use Rattle.mbuf_chain.proofs.Focused.{open_on, enter}
 use Rattle.mbuf_chain.proofs.Heads.{shown_at}
 use Rattle.mbuf_chain.proofs.Places.{header_is}
@@ -19,12 +19,12 @@ most (Some d) = omega arith
 -- ---- after
 pub record FitsAfter (s : StoreView) (at : Place) (h : Head) (n : ℕ) : Type 0 where
   pub out : is_out s at.cell ≡ true
-  pub low : room_low (head_of s at.cell) ≤ h.start + h.len
-  pub high : h.start + h.len + n ≤ room_high (head_of s at.cell)
-  pub small : room_high (head_of s at.cell) ≤ 2048
+  pub low : head_room_low (mbuf_head s at.cell) ≤ h.start + h.len
+  pub high : h.start + h.len + n ≤ room_high (mbuf_head s at.cell)
+  pub small : room_high (mbuf_head s at.cell) ≤ 2048
 
 pub fits_after : {s : StoreView} (c : ℕ) {n : ℕ} {at : Place} {h : Head} → IsPool s → IsLive (pool_of s) c
-    → IsPlace (chain_of (pool_of s) c) at → h ≡ head_of s at.cell
+    → IsPlace (chain_of (pool_of s) c) at → h ≡ mbuf_head s at.cell
     → (entry_of (chain_of (pool_of s) c) at.index).start + length (entry_of (chain_of (pool_of s) c) at.index).bytes + n
     ≤ room_end (entry_of (chain_of (pool_of s) c) at.index) → FitsAfter s at h n
 fits_after {s} c {n} {at} {h} pool live place e fits =
@@ -42,22 +42,22 @@ fits_after {s} c {n} {at} {h} pool live place e fits =
             ap (λ (y : Head). y.start) e,
             ap (λ (y : Head). y.len) e,
           );
-      small = most (head_of s at.cell).cluster;
+      small = most (mbuf_head s at.cell).cluster;
     }
 
 pub record ReadyAfter (s t : StoreView) (c n : ℕ) (at : Place) (h : Head) (ws : List ℕ) : Type 0 where
   pub live : IsLive (pool_of t) c
   pub place : IsPlace (chain_of (pool_of t) c) at
-  pub low : room_low (head_of t at.cell) ≤ h.start
-  pub high : h.start + (h.len + n) ≤ room_high (head_of t at.cell)
+  pub low : head_room_low (mbuf_head t at.cell) ≤ h.start
+  pub high : h.start + (h.len + n) ≤ room_high (mbuf_head t at.cell)
   pub done : (u : StoreView) → pool_of u
       ≡ with_chain (pool_of t) c (with_entry (chain_of (pool_of t) c) at.index
-      (entry_from t at.cell (with_segment (head_of t at.cell) h.start (h.len + n))))
+      (entry_from t at.cell (with_segment (mbuf_head t at.cell) h.start (h.len + n))))
       → pool_of u ≡ with_chain (pool_of s) c
       (with_entry (chain_of (pool_of s) c) at.index (with_back (entry_of (chain_of (pool_of s) c) at.index) ws))
 
 pub ready_after : {s t : StoreView} (c : ℕ) {n : ℕ} {at : Place} {h : Head} {ws : List ℕ} → IsPool s
-    → IsLive (pool_of s) c → IsPlace (chain_of (pool_of s) c) at → h ≡ head_of s at.cell
+    → IsLive (pool_of s) c → IsPlace (chain_of (pool_of s) c) at → h ≡ mbuf_head s at.cell
     → (entry_of (chain_of (pool_of s) c) at.index).start + length (entry_of (chain_of (pool_of s) c) at.index).bytes + n
     ≤ room_end (entry_of (chain_of (pool_of s) c) at.index) → n ≡ length ws
     → WritesPlace s t c at (h.start + h.len) ws → ReadyAfter s t c n at h ws
@@ -66,17 +66,17 @@ ready_after {s} {t} c {n} {at} {h} {ws} pool live place e fits count w =
     (go (subst (λ (y : Head). WritesPlace s t c at (y.start + y.len) ws) e w)
     (fits_after c pool live place refl fits))
   where
-    go : WritesPlace s t c at ((head_of s at.cell).start + (head_of s at.cell).len) ws
-        → FitsAfter s at (head_of s at.cell) n → ReadyAfter s t c n at (head_of s at.cell) ws
+    go : WritesPlace s t c at ((mbuf_head s at.cell).start + (mbuf_head s at.cell).len) ws
+        → FitsAfter s at (mbuf_head s at.cell) n → ReadyAfter s t c n at (mbuf_head s at.cell) ws
     go w' f =
         let k = shown_at s c at pool live place in
         let g =
-        grown s t c ((head_of s at.cell).start + (head_of s at.cell).len) ws at pool live place w'
+        grown s t c ((mbuf_head s at.cell).start + (mbuf_head s at.cell).len) ws at pool live place w'
         (omega (arith, f.high, count)) (inl (omega arith)) in
         record {
           live = g.live;
           place = g.place;
-          low = omega (arith, ap room_low g.head, k.fit.low);
+          low = omega (arith, ap head_room_low g.head, k.fit.low);
           high = omega (arith, ap room_high g.head, f.high);
           done =
               λ u change. grown_is s t u c at _ _ g.same change
@@ -86,35 +86,37 @@ ready_after {s} {t} c {n} {at} {h} {ws} pool live place e fits count w =
 -- ---- in front
 -- the room of an mbuf, as a caller sees it
 follows : (s : StoreView) (l : List ℕ) (i : ℕ) → IsChain s l → 0 < i → i < weigh one l
-    → IsFollower (head_of s (slice_index l i))
+    → IsFollower (mbuf_head s (slice_index l i))
 follows s l i h lt within = go l i h lt within
   where
-    inside : (xs : List ℕ) (j : ℕ) → AllFollow s xs → j < weigh one xs → IsFollower (head_of s (slice_index xs j))
+    inside : (xs : List ℕ) (j : ℕ) → AllFollow s xs → j < weigh one xs → IsFollower (mbuf_head s (slice_index xs j))
     inside [] j g q = absurd (omega arith)
     inside (x ∷ xs) zero g q = g.0
     inside (x ∷ xs) (suc j) g q = inside xs j g.1 (omega arith)
 
-    go : (xs : List ℕ) (j : ℕ) → IsChain s xs → 0 < j → j < weigh one xs → IsFollower (head_of s (slice_index xs j))
+    go : (xs : List ℕ) (j : ℕ) → IsChain s xs → 0 < j → j < weigh one xs → IsFollower (mbuf_head s (slice_index xs j))
     go [] j g p q = absurd g
     go (x ∷ xs) zero g p q = absurd (omega arith)
     go (x ∷ xs) (suc j) g p q = inside xs j g.1 (omega arith)
 
 pub low_seen : (s : StoreView) (c : ℕ) (at : Place) → IsPool s → IsLive (pool_of s) c
-    → IsPlace (chain_of (pool_of s) c) at → room_low (head_of s at.cell) ≡ room_start (chain_of (pool_of s) c) at.index
+    → IsPlace (chain_of (pool_of s) c) at
+    → head_room_low (mbuf_head s at.cell) ≡ room_start (chain_of (pool_of s) c) at.index
 low_seen s c at pool live place =
     let k = shown_at s c at pool live place in
     let o = open_on s c pool live in
     let e = enter s c at o.at place in
-    ap (λ (y : Entry). cond {A = ℕ} (is_some y.cluster) 0 (cond (is_some (head_of s at.cell).packet) 28 20))
+    ap (λ (y : Entry). cond {A = ℕ} (is_some y.cluster) 0 (cond (is_some (mbuf_head s at.cell).packet) 28 20))
     (sym k.entry)
     ∙ ap (cond (is_some (entry_of (chain_of (pool_of s) c) at.index).cluster) 0) (elim (cases_eq at.index 0) [
       | inl zero_is ↦ ap (λ (b : Bool). cond {A = ℕ} b 28 20)
-          (ap (λ (j : ℕ). is_some (head_of s j).packet) (sym e.cell ∙ ap (slice_index o.at.cells) zero_is ∙ o.at.first)
+          (ap (λ (j : ℕ). is_some (mbuf_head s j).packet)
+          (sym e.cell ∙ ap (slice_index o.at.cells) zero_is ∙ o.at.first)
           ∙ header_is s c pool live)
           ∙ sym (ap (λ (b : Bool). cond (chain_of (pool_of s) c).front.header (cond {A = ℕ} b 28 20) 20)
           (eq-eqb at.index 0 zero_is))
       | inr ne ↦ ap (λ (p : Option PacketHeader). cond {A = ℕ} (is_some p) 28 20)
-          (subst (λ (j : ℕ). (head_of s j).packet ≡ None) e.cell
+          (subst (λ (j : ℕ). (mbuf_head s j).packet ≡ None) e.cell
           (follows s o.at.cells at.index o.at.chain (omega arith) e.below).packet)
           ∙ sym (ap (λ (b : Bool). cond (chain_of (pool_of s) c).front.header (cond {A = ℕ} b 28 20) 20)
           (ne_eqb at.index 0 ne) ∙ both (chain_of (pool_of s) c).front.header)
@@ -127,13 +129,13 @@ low_seen s c at pool live place =
 pub record FitsBefore (s : StoreView) (at : Place) (h : Head) (n : ℕ) : Type 0 where
   pub out : is_out s at.cell ≡ true
   pub less : n ≤ h.start
-  pub low : room_low (head_of s at.cell) ≤ h.start - n
-  pub high : h.start - n + n ≤ room_high (head_of s at.cell)
+  pub low : head_room_low (mbuf_head s at.cell) ≤ h.start - n
+  pub high : h.start - n + n ≤ room_high (mbuf_head s at.cell)
   pub few : n ≤ 2048
   pub most : h.len + n ≤ 4096
 
 pub fits_before : (s : StoreView) (c n : ℕ) (at : Place) (h : Head) → IsPool s → IsLive (pool_of s) c
-    → IsPlace (chain_of (pool_of s) c) at → h ≡ head_of s at.cell
+    → IsPlace (chain_of (pool_of s) c) at → h ≡ mbuf_head s at.cell
     → room_start (chain_of (pool_of s) c) at.index + n ≤ (entry_of (chain_of (pool_of s) c) at.index).start
     → FitsBefore s at h n
 fits_before s c n at h pool live place e fits =
@@ -144,13 +146,13 @@ fits_before s c n at h pool live place e fits =
       less = omega (arith, fits, ap (λ (y : Entry). y.start) k.entry, ap (λ (y : Head). y.start) e);
       low = omega (arith, fits, low, ap (λ (y : Entry). y.start) k.entry, ap (λ (y : Head). y.start) e);
       high = omega (arith, fits, k.fit.high, ap (λ (y : Entry). y.start) k.entry, ap (λ (y : Head). y.start) e);
-      few = omega (arith, fits, k.fit.high, most (head_of s at.cell).cluster, ap (λ (y : Entry). y.start) k.entry);
+      few = omega (arith, fits, k.fit.high, most (mbuf_head s at.cell).cluster, ap (λ (y : Entry). y.start) k.entry);
       most =
           omega (
             arith,
             fits,
             k.fit.high,
-            most (head_of s at.cell).cluster,
+            most (mbuf_head s at.cell).cluster,
             ap (λ (y : Entry). y.start) k.entry,
             ap (λ (y : Head). y.len) e,
           );
@@ -159,38 +161,38 @@ fits_before s c n at h pool live place e fits =
 pub record ReadyBefore (s t : StoreView) (c n : ℕ) (at : Place) (h : Head) (ws : List ℕ) : Type 0 where
   pub live : IsLive (pool_of t) c
   pub place : IsPlace (chain_of (pool_of t) c) at
-  pub low : room_low (head_of t at.cell) ≤ h.start - n
-  pub high : h.start - n + (h.len + n) ≤ room_high (head_of t at.cell)
+  pub low : head_room_low (mbuf_head t at.cell) ≤ h.start - n
+  pub high : h.start - n + (h.len + n) ≤ room_high (mbuf_head t at.cell)
   pub done : (u : StoreView) → pool_of u
       ≡ with_chain (pool_of t) c (with_entry (chain_of (pool_of t) c) at.index
-      (entry_from t at.cell (with_segment (head_of t at.cell) (h.start - n) (h.len + n))))
+      (entry_from t at.cell (with_segment (mbuf_head t at.cell) (h.start - n) (h.len + n))))
       → pool_of u ≡ with_chain (pool_of s) c
       (with_entry (chain_of (pool_of s) c) at.index (with_front (entry_of (chain_of (pool_of s) c) at.index) ws))
 
 pub ready_before : (s t : StoreView) (c n : ℕ) (at : Place) (h : Head) (ws : List ℕ) → IsPool s → IsLive (pool_of s) c
-    → IsPlace (chain_of (pool_of s) c) at → h ≡ head_of s at.cell
+    → IsPlace (chain_of (pool_of s) c) at → h ≡ mbuf_head s at.cell
     → room_start (chain_of (pool_of s) c) at.index + n ≤ (entry_of (chain_of (pool_of s) c) at.index).start
     → n ≡ length ws → WritesPlace s t c at (h.start - n) ws → ReadyBefore s t c n at h ws
 ready_before s t c n at h ws pool live place e fits count w =
     subst (λ (y : Head). ReadyBefore s t c n at y ws) (sym e)
     (go (subst (λ (y : Head). WritesPlace s t c at (y.start - n) ws) e w)
-    (fits_before s c n at (head_of s at.cell) pool live place refl fits))
+    (fits_before s c n at (mbuf_head s at.cell) pool live place refl fits))
   where
-    go : WritesPlace s t c at ((head_of s at.cell).start - n) ws → FitsBefore s at (head_of s at.cell) n
-        → ReadyBefore s t c n at (head_of s at.cell) ws
+    go : WritesPlace s t c at ((mbuf_head s at.cell).start - n) ws → FitsBefore s at (mbuf_head s at.cell) n
+        → ReadyBefore s t c n at (mbuf_head s at.cell) ws
     go w' f =
         let k = shown_at s c at pool live place in
         let g =
-        grown s t c ((head_of s at.cell).start - n) ws at pool live place w' (omega (arith, f.high, count))
+        grown s t c ((mbuf_head s at.cell).start - n) ws at pool live place w' (omega (arith, f.high, count))
         (inr (omega (arith, f.less, count))) in
         record {
           live = g.live;
           place = g.place;
-          low = omega (arith, ap room_low g.head, f.low);
+          low = omega (arith, ap head_room_low g.head, f.low);
           high = omega (arith, ap room_high g.head, k.fit.high, f.less);
           done =
               λ u change. grown_is s t u c at _ _ g.same change
-              (grown_front s t c n ((head_of s at.cell).start - n) ws at k w' count (omega (arith, f.less, count)));
+              (grown_front s t c n ((mbuf_head s at.cell).start - n) ws at k w' count (omega (arith, f.less, count)));
         }
 
 -- ---- rooms told
@@ -199,13 +201,13 @@ pub record Rooms (s : StoreView) (c : ℕ) (at : Place) (h : Head) : Type 0 wher
   pub start : h.start ≡ (entry_of (chain_of (pool_of s) c) at.index).start
   pub len : h.len ≡ length (entry_of (chain_of (pool_of s) c) at.index).bytes
   pub cluster : h.cluster ≡ (entry_of (chain_of (pool_of s) c) at.index).cluster
-  pub low : room_low h ≤ h.start
-  pub low_is : room_low h ≡ room_start (chain_of (pool_of s) c) at.index
+  pub low : head_room_low h ≤ h.start
+  pub low_is : head_room_low h ≡ room_start (chain_of (pool_of s) c) at.index
   pub high : h.start + h.len ≤ room_high h
   pub high_is : room_high h ≡ room_end (entry_of (chain_of (pool_of s) c) at.index)
 
 pub rooms_at : (s : StoreView) (c : ℕ) (at : Place) (h : Head) → IsPool s → IsLive (pool_of s) c
-    → IsPlace (chain_of (pool_of s) c) at → h ≡ head_of s at.cell → Rooms s c at h
+    → IsPlace (chain_of (pool_of s) c) at → h ≡ mbuf_head s at.cell → Rooms s c at h
 rooms_at s c at h pool live place e =
     let k = shown_at s c at pool live place in
     record {
@@ -213,8 +215,8 @@ rooms_at s c at h pool live place e =
       start = ap (λ (y : Head). y.start) e ∙ ap (λ (y : Entry). y.start) (sym k.entry);
       len = ap (λ (y : Head). y.len) e ∙ k.long;
       cluster = ap (λ (y : Head). y.cluster) e ∙ ap (λ (y : Entry). y.cluster) (sym k.entry);
-      low = subst (λ (y : Head). room_low y ≤ y.start) (sym e) k.fit.low;
-      low_is = ap room_low e ∙ low_seen s c at pool live place;
+      low = subst (λ (y : Head). head_room_low y ≤ y.start) (sym e) k.fit.low;
+      low_is = ap head_room_low e ∙ low_seen s c at pool live place;
       high = subst (λ (y : Head). y.start + y.len ≤ room_high y) (sym e) k.fit.high;
       high_is = ap room_high e ∙ high_seen s c at k;
     }
@@ -241,7 +243,7 @@ pub record FrontElse (s : StoreView) (c : ℕ) (at : Place) (h : Head) (d : ℕ)
 pub front_else : (s : StoreView) (c d : ℕ) (at : Place) (h : Head) → Rooms s c at h → is_some h.cluster ≡ false
     → d ≡ cond {A = ℕ} (is_some h.packet) 28 20 → FrontElse s c at h d
 front_else s c d at h r none is =
-    let low : room_low h ≡ d = ap (λ (z : Bool). cond {A = ℕ} z 0 (cond (is_some h.packet) 28 20)) none ∙ sym is in
+    let low : head_room_low h ≡ d = ap (λ (z : Bool). cond {A = ℕ} z 0 (cond (is_some h.packet) 28 20)) none ∙ sym is in
     record {
       less = omega (arith, r.low, low);
       told = record {

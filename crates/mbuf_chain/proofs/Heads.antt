@@ -5,11 +5,11 @@ use Rattle.std.proofs.lemmas.Bool.{cases_eq}
 use Rattle.std.proofs.lemmas.Option.{none-some, same_Some}
 use Rattle.std.proofs.lemmas.List.{length-set}
 use Rattle.mbuf_pool.specs.Cells.{Head, PacketHeader, head_size, over, with_packet_len}
-use Rattle.mbuf_pool.specs.Store.{StoreView, MbufView, is_out, mbuf_of, head_of, with_mbuf, SetsHead, IsStore}
+use Rattle.mbuf_pool.specs.Store.{StoreView, MbufView, is_out, mbuf_of, mbuf_head, with_mbuf, SetsHead, IsStore}
 use Rattle.mbuf_chain.specs.declared.place.Place.{Place}
 use Rattle.mbuf_chain.specs.Chain.{Entry, ChainView, PoolView, chain_of, IsLive, with_chain, entry_of, IsPlace}
 use Rattle.mbuf_chain.specs.Steps.{with_entry, narrowed}
-use Rattle.mbuf_chain.specs.Inside.Cells.{weigh, is_at, one, len_at, place_bytes, entry_from, entry_at, front_of, arrival_of, refers_at, IsLinked, IsFollower, IsTotal, IsOff, IsFit, pool_of, IsPool, room_low, room_high, with_segment}
+use Rattle.mbuf_chain.specs.Inside.Cells.{weigh, is_at, one, len_at, place_bytes, entry_from, entry_at, front_of, arrival_of, refers_at, IsLinked, IsFollower, IsTotal, IsOff, IsFit, pool_of, IsPool, head_room_low, room_high, with_segment}
 use Rattle.mbuf_chain.proofs.Maps.{insert_same}
 use Rattle.mbuf_chain.proofs.Lists.{bit, on, out_below}
 use Rattle.mbuf_chain.proofs.Changes.{SameCell, same_cell}
@@ -22,7 +22,7 @@ use Rattle.mbuf_chain.proofs.Laws.Steps.{live_shown}
 -- ---- a head of a store
 pub record HeadSet (s t : StoreView) (x : ℕ) (h : Head) : Type 0 where
   pub outs : SameOuts s t
-  pub head : head_of t x ≡ h
+  pub head : mbuf_head t x ≡ h
   pub out : is_out t x ≡ true
   pub others : (k : ℕ) → k ≢ x → SameCell s t k
   pub entry : IsFit h → entry_at t x ≡ entry_from s x h
@@ -43,7 +43,7 @@ same_outs s x m out =
     }
 
 -- the bytes that a fitting head shows lie after it
-pub low_is : (h : Head) → h.cluster ≡ None → head_size h ≡ room_low h
+pub low_is : (h : Head) → h.cluster ≡ None → head_size h ≡ head_room_low h
 low_is h none =
     ap (λ (o : Option ℕ). cond {A = ℕ} (is_some o) 32 (cond (is_some h.packet) 28 20)) none
     ∙ sym (ap (λ (o : Option ℕ). cond {A = ℕ} (is_some o) 0 (cond (is_some h.packet) 28 20)) none)
@@ -112,13 +112,13 @@ head_set s t x h out store (b, long, is) =
 -- ---- a head of a live chain
 pub record Reheaded (s t : StoreView) (c i x : ℕ) (h : Head) (f : Focused s c) : Type 0 where
   pub change : Changed s t c i x f
-  pub head : head_of t x ≡ h
+  pub head : mbuf_head t x ≡ h
   pub entry : entry_at t x ≡ entry_from s x h
-  pub others : (k : ℕ) → k ≢ x → head_of t k ≡ head_of s k
+  pub others : (k : ℕ) → k ≢ x → mbuf_head t k ≡ mbuf_head s k
 
 pub rehead : (s t : StoreView) (c i x : ℕ) (h : Head) → (f : Focused s c) → Entered s c f i x → SetsHead s t x h
-    → IsStore t → h.next ≡ (head_of s x).next → h.cluster ≡ (head_of s x).cluster → IsFit h
-    → (0 < i → IsFollower (head_of s x) → IsFollower h)
+    → IsStore t → h.next ≡ (mbuf_head s x).next → h.cluster ≡ (mbuf_head s x).cluster → IsFit h
+    → (0 < i → IsFollower (mbuf_head s x) → IsFollower h)
     → Reheaded s t c i x h f
 rehead s t c i x h f e sets store next cluster fit follow =
     let set = head_set s t x h e.out f.sound.store sets in
@@ -146,10 +146,11 @@ enter_first s c f =
       inside = inside;
       out = first_out s c f;
       shows =
-          ap (λ (v : ChainView). entry_of v 0) (sym f.shows) ∙ Rattle.mbuf_chain.proofs.Focused.entry_in s f.cells 0 some
+          ap (λ (v : ChainView). entry_of v 0) (sym f.shows)
+          ∙ Rattle.mbuf_chain.proofs.Focused.entry_in s f.cells 0 some
           ∙ ap (entry_at s) f.first;
       fit =
-          subst (λ (j : ℕ). IsFit (head_of s j)) f.first
+          subst (λ (j : ℕ). IsFit (mbuf_head s j)) f.first
           (Rattle.mbuf_chain.proofs.Focused.fit_in s (Some c) f.cells 0 f.linked some);
     }
 
@@ -175,7 +176,7 @@ with_total h added removed packet =
 -- what is known where it is off
 pub record Totalled (s : StoreView) (c added removed : ℕ) : Type 0 where
   pub out : is_out s c ≡ true
-  pub fits : (packet : PacketHeader) → (head_of s c).packet ≡ Some packet
+  pub fits : (packet : PacketHeader) → (mbuf_head s c).packet ≡ Some packet
       → (packet.len + added ≤ 134215680 + removed) × (removed ≤ packet.len + added)
 
 pub total_known : (s : StoreView) (c added removed : ℕ) → IsOff s c added removed → IsLive (pool_of s) c
@@ -185,7 +186,7 @@ total_known s c added removed off live =
     record {
       out = first_out s c o.at;
       fits = λ packet is.
-          let sum = o.totals.0 packet (ap (λ (j : ℕ). (head_of s j).packet) o.at.first ∙ is) in
+          let sum = o.totals.0 packet (ap (λ (j : ℕ). (mbuf_head s j).packet) o.at.first ∙ is) in
           let bound : weigh (len_at s) o.at.cells ≤ 134215680 =
           omega (
             arith,
@@ -200,13 +201,14 @@ total_known s c added removed off live =
     }
 
 pub total_right : (s : StoreView) (c added removed : ℕ) → IsOff s c added removed → IsLive (pool_of s) c
-    → (head_of s c).packet ≡ None → IsPool s
+    → (mbuf_head s c).packet ≡ None → IsPool s
 total_right s c added removed off live none =
     let o = open_off s c added removed off live in (
       o.at.cells ∷ o.at.rest,
       o.at.sound,
       (
-        λ packet is. absurd (none-some packet (sym none ∙ ap (λ (j : ℕ). (head_of s j).packet) (sym o.at.first) ∙ is)),
+        λ packet is. absurd (none-some packet
+            (sym none ∙ ap (λ (j : ℕ). (mbuf_head s j).packet) (sym o.at.first) ∙ is)),
         rest_right s c added removed o.at.rest (alone_first s c o.at) o.totals.1,
       ),
     )
@@ -216,29 +218,29 @@ pub record IsSet (s t : StoreView) : Type 0 where
   pub same : pool_of t ≡ pool_of s
 
 -- the packet length alone
-pub total_sets : (s t : StoreView) (c added removed : ℕ) (packet : PacketHeader) → (head_of s c).packet ≡ Some packet
-    → SetsHead s t c (with_packet_len (head_of s c) (packet.len + added - removed))
-    → SetsHead s t c (with_total (head_of s c) added removed packet)
+pub total_sets : (s t : StoreView) (c added removed : ℕ) (packet : PacketHeader) → (mbuf_head s c).packet ≡ Some packet
+    → SetsHead s t c (with_packet_len (mbuf_head s c) (packet.len + added - removed))
+    → SetsHead s t c (with_total (mbuf_head s c) added removed packet)
 total_sets s t c added removed packet is sets =
     subst (λ (h : Head). SetsHead s t c h)
-    (ap (λ (o : Option PacketHeader). record (head_of s c)
+    (ap (λ (o : Option PacketHeader). record (mbuf_head s c)
     { packet = option_map {T = PacketHeader} (λ p. record p { len = packet.len + added - removed }) o }) is) sets
 
 pub total_set : (s t : StoreView) (c added removed : ℕ) (packet : PacketHeader) → IsOff s c added removed
-    → IsLive (pool_of s) c → (head_of s c).packet ≡ Some packet
-    → SetsHead s t c (with_total (head_of s c) added removed packet) → IsStore t → IsSet s t
+    → IsLive (pool_of s) c → (mbuf_head s c).packet ≡ Some packet
+    → SetsHead s t c (with_total (mbuf_head s c) added removed packet) → IsStore t → IsSet s t
 total_set s t c added removed packet off live is sets store =
     let o = open_off s c added removed off live in
     let f = o.at in
     let e = enter_first s c o.at in
-    let h = with_total (head_of s c) added removed packet in
-    let low : room_low (with_total (head_of s c) added removed packet) ≡ room_low (head_of s c) =
-    ap (λ (p : Option PacketHeader). cond {A = ℕ} (is_some (head_of s c).cluster) 0 (cond (is_some p) 28 20)) (sym is)
+    let h = with_total (mbuf_head s c) added removed packet in
+    let low : head_room_low (with_total (mbuf_head s c) added removed packet) ≡ head_room_low (mbuf_head s c) =
+    ap (λ (p : Option PacketHeader). cond {A = ℕ} (is_some (mbuf_head s c).cluster) 0 (cond (is_some p) 28 20)) (sym is)
     in
-    let fit : IsFit (with_total (head_of s c) added removed packet) =
+    let fit : IsFit (with_total (mbuf_head s c) added removed packet) =
     record { low = omega (arith, low, e.fit.low); high = e.fit.high; kind = e.fit.kind } in
     let r = rehead s t c 0 c h o.at e sets store refl refl fit (λ lt. absurd (omega arith)) in
-    let front : front_of (head_of t c) ≡ front_of (head_of s c) = ap front_of r.head ∙ front_same is in
+    let front : front_of (mbuf_head t c) ≡ front_of (mbuf_head s c) = ap front_of r.head ∙ front_same is in
     record {
       pool = (
         f.cells ∷ f.rest,
@@ -246,11 +248,11 @@ total_set s t c added removed packet off live is sets store =
         (
           λ packet' is'.
               let here : Some (record { len = packet.len + added - removed; arrival = packet.arrival }) ≡ Some packet' =
-              ap (λ (y : Head). y.packet) (sym r.head) ∙ ap (λ (j : ℕ). (head_of t j).packet) (sym f.first) ∙ is' in
+              ap (λ (y : Head). y.packet) (sym r.head) ∙ ap (λ (j : ℕ). (mbuf_head t j).packet) (sym f.first) ∙ is' in
               omega (
                 arith,
                 ap (λ (q : PacketHeader). q.len) (same_Some _ _ here),
-                o.totals.0 packet (ap (λ (j : ℕ). (head_of s j).packet) f.first ∙ is),
+                o.totals.0 packet (ap (λ (j : ℕ). (mbuf_head s j).packet) f.first ∙ is),
                 off_here c added f.cells f.first,
                 off_here c removed f.cells f.first,
                 r.change.lens,
@@ -266,10 +268,10 @@ total_set s t c added removed packet off live is sets store =
           ∙ with_self (pool_of s) c live;
     }
   where
-    front_same : (head_of s c).packet ≡ Some packet
-        → record { header = true; after = (head_of s c).next_packet; tag = packet.arrival } ≡ front_of (head_of s c)
+    front_same : (mbuf_head s c).packet ≡ Some packet
+        → record { header = true; after = (mbuf_head s c).next_packet; tag = packet.arrival } ≡ front_of (mbuf_head s c)
     front_same e =
-        λ i. record { header = is_some (sym e i); after = (head_of s c).next_packet; tag = arrival_of (sym e i) }
+        λ i. record { header = is_some (sym e i); after = (mbuf_head s c).next_packet; tag = arrival_of (sym e i) }
 
     rest_kept : (f : Focused s c) → Changed s t c 0 c f → AllByRecursion (IsTotal s) f.rest
         → AllByRecursion (IsTotal t) f.rest
@@ -277,10 +279,10 @@ total_set s t c added removed packet off live is sets store =
 
 -- ---- an mbuf that shows fewer of its bytes
 pub place_long : (s : StoreView) (c i x : ℕ) → (f : Focused s c) → Entered s c f i x
-    → length (place_bytes s x (head_of s x).cluster) ≡ room_high (head_of s x)
-place_long s c i x f e = go (head_of s x).cluster refl
+    → length (place_bytes s x (mbuf_head s x).cluster) ≡ room_high (mbuf_head s x)
+place_long s c i x f e = go (mbuf_head s x).cluster refl
   where
-    go : (o : Option ℕ) → (head_of s x).cluster ≡ o → length (place_bytes s x o) ≡ cond {A = ℕ} (is_some o) 2048 128
+    go : (o : Option ℕ) → (mbuf_head s x).cluster ≡ o → length (place_bytes s x o) ≡ cond {A = ℕ} (is_some o) 2048 128
     go None is = f.sound.store.mbuf_bytes x e.out
     go (Some d) is =
         f.sound.store.cluster_bytes d (omega (
@@ -291,9 +293,9 @@ place_long s c i x f e = go (head_of s x).cluster refl
         ))
 
 pub entry_long : (s : StoreView) (c i x : ℕ) → (f : Focused s c) → Entered s c f i x
-    → length (entry_at s x).bytes ≡ (head_of s x).len
+    → length (entry_at s x).bytes ≡ (mbuf_head s x).len
 entry_long s c i x f e =
-    run_length (place_bytes s x (head_of s x).cluster) (head_of s x).start (head_of s x).len
+    run_length (place_bytes s x (mbuf_head s x).cluster) (mbuf_head s x).start (mbuf_head s x).len
     (omega (arith, place_long s c i x f e, e.fit.high))
 
 -- a head that shows other bytes of the same room: the entry that it shows, and a packet length that is off
@@ -303,25 +305,25 @@ pub record Resized (s t : StoreView) (c added removed i : ℕ) (e : Entry) : Typ
   pub map_is : pool_of t ≡ with_chain (pool_of s) c (with_entry (chain_of (pool_of s) c) i e)
 
 pub resized : (s t : StoreView) (c added removed start len : ℕ) (at : Place) → IsPool s → IsLive (pool_of s) c
-    → IsPlace (chain_of (pool_of s) c) at → SetsHead s t at.cell (with_segment (head_of s at.cell) start len)
+    → IsPlace (chain_of (pool_of s) c) at → SetsHead s t at.cell (with_segment (mbuf_head s at.cell) start len)
     → IsStore t
-    → room_low (head_of s at.cell) ≤ start → start + len ≤ room_high (head_of s at.cell)
-    → len + removed ≡ (head_of s at.cell).len + added
-    → Resized s t c added removed at.index (entry_from s at.cell (with_segment (head_of s at.cell) start len))
+    → head_room_low (mbuf_head s at.cell) ≤ start → start + len ≤ room_high (mbuf_head s at.cell)
+    → len + removed ≡ (mbuf_head s at.cell).len + added
+    → Resized s t c added removed at.index (entry_from s at.cell (with_segment (mbuf_head s at.cell) start len))
 resized s t c added removed start len at pool live place sets store low high lens =
     let o = open_on s c pool live in
     let e = enter s c at o.at place in
-    let h = with_segment (head_of s at.cell) start len in
+    let h = with_segment (mbuf_head s at.cell) start len in
     let r =
     rehead s t c at.index at.cell h o.at e sets store refl refl (record { low = low; high = high; kind = e.fit.kind })
     (λ _ was. record { packet = was.packet; after = was.after }) in
-    let same : (k : ℕ) → (head_of t k).packet ≡ (head_of s k).packet = λ k. elim (cases_eq k at.cell) [
-      | inl is ↦ subst (λ (j : ℕ). (head_of t j).packet ≡ (head_of s j).packet) (sym is)
+    let same : (k : ℕ) → (mbuf_head t k).packet ≡ (mbuf_head s k).packet = λ k. elim (cases_eq k at.cell) [
+      | inl is ↦ subst (λ (j : ℕ). (mbuf_head t j).packet ≡ (mbuf_head s j).packet) (sym is)
           (ap (λ (y : Head). y.packet) r.head)
       | inr ne ↦ ap (λ (y : Head). y.packet) (r.others k ne)
     ] in
-    let front : front_of (head_of t c) ≡ front_of (head_of s c) = elim (cases_eq c at.cell) [
-      | inl is ↦ subst (λ (j : ℕ). front_of (head_of t j) ≡ front_of (head_of s j)) (sym is) (ap front_of r.head)
+    let front : front_of (mbuf_head t c) ≡ front_of (mbuf_head s c) = elim (cases_eq c at.cell) [
+      | inl is ↦ subst (λ (j : ℕ). front_of (mbuf_head t j) ≡ front_of (mbuf_head s j)) (sym is) (ap front_of r.head)
       | inr ne ↦ ap front_of (r.others c ne)
     ] in
     let map_is =
@@ -338,10 +340,10 @@ resized s t c added removed start len at pool live place sets store low high len
 -- what is known of the mbuf at a place
 pub record Shown (s : StoreView) (c : ℕ) (at : Place) : Type 0 where
   pub out : is_out s at.cell ≡ true
-  pub fit : IsFit (head_of s at.cell)
-  pub small : (head_of s at.cell).start + (head_of s at.cell).len ≤ 2048
-  pub long : (head_of s at.cell).len ≡ length (entry_of (chain_of (pool_of s) c) at.index).bytes
-  pub place : length (place_bytes s at.cell (head_of s at.cell).cluster) ≡ room_high (head_of s at.cell)
+  pub fit : IsFit (mbuf_head s at.cell)
+  pub small : (mbuf_head s at.cell).start + (mbuf_head s at.cell).len ≤ 2048
+  pub long : (mbuf_head s at.cell).len ≡ length (entry_of (chain_of (pool_of s) c) at.index).bytes
+  pub place : length (place_bytes s at.cell (mbuf_head s at.cell).cluster) ≡ room_high (mbuf_head s at.cell)
   pub entry : entry_of (chain_of (pool_of s) c) at.index ≡ entry_at s at.cell
 
 pub shown_at : (s : StoreView) (c : ℕ) (at : Place) → IsPool s → IsLive (pool_of s) c
@@ -352,7 +354,7 @@ shown_at s c at pool live place =
     record {
       out = e.out;
       fit = e.fit;
-      small = omega (arith, e.fit.high, high_most (head_of s at.cell).cluster);
+      small = omega (arith, e.fit.high, high_most (mbuf_head s at.cell).cluster);
       long = sym (entry_long s c at.index at.cell o.at e) ∙ ap (λ (y : Entry). length y.bytes) (sym e.shows);
       place = place_long s c at.index at.cell o.at e;
       entry = e.shows;
@@ -363,14 +365,15 @@ shown_at s c at pool live place =
     high_most (Some d) = omega arith
 
 -- narrowed
-pub narrowed_is : (s : StoreView) (c skip keep : ℕ) (at : Place) → Shown s c at → skip + keep ≤ (head_of s at.cell).len
-    → entry_from s at.cell (with_segment (head_of s at.cell) ((head_of s at.cell).start + skip) keep)
+pub narrowed_is : (s : StoreView) (c skip keep : ℕ) (at : Place) → Shown s c at
+    → skip + keep ≤ (mbuf_head s at.cell).len
+    → entry_from s at.cell (with_segment (mbuf_head s at.cell) ((mbuf_head s at.cell).start + skip) keep)
     ≡ narrowed (entry_of (chain_of (pool_of s) c) at.index) skip keep
 narrowed_is s c skip keep at k within =
-    let h = head_of s at.cell in
+    let h = mbuf_head s at.cell in
     (λ i. record {
-      bytes = sym (run_inner (place_bytes s at.cell (head_of s at.cell).cluster) (head_of s at.cell).start
-          (head_of s at.cell).len skip keep (omega (arith, k.place, k.fit.high))
+      bytes = sym (run_inner (place_bytes s at.cell (mbuf_head s at.cell).cluster) (mbuf_head s at.cell).start
+          (mbuf_head s at.cell).len skip keep (omega (arith, k.place, k.fit.high))
           within) i;
       start = h.start + skip;
       cluster = h.cluster;
@@ -379,19 +382,19 @@ narrowed_is s c skip keep at k within =
 
 -- each mbuf of a live chain shows as many bytes as its head says
 pub cell_long : (s : StoreView) (c k : ℕ) → (f : Focused s c) → 0 < weigh (is_at k) f.cells
-    → length (entry_at s k).bytes ≡ (head_of s k).len
+    → length (entry_at s k).bytes ≡ (mbuf_head s k).len
 cell_long s c k f p =
-    run_length (place_bytes s k (head_of s k).cluster) (head_of s k).start (head_of s k).len
-    (omega (arith, long (head_of s k).cluster refl, (fit (Some c) f.cells f.linked p).high))
+    run_length (place_bytes s k (mbuf_head s k).cluster) (mbuf_head s k).start (mbuf_head s k).len
+    (omega (arith, long (mbuf_head s k).cluster refl, (fit (Some c) f.cells f.linked p).high))
   where
-    fit : (at : Option ℕ) (l : List ℕ) → IsLinked s at l → 0 < weigh (is_at k) l → IsFit (head_of s k)
+    fit : (at : Option ℕ) (l : List ℕ) → IsLinked s at l → 0 < weigh (is_at k) l → IsFit (mbuf_head s k)
     fit at [] h q = absurd (omega arith)
     fit at (x ∷ xs) h q = elim (cases_eq x k) [
-      | inl e ↦ subst (λ (j : ℕ). IsFit (head_of s j)) e h.2
-      | inr ne ↦ fit (head_of s x).next xs h.3 (omega (arith, Rattle.mbuf_chain.proofs.Lists.is_at_other k x ne))
+      | inl e ↦ subst (λ (j : ℕ). IsFit (mbuf_head s j)) e h.2
+      | inr ne ↦ fit (mbuf_head s x).next xs h.3 (omega (arith, Rattle.mbuf_chain.proofs.Lists.is_at_other k x ne))
     ]
 
-    long : (o : Option ℕ) → (head_of s k).cluster ≡ o → length (place_bytes s k o) ≡ cond {A = ℕ} (is_some o) 2048 128
+    long : (o : Option ℕ) → (mbuf_head s k).cluster ≡ o → length (place_bytes s k o) ≡ cond {A = ℕ} (is_some o) 2048 128
     long None is = f.sound.store.mbuf_bytes k (bit (is_out s k) (omega (arith, f.sound.once k, p)))
     long (Some d) is =
         f.sound.store.cluster_bytes d (omega (

@@ -9,12 +9,12 @@ use Rattle.std.proofs.lemmas.Bool.{cases_eq}
 use Rattle.std.proofs.lemmas.Option.{none-some, same_Some, get_or_from_slice_get}
 use Rattle.std.proofs.lemmas.List.{length-append, map-append}
 use Rattle.mbuf_pool.specs.Cells.{Head, PacketHeader}
-use Rattle.mbuf_pool.specs.Store.{StoreView, is_out, head_of, SetsHead, IsStore}
+use Rattle.mbuf_pool.specs.Store.{StoreView, is_out, mbuf_head, SetsHead, IsStore}
 use Rattle.mbuf_pool.proofs.Laws.{sets_head, sets_twice}
 use Rattle.mbuf_chain.specs.declared.place.Place.{Place}
 use Rattle.mbuf_chain.specs.Chain.{Front, ChainView, chain_of, IsLive, IsPlace, with_chain, without, string, flat_bytes, alone}
 use Rattle.mbuf_chain.specs.Steps.{headless, joined}
-use Rattle.mbuf_chain.specs.Inside.Cells.{weigh, weigh_all, is_at, one, len_at, entry_at, front_of, refers_at, first_of, read_chain, cells_from, view_of, IsLinked, IsFollower, AllFollow, IsChain, IsTotal, IsOff, IsSound, IsFit, pool_of, IsPool, out_at, Freed, last_of}
+use Rattle.mbuf_chain.specs.Inside.Cells.{weigh, weigh_all, is_at, one, len_at, entry_at, front_of, refers_at, first_of, read_chain, cells_from, view_of, IsLinked, IsFollower, AllFollow, IsChain, IsTotal, IsOff, AreSoundChains, IsFit, pool_of, IsPool, out_at, Freed, last_of}
 use Rattle.mbuf_chain.proofs.Maps.{get_there, remove-insert, two_to_one}
 use Rattle.mbuf_chain.proofs.Lists.{bit, on, off, small, is_at_same, chains_of, get-chains_of, heads_at, heads-tails, split_first, not_first, find_chain, few_out}
 use Rattle.mbuf_chain.proofs.Changes.{SameCell, same_cell, step, view_is, links_kept, count_ones}
@@ -29,7 +29,7 @@ pub bytes_are : (s : StoreView) (c : ℕ) → (f : Focused s c)
     → length (string (chain_of (pool_of s) c)) ≡ weigh (len_at s) f.cells
 bytes_are s c f = ap (λ (v : ChainView). length (string v)) (sym f.shows) ∙ go f.cells (λ k p. p)
   where
-    one_long : (k : ℕ) → 0 < weigh (is_at k) f.cells → length (entry_at s k).bytes ≡ (head_of s k).len
+    one_long : (k : ℕ) → 0 < weigh (is_at k) f.cells → length (entry_at s k).bytes ≡ (mbuf_head s k).len
     one_long k p = cell_long s c k f p
 
     go : (l : List ℕ) → ((k : ℕ) → 0 < weigh (is_at k) l → 0 < weigh (is_at k) f.cells)
@@ -44,10 +44,10 @@ bytes_are s c f = ap (λ (v : ChainView). length (string v)) (sym f.shows) ∙ g
         )
 
 pub total_is : (s : StoreView) (c : ℕ) (packet : PacketHeader) → IsPool s → IsLive (pool_of s) c
-    → (head_of s c).packet ≡ Some packet → packet.len ≡ length (string (chain_of (pool_of s) c))
+    → (mbuf_head s c).packet ≡ Some packet → packet.len ≡ length (string (chain_of (pool_of s) c))
 total_is s c packet pool live is =
     let o = open_on s c pool live in
-    o.totals.0 packet (ap (λ (j : ℕ). (head_of s j).packet) o.at.first ∙ is) ∙ sym (bytes_are s c o.at)
+    o.totals.0 packet (ap (λ (j : ℕ). (mbuf_head s j).packet) o.at.first ∙ is) ∙ sym (bytes_are s c o.at)
 
 pub sum_is : (s : StoreView) (c : ℕ) → IsPool s → IsLive (pool_of s) c
     → weigh (len_at s) (cells_from s (Some c)) ≡ length (string (chain_of (pool_of s) c))
@@ -98,30 +98,31 @@ bare h = record h { next_packet = None; packet = None }
 
 -- the packet header first, and then the link
 pub bared_twice : (s t u : StoreView) (c : ℕ) → IsPool s → IsLive (pool_of s) c
-    → SetsHead s t c (record (head_of s c) { packet = None })
-    → SetsHead t u c (record (head_of t c) { next_packet = None }) → SetsHead s u c (bare (head_of s c))
+    → SetsHead s t c (record (mbuf_head s c) { packet = None })
+    → SetsHead t u c (record (mbuf_head t c) { next_packet = None }) → SetsHead s u c (bare (mbuf_head s c))
 bared_twice s t u c pool live first later =
     let o = open_on s c pool live in
     let out = first_out s c o.at in
-    sets_twice s t u c (record (head_of s c) { packet = None }) (bare (head_of s c)) out o.at.sound.store (omega arith)
+    sets_twice s t u c (record (mbuf_head s c) { packet = None }) (bare (mbuf_head s c)) out o.at.sound.store
+    (omega arith)
     first
     (subst (λ (h : Head). SetsHead t u c (record h { next_packet = None }))
-    (sets_head s t c (record (head_of s c) { packet = None }) out first) later)
+    (sets_head s t c (record (mbuf_head s c) { packet = None }) out first) later)
 
 pub record Stripped (s t : StoreView) (c : ℕ) : Type 0 where
   pub pool : IsPool t
   pub map_is : pool_of t ≡ with_chain (pool_of s) c (headless (chain_of (pool_of s) c))
 
-pub stripped : (s t : StoreView) (c : ℕ) → IsPool s → IsLive (pool_of s) c → SetsHead s t c (bare (head_of s c))
+pub stripped : (s t : StoreView) (c : ℕ) → IsPool s → IsLive (pool_of s) c → SetsHead s t c (bare (mbuf_head s c))
     → IsStore t → Stripped s t c
 stripped s t c pool live sets store =
     let o = open_on s c pool live in
     let f = o.at in
     let e = enter_first s c o.at in
     let r =
-    rehead s t c 0 c (bare (head_of s c)) o.at e sets store refl refl
+    rehead s t c 0 c (bare (mbuf_head s c)) o.at e sets store refl refl
     (record {
-      low = omega (arith, lower (head_of s c).cluster (head_of s c).packet, e.fit.low);
+      low = omega (arith, lower (mbuf_head s c).cluster (mbuf_head s c).packet, e.fit.low);
       high = e.fit.high;
       kind = e.fit.kind;
     }) (λ lt. absurd (omega arith)) in
@@ -131,7 +132,7 @@ stripped s t c pool live sets store =
         r.change.sound,
         (
           λ packet is. absurd (none-some packet
-              (ap (λ (y : Head). y.packet) (sym r.head) ∙ ap (λ (j : ℕ). (head_of t j).packet) (sym f.first)
+              (ap (λ (y : Head). y.packet) (sym r.head) ∙ ap (λ (j : ℕ). (mbuf_head t j).packet) (sym f.first)
               ∙ is)),
           r.change.totals o.totals.1,
         ),
@@ -158,7 +159,7 @@ pub record Two (s : StoreView) (a b : ℕ) : Type 0 where
   pub front : List ℕ
   pub back : List ℕ
   pub rest : List (List ℕ)
-  pub sound : IsSound s (front ∷ back ∷ rest)
+  pub sound : AreSoundChains s (front ∷ back ∷ rest)
   pub front_total : IsTotal s front
   pub rest_totals : AllByRecursion (IsTotal s) rest
   pub front_linked : IsLinked s (Some a) front
@@ -182,7 +183,7 @@ open_two s a b pool live_a live_b ne =
     ∙ ap (λ (m : FinMap nat_cmp ChainView). finmap.get m b) (sym o.at.map_is) ∙ live_b) in
     let parts = found.chains f.sound.linked.1 in
     let totals = found.totals o.totals.1 in
-    let sound : IsSound s (o.at.cells ∷ found.cells ∷ found.rest) = record {
+    let sound : AreSoundChains s (o.at.cells ∷ found.cells ∷ found.rest) = record {
       linked = (f.sound.linked.0, parts);
       once = λ k. omega (arith, f.sound.once k, found.weight (is_at k));
       total = omega (arith, f.sound.total, found.weight one);
@@ -213,7 +214,8 @@ open_two s a b pool live_a live_b ne =
       shows_front = f.shows;
       shows_back = found.shows;
       map_is =
-          view_is s _ sound ∙ (λ i. finmap.insert (finmap.insert (chains_of s found.rest) (found.first i) (found.shows i))
+          view_is s _ sound ∙ (λ i. finmap.insert
+          (finmap.insert (chains_of s found.rest) (found.first i) (found.shows i))
           (f.first i) (f.shows i));
       fresh = get-chains_of s found.rest b ∙ not_first s b found.rest alone_b;
     }
@@ -222,25 +224,25 @@ open_two s a b pool live_a live_b ne =
 -- what an mbuf shows and says is the same, but for its link
 pub record LikeCell (s t : StoreView) (k : ℕ) : Type 0 where
   pub entry : entry_at t k ≡ entry_at s k
-  pub front : front_of (head_of t k) ≡ front_of (head_of s k)
-  pub packet : (head_of t k).packet ≡ (head_of s k).packet
-  pub len : (head_of t k).len ≡ (head_of s k).len
-  pub follow : IsFollower (head_of s k) → IsFollower (head_of t k)
-  pub fit : IsFit (head_of s k) → IsFit (head_of t k)
+  pub front : front_of (mbuf_head t k) ≡ front_of (mbuf_head s k)
+  pub packet : (mbuf_head t k).packet ≡ (mbuf_head s k).packet
+  pub len : (mbuf_head t k).len ≡ (mbuf_head s k).len
+  pub follow : IsFollower (mbuf_head s k) → IsFollower (mbuf_head t k)
+  pub fit : IsFit (mbuf_head s k) → IsFit (mbuf_head t k)
   pub out : is_out t k ≡ is_out s k
 
 pub record Relinked (s t : StoreView) (x : ℕ) (next : Option ℕ) : Type 0 where
   pub outs : SameOuts s t
   pub others : (k : ℕ) → k ≢ x → SameCell s t k
   pub likes : (k : ℕ) → LikeCell s t k
-  pub next_is : (head_of t x).next ≡ next
+  pub next_is : (mbuf_head t x).next ≡ next
 
-pub relinked : (s t : StoreView) (x : ℕ) (next : Option ℕ) → is_out s x ≡ true → IsFit (head_of s x) → IsStore s
-    → SetsHead s t x (record (head_of s x) { next = next }) → Relinked s t x next
+pub relinked : (s t : StoreView) (x : ℕ) (next : Option ℕ) → is_out s x ≡ true → IsFit (mbuf_head s x) → IsStore s
+    → SetsHead s t x (record (mbuf_head s x) { next = next }) → Relinked s t x next
 relinked s t x next out fit store sets =
-    let h : Head = record (head_of s x) { next = next } in
-    let set = head_set s t x (record (head_of s x) { next = next }) out store sets in
-    let fit' : IsFit (record (head_of s x) { next = next }) =
+    let h : Head = record (mbuf_head s x) { next = next } in
+    let set = head_set s t x (record (mbuf_head s x) { next = next }) out store sets in
+    let fit' : IsFit (record (mbuf_head s x) { next = next }) =
     record { low = fit.low; high = fit.high; kind = fit.kind } in
     record {
       outs = set.outs;
@@ -314,7 +316,7 @@ goes_on s t x next r at y [] m h last once after = (
   h.0,
   (r.likes y).out ∙ h.1,
   (r.likes y).fit h.2,
-  subst (λ (o : Option ℕ). IsLinked t o m) (sym (ap (λ (j : ℕ). (head_of t j).next) last ∙ r.next_is)) after,
+  subst (λ (o : Option ℕ). IsLinked t o m) (sym (ap (λ (j : ℕ). (mbuf_head t j).next) last ∙ r.next_is)) after,
 )
 goes_on s t x next r at y (z ∷ zs) m h last once after =
     let apart : y ≢ x =
@@ -330,7 +332,7 @@ goes_on s t x next r at y (z ∷ zs) m h last once after =
       (r.likes y).out ∙ h.1,
       (r.likes y).fit h.2,
       subst (λ (w : Head). IsLinked t w.next ((z ∷ zs) ++ m)) (sym (r.others y apart).head)
-          (goes_on s t x next r (head_of s y).next z zs m h.3 last (λ k. omega (arith, once k)) after),
+          (goes_on s t x next r (mbuf_head s y).next z zs m h.3 last (λ k. omega (arith, once k)) after),
     )
 
 link_list : (s t : StoreView) (x a : ℕ) (next : Option ℕ) → Relinked s t x next → (l m : List ℕ) → IsChain s l
@@ -351,7 +353,7 @@ pub record Joined (s t : StoreView) (a b added : ℕ) : Type 0 where
       (joined (chain_of (pool_of s) a) (chain_of (pool_of s) b))
 
 -- a chain whose front says nothing begins with an mbuf that says nothing
-all_follow : (s : StoreView) (l : List ℕ) → IsChain s l → IsFollower (head_of s (first_of l)) → AllFollow s l
+all_follow : (s : StoreView) (l : List ℕ) → IsChain s l → IsFollower (mbuf_head s (first_of l)) → AllFollow s l
 all_follow s [] h first = tt
 all_follow s (y ∷ ys) h first = (first, h.1)
 
@@ -368,7 +370,7 @@ pub joined_made : (s t : StoreView) (a b added : ℕ) (last : Place) → IsPool 
     → IsLive (pool_of s) b → a ≢ b → IsPlace (chain_of (pool_of s) a) last
     → last.index + 1 ≡ length (chain_of (pool_of s) a).entries
     → (chain_of (pool_of s) b).front ≡ alone false
-    → SetsHead s t last.cell (record (head_of s last.cell) { next = Some b }) → IsStore t
+    → SetsHead s t last.cell (record (mbuf_head s last.cell) { next = Some b }) → IsStore t
     → ((chain_of (pool_of s) a).front.header ≡ true → added ≡ length (string (chain_of (pool_of s) b)))
     → Joined s t a b added
 joined_made s t a b added last pool live_a live_b ne place is_last bare_b sets store added_is =
@@ -399,7 +401,7 @@ joined_made s t a b added last pool live_a live_b ne place is_last bare_b sets s
     links_kept s t (Some b) two.back (λ k q. others k (omega (arith, q))) two.back_linked in
     let follows : AllFollow s two.back =
     all_follow s two.back two.sound.linked.1.0
-    (bare_first (head_of s (first_of two.back)) (ap (λ (v : ChainView). v.front) two.shows_back ∙ bare_b)) in
+    (bare_first (mbuf_head s (first_of two.back)) (ap (λ (v : ChainView). v.front) two.shows_back ∙ bare_b)) in
     let new =
     link_list s t last.cell a (Some b) r two.front two.back two.sound.linked.0 two.front_linked last_of_front
     (λ k. omega (arith, once k)) after follows in
@@ -418,7 +420,7 @@ joined_made s t a b added last pool live_a live_b ne place is_last bare_b sets s
           );
       store = store;
     }) in
-    let headed : (packet : PacketHeader) → (head_of s (first_of two.front)).packet ≡ Some packet
+    let headed : (packet : PacketHeader) → (mbuf_head s (first_of two.front)).packet ≡ Some packet
     → (chain_of (pool_of s) a).front.header ≡ true =
     λ packet is. sym (ap (λ (v : ChainView). v.front.header) two.shows_front)
     ∙ ap (λ (o : Option PacketHeader). is_some o) is in
@@ -434,8 +436,8 @@ joined_made s t a b added last pool live_a live_b ne place is_last bare_b sets s
           (in_list two.front 0 (some_cell s two.front two.sound.linked.0)),
       heads-tails s a two.rest two.sound.linked.1.1,
     ) in
-    let first_front : front_of (head_of t (first_of (two.front ++ two.back))) ≡ (chain_of (pool_of s) a).front =
-    ap (λ (j : ℕ). front_of (head_of t j)) (new.1 ∙ sym two.front_first) ∙ (r.likes (first_of two.front)).front
+    let first_front : front_of (mbuf_head t (first_of (two.front ++ two.back))) ≡ (chain_of (pool_of s) a).front =
+    ap (λ (j : ℕ). front_of (mbuf_head t j)) (new.1 ∙ sym two.front_first) ∙ (r.likes (first_of two.front)).front
     ∙ ap (λ (v : ChainView). v.front) two.shows_front in
     let shown : read_chain t (two.front ++ two.back) ≡ joined (chain_of (pool_of s) a) (chain_of (pool_of s) b) =
     λ i. record {
@@ -462,9 +464,9 @@ joined_made s t a b added last pool live_a live_b ne place is_last bare_b sets s
         went.sound,
         (
           λ packet is.
-              let was : (head_of s (first_of two.front)).packet ≡ Some packet =
+              let was : (mbuf_head s (first_of two.front)).packet ≡ Some packet =
               sym (r.likes (first_of two.front)).packet
-              ∙ ap (λ (j : ℕ). (head_of t j).packet) (two.front_first ∙ sym new.1) ∙ is in
+              ∙ ap (λ (j : ℕ). (mbuf_head t j).packet) (two.front_first ∙ sym new.1) ∙ is in
               omega (
                 arith,
                 two.front_total packet was,

@@ -10,9 +10,9 @@ use Rattle.std.proofs.lemmas.List.Sums.{count_by-le-length}
 use Rattle.std.proofs.lemmas.Option.{none-some, same_Some}
 use Rattle.std.proofs.lemmas.List.{get_or_past}
 use Rattle.mbuf_pool.specs.Cells.{Head}
-use Rattle.mbuf_pool.specs.Store.{StoreView, MbufView, head_of, is_out, mbufs_out}
+use Rattle.mbuf_pool.specs.Store.{StoreView, MbufView, mbuf_head, is_out, mbufs_out}
 use Rattle.mbuf_chain.specs.Chain.{ChainView}
-use Rattle.mbuf_chain.specs.Inside.Cells.{weigh, weigh_all, is_at, one, first_of, read_chain, walk, cells_from, is_pointed, chain_at, IsLinked, IsChain, IsSound, IsFit, IsTotal, IsTotalBy, IsWhole, len_at}
+use Rattle.mbuf_chain.specs.Inside.Cells.{weigh, weigh_all, is_at, one, first_of, read_chain, walk, cells_from, is_pointed, chain_at, IsLinked, IsChain, AreSoundChains, IsFit, IsTotal, IsTotalBy, LeadsToEnd, len_at}
 use Rattle.mbuf_chain.proofs.Maps.{get_here, get_there}
 
 -- the chain that stands first under a number
@@ -84,18 +84,18 @@ is_at_other q c ne = off (nat_eq c q) (ne_eqb c q ne)
 
 -- an mbuf after another is the next of one
 after : (s : StoreView) (q : ℕ) (at : Option ℕ) (c : ℕ) (cs : List ℕ) → IsLinked s at (c ∷ cs) → 0 < weigh (is_at q) cs
-    → (k : ℕ) × (0 < weigh (is_at k) (c ∷ cs)) × ((head_of s k).next ≡ Some q)
+    → (k : ℕ) × (0 < weigh (is_at k) (c ∷ cs)) × ((mbuf_head s k).next ≡ Some q)
 after s q at c [] h p = absurd (omega arith)
 after s q at c (d ∷ ds) h p =
     elim (cases_eq d q) [
       | inl e ↦ (c, omega (arith, is_at_same c), h.3.0 ∙ ap {B = Option ℕ} Some e)
       | inr ne ↦
-          let later = after s q (head_of s c).next d ds h.3 (omega (arith, is_at_other q d ne)) in
+          let later = after s q (mbuf_head s c).next d ds h.3 (omega (arith, is_at_other q d ne)) in
           (later.0, omega (arith, later.1), later.2)
     ]
 
 after_all : (s : StoreView) (q : ℕ) (lists : List (List ℕ)) → AllByRecursion (IsChain s) lists → 0 < tails_at q lists
-    → (k : ℕ) × (0 < weigh_all (is_at k) lists) × ((head_of s k).next ≡ Some q)
+    → (k : ℕ) × (0 < weigh_all (is_at k) lists) × ((mbuf_head s k).next ≡ Some q)
 after_all s q [] h p = absurd (omega arith)
 after_all s q ([] ∷ ls) h p = absurd h.0
 after_all s q ((c ∷ cs) ∷ ls) h p =
@@ -106,22 +106,23 @@ after_all s q ((c ∷ cs) ∷ ls) h p =
 
 -- the next of an mbuf stands after it
 following_next : (s : StoreView) (q k : ℕ) (at : Option ℕ) (c : ℕ) (cs : List ℕ) → IsLinked s at (c ∷ cs)
-    → 0 < weigh (is_at k) (c ∷ cs) → (head_of s k).next ≡ Some q → 0 < weigh (is_at q) cs
+    → 0 < weigh (is_at k) (c ∷ cs) → (mbuf_head s k).next ≡ Some q → 0 < weigh (is_at q) cs
 following_next s q k at c [] h p e =
     elim (cases_eq c k) [
-      | inl is ↦ absurd (none-some q (sym (sym e ∙ ap (λ j. (head_of s j).next) (sym is) ∙ h.3)))
+      | inl is ↦ absurd (none-some q (sym (sym e ∙ ap (λ j. (mbuf_head s j).next) (sym is) ∙ h.3)))
       | inr not ↦ absurd (omega (arith, is_at_other k c not))
     ]
 following_next s q k at c (d ∷ ds) h p e =
     elim (cases_eq c k) [
-      | inl is ↦ let same : d ≡ q = same_Some d q (sym h.3.0 ∙ ap (λ j. (head_of s j).next) is ∙ e) in
+      | inl is ↦ let same : d ≡ q = same_Some d q (sym h.3.0 ∙ ap (λ j. (mbuf_head s j).next) is ∙ e) in
           subst (λ (j : ℕ). 0 < is_at j d + weigh (is_at j) ds) same (omega (arith, is_at_same d))
-      | inr not ↦ let later = following_next s q k (head_of s c).next d ds h.3 (omega (arith, is_at_other k c not)) e in
+      | inr not ↦ let later =
+          following_next s q k (mbuf_head s c).next d ds h.3 (omega (arith, is_at_other k c not)) e in
           omega (arith, later)
     ]
 
 next_after_all : (s : StoreView) (q k : ℕ) (lists : List (List ℕ)) → AllByRecursion (IsChain s) lists
-    → 0 < weigh_all (is_at k) lists → (head_of s k).next ≡ Some q → 0 < tails_at q lists
+    → 0 < weigh_all (is_at k) lists → (mbuf_head s k).next ≡ Some q → 0 < tails_at q lists
 next_after_all s q k [] h p e = absurd (omega arith)
 next_after_all s q k ([] ∷ ls) h p e = absurd h.0
 next_after_all s q k ((c ∷ cs) ∷ ls) h p e =
@@ -136,7 +137,7 @@ walk_is zero s at [] h le = refl
 walk_is (suc n) s at [] h le = ap (walk (suc n) s) h
 walk_is zero s at (c ∷ cs) h le = absurd (omega arith)
 walk_is (suc n) s at (c ∷ cs) h le =
-    ap (walk (suc n) s) h.0 ∙ ap (λ (xs : List ℕ). c ∷ xs) (walk_is n s (head_of s c).next cs h.3 (omega arith))
+    ap (walk (suc n) s) h.0 ∙ ap (λ (xs : List ℕ). c ∷ xs) (walk_is n s (mbuf_head s c).next cs h.3 (omega arith))
 
 -- ---- which mbufs are pointed at
 next_is : (a : Option ℕ) (q : ℕ) → option_eq nat_eq a (Some q) ≡ true → a ≡ Some q
@@ -147,22 +148,22 @@ is_next : (a : Option ℕ) (q : ℕ) → a ≡ Some q → option_eq nat_eq a (So
 is_next a q e = ap (λ (o : Option ℕ). option_eq nat_eq o (Some q)) e ∙ eq-eqb q q refl
 
 pointed_by : (n : ℕ) (s : StoreView) (q : ℕ) → is_pointed n s q ≡ true
-    → (k : ℕ) × (k < n) × (is_out s k ≡ true) × ((head_of s k).next ≡ Some q)
+    → (k : ℕ) × (k < n) × (is_out s k ≡ true) × ((mbuf_head s k).next ≡ Some q)
 pointed_by zero s q e = absurd (false≢true e)
 pointed_by (suc n) s q e =
-    elim (or_cases (is_out s n && option_eq nat_eq (head_of s n).next (Some q)) (is_pointed n s q) e) [
-      | inl here ↦ let parts = and_parts (is_out s n) (option_eq nat_eq (head_of s n).next (Some q)) here in
+    elim (or_cases (is_out s n && option_eq nat_eq (mbuf_head s n).next (Some q)) (is_pointed n s q) e) [
+      | inl here ↦ let parts = and_parts (is_out s n) (option_eq nat_eq (mbuf_head s n).next (Some q)) here in
           (n, omega arith, parts.0, next_is _ q parts.1)
       | inr below ↦ let found = pointed_by n s q below in (found.0, omega (arith, found.1), found.2, found.3)
     ]
 
-points : (n : ℕ) (s : StoreView) (q k : ℕ) → k < n → is_out s k ≡ true → (head_of s k).next ≡ Some q
+points : (n : ℕ) (s : StoreView) (q k : ℕ) → k < n → is_out s k ≡ true → (mbuf_head s k).next ≡ Some q
     → is_pointed n s q ≡ true
 points zero s q k lt out e = absurd (omega arith)
 points (suc n) s q k lt out e =
     elim (cases_eq k n) [
       | inl is ↦ or_left _ (is_pointed n s q)
-          (subst (λ (j : ℕ). (is_out s j && option_eq nat_eq (head_of s j).next (Some q)) ≡ true) is
+          (subst (λ (j : ℕ). (is_out s j && option_eq nat_eq (mbuf_head s j).next (Some q)) ≡ true) is
           (and_from _ _ out (is_next _ q e)))
       | inr not ↦ or_right _ (is_pointed n s q) (points n s q k (omega arith) out e)
     ]
@@ -250,7 +251,7 @@ pub few_out : (s : StoreView) → mbufs_out s ≤ length s.mbufs
 few_out s = count_by-le-length is_some s.mbufs
 
 -- the links from the chain's first mbuf on give the chain's mbufs
-pub cells_are : (s : StoreView) (lists : List (List ℕ)) → IsSound s lists → (q : ℕ) (v : ChainView)
+pub cells_are : (s : StoreView) (lists : List (List ℕ)) → AreSoundChains s lists → (q : ℕ) (v : ChainView)
     → (found : Found s q v lists) → cells_from s (Some q) ≡ found.cells
 cells_are s lists ok q v found =
     go found.cells found.first (found.chains ok.linked).0 (omega (arith, found.weight one, ok.total, few_out s))
@@ -261,7 +262,8 @@ cells_are s lists ok q v found =
         walk_is (length s.mbufs) s (Some q) (c ∷ cs)
         (ap {B = Option ℕ} Some (sym first), linked.0.1, linked.0.2, linked.0.3) le
 
-pub chain_is : (s : StoreView) (lists : List (List ℕ)) → IsSound s lists → (q : ℕ) → chain_at s q ≡ find_first s q lists
+pub chain_is : (s : StoreView) (lists : List (List ℕ)) → AreSoundChains s lists → (q : ℕ)
+    → chain_at s q ≡ find_first s q lists
 chain_is s lists ok q =
     elim (cases_Bool (is_out s q)) [
       | inr no_one ↦
@@ -293,7 +295,7 @@ chain_is s lists ok q =
     in_lists : (k : ℕ) → 0 < weigh_all (is_at k) lists → is_out s k ≡ true
     in_lists k p = bit (is_out s k) (omega (arith, ok.once k))
 
-    pointed_true : (k : ℕ) → 0 < weigh_all (is_at k) lists → (head_of s k).next ≡ Some q
+    pointed_true : (k : ℕ) → 0 < weigh_all (is_at k) lists → (mbuf_head s k).next ≡ Some q
         → is_pointed (length s.mbufs) s q ≡ true
     pointed_true k p e = points (length s.mbufs) s q k (out_below s k (in_lists k p)) (in_lists k p) e
 
@@ -311,31 +313,31 @@ chain_is s lists ok q =
 walk_short : (n : ℕ) (s : StoreView) (at : Option ℕ) → weigh one (walk n s at) ≤ n
 walk_short zero s at = omega arith
 walk_short (suc n) s None = omega arith
-walk_short (suc n) s (Some i) = omega (arith, walk_short n s (head_of s i).next)
+walk_short (suc n) s (Some i) = omega (arith, walk_short n s (mbuf_head s i).next)
 
 pub few_cells : (s : StoreView) (at : Option ℕ) → weigh one (cells_from s at) ≤ length s.mbufs
 few_cells s at = walk_short (length s.mbufs) s at
 
 -- an mbuf, and what is after it
 pub record Next (s : StoreView) (at : ℕ) : Type 0 where
-  pub cells : cells_from s (Some at) ≡ at ∷ cells_from s (head_of s at).next
+  pub cells : cells_from s (Some at) ≡ at ∷ cells_from s (mbuf_head s at).next
   pub out : is_out s at ≡ true
-  pub fit : IsFit (head_of s at)
-  pub whole : IsWhole s (head_of s at).next
+  pub fit : IsFit (mbuf_head s at)
+  pub whole : LeadsToEnd s (mbuf_head s at).next
 
-pub next_cell : (s : StoreView) (at : ℕ) → IsWhole s (Some at) → Next s at
+pub next_cell : (s : StoreView) (at : ℕ) → LeadsToEnd s (Some at) → Next s at
 next_cell s at whole = go (cells_from s (Some at)) whole (few_cells s (Some at)) refl
   where
     go : (l : List ℕ) → IsLinked s (Some at) l → weigh one l ≤ length s.mbufs → cells_from s (Some at) ≡ l → Next s at
     go [] h le e = absurd (none-some at (sym h))
     go (c ∷ cs) h le e =
-        let rest : cells_from s (head_of s c).next ≡ cs =
-        walk_is (length s.mbufs) s (head_of s c).next cs h.3 (omega arith) in
+        let rest : cells_from s (mbuf_head s c).next ≡ cs =
+        walk_is (length s.mbufs) s (mbuf_head s c).next cs h.3 (omega arith) in
         let here : Next s c = record {
           cells = ap (cells_from s) (sym h.0) ∙ e ∙ ap (λ (xs : List ℕ). c ∷ xs) (sym rest);
           out = h.1;
           fit = h.2;
-          whole = subst (IsLinked s (head_of s c).next) (sym rest) h.3;
+          whole = subst (IsLinked s (mbuf_head s c).next) (sym rest) h.3;
         } in
         subst (Next s) (sym (same_Some at c h.0)) here
 
@@ -353,25 +355,25 @@ high_small h fit = omega (arith, fit.high, go h.cluster)
 pub bytes_bound : (s : StoreView) (at : Option ℕ) (l : List ℕ) → IsLinked s at l
     → weigh (len_at s) l ≤ 2048 * weigh one l
 bytes_bound s at [] h = omega arith
-bytes_bound s at (c ∷ cs) h = omega (arith, bytes_bound s (head_of s c).next cs h.3, high_small (head_of s c) h.2)
+bytes_bound s at (c ∷ cs) h = omega (arith, bytes_bound s (mbuf_head s c).next cs h.3, high_small (mbuf_head s c) h.2)
 
 -- an mbuf that a walk has come to, and what is after it
 pub record Walked (s : StoreView) (at : Option ℕ) (i : ℕ) : Type 0 where
-  pub cells : cells_from s at ≡ i ∷ cells_from s (head_of s i).next
+  pub cells : cells_from s at ≡ i ∷ cells_from s (mbuf_head s i).next
   pub out : is_out s i ≡ true
-  pub fit : IsFit (head_of s i)
-  pub whole : IsWhole s (head_of s i).next
-  pub short : (head_of s i).len ≤ 2048
+  pub fit : IsFit (mbuf_head s i)
+  pub whole : LeadsToEnd s (mbuf_head s i).next
+  pub short : (mbuf_head s i).len ≤ 2048
 
-pub walk_on : (s : StoreView) (at : Option ℕ) (i : ℕ) → at ≡ Some i → IsWhole s at → Walked s at i
+pub walk_on : (s : StoreView) (at : Option ℕ) (i : ℕ) → at ≡ Some i → LeadsToEnd s at → Walked s at i
 walk_on s at i is whole =
-    let next = next_cell s i (subst (IsWhole s) is whole) in
+    let next = next_cell s i (subst (LeadsToEnd s) is whole) in
     record {
       cells = ap (cells_from s) is ∙ next.cells;
       out = next.out;
       fit = next.fit;
       whole = next.whole;
-      short = high_small (head_of s i) next.fit;
+      short = high_small (mbuf_head s i) next.fit;
     }
 
 pub walk_end : (s : StoreView) (at : Option ℕ) → at ≡ None → cells_from s at ≡ []
@@ -379,17 +381,18 @@ walk_end s at is = ap (cells_from s) is ∙ no_cells s
 
 -- a walk that has added up so far goes on
 pub record Goes (s : StoreView) (f : ℕ → ℕ) (all total : ℕ) (i : ℕ) (h : Head) : Type 0 where
-  pub whole : IsWhole s h.next
+  pub whole : LeadsToEnd s h.next
   pub sum : total + f i + weigh f (cells_from s h.next) ≡ all
-  pub shorter : (at : Option ℕ) → at ≡ Some i → IsWhole s at
+  pub shorter : (at : Option ℕ) → at ≡ Some i → LeadsToEnd s at
       → weigh one (cells_from s h.next) < weigh one (cells_from s at)
 
-pub goes : (s : StoreView) (f : ℕ → ℕ) (all total : ℕ) (at : Option ℕ) (i : ℕ) (h : Head) → at ≡ Some i → IsWhole s at
-    → total + weigh f (cells_from s at) ≡ all → h ≡ head_of s i → Goes s f all total i h
+pub goes : (s : StoreView) (f : ℕ → ℕ) (all total : ℕ) (at : Option ℕ) (i : ℕ) (h : Head) → at ≡ Some i
+    → LeadsToEnd s at
+    → total + weigh f (cells_from s at) ≡ all → h ≡ mbuf_head s i → Goes s f all total i h
 goes s f all total at i h is whole sum head =
     let w = walk_on s at i is whole in
     record {
-      whole = subst (IsWhole s) (ap (λ (y : Head). y.next) (sym head)) w.whole;
+      whole = subst (LeadsToEnd s) (ap (λ (y : Head). y.next) (sym head)) w.whole;
       sum = omega (arith, sum, ap (weigh f) w.cells, ap (λ (y : Head). weigh f (cells_from s y.next)) head);
       shorter =
           λ at' is' whole'. omega (

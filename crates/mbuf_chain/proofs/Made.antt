@@ -10,13 +10,13 @@ use Rattle.std.proofs.lemmas.List.Sums.{sum_by-cons}
 use Rattle.std.proofs.lemmas.Option.{none-some, same_Some, slice_get_within, get_or_from_slice_get}
 use Rattle.std.proofs.lemmas.List.{length-set}
 use Rattle.mbuf_pool.specs.Cells.{Head, PacketHeader}
-use Rattle.mbuf_pool.specs.Store.{StoreView, MbufView, ClusterView, no_mbuf, free_cluster, TakesCluster, with_cluster, held, is_out, mbuf_of, head_of, cluster_of, count_of, mbufs_out, with_mbuf, released, IsStore}
+use Rattle.mbuf_pool.specs.Store.{StoreView, MbufView, ClusterView, no_mbuf, free_cluster, TakesCluster, with_cluster, held_once_more, is_out, mbuf_of, mbuf_head, cluster_of, cluster_count, mbufs_out, with_mbuf, released, IsStore}
 use Rattle.mbuf_pool.proofs.Laws.{taken_back, counted_within}
-use Rattle.mbuf_chain.specs.Chain.{Entry, Front, ChainView, alone, Adds, held_mbufs, references, counts, free_clusters, chain_of, entry_of}
+use Rattle.mbuf_chain.specs.Chain.{Entry, Front, ChainView, alone, Adds, held_mbufs, references, reference_counts, free_clusters, chain_of, entry_of}
 use Rattle.mbuf_chain.specs.declared.place.Place.{Place}
 use Rattle.mbuf_chain.specs.Chain.{IsLive, IsPlace}
 use Rattle.mbuf_chain.specs.Steps.{one_mbuf, empty_entry, narrowed}
-use Rattle.mbuf_chain.specs.Inside.Cells.{weigh, weigh_all, is_at, one, place_bytes, entry_from, entry_at, front_of, refers_at, read_chain, cells_from, is_pointed, view_of, IsSound, IsFit, pool_of, IsPool, out_at, Taken, head_for, start_of, room_low}
+use Rattle.mbuf_chain.specs.Inside.Cells.{weigh, weigh_all, is_at, one, place_bytes, entry_from, entry_at, front_of, refers_at, read_chain, cells_from, is_pointed, view_of, AreSoundChains, IsFit, pool_of, IsPool, out_at, Taken, only_head, start_of, head_room_low}
 use Rattle.mbuf_chain.proofs.Lists.{is_at_same, is_at_other, on, off, bit, chains_of, out_below}
 use Rattle.mbuf_chain.proofs.Changes.{SameCell, same_cell, step, view_is, get-view_of, held_is, references_is}
 use Rattle.mbuf_chain.proofs.Focused.{weigh_all_has, open_on, enter}
@@ -31,14 +31,15 @@ pub record NewMbuf (s t : StoreView) (i : ℕ) (h : Head) : Type 0 where
   pub out : is_out t i ≡ true
   pub outs : (k : ℕ) → k ≢ i → is_out t k ≡ is_out s k
   pub total : mbufs_out t ≡ mbufs_out s + 1
-  pub kept : (k : ℕ) → k ≢ i → ((c : ℕ) → (head_of s k).cluster ≡ Some c → 0 < count_of s c) → SameCell s t k
-  pub head : head_of t i ≡ h
-  pub counts : (c : ℕ) → count_of t c ≡ count_of s c + refers_at t c i
+  pub kept : (k : ℕ) → k ≢ i → ((c : ℕ) → (mbuf_head s k).cluster ≡ Some c → 0 < cluster_count s c) → SameCell s t k
+  pub head : mbuf_head t i ≡ h
+  pub counts : (c : ℕ) → cluster_count t c ≡ cluster_count s c + refers_at t c i
   pub store : IsStore t
 
 -- what an mbuf refers to is counted
-pub counted_in : (s : StoreView) (lists : List (List ℕ)) → IsSound s lists → (k c : ℕ) → 0 < weigh_all (is_at k) lists
-    → (head_of s k).cluster ≡ Some c → 0 < count_of s c
+pub counted_in : (s : StoreView) (lists : List (List ℕ)) → AreSoundChains s lists → (k c : ℕ)
+    → 0 < weigh_all (is_at k) lists
+    → (mbuf_head s k).cluster ≡ Some c → 0 < cluster_count s c
 counted_in s lists ok k c here is =
     omega (arith, ok.counted c, refers_to s k c is, weigh_all_has (refers_at s c) k lists here)
 
@@ -117,40 +118,40 @@ new_plain s t i h got none store =
       counts =
           λ c. omega (
             arith,
-            ap (λ (v : StoreView). count_of v c) got.change,
+            ap (λ (v : StoreView). cluster_count v c) got.change,
             refers_none t i c (ap (λ (y : Head). y.cluster) head_is ∙ none),
           );
       store = store;
     }
   where
-    head_is : head_of t i ≡ h
+    head_is : mbuf_head t i ≡ h
     head_is =
-        ap (λ (v : StoreView). head_of v i) got.change
+        ap (λ (v : StoreView). mbuf_head v i) got.change
         ∙ ap (λ (o : Option MbufView). (unwrap_or o no_mbuf).head)
         (slot_here s i (Some (record { head = h; bytes = got.bytes })) got.below)
 
 -- ---- heads of new mbufs
 pub front_for : (header : Bool) (start len : ℕ) (cluster : Option ℕ)
-    → front_of (head_for header start len cluster) ≡ alone header
+    → front_of (only_head header start len cluster) ≡ alone header
 front_for true start len cluster = refl
 front_for false start len cluster = refl
 
 pub total_for : (header : Bool) (start len : ℕ) (cluster : Option ℕ) (packet : PacketHeader)
-    → (head_for header start len cluster).packet ≡ Some packet → packet.len ≡ len
+    → (only_head header start len cluster).packet ≡ Some packet → packet.len ≡ len
 total_for true start len cluster packet is = ap (λ (p : PacketHeader). p.len) (sym (same_Some _ _ is))
 total_for false start len cluster packet is = absurd (none-some packet is)
 
-pub low_for : (header : Bool) (start len : ℕ) → room_low (head_for header start len None) ≡ start_of header
+pub low_for : (header : Bool) (start len : ℕ) → head_room_low (only_head header start len None) ≡ start_of header
 low_for true start len = refl
 low_for false start len = refl
 
 -- a plain mbuf alone, that shows so many of its bytes
 pub plain_made : (s t : StoreView) (i : ℕ) (header : Bool) (start len : ℕ) → IsPool s
-    → Taken s t i (head_for header start len None) → IsStore t → start_of header ≤ start → start + len ≤ 128
+    → Taken s t i (only_head header start len None) → IsStore t → start_of header ≤ start → start + len ≤ 128
     → IsMade s t i (one_mbuf header
     (record { bytes = take len (drop start (mbuf_of t i).bytes); start = start; cluster = None }) i)
 plain_made s t i header start len pool got store low high =
-    let h = head_for header start len None in
+    let h = only_head header start len None in
     let n = new_plain s t i h got refl store in
     subst (λ (f : Front). IsMade s t i
     (record {
@@ -161,12 +162,12 @@ plain_made s t i header start len pool got store low high =
           i ∷ [];
     })) (front_for header start len None)
     (subst (λ (e : Entry). IsMade s t i
-    (record { front = front_of (head_for header start len None); entries = e ∷ []; cells = i ∷ [] })) (entry n.head)
+    (record { front = front_of (only_head header start len None); entries = e ∷ []; cells = i ∷ [] })) (entry n.head)
     (added s t i h pool n refl (record
     { low = omega (arith, low_for header start len); high = omega arith; kind = refl }) (total_for header start len
     None)))
   where
-    entry : head_of t i ≡ head_for header start len None
+    entry : mbuf_head t i ≡ only_head header start len None
         → entry_at t i ≡ record { bytes = take len (drop start (mbuf_of t i).bytes); start = start; cluster = None }
     entry e = ap (entry_from t i) e
 
@@ -189,13 +190,19 @@ one_free s t i h (lists, ok, totals) got =
 
 -- ---- an mbuf that shares a cluster
 -- no cluster is held by more mbufs than are out
-pub count_few : (s : StoreView) (lists : List (List ℕ)) → IsSound s lists → (c : ℕ) → count_of s c ≤ mbufs_out s
+pub count_few : (s : StoreView) (lists : List (List ℕ)) → AreSoundChains s lists → (c : ℕ)
+    → cluster_count s c ≤ mbufs_out s
 count_few s lists ok c = omega (arith, ok.counted c, ok.total, fewer lists)
   where
     at_most : (l : List ℕ) → weigh (refers_at s c) l ≤ weigh one l
     at_most [] = omega arith
     at_most (x ∷ xs) =
-        omega (arith, at_most xs, Rattle.mbuf_chain.proofs.Lists.small (option_eq nat_eq (head_of s x).cluster (Some c)))
+        omega (
+          arith,
+          at_most xs,
+          Rattle.mbuf_chain.proofs.Lists.small
+              (option_eq nat_eq (mbuf_head s x).cluster (Some c)),
+        )
 
     fewer : (ls : List (List ℕ)) → weigh_all (refers_at s c) ls ≤ weigh_all one ls
     fewer [] = omega arith
@@ -203,19 +210,19 @@ count_few s lists ok c = omega (arith, ok.counted c, ok.total, fewer lists)
 
 -- what is known once an mbuf was taken that is to share cluster d
 pub record CanHold (s t : StoreView) (d : ℕ) : Type 0 where
-  pub some : 0 < count_of t d
-  pub few : count_of t d < 65535
+  pub some : 0 < cluster_count t d
+  pub few : cluster_count t d < 65535
 
-pub can_hold : (s t : StoreView) (i d : ℕ) (h : Head) → IsPool s → Taken s t i h → 0 < count_of s d → CanHold s t d
+pub can_hold : (s t : StoreView) (i d : ℕ) (h : Head) → IsPool s → Taken s t i h → 0 < cluster_count s d → CanHold s t d
 can_hold s t i d h (lists, ok, totals) got some =
     let m : MbufView = record { head = h; bytes = got.bytes } in
     record {
-      some = omega (arith, some, ap (λ (v : StoreView). count_of v d) got.change);
+      some = omega (arith, some, ap (λ (v : StoreView). cluster_count v d) got.change);
       few =
           omega (
             arith,
             count_few s lists ok d,
-            ap (λ (v : StoreView). count_of v d) got.change,
+            ap (λ (v : StoreView). cluster_count v d) got.change,
             outs_total s i (Some m) got.below,
             off (is_out s i) got.fresh,
             Rattle.mbuf_chain.proofs.Lists.few_out (with_mbuf s i (Some m)),
@@ -224,27 +231,28 @@ can_hold s t i d h (lists, ok, totals) got some =
           );
     }
 
-pub new_shared : (s t u : StoreView) (i d : ℕ) (h : Head) → Taken s t i h → h.cluster ≡ Some d → 0 < count_of s d
-    → u ≡ with_cluster t d (held (cluster_of t d)) → IsStore u → NewMbuf s u i h
+pub new_shared : (s t u : StoreView) (i d : ℕ) (h : Head) → Taken s t i h → h.cluster ≡ Some d → 0 < cluster_count s d
+    → u ≡ with_cluster t d (held_once_more (cluster_of t d)) → IsStore u → NewMbuf s u i h
 new_shared s t u i d h got is some is_held store =
     let m : MbufView = record { head = h; bytes = got.bytes } in
     let below : d < length t.clusters =
     omega (arith, counted_within s d some, ap (λ (v : StoreView). length v.clusters) got.change) in
-    let here : cluster_of u d ≡ held (cluster_of t d) =
-    ap (λ (v : StoreView). cluster_of v d) is_held ∙ cluster_here t d (held (cluster_of t d)) below in
+    let here : cluster_of u d ≡ held_once_more (cluster_of t d) =
+    ap (λ (v : StoreView). cluster_of v d) is_held ∙ cluster_here t d (held_once_more (cluster_of t d)) below in
     let there : (c : ℕ) → c ≢ d → cluster_of u c ≡ cluster_of t c =
-    λ c ne. ap (λ (v : StoreView). cluster_of v c) is_held ∙ cluster_there t d (held (cluster_of t d)) below c ne in
-    let head_is : head_of u i ≡ h =
-    ap (λ (v : StoreView). head_of v i) (is_held) ∙ ap (λ (v : StoreView). head_of v i) got.change
+    λ c ne. ap (λ (v : StoreView). cluster_of v c) is_held
+    ∙ cluster_there t d (held_once_more (cluster_of t d)) below c ne in
+    let head_is : mbuf_head u i ≡ h =
+    ap (λ (v : StoreView). mbuf_head v i) (is_held) ∙ ap (λ (v : StoreView). mbuf_head v i) got.change
     ∙ ap (λ (o : Option MbufView). (unwrap_or o no_mbuf).head) (slot_here s i (Some m) got.below) in
-    let refers : head_of u i ≡ h → (c : ℕ) → c ≢ d → refers_at u c i ≡ 0 =
+    let refers : mbuf_head u i ≡ h → (c : ℕ) → c ≢ d → refers_at u c i ≡ 0 =
     λ e c ne. refers_not u i c d (ap (λ (y : Head). y.cluster) e ∙ is) ne in
     record {
       mbufs =
           ap (λ (v : StoreView). length v.mbufs) is_held ∙ ap (λ (v : StoreView). length v.mbufs) got.change
           ∙ length-set s.mbufs i (Some m);
       clusters =
-          ap (λ (v : StoreView). length v.clusters) is_held ∙ length-set t.clusters d (held (cluster_of t d))
+          ap (λ (v : StoreView). length v.clusters) is_held ∙ length-set t.clusters d (held_once_more (cluster_of t d))
           ∙ ap (λ (v : StoreView). length v.clusters) got.change;
       fresh = got.fresh;
       out =
@@ -269,24 +277,25 @@ new_shared s t u i d h got is some is_held store =
           (λ c _. same_bytes here there c ∙ ap (λ (v : StoreView). (cluster_of v c).bytes) got.change);
       head = head_is;
       counts = λ c. elim (cases_eq c d) [
-        | inl e ↦ subst (λ (j : ℕ). count_of u j ≡ count_of s j + refers_at u j i) (sym e)
+        | inl e ↦ subst (λ (j : ℕ). cluster_count u j ≡ cluster_count s j + refers_at u j i) (sym e)
             (omega (
               arith,
               ap (λ (v : ClusterView). v.count) here,
-              ap (λ (v : StoreView). count_of v d) got.change,
+              ap (λ (v : StoreView). cluster_count v d) got.change,
               refers_to u i d (ap (λ (y : Head). y.cluster) head_is ∙ is),
             ))
         | inr ne ↦ omega (
           arith,
           ap (λ (v : ClusterView). v.count) (there c ne),
-          ap (λ (v : StoreView). count_of v c) got.change,
+          ap (λ (v : StoreView). cluster_count v c) got.change,
           refers head_is c ne,
         )
       ];
       store = store;
     }
   where
-    same_bytes : cluster_of u d ≡ held (cluster_of t d) → ((c : ℕ) → c ≢ d → cluster_of u c ≡ cluster_of t c) → (c : ℕ)
+    same_bytes : cluster_of u d ≡ held_once_more (cluster_of t d) → ((c : ℕ) → c ≢ d → cluster_of u c ≡ cluster_of t c)
+        → (c : ℕ)
         → (cluster_of u c).bytes ≡ (cluster_of t c).bytes
     same_bytes here there c = elim (cases_eq c d) [
       | inl e ↦ subst (λ (j : ℕ). (cluster_of u j).bytes ≡ (cluster_of t j).bytes) (sym e)
@@ -296,13 +305,13 @@ new_shared s t u i d h got is some is_held store =
 
 -- an mbuf alone that shows some of the bytes that another shows in its cluster
 pub shared_made : (s t u : StoreView) (i c d skip keep : ℕ) (at : Place) (header : Bool) (start : ℕ) → IsPool s
-    → Shown s c at → (head_of s at.cell).cluster ≡ Some d → 0 < count_of s d
+    → Shown s c at → (mbuf_head s at.cell).cluster ≡ Some d → 0 < cluster_count s d
     → skip + keep ≤ length (entry_of (chain_of (pool_of s) c) at.index).bytes
-    → start ≡ (head_of s at.cell).start + skip → Taken s t i (head_for header start keep (Some d))
-    → u ≡ with_cluster t d (held (cluster_of t d)) → IsStore u
+    → start ≡ (mbuf_head s at.cell).start + skip → Taken s t i (only_head header start keep (Some d))
+    → u ≡ with_cluster t d (held_once_more (cluster_of t d)) → IsStore u
     → IsMade s u i (one_mbuf header (narrowed (entry_of (chain_of (pool_of s) c) at.index) skip keep) i)
 shared_made s t u i c d skip keep at header start pool k is some within start_is got is_held store =
-    let h = head_for header start keep (Some d) in
+    let h = only_head header start keep (Some d) in
     let n = new_shared s t u i d h got refl some is_held store in
     subst (λ (f : Front). IsMade s u i
     (record {
@@ -311,20 +320,20 @@ shared_made s t u i c d skip keep at header start pool k is some within start_is
       cells = i ∷ [];
     })) (front_for header start keep (Some d))
     (subst (λ (e : Entry). IsMade s u i
-    (record { front = front_of (head_for header start keep (Some d)); entries = e ∷ []; cells = i ∷ [] })) (entry n)
+    (record { front = front_of (only_head header start keep (Some d)); entries = e ∷ []; cells = i ∷ [] })) (entry n)
     (added s u i h pool n refl (record
     { low = omega arith; high = omega (arith, start_is, k.small, k.long, within); kind = refl }) (total_for header
     start keep (Some d))))
   where
-    bytes_kept : NewMbuf s u i (head_for header start keep (Some d)) → (cluster_of u d).bytes ≡ (cluster_of s d).bytes
+    bytes_kept : NewMbuf s u i (only_head header start keep (Some d)) → (cluster_of u d).bytes ≡ (cluster_of s d).bytes
     bytes_kept n =
         let below : d < length t.clusters =
         omega (arith, counted_within s d some, ap (λ (v : StoreView). length v.clusters) got.change) in
         ap (λ (v : StoreView). (cluster_of v d).bytes) is_held
-        ∙ ap (λ (v : ClusterView). v.bytes) (cluster_here t d (held (cluster_of t d)) below)
+        ∙ ap (λ (v : ClusterView). v.bytes) (cluster_here t d (held_once_more (cluster_of t d)) below)
         ∙ ap (λ (v : StoreView). (cluster_of v d).bytes) got.change
 
-    entry : NewMbuf s u i (head_for header start keep (Some d))
+    entry : NewMbuf s u i (only_head header start keep (Some d))
         → entry_at u i ≡ narrowed (entry_of (chain_of (pool_of s) c) at.index) skip keep
     entry n =
         ap (entry_from u i) n.head
@@ -334,9 +343,9 @@ shared_made s t u i c d skip keep at header start pool k is some within start_is
           cluster = sym is j;
         })
         ∙ (λ j. record {
-          bytes = take keep (drop ((head_of s at.cell).start + skip) (place_bytes s at.cell (sym is j)));
-          start = (head_of s at.cell).start + skip;
-          cluster = (head_of s at.cell).cluster;
+          bytes = take keep (drop ((mbuf_head s at.cell).start + skip) (place_bytes s at.cell (sym is j)));
+          start = (mbuf_head s at.cell).start + skip;
+          cluster = (mbuf_head s at.cell).cluster;
         })
         ∙ narrowed_is s c skip keep at k (omega (arith, k.long, within))
 
@@ -347,7 +356,7 @@ new_clustered s t u i d h got_cluster got is store =
     let m : MbufView = record { head = h; bytes = got.bytes } in
     let v : ClusterView = record { count = 1; bytes = got_cluster.bytes } in
     let below : d < length s.clusters = slice_get_within s.clusters d free_cluster got_cluster.was_free in
-    let was : count_of s d ≡ 0 =
+    let was : cluster_count s d ≡ 0 =
     ap (λ (w : ClusterView). w.count)
     (get_or_from_slice_get s.clusters d free_cluster free_cluster got_cluster.was_free) in
     let here : cluster_of u d ≡ record { count = 1; bytes = got_cluster.bytes } =
@@ -356,8 +365,8 @@ new_clustered s t u i d h got_cluster got is store =
     let there : (c : ℕ) → c ≢ d → cluster_of u c ≡ cluster_of s c =
     λ c ne. ap (λ (w : StoreView). cluster_of w c) got.change
     ∙ ap (λ (w : StoreView). cluster_of w c) got_cluster.change ∙ cluster_there s d v below c ne in
-    let head_is : head_of u i ≡ h =
-    ap (λ (w : StoreView). head_of w i) got.change
+    let head_is : mbuf_head u i ≡ h =
+    ap (λ (w : StoreView). mbuf_head w i) got.change
     ∙ ap (λ (o : Option MbufView). (unwrap_or o no_mbuf).head) (slot_here t i (Some m) got.below) in
     record {
       mbufs =
@@ -386,10 +395,10 @@ new_clustered s t u i d h got_cluster got is store =
           (ap (λ (w : StoreView). is_out w k) got.change ∙ out_there t i (Some m) got.below k ne
           ∙ ap (λ (w : StoreView). is_out w k) got_cluster.change)
           (λ c refers. ap (λ (w : ClusterView). w.bytes)
-          (there c (λ e. absurd (omega (arith, counted c refers, ap (count_of s) e, was)))));
+          (there c (λ e. absurd (omega (arith, counted c refers, ap (cluster_count s) e, was)))));
       head = head_is;
       counts = λ c. elim (cases_eq c d) [
-        | inl e ↦ subst (λ (j : ℕ). count_of u j ≡ count_of s j + refers_at u j i) (sym e)
+        | inl e ↦ subst (λ (j : ℕ). cluster_count u j ≡ cluster_count s j + refers_at u j i) (sym e)
             (omega (
               arith,
               ap (λ (w : ClusterView). w.count) here,
@@ -406,16 +415,16 @@ new_clustered s t u i d h got_cluster got is store =
     }
 
 pub clustered_made : (s t u : StoreView) (i d : ℕ) (header : Bool) (start : ℕ) → IsPool s → TakesCluster s t d
-    → Taken t u i (head_for header start 0 (Some d)) → IsStore u → start ≤ 2048
+    → Taken t u i (only_head header start 0 (Some d)) → IsStore u → start ≤ 2048
     → IsMade s u i (one_mbuf header (empty_entry start (Some d)) i)
 clustered_made s t u i d header start pool got_cluster got store high =
-    let h = head_for header start 0 (Some d) in
+    let h = only_head header start 0 (Some d) in
     let n = new_clustered s t u i d h got_cluster got refl store in
     subst (λ (f : Front). IsMade s u i
     (record { front = f; entries = empty_entry start (Some d) ∷ []; cells = i ∷ [] })) (front_for header start 0
     (Some d))
     (subst (λ (e : Entry). IsMade s u i
-    (record { front = front_of (head_for header start 0 (Some d)); entries = e ∷ []; cells = i ∷ [] })) (ap
+    (record { front = front_of (only_head header start 0 (Some d)); entries = e ∷ []; cells = i ∷ [] })) (ap
     (entry_from u i) n.head)
     (added s u i h pool n refl (record { low = omega arith; high = omega arith; kind = refl })
     (total_for header start 0 (Some d))))
@@ -442,7 +451,7 @@ given_back s t u v d got same change =
     change ∙ ap (λ (w : StoreView). with_cluster w d (released (cluster_of w d))) same ∙ taken_back s t d got
 
 -- ---- free clusters
-pub unreferenced : (s : StoreView) → IsPool s → (c : ℕ) → references (pool_of s) c ≡ count_of s c
+pub unreferenced : (s : StoreView) → IsPool s → (c : ℕ) → references (pool_of s) c ≡ cluster_count s c
 unreferenced s (lists, ok, totals) c = references_is s lists ok c
 
 count_range : {X : Type 0} (p : X → Bool) (q : ℕ → Bool) (d : X) (xs : List X) (a : ℕ)
@@ -495,12 +504,12 @@ cluster_free s t d pool got =
           got.was_free refl,
     )
 
-pub counts_are : (s : StoreView) → IsPool s → counts (pool_of s) ≡ Rattle.mbuf_pool.specs.Store.counts_of s
+pub counts_are : (s : StoreView) → IsPool s → reference_counts (pool_of s) ≡ Rattle.mbuf_pool.specs.Store.counts_of s
 counts_are s pool = λ i. map (λ c. unreferenced s pool c i) (range_with_len 0 (length s.clusters))
 
 -- the cluster of a live chain's entry is counted
 pub counted_at : (s : StoreView) (c d : ℕ) (at : Place) → IsPool s → IsLive (pool_of s) c
-    → IsPlace (chain_of (pool_of s) c) at → (head_of s at.cell).cluster ≡ Some d → 0 < count_of s d
+    → IsPlace (chain_of (pool_of s) c) at → (mbuf_head s at.cell).cluster ≡ Some d → 0 < cluster_count s d
 counted_at s c d at pool live place is =
     let o = open_on s c pool live in
     let e = enter s c at o.at place in

@@ -4,7 +4,7 @@ use Rattle.std.specs.FinMap as finmap
 use Rattle.std.proofs.lemmas.Option.{none-some, slice_get_within}
 use Rattle.std.proofs.lemmas.List.{length-append}
 use Rattle.mbuf_pool.specs.Cells.{Head}
-use Rattle.mbuf_pool.specs.Store.{StoreView, head_of}
+use Rattle.mbuf_pool.specs.Store.{StoreView, mbuf_head}
 use Rattle.mbuf_chain.specs.declared.place.Place.{Place}
 use Rattle.mbuf_chain.specs.declared.place.Segment.{Segment}
 use Rattle.mbuf_chain.specs.Chain.{Entry, ChainView, PoolView, chain_of, IsLive, IsPlace, with_chain, without, entry_of, alone}
@@ -35,7 +35,13 @@ live_cells s c pool live =
       same = ap length (sym cells) ∙ cells_count f.cells ∙ sym (count_cells s c f);
       some = omega (arith, count_cells s c f, some f.cells f.chain);
       few =
-          omega (arith, count_cells s c f, f.sound.total, Rattle.mbuf_chain.proofs.Lists.few_out s, f.sound.store.mbufs);
+          omega (
+            arith,
+            count_cells s c f,
+            f.sound.total,
+            Rattle.mbuf_chain.proofs.Lists.few_out s,
+            f.sound.store.mbufs,
+          );
       first = ap (λ (l : List ℕ). slice_get l 0) (sym cells) ∙ first f.cells f.chain f.first;
     }
   where
@@ -53,11 +59,11 @@ first_place s c pool live = let l = live_cells s c pool live in record { within 
 
 -- ---- the place after another
 next_in : (s : StoreView) (at : Option ℕ) (l : List ℕ) (i : ℕ) → IsLinked s at l → i < weigh one l
-    → (head_of s (slice_index l i)).next ≡ slice_get l (suc i)
+    → (mbuf_head s (slice_index l i)).next ≡ slice_get l (suc i)
 next_in s at [] i h lt = absurd (omega arith)
 next_in s at (x ∷ []) zero h lt = h.3
 next_in s at (x ∷ y ∷ ys) zero h lt = h.3.0
-next_in s at (x ∷ xs) (suc i) h lt = next_in s (head_of s x).next xs i h.3 (omega arith)
+next_in s at (x ∷ xs) (suc i) h lt = next_in s (mbuf_head s x).next xs i h.3 (omega arith)
 
 past : (l : List ℕ) (i : ℕ) → slice_get l i ≡ None → length l ≤ i
 past [] i e = omega arith
@@ -65,16 +71,16 @@ past (x ∷ xs) zero e = absurd (none-some x (sym e))
 past (x ∷ xs) (suc i) e = omega (arith, past xs i e)
 
 next_is : (s : StoreView) (c : ℕ) (at : Place) → IsPool s → IsLive (pool_of s) c → IsPlace (chain_of (pool_of s) c) at
-    → (head_of s at.cell).next ≡ slice_get (chain_of (pool_of s) c).cells (at.index + 1)
+    → (mbuf_head s at.cell).next ≡ slice_get (chain_of (pool_of s) c).cells (at.index + 1)
 next_is s c at pool live place =
     let o = open_on s c pool live in
     let e = enter s c at o.at place in
-    ap (λ (j : ℕ). (head_of s j).next) (sym e.cell) ∙ next_in s (Some c) o.at.cells at.index o.at.linked e.below
+    ap (λ (j : ℕ). (mbuf_head s j).next) (sym e.cell) ∙ next_in s (Some c) o.at.cells at.index o.at.linked e.below
     ∙ ap (λ (v : ChainView). slice_get v.cells (suc at.index)) o.at.shows
     ∙ (let same : suc at.index ≡ at.index + 1 = omega arith in ap (slice_get (chain_of (pool_of s) c).cells) same)
 
 pub next_place : (s : StoreView) (c : ℕ) (at : Place) (next : ℕ) (h : Head) → IsPool s → IsLive (pool_of s) c
-    → IsPlace (chain_of (pool_of s) c) at → h ≡ head_of s at.cell → h.next ≡ Some next
+    → IsPlace (chain_of (pool_of s) c) at → h ≡ mbuf_head s at.cell → h.next ≡ Some next
     → IsPlace (chain_of (pool_of s) c) (record { index = at.index + 1; cell = next })
 next_place s c at next h pool live place head is =
     let l = live_cells s c pool live in
@@ -86,7 +92,7 @@ next_place s c at next h pool live place head is =
     }
 
 pub next_none : (s : StoreView) (c : ℕ) (at : Place) (h : Head) → IsPool s → IsLive (pool_of s) c
-    → IsPlace (chain_of (pool_of s) c) at → h ≡ head_of s at.cell → h.next ≡ None
+    → IsPlace (chain_of (pool_of s) c) at → h ≡ mbuf_head s at.cell → h.next ≡ None
     → at.index + 1 ≡ length (chain_of (pool_of s) c).entries
 next_none s c at h pool live place head is =
     let l = live_cells s c pool live in
@@ -99,7 +105,7 @@ next_none s c at h pool live place head is =
     )
 
 -- ---- where the bytes lie
-pub segment_is : (s : StoreView) (c : ℕ) (at : Place) (h : Head) → Shown s c at → h ≡ head_of s at.cell
+pub segment_is : (s : StoreView) (c : ℕ) (at : Place) (h : Head) → Shown s c at → h ≡ mbuf_head s at.cell
     → ◌≡◌ {A = Segment} (record { start = h.start; len = h.len; cluster = h.cluster })
     (record {
       start = (entry_of (chain_of (pool_of s) c) at.index).start;
@@ -161,21 +167,27 @@ linked_place s q a b last pool live_a live_b is_last is =
     (sym (ap (λ (r : PoolView). chain_of r a) is ∙ chain_here (without (pool_of s) b) a (joined v w)))
     (record {
       within =
-          omega (arith, length-append (chain_of (pool_of s) a).entries (chain_of (pool_of s) b).entries, m.some, is_last);
+          omega (
+            arith,
+            length-append (chain_of (pool_of s) a).entries (chain_of (pool_of s) b).entries,
+            m.some,
+            is_last,
+          );
       cell =
-          get_after (chain_of (pool_of s) a).cells (chain_of (pool_of s) b).cells (last.index + 1) (l.same ∙ sym is_last)
+          get_after (chain_of (pool_of s) a).cells (chain_of (pool_of s) b).cells (last.index + 1)
+          (l.same ∙ sym is_last)
           ∙ m.first;
     })
 
 -- the front of a live chain
 pub header_is : (s : StoreView) (c : ℕ) → IsPool s → IsLive (pool_of s) c
-    → is_some (head_of s c).packet ≡ (chain_of (pool_of s) c).front.header
+    → is_some (mbuf_head s c).packet ≡ (chain_of (pool_of s) c).front.header
 header_is s c pool live =
     let o = open_on s c pool live in
-    ap (λ (j : ℕ). is_some (head_of s j).packet) (sym o.at.first) ∙ ap (λ (v : ChainView). v.front.header) o.at.shows
+    ap (λ (j : ℕ). is_some (mbuf_head s j).packet) (sym o.at.first) ∙ ap (λ (v : ChainView). v.front.header) o.at.shows
 
 pub front_is : (s : StoreView) (c : ℕ) → IsPool s → IsLive (pool_of s) c
-    → front_of (head_of s c) ≡ (chain_of (pool_of s) c).front
+    → front_of (mbuf_head s c) ≡ (chain_of (pool_of s) c).front
 front_is s c pool live =
     let o = open_on s c pool live in
-    ap (λ (j : ℕ). front_of (head_of s j)) (sym o.at.first) ∙ ap (λ (v : ChainView). v.front) o.at.shows
+    ap (λ (j : ℕ). front_of (mbuf_head s j)) (sym o.at.first) ∙ ap (λ (v : ChainView). v.front) o.at.shows

@@ -7,10 +7,10 @@ use Rattle.std.specs.Option.{option_eq}
 use Rattle.std.specs.List.{AllByRecursion}
 use Rattle.std.proofs.lemmas.Bool.{cases_eq, eq-eqb, ne_eqb}
 use Rattle.mbuf_pool.specs.Cells.{Head}
-use Rattle.mbuf_pool.specs.Store.{StoreView, head_of, is_out, mbufs_out, count_of, IsStore}
+use Rattle.mbuf_pool.specs.Store.{StoreView, mbuf_head, is_out, mbufs_out, cluster_count, IsStore}
 use Rattle.mbuf_chain.specs.Chain.{Front, ChainView, chain_of, with_chain}
 use Rattle.mbuf_chain.specs.Steps.{with_entry}
-use Rattle.mbuf_chain.specs.Inside.Cells.{weigh, weigh_all, is_at, one, len_at, entry_at, front_of, refers_at, first_of, IsLinked, AllFollow, IsFollower, IsChain, IsTotal, IsSound, IsFit, pool_of, out_at, IsOff, IsTotalBy, off_at}
+use Rattle.mbuf_chain.specs.Inside.Cells.{weigh, weigh_all, is_at, one, len_at, entry_at, front_of, refers_at, first_of, IsLinked, AllFollow, IsFollower, IsChain, IsTotal, AreSoundChains, IsFit, pool_of, out_at, IsOff, IsTotalBy, off_at}
 use Rattle.mbuf_chain.proofs.Maps.{insert-insert}
 use Rattle.mbuf_chain.proofs.Lists.{chains_of, heads_at, heads-tails, bit, is_at_same}
 use Rattle.mbuf_chain.proofs.Changes.{SameCell, step, view_is, links_kept, list_kept}
@@ -22,21 +22,21 @@ pub record SameOuts (s t : StoreView) : Type 0 where
   pub clusters : length t.clusters ≡ length s.clusters
   pub outs : (k : ℕ) → is_out t k ≡ is_out s k
   pub total : mbufs_out t ≡ mbufs_out s
-  pub counts : (c : ℕ) → count_of t c ≡ count_of s c
+  pub counts : (c : ℕ) → cluster_count t c ≡ cluster_count s c
 
 -- from s to t the mbuf x alone has changed, and still leads to the same next one and cluster
 pub record CellChange (s t : StoreView) (x : ℕ) : Type 0 where
-  pub next : (head_of t x).next ≡ (head_of s x).next
-  pub cluster : (head_of t x).cluster ≡ (head_of s x).cluster
+  pub next : (mbuf_head t x).next ≡ (mbuf_head s x).next
+  pub cluster : (mbuf_head t x).cluster ≡ (mbuf_head s x).cluster
   pub out : is_out t x ≡ true
-  pub fit : IsFit (head_of t x)
+  pub fit : IsFit (mbuf_head t x)
 
 -- the list of a chain with x as its mbuf i
 pub record Renewed (s t : StoreView) (at : Option ℕ) (l : List ℕ) (i x : ℕ) : Type 0 where
   pub linked : IsLinked t at l
   pub entries : map (entry_at t) l ≡ slice_set (map (entry_at s) l) i (entry_at t x)
   pub counted : (c : ℕ) → weigh (refers_at t c) l ≡ weigh (refers_at s c) l
-  pub lens : weigh (len_at t) l + (head_of s x).len ≡ weigh (len_at s) l + (head_of t x).len
+  pub lens : weigh (len_at t) l + (mbuf_head s x).len ≡ weigh (len_at s) l + (mbuf_head t x).len
 
 pub renewed : (s t : StoreView) (x : ℕ) → CellChange s t x → (at : Option ℕ) (l : List ℕ) (i : ℕ)
     → ((k : ℕ) → k ≢ x → 0 < weigh (is_at k) l → SameCell s t k) → IsLinked s at l → ((k : ℕ) → weigh (is_at k) l ≤ 1)
@@ -52,17 +52,17 @@ renewed s t x change at (y ∷ ys) zero kept linked once lt is =
       linked = (
         linked.0,
         subst (λ (j : ℕ). is_out t j ≡ true) (sym is) change.out,
-        subst (λ (j : ℕ). IsFit (head_of t j)) (sym is) change.fit,
+        subst (λ (j : ℕ). IsFit (mbuf_head t j)) (sym is) change.fit,
         subst (λ (n : Option ℕ). IsLinked t n ys)
-            (sym (subst (λ (j : ℕ). (head_of t j).next ≡ (head_of s j).next) (sym is) change.next))
-            (links_kept s t (head_of s y).next ys others linked.3),
+            (sym (subst (λ (j : ℕ). (mbuf_head t j).next ≡ (mbuf_head s j).next) (sym is) change.next))
+            (links_kept s t (mbuf_head s y).next ys others linked.3),
       );
       entries = λ j. entry_at t (is j) ∷ same.entries j;
       counted =
           λ c. λ j. cond (option_eq nat_eq
-          (subst (λ (j : ℕ). (head_of t j).cluster ≡ (head_of s j).cluster) (sym is) change.cluster j)
+          (subst (λ (j : ℕ). (mbuf_head t j).cluster ≡ (mbuf_head s j).cluster) (sym is) change.cluster j)
           (Some c)) 1 0 + same.counted c j;
-      lens = omega (arith, same.lens, ap (λ (j : ℕ). (head_of s j).len) is, ap (λ (j : ℕ). (head_of t j).len) is);
+      lens = omega (arith, same.lens, ap (λ (j : ℕ). (mbuf_head s j).len) is, ap (λ (j : ℕ). (mbuf_head t j).len) is);
     }
 renewed s t x change at (y ∷ ys) (suc i) kept linked once lt is =
     let apart : y ≢ x =
@@ -76,7 +76,7 @@ renewed s t x change at (y ∷ ys) (suc i) kept linked once lt is =
     )) in
     let here = kept y apart (omega (arith, is_at_same y)) in
     let below =
-    renewed s t x change (head_of s y).next ys i (λ k ne p. kept k ne (omega (arith, p))) linked.3
+    renewed s t x change (mbuf_head s y).next ys i (λ k ne p. kept k ne (omega (arith, p))) linked.3
     (λ k. omega (arith, once k)) (omega arith) is in
     record {
       linked = (
@@ -92,13 +92,13 @@ renewed s t x change at (y ∷ ys) (suc i) kept linked once lt is =
 
 -- ---- the mbufs after the first go on saying nothing of the packet
 follow_renewed : (s t : StoreView) (x : ℕ) (l : List ℕ) → ((k : ℕ) → k ≢ x → 0 < weigh (is_at k) l → SameCell s t k)
-    → (0 < weigh (is_at x) l → IsFollower (head_of s x) → IsFollower (head_of t x)) → AllFollow s l → AllFollow t l
+    → (0 < weigh (is_at x) l → IsFollower (mbuf_head s x) → IsFollower (mbuf_head t x)) → AllFollow s l → AllFollow t l
 follow_renewed s t x [] kept here h = h
 follow_renewed s t x (y ∷ ys) kept here h = (
   elim (cases_eq y x) [
-    | inl e ↦ subst (λ (j : ℕ). IsFollower (head_of t j)) (sym e)
+    | inl e ↦ subst (λ (j : ℕ). IsFollower (mbuf_head t j)) (sym e)
         (here (subst (λ (j : ℕ). 0 < is_at x j + weigh (is_at x) ys) (sym e) (omega (arith, is_at_same x)))
-        (subst (λ (j : ℕ). IsFollower (head_of s j)) e h.0))
+        (subst (λ (j : ℕ). IsFollower (mbuf_head s j)) e h.0))
     | inr ne ↦ subst IsFollower (sym (kept y ne (omega (arith, is_at_same y))).head) h.0
   ],
   follow_renewed s t x ys (λ k ne p. kept k ne (omega (arith, p))) (λ p. here (omega (arith, p))) h.1,
@@ -106,7 +106,7 @@ follow_renewed s t x (y ∷ ys) kept here h = (
 
 chain_renewed : (s t : StoreView) (x : ℕ) (l : List ℕ) (i : ℕ)
     → ((k : ℕ) → k ≢ x → 0 < weigh (is_at k) l → SameCell s t k) → ((k : ℕ) → weigh (is_at k) l ≤ 1) → i < weigh one l
-    → slice_index l i ≡ x → (0 < i → IsFollower (head_of s x) → IsFollower (head_of t x))
+    → slice_index l i ≡ x → (0 < i → IsFollower (mbuf_head s x) → IsFollower (mbuf_head t x))
     → IsChain s l → IsLinked t (Some (first_of l)) l → IsChain t l
 chain_renewed s t x [] i kept once lt is follow chain linked = absurd chain
 chain_renewed s t x (y ∷ ys) zero kept once lt is follow chain linked = (
@@ -119,12 +119,12 @@ chain_renewed s t x (y ∷ ys) (suc i) kept once lt is follow chain linked =
 
 -- ---- what a pool shows after it
 pub record Changed (s t : StoreView) (c i x : ℕ) (f : Focused s c) : Type 0 where
-  pub sound : IsSound t (f.cells ∷ f.rest)
+  pub sound : AreSoundChains t (f.cells ∷ f.rest)
   pub totals : AllByRecursion (IsTotal s) f.rest → AllByRecursion (IsTotal t) f.rest
-  pub lens : weigh (len_at t) f.cells + (head_of s x).len ≡ weigh (len_at s) f.cells + (head_of t x).len
+  pub lens : weigh (len_at t) f.cells + (mbuf_head s x).len ≡ weigh (len_at s) f.cells + (mbuf_head t x).len
   pub map_is : pool_of t ≡ with_chain (pool_of s) c
       (record {
-        front = front_of (head_of t c);
+        front = front_of (mbuf_head t c);
         entries = slice_set (chain_of (pool_of s) c).entries i (entry_at t x);
         cells = (chain_of (pool_of s) c).cells;
       })
@@ -132,7 +132,7 @@ pub record Changed (s t : StoreView) (c i x : ℕ) (f : Focused s c) : Type 0 wh
 pub changed : (s t : StoreView) (c i x : ℕ) → (f : Focused s c) → i < weigh one f.cells → slice_index f.cells i ≡ x
     → SameOuts s t → IsStore t → CellChange s t x
     → ((k : ℕ) → k ≢ x → is_out s k ≡ true → 0 < weigh (is_at k) f.cells + weigh_all (is_at k) f.rest → SameCell s t k)
-    → (0 < i → IsFollower (head_of s x) → IsFollower (head_of t x)) → Changed s t c i x f
+    → (0 < i → IsFollower (mbuf_head s x) → IsFollower (mbuf_head t x)) → Changed s t c i x f
 changed s t c i x f lt is outs store change kept follow =
     let inside : 0 < weigh (is_at x) f.cells =
     subst (λ (j : ℕ). 0 < weigh (is_at j) f.cells) is (in_list f.cells i lt) in
@@ -166,7 +166,7 @@ changed s t c i x f lt is outs store change kept follow =
         chains = (view_is t (f.cells ∷ f.rest) went.sound
             ∙ (λ k. finmap.insert (went.map_is k) (f.first k)
             (record {
-              front = front_of (head_of t (f.first k));
+              front = front_of (mbuf_head t (f.first k));
               entries =
                   (new.entries ∙ ap (λ (v : ChainView). slice_set v.entries i (entry_at t x)) f.shows) k;
               cells =
@@ -175,7 +175,7 @@ changed s t c i x f lt is outs store change kept follow =
             ∙ sym (insert-insert (chains_of s f.rest) c (chain_of (pool_of s) c) _)
             ∙ ap (λ (m : FinMap nat_cmp ChainView). finmap.insert m c
             (record {
-              front = front_of (head_of t c);
+              front = front_of (mbuf_head t c);
               entries =
                   slice_set (chain_of (pool_of s) c).entries i (entry_at t x);
               cells =
@@ -244,7 +244,7 @@ some_cell s (y ∷ ys) h = omega arith
 
 -- after a change of an mbuf's length the packet length is off by as much
 pub off_after : (s t : StoreView) (c i x added removed : ℕ) → (o : Opened s c) → Changed s t c i x o.at
-    → (head_of t c).packet ≡ (head_of s c).packet → (head_of t x).len + removed ≡ (head_of s x).len + added
+    → (mbuf_head t c).packet ≡ (mbuf_head s c).packet → (mbuf_head t x).len + removed ≡ (mbuf_head s x).len + added
     → IsOff t c added removed
 off_after s t c i x added removed o went packet lens = (
   o.at.cells ∷ o.at.rest,
@@ -253,8 +253,8 @@ off_after s t c i x added removed o went packet lens = (
     λ h is. omega (
       arith,
       o.totals.0 h
-          (ap (λ (j : ℕ). (head_of s j).packet) o.at.first ∙ sym packet
-          ∙ ap (λ (j : ℕ). (head_of t j).packet) (sym o.at.first)
+          (ap (λ (j : ℕ). (mbuf_head s j).packet) o.at.first ∙ sym packet
+          ∙ ap (λ (j : ℕ). (mbuf_head t j).packet) (sym o.at.first)
           ∙ is),
       went.lens,
       lens,
@@ -267,7 +267,7 @@ off_after s t c i x added removed o went packet lens = (
 
 -- an mbuf whose front is as it was: the entry alone has changed
 pub changed_entry : (s t : StoreView) (c i x : ℕ) → (f : Focused s c) → Changed s t c i x f
-    → front_of (head_of t c) ≡ front_of (head_of s c)
+    → front_of (mbuf_head t c) ≡ front_of (mbuf_head s c)
     → pool_of t ≡ with_chain (pool_of s) c (with_entry (chain_of (pool_of s) c) i (entry_at t x))
 changed_entry s t c i x f went front =
     went.map_is ∙ ap (λ (g : Front). with_chain (pool_of s) c
@@ -276,4 +276,4 @@ changed_entry s t c i x f went front =
       entries = slice_set (chain_of (pool_of s) c).entries i (entry_at t x);
       cells = (chain_of (pool_of s) c).cells;
     }))
-    (front ∙ ap (λ (j : ℕ). front_of (head_of s j)) (sym f.first) ∙ ap (λ (v : ChainView). v.front) f.shows)
+    (front ∙ ap (λ (j : ℕ). front_of (mbuf_head s j)) (sym f.first) ∙ ap (λ (v : ChainView). v.front) f.shows)

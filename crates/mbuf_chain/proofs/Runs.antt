@@ -3,7 +3,7 @@ use Rattle.std.proofs.Common.{◌≡◌, ℕ, zero, suc, ◌<◌, List, [], ◌�
 use Rattle.std.specs.List.{insert, remove}
 use Rattle.std.proofs.lemmas.Option.{none-some, same_Some}
 use Rattle.mbuf_chain.specs.Chain.{PoolView, chain_of}
-use Rattle.mbuf_chain.specs.Owners.{times}
+use Rattle.mbuf_chain.specs.Owners.{times_among}
 use Rattle.mbuf_chain.specs.Train.{follow, last_number}
 use Rattle.mbuf_chain.proofs.Laws.Owners.{times_same}
 
@@ -33,7 +33,7 @@ run_of p (suc n) (Some c) e ends =
 
 -- the links of these chains are as they were
 pub record SameLinks (p q : PoolView) (xs : List ℕ) : Type 0 where
-  pub after : (k : ℕ) → 0 < times k xs → (chain_of q k).front.after ≡ (chain_of p k).front.after
+  pub after : (k : ℕ) → 0 < times_among k xs → (chain_of q k).front.after ≡ (chain_of p k).front.after
 
 pub run_same : (p q : PoolView) (at : Option ℕ) (xs : List ℕ) → SameLinks p q xs → IsRun p at xs → IsRun q at xs
 run_same p q at [] s h = h
@@ -98,16 +98,17 @@ get_front [] zs ws k h = absurd (omega arith)
 get_front (y ∷ ys) zs ws zero h = refl
 get_front (y ∷ ys) zs ws (suc k) h = get_front ys zs ws k (omega arith)
 
-pub times_get : (xs : List ℕ) (i c : ℕ) → slice_get xs i ≡ Some c → 0 < times c xs
+pub times_get : (xs : List ℕ) (i c : ℕ) → slice_get xs i ≡ Some c → 0 < times_among c xs
 times_get [] i c e = absurd (none-some c e)
 times_get (x ∷ xs) zero c e =
-    subst (λ (j : ℕ). 0 < times c (j ∷ xs)) (sym (same_Some x c e)) (omega (arith, times_same c xs))
+    subst (λ (j : ℕ). 0 < times_among c (j ∷ xs)) (sym (same_Some x c e)) (omega (arith, times_same c xs))
 times_get (x ∷ xs) (suc i) c e = omega (arith, times_get xs i c e)
 
-pub times_twice : (xs : List ℕ) (i c : ℕ) → slice_get xs i ≡ Some c → slice_get xs (suc i) ≡ Some c → 1 < times c xs
+pub times_twice : (xs : List ℕ) (i c : ℕ) → slice_get xs i ≡ Some c → slice_get xs (suc i) ≡ Some c
+    → 1 < times_among c xs
 times_twice [] i c e f = absurd (none-some c e)
 times_twice (x ∷ xs) zero c e f =
-    subst (λ (j : ℕ). 1 < times c (j ∷ xs)) (sym (same_Some x c e))
+    subst (λ (j : ℕ). 1 < times_among c (j ∷ xs)) (sym (same_Some x c e))
     (omega (arith, times_same c xs, times_get xs zero c f))
 times_twice (x ∷ xs) (suc i) c e f = omega (arith, times_twice xs i c e f)
 

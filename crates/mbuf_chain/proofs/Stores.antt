@@ -6,9 +6,9 @@ use Rattle.std.proofs.lemmas.Option.{slice_get_within, get_or_from_slice_get}
 use Rattle.std.proofs.lemmas.List.{length-set, get_or-set_same, get_or-set_other}
 use Rattle.std.proofs.lemmas.List.Sums.{sum_by-set}
 use Rattle.mbuf_pool.specs.Cells.{Head}
-use Rattle.mbuf_pool.specs.Store.{StoreView, MbufView, ClusterView, no_mbuf, free_cluster, is_out, mbuf_of, head_of, cluster_of, count_of, mbufs_out, with_mbuf, with_cluster, released, TakesWith}
+use Rattle.mbuf_pool.specs.Store.{StoreView, MbufView, ClusterView, no_mbuf, free_cluster, is_out, mbuf_of, mbuf_head, cluster_of, cluster_count, mbufs_out, with_mbuf, with_cluster, released, TakesWith}
 use Rattle.mbuf_pool.proofs.Laws.{counted_within}
-use Rattle.mbuf_chain.specs.Inside.Cells.{weigh, is_at, one, refers_at, out_at, released_in, Taken, Freed, IsFreeable, IsWhole, cells_from}
+use Rattle.mbuf_chain.specs.Inside.Cells.{weigh, is_at, one, refers_at, out_at, released_in, Taken, Freed, IsFreeable, LeadsToEnd, cells_from}
 use Rattle.mbuf_chain.proofs.Lists.{is_at_same, is_at_other, on, off, bit, out_below, walk_on}
 
 -- ---- one mbuf of the table
@@ -69,22 +69,23 @@ released_bytes v some left =
           (ne_eqb v.count 1 ne)
     ]
 
-pub refers_to : (s : StoreView) (x d : ℕ) → (head_of s x).cluster ≡ Some d → refers_at s d x ≡ 1
+pub refers_to : (s : StoreView) (x d : ℕ) → (mbuf_head s x).cluster ≡ Some d → refers_at s d x ≡ 1
 refers_to s x d is =
     ap {B = ℕ} (λ (o : Option ℕ). cond (option_eq nat_eq o (Some d)) 1 0) is ∙ on (nat_eq d d) (eq-eqb d d refl)
 
-pub refers_not : (s : StoreView) (x c d : ℕ) → (head_of s x).cluster ≡ Some d → c ≢ d → refers_at s c x ≡ 0
+pub refers_not : (s : StoreView) (x c d : ℕ) → (mbuf_head s x).cluster ≡ Some d → c ≢ d → refers_at s c x ≡ 0
 refers_not s x c d is ne =
     ap {B = ℕ} (λ (o : Option ℕ). cond (option_eq nat_eq o (Some c)) 1 0) is
     ∙ off (nat_eq d c) (ne_eqb d c (λ e. ne (sym e)))
 
-pub refers_none : (s : StoreView) (x c : ℕ) → (head_of s x).cluster ≡ None → refers_at s c x ≡ 0
+pub refers_none : (s : StoreView) (x c : ℕ) → (mbuf_head s x).cluster ≡ None → refers_at s c x ≡ 0
 refers_none s x c is = ap {B = ℕ} (λ (o : Option ℕ). cond (option_eq nat_eq o (Some c)) 1 0) is
 
 -- ---- an mbuf given back, with its reference
 pub free_one : (s t : StoreView) (l m : List ℕ) (i : ℕ) → Freed s t l (i ∷ m) → is_out t i ≡ true
-    → ((c : ℕ) → refers_at s c i ≤ count_of t c) → Freed s (with_mbuf (released_in t (head_of s i).cluster) i None) l m
-free_one s t l m i f out known = go (head_of s i).cluster refl
+    → ((c : ℕ) → refers_at s c i ≤ cluster_count t c)
+    → Freed s (with_mbuf (released_in t (mbuf_head s i).cluster) i None) l m
+free_one s t l m i f out known = go (mbuf_head s i).cluster refl
   where
     gone : (u : StoreView) → u.mbufs ≡ t.mbufs → (k : ℕ) → out_at (with_mbuf u i None) k + is_at k i ≡ out_at t k
     gone u e k =
@@ -132,7 +133,7 @@ free_one s t l m i f out known = go (head_of s i).cluster refl
         ∙ f.kept k (ap (λ (ms : List (Option MbufView)). is_some (slice_index_or ms k None)) (sym e)
         ∙ sym (out_there u i None lt k ne) ∙ there)
 
-    go : (o : Option ℕ) → (head_of s i).cluster ≡ o → Freed s (with_mbuf (released_in t o) i None) l m
+    go : (o : Option ℕ) → (mbuf_head s i).cluster ≡ o → Freed s (with_mbuf (released_in t o) i None) l m
     go None none = record {
       mbufs = length-set t.mbufs i None ∙ f.mbufs;
       clusters = f.clusters;
@@ -143,7 +144,7 @@ free_one s t l m i f out known = go (head_of s i).cluster refl
       counted = λ c. omega (arith, f.counted c, refers_none s i c none);
     }
     go (Some d) some =
-        let counted : 0 < count_of t d = omega (arith, known d, refers_to s i d some) in
+        let counted : 0 < cluster_count t d = omega (arith, known d, refers_to s i d some) in
         let lt : d < length t.clusters = counted_within t d counted in
         let v = released (cluster_of t d) in
         let here : cluster_of (with_cluster t d (released (cluster_of t d))) d ≡ released (cluster_of t d) =
@@ -153,7 +154,7 @@ free_one s t l m i f out known = go (head_of s i).cluster refl
           clusters = length-set t.clusters d v ∙ f.clusters;
           kept = same (with_cluster t d v) refl;
           bytes = λ c left. elim (cases_eq c d) [
-            | inl is ↦ subst (λ (j : ℕ). 0 < count_of (with_cluster t d (released (cluster_of t d))) j
+            | inl is ↦ subst (λ (j : ℕ). 0 < cluster_count (with_cluster t d (released (cluster_of t d))) j
                 → (cluster_of (with_cluster t d (released (cluster_of t d))) j).bytes ≡ (cluster_of s j).bytes) (sym is)
                 (λ g. ap (λ (w : ClusterView). w.bytes) here
                 ∙ released_bytes (cluster_of t d) counted (omega (arith, g, ap (λ (w : ClusterView). w.count) here))
@@ -164,8 +165,8 @@ free_one s t l m i f out known = go (head_of s i).cluster refl
           once = λ k. omega (arith, f.once k, gone (with_cluster t d v) refl k);
           total = omega (arith, f.total, less (with_cluster t d v) refl);
           counted = λ c. elim (cases_eq c d) [
-            | inl is ↦ subst (λ (j : ℕ). count_of (with_cluster t d (released (cluster_of t d))) j
-                + weigh (refers_at s j) l ≡ count_of s j + weigh (refers_at s j) m) (sym is)
+            | inl is ↦ subst (λ (j : ℕ). cluster_count (with_cluster t d (released (cluster_of t d))) j
+                + weigh (refers_at s j) l ≡ cluster_count s j + weigh (refers_at s j) m) (sym is)
                 (omega (
                   arith,
                   f.counted d,
@@ -185,33 +186,33 @@ free_one s t l m i f out known = go (head_of s i).cluster refl
 -- what a loop that gives mbufs back needs of the next one
 pub record Ready (s t : StoreView) (first at : Option ℕ) (i : ℕ) : Type 0 where
   pub out : is_out t i ≡ true
-  pub known : (c : ℕ) → (head_of t i).cluster ≡ Some c → 0 < count_of t c
-  pub next : (head_of t i).next ≡ (head_of s i).next
-  pub whole : IsWhole s (head_of t i).next
-  pub shorter : weigh one (cells_from s (head_of t i).next) < weigh one (cells_from s at)
-  pub freed : Freed s (with_mbuf (released_in t (head_of t i).cluster) i None) (cells_from s first)
-      (cells_from s (head_of t i).next)
+  pub known : (c : ℕ) → (mbuf_head t i).cluster ≡ Some c → 0 < cluster_count t c
+  pub next : (mbuf_head t i).next ≡ (mbuf_head s i).next
+  pub whole : LeadsToEnd s (mbuf_head t i).next
+  pub shorter : weigh one (cells_from s (mbuf_head t i).next) < weigh one (cells_from s at)
+  pub freed : Freed s (with_mbuf (released_in t (mbuf_head t i).cluster) i None) (cells_from s first)
+      (cells_from s (mbuf_head t i).next)
 
-pub ready : (s t : StoreView) (first at : Option ℕ) (i : ℕ) → at ≡ Some i → IsFreeable s first → IsWhole s at
+pub ready : (s t : StoreView) (first at : Option ℕ) (i : ℕ) → at ≡ Some i → IsFreeable s first → LeadsToEnd s at
     → Freed s t (cells_from s first) (cells_from s at) → Ready s t first at i
 ready s t first at i is own whole f =
     let w = walk_on s at i is whole in
     let is_one : 0 < out_at t i = omega (arith, f.once i, own.once i, ap (weigh (is_at i)) w.cells, is_at_same i) in
     let out : is_out t i ≡ true = bit (is_out t i) is_one in
-    let counts : (c : ℕ) → refers_at s c i ≤ count_of t c =
+    let counts : (c : ℕ) → refers_at s c i ≤ cluster_count t c =
     λ c. omega (arith, f.counted c, own.counted c, ap (weigh (refers_at s c)) w.cells) in
-    let head : head_of t i ≡ head_of s i = ap (λ (m : MbufView). m.head) (f.kept i out) in
-    let next : (head_of t i).next ≡ (head_of s i).next = ap (λ (h : Head). h.next) head in
+    let head : mbuf_head t i ≡ mbuf_head s i = ap (λ (m : MbufView). m.head) (f.kept i out) in
+    let next : (mbuf_head t i).next ≡ (mbuf_head s i).next = ap (λ (h : Head). h.next) head in
     record {
       out = out;
       known = λ c e. omega (arith, counts c, refers_to s i c (ap (λ (h : Head). h.cluster) (sym head) ∙ e));
       next = next;
-      whole = subst (IsWhole s) (sym next) w.whole;
+      whole = subst (LeadsToEnd s) (sym next) w.whole;
       shorter = omega (arith, ap (weigh one) w.cells, ap (λ (o : Option ℕ). weigh one (cells_from s o)) next);
       freed =
           subst (λ (h : Head). Freed s (with_mbuf (released_in t h.cluster) i None) (cells_from s first)
           (cells_from s h.next)) (sym head)
-          (free_one s t (cells_from s first) (cells_from s (head_of s i).next) i
+          (free_one s t (cells_from s first) (cells_from s (mbuf_head s i).next) i
           (subst (Freed s t (cells_from s first)) w.cells f) out counts);
     }
 

@@ -9,7 +9,7 @@ use Rattle.std.proofs.lemmas.List.{map-append, length-map, append-nil}
 use Rattle.std.proofs.lemmas.Option.{same_Some, none-some}
 use Rattle.std.proofs.Math.Seq.{get_or-append_seam}
 use Rattle.mbuf_chain.specs.Chain.{ChainView, PoolView, IsLive, chain_of, with_chain, without, alone, Adds}
-use Rattle.mbuf_chain.specs.Owners.{times, IsOwned, Moves}
+use Rattle.mbuf_chain.specs.Owners.{times_among, IsOwned, Moves}
 use Rattle.mbuf_chain.specs.Steps.{placed}
 use Rattle.mbuf_chain.specs.Frames.{SameAt, IsBounded}
 use Rattle.mbuf_chain.specs.Train.{TrainView, QueuedPacket, no_queued_packet, follow, numbers, queued_packet_of, queued_packets, queued_packet_at, last_number, IsHeld, Inserts, Takes}
@@ -25,7 +25,7 @@ record Linked (p : PoolView) (t : TrainView) (xs : List ℕ) : Type 0 where
   whole : t.len ≡ length xs
   last : t.last ≡ last_number xs
   owned : IsOwned p xs
-  headed : (k : ℕ) → 0 < times k xs → (chain_of p k).front.header ≡ true
+  headed : (k : ℕ) → 0 < times_among k xs → (chain_of p k).front.header ≡ true
 
 linked_of : (p : PoolView) (t : TrainView) → IsHeld p t → Linked p t (numbers p t)
 linked_of p t h =
@@ -44,8 +44,8 @@ held_of : (p : PoolView) (t : TrainView) (xs : List ℕ) → Linked p t xs → I
 held_of p t xs l =
     let e : numbers p t ≡ xs = numbers_are p t xs l in
     record {
-      owned = λ k. omega (arith, l.owned k, ap (times k) e);
-      headed = λ k h. l.headed k (omega (arith, h, ap (times k) e));
+      owned = λ k. omega (arith, l.owned k, ap (times_among k) e);
+      headed = λ k h. l.headed k (omega (arith, h, ap (times_among k) e));
       whole = ap length e ∙ sym l.whole;
       ends = ap (λ (n : ℕ). follow p (suc n) t.first) l.whole ∙ (run_ends p t.first xs l.run ∙ sym e);
       last = l.last ∙ ap last_number (sym e);
@@ -91,10 +91,11 @@ pub beside_adds : {p q : PoolView} {c : ℕ} {v : ChainView} (t : TrainView) →
 beside_adds {p} {q} t a h = beside p q t (same_adds (numbers p t) a h.owned) h
 
 pub beside_with : (p q : PoolView) (c : ℕ) (v : ChainView) (t : TrainView) → q ≡ with_chain p c v
-    → times c (numbers p t) ≡ 0 → IsHeld p t → Beside p q t
+    → times_among c (numbers p t) ≡ 0 → IsHeld p t → Beside p q t
 beside_with p q c v t e apart h = beside p q t (same_with p q c v (numbers p t) apart e) h
 
-pub beside_without : (p q : PoolView) (c : ℕ) (t : TrainView) → q ≡ without p c → times c (numbers p t) ≡ 0 → IsHeld p t
+pub beside_without : (p q : PoolView) (c : ℕ) (t : TrainView) → q ≡ without p c → times_among c (numbers p t) ≡ 0
+    → IsHeld p t
     → Beside p q t
 beside_without p q c t e apart h = beside p q t (same_without p q c (numbers p t) apart e) h
 
@@ -104,8 +105,8 @@ beside_moves {p} {q} t m o h = beside p q t (same_after (numbers p t) m o) h
 
 -- a new chain is none of a train's
 pub apart_adds : {p q : PoolView} {c : ℕ} {v : ChainView} (t : TrainView) → Adds p q c v → IsHeld p t
-    → times c (numbers q t) ≡ 0
-apart_adds {p} {q} {c} t a h = ap (times c) (beside_adds t a h).numbers ∙ apart_new (numbers p t) a h.owned
+    → times_among c (numbers q t) ≡ 0
+apart_adds {p} {q} {c} t a h = ap (times_among c) (beside_adds t a h).numbers ∙ apart_new (numbers p t) a h.owned
 
 -- ---- an owner of a train has a new chain beside it
 pub moves_new : {p q : PoolView} {c : ℕ} {v : ChainView} (t : TrainView) → Adds p q c v → IsHeld p t
@@ -169,10 +170,10 @@ pub headed_packet : (p : PoolView) (t : TrainView) (i c : ℕ) → IsHeld p t �
     → (chain_of p c).front.header ≡ true
 headed_packet p t i c h e = h.headed c (times_get (numbers p t) i c e)
 
-pub apart_queued : (p : PoolView) (t : TrainView) (i b c : ℕ) → times c (numbers p t) ≡ 0
+pub apart_queued : (p : PoolView) (t : TrainView) (i b c : ℕ) → times_among c (numbers p t) ≡ 0
     → slice_get (numbers p t) i ≡ Some b → b ≢ c
 apart_queued p t i b c apart e is =
-    absurd (omega (arith, apart, times_get (numbers p t) i b e, ap (λ (j : ℕ). times j (numbers p t)) is))
+    absurd (omega (arith, apart, times_get (numbers p t) i b e, ap (λ (j : ℕ). times_among j (numbers p t)) is))
 
 get_queued : (p : PoolView) (xs : List ℕ) (i c : ℕ) → slice_get xs i ≡ Some c
     → get_or (map (queued_packet_of p) xs) i no_queued_packet ≡ queued_packet_of p c
@@ -231,7 +232,7 @@ live_after p t i b h e =
 
 -- a pool has fewer chains than a count can tell
 pub room_for : (p : PoolView) (t : TrainView) (c : ℕ) (v : ChainView) (q : PoolView) → IsHeld p t → IsLive p c
-    → times c (numbers p t) ≡ 0 → q ≡ with_chain p c v → IsBounded q → t.len < 65535
+    → times_among c (numbers p t) ≡ 0 → q ≡ with_chain p c v → IsBounded q → t.len < 65535
 room_for p t c v q h live apart is_q b =
     let m : Moves p (c ∷ numbers p t) q (c ∷ numbers p t) =
     moves_within p q c v (c ∷ numbers p t) live (omega (arith, times_same c (numbers p t))) is_q in
@@ -244,8 +245,8 @@ room_for p t c v q h live apart is_q b =
 
 -- ---- chains that show what they showed, with other links
 record Shown (p q : PoolView) (xs : List ℕ) : Type 0 where
-  header : (k : ℕ) → 0 < times k xs → (chain_of q k).front.header ≡ (chain_of p k).front.header
-  queued_packet : (k : ℕ) → 0 < times k xs → queued_packet_of q k ≡ queued_packet_of p k
+  header : (k : ℕ) → 0 < times_among k xs → (chain_of q k).front.header ≡ (chain_of p k).front.header
+  queued_packet : (k : ℕ) → 0 < times_among k xs → queued_packet_of q k ≡ queued_packet_of p k
 
 -- ---- a chain put in
 record PutIn (p : PoolView) (t : TrainView) (ys zs : List ℕ) (c tag : ℕ) (q : PoolView) (u : TrainView) : Type 0 where
@@ -257,14 +258,14 @@ record PutIn (p : PoolView) (t : TrainView) (ys zs : List ℕ) (c tag : ℕ) (q 
   last : u.last ≡ last_number (ys ++ c ∷ zs)
   len : u.len ≡ t.len + 1
 
-times_in : (k c : ℕ) (ys zs : List ℕ) → times k (ys ++ c ∷ zs) ≡ times k (c ∷ (ys ++ zs))
+times_in : (k c : ℕ) (ys zs : List ℕ) → times_among k (ys ++ c ∷ zs) ≡ times_among k (c ∷ (ys ++ zs))
 times_in k c ys zs = omega (arith, times-append k ys (c ∷ zs), times-append k ys zs)
 
 length_in : (c : ℕ) (ys zs : List ℕ) → length (ys ++ c ∷ zs) ≡ suc (length (ys ++ zs))
 length_in c ys zs = omega (arith, length-append ys (c ∷ zs), length-append ys zs)
 
 put_in : (p : PoolView) (t : TrainView) (ys zs : List ℕ) (c tag : ℕ) (q : PoolView) (u : TrainView)
-    → Linked p t (ys ++ zs) → IsLive p c → times c (ys ++ zs) ≡ 0 → PutIn p t ys zs c tag q u
+    → Linked p t (ys ++ zs) → IsLive p c → times_among c (ys ++ zs) ≡ 0 → PutIn p t ys zs c tag q u
     → Inserts p t (length ys) c tag q u
 put_in p t ys zs c tag q u l live apart s =
     let owned : IsOwned q (c ∷ (ys ++ zs)) = owned_after s.moves (owned_more p c (ys ++ zs) l.owned live apart) in
@@ -276,7 +277,8 @@ put_in p t ys zs c tag q u l live apart s =
       headed = λ k h. elim (cases_eq k c) [
         | inl e ↦ ap (λ (j : ℕ). (chain_of q j).front.header) e ∙ s.header
         | inr ne ↦
-            let in_old : 0 < times k (ys ++ zs) = omega (arith, h, times_in k c ys zs, times_other k c (ys ++ zs) ne) in
+            let in_old : 0 < times_among k (ys ++ zs) =
+            omega (arith, h, times_in k c ys zs, times_other k c (ys ++ zs) ne) in
             s.others.header k in_old ∙ l.headed k in_old
       ];
     } in
@@ -300,8 +302,9 @@ put_in p t ys zs c tag q u l live apart s =
       held = held_of q u (ys ++ c ∷ zs) linked;
       len = s.len;
       moves =
-          moves_reordered (c ∷ numbers p t) (numbers q u) s.moves (λ k. ap (λ (xs : List ℕ). times k (c ∷ xs)) was)
-          (λ k. ap (times k) is ∙ times_in k c ys zs);
+          moves_reordered (c ∷ numbers p t) (numbers q u) s.moves
+          (λ k. ap (λ (xs : List ℕ). times_among k (c ∷ xs)) was)
+          (λ k. ap (times_among k) is ∙ times_in k c ys zs);
       stands = ap (λ (xs : List ℕ). slice_get xs (length ys)) is ∙ get_seam ys c zs;
       front =
           λ k h. ap (λ (xs : List ℕ). slice_get xs k) is ∙ get_front ys (c ∷ zs) zs k h
@@ -357,8 +360,8 @@ take_out p t ys zs c q u l s =
       held = held_of q u (ys ++ zs) linked;
       len = s.len;
       moves =
-          moves_reordered (numbers p t) (c ∷ numbers q u) s.moves (λ k. ap (times k) was)
-          (λ k. ap (λ (xs : List ℕ). times k (c ∷ xs)) is ∙ sym (times_in k c ys zs));
+          moves_reordered (numbers p t) (c ∷ numbers q u) s.moves (λ k. ap (times_among k) was)
+          (λ k. ap (λ (xs : List ℕ). times_among k (c ∷ xs)) is ∙ sym (times_in k c ys zs));
       front =
           λ k h. ap (λ (xs : List ℕ). slice_get xs k) is ∙ get_front ys zs (c ∷ zs) k h
           ∙ ap (λ (xs : List ℕ). slice_get xs k) (sym was);
@@ -377,19 +380,19 @@ after_from : (p q : PoolView) (k : ℕ) → chain_of q k ≡ chain_of p k
     → (chain_of q k).front.after ≡ (chain_of p k).front.after
 after_from p q k e = ap (λ (v : ChainView). v.front.after) e
 
-not_in : (c k : ℕ) (xs : List ℕ) → times c xs ≡ 0 → 0 < times k xs → k ≢ c
-not_in c k xs apart h e = absurd (omega (arith, apart, h, ap (λ (j : ℕ). times j xs) e))
+not_in : (c k : ℕ) (xs : List ℕ) → times_among c xs ≡ 0 → 0 < times_among k xs → k ≢ c
+not_in c k xs apart h e = absurd (omega (arith, apart, h, ap (λ (j : ℕ). times_among j xs) e))
 
 -- a chain put in front
 pub inserted_first : (p : PoolView) (t : TrainView) (c tag : ℕ) (q : PoolView) (u : TrainView) → IsHeld p t → IsLive p c
-    → (chain_of p c).front.header ≡ true → times c (numbers p t) ≡ 0
+    → (chain_of p c).front.header ≡ true → times_among c (numbers p t) ≡ 0
     → q ≡ with_chain p c (placed (chain_of p c) t.first tag) → u.first ≡ Some c → u.len ≡ t.len + 1
     → (t.len ≡ 0 → u.last ≡ Some c) → (0 < t.len → u.last ≡ t.last) → Inserts p t 0 c tag q u
 inserted_first p t c tag q u h live headed apart is_q first len only last =
     let v = placed (chain_of p c) t.first tag in
     let l = linked_of p t h in
     let here : chain_of q c ≡ placed (chain_of p c) t.first tag = shown_with p q c v is_q in
-    let there : (k : ℕ) → 0 < times k (numbers p t) → chain_of q k ≡ chain_of p k =
+    let there : (k : ℕ) → 0 < times_among k (numbers p t) → chain_of q k ≡ chain_of p k =
     λ k in_old. kept_with p q c v k is_q (not_in c k (numbers p t) apart in_old) in
     let after : (chain_of q c).front.after ≡ t.first = ap (λ (v : ChainView). v.front.after) here in
     let run : IsRun q t.first (numbers p t) =
@@ -414,7 +417,7 @@ inserted_first p t c tag q u h live headed apart is_q first len only last =
 
 -- a chain put in after another
 after_in : (p : PoolView) (t : TrainView) (b i c tag : ℕ) (r q : PoolView) (u : TrainView) → IsHeld p t → IsLive p c
-    → (chain_of p c).front.header ≡ true → times c (numbers p t) ≡ 0
+    → (chain_of p c).front.header ≡ true → times_among c (numbers p t) ≡ 0
     → slice_get (numbers p t) i ≡ Some b → r ≡ with_chain p c (placed (chain_of p c) (chain_of p b).front.after tag)
     → q ≡ with_chain r b (placed (chain_of r b) (Some c) (chain_of r b).front.tag)
     → u.first ≡ t.first → u.len ≡ t.len + 1 → (suc i ≡ t.len → u.last ≡ Some c) → (suc i < t.len → u.last ≡ t.last)
@@ -467,10 +470,11 @@ after_in p t b i c tag r q u h live headed apart at is_r is_q first len only las
     l : Linked p t ((s.front ++ b ∷ []) ++ s.back)
     l = subst (Linked p t) s.all (linked_of p t h)
 
-    apart_all : times c ((s.front ++ b ∷ []) ++ s.back) ≡ 0
-    apart_all = ap (times c) (sym s.all) ∙ apart
+    apart_all : times_among c ((s.front ++ b ∷ []) ++ s.back) ≡ 0
+    apart_all = ap (times_among c) (sym s.all) ∙ apart
 
-    parts : (k : ℕ) → times k ((s.front ++ b ∷ []) ++ s.back) ≡ times k (b ∷ []) + times k (s.front ++ s.back)
+    parts : (k : ℕ) → times_among k ((s.front ++ b ∷ []) ++ s.back)
+        ≡ times_among k (b ∷ []) + times_among k (s.front ++ s.back)
     parts k =
         omega (
           arith,
@@ -479,10 +483,10 @@ after_in p t b i c tag r q u h live headed apart at is_r is_q first len only las
           times-append k s.front s.back,
         )
 
-    has_b : 0 < times b ((s.front ++ b ∷ []) ++ s.back)
+    has_b : 0 < times_among b ((s.front ++ b ∷ []) ++ s.back)
     has_b = omega (arith, parts b, times_same b [])
 
-    once_b : times b (s.front ++ s.back) ≡ 0
+    once_b : times_among b (s.front ++ s.back) ≡ 0
     once_b = omega (arith, parts b, times_same b [], l.owned b, live_at_most p b)
 
     live_b : IsLive p b
@@ -501,7 +505,7 @@ after_in p t b i c tag r q u h live headed apart at is_r is_q first len only las
     there : (k : ℕ) → k ≢ c → k ≢ b → chain_of q k ≡ chain_of p k
     there k nc nb = kept_with r q b w k is_q nb ∙ kept_with p r c v k is_r nc
 
-    kept : (k : ℕ) → 0 < times k (s.front ++ s.back) → chain_of q k ≡ chain_of p k
+    kept : (k : ℕ) → 0 < times_among k (s.front ++ s.back) → chain_of q k ≡ chain_of p k
     kept k h =
         there k (not_in c k ((s.front ++ b ∷ []) ++ s.back) apart_all (omega (arith, h, parts k)))
         (not_in b k (s.front ++ s.back) once_b h)
@@ -534,10 +538,10 @@ first_out p t c q u h is_c some is_q first len only last = go (numbers p t) refl
         with_first : (zs : List ℕ) → Linked p t (c ∷ zs) → Takes p t 0 c (chain_of p c).front.tag q u
         with_first zs l =
             let v = placed (chain_of p c) None 0 in
-            let apart : times c zs ≡ 0 = omega (arith, l.owned c, times_same c zs, live_at_most p c) in
-            let has_c : 0 < times c (c ∷ zs) = omega (arith, times_same c zs) in
+            let apart : times_among c zs ≡ 0 = omega (arith, l.owned c, times_same c zs, live_at_most p c) in
+            let has_c : 0 < times_among c (c ∷ zs) = omega (arith, times_same c zs) in
             let here : chain_of q c ≡ placed (chain_of p c) None 0 = shown_with p q c v is_q in
-            let there : (k : ℕ) → 0 < times k zs → chain_of q k ≡ chain_of p k =
+            let there : (k : ℕ) → 0 < times_among k zs → chain_of q k ≡ chain_of p k =
             λ k in_zs. kept_with p q c v k is_q (not_in c k zs apart in_zs) in
             take_out p t [] zs c q u l (record {
               moves = moves_within p q c v (c ∷ zs) (live_owned p (c ∷ zs) c l.owned has_c) has_c is_q;
@@ -585,29 +589,31 @@ after_out p t b i c r q u h s more is_c is_r is_q first len only last = go s.bac
         with_chain_out zs l =
             let v = placed (chain_of p b) (chain_of p c).front.after (chain_of p b).front.tag in
             let w = placed (chain_of r c) None 0 in
-            let parts : (k : ℕ) → times k ((us ++ b ∷ []) ++ c ∷ zs) ≡ times k (b ∷ []) + times k (c ∷ (us ++ zs)) =
+            let parts : (k : ℕ) → times_among k ((us ++ b ∷ []) ++ c ∷ zs)
+            ≡ times_among k (b ∷ []) + times_among k (c ∷ (us ++ zs)) =
             λ k. omega (
               arith,
               times-append k (us ++ b ∷ []) (c ∷ zs),
               times-append k us (b ∷ []),
               times-append k us zs,
             ) in
-            let has_b : 0 < times b ((us ++ b ∷ []) ++ c ∷ zs) = omega (arith, parts b, times_same b []) in
-            let has_c : 0 < times c ((us ++ b ∷ []) ++ c ∷ zs) = omega (arith, parts c, times_same c (us ++ zs)) in
+            let has_b : 0 < times_among b ((us ++ b ∷ []) ++ c ∷ zs) = omega (arith, parts b, times_same b []) in
+            let has_c : 0 < times_among c ((us ++ b ∷ []) ++ c ∷ zs) =
+            omega (arith, parts c, times_same c (us ++ zs)) in
             let b_c : b ≢ c =
             λ e. absurd (omega (
               arith,
               parts b,
               times_same b [],
               times_same c (us ++ zs),
-              ap (λ (j : ℕ). times b (j ∷ (us ++ zs))) e,
+              ap (λ (j : ℕ). times_among b (j ∷ (us ++ zs))) e,
               times_same b (us ++ zs),
               l.owned b,
               live_at_most p b,
             )) in
-            let no_b : times b (us ++ zs) ≡ 0 =
+            let no_b : times_among b (us ++ zs) ≡ 0 =
             omega (arith, parts b, times_same b [], l.owned b, live_at_most p b, times_other b c (us ++ zs) b_c) in
-            let no_c : times c (us ++ zs) ≡ 0 =
+            let no_c : times_among c (us ++ zs) ≡ 0 =
             omega (arith, parts c, times_same c (us ++ zs), l.owned c, live_at_most p c) in
             let live_b = live_owned p ((us ++ b ∷ []) ++ c ∷ zs) b l.owned has_b in
             let live_c = live_owned p ((us ++ b ∷ []) ++ c ∷ zs) c l.owned has_c in
@@ -616,10 +622,10 @@ after_out p t b i c r q u h s more is_c is_r is_q first len only last = go s.bac
             (kept_with p r b v c is_r (λ e. b_c (sym e))) in
             let at_b : chain_of q b ≡ placed (chain_of p b) (chain_of p c).front.after (chain_of p b).front.tag =
             kept_with r q c w b is_q b_c ∙ shown_with p r b v is_r in
-            let kept : (k : ℕ) → 0 < times k (us ++ zs) → chain_of q k ≡ chain_of p k =
+            let kept : (k : ℕ) → 0 < times_among k (us ++ zs) → chain_of q k ≡ chain_of p k =
             λ k h. kept_with r q c w k is_q (not_in c k (us ++ zs) no_c h)
             ∙ kept_with p r b v k is_r (not_in b k (us ++ zs) no_b h) in
-            let others : (k : ℕ) → 0 < times k ((us ++ b ∷ []) ++ zs) → k ≢ b → 0 < times k (us ++ zs) =
+            let others : (k : ℕ) → 0 < times_among k ((us ++ b ∷ []) ++ zs) → k ≢ b → 0 < times_among k (us ++ zs) =
             λ k in_all ne. omega (
               arith,
               in_all,
@@ -690,7 +696,7 @@ taken_after p t b i n c tag kept rest r q u h at is_n more is_c is_rest is_tag i
     subst (λ (k : ℕ). Takes p t k c tag q u) (sym is_n) (subst (λ (k : ℕ). Takes p t (suc i) c k q u) (sym is_tag) out)
 
 pub inserted_after : (p : PoolView) (t : TrainView) (b i n c tag kept : ℕ) (rest : Option ℕ) (r q : PoolView)
-    (u : TrainView) → IsHeld p t → IsLive p c → (chain_of p c).front.header ≡ true → times c (numbers p t) ≡ 0
+    (u : TrainView) → IsHeld p t → IsLive p c → (chain_of p c).front.header ≡ true → times_among c (numbers p t) ≡ 0
     → slice_get (numbers p t) i ≡ Some b → n ≡ suc i → rest ≡ (chain_of p b).front.after
     → kept ≡ (chain_of r b).front.tag
     → r ≡ with_chain p c (placed (chain_of p c) rest tag) → q ≡ with_chain r b (placed (chain_of r b) (Some c) kept)

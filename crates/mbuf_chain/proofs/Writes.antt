@@ -3,11 +3,11 @@ use Rattle.std.proofs.Common.{◌≡◌, ◌≢◌, ℕ, ◌+◌, ◌-◌, ◌<�
 use Rattle.std.proofs.lemmas.Bool.{cases_eq}
 use Rattle.std.proofs.lemmas.List.{length-set}
 use Rattle.mbuf_pool.specs.Cells.{Head, Part, Buffer, over}
-use Rattle.mbuf_pool.specs.Store.{StoreView, MbufView, ClusterView, no_mbuf, is_out, mbuf_of, head_of, cluster_of, count_of, with_mbuf, with_cluster, with_bytes, bytes_in, read, write, IsRoom, IsStore}
+use Rattle.mbuf_pool.specs.Store.{StoreView, MbufView, ClusterView, no_mbuf, is_out, mbuf_of, mbuf_head, cluster_of, cluster_count, with_mbuf, with_cluster, with_bytes, bytes_in, stored_part, write, IsRoom, IsStore}
 use Rattle.mbuf_chain.specs.declared.place.Place.{Place}
 use Rattle.mbuf_chain.specs.Chain.{Entry, PoolView, chain_of, IsLive, IsPlace, IsUnshared, with_chain, entry_of, room_end}
 use Rattle.mbuf_chain.specs.Steps.{with_entry, with_front, with_back, overwritten}
-use Rattle.mbuf_chain.specs.Inside.Cells.{weigh, weigh_all, is_at, one, len_at, buffer_of, place_bytes, entry_from, entry_at, entry_over, front_of, refers_at, first_of, IsFit, IsTotal, pool_of, IsPool, room_low, room_high, with_segment, WritesPlace}
+use Rattle.mbuf_chain.specs.Inside.Cells.{weigh, weigh_all, is_at, one, len_at, buffer_of, place_bytes, entry_from, entry_at, entry_over, front_of, refers_at, first_of, IsFit, IsTotal, pool_of, IsPool, head_room_low, room_high, with_segment, WritesPlace}
 use Rattle.mbuf_chain.proofs.Lists.{is_at_other, out_below}
 use Rattle.mbuf_chain.proofs.Changes.{SameCell, same_cell}
 use Rattle.mbuf_chain.proofs.Focused.{Focused, open_on, enter, weigh_has}
@@ -21,45 +21,46 @@ use Rattle.mbuf_chain.proofs.Bytes.{run_apart, written_after, written_before, wr
 -- ---- a write in a store
 pub record PlaceWrite (s t : StoreView) (x start : ℕ) (ws : List ℕ) : Type 0 where
   pub outs : SameOuts s t
-  pub heads : (k : ℕ) → head_of t k ≡ head_of s k
-  pub bytes : place_bytes t x (head_of s x).cluster ≡ over (place_bytes s x (head_of s x).cluster) start ws
-  pub others : (k : ℕ) → k ≢ x → ((d : ℕ) → (head_of s x).cluster ≡ Some d → (head_of s k).cluster ≡ Some d → ⊥)
+  pub heads : (k : ℕ) → mbuf_head t k ≡ mbuf_head s k
+  pub bytes : place_bytes t x (mbuf_head s x).cluster ≡ over (place_bytes s x (mbuf_head s x).cluster) start ws
+  pub others : (k : ℕ) → k ≢ x → ((d : ℕ) → (mbuf_head s x).cluster ≡ Some d → (mbuf_head s k).cluster ≡ Some d → ⊥)
       → SameCell s t k
 
-in_mbuf : (s : StoreView) (x start : ℕ) (ws : List ℕ) → is_out s x ≡ true → (head_of s x).cluster ≡ None
+in_mbuf : (s : StoreView) (x start : ℕ) (ws : List ℕ) → is_out s x ≡ true → (mbuf_head s x).cluster ≡ None
     → PlaceWrite s (with_bytes s (buffer_of x None) (over (bytes_in s (buffer_of x None)) start ws)) x start ws
 in_mbuf s x start ws out none =
-    let m : MbufView = record { head = head_of s x; bytes = over (mbuf_of s x).bytes start ws } in
+    let m : MbufView = record { head = mbuf_head s x; bytes = over (mbuf_of s x).bytes start ws } in
     let lt = out_below s x out in
-    let here : mbuf_of (with_mbuf s x (Some (record { head = head_of s x; bytes = over (mbuf_of s x).bytes start ws })))
-    x ≡ record { head = head_of s x; bytes = over (mbuf_of s x).bytes start ws } =
+    let here : mbuf_of (with_mbuf s x
+    (Some (record { head = mbuf_head s x; bytes = over (mbuf_of s x).bytes start ws })))
+    x ≡ record { head = mbuf_head s x; bytes = over (mbuf_of s x).bytes start ws } =
     ap (λ (o : Option MbufView). unwrap_or o no_mbuf) (slot_here s x (Some m) lt) in
     record {
       outs = same_outs s x m out;
       heads = λ k. elim (cases_eq k x) [
-        | inl e ↦ subst (λ (j : ℕ). head_of
-            (with_mbuf s x (Some (record { head = head_of s x; bytes = over (mbuf_of s x).bytes start ws }))) j
-            ≡ head_of s j) (sym e) (ap (λ (v : MbufView). v.head) here)
+        | inl e ↦ subst (λ (j : ℕ). mbuf_head
+            (with_mbuf s x (Some (record { head = mbuf_head s x; bytes = over (mbuf_of s x).bytes start ws }))) j
+            ≡ mbuf_head s j) (sym e) (ap (λ (v : MbufView). v.head) here)
         | inr ne ↦ ap (λ (v : MbufView). v.head) (mbuf_there s x (Some m) lt k ne)
       ];
       bytes =
           subst (λ (o : Option ℕ). place_bytes
-          (with_mbuf s x (Some (record { head = head_of s x; bytes = over (mbuf_of s x).bytes start ws }))) x o
+          (with_mbuf s x (Some (record { head = mbuf_head s x; bytes = over (mbuf_of s x).bytes start ws }))) x o
           ≡ over (place_bytes s x o) start ws) (sym none) (ap (λ (v : MbufView). v.bytes) here);
       others =
           λ k ne _. same_cell s (with_mbuf s x (Some m)) k (mbuf_there s x (Some m) lt k ne)
           (out_there s x (Some m) lt k ne) (λ d is. refl);
     }
 
-in_cluster : (s : StoreView) (x d start : ℕ) (ws : List ℕ) → (head_of s x).cluster ≡ Some d → 0 < count_of s d
+in_cluster : (s : StoreView) (x d start : ℕ) (ws : List ℕ) → (mbuf_head s x).cluster ≡ Some d → 0 < cluster_count s d
     → PlaceWrite s (with_bytes s (buffer_of x (Some d)) (over (bytes_in s (buffer_of x (Some d))) start ws)) x start ws
 in_cluster s x d start ws some counted =
-    let v : ClusterView = record { count = count_of s d; bytes = over (cluster_of s d).bytes start ws } in
+    let v : ClusterView = record { count = cluster_count s d; bytes = over (cluster_of s d).bytes start ws } in
     let lt = counted_within s d counted in
     let here : cluster_of (with_cluster s d
-    (record { count = count_of s d; bytes = over (cluster_of s d).bytes start ws })) d ≡ record {
+    (record { count = cluster_count s d; bytes = over (cluster_of s d).bytes start ws })) d ≡ record {
       count =
-          count_of s d;
+          cluster_count s d;
       bytes = over (cluster_of s d).bytes start ws;
     } = cluster_here s d v lt in
     record {
@@ -69,16 +70,16 @@ in_cluster s x d start ws some counted =
         outs = λ k. refl;
         total = refl;
         counts = λ c. elim (cases_eq c d) [
-          | inl e ↦ subst (λ (j : ℕ). count_of
-              (with_cluster s d (record { count = count_of s d; bytes = over (cluster_of s d).bytes start ws })) j
-              ≡ count_of s j) (sym e) (ap (λ (w : ClusterView). w.count) here)
+          | inl e ↦ subst (λ (j : ℕ). cluster_count
+              (with_cluster s d (record { count = cluster_count s d; bytes = over (cluster_of s d).bytes start ws })) j
+              ≡ cluster_count s j) (sym e) (ap (λ (w : ClusterView). w.count) here)
           | inr ne ↦ ap (λ (w : ClusterView). w.count) (cluster_there s d v lt c ne)
         ];
       };
       heads = λ k. refl;
       bytes =
           subst (λ (o : Option ℕ). place_bytes
-          (with_cluster s d (record { count = count_of s d; bytes = over (cluster_of s d).bytes start ws })) x o
+          (with_cluster s d (record { count = cluster_count s d; bytes = over (cluster_of s d).bytes start ws })) x o
           ≡ over (place_bytes s x o) start ws) (sym some) (ap (λ (w : ClusterView). w.bytes) here);
       others =
           λ k ne apart. same_cell s (with_cluster s d v) k refl refl
@@ -87,12 +88,12 @@ in_cluster s x d start ws some counted =
     }
 
 pub place_written : (s t : StoreView) (x start : ℕ) (ws : List ℕ) → is_out s x ≡ true
-    → ((d : ℕ) → (head_of s x).cluster ≡ Some d → 0 < count_of s d)
-    → t ≡ with_bytes s (buffer_of x (head_of s x).cluster)
-    (over (bytes_in s (buffer_of x (head_of s x).cluster)) start ws) → PlaceWrite s t x start ws
-place_written s t x start ws out counted is = go (head_of s x).cluster refl
+    → ((d : ℕ) → (mbuf_head s x).cluster ≡ Some d → 0 < cluster_count s d)
+    → t ≡ with_bytes s (buffer_of x (mbuf_head s x).cluster)
+    (over (bytes_in s (buffer_of x (mbuf_head s x).cluster)) start ws) → PlaceWrite s t x start ws
+place_written s t x start ws out counted is = go (mbuf_head s x).cluster refl
   where
-    go : (o : Option ℕ) → (head_of s x).cluster ≡ o → PlaceWrite s t x start ws
+    go : (o : Option ℕ) → (mbuf_head s x).cluster ≡ o → PlaceWrite s t x start ws
     go None e =
         subst (λ (u : StoreView). PlaceWrite s u x start ws)
         (sym (is ∙ ap (λ (o : Option ℕ). with_bytes s (buffer_of x o) (over (bytes_in s (buffer_of x o)) start ws)) e))
@@ -132,9 +133,9 @@ two_in f x k (y ∷ ys) ne a b =
     ]
 
 -- an mbuf whose cluster has one reference shares it with none
-sole : (s : StoreView) (c x d : ℕ) → (f : Focused s c) → 0 < weigh (is_at x) f.cells → count_of s d ≡ 1
-    → (head_of s x).cluster ≡ Some d → (k : ℕ) → k ≢ x → 0 < weigh (is_at k) f.cells + weigh_all (is_at k) f.rest
-    → (head_of s k).cluster ≡ Some d → ⊥
+sole : (s : StoreView) (c x d : ℕ) → (f : Focused s c) → 0 < weigh (is_at x) f.cells → cluster_count s d ≡ 1
+    → (mbuf_head s x).cluster ≡ Some d → (k : ℕ) → k ≢ x → 0 < weigh (is_at k) f.cells + weigh_all (is_at k) f.rest
+    → (mbuf_head s k).cluster ≡ Some d → ⊥
 sole s c x d f inside one_ref is k ne there same =
     absurd (omega (
       arith,
@@ -161,7 +162,7 @@ written s t c start ws at pool live place unshared w store =
     let f = o.at in
     let e = enter s c at o.at place in
     let x = at.cell in
-    let ref : (d : ℕ) → (head_of s at.cell).cluster ≡ Some d → count_of s d ≡ 1 =
+    let ref : (d : ℕ) → (mbuf_head s at.cell).cluster ≡ Some d → cluster_count s d ≡ 1 =
     λ d is. sym (unreferenced s pool d) ∙ unshared d (ap (λ (y : Entry). y.cluster) e.shows ∙ is) in
     let r = changed s t c at.index at.cell o.at e.below e.cell w.outs store (record {
       next = ap (λ (y : Head). y.next) (w.heads at.cell);
@@ -173,9 +174,9 @@ written s t c start ws at pool live place unshared w store =
     let entry : entry_at t at.cell ≡ entry_over s at.cell start ws =
     ap (entry_from t at.cell) (w.heads at.cell)
     ∙ (λ i. record {
-      bytes = take (head_of s at.cell).len (drop (head_of s at.cell).start (w.bytes i));
-      start = (head_of s at.cell).start;
-      cluster = (head_of s at.cell).cluster;
+      bytes = take (mbuf_head s at.cell).len (drop (mbuf_head s at.cell).start (w.bytes i));
+      start = (mbuf_head s at.cell).start;
+      cluster = (mbuf_head s at.cell).cluster;
     }) in
     record {
       pool = (
@@ -203,18 +204,19 @@ written s t c start ws at pool live place unshared w store =
 
 -- ---- the room of a write
 pub room_of : (s : StoreView) (c start n : ℕ) (at : Place) → Shown s c at
-    → ((d : ℕ) → (head_of s at.cell).cluster ≡ Some d → 0 < count_of s d) → room_low (head_of s at.cell) ≤ start
-    → start + n ≤ room_high (head_of s at.cell)
-    → IsRoom s (buffer_of at.cell (head_of s at.cell).cluster) start n
-room_of s c start n at k counted low high = go (head_of s at.cell).cluster refl
+    → ((d : ℕ) → (mbuf_head s at.cell).cluster ≡ Some d → 0 < cluster_count s d)
+    → head_room_low (mbuf_head s at.cell) ≤ start
+    → start + n ≤ room_high (mbuf_head s at.cell)
+    → IsRoom s (buffer_of at.cell (mbuf_head s at.cell).cluster) start n
+room_of s c start n at k counted low high = go (mbuf_head s at.cell).cluster refl
   where
-    go : (o : Option ℕ) → (head_of s at.cell).cluster ≡ o
-        → IsRoom s (buffer_of at.cell (head_of s at.cell).cluster) start n
+    go : (o : Option ℕ) → (mbuf_head s at.cell).cluster ≡ o
+        → IsRoom s (buffer_of at.cell (mbuf_head s at.cell).cluster) start n
     go None e =
         subst (λ (o : Option ℕ). IsRoom s (buffer_of at.cell o) start n) (sym e) (
           k.out,
           e,
-          omega (arith, low_is (head_of s at.cell) e, low),
+          omega (arith, low_is (mbuf_head s at.cell) e, low),
           omega (arith, high, ap (λ (o : Option ℕ). cond {A = ℕ} (is_some o) 2048 128) e),
         )
     go (Some d) e =
@@ -229,31 +231,33 @@ write_is s p ws e =
 
 -- ---- rooms as a caller sees them
 pub high_seen : (s : StoreView) (c : ℕ) (at : Place) → Shown s c at
-    → room_high (head_of s at.cell) ≡ room_end (entry_of (chain_of (pool_of s) c) at.index)
+    → room_high (mbuf_head s at.cell) ≡ room_end (entry_of (chain_of (pool_of s) c) at.index)
 high_seen s c at k = ap (λ (e : Entry). cond {A = ℕ} (is_some e.cluster) 2048 128) (sym k.entry)
 
 -- a write after or in front of the bytes that an mbuf shows leaves the pool
 pub same_pool : (s t : StoreView) (c start : ℕ) (ws : List ℕ) (at : Place) → IsLive (pool_of s) c → Shown s c at
-    → WritesPlace s t c at start ws → start + length ws ≤ room_high (head_of s at.cell)
-    → ((head_of s at.cell).start + (head_of s at.cell).len ≤ start) ⊎ (start + length ws ≤ (head_of s at.cell).start)
+    → WritesPlace s t c at start ws → start + length ws ≤ room_high (mbuf_head s at.cell)
+    → ((mbuf_head s at.cell).start + (mbuf_head s at.cell).len ≤ start)
+    ⊎ (start + length ws ≤ (mbuf_head s at.cell).start)
     → pool_of t ≡ pool_of s
 same_pool s t c start ws at live k w fits apart =
-    let h = head_of s at.cell in
-    let bytes : take (head_of s at.cell).len
-    (drop (head_of s at.cell).start (over (place_bytes s at.cell (head_of s at.cell).cluster) start ws))
-    ≡ take (head_of s at.cell).len
-    (drop (head_of s at.cell).start (place_bytes s at.cell (head_of s at.cell).cluster)) =
-    run_apart (place_bytes s at.cell (head_of s at.cell).cluster) start ws (head_of s at.cell).start
-    (head_of s at.cell).len (omega (arith, k.place, fits)) (omega (arith, k.place, k.fit.high)) (turn apart) in
+    let h = mbuf_head s at.cell in
+    let bytes : take (mbuf_head s at.cell).len
+    (drop (mbuf_head s at.cell).start (over (place_bytes s at.cell (mbuf_head s at.cell).cluster) start ws))
+    ≡ take (mbuf_head s at.cell).len
+    (drop (mbuf_head s at.cell).start (place_bytes s at.cell (mbuf_head s at.cell).cluster)) =
+    run_apart (place_bytes s at.cell (mbuf_head s at.cell).cluster) start ws (mbuf_head s at.cell).start
+    (mbuf_head s at.cell).len (omega (arith, k.place, fits)) (omega (arith, k.place, k.fit.high)) (turn apart) in
     let entry : entry_over s at.cell start ws ≡ entry_at s at.cell =
     λ i. record { bytes = bytes i; start = h.start; cluster = h.cluster } in
     w.map_is ∙ ap (with_chain (pool_of s) c)
     (with_entry_same (chain_of (pool_of s) c) at.index (entry_over s at.cell start ws) (k.entry ∙ sym entry))
     ∙ with_self (pool_of s) c live
   where
-    turn : ((head_of s at.cell).start + (head_of s at.cell).len ≤ start)
-        ⊎ (start + length ws ≤ (head_of s at.cell).start)
-        → (start + length ws ≤ (head_of s at.cell).start) ⊎ ((head_of s at.cell).start + (head_of s at.cell).len ≤ start)
+    turn : ((mbuf_head s at.cell).start + (mbuf_head s at.cell).len ≤ start)
+        ⊎ (start + length ws ≤ (mbuf_head s at.cell).start)
+        → (start + length ws ≤ (mbuf_head s at.cell).start)
+        ⊎ ((mbuf_head s at.cell).start + (mbuf_head s at.cell).len ≤ start)
     turn (inl a) = inr a
     turn (inr a) = inl a
 
@@ -262,12 +266,13 @@ pub record Grown (s t : StoreView) (c : ℕ) (at : Place) : Type 0 where
   pub live : IsLive (pool_of t) c
   pub place : IsPlace (chain_of (pool_of t) c) at
   pub same : pool_of t ≡ pool_of s
-  pub head : head_of t at.cell ≡ head_of s at.cell
+  pub head : mbuf_head t at.cell ≡ mbuf_head s at.cell
 
 pub grown : (s t : StoreView) (c start : ℕ) (ws : List ℕ) (at : Place) → IsPool s → IsLive (pool_of s) c
     → IsPlace (chain_of (pool_of s) c) at → WritesPlace s t c at start ws
-    → start + length ws ≤ room_high (head_of s at.cell)
-    → ((head_of s at.cell).start + (head_of s at.cell).len ≤ start) ⊎ (start + length ws ≤ (head_of s at.cell).start)
+    → start + length ws ≤ room_high (mbuf_head s at.cell)
+    → ((mbuf_head s at.cell).start + (mbuf_head s at.cell).len ≤ start)
+    ⊎ (start + length ws ≤ (mbuf_head s at.cell).start)
     → Grown s t c at
 grown s t c start ws at pool live place w fits apart =
     let same = same_pool s t c start ws at live (shown_at s c at pool live place) w fits apart in
@@ -280,12 +285,13 @@ grown s t c start ws at pool live place w fits apart =
 
 -- the entry then: with the bytes after its own, or in front of them
 pub grown_back : (s t : StoreView) (c n : ℕ) (ws : List ℕ) (at : Place) → Shown s c at
-    → WritesPlace s t c at ((head_of s at.cell).start + (head_of s at.cell).len) ws → n ≡ length ws
-    → (head_of s at.cell).start + (head_of s at.cell).len + length ws ≤ room_high (head_of s at.cell)
-    → entry_from t at.cell (with_segment (head_of t at.cell) (head_of s at.cell).start ((head_of s at.cell).len + n))
+    → WritesPlace s t c at ((mbuf_head s at.cell).start + (mbuf_head s at.cell).len) ws → n ≡ length ws
+    → (mbuf_head s at.cell).start + (mbuf_head s at.cell).len + length ws ≤ room_high (mbuf_head s at.cell)
+    → entry_from t at.cell (with_segment (mbuf_head t at.cell) (mbuf_head s at.cell).start
+    ((mbuf_head s at.cell).len + n))
     ≡ with_back (entry_of (chain_of (pool_of s) c) at.index) ws
 grown_back s t c n ws at k w count fits =
-    let h = head_of s at.cell in
+    let h = mbuf_head s at.cell in
     (λ i. record {
       bytes = take (h.len + count i) (drop h.start (place_bytes t at.cell (w.head i).cluster));
       start = h.start;
@@ -293,20 +299,20 @@ grown_back s t c n ws at k w count fits =
     })
     ∙ (λ i. record {
       bytes = (ap (λ (xs : List ℕ). take (h.len + length ws) (drop h.start xs)) w.bytes
-          ∙ written_after (place_bytes s at.cell (head_of s at.cell).cluster) (head_of s at.cell).start
-          (head_of s at.cell).len ws (omega (arith, k.place, fits))) i;
+          ∙ written_after (place_bytes s at.cell (mbuf_head s at.cell).cluster) (mbuf_head s at.cell).start
+          (mbuf_head s at.cell).len ws (omega (arith, k.place, fits))) i;
       start = h.start;
       cluster = h.cluster;
     })
     ∙ ap (λ (e : Entry). with_back e ws) (sym k.entry)
 
 pub grown_front : (s t : StoreView) (c n start : ℕ) (ws : List ℕ) (at : Place) → Shown s c at
-    → WritesPlace s t c at start ws → n ≡ length ws → start + length ws ≡ (head_of s at.cell).start
-    → entry_from t at.cell (with_segment (head_of t at.cell) start ((head_of s at.cell).len + n))
+    → WritesPlace s t c at start ws → n ≡ length ws → start + length ws ≡ (mbuf_head s at.cell).start
+    → entry_from t at.cell (with_segment (mbuf_head t at.cell) start ((mbuf_head s at.cell).len + n))
     ≡ with_front (entry_of (chain_of (pool_of s) c) at.index) ws
 grown_front s t c n start ws at k w count is =
-    let h = head_of s at.cell in
-    let less : start ≡ (head_of s at.cell).start - length ws = omega (arith, is) in
+    let h = mbuf_head s at.cell in
+    let less : start ≡ (mbuf_head s at.cell).start - length ws = omega (arith, is) in
     (λ i. record {
       bytes = take (h.len + count i) (drop start (place_bytes t at.cell (w.head i).cluster));
       start = start;
@@ -314,8 +320,8 @@ grown_front s t c n start ws at k w count is =
     })
     ∙ (λ i. record {
       bytes = (ap (λ (xs : List ℕ). take (h.len + length ws) (drop start xs)) w.bytes
-          ∙ written_before (place_bytes s at.cell (head_of s at.cell).cluster) (head_of s at.cell).start start
-          (head_of s at.cell).len ws is (omega (arith, k.place, k.fit.high))) i;
+          ∙ written_before (place_bytes s at.cell (mbuf_head s at.cell).cluster) (mbuf_head s at.cell).start start
+          (mbuf_head s at.cell).len ws is (omega (arith, k.place, k.fit.high))) i;
       start = less i;
       cluster = h.cluster;
     })
@@ -323,14 +329,14 @@ grown_front s t c n start ws at k w count is =
 
 -- the entry with bytes written over its own
 pub overwritten_is : (s : StoreView) (c offset : ℕ) (ws : List ℕ) (at : Place) → Shown s c at
-    → offset + length ws ≤ (head_of s at.cell).len
-    → entry_over s at.cell ((head_of s at.cell).start + offset) ws
+    → offset + length ws ≤ (mbuf_head s at.cell).len
+    → entry_over s at.cell ((mbuf_head s at.cell).start + offset) ws
     ≡ overwritten (entry_of (chain_of (pool_of s) c) at.index) offset ws
 overwritten_is s c offset ws at k within =
-    let h = head_of s at.cell in
+    let h = mbuf_head s at.cell in
     (λ i. record {
-      bytes = written_within (place_bytes s at.cell (head_of s at.cell).cluster) (head_of s at.cell).start
-          (head_of s at.cell).len offset ws (omega (arith, k.place, k.fit.high)) within i;
+      bytes = written_within (place_bytes s at.cell (mbuf_head s at.cell).cluster) (mbuf_head s at.cell).start
+          (mbuf_head s at.cell).len offset ws (omega (arith, k.place, k.fit.high)) within i;
       start =
           h.start;
       cluster = h.cluster;
@@ -346,14 +352,14 @@ grown_is s t u c at e e' same change is =
 
 -- bytes of an entry as those of its place
 pub entry_bytes : (s : StoreView) (c skip n start : ℕ) (b : Buffer) (at : Place) → Shown s c at
-    → b ≡ buffer_of at.cell (head_of s at.cell).cluster → start ≡ (head_of s at.cell).start + skip
+    → b ≡ buffer_of at.cell (mbuf_head s at.cell).cluster → start ≡ (mbuf_head s at.cell).start + skip
     → skip + n ≤ length (entry_of (chain_of (pool_of s) c) at.index).bytes
     → take n (drop start (bytes_in s b)) ≡ take n (drop skip (entry_of (chain_of (pool_of s) c) at.index).bytes)
 entry_bytes s c skip n start b at k is begins within =
     (λ i. take n (drop (begins i) (bytes_in s (is i))))
-    ∙ ap (λ (xs : List ℕ). take n (drop ((head_of s at.cell).start + skip) xs)) (same (head_of s at.cell).cluster)
-    ∙ sym (Rattle.mbuf_chain.proofs.Bytes.run_inner (place_bytes s at.cell (head_of s at.cell).cluster)
-    (head_of s at.cell).start (head_of s at.cell).len skip n (omega (arith, k.place, k.fit.high))
+    ∙ ap (λ (xs : List ℕ). take n (drop ((mbuf_head s at.cell).start + skip) xs)) (same (mbuf_head s at.cell).cluster)
+    ∙ sym (Rattle.mbuf_chain.proofs.Bytes.run_inner (place_bytes s at.cell (mbuf_head s at.cell).cluster)
+    (mbuf_head s at.cell).start (mbuf_head s at.cell).len skip n (omega (arith, k.place, k.fit.high))
     (omega (arith, k.long, within)))
     ∙ ap (λ (e : Entry). take n (drop skip e.bytes)) (sym k.entry)
   where
@@ -363,12 +369,12 @@ entry_bytes s c skip n start b at k is begins within =
 
 -- ---- bytes lent, and copied
 counted_place : (s : StoreView) (c : ℕ) (at : Place) → IsPool s → IsLive (pool_of s) c
-    → IsPlace (chain_of (pool_of s) c) at → (d : ℕ) → (head_of s at.cell).cluster ≡ Some d → 0 < count_of s d
+    → IsPlace (chain_of (pool_of s) c) at → (d : ℕ) → (mbuf_head s at.cell).cluster ≡ Some d → 0 < cluster_count s d
 counted_place s c at pool live place d is = counted_at s c d at pool live place is
 
 -- some of the bytes that an mbuf shows
 pub source_room : (s : StoreView) (c skip n : ℕ) (at : Place) (h : Head) (b : Buffer) → IsPool s → IsLive (pool_of s) c
-    → IsPlace (chain_of (pool_of s) c) at → h ≡ head_of s at.cell → b ≡ buffer_of at.cell h.cluster
+    → IsPlace (chain_of (pool_of s) c) at → h ≡ mbuf_head s at.cell → b ≡ buffer_of at.cell h.cluster
     → skip + n ≤ length (entry_of (chain_of (pool_of s) c) at.index).bytes → IsRoom s b (h.start + skip) n
 source_room s c skip n at h b pool live place e is within =
     let k = shown_at s c at pool live place in
@@ -378,14 +384,14 @@ source_room s c skip n at h b pool live place e is within =
     (omega (arith, k.fit.high, k.long, within, ap (λ (y : Head). y.start) e)))
 
 pub target_room : (s : StoreView) (c start n : ℕ) (at : Place) (h : Head) (b : Buffer) → IsPool s → IsLive (pool_of s) c
-    → IsPlace (chain_of (pool_of s) c) at → h ≡ head_of s at.cell → b ≡ buffer_of at.cell h.cluster
-    → room_low (head_of s at.cell) ≤ start → start + n ≤ room_high (head_of s at.cell) → IsRoom s b start n
+    → IsPlace (chain_of (pool_of s) c) at → h ≡ mbuf_head s at.cell → b ≡ buffer_of at.cell h.cluster
+    → head_room_low (mbuf_head s at.cell) ≤ start → start + n ≤ room_high (mbuf_head s at.cell) → IsRoom s b start n
 target_room s c start n at h b pool live place e is low high =
     subst (λ (a : Buffer). IsRoom s a start n) (sym (is ∙ ap (λ (y : Head). buffer_of at.cell y.cluster) e))
     (room_of s c start n at (shown_at s c at pool live place) (counted_place s c at pool live place) low high)
 
 pub lent_room : (s : StoreView) (c : ℕ) (at : Place) (h : Head) (b : Buffer) → IsPool s → IsLive (pool_of s) c
-    → IsPlace (chain_of (pool_of s) c) at → h ≡ head_of s at.cell → b ≡ buffer_of at.cell h.cluster
+    → IsPlace (chain_of (pool_of s) c) at → h ≡ mbuf_head s at.cell → b ≡ buffer_of at.cell h.cluster
     → IsRoom s b h.start h.len
 lent_room s c at h b pool live place e is =
     let k = shown_at s c at pool live place in
@@ -397,13 +403,13 @@ place_is s x None = refl
 place_is s x (Some d) = refl
 
 pub lent_bytes : (s : StoreView) (c : ℕ) (at : Place) (h : Head) (b : Buffer) → IsPool s → IsLive (pool_of s) c
-    → IsPlace (chain_of (pool_of s) c) at → h ≡ head_of s at.cell → b ≡ buffer_of at.cell h.cluster
+    → IsPlace (chain_of (pool_of s) c) at → h ≡ mbuf_head s at.cell → b ≡ buffer_of at.cell h.cluster
     → take h.len (drop h.start (bytes_in s b)) ≡ (entry_of (chain_of (pool_of s) c) at.index).bytes
 lent_bytes s c at h b pool live place e is =
     let k = shown_at s c at pool live place in
     (λ i. take (e i).len (drop (e i).start (bytes_in s ((is ∙ ap (λ (y : Head). buffer_of at.cell y.cluster) e) i))))
-    ∙ ap (λ (xs : List ℕ). take (head_of s at.cell).len (drop (head_of s at.cell).start xs))
-    (place_is s at.cell (head_of s at.cell).cluster)
+    ∙ ap (λ (xs : List ℕ). take (mbuf_head s at.cell).len (drop (mbuf_head s at.cell).start xs))
+    (place_is s at.cell (mbuf_head s at.cell).cluster)
     ∙ ap (λ (y : Entry). y.bytes) (sym k.entry)
 
 pub copied : {s t : StoreView} (c other : ℕ) {start : ℕ} (skip n : ℕ) {at from : Place} {h g : Head} {b a : Buffer}
@@ -411,10 +417,10 @@ pub copied : {s t : StoreView} (c other : ℕ) {start : ℕ} (skip n : ℕ) {at 
     → IsUnshared (pool_of s) (entry_of (chain_of (pool_of s) c) at.index)
     → IsLive (pool_of s) other → IsPlace (chain_of (pool_of s) other) from
     → skip + n ≤ length (entry_of (chain_of (pool_of s) other) from.index).bytes
-    → h ≡ head_of s at.cell → g ≡ head_of s from.cell → b ≡ buffer_of at.cell h.cluster
+    → h ≡ mbuf_head s at.cell → g ≡ mbuf_head s from.cell → b ≡ buffer_of at.cell h.cluster
     → a ≡ buffer_of from.cell g.cluster
     → t ≡ write s (record { buffer = b; start = start; len = n })
-    (read s (record { buffer = a; start = g.start + skip; len = n })) → IsStore t
+    (stored_part s (record { buffer = a; start = g.start + skip; len = n })) → IsStore t
     → Written s t c at start (take n (drop skip (entry_of (chain_of (pool_of s) other) from.index).bytes))
 copied {s} {t} c other {start} skip n {at} {from} {h} {g} {b} {a} pool live place unshared live_other from_place within
     e e' is is' change store =

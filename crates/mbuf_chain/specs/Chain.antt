@@ -127,8 +127,8 @@ abbrev pub references : PoolView → ℕ → ℕ
 references p c = sum_by (references_of c) (finmap.values p.chains)
 
 -- the references of each cluster, in order
-abbrev pub counts : PoolView → List ℕ
-counts p = map (references p) (range_with_len 0 p.clusters)
+abbrev pub reference_counts : PoolView → List ℕ
+reference_counts p = map (references p) (range_with_len 0 p.clusters)
 
 -- how many clusters no mbuf refers to
 abbrev pub free_clusters : PoolView → ℕ

@@ -4,20 +4,21 @@ use Rattle.std.specs.Prelude.{◌≡◌, ℕ, zero, suc, ◌<◌, ◌≤◌, Lis
 use Rattle.std.proofs.Common.{sym, ap, ◌∙◌, arith, cond, length}
 use Rattle.std.proofs.lemmas.Bool.{cond-true, eq-eqb}
 use Rattle.mbuf_chain.specs.Chain.{ChainView, PoolView, chain_of, no_chain}
-use Rattle.mbuf_chain.specs.Owners.{times, live_at, IsOwned}
+use Rattle.mbuf_chain.specs.Owners.{times_among, live_at, IsOwned}
 use Rattle.mbuf_chain.specs.Frames.{SameAt}
 use Rattle.mbuf_chain.specs.Train.{TrainView, QueuedPacket, follow, numbers, queued_packet_of, queued_packets, last_number, IsHeld}
 
-pub times_same : (k : ℕ) (xs : List ℕ) → times k (k ∷ xs) ≡ suc (times k xs)
+pub times_same : (k : ℕ) (xs : List ℕ) → times_among k (k ∷ xs) ≡ suc (times_among k xs)
 times_same k xs = omega (arith, cond-true {A = ℕ} _ 1 0 (eq-eqb k k refl))
 
-pub chain_same : (p q : PoolView) (xs : List ℕ) (k : ℕ) → SameAt p q xs → 0 < times k xs → chain_of q k ≡ chain_of p k
+pub chain_same : (p q : PoolView) (xs : List ℕ) (k : ℕ) → SameAt p q xs → 0 < times_among k xs
+    → chain_of q k ≡ chain_of p k
 chain_same p q xs k s h = ap (λ (o : Option ChainView). unwrap_or o no_chain) (s.same k h)
 
 pub owned_same : (p q : PoolView) (xs : List ℕ) → SameAt p q xs → IsOwned p xs → IsOwned q xs
-owned_same p q xs s o = λ k. go k (times k xs) refl
+owned_same p q xs s o = λ k. go k (times_among k xs) refl
   where
-    go : (k n : ℕ) → times k xs ≡ n → times k xs ≤ live_at q k
+    go : (k n : ℕ) → times_among k xs ≡ n → times_among k xs ≤ live_at q k
     go k zero e = omega arith
     go k (suc n) e =
         omega (arith, o k, ap (λ (o : Option ChainView). cond {A = ℕ} (is_some o) 1 0) (s.same k (omega arith)))
@@ -40,20 +41,20 @@ pub held_same : (p q : PoolView) (t : TrainView) → SameAt p q (numbers p t) �
 held_same p q t s h =
     let e : numbers q t ≡ numbers p t = numbers_same p q t s in
     record {
-      owned = λ k. omega (arith, owned_same p q (numbers p t) s h.owned k, ap (times k) e);
+      owned = λ k. omega (arith, owned_same p q (numbers p t) s h.owned k, ap (times_among k) e);
       headed = λ k l.
-          let l' : 0 < times k (numbers p t) = omega (arith, l, ap (times k) e) in
+          let l' : 0 < times_among k (numbers p t) = omega (arith, l, ap (times_among k) e) in
           ap (λ (v : ChainView). v.front.header) (chain_same p q (numbers p t) k s l') ∙ h.headed k l';
       whole = ap length e ∙ h.whole;
       ends =
           follow_same p q (suc t.len) t.first
-          (record { mbufs = s.mbufs; same = λ k l. s.same k (omega (arith, l, ap (times k) h.ends)) }) ∙
+          (record { mbufs = s.mbufs; same = λ k l. s.same k (omega (arith, l, ap (times_among k) h.ends)) }) ∙
           (h.ends ∙ sym e);
       last = h.last ∙ ap last_number (sym e);
     }
 
 pub queued_packets_of_same : (p q : PoolView) (xs : List ℕ)
-    → ((k : ℕ) → 0 < times k xs → queued_packet_of q k ≡ queued_packet_of p k)
+    → ((k : ℕ) → 0 < times_among k xs → queued_packet_of q k ≡ queued_packet_of p k)
     → map (queued_packet_of q) xs ≡ map (queued_packet_of p) xs
 queued_packets_of_same p q [] h = refl
 queued_packets_of_same p q (x ∷ xs) h =

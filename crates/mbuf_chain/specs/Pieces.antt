@@ -7,5 +7,5 @@ abbrev pub pieces_of : List Entry → List (List ℕ)
 pieces_of es = map (λ e. e.bytes) es
 
 -- the bytes of each entry of the chain, in order
-abbrev pub pieces : ChainView → List (List ℕ)
-pieces v = pieces_of v.entries
+abbrev pub chain_pieces : ChainView → List (List ℕ)
+chain_pieces v = pieces_of v.entries

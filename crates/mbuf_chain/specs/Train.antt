@@ -3,7 +3,7 @@
 use Rattle.std.specs.Prelude.{◌≡◌, ℕ, zero, suc, ◌+◌, ◌<◌, true, List, [], ◌∷◌, length, map, insert, remove, slice_get, slice_index_or, Option, None, Some}
 use Rattle.mbuf_chain.specs.Chain.{Entry, PoolView, chain_of, alone}
 use Rattle.mbuf_chain.specs.declared.queued_place.QueuedPlace.{QueuedPlace}
-use Rattle.mbuf_chain.specs.Owners.{times, IsOwned, Moves}
+use Rattle.mbuf_chain.specs.Owners.{times_among, IsOwned, Moves}
 
 -- the numbers of the first chain and of the last, and how many there are
 pub record TrainView : Type 0 where
@@ -56,7 +56,7 @@ last_number (x ∷ y ∷ ys) = last_number (y ∷ ys)
 -- the last
 pub record IsHeld (p : PoolView) (t : TrainView) : Type 0 where
   pub owned : IsOwned p (numbers p t)
-  pub headed : (k : ℕ) → 0 < times k (numbers p t) → (chain_of p k).front.header ≡ true
+  pub headed : (k : ℕ) → 0 < times_among k (numbers p t) → (chain_of p k).front.header ≡ true
   pub whole : length (numbers p t) ≡ t.len
   pub ends : follow p (suc t.len) t.first ≡ numbers p t
   pub last : t.last ≡ last_number (numbers p t)

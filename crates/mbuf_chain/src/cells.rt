@@ -1,13 +1,13 @@
 //! Walks along the links of a store.
 ghost use Rattle.std.specs.Prelude.{◌≡◌, ℕ, ◌<◌, ◌≤◌, true, Some, None, [], length};
-ghost use Rattle.mbuf_pool.specs.Store.{IsStore, is_out, head_of, count_of, cluster_of, with_mbuf};
-ghost use Rattle.mbuf_chain.specs.Inside.Cells.{IsWhole, cells_from, len_at, weigh, one, last_of, IsFreeable, Freed, released_in};
+ghost use Rattle.mbuf_pool.specs.Store.{IsStore, is_out, mbuf_head, cluster_count, cluster_of, with_mbuf};
+ghost use Rattle.mbuf_chain.specs.Inside.Cells.{LeadsToEnd, cells_from, len_at, weigh, one, last_of, IsFreeable, Freed, released_in};
 
 use mbuf_pool::Store;
 
 /// How many bytes the mbufs from one on have.
 pub(crate) fn bytes_from(store: &Store, first: u32) -> u32
-    requires whole { IsWhole store.now (Some first) }
+    requires whole { LeadsToEnd store.now (Some first) }
     requires store { IsStore store.now }
     ensures { result ≡ weigh (len_at store.now) (cells_from store.now (Some first)) }
 {
@@ -23,7 +23,7 @@ pub(crate) fn bytes_from(store: &Store, first: u32) -> u32
 
 /// How many mbufs there are from one on.
 pub(crate) fn count_from(store: &Store, first: u32) -> u32
-    requires whole { IsWhole store.now (Some first) }
+    requires whole { LeadsToEnd store.now (Some first) }
     requires store { IsStore store.now }
     ensures { result ≡ weigh one (cells_from store.now (Some first)) }
 {
@@ -39,7 +39,7 @@ pub(crate) fn count_from(store: &Store, first: u32) -> u32
 
 /// Takes one off a cluster's count, where there is a cluster.
 fn release(store: &mut Store, cluster: Option<u32>)
-    requires { (c : ℕ) → cluster ≡ Some c → 0 < count_of store.old c }
+    requires { (c : ℕ) → cluster ≡ Some c → 0 < cluster_count store.old c }
     ensures change { store.new ≡ released_in store.old cluster }
     ensures store { IsStore store.new }
 {
@@ -54,10 +54,10 @@ fn release(store: &mut Store, cluster: Option<u32>)
 /// Gives an mbuf back, with its reference, and answers which one was after it.
 pub(crate) fn free_mbuf(store: &mut Store, cell: u32) -> Option<u32>
     requires out { is_out store.old cell ≡ true }
-    requires known { (c : ℕ) → (head_of store.old cell).cluster ≡ Some c → 0 < count_of store.old c }
-    ensures next { result ≡ (head_of store.old cell).next }
+    requires known { (c : ℕ) → (mbuf_head store.old cell).cluster ≡ Some c → 0 < cluster_count store.old c }
+    ensures next { result ≡ (mbuf_head store.old cell).next }
     ensures freed { store.new ≡
-        with_mbuf (released_in store.old (head_of store.old cell).cluster) cell None }
+        with_mbuf (released_in store.old (mbuf_head store.old cell).cluster) cell None }
     ensures store { IsStore store.new }
 {
     let head = store.head(cell);

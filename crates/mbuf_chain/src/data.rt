@@ -1,11 +1,11 @@
 //! The bytes of an mbuf: lent, and written where no other mbuf shows them.
 ghost use Rattle.std.specs.Prelude.{◌≡◌, ◌≢◌, ℕ, ◌+◌, ◌-◌, ◌<◌, ◌≤◌, ◌^◌, true, length, take, drop};
 ghost use Rattle.params.specs.declared.TheConstants.{MCLBYTES};
-ghost use Rattle.mbuf_pool.specs.Store.{IsStore, is_out, head_of, with_bytes, bytes_in, IsRoom};
+ghost use Rattle.mbuf_pool.specs.Store.{IsStore, is_out, mbuf_head, with_bytes, bytes_in, IsRoom};
 ghost use Rattle.mbuf_pool.specs.Cells.{over};
 ghost use Rattle.mbuf_chain.specs.Chain.{IsLive, IsPlace, IsUnshared, chain_of, entry_of, with_chain, room_start, room_end, entry_in, HasLeadingSpace, HasTrailingSpace};
 ghost use Rattle.mbuf_chain.specs.Steps.{with_entry, with_front, with_back, overwritten, with_entry_in};
-ghost use Rattle.mbuf_chain.specs.Inside.Cells.{IsPool, pool_of, buffer_of, place_bytes, room_low, room_high, WritesPlace};
+ghost use Rattle.mbuf_chain.specs.Inside.Cells.{IsPool, pool_of, buffer_of, place_bytes, head_room_low, room_high, WritesPlace};
 
 use crate::edit::resize;
 use crate::place::Place;
@@ -54,9 +54,9 @@ pub(crate) fn write_in(
     requires live { IsLive (pool_of store.old) first }
     requires place { IsPlace (chain_of (pool_of store.old) first) at }
     requires unshared { IsUnshared (pool_of store.old) (entry_in (pool_of store.old) first at) }
-    requires cluster { cluster ≡ (head_of store.old at.cell).cluster }
-    requires low { room_low (head_of store.old at.cell) ≤ start }
-    requires high { start + length bytes.now ≤ room_high (head_of store.old at.cell) }
+    requires cluster { cluster ≡ (mbuf_head store.old at.cell).cluster }
+    requires low { head_room_low (mbuf_head store.old at.cell) ≤ start }
+    requires high { start + length bytes.now ≤ room_high (mbuf_head store.old at.cell) }
     ensures pool { IsPool store.new }
     ensures writes { WritesPlace store.old store.new first at start bytes.now }
 {
@@ -79,8 +79,8 @@ fn copy_in(
     requires live { IsLive (pool_of store.old) first }
     requires place { IsPlace (chain_of (pool_of store.old) first) at }
     requires unshared { IsUnshared (pool_of store.old) (entry_in (pool_of store.old) first at) }
-    requires low { room_low (head_of store.old at.cell) ≤ start }
-    requires high { start + count ≤ room_high (head_of store.old at.cell) }
+    requires low { head_room_low (mbuf_head store.old at.cell) ≤ start }
+    requires high { start + count ≤ room_high (mbuf_head store.old at.cell) }
     requires other { IsLive (pool_of store.old) other }
     requires from { IsPlace (chain_of (pool_of store.old) other) from }
     requires within { skip + count ≤ length (entry_in (pool_of store.old) other from).bytes }

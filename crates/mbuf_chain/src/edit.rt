@@ -1,10 +1,10 @@
 //! Changes of one mbuf of a chain.
 ghost use Rattle.std.specs.Prelude.{◌≡◌, ◌≢◌, ℕ, ◌+◌, ◌<◌, ◌≤◌, ◌^◌, true, Some, None, length};
 ghost use Rattle.mbuf_pool.specs.Cells.{IsLink};
-ghost use Rattle.mbuf_pool.specs.Store.{IsStore, is_out, head_of};
+ghost use Rattle.mbuf_pool.specs.Store.{IsStore, is_out, mbuf_head};
 ghost use Rattle.mbuf_chain.specs.Chain.{IsLive, IsPlace, chain_of, entry_of, with_chain, entry_in};
 ghost use Rattle.mbuf_chain.specs.Steps.{with_entry, narrowed, placed, with_entry_in};
-ghost use Rattle.mbuf_chain.specs.Inside.Cells.{IsPool, IsOff, pool_of, room_low, room_high, with_segment, entry_from};
+ghost use Rattle.mbuf_chain.specs.Inside.Cells.{IsPool, IsOff, pool_of, head_room_low, room_high, with_segment, entry_from};
 
 use crate::place::Place;
 use mbuf_pool::Store;
@@ -31,12 +31,12 @@ pub(crate) fn resize(store: &mut Store, first: u32, at: Place, start: u32, len: 
     requires pool { IsPool store.old }
     requires live { IsLive (pool_of store.old) first }
     requires place { IsPlace (chain_of (pool_of store.old) first) at }
-    requires low { room_low (head_of store.old at.cell) ≤ start }
-    requires high { start + len ≤ room_high (head_of store.old at.cell) }
+    requires low { head_room_low (mbuf_head store.old at.cell) ≤ start }
+    requires high { start + len ≤ room_high (mbuf_head store.old at.cell) }
     ensures pool { IsPool store.new }
     ensures change { pool_of store.new ≡
         with_entry_in (pool_of store.old) first at
-        (entry_from store.old at.cell (with_segment (head_of store.old at.cell) start len)) }
+        (entry_from store.old at.cell (with_segment (mbuf_head store.old at.cell) start len)) }
 {
     let head = store.head(at.cell);
     store.set_data(at.cell, start, len);

@@ -1,9 +1,9 @@
 //! Chains given back, joined and cut.
 ghost use Rattle.std.specs.Prelude.{◌≡◌, ◌≢◌, ℕ, ◌+◌, ◌<◌, ◌≤◌, true, false, IsTrue, Some, None, length, take, MatchOption, is_some, if◌then◌else◌};
-ghost use Rattle.mbuf_pool.specs.Store.{IsStore, is_out, head_of};
+ghost use Rattle.mbuf_pool.specs.Store.{IsStore, is_out, mbuf_head};
 ghost use Rattle.mbuf_chain.specs.Chain.{IsLive, IsPlace, chain_of, with_chain, without, string, alone, entry_of, room_start, room_end, leading_space, trailing_space, Adds, entry_in, HasLeadingSpace, HasTrailingSpace};
 ghost use Rattle.mbuf_chain.specs.Steps.{headless, joined, first_part, second_part};
-ghost use Rattle.mbuf_chain.specs.Inside.Cells.{IsPool, IsWhole, pool_of, cells_from, weigh, one, len_at, last_of, packet_len};
+ghost use Rattle.mbuf_chain.specs.Inside.Cells.{IsPool, LeadsToEnd, pool_of, cells_from, weigh, one, len_at, last_of, packet_len};
 
 use crate::cells::{bytes_from, count_from, free_from, free_mbuf};
 use crate::edit::set_total;
@@ -279,7 +279,7 @@ pub(crate) fn link(store: &mut Store, front: u32, last: Place, back: u32, added:
 
 /// The mbuf that ends the first `keep` of a chain, and how many bytes these have.
 fn end_of(store: &Store, first: u32, keep: u32) -> (u32, u32)
-    requires whole { IsWhole store.now (Some first) }
+    requires whole { LeadsToEnd store.now (Some first) }
     requires store { IsStore store.now }
     requires some { 0 < keep }
     requires within { keep ≤ weigh one (cells_from store.now (Some first)) }
@@ -301,7 +301,7 @@ fn end_of(store: &Store, first: u32, keep: u32) -> (u32, u32)
 /// The packet length of a chain, or 0 where it has no packet header.
 fn packet_len(store: &Store, first: u32) -> u32
     requires { IsTrue (is_out store.now first) }
-    ensures { result ≡ packet_len (head_of store.now first) }
+    ensures { result ≡ packet_len (mbuf_head store.now first) }
 {
     match store.head(first).packet {
         Some(packet) => packet.len,

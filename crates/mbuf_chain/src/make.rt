@@ -5,7 +5,7 @@ ghost use Rattle.mbuf_pool.specs.Store.{IsStore, mbufs_out};
 ghost use Rattle.mbuf_pool.specs.Cells.{IsHead};
 ghost use Rattle.mbuf_chain.specs.Chain.{IsLive, IsPlace, chain_of, entry_of, Adds, held_mbufs, references, free_clusters, entry_in};
 ghost use Rattle.mbuf_chain.specs.Steps.{one_mbuf, empty_entry, narrowed};
-ghost use Rattle.mbuf_chain.specs.Inside.Cells.{IsPool, pool_of, Taken, start_of, head_for};
+ghost use Rattle.mbuf_chain.specs.Inside.Cells.{IsPool, pool_of, Taken, start_of, only_head};
 
 use crate::data::write_in;
 use crate::place::Place;
@@ -17,7 +17,7 @@ const KIND: u16 = 1;
 /// The head of the only mbuf of a chain.
 #[inline(always)]
 fn head_for(header: bool, start: u32, len: u32, cluster: Option<u32>) -> Head
-    ensures { result ≡ head_for header start len cluster }
+    ensures { result ≡ only_head header start len cluster }
 {
     let packet = if header {
         Some(PacketHeader { len, arrival: 0 })

@@ -3,7 +3,7 @@ ghost use Rattle.std.specs.Prelude.{◌≡◌, length, Some};
 ghost use Rattle.std.specs.Iterator.{YieldsFirst, YieldsFirstRef, item_count};
 ghost use Rattle.mbuf_chain.specs.Chain.{IsLive, chain_of, layout};
 ghost use Rattle.mbuf_chain.specs.Inside.Cells.{IsPool, pool_of};
-ghost use Rattle.mbuf_chain.specs.Pieces.{pieces};
+ghost use Rattle.mbuf_chain.specs.Pieces.{chain_pieces};
 ghost use Rattle.mbuf_chain.specs.Inside.Readable.{data_of};
 
 use crate::data::buffer_of;
@@ -77,7 +77,7 @@ pub(crate) fn layout_of(store: &Store, first: u32) -> Entries<'_>
 pub(crate) fn pieces_of(store: &Store, first: u32) -> Pieces<'_>
     requires pool { IsPool store.now }
     requires live { IsLive (pool_of store.now) first }
-    ensures { result ≡ pieces (chain_of (pool_of store.now) first) }
+    ensures { result ≡ chain_pieces (chain_of (pool_of store.now) first) }
 {
     Pieces {
         store,

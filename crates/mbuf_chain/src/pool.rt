@@ -2,9 +2,9 @@
 ghost use Rattle.std.specs.Prelude.{◌≡◌, ◌≢◌, ℕ, ◌+◌, ◌-◌, ◌<◌, ◌≤◌, ◌⊎◌, true, None, Some, Bool, length, sum, fold, max, IfOk, OnOk, OnErr, IsSome, IfSome, MatchOption, if◌then◌else◌, take, drop};
 ghost use Rattle.std.specs.FinMap as finmap;
 ghost use Rattle.params.specs.declared.TheConstants.{MBUF_HEADER, MCLBYTES, MSIZE};
-ghost use Rattle.mbuf_pool.specs.Store.{mbufs_out, count_of};
-ghost use Rattle.mbuf_chain.specs.Chain.{IsLive, IsPlace, chain_of, with_chain, without, held_mbufs, references, counts, free_clusters, string, layout, entry_of, Adds, IsUnshared, room_start, room_end, leading_space, trailing_space, entry_in, HasLeadingSpace, HasTrailingSpace};
-ghost use Rattle.mbuf_chain.specs.Pieces.{pieces};
+ghost use Rattle.mbuf_pool.specs.Store.{mbufs_out, cluster_count};
+ghost use Rattle.mbuf_chain.specs.Chain.{IsLive, IsPlace, chain_of, with_chain, without, held_mbufs, references, reference_counts, free_clusters, string, layout, entry_of, Adds, IsUnshared, room_start, room_end, leading_space, trailing_space, entry_in, HasLeadingSpace, HasTrailingSpace};
+ghost use Rattle.mbuf_chain.specs.Pieces.{chain_pieces};
 ghost use Rattle.mbuf_chain.specs.Steps.{one_mbuf, empty_entry, narrowed, with_entry, with_front, with_back, overwritten, headless, joined, placed, first_part, second_part, with_entry_in};
 ghost use Rattle.mbuf_chain.specs.Frames.{IsBounded};
 
@@ -43,7 +43,7 @@ impl Pool {
     /// A pool without chains, over a store of which nothing is handed out.
     pub fn over(store: Store) -> Pool
         requires mbufs { mbufs_out store ≡ 0 }
-        requires clusters { (c : ℕ) → count_of store c ≡ 0 }
+        requires clusters { (c : ℕ) → cluster_count store c ≡ 0 }
         ensures { result ≡ record {
           mbufs = length store.mbufs;
           clusters = length store.clusters;
@@ -90,8 +90,8 @@ impl Pool {
         ensures free_mbufs { result.free_mbufs + held_mbufs self.now ≡ self.now.mbufs }
         ensures clusters { result.clusters ≡ self.now.clusters }
         ensures free_clusters { result.free_clusters ≡ free_clusters self.now }
-        ensures references { result.references ≡ sum (counts self.now) }
-        ensures greatest { result.greatest_count ≡ fold max 0 (counts self.now) }
+        ensures references { result.references ≡ sum (reference_counts self.now) }
+        ensures greatest { result.greatest_count ≡ fold max 0 (reference_counts self.now) }
     {
         let counts = self.store.counts();
         Usage {
@@ -224,7 +224,7 @@ impl Pool {
     /// empty slice.
     pub fn pieces(&self, chain: &Chain) -> Pieces<'_>
         requires { IsLive self.now chain.now }
-        ensures { result ≡ pieces (chain_of self.now chain.now) }
+        ensures { result ≡ chain_pieces (chain_of self.now chain.now) }
     {
         pieces::pieces_of(&self.store, chain.first)
     }

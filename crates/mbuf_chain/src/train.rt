@@ -2,7 +2,7 @@
 
 ghost use Rattle.std.specs.Prelude.{◌≡◌, ◌==◌, ◌+◌, ◌<◌, ◌≤◌, [], ◌∷◌, true, Some, None, IfSome, MatchOption, length, insert, remove, slice_get};
 ghost use Rattle.mbuf_chain.specs.Chain.{IsLive, chain_of, with_chain, flat_bytes, alone};
-ghost use Rattle.mbuf_chain.specs.Owners.{times, Moves};
+ghost use Rattle.mbuf_chain.specs.Owners.{times_among, Moves};
 ghost use Rattle.mbuf_chain.specs.Steps.{placed};
 ghost use Rattle.mbuf_chain.specs.Frames.{IsBounded};
 ghost use Rattle.mbuf_chain.specs.Pieces.{pieces_of};
@@ -76,7 +76,7 @@ impl Train {
         requires live { IsLive pool.old chain }
         requires headed { (chain_of pool.old chain).front.header ≡ true }
         requires held { IsHeld pool.old self.old }
-        requires apart { times chain (numbers pool.old self.old) ≡ 0 }
+        requires apart { times_among chain (numbers pool.old self.old) ≡ 0 }
         ensures queued_packets { queued_packets pool.new self.new ≡
             insert (queued_packets pool.old self.old) i
             (record { number = chain; entries = (chain_of pool.old chain).entries; tag = tag }) }
@@ -111,7 +111,7 @@ impl Train {
         requires live { IsLive pool.old chain }
         requires headed { (chain_of pool.old chain).front.header ≡ true }
         requires held { IsHeld pool.old self.old }
-        requires apart { times chain (numbers pool.old self.old) ≡ 0 }
+        requires apart { times_among chain (numbers pool.old self.old) ≡ 0 }
         ensures queued_packets { queued_packets pool.new self.new ≡
             insert (queued_packets pool.old self.old) (at.index + 1)
             (record { number = chain; entries = (chain_of pool.old chain).entries; tag = tag }) }
@@ -295,7 +295,7 @@ impl Train {
         requires live { IsLive pool.old number }
         requires headed { (chain_of pool.old number).front.header ≡ true }
         requires held { IsHeld pool.old self.old }
-        requires apart { times number (numbers pool.old self.old) ≡ 0 }
+        requires apart { times_among number (numbers pool.old self.old) ≡ 0 }
         ensures { Inserts pool.old self.old 0 number tag pool.new self.new }
     {
         let is_only = self.is_empty();
@@ -320,7 +320,7 @@ impl Train {
         requires live { IsLive pool.old number }
         requires headed { (chain_of pool.old number).front.header ≡ true }
         requires held { IsHeld pool.old self.old }
-        requires apart { times number (numbers pool.old self.old) ≡ 0 }
+        requires apart { times_among number (numbers pool.old self.old) ≡ 0 }
         ensures change { Inserts pool.old self.old (before.index + 1) number tag pool.new self.new }
         ensures place { result ≡ record { index = before.index + 1; number = number } }
     {

@@ -4,9 +4,9 @@ use Rattle.std.proofs.lemmas.List.{length-replicate, get_or-replicate, length-se
 use Rattle.raw_cells.specs.Cells.{Cells, zero_cells, zero_head}
 use Rattle.raw_cells.proofs.Laws.{sized_zero}
 use Rattle.mbuf_pool.specs.declared.sizes.Sizes.{Sizes}
-use Rattle.mbuf_pool.specs.Store.{StoreView, is_out, cluster_of, count_of, free_cluster, free_store}
+use Rattle.mbuf_pool.specs.Store.{StoreView, is_out, cluster_of, cluster_count, free_cluster, free_store}
 use Rattle.mbuf_pool.specs.Inside.AllOut.{IsAllOut}
-use Rattle.mbuf_pool.specs.Inside.Fields.{shown, IsSound}
+use Rattle.mbuf_pool.specs.Inside.Fields.{store_with, IsSound}
 use Rattle.mbuf_pool.proofs.Shown.{mbuf_out, count_at, mbufs_long, clusters_long}
 
 module _ (z : Sizes) (r : Cells) (counts : List ℕ) (some : 0 < z.mbufs) (most : z.mbufs ≤ 65535)
@@ -29,7 +29,7 @@ module _ (z : Sizes) (r : Cells) (counts : List ℕ) (some : 0 < z.mbufs) (most 
     uncounted = λ c lt. ap (λ (n : ℕ). cond {A = ℕ} (n == 0) 1 0) (sym (one_at c (omega (arith, clusters_are))));
   }
 
-  pub all_out : IsAllOut (shown r counts []) z
+  pub all_out : IsAllOut (store_with r counts []) z
   all_out = record {
     mbufs = mbufs_long r counts None 0 None 0 [] [] out_sound ∙ heads_are;
     mbufs_out = λ i lt. ap is_some (mbuf_out r counts [] i (omega (arith, heads_are)) refl);
@@ -43,13 +43,13 @@ pub record MbufsLeft (z : Sizes) (s : StoreView) (k : ℕ) : Type 0 where
   pub below : (i : ℕ) → i < k → IsTrue (is_out s i)
   pub above : (i : ℕ) → k ≤ i → slice_index_or s.mbufs i None ≡ None
   pub clusters : length s.clusters ≡ z.clusters
-  pub counted : (c : ℕ) → c < z.clusters → count_of s c ≡ 1
+  pub counted : (c : ℕ) → c < z.clusters → cluster_count s c ≡ 1
 
 -- all mbufs are free, and the clusters below k are still held
 pub record ClustersLeft (z : Sizes) (s : StoreView) (k : ℕ) : Type 0 where
   pub mbufs : s.mbufs ≡ replicate z.mbufs None
   pub clusters : length s.clusters ≡ z.clusters
-  pub below : (c : ℕ) → c < k → count_of s c ≡ 1
+  pub below : (c : ℕ) → c < k → cluster_count s c ≡ 1
   pub above : (c : ℕ) → k ≤ c → cluster_of s c ≡ free_cluster
 
 pub clusters_first : (z : Sizes) (s : StoreView) → MbufsLeft z s 0 → ClustersLeft z s z.clusters

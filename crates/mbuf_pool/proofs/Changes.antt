@@ -16,7 +16,7 @@ use Rattle.mbuf_pool.proofs.Blocks.{block, block_apart, block_written}
 pub record SameButMbuf (r t : Cells) (i : ℕ) : Type 0 where
   pub count : length t.heads ≡ length r.heads
   pub clusters : t.clusters ≡ r.clusters
-  pub heads : (k : ℕ) → k ≢ i → cells.head_of t k ≡ cells.head_of r k
+  pub heads : (k : ℕ) → k ≢ i → cells.cell_head t k ≡ cells.cell_head r k
   pub mbufs : (k : ℕ) → k < length r.heads → k ≢ i → mbuf_bytes t k ≡ mbuf_bytes r k
   pub all_clusters : (c : ℕ) → c < r.clusters → cluster_bytes t c ≡ cluster_bytes r c
   pub links : (c : ℕ) → c < r.clusters → next_cluster t c ≡ next_cluster r c
@@ -87,7 +87,7 @@ module _ (r : Cells) (sized : IsSized r) where
 
   -- a new head
   pub head_changed : (i : ℕ) (h : Head) (b : List ℕ) → i < length r.heads → length b ≡ head_size h
-      → SameButMbuf r (with_head r i h b) i × (cells.head_of (with_head r i h b) i ≡ h)
+      → SameButMbuf r (with_head r i h b) i × (cells.cell_head (with_head r i h b) i ≡ h)
       × (mbuf_bytes (with_head r i h b) i ≡ over (mbuf_bytes r i) 0 b) × IsSized (with_head r i h b)
   head_changed i h b lt long =
       let t = with_head r i h b in
@@ -125,7 +125,7 @@ module _ (r : Cells) (sized : IsSized r) where
   -- bytes of an mbuf
   pub mbuf_changed : (i s : ℕ) (ws : List ℕ) → i < length r.heads → s + length ws ≤ 128
       → let t : Cells = record r { bytes = over r.bytes (128 * i + s) ws } in
-      SameButMbuf r t i × (cells.head_of t i ≡ cells.head_of r i) × (mbuf_bytes t i ≡ over (mbuf_bytes r i) s ws)
+      SameButMbuf r t i × (cells.cell_head t i ≡ cells.cell_head r i) × (mbuf_bytes t i ≡ over (mbuf_bytes r i) s ws)
       × IsSized t
   mbuf_changed i s ws lt fits = (
     record {

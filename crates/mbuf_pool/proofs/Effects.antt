@@ -11,10 +11,10 @@ use Rattle.raw_cells.specs.declared.part.Part.{Part}
 use Rattle.raw_cells.specs.declared.part.Buffer.{Buffer}
 use Rattle.raw_cells.specs.declared.part.Buffer.TheVariants.{Mbuf, Cluster}
 use Rattle.raw_cells.proofs.Laws.{length_over, over_all}
-use Rattle.mbuf_pool.specs.Inside.FreeList.{times, IsFreeList}
+use Rattle.mbuf_pool.specs.Inside.FreeList.{times_listed, IsFreeList}
 use Rattle.mbuf_pool.specs.Inside.Link.{link_in, link_bytes, link_part}
-use Rattle.mbuf_pool.specs.Store.{MbufView, ClusterView, StoreView, with_mbuf, with_cluster, with_bytes, bytes_in, is_out, mbuf_of, head_of, cluster_of, count_of, free_cluster, held, released, TakesWith, TakesCluster, IsRoom, IsPart, read, write, IsStore}
-use Rattle.mbuf_pool.specs.Inside.Fields.{mbuf_bytes, cluster_bytes, next_mbuf, next_cluster, mbuf_seen, shown, seen_in, seen, IsSound, IsInside}
+use Rattle.mbuf_pool.specs.Store.{MbufView, ClusterView, StoreView, with_mbuf, with_cluster, with_bytes, bytes_in, is_out, mbuf_of, mbuf_head, cluster_of, cluster_count, free_cluster, held_once_more, released, TakesWith, TakesCluster, IsRoom, IsPart, stored_part, write, IsStore}
+use Rattle.mbuf_pool.specs.Inside.Fields.{mbuf_bytes, cluster_bytes, next_mbuf, next_cluster, mbuf_seen, store_with, seen_in, store_of, IsSound, IsInside}
 use Rattle.mbuf_pool.specs.declared.store.Store.TheInside.{Inside}
 use Rattle.mbuf_pool.proofs.FreeList.{list_kept, list_put, list_taken, first_free, none_free, times-here, times-there}
 use Rattle.mbuf_pool.proofs.Blocks.{block, length_block, block_written}
@@ -43,13 +43,13 @@ first_cluster_is {r} {counts} {f} {m} {cf} {cg} {cm} {v} is =
     subst (λ (x : Option ℕ). Leaves r counts f m x cm v) (sym is)
 
 -- a new head leaves the number of mbufs
-pub head_count : (r t : Cells) (i : ℕ) (h : Head) → cells.SetsHead r t i h → length t.heads ≡ length r.heads
+pub head_count : (r t : Cells) (i : ℕ) (h : Head) → cells.SetsCellHead r t i h → length t.heads ≡ length r.heads
 head_count r t i h sets = ap (λ (x : Cells). length x.heads) sets.2 ∙ length-set r.heads i h
 
-seen_out : (r : Cells) (free : List ℕ) (i : ℕ) → times i free ≡ 0
-    → mbuf_seen r free i ≡ Some (record { head = cells.head_of r i; bytes = mbuf_bytes r i })
+seen_out : (r : Cells) (free : List ℕ) (i : ℕ) → times_listed i free ≡ 0
+    → mbuf_seen r free i ≡ Some (record { head = cells.cell_head r i; bytes = mbuf_bytes r i })
 seen_out r free i e =
-    yes_zero (times i free) (Some (record { head = cells.head_of r i; bytes = mbuf_bytes r i })) None e
+    yes_zero (times_listed i free) (Some (record { head = cells.cell_head r i; bytes = mbuf_bytes r i })) None e
 
 -- a region is as it was
 same_region : (r : Cells) (c : ℕ) → SameButCluster r r c
@@ -64,8 +64,8 @@ same_region r c =
 
 -- ---- the first free mbuf, and the first free cluster
 module _ (r : Cells) (counts : List ℕ) (m : ℕ) (cf : Option ℕ) (cm : ℕ) (i : ℕ) (rest cfree : List ℕ) (v : StoreView)
-    (ok : IsSound r counts (Some i) m cf cm (i ∷ rest) cfree) (is : shown r counts (i ∷ rest) ≡ v) where
-  first_left : times i rest ≡ 0
+    (ok : IsSound r counts (Some i) m cf cm (i ∷ rest) cfree) (is : store_with r counts (i ∷ rest) ≡ v) where
+  first_left : times_listed i rest ≡ 0
   first_left = omega (arith, ok.mbuf_list.once i, times-here i rest)
 
   pub got : (h : Head) (b : List ℕ) → length b ≡ head_size h
@@ -87,7 +87,7 @@ module _ (r : Cells) (counts : List ℕ) (m : ℕ) (cf : Option ℕ) (cm : ℕ) 
   was_free =
       let lt = ok.mbuf_list.linked.1 in
       ap (λ (w : StoreView). slice_get w.mbufs i) (sym is)
-      ∙ slice_get-get_or (shown r counts (i ∷ rest)).mbufs i None
+      ∙ slice_get-get_or (store_with r counts (i ∷ rest)).mbufs i None
       (omega (arith, mbufs_long r counts (Some i) m cf cm (i ∷ rest) cfree ok))
       ∙ ap Some (mbuf_free r counts (i ∷ rest) i lt (omega (arith, times-here i rest)))
 
@@ -97,8 +97,8 @@ module _ (r : Cells) (counts : List ℕ) (m : ℕ) (cf : Option ℕ) (cm : ℕ) 
       ∙ length_block r.bytes (128 * i) 128 (omega (arith, ok.sized.block, ok.mbuf_list.linked.1))
 
 module _ (r : Cells) (counts : List ℕ) (f : Option ℕ) (m : ℕ) (cm : ℕ) (c : ℕ) (free rest : List ℕ) (v : StoreView)
-    (ok : IsSound r counts f m (Some c) cm free (c ∷ rest)) (is : shown r counts free ≡ v) where
-  cluster_left : times c rest ≡ 0
+    (ok : IsSound r counts f m (Some c) cm free (c ∷ rest)) (is : store_with r counts free ≡ v) where
+  cluster_left : times_listed c rest ≡ 0
   cluster_left = omega (arith, ok.cluster_list.once c, times-here c rest)
 
   pub got_cluster : Leaves r (slice_set counts c 1) f m (next_cluster r c) (cm - 1)
@@ -119,12 +119,12 @@ module _ (r : Cells) (counts : List ℕ) (f : Option ℕ) (m : ℕ) (cm : ℕ) (
       let lt = ok.cluster_list.linked.1 in
       let none : slice_index counts c ≡ 0 = go (slice_index counts c) (sym (ok.uncounted c lt) ∙ times-here c rest) in
       ap (λ (w : StoreView). slice_get w.clusters c) (sym is)
-      ∙ slice_get-get_or (shown r counts free).clusters c free_cluster
+      ∙ slice_get-get_or (store_with r counts free).clusters c free_cluster
       (omega (arith, clusters_long r counts f m (Some c) cm free (c ∷ rest) ok))
       ∙ ap Some (cluster_at r counts free c lt
       ∙ ap (λ (n : ℕ). record { count = n; bytes = if n == 0 then [] else cluster_bytes r c }) none)
     where
-      go : (n : ℕ) → cond {A = ℕ} (n == 0) 1 0 ≡ suc (times c rest) → n ≡ 0
+      go : (n : ℕ) → cond {A = ℕ} (n == 0) 1 0 ≡ suc (times_listed c rest) → n ≡ 0
       go zero e = refl
       go (suc n) e = absurd (omega (arith, not_zero {X = ℕ} (suc n) 1 0 (omega arith)))
 
@@ -134,10 +134,10 @@ module _ (r : Cells) (counts : List ℕ) (f : Option ℕ) (m : ℕ) (cm : ℕ) (
       (omega (arith, ok.sized.block, ok.cluster_list.linked.1))
 
 -- ---- what is in use
-module _ (s : Inside) (v : StoreView) (a : IsInside s) (e : seen s ≡ v) where
+module _ (s : Inside) (v : StoreView) (a : IsInside s) (e : store_of s ≡ v) where
   -- an mbuf is put back
   pub put_back : (i : ℕ) (h : Head) (t : Cells) → IsTrue (is_out v i) → h.next ≡ s.first_mbuf
-      → cells.SetsHead s.region t i h
+      → cells.SetsCellHead s.region t i h
       → Leaves t s.counts.items (Some i) (s.free_mbufs + 1) s.first_cluster s.free_clusters (with_mbuf v i None)
   put_back i h t out linked sets =
       let r = s.region in let ok = a.1.2 in let free = a.1.0 in
@@ -152,7 +152,7 @@ module _ (s : Inside) (v : StoreView) (a : IsInside s) (e : seen s ≡ v) where
       (ap (λ (x : Head). x.next) ch.1 ∙ linked) (λ j below ne. ap (λ (x : Head). x.next) (ch.0.heads j ne)))
       (λ k ne. times-there k i free (λ q. ne (sym q))) (shown_as s v a e) in
       let nothing : mbuf_seen t0 (i ∷ free) i ≡ None =
-      not_zero (times i (i ∷ free)) (Some (record { head = cells.head_of t0 i; bytes = mbuf_bytes t0 i })) None
+      not_zero (times_listed i (i ∷ free)) (Some (record { head = cells.cell_head t0 i; bytes = mbuf_bytes t0 i })) None
       (omega (arith, times-here i free)) in
       subst (λ (x : Cells). Leaves x s.counts.items (Some i) (s.free_mbufs + 1) s.first_cluster s.free_clusters
       (with_mbuf v i None)) (sym sets.2)
@@ -160,7 +160,7 @@ module _ (s : Inside) (v : StoreView) (a : IsInside s) (e : seen s ≡ v) where
       s.free_clusters (with_mbuf v i x)) nothing leaves)
 
   -- an mbuf has a new head
-  pub head_set : (i : ℕ) (h : Head) (t : Cells) → IsTrue (is_out v i) → (sets : cells.SetsHead s.region t i h)
+  pub head_set : (i : ℕ) (h : Head) (t : Cells) → IsTrue (is_out v i) → (sets : cells.SetsCellHead s.region t i h)
       → Leaves t s.counts.items s.first_mbuf s.free_mbufs s.first_cluster s.free_clusters
       (with_mbuf v i (Some (record { head = h; bytes = over (mbuf_of v i).bytes 0 sets.0 })))
   head_set i h t out sets =
@@ -174,7 +174,7 @@ module _ (s : Inside) (v : StoreView) (a : IsInside s) (e : seen s ≡ v) where
       s.first_mbuf s.free_mbufs free v lt ch.0 ch.3
       (list_kept (next_mbuf r) (length r.heads) (next_mbuf t0) s.first_mbuf s.free_mbufs free ok.mbuf_list
       (λ j below p. ap (λ (x : Head). x.next)
-      (ch.0.heads j (λ q. absurd (omega (arith, once, ap (λ (k : ℕ). times k free) q))))))
+      (ch.0.heads j (λ q. absurd (omega (arith, once, ap (λ (k : ℕ). times_listed k free) q))))))
       (λ k ne. refl) (shown_as s v a e) in
       let shows : mbuf_seen t0 free i ≡ Some (record { head = h; bytes = over (mbuf_of v i).bytes 0 sets.0 }) =
       seen_out t0 free i once ∙ (λ j. Some
@@ -190,11 +190,12 @@ module _ (s : Inside) (v : StoreView) (a : IsInside s) (e : seen s ≡ v) where
 
   -- a field of the head of an mbuf is set
   pub field_sets : (g : Head → Head) (i : ℕ) (t : Cells) → IsTrue (is_out v i)
-      → cells.SetsHead s.region t i (g (cells.head_of s.region i)) → cells.SetsHead s.region t i (g (head_of v i))
-  field_sets g i t out sets = subst (λ (h : Head). cells.SetsHead s.region t i (g h)) (head_is s v a e i out) sets
+      → cells.SetsCellHead s.region t i (g (cells.cell_head s.region i))
+      → cells.SetsCellHead s.region t i (g (mbuf_head v i))
+  field_sets g i t out sets = subst (λ (h : Head). cells.SetsCellHead s.region t i (g h)) (head_is s v a e i out) sets
 
   -- the count of a cluster in use changes, and it stays in use
-  counted_as : (c x : ℕ) (t : Cells) → 0 < count_of v c → 0 < x → SameButCluster s.region t c → IsSized t
+  counted_as : (c x : ℕ) (t : Cells) → 0 < cluster_count v c → 0 < x → SameButCluster s.region t c → IsSized t
       → Leaves t (slice_set s.counts.items c x) s.first_mbuf s.free_mbufs s.first_cluster s.free_clusters
       (with_cluster v c (record { count = x; bytes = cluster_bytes t c }))
   counted_as c x t counted above same sized =
@@ -202,14 +203,14 @@ module _ (s : Inside) (v : StoreView) (a : IsInside s) (e : seen s ≡ v) where
       let lt = cluster_index_is s v a e c counted in
       let count_here : slice_index (slice_set counts c x) c ≡ x =
       get_or-set_same counts c x 0 (omega (arith, ok.counts_long)) in
-      let now : slice_index counts c ≡ count_of v c =
+      let now : slice_index counts c ≡ cluster_count v c =
       count_is s v a e c (omega (arith, ok.counts_long, counts_are s v a e)) in
-      let none : times c a.1.1 ≡ 0 = ok.uncounted c lt ∙ not_zero (slice_index counts c) 1 0 (omega arith) in
+      let none : times_listed c a.1.1 ≡ 0 = ok.uncounted c lt ∙ not_zero (slice_index counts c) 1 0 (omega arith) in
       let leaves =
       cluster_step r counts s.first_mbuf s.free_mbufs s.first_cluster s.free_clusters a.1.0 a.1.1 ok t c x
       s.first_cluster s.free_clusters a.1.1 v lt same sized
       (list_kept (next_cluster r) r.clusters (next_cluster t) s.first_cluster s.free_clusters a.1.1 ok.cluster_list
-      (λ j below p. same.links j below (λ q. absurd (omega (arith, none, ap (λ (k : ℕ). times k a.1.1) q)))))
+      (λ j below p. same.links j below (λ q. absurd (omega (arith, none, ap (λ (k : ℕ). times_listed k a.1.1) q)))))
       (λ k ne. refl) (none ∙ sym (not_zero x 1 0 above)) (shown_as s v a e) in
       subst (λ (y : ClusterView). Leaves t (slice_set counts c x) s.first_mbuf s.free_mbufs s.first_cluster
       s.free_clusters (with_cluster v c y))
@@ -217,9 +218,9 @@ module _ (s : Inside) (v : StoreView) (a : IsInside s) (e : seen s ≡ v) where
       ∙ ap (λ (bs : List ℕ). record { count = x; bytes = bs }) (not_zero x [] (cluster_bytes t c) above)) leaves
 
   -- one more holds a cluster
-  pub hold_more : (c x : ℕ) → 0 < count_of v c → x ≡ count_of v c
+  pub hold_more : (c x : ℕ) → 0 < cluster_count v c → x ≡ cluster_count v c
       → Leaves s.region (slice_set s.counts.items c (x + 1)) s.first_mbuf s.free_mbufs s.first_cluster s.free_clusters
-      (with_cluster v c (held (cluster_of v c)))
+      (with_cluster v c (held_once_more (cluster_of v c)))
   hold_more c x counted is =
       subst (λ (y : ClusterView). Leaves s.region (slice_set s.counts.items c (x + 1)) s.first_mbuf s.free_mbufs
       s.first_cluster s.free_clusters (with_cluster v c y))
@@ -230,33 +231,33 @@ module _ (s : Inside) (v : StoreView) (a : IsInside s) (e : seen s ≡ v) where
       (counted_as c (x + 1) s.region counted (omega arith) (same_region s.region c) a.1.2.sized)
 
   -- one less does, and it stays in use
-  pub hold_less : (c x : ℕ) → 0 < count_of v c → x + 1 ≡ count_of v c → 0 < x
+  pub hold_less : (c x : ℕ) → 0 < cluster_count v c → x + 1 ≡ cluster_count v c → 0 < x
       → Leaves s.region (slice_set s.counts.items c x) s.first_mbuf s.free_mbufs s.first_cluster s.free_clusters
       (with_cluster v c (released (cluster_of v c)))
   hold_less c x counted is above =
-      let less : x ≡ count_of v c - 1 = omega arith in
+      let less : x ≡ cluster_count v c - 1 = omega arith in
       subst (λ (y : ClusterView). Leaves s.region (slice_set s.counts.items c x) s.first_mbuf s.free_mbufs
       s.first_cluster s.free_clusters (with_cluster v c y))
       ((λ j. record {
         count = less j;
         bytes = ap (λ (y : ClusterView). y.bytes) (sym (cluster_is s v a e c counted)) j;
       })
-      ∙ sym (ap (λ b. if b then free_cluster else record (cluster_of v c) { count = count_of v c - 1 })
-      (ne_eqb (count_of v c) 1 (λ q. absurd (omega arith)))))
+      ∙ sym (ap (λ b. if b then free_cluster else record (cluster_of v c) { count = cluster_count v c - 1 })
+      (ne_eqb (cluster_count v c) 1 (λ q. absurd (omega arith)))))
       (counted_as c x s.region counted above (same_region s.region c) a.1.2.sized)
 
   -- a cluster is given back
-  pub give_back : (c : ℕ) (t : Cells) → count_of v c ≡ 1
-      → t ≡ cells.write s.region (link_part c) (link_bytes s.first_cluster)
+  pub give_back : (c : ℕ) (t : Cells) → cluster_count v c ≡ 1
+      → t ≡ cells.cells_written s.region (link_part c) (link_bytes s.first_cluster)
       → Leaves t (slice_set s.counts.items c 0) s.first_mbuf s.free_mbufs (Some c) (s.free_clusters + 1)
       (with_cluster v c (released (cluster_of v c)))
   give_back c t one is =
       let r = s.region in let ok = a.1.2 in let counts = s.counts.items in
-      let counted : 0 < count_of v c = omega arith in
+      let counted : 0 < cluster_count v c = omega arith in
       let lt = cluster_index_is s v a e c counted in
-      let now : slice_index counts c ≡ count_of v c =
+      let now : slice_index counts c ≡ cluster_count v c =
       count_is s v a e c (omega (arith, ok.counts_long, counts_are s v a e)) in
-      let none : times c a.1.1 ≡ 0 = ok.uncounted c lt ∙ not_zero (slice_index counts c) 1 0 (omega arith) in
+      let none : times_listed c a.1.1 ≡ 0 = ok.uncounted c lt ∙ not_zero (slice_index counts c) 1 0 (omega arith) in
       let ws = take 4 (link_bytes s.first_cluster) in
       let ws_is : ws ≡ link_bytes s.first_cluster =
       take_all 4 (link_bytes s.first_cluster) (omega (arith, length-link_bytes s.first_cluster)) in
@@ -279,8 +280,8 @@ module _ (s : Inside) (v : StoreView) (a : IsInside s) (e : seen s ≡ v) where
       (subst (λ (y : ClusterView). Leaves t0 (slice_set counts c 0) s.first_mbuf s.free_mbufs (Some c)
       (s.free_clusters + 1) (with_cluster v c y))
       ((λ j. record { count = count_here j; bytes = if count_here j == 0 then [] else cluster_bytes t0 c })
-      ∙ sym (ap (λ b. if b then free_cluster else record (cluster_of v c) { count = count_of v c - 1 })
-      (eq-eqb (count_of v c) 1 one))) leaves)
+      ∙ sym (ap (λ b. if b then free_cluster else record (cluster_of v c) { count = cluster_count v c - 1 })
+      (eq-eqb (cluster_count v c) 1 one))) leaves)
     where
       first_link : (f : Option ℕ) (free : List ℕ)
           → IsFreeList (next_cluster s.region) s.region.clusters f s.free_clusters free → IsLink f
@@ -300,8 +301,8 @@ module _ (s : Inside) (v : StoreView) (a : IsInside s) (e : seen s ≡ v) where
           ∙ block_written s.region.bytes (at + 0) 4 0 ws inside (omega arith)
           ∙ over_all (block s.region.bytes (at + 0) 4) ws (long ∙ sym (length_block s.region.bytes (at + 0) 4 inside))
 
-  pub give_back_as : (c x : ℕ) (t : Cells) → count_of v c ≡ x + 1 → x ≡ 0
-      → t ≡ cells.write s.region (link_part c) (link_bytes s.first_cluster)
+  pub give_back_as : (c x : ℕ) (t : Cells) → cluster_count v c ≡ x + 1 → x ≡ 0
+      → t ≡ cells.cells_written s.region (link_part c) (link_bytes s.first_cluster)
       → Leaves t (slice_set s.counts.items c x) s.first_mbuf s.free_mbufs (Some c) (s.free_clusters + 1)
       (with_cluster v c (released (cluster_of v c)))
   give_back_as c x t one zero_is is =
@@ -334,12 +335,12 @@ module _ (s : Inside) (v : StoreView) (a : IsInside s) (e : seen s ≡ v) where
   written (Cluster c) at n ws room =
       let r = s.region in let ok = a.1.2 in let counts = s.counts.items in
       let lt = cluster_index_is s v a e c room.0 in
-      let now : slice_index counts c ≡ count_of v c =
+      let now : slice_index counts c ≡ cluster_count v c =
       count_is s v a e c (omega (arith, ok.counts_long, counts_are s v a e)) in
       let ch = cluster_changed r ok.sized c at (take n ws) lt (omega (arith, room.1, length-take n ws)) in
       let t : Cells = record r { bytes = over r.bytes (128 * length r.heads + 2048 * c + at) (take n ws) } in
       subst (λ (k : List ℕ). Leaves t k s.first_mbuf s.free_mbufs s.first_cluster s.free_clusters
-      (with_cluster v c (record { count = count_of v c; bytes = over (cluster_of v c).bytes at (take n ws) })))
+      (with_cluster v c (record { count = cluster_count v c; bytes = over (cluster_of v c).bytes at (take n ws) })))
       (set-get_or counts c 0)
       (subst (λ (y : ClusterView). Leaves t (slice_set counts c (slice_index counts c)) s.first_mbuf s.free_mbufs
       s.first_cluster s.free_clusters (with_cluster v c y))
@@ -351,13 +352,14 @@ module _ (s : Inside) (v : StoreView) (a : IsInside s) (e : seen s ≡ v) where
       (counted_as c (slice_index counts c) t room.0 (omega (arith, room.0)) ch.0 ch.2))
 
   -- bytes of one part are copied over those of another
-  pub copied : (p q : Part) (t : Cells) → IsPart v p → IsPart v q → t ≡ cells.write s.region q (cells.read s.region p)
-      → Leaves t s.counts.items s.first_mbuf s.free_mbufs s.first_cluster s.free_clusters (write v q (read v p))
+  pub copied : (p q : Part) (t : Cells) → IsPart v p → IsPart v q
+      → t ≡ cells.cells_written s.region q (cells.read s.region p)
+      → Leaves t s.counts.items s.first_mbuf s.free_mbufs s.first_cluster s.free_clusters (write v q (stored_part v p))
   copied p q t from to is =
       subst (λ (x : Cells). Leaves x s.counts.items s.first_mbuf s.free_mbufs s.first_cluster s.free_clusters
-      (write v q (read v p)))
-      (sym (is ∙ ap (cells.write s.region q) (read_is s v a e p.buffer p.start p.len from)))
-      (written q.buffer q.start q.len (read v p) to)
+      (write v q (stored_part v p)))
+      (sym (is ∙ ap (cells.cells_written s.region q) (read_is s v a e p.buffer p.start p.len from)))
+      (written q.buffer q.start q.len (stored_part v p) to)
 
   -- ---- what is free first is taken
   pub first_index : (i : ℕ) → s.first_mbuf ≡ Some i → i < length s.region.heads
@@ -373,7 +375,7 @@ module _ (s : Inside) (v : StoreView) (a : IsInside s) (e : seen s ≡ v) where
       a.1.2.cluster_list)).2
 
   pub get_left : (h : Head) (i : ℕ) (t : Cells) (next : Option ℕ) → s.first_mbuf ≡ Some i → next ≡ next_mbuf s.region i
-      → (sets : cells.SetsHead s.region t i h)
+      → (sets : cells.SetsCellHead s.region t i h)
       → Leaves t s.counts.items next (s.free_mbufs - 1) s.first_cluster s.free_clusters
       (with_mbuf v i (Some (record { head = h; bytes = over (mbuf_bytes s.region i) 0 sets.0 })))
       × TakesWith v (seen_in t s.counts.items next) i h
@@ -386,7 +388,7 @@ module _ (s : Inside) (v : StoreView) (a : IsInside s) (e : seen s ≡ v) where
       let ok' =
       subst (λ (l : List ℕ). IsSound r counts (Some i) s.free_mbufs s.first_cluster s.free_clusters l a.1.1) found.1
       ok in
-      let is' = subst (λ (l : List ℕ). shown r counts l ≡ v) found.1 (shown_as s v a e) in
+      let is' = subst (λ (l : List ℕ). store_with r counts l ≡ v) found.1 (shown_as s v a e) in
       let after : StoreView = with_mbuf v i (Some (record { head = h; bytes = over (mbuf_bytes r i) 0 sets.0 })) in
       let plain = got r counts s.free_mbufs s.first_cluster s.free_clusters i found.0 a.1.1 v ok' is' h sets.0 sets.1 in
       let leaves : Leaves t counts next (s.free_mbufs - 1) s.first_cluster s.free_clusters after =

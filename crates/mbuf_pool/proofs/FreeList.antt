@@ -4,35 +4,35 @@ use Rattle.std.specs.List.{range_with_len}
 use Rattle.std.proofs.lemmas.Bool.{cases_eq, eq-eqb, ne_eqb}
 use Rattle.std.proofs.lemmas.List.Sums.{sum_by-cons}
 use Rattle.std.proofs.lemmas.Option.{none-some, same_Some}
-use Rattle.mbuf_pool.specs.Inside.FreeList.{times, walk, IsLinked, IsFreeList}
+use Rattle.mbuf_pool.specs.Inside.FreeList.{times_listed, walk_free, AreLinkedPlaces, IsFreeList}
 
 -- ---- how often a place stands in a list
-pub times-here : (k : ℕ) (xs : List ℕ) → times k (k ∷ xs) ≡ suc (times k xs)
-times-here k xs = ap (λ b. cond {A = ℕ} b 1 0 + times k xs) (eq-eqb k k refl) ∙ omega arith
+pub times-here : (k : ℕ) (xs : List ℕ) → times_listed k (k ∷ xs) ≡ suc (times_listed k xs)
+times-here k xs = ap (λ b. cond {A = ℕ} b 1 0 + times_listed k xs) (eq-eqb k k refl) ∙ omega arith
 
-pub times-there : (k x : ℕ) (xs : List ℕ) → x ≢ k → times k (x ∷ xs) ≡ times k xs
-times-there k x xs ne = ap (λ b. cond {A = ℕ} b 1 0 + times k xs) (ne_eqb x k ne) ∙ omega arith
+pub times-there : (k x : ℕ) (xs : List ℕ) → x ≢ k → times_listed k (x ∷ xs) ≡ times_listed k xs
+times-there k x xs ne = ap (λ b. cond {A = ℕ} b 1 0 + times_listed k xs) (ne_eqb x k ne) ∙ omega arith
 
 -- ---- the links
 -- the links stay where the next of each place in the list does
 pub links_kept : (f g : ℕ → Option ℕ) (n : ℕ) (at : Option ℕ) (l : List ℕ)
-    → ((k : ℕ) → k < n → 0 < times k l → g k ≡ f k) → IsLinked f n at l → IsLinked g n at l
+    → ((k : ℕ) → k < n → 0 < times_listed k l → g k ≡ f k) → AreLinkedPlaces f n at l → AreLinkedPlaces g n at l
 links_kept f g n at [] kept h = h
 links_kept f g n at (x ∷ xs) kept h =
     let here = kept x h.1 (omega (arith, times-here x xs)) in (
       h.0,
       h.1,
-      subst (λ (m : Option ℕ). IsLinked g n m xs) (sym here)
+      subst (λ (m : Option ℕ). AreLinkedPlaces g n m xs) (sym here)
           (links_kept f g n (f x) xs (λ k lt p. kept k lt (omega arith)) h.2),
     )
 
 -- the walk along the links gives the list
-pub walk_is : (next : ℕ → Option ℕ) (places n : ℕ) (at : Option ℕ) (l : List ℕ) → IsLinked next places at l
-    → length l ≤ n → walk next n at ≡ l
-walk_is next places n at [] h le = ap (walk next n) h
+pub walk_is : (next : ℕ → Option ℕ) (places n : ℕ) (at : Option ℕ) (l : List ℕ) → AreLinkedPlaces next places at l
+    → length l ≤ n → walk_free next n at ≡ l
+walk_is next places n at [] h le = ap (walk_free next n) h
 walk_is next places zero at (x ∷ xs) h le = absurd (omega arith)
 walk_is next places (suc n) at (x ∷ xs) h le =
-    ap (walk next (suc n)) h.0 ∙ ap (λ (l : List ℕ). x ∷ l) (walk_is next places n (next x) xs h.2 (omega arith))
+    ap (walk_free next (suc n)) h.0 ∙ ap (λ (l : List ℕ). x ∷ l) (walk_is next places n (next x) xs h.2 (omega arith))
 
 -- ---- how many there are
 -- the sum of f over n places from a on
@@ -70,11 +70,11 @@ places_one x a (suc n) low high =
     ]
 
 -- a linked list is as long as the sum over all places of how often each stands in it
-all_times : (next : ℕ → Option ℕ) (n : ℕ) (at : Option ℕ) (l : List ℕ) → IsLinked next n at l
-    → over_places 0 n (λ k. times k l) ≡ length l
+all_times : (next : ℕ → Option ℕ) (n : ℕ) (at : Option ℕ) (l : List ℕ) → AreLinkedPlaces next n at l
+    → over_places 0 n (λ k. times_listed k l) ≡ length l
 all_times next n at [] h = places_zero 0 n (λ k. 0) (λ k le. refl)
 all_times next n at (x ∷ xs) h =
-    places_add 0 n (λ k. cond (nat_eq x k) 1 0) (λ k. times k xs)
+    places_add 0 n (λ k. cond (nat_eq x k) 1 0) (λ k. times_listed k xs)
     ∙ omega (arith, places_one x 0 n (omega arith) (omega (arith, h.1)), all_times next n (next x) xs h.2)
 
 counted : {X : Type 0} (p : X → Bool) (f : ℕ → X) (a n : ℕ)
@@ -86,18 +86,19 @@ counted p f a (suc n) =
 
 -- where each place is counted as often as it stands in a linked list, the count is the list's length
 pub count_free : {X : Type 0} (p : X → Bool) (f : ℕ → X) (next : ℕ → Option ℕ) (n : ℕ) (at : Option ℕ) (l : List ℕ)
-    → IsLinked next n at l
-    → ((k : ℕ) → k < n → cond {A = ℕ} (p (f k)) 1 0 ≡ times k l) → count_by p (map f (range_with_len 0 n)) ≡ length l
+    → AreLinkedPlaces next n at l
+    → ((k : ℕ) → k < n → cond {A = ℕ} (p (f k)) 1 0 ≡ times_listed k l)
+    → count_by p (map f (range_with_len 0 n)) ≡ length l
 count_free p f next n at l linked each =
-    counted p f 0 n ∙ places_same 0 n (λ k. cond (p (f k)) 1 0) (λ k. times k l) (λ k lt. each k (omega arith))
+    counted p f 0 n ∙ places_same 0 n (λ k. cond (p (f k)) 1 0) (λ k. times_listed k l) (λ k lt. each k (omega arith))
     ∙ all_times next n at l linked
 
 -- a linked list with no place twice is at most as long as there are places
-pub few_free : (next : ℕ → Option ℕ) (n : ℕ) (at : Option ℕ) (l : List ℕ) → IsLinked next n at l
-    → ((k : ℕ) → times k l ≤ 1) → length l ≤ n
+pub few_free : (next : ℕ → Option ℕ) (n : ℕ) (at : Option ℕ) (l : List ℕ) → AreLinkedPlaces next n at l
+    → ((k : ℕ) → times_listed k l ≤ 1) → length l ≤ n
 few_free next n at l linked once = omega (arith, all_times next n at l linked, small 0 n)
   where
-    small : (a m : ℕ) → over_places a m (λ k. times k l) ≤ m
+    small : (a m : ℕ) → over_places a m (λ k. times_listed k l) ≤ m
     small a zero = omega arith
     small a (suc m) = omega (arith, once a, small (a + 1) m)
 
@@ -125,23 +126,23 @@ module _ (next : ℕ → Option ℕ) (places : ℕ) where
         linked =
             links_kept next g places (next k) rest
             (λ j lt p. kept j lt (λ e. absurd
-            (omega (arith, h.once k, times-here k rest, ap (λ (m : ℕ). times m rest) e)))) h.linked.2;
+            (omega (arith, h.once k, times-here k rest, ap (λ (m : ℕ). times_listed m rest) e)))) h.linked.2;
         once = λ j. omega (arith, h.once j);
         size = omega (arith, h.size);
       }
 
   -- one is put in front
   pub list_put : (g : ℕ → Option ℕ) (first : Option ℕ) (k number : ℕ) (free : List ℕ)
-      → IsFreeList next places first number free → k < places → times k free ≡ 0 → g k ≡ first
+      → IsFreeList next places first number free → k < places → times_listed k free ≡ 0 → g k ≡ first
       → ((j : ℕ) → j < places → j ≢ k → g j ≡ next j) → IsFreeList g places (Some k) (number + 1) (k ∷ free)
   list_put g first k number free h lt out here kept =
-      let linked : IsLinked g places first free =
+      let linked : AreLinkedPlaces g places first free =
       links_kept next g places first free
-      (λ j below p. kept j below (λ e. absurd (omega (arith, out, ap (λ (m : ℕ). times m free) e)))) h.linked in
+      (λ j below p. kept j below (λ e. absurd (omega (arith, out, ap (λ (m : ℕ). times_listed m free) e)))) h.linked in
       record {
-        linked = (refl, lt, subst (λ (m : Option ℕ). IsLinked g places m free) (sym here) linked);
+        linked = (refl, lt, subst (λ (m : Option ℕ). AreLinkedPlaces g places m free) (sym here) linked);
         once = λ j. elim (cases_eq k j) [
-          | inl e ↦ omega (arith, times-here k free, ap (λ (m : ℕ). times m (k ∷ free)) e)
+          | inl e ↦ omega (arith, times-here k free, ap (λ (m : ℕ). times_listed m (k ∷ free)) e)
           | inr ne ↦ omega (arith, h.once j, times-there j k free ne)
         ];
         size = omega (arith, h.size);
@@ -149,7 +150,7 @@ module _ (next : ℕ → Option ℕ) (places : ℕ) where
 
   -- none of the links in the list changes
   pub list_kept : (g : ℕ → Option ℕ) (first : Option ℕ) (number : ℕ) (free : List ℕ)
-      → IsFreeList next places first number free → ((j : ℕ) → j < places → 0 < times j free → g j ≡ next j)
+      → IsFreeList next places first number free → ((j : ℕ) → j < places → 0 < times_listed j free → g j ≡ next j)
       → IsFreeList g places first number free
   list_kept g first number free h kept =
       record { linked = links_kept next g places first free kept h.linked; once = h.once; size = h.size }

@@ -10,7 +10,7 @@ use Rattle.raw_cells.specs.declared.head.Head.{Head}
 pub use Rattle.raw_cells.proofs.Laws.{over_below, over_above, over_in, length_over}
 use Rattle.raw_cells.proofs.Laws.{head_size_le}
 use Rattle.mbuf_pool.proofs.Reading.{some_or_none}
-use Rattle.mbuf_pool.specs.Store.{MbufView, ClusterView, StoreView, no_mbuf, free_cluster, is_out, mbuf_of, head_of, cluster_of, count_of, free_mbufs, mbufs_out, free_clusters, held, released, with_mbuf, with_cluster, IsStore, TakesCluster, SetsHead}
+use Rattle.mbuf_pool.specs.Store.{MbufView, ClusterView, StoreView, no_mbuf, free_cluster, is_out, mbuf_of, mbuf_head, cluster_of, cluster_count, free_mbufs, mbufs_out, free_clusters, held_once_more, released, with_mbuf, with_cluster, IsStore, TakesCluster, SetsHead}
 
 -- ---- one mbuf, or one cluster, in place of another
 pub mbuf_here : (s : StoreView) (i : ℕ) (m : Option MbufView) → i < length s.mbufs
@@ -36,7 +36,7 @@ out_within s i out = elim (cases_lt i (length s.mbufs)) [
   | inr ge ↦ absurd (false≢true (ap is_some (sym (get_or_past s.mbufs i None ge)) ∙ out))
 ]
 
-pub counted_within : (s : StoreView) (c : ℕ) → 0 < count_of s c → c < length s.clusters
+pub counted_within : (s : StoreView) (c : ℕ) → 0 < cluster_count s c → c < length s.clusters
 counted_within s c counted = elim (cases_lt c (length s.clusters)) [
   | inl lt ↦ lt
   | inr ge ↦ absurd (omega (arith, ap (λ (v : ClusterView). v.count) (get_or_past s.clusters c free_cluster ge)))
@@ -61,19 +61,21 @@ taken_back old new c h =
     ∙ (λ j. record old { clusters = set_back old.clusters c v free_cluster h.was_free j })
 
 -- ---- counts
-pub count_held : (s : StoreView) (c : ℕ) → 0 < count_of s c
-    → count_of (with_cluster s c (held (cluster_of s c))) c ≡ count_of s c + 1
+pub count_held : (s : StoreView) (c : ℕ) → 0 < cluster_count s c
+    → cluster_count (with_cluster s c (held_once_more (cluster_of s c))) c ≡ cluster_count s c + 1
 count_held s c counted =
-    ap (λ (v : ClusterView). v.count) (cluster_here s c (held (cluster_of s c)) (counted_within s c counted))
+    ap (λ (v : ClusterView). v.count) (cluster_here s c (held_once_more (cluster_of s c)) (counted_within s c counted))
 
-pub count_released : (s : StoreView) (c : ℕ) → 0 < count_of s c
-    → count_of (with_cluster s c (released (cluster_of s c))) c + 1 ≡ count_of s c
+pub count_released : (s : StoreView) (c : ℕ) → 0 < cluster_count s c
+    → cluster_count (with_cluster s c (released (cluster_of s c))) c + 1 ≡ cluster_count s c
 count_released s c counted =
-    let one_less : (released (cluster_of s c)).count + 1 ≡ count_of s c = elim (cases_eq (count_of s c) 1) [
+    let one_less : (released (cluster_of s c)).count + 1 ≡ cluster_count s c = elim (cases_eq (cluster_count s c) 1) [
       | inl e ↦ ap (λ (b : Bool). (if b then free_cluster
-          else record (cluster_of s c) { count = count_of s c - 1 }).count + 1) (eq-eqb (count_of s c) 1 e) ∙ sym e
+          else record (cluster_of s c) { count = cluster_count s c - 1 }).count + 1) (eq-eqb (cluster_count s
+          c) 1 e) ∙ sym e
       | inr ne ↦ ap (λ (b : Bool). (if b then free_cluster
-          else record (cluster_of s c) { count = count_of s c - 1 }).count + 1) (ne_eqb (count_of s c) 1 ne) ∙ omega arith
+          else record (cluster_of s c) { count = cluster_count s c - 1 }).count + 1) (ne_eqb (cluster_count s
+          c) 1 ne) ∙ omega arith
     ] in
     ap (λ (v : ClusterView). v.count + 1) (cluster_here s c (released (cluster_of s c)) (counted_within s c counted))
     ∙ one_less
@@ -109,7 +111,7 @@ no_cluster_left (v ∷ vs) (suc c) e lt =
     no_cluster_left vs c (omega (arith, sum_by-cons (λ (x : ClusterView). cond {A = ℕ} (x.count == 0) 1 0) v vs))
     (omega arith)
 
-pub all_counted : (s : StoreView) (c : ℕ) → free_clusters s ≡ 0 → c < length s.clusters → 0 < count_of s c
+pub all_counted : (s : StoreView) (c : ℕ) → free_clusters s ≡ 0 → c < length s.clusters → 0 < cluster_count s c
 all_counted s c e lt = no_cluster_left s.clusters c e lt
 
 -- ---- one head after another
@@ -141,9 +143,9 @@ sets_out s t i h out sets =
     ∙ ap is_some (mbuf_here s i (Some (record { head = h; bytes = over (mbuf_of s i).bytes 0 sets.0 }))
     (out_within s i out))
 
-pub sets_head : (s t : StoreView) (i : ℕ) (h : Head) → IsTrue (is_out s i) → SetsHead s t i h → head_of t i ≡ h
+pub sets_head : (s t : StoreView) (i : ℕ) (h : Head) → IsTrue (is_out s i) → SetsHead s t i h → mbuf_head t i ≡ h
 sets_head s t i h out sets =
-    ap (λ (w : StoreView). head_of w i) sets.2
+    ap (λ (w : StoreView). mbuf_head w i) sets.2
     ∙ ap (λ (m : Option MbufView). (unwrap_or m no_mbuf).head)
     (mbuf_here s i (Some (record { head = h; bytes = over (mbuf_of s i).bytes 0 sets.0 })) (out_within s i out))
 

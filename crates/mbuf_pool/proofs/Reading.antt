@@ -7,8 +7,8 @@ use Rattle.raw_cells.specs.Cells.{Cells}
 use Rattle.raw_cells.specs.declared.head.Head.{Head}
 use Rattle.raw_cells.specs.declared.part.Buffer.{Buffer}
 use Rattle.raw_cells.specs.declared.part.Buffer.TheVariants.{Mbuf, Cluster}
-use Rattle.mbuf_pool.specs.Store.{MbufView, ClusterView, StoreView, is_out, mbuf_of, head_of, bytes_in, cluster_of, count_of, free_mbufs, mbufs_out, free_clusters, IsRoom, IsStore}
-use Rattle.mbuf_pool.specs.Inside.Fields.{mbuf_bytes, cluster_bytes, next_mbuf, next_cluster, shown, seen, IsInside}
+use Rattle.mbuf_pool.specs.Store.{MbufView, ClusterView, StoreView, is_out, mbuf_of, mbuf_head, bytes_in, cluster_of, cluster_count, free_mbufs, mbufs_out, free_clusters, IsRoom, IsStore}
+use Rattle.mbuf_pool.specs.Inside.Fields.{mbuf_bytes, cluster_bytes, next_mbuf, next_cluster, store_with, store_of, IsInside}
 use Rattle.mbuf_pool.specs.declared.store.Store.TheInside.{Inside}
 use Rattle.mbuf_pool.specs.Inside.FreeList.{IsFreeList}
 use Rattle.mbuf_pool.proofs.FreeList.{first_free, few_free}
@@ -33,8 +33,8 @@ some_or_none (Some x ∷ xs) =
       sum_by-cons (λ x. cond {A = ℕ} (is_some x) 1 0) (Some x) xs,
     )
 
-module _ (s : Inside) (v : StoreView) (a : IsInside s) (e : seen s ≡ v) where
-  pub shown_as : shown s.region s.counts.items a.1.0 ≡ v
+module _ (s : Inside) (v : StoreView) (a : IsInside s) (e : store_of s ≡ v) where
+  pub shown_as : store_with s.region s.counts.items a.1.0 ≡ v
   shown_as =
       sym (seen_is s.region s.counts.items s.first_mbuf s.free_mbufs s.first_cluster s.free_clusters a.1.0 a.1.1 a.1.2)
       ∙ e
@@ -67,39 +67,39 @@ module _ (s : Inside) (v : StoreView) (a : IsInside s) (e : seen s ≡ v) where
       sym (clusters_free s.region s.counts.items s.first_mbuf s.free_mbufs s.first_cluster s.free_clusters a.1.0 a.1.1
       a.1.2) ∙ ap free_clusters shown_as
 
-  pub count_is : (c : ℕ) → c < length v.clusters → slice_index s.counts.items c ≡ count_of v c
+  pub count_is : (c : ℕ) → c < length v.clusters → slice_index s.counts.items c ≡ cluster_count v c
   count_is c lt =
       sym (count_at s.region s.counts.items a.1.0 c (omega (arith, counts_are, a.1.2.counts_long)))
-      ∙ ap (λ (w : StoreView). count_of w c) shown_as
+      ∙ ap (λ (w : StoreView). cluster_count w c) shown_as
 
-  pub out_here : (i : ℕ) → IsTrue (is_out v i) → IsTrue (is_out (shown s.region s.counts.items a.1.0) i)
+  pub out_here : (i : ℕ) → IsTrue (is_out v i) → IsTrue (is_out (store_with s.region s.counts.items a.1.0) i)
   out_here i out = subst (λ (w : StoreView). IsTrue (is_out w i)) (sym shown_as) out
 
   pub index_is : (i : ℕ) → IsTrue (is_out v i) → i < length s.region.heads
   index_is i out = out_within s.region s.counts.items a.1.0 i (out_here i out)
 
   pub mbuf_is : (i : ℕ) → IsTrue (is_out v i)
-      → mbuf_of v i ≡ record { head = cells.head_of s.region i; bytes = mbuf_bytes s.region i }
+      → mbuf_of v i ≡ record { head = cells.cell_head s.region i; bytes = mbuf_bytes s.region i }
   mbuf_is i out =
       ap (λ (w : StoreView). mbuf_of w i) (sym shown_as) ∙ out_mbuf s.region s.counts.items a.1.0 i (out_here i out)
 
-  pub head_is : (i : ℕ) → IsTrue (is_out v i) → cells.head_of s.region i ≡ head_of v i
+  pub head_is : (i : ℕ) → IsTrue (is_out v i) → cells.cell_head s.region i ≡ mbuf_head v i
   head_is i out = ap (λ (m : MbufView). m.head) (sym (mbuf_is i out))
 
-  pub counted_here : (c : ℕ) → 0 < count_of v c → 0 < count_of (shown s.region s.counts.items a.1.0) c
-  counted_here c h = subst (λ (w : StoreView). 0 < count_of w c) (sym shown_as) h
+  pub counted_here : (c : ℕ) → 0 < cluster_count v c → 0 < cluster_count (store_with s.region s.counts.items a.1.0) c
+  counted_here c h = subst (λ (w : StoreView). 0 < cluster_count w c) (sym shown_as) h
 
-  pub cluster_index_is : (c : ℕ) → 0 < count_of v c → c < s.region.clusters
+  pub cluster_index_is : (c : ℕ) → 0 < cluster_count v c → c < s.region.clusters
   cluster_index_is c h = counted_within s.region s.counts.items a.1.0 c (counted_here c h)
 
-  pub cluster_is : (c : ℕ) → 0 < count_of v c
+  pub cluster_is : (c : ℕ) → 0 < cluster_count v c
       → cluster_of v c ≡ record { count = slice_index s.counts.items c; bytes = cluster_bytes s.region c }
   cluster_is c h =
       ap (λ (w : StoreView). cluster_of w c) (sym shown_as)
       ∙ counted_cluster s.region s.counts.items a.1.0 c (counted_here c h)
 
   -- what is a part of the store is one of the region
-  pub room_is : (b : Buffer) (at n : ℕ) → IsRoom v b at n → cells.IsRoom s.region b at n
+  pub room_is : (b : Buffer) (at n : ℕ) → IsRoom v b at n → cells.IsCellRoom s.region b at n
   room_is (Mbuf i) at n h =
       let same = sym (head_is i h.0) in (
         index_is i h.0,
@@ -123,10 +123,10 @@ module _ (s : Inside) (v : StoreView) (a : IsInside s) (e : seen s ≡ v) where
       ∙ ap (λ (x : ClusterView). take n (drop at x.bytes)) (sym (cluster_is c h.0))
 
   -- the count that stands for a cluster in use
-  pub counted_index : (c : ℕ) → 0 < count_of v c → c < length s.counts.items
+  pub counted_index : (c : ℕ) → 0 < cluster_count v c → c < length s.counts.items
   counted_index c h = omega (arith, cluster_index_is c h, a.1.2.counts_long)
 
-  pub count_read : (c d : ℕ) → 0 < count_of v c → slice_index_or s.counts.items c d ≡ count_of v c
+  pub count_read : (c d : ℕ) → 0 < cluster_count v c → slice_index_or s.counts.items c d ≡ cluster_count v c
   count_read c d h =
       get_or_default_zero s.counts.items c d (counted_index c h)
       ∙ count_is c (omega (arith, counted_index c h, counts_are))

@@ -6,9 +6,9 @@ use Rattle.std.proofs.lemmas.List.{get_or_past, get_or-set_same, get_or-set_othe
 use Rattle.std.proofs.lemmas.List.FromFn.{length-map-range_with_len, get_or-map-range_with_len, fill_by_all}
 use Rattle.raw_cells.specs.Cells as cells
 use Rattle.raw_cells.specs.Cells.{Cells, IsSized}
-use Rattle.mbuf_pool.specs.Inside.FreeList.{times}
-use Rattle.mbuf_pool.specs.Store.{MbufView, ClusterView, is_out, mbuf_of, cluster_of, count_of, free_cluster, no_mbuf, free_mbufs, free_clusters, IsStore}
-use Rattle.mbuf_pool.specs.Inside.Fields.{mbuf_bytes, cluster_bytes, next_mbuf, next_cluster, mbuf_seen, cluster_seen, shown, seen_in, IsSound}
+use Rattle.mbuf_pool.specs.Inside.FreeList.{times_listed}
+use Rattle.mbuf_pool.specs.Store.{MbufView, ClusterView, is_out, mbuf_of, cluster_of, cluster_count, free_cluster, no_mbuf, free_mbufs, free_clusters, IsStore}
+use Rattle.mbuf_pool.specs.Inside.Fields.{mbuf_bytes, cluster_bytes, next_mbuf, next_cluster, mbuf_seen, cluster_seen, store_with, seen_in, IsSound}
 use Rattle.mbuf_pool.proofs.FreeList.{walk_is, few_free, count_free}
 use Rattle.mbuf_pool.proofs.Blocks.{length_block}
 
@@ -44,66 +44,69 @@ not_zero n x y lt = ap (λ b. if b then x else y) (ne_eqb n 0 (λ e. absurd (ome
 
 -- ---- one mbuf, one cluster
 module _ (r : Cells) (counts free : List ℕ) where
-  pub mbuf_at : (i : ℕ) → i < length r.heads → slice_index_or (shown r counts free).mbufs i None ≡ mbuf_seen r free i
+  pub mbuf_at : (i : ℕ) → i < length r.heads
+      → slice_index_or (store_with r counts free).mbufs i None ≡ mbuf_seen r free i
   mbuf_at i lt = get_or-map-range_with_len (mbuf_seen r free) 0 (length r.heads) i i None lt (omega arith)
 
-  pub mbuf_past : (i : ℕ) → length r.heads ≤ i → slice_index_or (shown r counts free).mbufs i None ≡ None
+  pub mbuf_past : (i : ℕ) → length r.heads ≤ i → slice_index_or (store_with r counts free).mbufs i None ≡ None
   mbuf_past i le =
-      get_or_past (shown r counts free).mbufs i None
+      get_or_past (store_with r counts free).mbufs i None
       (omega (arith, length-map-range_with_len (mbuf_seen r free) 0 (length r.heads)))
 
-  pub cluster_at : (c : ℕ) → c < r.clusters → cluster_of (shown r counts free) c ≡ cluster_seen r counts c
+  pub cluster_at : (c : ℕ) → c < r.clusters → cluster_of (store_with r counts free) c ≡ cluster_seen r counts c
   cluster_at c lt = get_or-map-range_with_len (cluster_seen r counts) 0 r.clusters c c free_cluster lt (omega arith)
 
-  pub cluster_past : (c : ℕ) → r.clusters ≤ c → cluster_of (shown r counts free) c ≡ free_cluster
+  pub cluster_past : (c : ℕ) → r.clusters ≤ c → cluster_of (store_with r counts free) c ≡ free_cluster
   cluster_past c le =
-      get_or_past (shown r counts free).clusters c free_cluster
+      get_or_past (store_with r counts free).clusters c free_cluster
       (omega (arith, length-map-range_with_len (cluster_seen r counts) 0 r.clusters))
 
   -- an mbuf that is out stands in no free list
-  pub mbuf_out : (i : ℕ) → i < length r.heads → times i free ≡ 0
-      → slice_index_or (shown r counts free).mbufs i None
-      ≡ Some (record { head = cells.head_of r i; bytes = mbuf_bytes r i })
+  pub mbuf_out : (i : ℕ) → i < length r.heads → times_listed i free ≡ 0
+      → slice_index_or (store_with r counts free).mbufs i None
+      ≡ Some (record { head = cells.cell_head r i; bytes = mbuf_bytes r i })
   mbuf_out i lt e =
-      mbuf_at i lt ∙ yes_zero (times i free) (Some (record { head = cells.head_of r i; bytes = mbuf_bytes r i })) None e
+      mbuf_at i lt ∙ yes_zero (times_listed i free)
+      (Some (record { head = cells.cell_head r i; bytes = mbuf_bytes r i })) None e
 
-  pub mbuf_free : (i : ℕ) → i < length r.heads → 0 < times i free
-      → slice_index_or (shown r counts free).mbufs i None ≡ None
+  pub mbuf_free : (i : ℕ) → i < length r.heads → 0 < times_listed i free
+      → slice_index_or (store_with r counts free).mbufs i None ≡ None
   mbuf_free i lt h =
-      mbuf_at i lt ∙ not_zero (times i free) (Some (record { head = cells.head_of r i; bytes = mbuf_bytes r i })) None h
+      mbuf_at i lt ∙ not_zero (times_listed i free)
+      (Some (record { head = cells.cell_head r i; bytes = mbuf_bytes r i })) None h
 
-  pub out_within : (i : ℕ) → IsTrue (is_out (shown r counts free) i) → i < length r.heads
+  pub out_within : (i : ℕ) → IsTrue (is_out (store_with r counts free) i) → i < length r.heads
   out_within i out = elim (cases_lt i (length r.heads)) [
     | inl lt ↦ lt
     | inr ge ↦ absurd (false≢true (ap is_some (sym (mbuf_past i ge)) ∙ out))
   ]
 
-  pub out_once : (i : ℕ) → IsTrue (is_out (shown r counts free) i) → times i free ≡ 0
-  out_once i out = elim (cases_lt 0 (times i free)) [
+  pub out_once : (i : ℕ) → IsTrue (is_out (store_with r counts free) i) → times_listed i free ≡ 0
+  out_once i out = elim (cases_lt 0 (times_listed i free)) [
     | inl some ↦ absurd (false≢true (ap is_some (sym (mbuf_free i (out_within i out) some)) ∙ out))
     | inr none ↦ omega arith
   ]
 
   -- the head and bytes of an mbuf that is out
-  pub out_mbuf : (i : ℕ) → IsTrue (is_out (shown r counts free) i)
-      → mbuf_of (shown r counts free) i ≡ record { head = cells.head_of r i; bytes = mbuf_bytes r i }
+  pub out_mbuf : (i : ℕ) → IsTrue (is_out (store_with r counts free) i)
+      → mbuf_of (store_with r counts free) i ≡ record { head = cells.cell_head r i; bytes = mbuf_bytes r i }
   out_mbuf i out =
       ap (λ (m : Option MbufView). Rattle.std.specs.Prelude.unwrap_or m no_mbuf)
       (mbuf_out i (out_within i out) (out_once i out))
 
   -- the count of a cluster
-  pub count_at : (c : ℕ) → c < r.clusters → count_of (shown r counts free) c ≡ slice_index counts c
+  pub count_at : (c : ℕ) → c < r.clusters → cluster_count (store_with r counts free) c ≡ slice_index counts c
   count_at c lt = ap (λ (v : ClusterView). v.count) (cluster_at c lt)
 
-  pub counted_within : (c : ℕ) → 0 < count_of (shown r counts free) c → c < r.clusters
+  pub counted_within : (c : ℕ) → 0 < cluster_count (store_with r counts free) c → c < r.clusters
   counted_within c h = elim (cases_lt c r.clusters) [
     | inl lt ↦ lt
     | inr ge ↦ absurd (omega (arith, ap (λ (v : ClusterView). v.count) (cluster_past c ge)))
   ]
 
   -- a cluster that is counted shows its bytes
-  pub counted_cluster : (c : ℕ) → 0 < count_of (shown r counts free) c
-      → cluster_of (shown r counts free) c ≡ record { count = slice_index counts c; bytes = cluster_bytes r c }
+  pub counted_cluster : (c : ℕ) → 0 < cluster_count (store_with r counts free) c
+      → cluster_of (store_with r counts free) c ≡ record { count = slice_index counts c; bytes = cluster_bytes r c }
   counted_cluster c h =
       let lt = counted_within c h in
       cluster_at c lt
@@ -114,18 +117,18 @@ module _ (r : Cells) (counts free : List ℕ) where
 module _ (r : Cells) (counts : List ℕ) (f : Option ℕ) (m : ℕ) (cf : Option ℕ) (cm : ℕ) (free cfree : List ℕ)
     (ok : IsSound r counts f m cf cm free cfree) where
   -- what is seen is what the lists say
-  pub seen_is : seen_in r counts f ≡ shown r counts free
+  pub seen_is : seen_in r counts f ≡ store_with r counts free
   seen_is =
-      ap (shown r counts) (walk_is (next_mbuf r) (length r.heads) (length r.heads) f free ok.mbuf_list.linked
+      ap (store_with r counts) (walk_is (next_mbuf r) (length r.heads) (length r.heads) f free ok.mbuf_list.linked
       (few_free (next_mbuf r) (length r.heads) f free ok.mbuf_list.linked ok.mbuf_list.once))
 
-  pub mbufs_long : length (shown r counts free).mbufs ≡ length r.heads
+  pub mbufs_long : length (store_with r counts free).mbufs ≡ length r.heads
   mbufs_long = length-map-range_with_len (mbuf_seen r free) 0 (length r.heads)
 
-  pub clusters_long : length (shown r counts free).clusters ≡ r.clusters
+  pub clusters_long : length (store_with r counts free).clusters ≡ r.clusters
   clusters_long = length-map-range_with_len (cluster_seen r counts) 0 r.clusters
 
-  pub is_store : IsStore (shown r counts free)
+  pub is_store : IsStore (store_with r counts free)
   is_store = record {
     mbufs = (omega (arith, mbufs_long, ok.sized.mbufs.0), omega (arith, mbufs_long, ok.sized.mbufs.1));
     clusters = omega (arith, clusters_long, ok.sized.clusters);
@@ -139,25 +142,26 @@ module _ (r : Cells) (counts : List ℕ) (f : Option ℕ) (m : ℕ) (cf : Option
         ∙ length_block r.bytes (128 * length r.heads + 2048 * c) 2048 (omega (arith, ok.sized.block, lt));
   }
 
-  free_test : (i : ℕ) → i < length r.heads → cond {A = ℕ} (is_none (mbuf_seen r free i)) 1 0 ≡ times i free
-  free_test i lt = elim (cases_lt 0 (times i free)) [
+  free_test : (i : ℕ) → i < length r.heads → cond {A = ℕ} (is_none (mbuf_seen r free i)) 1 0 ≡ times_listed i free
+  free_test i lt = elim (cases_lt 0 (times_listed i free)) [
     | inl some ↦
         ap (λ (v : Option MbufView). cond {A = ℕ} (is_none v) 1 0)
-        (not_zero (times i free) (Some (record { head = cells.head_of r i; bytes = mbuf_bytes r i })) None some)
+        (not_zero (times_listed i free) (Some (record { head = cells.cell_head r i; bytes = mbuf_bytes r i })) None
+        some)
         ∙ omega (arith, ok.mbuf_list.once i)
     | inr none ↦
-        let e : times i free ≡ 0 = omega arith in
+        let e : times_listed i free ≡ 0 = omega arith in
         ap (λ (v : Option MbufView). cond {A = ℕ} (is_none v) 1 0)
-        (yes_zero (times i free) (Some (record { head = cells.head_of r i; bytes = mbuf_bytes r i })) None e)
+        (yes_zero (times_listed i free) (Some (record { head = cells.cell_head r i; bytes = mbuf_bytes r i })) None e)
         ∙ sym e
   ]
 
-  pub mbufs_free : free_mbufs (shown r counts free) ≡ m
+  pub mbufs_free : free_mbufs (store_with r counts free) ≡ m
   mbufs_free =
       count_free is_none (mbuf_seen r free) (next_mbuf r) (length r.heads) f free ok.mbuf_list.linked free_test
       ∙ sym ok.mbuf_list.size
 
-  pub clusters_free : free_clusters (shown r counts free) ≡ cm
+  pub clusters_free : free_clusters (store_with r counts free) ≡ cm
   clusters_free =
       count_free (λ (v : ClusterView). v.count == 0) (cluster_seen r counts) (next_cluster r) r.clusters cf cfree
       ok.cluster_list.linked (λ c lt. sym (ok.uncounted c lt))

@@ -5,9 +5,9 @@ use Rattle.std.proofs.lemmas.Bool.{cases_eq}
 use Rattle.std.proofs.lemmas.List.{length-set, get_or-set_same, get_or-set_other}
 use Rattle.raw_cells.specs.Cells as cells
 use Rattle.raw_cells.specs.Cells.{Cells, IsSized}
-use Rattle.mbuf_pool.specs.Inside.FreeList.{times, IsFreeList}
+use Rattle.mbuf_pool.specs.Inside.FreeList.{times_listed, IsFreeList}
 use Rattle.mbuf_pool.specs.Store.{StoreView, with_mbuf, with_cluster}
-use Rattle.mbuf_pool.specs.Inside.Fields.{next_mbuf, next_cluster, mbuf_seen, cluster_seen, shown, seen_in, IsSound, IsAccount}
+use Rattle.mbuf_pool.specs.Inside.Fields.{next_mbuf, next_cluster, mbuf_seen, cluster_seen, store_with, seen_in, IsSound, IsAccount}
 use Rattle.mbuf_pool.proofs.FreeList.{list_kept}
 use Rattle.mbuf_pool.proofs.Shown.{places_set, places_same, seen_is}
 use Rattle.mbuf_pool.proofs.Changes.{SameButMbuf, SameButCluster}
@@ -23,7 +23,7 @@ module _ (r : Cells) (counts : List ℕ) (f : Option ℕ) (m : ℕ) (cf : Option
   -- one mbuf changes, or is taken or put
   pub mbuf_step : (t : Cells) (i : ℕ) (g : Option ℕ) (n : ℕ) (new : List ℕ) (v : StoreView) → i < length r.heads
       → SameButMbuf r t i → IsSized t → IsFreeList (next_mbuf t) (length r.heads) g n new
-      → ((k : ℕ) → k ≢ i → times k new ≡ times k free) → shown r counts free ≡ v
+      → ((k : ℕ) → k ≢ i → times_listed k new ≡ times_listed k free) → store_with r counts free ≡ v
       → Leaves t counts g n cf cm (with_mbuf v i (mbuf_seen t new i))
   mbuf_step t i g n new v lt same sized list others is =
       let clusters : IsFreeList (next_cluster t) r.clusters cf cm cfree =
@@ -38,13 +38,13 @@ module _ (r : Cells) (counts : List ℕ) (f : Option ℕ) (m : ℕ) (cf : Option
         uncounted = λ c below. ok.uncounted c (subst (λ (k : ℕ). c < k) same.clusters below);
       } in
       let mbufs : map (mbuf_seen t new) (range_with_len 0 (length t.heads))
-      ≡ slice_set (shown r counts free).mbufs i (mbuf_seen t new i) =
+      ≡ slice_set (store_with r counts free).mbufs i (mbuf_seen t new i) =
       ap (λ (k : ℕ). map (mbuf_seen t new) (range_with_len 0 k)) same.count
       ∙ places_set (length r.heads) (mbuf_seen r free) (mbuf_seen t new) i (mbuf_seen t new i) lt refl
       (λ k below ne. λ j.
       if others k ne j == 0 then Some (record { head = same.heads k ne j; bytes = same.mbufs k below ne j })
       else None) in
-      let shows : map (cluster_seen t counts) (range_with_len 0 t.clusters) ≡ (shown r counts free).clusters =
+      let shows : map (cluster_seen t counts) (range_with_len 0 t.clusters) ≡ (store_with r counts free).clusters =
       ap (λ (k : ℕ). map (cluster_seen t counts) (range_with_len 0 k)) same.clusters
       ∙ places_same r.clusters (cluster_seen r counts) (cluster_seen t counts) (λ c below. λ j.
       record {
@@ -61,7 +61,8 @@ module _ (r : Cells) (counts : List ℕ) (f : Option ℕ) (m : ℕ) (cf : Option
   -- one cluster changes, or is taken, counted or released
   pub cluster_step : (t : Cells) (c x : ℕ) (g : Option ℕ) (n : ℕ) (new : List ℕ) (v : StoreView) → c < r.clusters
       → SameButCluster r t c → IsSized t → IsFreeList (next_cluster t) r.clusters g n new
-      → ((k : ℕ) → k ≢ c → times k new ≡ times k cfree) → times c new ≡ cond (x == 0) 1 0 → shown r counts free ≡ v
+      → ((k : ℕ) → k ≢ c → times_listed k new ≡ times_listed k cfree) → times_listed c new ≡ cond (x == 0) 1 0
+      → store_with r counts free ≡ v
       → Leaves t (slice_set counts c x) f m g n (with_cluster v c (cluster_seen t (slice_set counts c x) c))
   cluster_step t c x g n new v lt same sized list others here is =
       let after = slice_set counts c x in
@@ -79,19 +80,19 @@ module _ (r : Cells) (counts : List ℕ) (f : Option ℕ) (m : ℕ) (cf : Option
         cluster_list = subst (λ (k : ℕ). IsFreeList (next_cluster t) k g n new) (sym same.clusters) list;
         counts_long = length-set counts c x ∙ ok.counts_long ∙ sym same.clusters;
         uncounted = λ k below. elim (cases_eq k c) [
-          | inl e ↦ subst (λ (j : ℕ). times j new ≡ cond (slice_index after j == 0) 1 0) (sym e)
+          | inl e ↦ subst (λ (j : ℕ). times_listed j new ≡ cond (slice_index after j == 0) 1 0) (sym e)
               (here ∙ ap (λ (y : ℕ). cond {A = ℕ} (y == 0) 1 0) (sym count_here))
           | inr ne ↦ others k ne ∙ ok.uncounted k (subst (λ (j : ℕ). k < j) same.clusters below)
               ∙ ap (λ (y : ℕ). cond {A = ℕ} (y == 0) 1 0) (sym (count_other k ne))
         ];
       } in
-      let mbufs : map (mbuf_seen t free) (range_with_len 0 (length t.heads)) ≡ (shown r counts free).mbufs =
+      let mbufs : map (mbuf_seen t free) (range_with_len 0 (length t.heads)) ≡ (store_with r counts free).mbufs =
       ap (λ hs. map (mbuf_seen t free) (range_with_len 0 (length hs))) same.heads
       ∙ places_same (length r.heads) (mbuf_seen r free) (mbuf_seen t free) (λ k below. λ j.
-      if times k free == 0 then Some
+      if times_listed k free == 0 then Some
       (record { head = slice_index_or (same.heads j) k cells.zero_head; bytes = same.mbufs k below j }) else None) in
       let shows : map (cluster_seen t after) (range_with_len 0 t.clusters)
-      ≡ slice_set (shown r counts free).clusters c (cluster_seen t after c) =
+      ≡ slice_set (store_with r counts free).clusters c (cluster_seen t after c) =
       ap (λ (k : ℕ). map (cluster_seen t after) (range_with_len 0 k)) same.clusters
       ∙ places_set r.clusters (cluster_seen r counts) (cluster_seen t after) c (cluster_seen t after c) lt refl
       (λ k below ne. λ j.

@@ -44,19 +44,19 @@ is_out s i = is_some (slice_index_or s.mbufs i None)
 abbrev pub mbuf_of : StoreView → ℕ → MbufView
 mbuf_of s i = unwrap_or (slice_index_or s.mbufs i None) no_mbuf
 
-abbrev pub head_of : StoreView → ℕ → Head
-head_of s i = (mbuf_of s i).head
+abbrev pub mbuf_head : StoreView → ℕ → Head
+mbuf_head s i = (mbuf_of s i).head
 
 abbrev pub cluster_of : StoreView → ℕ → ClusterView
 cluster_of s c = slice_index_or s.clusters c free_cluster
 
 -- how many hold the cluster c
-abbrev pub count_of : StoreView → ℕ → ℕ
-count_of s c = (cluster_of s c).count
+abbrev pub cluster_count : StoreView → ℕ → ℕ
+cluster_count s c = (cluster_of s c).count
 
 -- the count of each cluster, in order
 abbrev pub counts_of : StoreView → List ℕ
-counts_of s = map (count_of s) (range_with_len 0 (length s.clusters))
+counts_of s = map (cluster_count s) (range_with_len 0 (length s.clusters))
 
 -- ---- how many are free
 abbrev pub free_mbufs : StoreView → ℕ
@@ -78,8 +78,8 @@ abbrev pub with_cluster : StoreView → ℕ → ClusterView → StoreView
 with_cluster s c v = record s { clusters = slice_set s.clusters c v }
 
 -- one more holds the cluster
-abbrev pub held : ClusterView → ClusterView
-held v = record v { count = v.count + 1 }
+abbrev pub held_once_more : ClusterView → ClusterView
+held_once_more v = record v { count = v.count + 1 }
 
 -- one less does
 abbrev pub released : ClusterView → ClusterView
@@ -121,21 +121,21 @@ bytes_in s (Cluster c) = (cluster_of s c).bytes
 
 -- s with bs as the bytes of a buffer in use
 abbrev pub with_bytes : StoreView → Buffer → List ℕ → StoreView
-with_bytes s (Mbuf i) bs = with_mbuf s i (Some (record { head = head_of s i; bytes = bs }))
-with_bytes s (Cluster c) bs = with_cluster s c (record { count = count_of s c; bytes = bs })
+with_bytes s (Mbuf i) bs = with_mbuf s i (Some (record { head = mbuf_head s i; bytes = bs }))
+with_bytes s (Cluster c) bs = with_cluster s c (record { count = cluster_count s c; bytes = bs })
 
 -- the n bytes from `at` on lie in a cluster in use, or after the head of an mbuf in use that refers to no cluster
 abbrev pub IsRoom : StoreView → Buffer → ℕ → ℕ → Type 0
 IsRoom s (Mbuf i) at n =
-    IsTrue (is_out s i) × ((head_of s i).cluster ≡ None) × (head_size (head_of s i) ≤ at) × (at + n ≤ MSIZE)
-IsRoom s (Cluster c) at n = (0 < count_of s c) × (at + n ≤ MCLBYTES)
+    IsTrue (is_out s i) × ((mbuf_head s i).cluster ≡ None) × (head_size (mbuf_head s i) ≤ at) × (at + n ≤ MSIZE)
+IsRoom s (Cluster c) at n = (0 < cluster_count s c) × (at + n ≤ MCLBYTES)
 
 abbrev pub IsPart : StoreView → Part → Type 0
 IsPart s p = IsRoom s p.buffer p.start p.len
 
 -- the bytes of a part
-abbrev pub read : StoreView → Part → List ℕ
-read s p = take p.len (drop p.start (bytes_in s p.buffer))
+abbrev pub stored_part : StoreView → Part → List ℕ
+stored_part s p = take p.len (drop p.start (bytes_in s p.buffer))
 
 -- s with ws as the bytes of a part. What would not fit is cut
 abbrev pub write : StoreView → Part → List ℕ → StoreView
@@ -146,7 +146,7 @@ pub record IsStore (s : StoreView) : Type 0 where
   pub mbufs : (0 < length s.mbufs) × (length s.mbufs ≤ MAX_MBUFS)
   pub clusters : length s.clusters ≤ MAX_CLUSTERS
   pub mbuf_bytes : (i : ℕ) → IsTrue (is_out s i) → length (mbuf_of s i).bytes ≡ MSIZE
-  pub cluster_bytes : (c : ℕ) → 0 < count_of s c → length (cluster_of s c).bytes ≡ MCLBYTES
+  pub cluster_bytes : (c : ℕ) → 0 < cluster_count s c → length (cluster_of s c).bytes ≡ MCLBYTES
 
 -- ---- sizes
 -- a store is not made of so many

@@ -1,6 +1,6 @@
 //! Links to free buffers: the first one of a list, and from one free cluster to the next.
 ghost use Rattle.std.specs.Prelude.{◌≡◌, ◌<◌, length};
-ghost use Rattle.raw_cells.specs.Cells.{IsLink, read, write};
+ghost use Rattle.raw_cells.specs.Cells.{IsLink, read, cells_written};
 ghost use Rattle.mbuf_pool.specs.Inside.Link.{link_in, link_bytes, link_part};
 
 use byteorder::{ByteOrder, LittleEndian};
@@ -19,11 +19,11 @@ pub(crate) struct First {
 
 impl Model for First {
     ghost use Rattle.std.specs.Prelude.{ℕ, Option};
-    ghost use Rattle.mbuf_pool.specs.Inside.Link.{link_of};
+    ghost use Rattle.mbuf_pool.specs.Inside.Link.{link_from};
 
     ghost Value = { Option ℕ };
 
-    ghost view = { λ f. link_of f.number };
+    ghost view = { λ f. link_from f.number };
 }
 
 impl First {
@@ -77,7 +77,7 @@ fn write_link(bytes: &mut [u8], next: Option<u32>)
 /// Links a free cluster to the one after it.
 pub(crate) fn set_next_cluster(region: &mut Region, cluster: u32, next: Option<u32>)
     requires { cluster < region.old.clusters }
-    ensures { region.new ≡ write region.old (link_part cluster) (link_bytes next) }
+    ensures { region.new ≡ cells_written region.old (link_part cluster) (link_bytes next) }
 {
     write_link(region.bytes_mut(part_of(cluster)), next);
 }

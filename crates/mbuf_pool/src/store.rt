@@ -2,7 +2,7 @@
 ghost use Rattle.std.specs.Prelude.{◌≡◌, ◌+◌, ◌<◌, ◌≤◌, ◌↔◌, IsTrue, IsSome, None, length, sum, fold, max, IfOk, OnErr, Err};
 ghost use Rattle.std.specs.Borrow.{sem};
 ghost use Rattle.raw_cells.specs.Cells.{IsHead, IsLink, with_arrival, with_packet_len};
-ghost use Rattle.mbuf_pool.specs.Store.{is_out, head_of, count_of, counts_of, cluster_of, free_mbufs, mbufs_out, free_clusters, with_mbuf, with_cluster, held, released, free_store, TakesMbuf, TakesWith, TakesCluster, SetsHead, IsPart, read, write, IsStore, IsBad};
+ghost use Rattle.mbuf_pool.specs.Store.{is_out, mbuf_head, cluster_count, counts_of, cluster_of, free_mbufs, mbufs_out, free_clusters, with_mbuf, with_cluster, held_once_more, released, free_store, TakesMbuf, TakesWith, TakesCluster, SetsHead, IsPart, stored_part, write, IsStore, IsBad};
 ghost use Rattle.mbuf_pool.specs.Inside.AllOut.{IsAllOut};
 
 use crate::counts::Counts;
@@ -49,9 +49,9 @@ impl Model for Store {
 
     ghost Value = { StoreView };
 
-    ghost use Rattle.mbuf_pool.specs.Inside.Fields.{seen, IsInside};
+    ghost use Rattle.mbuf_pool.specs.Inside.Fields.{store_of, IsInside};
 
-    ghost view = { seen };
+    ghost view = { store_of };
 
     ghost invariant = { IsInside };
 }
@@ -162,9 +162,9 @@ impl Store {
 
     /// Counts one more that holds a cluster. It must be counted 1 to 65,534.
     pub fn hold(&mut self, cluster: u32)
-        requires counted { 0 < count_of self.old cluster }
-        requires below { count_of self.old cluster < 65535 }
-        ensures change { self.new ≡ with_cluster self.old cluster (held (cluster_of self.old cluster)) }
+        requires counted { 0 < cluster_count self.old cluster }
+        requires below { cluster_count self.old cluster < 65535 }
+        ensures change { self.new ≡ with_cluster self.old cluster (held_once_more (cluster_of self.old cluster)) }
         ensures store { IsStore self.new }
     {
         self.counts[cluster as usize] += 1;
@@ -174,7 +174,7 @@ impl Store {
     ///
     /// By example: three calls take a count along `3->2->1->0`.
     pub fn release(&mut self, cluster: u32)
-        requires { 0 < count_of self.old cluster }
+        requires { 0 < cluster_count self.old cluster }
         ensures change { self.new ≡ with_cluster self.old cluster (released (cluster_of self.old cluster)) }
         ensures store { IsStore self.new }
     {
@@ -228,7 +228,7 @@ impl Store {
     /// How many hold a cluster, 0 to 65,535; 0 exactly where it is free. There must be such a cluster.
     pub fn count(&self, cluster: u32) -> u32
         requires { cluster < length self.now.clusters }
-        ensures value { result ≡ count_of self.now cluster }
+        ensures value { result ≡ cluster_count self.now cluster }
         ensures few { result ≤ 65535 }
     {
         u32::from(self.counts[cluster as usize])
@@ -256,7 +256,7 @@ impl Store {
     #[inline(always)]
     pub fn head(&self, index: u32) -> Head
         requires { IsTrue (is_out self.now index) }
-        ensures value { result ≡ head_of self.now index }
+        ensures value { result ≡ mbuf_head self.now index }
         ensures links { IsHead result }
     {
         self.region.head(index)
@@ -280,7 +280,7 @@ impl Store {
     pub fn set_next(&mut self, index: u32, next: Option<u32>)
         requires out { IsTrue (is_out self.old index) }
         requires link { IsLink next }
-        ensures change { SetsHead self.old self.new index (record (head_of self.old index) { next = next }) }
+        ensures change { SetsHead self.old self.new index (record (mbuf_head self.old index) { next = next }) }
         ensures store { IsStore self.new }
     {
         self.region.set_next(index, next);
@@ -292,7 +292,7 @@ impl Store {
         requires out { IsTrue (is_out self.old index) }
         requires link { IsLink next_packet }
         ensures change { SetsHead self.old self.new index
-            (record (head_of self.old index) { next_packet = next_packet }) }
+            (record (mbuf_head self.old index) { next_packet = next_packet }) }
         ensures store { IsStore self.new }
     {
         self.region.set_next_packet(index, next_packet);
@@ -304,7 +304,7 @@ impl Store {
     pub fn set_data(&mut self, index: u32, start: u32, len: u32)
         requires { IsTrue (is_out self.old index) }
         ensures change { SetsHead self.old self.new index
-            (record (head_of self.old index) { len = len; start = start }) }
+            (record (mbuf_head self.old index) { len = len; start = start }) }
         ensures store { IsStore self.new }
     {
         self.region.set_data(index, start, len);
@@ -315,8 +315,8 @@ impl Store {
     #[inline(always)]
     pub fn set_packet_len(&mut self, index: u32, len: u32)
         requires out { IsTrue (is_out self.old index) }
-        requires packet { IsSome (head_of self.old index).packet }
-        ensures change { SetsHead self.old self.new index (with_packet_len (head_of self.old index) len) }
+        requires packet { IsSome (mbuf_head self.old index).packet }
+        ensures change { SetsHead self.old self.new index (with_packet_len (mbuf_head self.old index) len) }
         ensures store { IsStore self.new }
     {
         self.region.set_packet_len(index, len);
@@ -326,8 +326,8 @@ impl Store {
     /// header, and leaves all else of its head.
     pub fn set_arrival(&mut self, index: u32, arrival: u32)
         requires out { IsTrue (is_out self.old index) }
-        requires packet { IsSome (head_of self.old index).packet }
-        ensures change { SetsHead self.old self.new index (with_arrival (head_of self.old index) arrival) }
+        requires packet { IsSome (mbuf_head self.old index).packet }
+        ensures change { SetsHead self.old self.new index (with_arrival (mbuf_head self.old index) arrival) }
         ensures store { IsStore self.new }
     {
         self.region.set_arrival(index, arrival);
@@ -337,7 +337,7 @@ impl Store {
     /// that it had belong to the room then, as they are.
     pub fn drop_packet(&mut self, index: u32)
         requires { IsTrue (is_out self.old index) }
-        ensures change { SetsHead self.old self.new index (record (head_of self.old index) { packet = None }) }
+        ensures change { SetsHead self.old self.new index (record (mbuf_head self.old index) { packet = None }) }
         ensures store { IsStore self.new }
     {
         self.region.drop_packet(index);
@@ -348,7 +348,7 @@ impl Store {
     #[inline(always)]
     pub fn bytes(&self, part: Part) -> &[u8]
         requires { IsPart self.now part }
-        ensures value { result.now ≡ read self.now part }
+        ensures value { result.now ≡ stored_part self.now part }
         ensures len { length result.now ≡ part.len }
     {
         self.region.bytes(part)
@@ -361,7 +361,7 @@ impl Store {
     pub fn bytes_mut(&mut self, part: Part) -> &mut [u8]
         requires { IsPart self.old part }
         ensures* writes_back { sem 𝓛 (LendsPart self.entry part result) }
-        ensures value { result.now ≡ read self.old part }
+        ensures value { result.now ≡ stored_part self.old part }
         ensures len { length result.now ≡ part.len }
         ensures store { IsStore self.old }
     {
@@ -373,7 +373,7 @@ impl Store {
         requires from { IsPart self.old from }
         requires to { IsPart self.old to }
         requires len { from.len ≡ to.len }
-        ensures change { self.new ≡ write self.old to (read self.old from) }
+        ensures change { self.new ≡ write self.old to (stored_part self.old from) }
         ensures store { IsStore self.new }
     {
         self.region.copy(from, to);

@@ -1,6 +1,6 @@
 //! What no clause says: that memory can be had, and that each call does its work once on real memory.
 ghost use Rattle.std.specs.Prelude.{◌≡◌, ◌+◌, ◌<◌, ◌≤◌};
-ghost use Rattle.raw_cells.specs.Cells.{IsHead, IsPart, zero_cells};
+ghost use Rattle.raw_cells.specs.Cells.{IsHead, IsCellPart, zero_cells};
 
 use params::{MAX_CLUSTERS, MAX_MBUFS};
 use raw_cells::{Buffer, Head, PacketHeader, Part, Region};
@@ -93,7 +93,7 @@ fn each_form_of_head_is_read_back_from_the_largest_region(rt: HostRuntime) {
 
 /// Whether all bytes of a part are this one.
 fn is_all(region: &Region, part: Part, byte: u8) -> bool
-    requires { IsPart region.now part }
+    requires { IsCellPart region.now part }
 {
     region.bytes(part).iter().all(|it| *it == byte)
 }

@@ -23,7 +23,7 @@ use Rattle.mbuf_chain.specs.Owners.{IsOwned, Moves}
 use Rattle.mbuf_chain.proofs.Laws.Owners.{live_first, moves_with, moves_without, moves_trans, shown_with}
 use Rattle.chain_ops.specs.Trims.{only_first, without_first}
 use Rattle.chain_ops.proofs.Laws.Strings.{only_first_bytes, without_first_bytes}
-use Rattle.ledger.specs.Accounts.{item_at, weight_of, weight_at, weight_owned, IsAccounted}
+use Rattle.ledger.specs.Accounts.{item_at, entries_weight, weight_at, weight_owned, IsAccounted}
 use Rattle.pcb_table.specs.Table.{machine}
 use Rattle.ip_out.specs.Headings.{head_in}
 use Rattle.ip_out.specs.declared.head.IpHead.{IpHead}
@@ -33,21 +33,22 @@ use Rattle.ip_reass.specs.Arrivals as reass
 use Rattle.sock_calls.specs.Sockets.{SocksView, IsSocks, queued_chains, with_sockets, with_net}
 use Rattle.sock_calls.specs.Delivery.{NetView, state_at, KeepsParts, IsInput}
 use Rattle.sock_calls.proofs.Laws.{keeps_trans}
-use Rattle.net_stack.specs.Inside.Arrivals.{is_ours_or_all, IsTaken, IsArrived}
+use Rattle.net_stack.specs.Inside.Arrivals.{is_ours_or_all, IsFragmentTaken, IsArrived}
 use Rattle.net_stack.proofs.Aside.{Aside, aside, aside_keeps, as_held, net_seen, BesideSocks, beside_socks}
 
 -- ---- trims leave weights
 
-pub only_weighs : (n : ℕ) (es : List Entry) → weight_of (only_first n es) ≡ weight_of es
+pub only_weighs : (n : ℕ) (es : List Entry) → entries_weight (only_first n es) ≡ entries_weight es
 only_weighs n [] = refl
 only_weighs n (e ∷ es) =
-    let later : weight_of (only_first (n - length e.bytes) es) ≡ weight_of es = only_weighs (n - length e.bytes) es in
+    let later : entries_weight (only_first (n - length e.bytes) es) ≡ entries_weight es =
+    only_weighs (n - length e.bytes) es in
     λ i. record { mbufs = suc (later i).mbufs; bag = cons_option e.cluster (later i).bag }
 
-pub without_weighs : (n : ℕ) (es : List Entry) → weight_of (without_first n es) ≡ weight_of es
+pub without_weighs : (n : ℕ) (es : List Entry) → entries_weight (without_first n es) ≡ entries_weight es
 without_weighs n [] = refl
 without_weighs n (e ∷ es) =
-    let later : weight_of (without_first (n - length e.bytes) es) ≡ weight_of es =
+    let later : entries_weight (without_first (n - length e.bytes) es) ≡ entries_weight es =
     without_weighs (n - length e.bytes) es in
     λ i. record { mbufs = suc (later i).mbufs; bag = cons_option e.cluster (later i).bag }
 
@@ -87,24 +88,24 @@ freed {p} {q} {ds} {s} c owned table socks e = aside (c ∷ []) [] owned table s
 pub record Arrived (p : PoolView) (ds : TableView) (a : Counters) (c : ℕ) (h : IpHead) (q : PoolView) (es : TableView)
     (b : Counters) (hand : List ℕ) (Then : Weight → State → State → Type 0) : Type 0 where
   pub step : (rest : State) (held : Weight) (origin : Origin) (new : State) → CameBy origin (chain_of p c)
-      → IsAccounted p (reass.machine p ds.datagrams a rest) (held ⊕ weight_at p c)
-      → Then held (reass.machine q es.datagrams b rest) new
+      → IsAccounted p (reass.machine_with p ds.datagrams a rest) (held ⊕ weight_at p c)
+      → Then held (reass.machine_with q es.datagrams b rest) new
       → FragmentArrives exact_ledger origin held (flat_head h) (carried_at p c)
-      (reass.machine p ds.datagrams a rest) new
-  pub accounts : (rest : State) (held : Weight) → IsAccounted p (reass.machine p ds.datagrams a rest)
-      (held ⊕ weight_at p c) → IsAccounted q (reass.machine q es.datagrams b rest) (held ⊕ weight_owned q hand)
+      (reass.machine_with p ds.datagrams a rest) new
+  pub accounts : (rest : State) (held : Weight) → IsAccounted p (reass.machine_with p ds.datagrams a rest)
+      (held ⊕ weight_at p c) → IsAccounted q (reass.machine_with q es.datagrams b rest) (held ⊕ weight_owned q hand)
   pub moves : Moves p (c ∷ held_all p ds.datagrams) q (hand ++ held_all q es.datagrams)
 
 -- it waits, or ended
 pub waits : {p q : PoolView} {ds es : TableView} {s : SocksView} {a b : Counters} {c : ℕ} {h : IpHead}
     → IsOwned p (c ∷ (held_all p ds.datagrams ++ queued_chains p s.queues)) → IsSocks p s
     → Arrived p ds a c h q es b [] (λ held now new. new ≡ now)
-    → IsTaken (net_seen p s ds a) c h (net_seen q s es b)
+    → IsFragmentTaken (net_seen p s ds a) c h (net_seen q s es b)
 waits {p} {q} {ds} {es} {s} {a} {b} {c} {h} owned socks is =
     let beside : BesideSocks p s (c ∷ held_all p ds.datagrams) q [] (held_all q es.datagrams) =
     beside_socks (c ∷ held_all p ds.datagrams) [] (held_all q es.datagrams) owned socks is.moves in
     let now : (rest : State) → with_net q s (unfinished q es.datagrams) b rest
-    ≡ reass.machine q es.datagrams b (with_sockets p s rest) =
+    ≡ reass.machine_with q es.datagrams b (with_sockets p s rest) =
     λ rest i. machine (record rest { unfinished = unfinished q es.datagrams; counters = b })
     (λ fd. beside.socks.shows fd i) s.pcbs in
     record {
@@ -125,12 +126,12 @@ pub completes : {p q : PoolView} {ds es : TableView} {s : SocksView} {a b : Coun
     → Arrived p ds a c h q es b (d ∷ []) (λ held now new. WholeArrives exact_ledger held g.src g.dst g.proto
     (item_at q d) now new)
     → IsInput (net_seen q s es b) d g.src g.dst g.proto u
-    → IsTaken (net_seen p s ds a) c h u
+    → IsFragmentTaken (net_seen p s ds a) c h u
 completes {p} {q} {ds} {es} {s} {a} {b} {c} {d} {h} {u} g owned socks is input =
     let beside : BesideSocks p s (c ∷ held_all p ds.datagrams) q (d ∷ []) (held_all q es.datagrams) =
     beside_socks (c ∷ held_all p ds.datagrams) (d ∷ []) (held_all q es.datagrams) owned socks is.moves in
     let now : (rest : State) → with_net q s (unfinished q es.datagrams) b rest
-    ≡ reass.machine q es.datagrams b (with_sockets p s rest) =
+    ≡ reass.machine_with q es.datagrams b (with_sockets p s rest) =
     λ rest i. machine (record rest { unfinished = unfinished q es.datagrams; counters = b })
     (λ fd. beside.socks.shows fd i) s.pcbs in
     let mid : (rest : State) (held : Weight) → IsAccounted p (with_net p s (unfinished p ds.datagrams) a rest)
@@ -310,7 +311,7 @@ cut_bytes {p} {q} {c = c} {h = h} is =
 
 cut_weighs : {p q : PoolView} {ds : TableView} {s : SocksView} {a b : Counters} {c : ℕ} {h : IpHead}
     → IsForUs p ds s a c h q b → weight_at q c ≡ weight_at p c
-cut_weighs {p} {q} {c = c} {h = h} is = ap weight_of is.cut.entries ∙ only_weighs h.total (chain_of p c).entries
+cut_weighs {p} {q} {c = c} {h = h} is = ap entries_weight is.cut.entries ∙ only_weighs h.total (chain_of p c).entries
 
 carried_cut : {p q : PoolView} {ds : TableView} {s : SocksView} {a b : Counters} {c : ℕ} {h : IpHead}
     → IsForUs p ds s a c h q b → carried_at q c ≡ carried (item_at p c)
@@ -344,7 +345,7 @@ ours_pass {p} {q} {ds} {s} {a} {b} {c} {h} is rest held origin new part all =
 
 pub fragment_arrives : {p q : PoolView} {ds : TableView} {s : SocksView} {a b : Counters} {c : ℕ} {h : IpHead}
     {u : NetView} → IsForUs p ds s a c h q b → is_fragment (flat_head h) ≡ true
-    → IsTaken (net_seen q s ds b) c h u → IsArrived (net_seen p s ds a) c u
+    → IsFragmentTaken (net_seen q s ds b) c h u → IsArrived (net_seen p s ds a) c u
 fragment_arrives {p} {q} {ds} {s} {a} {b} {c} {h} {u} is part taken = record {
   step = λ rest held origin came acc. ours_pass is rest held origin (state_at u rest)
       (λ e. subst (λ (x : Item). FragmentArrives exact_ledger origin held (flat_head h) x
@@ -366,7 +367,7 @@ whole_arrives {p} {q} {r} {ds} {s} {a} {b} {c} {h} {u} is all off input =
     let item : item_at r c ≡ carried (item_at p c) =
     (λ i. record {
       bytes = (ap flat_bytes off.entries ∙ without_first_bytes 20 (chain_of q c).entries) i;
-      weight = (ap weight_of off.entries ∙ without_weighs 20 (chain_of q c).entries) i;
+      weight = (ap entries_weight off.entries ∙ without_weighs 20 (chain_of q c).entries) i;
     }) ∙ carried_cut is in
     let cut : KeepsParts (net_seen p s ds a) (c ∷ []) (net_seen r s ds b) (c ∷ []) =
     keeps_trans (aside_keeps a b is.cut.beside) (aside_keeps b b off.beside) in

@@ -6,7 +6,7 @@ use Rattle.flat_model.specs.Machine.Ledger.{weight_of_state}
 use Rattle.flat_model.specs.declared.counters.Counters.{Counters}
 use Rattle.flat_model.proofs.Laws.{times-both, both-assoc, both-nothing}
 use Rattle.mbuf_chain.specs.Chain.{PoolView}
-use Rattle.mbuf_chain.specs.Owners.{times, IsOwned, Moves}
+use Rattle.mbuf_chain.specs.Owners.{times_among, IsOwned, Moves}
 use Rattle.mbuf_chain.specs.Frames.{SameAt}
 use Rattle.mbuf_chain.proofs.Laws.Owners.{times-append, live_at_most, same_beside, same_part, moves_beside, owned_after}
 use Rattle.ledger.specs.Accounts.{weight_at, weight_owned, IsAccounted}
@@ -76,7 +76,8 @@ pub aside : {p q : PoolView} {ds : TableView} {s : SocksView} (ins outs : List �
 aside {p} {q} {ds} {s} ins outs owned table socks m =
     let xs : List ℕ = held_all p ds.datagrams in
     let ys : List ℕ = queued_chains p s.queues in
-    let split : (k : ℕ) → times k (ins ++ (xs ++ ys)) ≡ times k ins + (times k xs + times k ys) =
+    let split : (k : ℕ) → times_among k (ins ++ (xs ++ ys))
+    ≡ times_among k ins + (times_among k xs + times_among k ys) =
     λ k. omega (arith, times-append k ins (xs ++ ys), times-append k xs ys) in
     let same : SameAt p q (xs ++ ys) =
     same_beside (xs ++ ys) m (λ k. omega (arith, owned k, split k, times-append k xs ys))
@@ -96,8 +97,8 @@ aside {p} {q} {ds} {s} ins outs owned table socks m =
       times-append k outs (held_all q ds.datagrams ++ queued_chains q s.queues),
       times-append k (held_all q ds.datagrams) (queued_chains q s.queues),
       times-append k xs ys,
-      ap (times k) r.chains,
-      ap (times k) v.chains,
+      ap (times_among k) r.chains,
+      ap (times_among k) v.chains,
     )) in
     record {
       reass = r;
@@ -139,6 +140,6 @@ beside_socks {p} {q} {s} before hand after owned socks m =
             times-append k hand (after ++ queued_chains q s.queues),
             times-append k after (queued_chains q s.queues),
             times-append k hand after,
-            ap (times k) v.chains,
+            ap (times_among k) v.chains,
           ));
     }

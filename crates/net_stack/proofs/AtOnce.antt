@@ -70,7 +70,7 @@ module _ (p : PoolView) (s : SocksView) (r : TableView) (a c : Counters) (packet
   old rest = with_net p s (unfinished p r.datagrams) a rest
 
   abbrev mid : State → State
-  mid rest = reass.machine p r.datagrams c (with_sockets p s rest)
+  mid rest = reass.machine_with p r.datagrams c (with_sockets p s rest)
 
   mid_is : (rest : State) → mid rest ≡ counts_packet (old rest)
   mid_is rest = λ i. with_net p s (unfinished p r.datagrams) (counts i) rest
@@ -149,7 +149,7 @@ module _ (p : PoolView) (s : SocksView) (r : TableView) (a c : Counters) (packet
         )
 
     pub comes : (rest new : State) → IsAccounted p (old rest) nothing
-        → GoesOn nothing q result (reass.machine q t.datagrams b (with_sockets p s rest)) new
+        → GoesOn nothing q result (reass.machine_with q t.datagrams b (with_sockets p s rest)) new
         → ComesIn exact_ledger packet (old rest) new
     comes rest new acc goes =
         let chain = is.step (with_sockets p s rest) nothing new (mid_accounts rest nothing acc) goes in
@@ -186,15 +186,15 @@ module _ (p : PoolView) (s : SocksView) (r : TableView) (a c : Counters) (packet
 
     module _ (socks : IsSocks p s) (owned : IsOwned p (held_all p r.datagrams ++ queued_chains p s.queues))
         (moves : Moves p (held_all p r.datagrams) q (in_hand result ++ held_all q t.datagrams))
-        (accounts : (rest : State) (held : Weight) → IsAccounted p (reass.machine p r.datagrams c rest) held
-        → IsAccounted q (reass.machine q t.datagrams b rest) (held ⊕ weight_owned q (in_hand result))) where
+        (accounts : (rest : State) (held : Weight) → IsAccounted p (reass.machine_with p r.datagrams c rest) held
+        → IsAccounted q (reass.machine_with q t.datagrams b rest) (held ⊕ weight_owned q (in_hand result))) where
       beside : BesideSocks p s (held_all p r.datagrams) q (in_hand result) (held_all q t.datagrams)
       beside = beside_socks (held_all p r.datagrams) (in_hand result) (held_all q t.datagrams) owned socks moves
 
       abbrev then_net : State → State
       then_net rest = with_net q s (unfinished q t.datagrams) b rest
 
-      now : (rest : State) → then_net rest ≡ reass.machine q t.datagrams b (with_sockets p s rest)
+      now : (rest : State) → then_net rest ≡ reass.machine_with q t.datagrams b (with_sockets p s rest)
       now rest =
           λ i. machine (record rest { unfinished = unfinished q t.datagrams; counters = b })
           (λ fd. beside.socks.shows fd i) s.pcbs
@@ -226,15 +226,15 @@ pub came_whole : {p q : PoolView} {s : SocksView} (r t : TableView) {a b c : Cou
     → ArrivesAtOnce p r.datagrams c packet h (Whole d g) q t.datagrams b → IsSocks p s
     → IsOwned p (held_all p r.datagrams ++ queued_chains p s.queues)
     → Moves p (held_all p r.datagrams) q (d ∷ held_all q t.datagrams)
-    → ((rest : State) (held : Weight) → IsAccounted p (reass.machine p r.datagrams c rest) held
-    → IsAccounted q (reass.machine q t.datagrams b rest) (held ⊕ weight_owned q (d ∷ [])))
+    → ((rest : State) (held : Weight) → IsAccounted p (reass.machine_with p r.datagrams c rest) held
+    → IsAccounted q (reass.machine_with q t.datagrams b rest) (held ⊕ weight_owned q (d ∷ [])))
     → IsInput (net_seen q s t b) d g.src g.dst g.proto u → HasCome (net_seen p s r a) packet u
 came_whole {p} {q} {s} r t {a} {b} {c} {packet} {h} {d} {u} g head part ours fits counts is socks owned moves accounts
     input =
     let kept : KeepsParts (net_seen p s r a) [] (net_seen q s t b) (d ∷ []) =
     laid p s r a c packet h head part ours fits counts (Whole d g) q t b is socks owned moves accounts in
     let same : (rest : State) → with_net q s (unfinished q t.datagrams) b rest
-    ≡ reass.machine q t.datagrams b (with_sockets p s rest) =
+    ≡ reass.machine_with q t.datagrams b (with_sockets p s rest) =
     now p s r a c packet h head part ours fits counts (Whole d g) q t b is socks owned moves accounts in
     record {
       step = λ rest acc.

@@ -18,8 +18,8 @@ use Rattle.mbuf_chain.specs.Chain.{ChainView, Entry, PoolView, chain_of, entry_o
 use Rattle.mbuf_chain.specs.Owners.{IsOwned, Moves}
 use Rattle.mbuf_chain.proofs.Laws.Owners.{moves_adds, owned_after}
 use Rattle.chain_ops.specs.Stored.{stored_first}
-use Rattle.chain_ops.specs.Weights.{laid}
-use Rattle.ledger.specs.Accounts.{item_at, weight_of, IsAccounted}
+use Rattle.chain_ops.specs.Weights.{laid_entries}
+use Rattle.ledger.specs.Accounts.{item_at, entries_weight, IsAccounted}
 use Rattle.ledger.specs.Reserve.{Reserves}
 use Rattle.pcb_table.specs.Table.{machine}
 use Rattle.ip_reass.specs.Arrivals.{CameByWire}
@@ -176,7 +176,7 @@ came {p} {q} {q1} {s} {r} {t} {a} {b} {need} {answer} {c} {u} packet socks owned
     } =
     λ i. record {
       bytes = laid.bytes_are i;
-      weight = (ap weight_of laid.made.entries ∙ sym (laid_weight _)
+      weight = (ap entries_weight laid.made.entries ∙ sym (laid_weight _)
           ∙ ap flat.weight_of laid.layout) i;
     } in
     record {

@@ -12,7 +12,7 @@ use Rattle.flat_model.specs.declared.config.Config.{Config}
 use Rattle.flat_model.specs.declared.counters.Counters.{Counters}
 use Rattle.flat_model.specs.declared.errno.Errno.{Errno}
 use Rattle.mbuf_chain.specs.Chain.{PoolView}
-use Rattle.mbuf_chain.specs.Owners.{times, IsOwned}
+use Rattle.mbuf_chain.specs.Owners.{times_among, IsOwned}
 use Rattle.mbuf_chain.specs.Train.{TrainView, numbers}
 use Rattle.mbuf_chain.proofs.Laws.Owners.{times-append, moves_reordered}
 use Rattle.mbuf_chain.proofs.Laws.Trains.{held_none}
@@ -21,12 +21,12 @@ use Rattle.sock_calls.specs.declared.net.Net.{Net}
 use Rattle.sock_calls.specs.Sockets.{SocksView, queued_chains}
 use Rattle.sock_calls.specs.Outgoing.{CanSend, sending}
 use Rattle.net_stack.proofs.Aside.{net_seen}
-use Rattle.net_stack.specs.Stack.{StackView, IsStack, state_of, rest_of, chains_of}
+use Rattle.net_stack.specs.Stack.{StackView, IsStack, state_of, rest_of_stack, stack_chains}
 use Rattle.net_stack.specs.Inside.Arrivals.{HasCome}
 use Rattle.net_stack.specs.Inside.Hosts.{KeepsOutput, arrival_view, send_view}
 use Rattle.net_stack.specs.Inside.Sending.{HasSent, no_train, out_chains}
 use Rattle.net_stack.specs.declared.host.Host.{Host}
-use Rattle.net_stack.specs.Inside.Fields.{Fields, seen as seen_in, IsInside}
+use Rattle.net_stack.specs.Inside.Fields.{Fields, stack_of as seen_in, IsStackInside}
 use Rattle.net_stack.proofs.Called.{Called, called}
 use Rattle.net_stack.proofs.Lifted.{Stepped, accounts, stepped, input_step, split}
 
@@ -54,7 +54,7 @@ pub rx_step : (s : StackView) (packet : List ℕ) (q : PoolView) (w : SocksView)
     → HasCome (net_seen s.pool s.socks s.reass s.counters) packet (net_seen q w es c)
     → Stepped s (Comes packet) Done (record s { pool = q; socks = w; reass = es; counters = c })
 rx_step s packet q w es c is can ready came = input_step s q w es c (Comes packet) Done is can came.parts.ready ready
-    came.parts.moves (refl, came.step (rest_of s) (accounts s is))
+    came.parts.moves (refl, came.step (rest_of_stack s) (accounts s is))
 
 -- ---- a send
 
@@ -71,7 +71,8 @@ shown config p s r n = record {
 }
 
 same_chains : (config : Config) (p : PoolView) (s : SocksView) (r : TableView) (n : Net) (k : ℕ)
-    → times k (chains_of (shown config p s r n)) ≡ times k (held_all p r.datagrams ++ out_chains (sending p s n))
+    → times_among k (stack_chains (shown config p s r n))
+    ≡ times_among k (held_all p r.datagrams ++ out_chains (sending p s n))
 same_chains config p s r n k = omega (
   arith,
   split (shown config p s r n) k,
@@ -107,13 +108,13 @@ pub send_step : (config : Config) (p q : PoolView) (s w : SocksView) (r es : Tab
 send_step config p q s w r es n m fd to bytes result is mtu can sent =
     stepped (shown config p s r n) (shown config q w es m) (Send fd to bytes) (sent_reply result) is can refl sent.socks
     sent.reass sent.out
-    (moves_reordered (chains_of (shown config p s r n)) (chains_of (shown config q w es m)) sent.moves
+    (moves_reordered (stack_chains (shown config p s r n)) (stack_chains (shown config q w es m)) sent.moves
     (same_chains config p s r n) (same_chains config q w es m))
     (sent.step (boot config) (sym mtu) (accounts (shown config p s r n) is))
 
 -- the fields of a stack after a send
 pub sent_called : (s : Fields) (v : StackView) (h : Host) (fd : ℕ) (to : Option Addr) (bytes : List ℕ)
-    (result : Result ℕ Errno) → IsInside s → seen_in s ≡ v → IsEvent (Send fd to bytes)
+    (result : Result ℕ Errno) → IsStackInside s → seen_in s ≡ v → IsEvent (Send fd to bytes)
     → HasSent fd to bytes (send_view s.host) s.host.reass result (send_view h) h.reass
     → Called v (Send fd to bytes) (sent_reply result) (record s { host = h })
 sent_called s v h fd to bytes result is e can sent =
@@ -129,7 +130,7 @@ sent_called s v h fd to bytes result is e can sent =
     }
 
 -- the fields of a stack after a packet came
-pub come_called : (s : Fields) (v : StackView) (h : Host) (packet : List ℕ) → IsInside s → seen_in s ≡ v
+pub come_called : (s : Fields) (v : StackView) (h : Host) (packet : List ℕ) → IsStackInside s → seen_in s ≡ v
     → IsEvent (Comes packet) → HasCome (arrival_view s.host) packet (arrival_view h) → IsReady h.pool h.reass
     → KeepsOutput s.host.net h.net → Called v (Comes packet) Done (record s { host = h })
 come_called s v h packet is e can came ready output =

@@ -9,7 +9,7 @@ use Rattle.flat_model.specs.declared.config.Config.{Config}
 use Rattle.flat_model.specs.declared.counters.Counters.{Counters}
 use Rattle.flat_model.proofs.Laws.{step_is_consistent, all_of-append, times-both}
 use Rattle.mbuf_chain.specs.Chain.{PoolView}
-use Rattle.mbuf_chain.specs.Owners.{times, IsAll, Moves}
+use Rattle.mbuf_chain.specs.Owners.{times_among, IsAll, Moves}
 use Rattle.mbuf_chain.specs.Frames.{SameAt}
 use Rattle.mbuf_chain.specs.Train.{TrainView, QueuedPacket, queued_packet_of, numbers}
 use Rattle.mbuf_chain.proofs.Laws.Owners.{times-append, live_at_most, same_beside, same_part, moves_beside}
@@ -17,13 +17,13 @@ use Rattle.mbuf_chain.proofs.Laws.Trains.{numbers_same, queued_packets_same, hel
 use Rattle.ledger.specs.Accounts.{item_of, weight_at, weight_owned, IsAccounted}
 use Rattle.ledger.proofs.Laws.{accounted_all}
 use Rattle.pcb_table.specs.Table.{machine, sockets_with}
-use Rattle.ip_out.specs.Packets.{packets}
-use Rattle.ip_out.specs.Queues.{IsQueue}
+use Rattle.ip_out.specs.Packets.{train_packets}
+use Rattle.ip_out.specs.Queues.{IsOutputQueue}
 use Rattle.ip_reass.specs.Table.{TableView, IsTable, IsReady, held_all, unfinished}
 use Rattle.ip_reass.specs.Same.{held_all_same, ready_same, unfinished_same, table_weighs}
 use Rattle.sock_calls.specs.Sockets.{SocksView, IsSocks, queues_of, queued_chains, with_sockets, with_net}
 use Rattle.sock_calls.proofs.Laws.{Kept, kept, queue_weight, socks_weigh}
-use Rattle.net_stack.specs.Stack.{StackView, IsStack, rest_of, state_of, chains_of}
+use Rattle.net_stack.specs.Stack.{StackView, IsStack, rest_of_stack, state_of, stack_chains}
 
 -- ---- what the parts weigh
 
@@ -35,7 +35,7 @@ output_weighs p (x ∷ xs) = ap (λ (w : Weight). weight_at p x ⊕ w) (output_w
 
 -- the pool accounts for the state of a stack
 pub accounts_of : (s : StackView) → s.config.mbufs ≡ s.pool.mbufs → s.config.clusters ≡ s.pool.clusters
-    → IsSocks s.pool s.socks → IsTable s.pool s.reass.datagrams → IsAll s.pool (chains_of s)
+    → IsSocks s.pool s.socks → IsTable s.pool s.reass.datagrams → IsAll s.pool (stack_chains s)
     → IsAccounted s.pool (state_of s) nothing
 accounts_of s m c socks table all =
     let p = s.pool in
@@ -48,13 +48,13 @@ accounts_of s m c socks table all =
     let ws : Weight = all_of (λ (socket : Socket). queue_weight socket.queue)
     (sockets_with (queues_of p s.socks.queues) s.socks.pcbs) in
     let wu : Weight = all_of (λ (u : Unfinished). mbuf ⊕ weight_of_pieces u.bytes) (unfinished p s.reass.datagrams) in
-    let wo : Weight = all_of (λ (item : Item). item.weight) (packets p s.output) in
+    let wo : Weight = all_of (λ (item : Item). item.weight) (train_packets p s.output) in
     let of_socks : SameWeight ws y = socks_weigh p s.socks socks in
     let of_table : SameWeight x wu = table_weighs p s.reass.datagrams table.each in
     let of_output : wo ≡ z = output_weighs p zs in
-    let whole : weight_owned p (chains_of s) ≡ (x ⊕ y) ⊕ z = all_of-append (weight_at p) (xs ++ ys) zs
+    let whole : weight_owned p (stack_chains s) ≡ (x ⊕ y) ⊕ z = all_of-append (weight_at p) (xs ++ ys) zs
     ∙ ap (λ (w : Weight). w ⊕ z) (all_of-append (weight_at p) xs ys) in
-    accounted_all p (state_of s) nothing (chains_of s) all m c (record {
+    accounted_all p (state_of s) nothing (stack_chains s) all m c (record {
       mbufs = omega (
         arith,
         ap (λ (w : Weight). w.mbufs) whole,
@@ -87,8 +87,8 @@ pub record Stepped (s : StackView) (event : Event) (reply : Reply) (n : StackVie
 
 -- a step of the machine whose parts fit together again, under the same configuration
 pub stepped : (s n : StackView) (event : Event) (reply : Reply) → IsStack s → IsEvent event → n.config ≡ s.config
-    → IsSocks n.pool n.socks → IsReady n.pool n.reass → IsQueue n.pool n.output
-    → Moves s.pool (chains_of s) n.pool (chains_of n) → Step (state_of s) event reply (state_of n)
+    → IsSocks n.pool n.socks → IsReady n.pool n.reass → IsOutputQueue n.pool n.output
+    → Moves s.pool (stack_chains s) n.pool (stack_chains n) → Step (state_of s) event reply (state_of n)
     → Stepped s event reply n
 stepped s n event reply is can same socks table output m step = record {
   step = step;
@@ -118,11 +118,11 @@ reass_kept p q r same is = record {
 }
 
 pub record OutputKept (p q : PoolView) (t : TrainView) : Type 0 where
-  pub queue : IsQueue q t
-  pub shows : packets q t ≡ packets p t
+  pub queue : IsOutputQueue q t
+  pub shows : train_packets q t ≡ train_packets p t
   pub chains : numbers q t ≡ numbers p t
 
-pub output_kept : (p q : PoolView) (t : TrainView) → SameAt p q (numbers p t) → IsQueue p t → OutputKept p q t
+pub output_kept : (p q : PoolView) (t : TrainView) → SameAt p q (numbers p t) → IsOutputQueue p t → OutputKept p q t
 output_kept p q t same is = record {
   queue = record { held = held_same p q t same is.held; room = is.room };
   shows = ap (map (λ (queued_packet : QueuedPacket). item_of queued_packet.entries)) (queued_packets_same p q t same);
@@ -130,8 +130,9 @@ output_kept p q t same is = record {
 }
 
 -- the chains of all three parts
-pub split : (s : StackView) (k : ℕ) → times k (chains_of s)
-    ≡ times k (held_all s.pool s.reass.datagrams) + times k (queued_chains s.pool s.socks.queues) + times k
+pub split : (s : StackView) (k : ℕ) → times_among k (stack_chains s)
+    ≡ times_among k (held_all s.pool s.reass.datagrams) + times_among k (queued_chains s.pool s.socks.queues)
+    + times_among k
     (numbers s.pool s.output)
 split s k = omega (
   arith,
@@ -158,24 +159,25 @@ socks_step s q w event reply is can step ready m =
     (same_part p q (xs ++ zs) xs same (λ k. omega (arith, times-append k xs zs))) is.reass in
     let o : OutputKept p q s.output = output_kept p q s.output
     (same_part p q (xs ++ zs) zs same (λ k. omega (arith, times-append k xs zs))) is.output in
-    let rest : State = record (rest_of s) { unfinished = unfinished p s.reass.datagrams; counters = s.counters } in
+    let rest : State =
+    record (rest_of_stack s) { unfinished = unfinished p s.reass.datagrams; counters = s.counters } in
     let new : with_sockets q w rest ≡ state_of n =
-    λ i. with_sockets q w (record (rest_of s) {
+    λ i. with_sockets q w (record (rest_of_stack s) {
       unfinished = sym r.shows i;
       counters = s.counters;
       output = sym o.shows i;
     }) in
     stepped s n event reply is can refl ready r.table o.queue
-    (moves_beside (chains_of s) (chains_of n) (xs ++ zs) m
+    (moves_beside (stack_chains s) (stack_chains n) (xs ++ zs) m
     (λ k. omega (arith, split s k, times-append k xs zs))
-    (λ k. omega (arith, split n k, times-append k xs zs, ap (times k) r.chains, ap (times k) o.chains)))
+    (λ k. omega (arith, split n k, times-append k xs zs, ap (times_among k) r.chains, ap (times_among k) o.chains)))
     (subst (λ (t : State). Step (state_of s) event reply t) new (step rest))
 
 -- ---- a step of the output queue alone
 
 pub output_step : (s : StackView) (q : PoolView) (u : TrainView) (event : Event) (reply : Reply) → IsStack s
-    → IsEvent event → IsQueue q u → Moves s.pool (numbers s.pool s.output) q (numbers q u)
-    → Step (state_of s) event reply (record (state_of s) { output = packets q u })
+    → IsEvent event → IsOutputQueue q u → Moves s.pool (numbers s.pool s.output) q (numbers q u)
+    → Step (state_of s) event reply (record (state_of s) { output = train_packets q u })
     → Stepped s event reply (record s { pool = q; output = u })
 output_step s q u event reply is can queue m step =
     let p : PoolView = s.pool in
@@ -189,13 +191,14 @@ output_step s q u event reply is can queue m step =
     (same_part p q (xs ++ ys) xs same (λ k. omega (arith, times-append k xs ys))) is.reass in
     let v : Kept p q s.socks = kept p q s.socks (same_part p q (xs ++ ys) ys same
     (λ k. omega (arith, times-append k xs ys))) is.socks in
-    let new : record (state_of s) { output = packets q u } ≡ state_of n =
-    λ i. machine (record (rest_of s) { unfinished = sym r.shows i; counters = s.counters; output = packets q u })
+    let new : record (state_of s) { output = train_packets q u } ≡ state_of n =
+    λ i. machine (record (rest_of_stack s)
+    { unfinished = sym r.shows i; counters = s.counters; output = train_packets q u })
     (λ fd. sym (v.shows fd) i) s.socks.pcbs in
     stepped s n event reply is can refl v.ready r.table queue
-    (moves_beside (chains_of s) (chains_of n) (xs ++ ys) m
+    (moves_beside (stack_chains s) (stack_chains n) (xs ++ ys) m
     (λ k. omega (arith, split s k, times-append k xs ys))
-    (λ k. omega (arith, split n k, times-append k xs ys, ap (times k) r.chains, ap (times k) v.chains)))
+    (λ k. omega (arith, split n k, times-append k xs ys, ap (times_among k) r.chains, ap (times_among k) v.chains)))
     (subst (λ (t : State). Step (state_of s) event reply t) new step)
 
 -- ---- a step of the unfinished datagrams and counters alone
@@ -218,12 +221,13 @@ reass_step s q es c event reply is can table m step =
     let o : OutputKept p q s.output = output_kept p q s.output
     (same_part p q (ys ++ zs) zs same (λ k. omega (arith, times-append k ys zs))) is.output in
     let new : record (state_of s) { unfinished = unfinished q es.datagrams; counters = c } ≡ state_of n =
-    λ i. machine (record (rest_of s) { unfinished = unfinished q es.datagrams; counters = c; output = sym o.shows i })
+    λ i. machine (record (rest_of_stack s)
+    { unfinished = unfinished q es.datagrams; counters = c; output = sym o.shows i })
     (λ fd. sym (v.shows fd) i) s.socks.pcbs in
     stepped s n event reply is can refl v.ready table o.queue
-    (moves_beside (chains_of s) (chains_of n) (ys ++ zs) m
+    (moves_beside (stack_chains s) (stack_chains n) (ys ++ zs) m
     (λ k. omega (arith, split s k, times-append k ys zs))
-    (λ k. omega (arith, split n k, times-append k ys zs, ap (times k) v.chains, ap (times k) o.chains)))
+    (λ k. omega (arith, split n k, times-append k ys zs, ap (times_among k) v.chains, ap (times_among k) o.chains)))
     (subst (λ (t : State). Step (state_of s) event reply t) new step)
 
 -- ---- a step of all parts but the output queue
@@ -232,7 +236,7 @@ pub input_step : (s : StackView) (q : PoolView) (w : SocksView) (es : TableView)
     (reply : Reply) → IsStack s → IsEvent event → IsSocks q w → IsReady q es
     → Moves s.pool (held_all s.pool s.reass.datagrams ++ queued_chains s.pool s.socks.queues) q
     (held_all q es.datagrams ++ queued_chains q w.queues)
-    → Step (state_of s) event reply (with_net q w (unfinished q es.datagrams) c (rest_of s))
+    → Step (state_of s) event reply (with_net q w (unfinished q es.datagrams) c (rest_of_stack s))
     → Stepped s event reply (record s { pool = q; socks = w; reass = es; counters = c })
 input_step s q w es c event reply is can ready table m step =
     let p : PoolView = s.pool in
@@ -243,14 +247,14 @@ input_step s q w es c event reply is can ready table m step =
     same_beside zs m (λ k. omega (arith, is.all k, times-append k xs zs))
     (λ k h. omega (arith, h, is.all k, times-append k xs zs, live_at_most p k)) in
     let o : OutputKept p q s.output = output_kept p q s.output same is.output in
-    let new : with_net q w (unfinished q es.datagrams) c (rest_of s) ≡ state_of n =
-    λ i. with_net q w (unfinished q es.datagrams) c (record (rest_of s) { output = sym o.shows i }) in
+    let new : with_net q w (unfinished q es.datagrams) c (rest_of_stack s) ≡ state_of n =
+    λ i. with_net q w (unfinished q es.datagrams) c (record (rest_of_stack s) { output = sym o.shows i }) in
     stepped s n event reply is can refl ready table o.queue
-    (moves_beside (chains_of s) (chains_of n) zs m
+    (moves_beside (stack_chains s) (stack_chains n) zs m
     (λ k. omega (arith, times-append k xs zs))
     (λ k. omega (
       arith,
       times-append k (held_all q es.datagrams ++ queued_chains q w.queues) (numbers q s.output),
-      ap (times k) o.chains,
+      ap (times_among k) o.chains,
     )))
     (subst (λ (t : State). Step (state_of s) event reply t) new step)

@@ -9,14 +9,14 @@ use Rattle.flat_model.specs.Machine.Arrival.{Looped, Arrives, AllArrive}
 use Rattle.flat_model.specs.declared.counters.Counters.{Counters}
 use Rattle.flat_model.proofs.Laws.{nothing-both, times-both}
 use Rattle.mbuf_chain.specs.Chain.{Entry, PoolView, chain_of, entry_of, no_entry}
-use Rattle.mbuf_chain.specs.Owners.{times, IsOwned, Moves}
+use Rattle.mbuf_chain.specs.Owners.{times_among, IsOwned, Moves}
 use Rattle.mbuf_chain.specs.Frames.{SameAt}
 use Rattle.mbuf_chain.specs.Train.{TrainView, QueuedPacket, no_queued_packet, queued_packets, queued_packet_at, numbers, IsHeld}
 use Rattle.mbuf_chain.proofs.Laws.Owners.{times-append, live_at_most, moves_beside, moves_trans, owned_after, same_beside}
 use Rattle.mbuf_chain.proofs.Laws.Trains.{length-queued_packets, numbers_same, queued_packets_same, held_same, none_left}
 use Rattle.ledger.specs.Accounts.{item_of, item_at, weight_at, weight_owned, IsAccounted}
 use Rattle.ledger.proofs.Laws.{accounted_as}
-use Rattle.ip_out.specs.Packets.{packets, AreBegunPlain, BeginPlain}
+use Rattle.ip_out.specs.Packets.{train_packets, AreBegunPlain, BeginPlain}
 use Rattle.ip_out.proofs.Laws.{none_wait}
 use Rattle.ip_reass.specs.Table.{TableView, IsReady, held_all, unfinished}
 use Rattle.sock_calls.specs.Sockets.{SocksView, IsSocks, queued_chains, with_net}
@@ -27,7 +27,7 @@ use Rattle.net_stack.proofs.Aside.{Aside, aside, as_held, as_owned, net_seen}
 
 -- the first packet of a train, once it was taken
 record IsFirst (p : PoolView) (t : TrainView) (q : PoolView) (c : ℕ) (u : TrainView) : Type 0 where
-  items : packets p t ≡ item_at q c ∷ packets q u
+  items : train_packets p t ≡ item_at q c ∷ train_packets q u
   plain : (entry_of (chain_of q c) 0).cluster ≡ None
   later : BeginPlain q u
 
@@ -70,7 +70,7 @@ first_last {p} {s} held a b acc = accounted_as acc refl (record {
 -- the train that is left, beside an arrival
 record IsLater (p : PoolView) (c : ℕ) (u : TrainView) (xs : List ℕ) (q : PoolView) (ys : List ℕ) : Type 0 where
   numbers_are : numbers q u ≡ numbers p u
-  items : packets q u ≡ packets p u
+  items : train_packets q u ≡ train_packets p u
   held : IsHeld q u
   plain : BeginPlain q u
   moves : Moves p ((c ∷ numbers p u) ++ xs) q (numbers q u ++ ys)
@@ -90,7 +90,7 @@ is_later p q c u xs ys owned held plain m =
       plain = subst AreBegunPlain (sym cs) plain;
       moves = moves_beside ((c ∷ numbers p u) ++ xs) (numbers q u ++ ys) (numbers p u) m
           (λ k. omega (arith, times-append k (numbers p u) xs))
-          (λ k. omega (arith, times-append k (numbers q u) ys, ap (times k) ns));
+          (λ k. omega (arith, times-append k (numbers q u) ys, ap (times_among k) ns));
     }
 
 -- ---- one packet more
@@ -132,7 +132,7 @@ one_more {v} {t} {u} {u1} {q} {q1} {q2} {s} {s2} {ds} {ds2} {a} {b} {c} tag w he
     is_later q1 q2 c u1 (held_all q1 ds.datagrams ++ queued_chains q1 s.queues)
     (held_all q2 ds2.datagrams ++ queued_chains q2 s2.queues) x.owned held1 f.later arrived.parts.moves in
     let wl : Weight = weight_owned q1 (numbers q1 u1) in
-    let weighs : all_of (λ (item : Item). item.weight) (packets q1 u1) ≡ wl = output_weighs q1 (numbers q1 u1) in
+    let weighs : all_of (λ (item : Item). item.weight) (train_packets q1 u1) ≡ wl = output_weighs q1 (numbers q1 u1) in
     let now : (rest : State) → with_net q1 s (unfinished q1 ds.datagrams) a rest
     ≡ with_net q s (unfinished q ds.datagrams) a rest = λ rest. x.shows a rest in
     let in_hand : (rest : State) (held : Weight) → IsAccountedAt v rest (held_with v.pool held (numbers v.pool t))
@@ -153,12 +153,12 @@ one_more {v} {t} {u} {u1} {q} {q1} {q2} {s} {s2} {ds} {ds2} {a} {b} {c} tag w he
             let step : Arrives exact_ledger Looped wl (item_at q1 c) (with_net q1 s (unfinished q1 ds.datagrams) a rest)
             mid =
             arrived.step rest wl Looped f.plain (alone rest acc) in
-            let first : Arrives exact_ledger Looped (all_of (λ (item : Item). item.weight) (packets q1 u1))
+            let first : Arrives exact_ledger Looped (all_of (λ (item : Item). item.weight) (train_packets q1 u1))
             (item_at q1 c) (with_net q s (unfinished q ds.datagrams) a rest) mid =
             subst (λ (h : Weight). Arrives exact_ledger Looped h (item_at q1 c)
             (with_net q s (unfinished q ds.datagrams) a rest) mid) (sym weighs)
             (subst (λ (old : State). Arrives exact_ledger Looped wl (item_at q1 c) old mid) (now rest) step) in
-            let others : AllArrive exact_ledger (packets q1 u1) mid new =
+            let others : AllArrive exact_ledger (train_packets q1 u1) mid new =
             subst (λ (items : List Item). AllArrive exact_ledger items mid new) l.items later in
             w.goes rest new acc
             (subst (λ (items : List Item). AllArrive exact_ledger items

@@ -8,12 +8,12 @@ use Rattle.flat_model.specs.declared.address.Addr.{Addr}
 use Rattle.flat_model.specs.declared.counters.Counters.{Counters}
 use Rattle.flat_model.specs.declared.errno.Errno.{Errno}
 use Rattle.mbuf_chain.specs.Chain.{PoolView}
-use Rattle.mbuf_chain.specs.Owners.{times, IsOwned}
+use Rattle.mbuf_chain.specs.Owners.{times_among, IsOwned}
 use Rattle.mbuf_chain.specs.Frames.{SameAt}
 use Rattle.mbuf_chain.specs.Train.{numbers}
 use Rattle.mbuf_chain.proofs.Laws.Owners.{times-append, live_at_most, moves_beside, moves_trans, owned_after, same_beside}
 use Rattle.pcb_table.specs.Table.{machine}
-use Rattle.ip_out.specs.Packets.{packets}
+use Rattle.ip_out.specs.Packets.{train_packets}
 use Rattle.ip_reass.specs.Table.{TableView, IsReady, held_all, unfinished}
 use Rattle.sock_calls.specs.Sockets.{SocksView, queues_of, queued_chains}
 use Rattle.sock_calls.specs.Outgoing.{SendView, sending}
@@ -52,17 +52,18 @@ has_sent {fd} {to} {bytes} {v} {u} {r} {t} {t2} {result} {q} {s} {c} owned tried
     let ys : List ℕ = numbers p u.net.out in
     let zs : List ℕ = queued_chains p u.socks.queues in
     let mid : IsOwned p (ls ++ (xs ++ (ys ++ zs))) = owned_after tried.parts.moves owned in
-    let split : (k : ℕ) → times k (ls ++ (xs ++ (ys ++ zs))) ≡ times k ls + (times k xs + (times k ys + times k zs)) =
+    let split : (k : ℕ) → times_among k (ls ++ (xs ++ (ys ++ zs)))
+    ≡ times_among k ls + (times_among k xs + (times_among k ys + times_among k zs)) =
     λ k. omega (arith, times-append k ls (xs ++ (ys ++ zs)), times-append k xs (ys ++ zs), times-append k ys zs) in
-    let before : (k : ℕ) → times k (ls ++ (xs ++ zs)) ≡ times k ls + (times k xs + times k zs) =
+    let before : (k : ℕ) → times_among k (ls ++ (xs ++ zs)) ≡ times_among k ls + (times_among k xs + times_among k zs) =
     λ k. omega (arith, times-append k ls (xs ++ zs), times-append k xs zs) in
     let same : SameAt p q ys = same_beside ys arrived.parts.moves (λ k. omega (arith, mid k, split k))
     (λ k h. omega (arith, h, mid k, split k, before k, live_at_most p k)) in
     let o : OutputKept p q u.net.out = output_kept p q u.net.out same tried.parts.out in
-    let rest_of : State → State = λ rest. record rest { output = packets p u.net.out; next_id = u.net.next_id } in
+    let rest_of : State → State = λ rest. record rest { output = train_packets p u.net.out; next_id = u.net.next_id } in
     let now : (rest : State)
     → machine (record rest {
-      output = packets p u.net.out;
+      output = train_packets p u.net.out;
       next_id = u.net.next_id;
       unfinished = unfinished q t2.datagrams;
       counters = c;
@@ -75,7 +76,8 @@ has_sent {fd} {to} {bytes} {v} {u} {r} {t} {t2} {result} {q} {s} {c} owned tried
     }) (queues_of q s.queues) s.pcbs in
     record {
       step = λ rest mtu acc. tried.goes rest (all_in w t2 rest) mtu acc
-          (subst (λ (new : State). AllArrive exact_ledger (packets p u.net.looped) (all_in u t rest) new) (now rest)
+          (subst (λ (new : State). AllArrive exact_ledger (train_packets p u.net.looped) (all_in u t rest) new)
+          (now rest)
           (arrived.step (rest_of rest) (tried.accounts rest acc)));
       socks = arrived.parts.ready;
       out = o.queue;
@@ -90,6 +92,6 @@ has_sent {fd} {to} {bytes} {v} {u} {r} {t} {t2} {result} {q} {s} {c} owned tried
             times-append k (held_all q t2.datagrams) (out_chains w),
             times-append k (numbers q u.net.out) (queued_chains q s.queues),
             times-append k (held_all q t2.datagrams) (queued_chains q s.queues),
-            ap (times k) o.chains,
+            ap (times_among k) o.chains,
           )));
     }

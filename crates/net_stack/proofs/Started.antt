@@ -12,19 +12,19 @@ use Rattle.flat_model.specs.declared.config.Config.{Config}
 use Rattle.flat_model.proofs.Laws.{boot_is_consistent}
 use Rattle.mbuf_chain.specs.Chain.{PoolView}
 use Rattle.mbuf_chain.specs.Frames.{SameAt}
-use Rattle.mbuf_chain.specs.Owners.{times, live_at, IsAll, Moves}
+use Rattle.mbuf_chain.specs.Owners.{times_among, live_at, IsAll, Moves}
 use Rattle.mbuf_chain.specs.Train.{numbers}
 use Rattle.mbuf_chain.proofs.Laws.Owners.{times-append, live_at_most, live_none, live_one, moves_beside, moves_trans, moves_nothing, same_beside, same_part}
 use Rattle.pcb_table.specs.Table.{sockets_with}
-use Rattle.ip_out.specs.Queues.{IsQueue}
+use Rattle.ip_out.specs.Queues.{IsOutputQueue}
 use Rattle.ip_reass.specs.Table.{AreDistinct, HaveFragments, IsTable, held_all, unfinished}
 use Rattle.ip_reass.specs.declared.datagram.Datagram.{Datagram}
 use Rattle.sock_calls.specs.Sockets.{IsSocks, queues_of, queued_chains}
 use Rattle.ip_reass.proofs.Laws.{none_distinct}
 use Rattle.ip_out.proofs.Laws.{none_wait}
 use Rattle.net_stack.specs.Boots.{free_pool}
-use Rattle.net_stack.specs.Stack.{IsStack, state_of, chains_of}
-use Rattle.net_stack.specs.Inside.Fields.{Fields, seen, IsInside}
+use Rattle.net_stack.specs.Stack.{IsStack, state_of, stack_chains}
+use Rattle.net_stack.specs.Inside.Fields.{Fields, stack_of, IsStackInside}
 use Rattle.net_stack.proofs.Lifted.{ReassKept, reass_kept, OutputKept, output_kept, split}
 
 free_live : (config : Config) (k : ℕ) → live_at (free_pool config) k ≡ 0
@@ -55,11 +55,11 @@ pub record Starts (config : Config) (s : Fields) : Type 0 where
   pub mtu : s.host.net.mtu ≡ config.mtu
   pub next_id : s.host.net.next_id ≡ config.first_id
   pub counters : s.host.net.counters ≡ no_counts
-  pub out : (p : PoolView) → IsQueue p s.host.net.out
+  pub out : (p : PoolView) → IsOutputQueue p s.host.net.out
   pub waits : s.host.net.out.len ≡ 0
   pub looped : s.host.net.looped ≡ record { first = None; last = None; len = 0 }
 
-pub started_state : (config : Config) (s : Fields) → Starts config s → state_of (seen s) ≡ boot config
+pub started_state : (config : Config) (s : Fields) → Starts config s → state_of (stack_of s) ≡ boot config
 started_state config s h = λ i. record {
   config = record (h.same i) { addr = (h.blocks i).addr; bcast = (h.blocks i).bcast };
   sockets = sockets_with (queues_of s.host.pool s.host.socks.queues) (h.blocks i);
@@ -73,18 +73,18 @@ started_state config s h = λ i. record {
 pub none_table : (p : PoolView) (ds : List Datagram) → ds ≡ [] → IsTable p ds
 none_table p ds e = subst (IsTable p) (sym e) (record { owned = λ k. omega arith; each = tt })
 
-started_all : (config : Config) (s : Fields) → Starts config s → IsAll s.host.pool (chains_of (seen s))
+started_all : (config : Config) (s : Fields) → Starts config s → IsAll s.host.pool (stack_chains (stack_of s))
 started_all config s h = λ k. omega (
   arith,
-  split (seen s) k,
-  ap (λ (ds : List Datagram). times k (held_all s.host.pool ds)) h.none,
+  split (stack_of s) k,
+  ap (λ (ds : List Datagram). times_among k (held_all s.host.pool ds)) h.none,
   (h.socks s.host.pool).owned k,
   (h.out s.host.pool).held.owned k,
   ap (λ (p : PoolView). live_at p k) h.pool,
   free_live config k,
 )
 
-pub started : (config : Config) (s : Fields) → IsConfig config → Starts config s → IsInside s
+pub started : (config : Config) (s : Fields) → IsConfig config → Starts config s → IsStackInside s
 started config s is h = record {
   stack = record {
     mbufs = ap (λ (c : Config). c.mbufs) h.same ∙ sym (ap (λ (p : PoolView). p.mbufs) h.pool);
@@ -121,15 +121,15 @@ pub record SocksGone (s : Fields) (q : PoolView) : Type 0 where
   pub reass : ReassKept s.host.pool q s.host.reass
   pub output : OutputKept s.host.pool q s.host.net.out
 
-pub socks_gone : (s : Fields) (q : PoolView) → IsStack (seen s)
+pub socks_gone : (s : Fields) (q : PoolView) → IsStack (stack_of s)
     → Moves s.host.pool (queued_chains s.host.pool s.host.socks.queues) q [] → SocksGone s q
 socks_gone s q is m =
     let p : PoolView = s.host.pool in
     let xs : List ℕ = held_all p s.host.reass.datagrams in
     let zs : List ℕ = numbers p s.host.net.out in
     let same : SameAt p q (xs ++ zs) =
-    same_beside (xs ++ zs) m (λ k. omega (arith, is.all k, split (seen s) k, times-append k xs zs))
-    (λ k h. omega (arith, h, is.all k, split (seen s) k, times-append k xs zs, live_at_most p k)) in
+    same_beside (xs ++ zs) m (λ k. omega (arith, is.all k, split (stack_of s) k, times-append k xs zs))
+    (λ k h. omega (arith, h, is.all k, split (stack_of s) k, times-append k xs zs, live_at_most p k)) in
     record {
       reass = reass_kept p q s.host.reass (same_part p q (xs ++ zs) xs same (λ k. omega (arith, times-append k xs zs)))
           is.reass;
@@ -143,7 +143,7 @@ pub record ReassGone (s : Fields) (r : PoolView) : Type 0 where
   pub moves : Moves s.host.pool (held_all s.host.pool s.host.reass.datagrams
       ++ queued_chains s.host.pool s.host.socks.queues) r []
 
-pub reass_gone : (s : Fields) (q r : PoolView) → IsStack (seen s)
+pub reass_gone : (s : Fields) (q r : PoolView) → IsStack (stack_of s)
     → Moves s.host.pool (queued_chains s.host.pool s.host.socks.queues) q []
     → Moves q (held_all q s.host.reass.datagrams) r [] → ReassGone s r
 reass_gone s q r is m n =
@@ -163,7 +163,7 @@ reass_gone s q r is m n =
     }
 
 -- once all ended
-pub all_gone : (s : Fields) (r t : PoolView) → IsStack (seen s) → ReassGone s r
+pub all_gone : (s : Fields) (r t : PoolView) → IsStack (stack_of s) → ReassGone s r
     → Moves r (numbers r s.host.net.out) t [] → t ≡ free_pool s.config
 all_gone s r t is g n =
     let p : PoolView = s.host.pool in
@@ -171,5 +171,5 @@ all_gone s r t is g n =
     let zs : List ℕ = numbers p s.host.net.out in
     let first : Moves p (xs ++ zs) r zs = moves_beside (xs ++ zs) zs zs g.moves
     (λ k. omega (arith, times-append k xs zs)) (λ k. omega arith) in
-    gone s.config p t (chains_of (seen s)) is.mbufs is.clusters is.all
+    gone s.config p t (stack_chains (stack_of s)) is.mbufs is.clusters is.all
     (moves_trans first (subst (λ (l : List ℕ). Moves r l t []) g.output.chains n))

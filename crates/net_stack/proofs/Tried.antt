@@ -17,7 +17,7 @@ use Rattle.flat_model.specs.declared.errno.Errno.TheVariants.{NoBufs, Access, De
 use Rattle.flat_model.specs.declared.errno.Lack.TheVariants.{Pool, Queue}
 use Rattle.flat_model.proofs.Laws.{times-both}
 use Rattle.mbuf_chain.specs.Chain.{PoolView}
-use Rattle.mbuf_chain.specs.Owners.{times, IsOwned, Moves}
+use Rattle.mbuf_chain.specs.Owners.{times_among, IsOwned, Moves}
 use Rattle.mbuf_chain.specs.Frames.{SameAt}
 use Rattle.mbuf_chain.specs.Train.{numbers}
 use Rattle.mbuf_chain.proofs.Laws.Owners.{times-append, live_at_most, moves_beside, moves_trans, owned_after, same_beside, same_part}
@@ -25,7 +25,7 @@ use Rattle.mbuf_chain.proofs.Laws.Trains.{held_same, none_left}
 use Rattle.ledger.specs.Accounts.{weight_owned, IsAccounted}
 use Rattle.ledger.proofs.Laws.{accounted_after}
 use Rattle.pcb_table.specs.Table.{machine, sockets_with}
-use Rattle.ip_out.specs.Packets.{packets}
+use Rattle.ip_out.specs.Packets.{train_packets}
 use Rattle.ip_reass.specs.Table.{TableView, IsReady, held_all, unfinished}
 use Rattle.ip_reass.specs.Same.{length-unfinished, table_weighs}
 use Rattle.sock_calls.specs.Sockets.{queues_of, queued_chains}
@@ -40,7 +40,7 @@ use Rattle.net_stack.proofs.Lifted.{ReassKept, reass_kept, OutputKept, output_ke
 pub record IsOnce (fd : ℕ) (to : Option Addr) (bytes : List ℕ) (v : SendView) (r : TableView) (result : Result ℕ Errno)
     (u : SendView) : Type 0 where
   pub step : (rest : State) → rest.config.mtu ≡ v.net.mtu → IsAccounted v.pool (all_in v r rest) nothing
-      → SendsOnce exact_ledger fd to bytes (all_in v r rest) (sent_reply result) (packets u.pool u.net.looped)
+      → SendsOnce exact_ledger fd to bytes (all_in v r rest) (sent_reply result) (train_packets u.pool u.net.looped)
       (all_in u r rest)
   pub accounts : (rest : State) → IsAccounted v.pool (all_in v r rest) nothing
       → IsAccounted u.pool (all_in u r rest) (weight_owned u.pool (numbers u.pool u.net.looped))
@@ -60,7 +60,7 @@ once {fd} {to} {bytes} {v} {u} {r} {result} is ready owned =
     λ rest i. state_in u (record rest { unfinished = sym rk.shows i }) in
     record {
       step = λ rest mtu acc. subst (λ (t : State). SendsOnce exact_ledger fd to bytes (all_in v r rest)
-          (sent_reply result) (packets q u.net.looped) t) (now rest)
+          (sent_reply result) (train_packets q u.net.looped) t) (now rest)
           (is.step (record rest { unfinished = unfinished p r.datagrams }) mtu acc);
       accounts = λ rest acc. subst (λ (t : State). IsAccounted q t (weight_owned q (numbers q u.net.looped))) (now rest)
           (subst (λ (w : Weight). IsAccounted q (state_in u (record rest { unfinished = unfinished p r.datagrams })) w)
@@ -81,7 +81,7 @@ once {fd} {to} {bytes} {v} {u} {r} {result} is ready owned =
               times-append k (numbers q u.net.looped) (held_all q r.datagrams ++ out_chains u),
               times-append k (held_all q r.datagrams) (out_chains u),
               times-append k (numbers q u.net.looped) (out_chains u),
-              ap (times k) rk.chains,
+              ap (times_among k) rk.chains,
             ));
       };
     }
@@ -137,7 +137,7 @@ pub tried_at_once : {fd : ℕ} {to : Option Addr} {bytes : List ℕ} {v u : Send
     → IsTried fd to bytes v r result u r
 tried_at_once {fd} {to} {bytes} {v} {u} {r} {result} enough is = record {
   goes = λ rest new mtu acc all. sends_at_once fd to bytes (all_in v r rest) (sent_reply result)
-      (packets u.pool u.net.looped) (all_in u r rest) new (no_lack result enough) (is.step rest mtu acc) all;
+      (train_packets u.pool u.net.looped) (all_in u r rest) new (no_lack result enough) (is.step rest mtu acc) all;
   accounts = is.accounts;
   parts = is.parts;
 }
@@ -168,7 +168,8 @@ gives_back {v} {r} {t} {q} {c} k can ready owned none count is_c m =
     let xs : List ℕ = held_all p r.datagrams in
     let ys : List ℕ = numbers p v.net.out in
     let zs : List ℕ = queued_chains p v.socks.queues in
-    let split : (j : ℕ) → times j (xs ++ out_chains v) ≡ times j xs + (times j ys + times j zs) =
+    let split : (j : ℕ) → times_among j (xs ++ out_chains v)
+    ≡ times_among j xs + (times_among j ys + times_among j zs) =
     λ j. omega (arith, times-append j xs (ys ++ zs), times-append j ys zs) in
     let same : SameAt p q (ys ++ zs) = same_beside (ys ++ zs) m
     (λ j. omega (arith, owned j, split j, times-append j ys zs))
@@ -195,9 +196,9 @@ gives_back {v} {r} {t} {q} {c} k can ready owned none count is_c m =
       times-append j (held_all q t.datagrams) (out_chains w),
       times-append j (numbers q v.net.out) (queued_chains q v.socks.queues),
       times-append j ys zs,
-      ap (times j) o.chains,
-      ap (times j) s.chains,
-      ap (λ ds. times j (held_all q ds)) empty,
+      ap (times_among j) o.chains,
+      ap (times_among j) s.chains,
+      ap (λ ds. times_among j (held_all q ds)) empty,
     )) in
     let left : IsOwned q (held_all q t.datagrams ++ out_chains w) = owned_after all owned in
     record {
@@ -206,7 +207,7 @@ gives_back {v} {r} {t} {q} {c} k can ready owned none count is_c m =
         out = o.queue;
         owned = λ j. omega (arith, left j, times-append j (held_all q t.datagrams) (out_chains w));
         looped = held_same p q v.net.looped (same_part p q (ys ++ zs) (numbers p v.net.looped) same
-            (λ j. omega (arith, ap (times j) (none_left p v.net.looped can.none)))) can.looped;
+            (λ j. omega (arith, ap (times_among j) (none_left p v.net.looped can.none)))) can.looped;
         none = can.none;
         mtu = can.mtu;
         apart = can.apart;
@@ -218,7 +219,7 @@ gives_back {v} {r} {t} {q} {c} k can ready owned none count is_c m =
           let ws : Weight = all_of (λ (socket : Socket). all_of (λ d. d.item.weight) socket.queue)
           (sockets_with (queues_of p v.socks.queues) v.socks.pcbs) in
           let wu : Weight = all_of (λ (u : Unfinished). mbuf ⊕ weight_of_pieces u.bytes) (unfinished p r.datagrams) in
-          let wo : Weight = all_of (λ (item : Item). item.weight) (packets p v.net.out) in
+          let wo : Weight = all_of (λ (item : Item). item.weight) (train_packets p v.net.out) in
           let of_table : SameWeight (weight_owned p xs) wu = table_weighs p r.datagrams ready.table.each in
           accounted_after acc m (λ j. omega (arith, owned j, split j)) refl (record {
             mbufs = omega (arith, of_table.mbufs);
@@ -246,11 +247,13 @@ pub tried_again : {fd : ℕ} {to : Option Addr} {bytes : List ℕ} {v u w : Send
     → IsTried fd to bytes v r result w t
 tried_again {fd} {to} {bytes} {v} {u} {w} {r} {t} {first} {result} {q} {c} lack one back two = record {
   goes = λ rest new mtu acc all.
-      sends_again fd to bytes (all_in v r rest) (packets u.pool u.net.looped) (all_in u r rest) (sent_reply result)
-      (packets w.pool w.net.looped) (all_in w t rest) new
+      sends_again fd to bytes (all_in v r rest) (train_packets u.pool u.net.looped) (all_in u r rest)
+      (sent_reply result)
+      (train_packets w.pool w.net.looped) (all_in w t rest) new
       (subst (λ (reply : Reply). SendsOnce exact_ledger fd to bytes (all_in v r rest) reply
-      (packets u.pool u.net.looped) (all_in u r rest)) lack.reply (one.step rest mtu acc))
-      (subst (λ (old : State). SendsOnce exact_ledger fd to bytes old (sent_reply result) (packets w.pool w.net.looped)
+      (train_packets u.pool u.net.looped) (all_in u r rest)) lack.reply (one.step rest mtu acc))
+      (subst (λ (old : State). SendsOnce exact_ledger fd to bytes old (sent_reply result)
+      (train_packets w.pool w.net.looped)
       (all_in w t rest)) (back.shows rest) (two.step rest mtu (back.accounts rest acc)))
       all;
   accounts = λ rest acc. two.accounts rest (back.accounts rest acc);

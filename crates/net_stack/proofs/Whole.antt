@@ -8,7 +8,7 @@ use Rattle.flat_model.specs.declared.counter.Counter.TheVariants.{IpTotal}
 use Rattle.flat_model.specs.declared.counters.Counters.{Counters}
 use Rattle.ledger.specs.Accounts.{IsAccounted}
 use Rattle.mbuf_chain.specs.Chain.{PoolView}
-use Rattle.mbuf_chain.specs.Owners.{times, IsOwned}
+use Rattle.mbuf_chain.specs.Owners.{times_among, IsOwned}
 use Rattle.mbuf_chain.proofs.Laws.Owners.{times-append, live_at_most, moves_beside, same_beside}
 use Rattle.ip_reass.specs.Table.{TableView, IsReady, held_all, unfinished}
 use Rattle.sock_calls.specs.Sockets.{SocksView, queued_chains, with_net, with_sockets}
@@ -49,7 +49,7 @@ module _ {p q : PoolView} {s t : SocksView} {r : TableView} {packet : List ℕ}
           (λ k. omega (
             arith,
             times-append k (held_all q r.datagrams) (queued_chains q t.queues),
-            ap (times k) beside.chains,
+            ap (times_among k) beside.chains,
           ));
     };
   }

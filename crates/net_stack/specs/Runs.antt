@@ -6,10 +6,11 @@ use Rattle.flat_model.specs.Machine.Step.{Step}
 use Rattle.net_stack.specs.Stack.{StackView, state_of}
 
 -- what each call says of the stack before it and after it, where it stands for the turn's event and answers its reply
-abbrev pub IsCall : StackView → Turn → StackView → Type 0
-IsCall old turn new = Step (state_of old) turn.event turn.reply (state_of new)
+abbrev pub IsTurnOf : StackView → Turn → StackView → Type 0
+IsTurnOf old turn new = Step (state_of old) turn.event turn.reply (state_of new)
 
 -- these calls, one after another, make the first stack the last
 abbrev pub AreCalls : StackView → List Turn → StackView → Type 0
 AreCalls old [] new = new ≡ old
-AreCalls old (turn ∷ turns) new = IsEvent turn.event × (mid : StackView) × IsCall old turn mid × AreCalls mid turns new
+AreCalls old (turn ∷ turns) new =
+    IsEvent turn.event × (mid : StackView) × IsTurnOf old turn mid × AreCalls mid turns new

@@ -8,8 +8,8 @@ use Rattle.flat_model.specs.declared.counters.Counters.{Counters}
 use Rattle.mbuf_chain.specs.Chain.{PoolView}
 use Rattle.mbuf_chain.specs.Owners.{IsAll}
 use Rattle.mbuf_chain.specs.Train.{TrainView, numbers}
-use Rattle.ip_out.specs.Packets.{packets}
-use Rattle.ip_out.specs.Queues.{IsQueue}
+use Rattle.ip_out.specs.Packets.{train_packets}
+use Rattle.ip_out.specs.Queues.{IsOutputQueue}
 use Rattle.ip_reass.specs.Table.{TableView, IsReady, held_all, unfinished}
 use Rattle.sock_calls.specs.Sockets.{SocksView, IsSocks, queued_chains, with_net}
 
@@ -24,16 +24,16 @@ pub record StackView : Type 0 where
   pub counters : Counters
 
 -- a machine with its configuration, output and identification
-abbrev pub rest_of : StackView → State
-rest_of s = record (boot s.config) { output = packets s.pool s.output; next_id = s.next_id }
+abbrev pub rest_of_stack : StackView → State
+rest_of_stack s = record (boot s.config) { output = train_packets s.pool s.output; next_id = s.next_id }
 
 -- the state of the flat machine
 abbrev pub state_of : StackView → State
-state_of s = with_net s.pool s.socks (unfinished s.pool s.reass.datagrams) s.counters (rest_of s)
+state_of s = with_net s.pool s.socks (unfinished s.pool s.reass.datagrams) s.counters (rest_of_stack s)
 
 -- the numbers of all its chains
-abbrev pub chains_of : StackView → List ℕ
-chains_of s = (held_all s.pool s.reass.datagrams ++ queued_chains s.pool s.socks.queues) ++ numbers s.pool s.output
+abbrev pub stack_chains : StackView → List ℕ
+stack_chains s = (held_all s.pool s.reass.datagrams ++ queued_chains s.pool s.socks.queues) ++ numbers s.pool s.output
 
 -- Parts, pool and configuration fit together, each chain of the pool has one owner among the parts, and the state is
 -- one that the flat machine may reach.
@@ -42,6 +42,6 @@ pub record IsStack (s : StackView) : Type 0 where
   pub clusters : s.config.clusters ≡ s.pool.clusters
   pub socks : IsSocks s.pool s.socks
   pub reass : IsReady s.pool s.reass
-  pub output : IsQueue s.pool s.output
-  pub all : IsAll s.pool (chains_of s)
+  pub output : IsOutputQueue s.pool s.output
+  pub all : IsAll s.pool (stack_chains s)
   pub consistent : IsConsistent (state_of s)

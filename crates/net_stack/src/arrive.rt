@@ -9,7 +9,7 @@ ghost use Rattle.ip_reass.specs.Table.{IsReady};
 ghost use Rattle.ip_reass.specs.Arrivals.{flat_head};
 ghost use Rattle.sock_calls.specs.Sockets.{IsSocks};
 ghost use Rattle.sock_calls.specs.Delivery.{chains_at};
-ghost use Rattle.net_stack.specs.Inside.Arrivals.{HaveArrived, IsArrived, IsTaken, is_ours_or_all};
+ghost use Rattle.net_stack.specs.Inside.Arrivals.{HaveArrived, IsArrived, IsFragmentTaken, is_ours_or_all};
 ghost use Rattle.net_stack.specs.Inside.Hosts.{KeepsOutput, arrival_view};
 
 use crate::host::Host;
@@ -45,7 +45,7 @@ impl Host {
         requires total { length (string (chain_of self.old.pool chain)) ≡ head.total }
         requires header { IP_HEADER ≤ head.total }
         requires offset { head.offset ≤ IP_MAX_PACKET }
-        ensures taken { IsTaken (arrival_view self.old) chain head (arrival_view self.new) }
+        ensures taken { IsFragmentTaken (arrival_view self.old) chain head (arrival_view self.new) }
         ensures reass { IsReady self.new.pool self.new.reass }
         ensures output { KeepsOutput self.old.net self.new.net }
     {

@@ -1,7 +1,7 @@
 //! The parts of a stack that change as packets come and go.
 ghost use Rattle.std.specs.Prelude.{◌≡◌, []};
 ghost use Rattle.mbuf_chain.specs.Chain.{PoolView};
-ghost use Rattle.ip_out.specs.Queues.{IsQueue};
+ghost use Rattle.ip_out.specs.Queues.{IsOutputQueue};
 ghost use Rattle.sock_calls.specs.Sockets.{AreEmpty};
 
 use ip_reass::Reass;
@@ -21,7 +21,7 @@ impl Host {
     pub(crate) fn end_new(self)
         requires socks { AreEmpty self.socks.queues }
         requires reass { self.reass.datagrams ≡ [] }
-        requires out { (p : PoolView) → IsQueue p self.net.out }
+        requires out { (p : PoolView) → IsOutputQueue p self.net.out }
         requires looped { self.net.looped.len ≡ 0 }
     {
         let Host {

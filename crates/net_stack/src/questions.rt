@@ -3,7 +3,7 @@ ghost use Rattle.std.specs.Prelude.{◌≡◌, ◌≤◌, drop, length, take, op
 ghost use Rattle.flat_model.specs.Machine.Count.{value_of};
 ghost use Rattle.ip_out.specs.Questions.{nth_packet, oldest_length};
 ghost use Rattle.ip_reass.specs.Questions.{nth_range, nth_unfinished};
-ghost use Rattle.sock_calls.specs.Questions.{bytes_queued, next_datagram, readable, socket_name};
+ghost use Rattle.sock_calls.specs.Questions.{bytes_queued_at, next_datagram, readable, socket_name};
 ghost use Rattle.net_stack.specs.Stack.{state_of};
 
 use crate::stack::Stack;
@@ -33,7 +33,7 @@ impl Stack {
     /// How many bytes wait in a socket in all, with 16 for each sender's address among them, 0 to 41,600: a datagram of
     /// more than the rest finds the socket full (`sb_cc` of volume 2, chapter 16). Refused: `BadDescriptor`.
     pub fn bytes_queued(&self, fd: u32) -> Result<u32, Errno>
-        ensures { result ≡ bytes_queued fd (state_of self.now) }
+        ensures { result ≡ bytes_queued_at fd (state_of self.now) }
     {
         self.host.socks.bytes_queued(fd)
     }

@@ -47,15 +47,15 @@ impl Model for Stack {
     ghost use Rattle.std.specs.Coded.{codes};
     ghost use Rattle.mbuf_chain.specs.Chain.{coded_pool};
     ghost use Rattle.net_stack.specs.Stack.{StackView};
-    ghost use Rattle.net_stack.specs.Inside.Fields.{fields, seen, IsInside};
+    ghost use Rattle.net_stack.specs.Inside.Fields.{fields, stack_of, IsStackInside};
 
     ghost Value = { StackView };
 
     ghost coded = { Prim.hlevel (codes, coded_pool) };
 
-    ghost view = { λ s. seen (fields s) };
+    ghost view = { λ s. stack_of (fields s) };
 
-    ghost invariant = { λ s. IsInside (fields s) };
+    ghost invariant = { λ s. IsStackInside (fields s) };
 }
 
 impl Stack {

@@ -1,7 +1,7 @@
 //! The packet that has waited longest, copied out.
 ghost use Rattle.std.specs.Prelude.{◌≡◌, ◌≤◌, drop, length, IfNone, IfSome};
 ghost use Rattle.flat_model.specs.Machine.Replies.{given_reply};
-ghost use Rattle.ip_out.specs.Queues.{IsQueue};
+ghost use Rattle.ip_out.specs.Queues.{IsOutputQueue};
 ghost use Rattle.net_stack.specs.Inside.Transmit.{AreWithin, IsGiven};
 
 use chain_ops::m_copydata;
@@ -12,7 +12,7 @@ use mbuf_chain::Pool;
 /// many bytes they are, or `None` where none waits. The rest of the room stays as it was. The room has a place for each
 /// byte of any packet that waits.
 pub(crate) fn take_packet(pool: &mut Pool, out: &mut Queue, room: &mut [u8]) -> Option<usize>
-    requires queue { IsQueue pool.old out.old }
+    requires queue { IsOutputQueue pool.old out.old }
     requires within { AreWithin pool.old out.old (length room.old) }
     ensures given { IsGiven pool.old out.old (given_reply result room.new) pool.new out.new }
     ensures fits { IfSome result (λ n. n ≤ length room.new) }

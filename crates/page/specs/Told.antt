@@ -2,7 +2,7 @@
 use Rattle.std.specs.Prelude.{◌≡◌, ◌≤◌, ◌<◌, ◌++◌, ℕ, Bool, true, false, List, [], length, drop, take, codes, Option, Some, None, IfSome, IfOk, Result, Ok, Err}
 use Rattle.flat_model.specs.declared.config.Config.{Config}
 use Rattle.mbuf_pool.specs.declared.sizes.Sizes.{Sizes}
-use Rattle.chain_script.specs.Boots.{Boots}
+use Rattle.chain_script.specs.Boots.{BootsChains}
 use Rattle.chain_script.specs.Drawings.{drawing, served}
 use Rattle.chain_script.specs.Machines.{Machine, booted}
 use Rattle.chain_script.specs.Steps.{Says}
@@ -11,7 +11,7 @@ use Rattle.flat_model.specs.Machine.Step.{Step}
 use Rattle.link_script.specs.Boots as stack_boots
 use Rattle.page.specs.declared.settings.PageMachine.{PageMachine}
 use Rattle.page.specs.declared.settings.PagePool.{PagePool}
-use Rattle.pcap.specs.File.{header_bytes, our_header}
+use Rattle.pcap.specs.File.{file_header_bytes, our_header}
 use Rattle.play_pcap.specs.Files.{no_folder}
 use Rattle.play_pcap.specs.Traces.{Keeps, Traced, unwritten}
 use Rattle.play_script.specs.Tells as plays
@@ -23,8 +23,8 @@ use Rattle.script_loop.specs.declared.fault.RunFault.TheVariants.{Read, Write, M
 
 -- ---- what the page says of the machine
 
-abbrev pub config_of : PageMachine → Config
-config_of m = record {
+abbrev pub machine_config : PageMachine → Config
+machine_config m = record {
   addr = m.addr;
   bcast = m.bcast;
   mtu = m.mtu;
@@ -39,14 +39,14 @@ sizes_of p = record { mbufs = p.mbufs; clusters = p.clusters }
 -- ---- what it is told
 
 -- the outcome as a number
-abbrev pub number : Result Unit RunFault → ℕ
-number (Ok done) = 0
-number (Err BadSizes) = 1
-number (Err BadConfig) = 2
-number (Err Memory) = 3
-number (Err TooManyLines) = 4
-number (Err Read) = 5
-number (Err Write) = 6
+abbrev pub outcome_number : Result Unit RunFault → ℕ
+outcome_number (Ok done) = 0
+outcome_number (Err BadSizes) = 1
+outcome_number (Err BadConfig) = 2
+outcome_number (Err Memory) = 3
+outcome_number (Err TooManyLines) = 4
+outcome_number (Err Read) = 5
+outcome_number (Err Write) = 6
 
 -- The room after the replies were handed over: they stand at its beginning, where they fit, and all else is as it was.
 pub record Handed (replies before after : List ℕ) : Type 0 where
@@ -64,7 +64,7 @@ pub record Told {S : Type 0} (gives : S → List ℕ → List ℕ → S → Type
   pub new : S
   pub allowed : boots outcome
   pub served : Serves gives booted new (Some script) unread (Some []) (Some replies) outcome
-  pub numbered : answer ≡ number outcome
+  pub numbered : answer ≡ outcome_number outcome
   pub counted : len ≡ length replies
   pub handed : Handed replies before after
 
@@ -72,9 +72,9 @@ pub record Told {S : Type 0} (gives : S → List ℕ → List ℕ → S → Type
 
 -- The number of an outcome with a drawing. Without memory for the drawing it's as without memory for the run.
 abbrev pub drawn_number : Result (Option (List ℕ)) RunFault → ℕ
-drawn_number (Ok (Some text)) = number (Ok tt)
-drawn_number (Ok None) = number (Err Memory)
-drawn_number (Err fault) = number (Err fault)
+drawn_number (Ok (Some text)) = outcome_number (Ok tt)
+drawn_number (Ok None) = outcome_number (Err Memory)
+drawn_number (Err fault) = outcome_number (Err fault)
 
 -- the drawing, which has no bytes if nothing was drawn
 abbrev pub drawn_text : Result (Option (List ℕ)) RunFault → List ℕ
@@ -90,7 +90,7 @@ pub record Drawn (pool : PagePool) (slot : ℕ) (script : List ℕ) (answer len 
   pub replies : List ℕ
   pub unread : Option (List ℕ)
   pub new : Machine
-  pub allowed : Boots (sizes_of pool) (served outcome)
+  pub allowed : BootsChains (sizes_of pool) (served outcome)
   pub answered : Serves Says (booted pool.mbufs pool.clusters) new (Some script) unread (Some []) (Some replies)
       (served outcome)
   pub drawn : IfOk outcome (λ text. IfSome text (λ bytes. bytes ≡ drawing new slot))
@@ -102,8 +102,8 @@ pub record Drawn (pool : PagePool) (slot : ℕ) (script : List ℕ) (answer len 
 
 -- The number of an outcome with a capture, which is whole or not. One that isn't is as a write that failed.
 abbrev pub kept_number : Bool → Result Unit RunFault → ℕ
-kept_number true outcome = number outcome
-kept_number false outcome = number (Err Write)
+kept_number true outcome = outcome_number outcome
+kept_number false outcome = outcome_number (Err Write)
 
 -- A whole script for people was served on a new machine, whose capture began with the header of a file. The page is
 -- told the number and how many bytes the capture has, and they are in its room.
@@ -115,8 +115,8 @@ pub record Kept (config : Config) (script : List ℕ) (answer len : ℕ) (before
   pub begun : Traced
   pub new : plays.Play
   pub ticks : begun.ticks ≡ 0
-  pub headed : Keeps (unwritten (Some [])) begun (header_bytes our_header)
-  pub allowed : stack_boots.Boots config outcome
+  pub headed : Keeps (unwritten (Some [])) begun (file_header_bytes our_header)
+  pub allowed : stack_boots.BootsRun config outcome
   pub served : Serves (plays.Tells Step no_folder)
       (plays.started (boot config) begun Json (take NAME (codes "script"))) new
       (Some script) unread (Some []) (Some objects) outcome
@@ -127,4 +127,4 @@ pub record Kept (config : Config) (script : List ℕ) (answer len : ℕ) (before
 
 -- there was no memory for a capture, and nothing was played
 abbrev pub IsUnkept : ℕ → ℕ → List ℕ → List ℕ → Type 0
-IsUnkept answer len before after = (answer ≡ number (Err Memory)) × (len ≡ 0) × (after ≡ before)
+IsUnkept answer len before after = (answer ≡ outcome_number (Err Memory)) × (len ≡ 0) × (after ≡ before)

@@ -1,12 +1,12 @@
 //! How an outcome and the replies are handed over.
 ghost use Rattle.std.specs.Prelude.{◌≡◌, length};
-ghost use Rattle.page.specs.Told.{number, kept_number, Handed};
+ghost use Rattle.page.specs.Told.{outcome_number, kept_number, Handed};
 
 use link_script::RunFault;
 
 /// The outcome as a number.
 pub(crate) fn number_of(outcome: Result<(), RunFault>) -> u32
-    ensures { result ≡ number outcome }
+    ensures { result ≡ outcome_number outcome }
 {
     match outcome {
         Ok(()) => 0,

@@ -7,12 +7,12 @@
 
 ghost use Rattle.flat_model.specs.Machine.State.{boot};
 ghost use Rattle.flat_model.specs.Machine.Step.{Step};
-ghost use Rattle.link_script.specs.Says.{Says};
-ghost use Rattle.link_script.specs.Boots.{Boots};
+ghost use Rattle.link_script.specs.Says.{SaysBy};
+ghost use Rattle.link_script.specs.Boots.{BootsRun};
 ghost use Rattle.chain_script.specs.Machines.{booted};
 ghost use Rattle.chain_script.specs.Steps as chain_steps;
 ghost use Rattle.chain_script.specs.Boots as chain_sizes;
-ghost use Rattle.page.specs.Told.{Drawn, Told, config_of, sizes_of};
+ghost use Rattle.page.specs.Told.{Drawn, Told, machine_config, sizes_of};
 
 mod handed;
 mod play;
@@ -41,7 +41,7 @@ pub extern "C" fn bsdudp_page_run(
     room: &mut [u8],
     len: &mut usize,
 ) -> u32
-    ensures told { Told (Says Step) (boot (config_of machine.now)) (Boots (config_of machine.now))
+    ensures told { Told (SaysBy Step) (boot (machine_config machine.now)) (BootsRun (machine_config machine.now))
         script.now result len.new room.old room.new }
 {
     let mut reader = script;
@@ -64,7 +64,7 @@ pub extern "C" fn bsdudp_page_chain(
     len: &mut usize,
 ) -> u32
     ensures told { Told chain_steps.Says (booted pool.now.mbufs pool.now.clusters)
-        (chain_sizes.Boots (sizes_of pool.now))
+        (chain_sizes.BootsChains (sizes_of pool.now))
         script.now result len.new room.old room.new }
 {
     let mut reader = script;

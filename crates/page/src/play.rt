@@ -2,7 +2,7 @@
 ghost use Rattle.std.specs.Prelude.{◌≡◌, ◌⊎◌, codes, take};
 ghost use Rattle.flat_model.specs.Machine.State.{boot};
 ghost use Rattle.flat_model.specs.Machine.Step.{Step};
-ghost use Rattle.link_script.specs.Boots.{Boots};
+ghost use Rattle.link_script.specs.Boots.{BootsRun};
 ghost use Rattle.play_pcap.specs.Files.{no_folder};
 ghost use Rattle.play_pcap.specs.Traces.{Traced};
 ghost use Rattle.play_script.specs.Tells as one_machine;
@@ -10,7 +10,7 @@ ghost use Rattle.play_script.specs.declared.print.TheConstants.{NAME};
 ghost use Rattle.play_text.specs.declared.form.Form.TheVariants.{Json};
 ghost use Rattle.play_wire.specs.Tells as many_machines;
 ghost use Rattle.script_loop.specs.Serves.{IsServed};
-ghost use Rattle.page.specs.Told.{IsUnkept, Kept, Told, config_of};
+ghost use Rattle.page.specs.Told.{IsUnkept, Kept, Told, machine_config};
 
 use crate::handed::{hand_over, kept_number_of, number_of};
 use crate::settings::PageMachine;
@@ -49,8 +49,8 @@ pub extern "C" fn bsdudp_page_play(
     len: &mut usize,
 ) -> u32
     ensures told { (traced : Traced) × Told (one_machine.Tells Step no_folder)
-        (one_machine.started (boot (config_of machine.now)) traced Json (take NAME (codes "script")))
-        (Boots (config_of machine.now))
+        (one_machine.started (boot (machine_config machine.now)) traced Json (take NAME (codes "script")))
+        (BootsRun (machine_config machine.now))
         script.now result len.new room.old room.new }
 {
     let mut reader = script;
@@ -72,7 +72,7 @@ pub extern "C" fn bsdudp_page_hosts(
     len: &mut usize,
 ) -> u32
     ensures told { Told many_machines.Tells
-        (many_machines.started 1 Json (take NAME (codes "script"))) IsServed
+        (many_machines.wire_started 1 Json (take NAME (codes "script"))) IsServed
         script.now result len.new room.old room.new }
 {
     let mut reader = script;
@@ -101,7 +101,7 @@ pub extern "C" fn bsdudp_page_capture(
     room: &mut [u8],
     len: &mut usize,
 ) -> u32
-    ensures kept { Kept (config_of machine.now) script.now result len.new room.old room.new
+    ensures kept { Kept (machine_config machine.now) script.now result len.new room.old room.new
         ⊎ IsUnkept result len.new room.old room.new }
 {
     let Ok(record) = Buffer::new(alloc) else {

@@ -1,6 +1,6 @@
 //! What a page says of the machine that it wants, as it stands in memory.
 ghost use Rattle.std.specs.Prelude.{◌≡◌};
-ghost use Rattle.page.specs.Told.{config_of, sizes_of};
+ghost use Rattle.page.specs.Told.{machine_config, sizes_of};
 
 use chain_script::Sizes;
 use link_script::Config;
@@ -25,7 +25,7 @@ pub struct PageMachine {
 impl PageMachine {
     /// The same for the stack.
     pub(crate) fn config(&self) -> Config
-        ensures { result ≡ config_of self.now }
+        ensures { result ≡ machine_config self.now }
     {
         Config {
             addr: self.addr,

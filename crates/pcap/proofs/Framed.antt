@@ -5,7 +5,7 @@ use Rattle.std.proofs.lemmas.Bool.{le-ltb}
 use Rattle.std.proofs.lemmas.List.{take_at, drop_at, drop-append-le, get_or_append_left, length-append, length-drop}
 use Rattle.std.proofs.Math.Seq.{drop-append_seam, drop-append-add}
 use Rattle.pcap.specs.File.{number_of}
-use Rattle.pcap.specs.Frames.{unpadded, untagged, behind, by_protocol, packet_of, IsPacket, IsTagged, Carries}
+use Rattle.pcap.specs.Frames.{unpadded, untagged, behind, by_protocol, packet_in_frame, IsPacket, IsTagged, CarriesIpv4}
 use Rattle.pcap.specs.declared.header.Order.TheVariants.{Little, Big}
 use Rattle.pcap.specs.declared.link.NoPacket.{NoPacket}
 use Rattle.pcap.specs.declared.link_type.LinkType.{LinkType}
@@ -84,7 +84,7 @@ found : (packet padding : List ℕ) → IsPacket packet → ok (unpadded (packet
 found packet padding p = ap ok (cut_off packet padding p)
 
 cooked : (others packet padding : List ℕ) → length others ≡ 18 → IsPacket packet
-    → packet_of LinuxCooked2 (8 ∷ 0 ∷ (others ++ (packet ++ padding))) ≡ Ok packet
+    → packet_in_frame LinuxCooked2 (8 ∷ 0 ∷ (others ++ (packet ++ padding))) ≡ Ok packet
 unfolding behind
 cooked others packet padding len p =
     let long : ltb (length (8 ∷ 0 ∷ (others ++ (packet ++ padding)))) 20 ≡ false =
@@ -93,37 +93,37 @@ cooked others packet padding len p =
     rw (long, d) (found packet padding p)
 
 low_family : (packet padding : List ℕ) → IsPacket packet
-    → packet_of Null (2 ∷ 0 ∷ 0 ∷ 0 ∷ (packet ++ padding)) ≡ Ok packet
+    → packet_in_frame Null (2 ∷ 0 ∷ 0 ∷ 0 ∷ (packet ++ padding)) ≡ Ok packet
 low_family packet padding p =
     let long : ltb (length (2 ∷ 0 ∷ 0 ∷ 0 ∷ (packet ++ padding))) 4 ≡ false = le-ltb _ _ (omega arith) in
     rw long (found packet padding p)
 
 high_family : (packet padding : List ℕ) → IsPacket packet
-    → (packet_of Null (0 ∷ 0 ∷ 0 ∷ 2 ∷ (packet ++ padding)) ≡ Ok packet)
-    × (packet_of Loop (0 ∷ 0 ∷ 0 ∷ 2 ∷ (packet ++ padding)) ≡ Ok packet)
+    → (packet_in_frame Null (0 ∷ 0 ∷ 0 ∷ 2 ∷ (packet ++ padding)) ≡ Ok packet)
+    × (packet_in_frame Loop (0 ∷ 0 ∷ 0 ∷ 2 ∷ (packet ++ padding)) ≡ Ok packet)
 high_family packet padding p =
     let long : ltb (length (0 ∷ 0 ∷ 0 ∷ 2 ∷ (packet ++ padding))) 4 ≡ false = le-ltb _ _ (omega arith) in
     (rw long (found packet padding p), rw long (found packet padding p))
 
-raw : (packet padding : List ℕ) → IsPacket packet → packet_of Raw (packet ++ padding) ≡ Ok packet
+raw : (packet padding : List ℕ) → IsPacket packet → packet_in_frame Raw (packet ++ padding) ≡ Ok packet
 raw [] padding p = let long = p.header in absurd (omega arith)
 raw (b ∷ bs) padding p = rw p.version (found (b ∷ bs) padding p)
 
 pub carried : (link : LinkType) (frame packet padding : List ℕ) → IsPacket packet
-    → Carries link frame (packet ++ padding) → packet_of link frame ≡ Ok packet
+    → CarriesIpv4 link frame (packet ++ padding) → packet_in_frame link frame ≡ Ok packet
 carried Ethernet frame packet padding p c =
-    ap (packet_of Ethernet) c.4 ∙ subst (λ (n : ℕ). by_protocol n (n + 2) (c.0 ++ c.1) ≡ ok packet) c.2
+    ap (packet_in_frame Ethernet) c.4 ∙ subst (λ (n : ℕ). by_protocol n (n + 2) (c.0 ++ c.1) ≡ ok packet) c.2
     (in_front c.0 c.1 packet padding p c.3)
 carried LinuxCooked frame packet padding p c =
-    ap (packet_of LinuxCooked) c.4
+    ap (packet_in_frame LinuxCooked) c.4
     ∙ subst (λ (n : ℕ). by_protocol n (n + 2) (c.0 ++ c.1) ≡ ok packet) c.2 (in_front c.0 c.1 packet padding p c.3)
-carried LinuxCooked2 frame packet padding p c = ap (packet_of LinuxCooked2) c.2 ∙ cooked c.0 packet padding c.1 p
+carried LinuxCooked2 frame packet padding p c = ap (packet_in_frame LinuxCooked2) c.2 ∙ cooked c.0 packet padding c.1 p
 carried Null frame packet padding p c =
     elim c [
-      | inl e ↦ ap (packet_of Null) e ∙ low_family packet padding p
-      | inr e ↦ ap (packet_of Null) e
+      | inl e ↦ ap (packet_in_frame Null) e ∙ low_family packet padding p
+      | inr e ↦ ap (packet_in_frame Null) e
           ∙ (high_family packet padding p).0
     ]
-carried Loop frame packet padding p c = ap (packet_of Loop) c ∙ (high_family packet padding p).1
-carried Raw frame packet padding p c = ap (packet_of Raw) c ∙ raw packet padding p
-carried Ipv4 frame packet padding p c = ap (packet_of Ipv4) c ∙ found packet padding p
+carried Loop frame packet padding p c = ap (packet_in_frame Loop) c ∙ (high_family packet padding p).1
+carried Raw frame packet padding p c = ap (packet_in_frame Raw) c ∙ raw packet padding p
+carried Ipv4 frame packet padding p c = ap (packet_in_frame Ipv4) c ∙ found packet padding p

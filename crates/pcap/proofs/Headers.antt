@@ -4,9 +4,9 @@ use Rattle.std.specs.Int.{w16, w32, to_le_bytes, to_be_bytes, from_le_bytes, fro
 use Rattle.std.specs.List.{AllByRecursion}
 use Rattle.std.proofs.lemmas.Bool.{le-ltb}
 use Rattle.std.proofs.lemmas.Nat.{from_le_bytes-to_le_bytes_4, from_be_bytes-to_be_bytes_4}
-use Rattle.pcap.specs.Types.{link_of}
-use Rattle.pcap.specs.File.{number, number_of, mark_of, header_of, IsHeader, header_bytes}
-use Rattle.pcap.specs.Records.{Captured, Fits, Whole, Reads, records_bytes}
+use Rattle.pcap.specs.Types.{link_type_of}
+use Rattle.pcap.specs.File.{number, number_of, mark_of, header_of, IsHeader, file_header_bytes}
+use Rattle.pcap.specs.Records.{Captured, FitsFields, Whole, Reads, records_bytes}
 use Rattle.pcap.specs.declared.header.Header.{Header}
 use Rattle.pcap.specs.declared.header.Order.{Order}
 use Rattle.pcap.specs.declared.header.Order.TheVariants.{Little, Big}
@@ -24,7 +24,7 @@ pub record Stands (file : List ℕ) (h : Header) : Type 0 where
   pub accuracy : number_of h.order w32 (drop 12 file) ≡ h.accuracy
   pub snap_len : number_of h.order w32 (drop 16 file) ≡ h.snap_len
   pub link_field : number_of h.order w32 (drop 20 file) ≡ h.link_field
-  pub link : link_of (h.link_field % 2 ^ 16) ≡ Some h.link
+  pub link : link_type_of (h.link_field % 2 ^ 16) ≡ Some h.link
 
 reads_fields : (file : List ℕ) (h : Header) → Stands file h → header_of file ≡ Ok h
 unfolding header_of
@@ -34,10 +34,10 @@ reads_fields file h s =
 
 spelled : (o : Order) (r : Resolution) (z a s f : ℕ) (l : LinkType) (rest : List ℕ) → z < 2 ^ 32 → a < 2 ^ 32
     → s < 2 ^ 32 → f < 2 ^ 32
-    → link_of (f % 2 ^ 16) ≡ Some l
+    → link_type_of (f % 2 ^ 16) ≡ Some l
     → let h : Header =
     record { order = o; resolution = r; time_zone = z; accuracy = a; snap_len = s; link_field = f; link = l } in
-    Stands (header_bytes h ++ rest) h × (drop 24 (header_bytes h ++ rest) ≡ rest)
+    Stands (file_header_bytes h ++ rest) h × (drop 24 (file_header_bytes h ++ rest) ≡ rest)
 spelled Little Microseconds z a s f l rest fz fa fs ff fl = (
   record {
     long = omega arith;
@@ -96,15 +96,15 @@ spelled Big Nanoseconds z a s f l rest fz fa fs ff fl = (
 )
 
 pub header_again : (h : Header) (rest : List ℕ) → IsHeader h
-    → (header_of (header_bytes h ++ rest) ≡ Ok h) × (drop 24 (header_bytes h ++ rest) ≡ rest)
+    → (header_of (file_header_bytes h ++ rest) ≡ Ok h) × (drop 24 (file_header_bytes h ++ rest) ≡ rest)
 header_again h rest i =
     let s =
     spelled h.order h.resolution h.time_zone h.accuracy h.snap_len h.link_field h.link rest i.time_zone i.accuracy
     i.snap_len i.link_field i.link in
-    (reads_fields (header_bytes h ++ rest) h s.0, s.1)
+    (reads_fields (file_header_bytes h ++ rest) h s.0, s.1)
 
-pub spelled_reads : (w : Whole) → IsHeader w.header → AllByRecursion Fits w.records
-    → Reads (header_bytes w.header ++ records_bytes w.header.order w.records) (Ok w)
+pub spelled_reads : (w : Whole) → IsHeader w.header → AllByRecursion FitsFields w.records
+    → Reads (file_header_bytes w.header ++ records_bytes w.header.order w.records) (Ok w)
 spelled_reads w i f =
     let h = header_again w.header (records_bytes w.header.order w.records) i in
     (h.0, record { fit = f; bytes_are = h.1 })

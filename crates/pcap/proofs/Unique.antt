@@ -5,7 +5,7 @@ use Rattle.std.specs.List.{flat_map, AllByRecursion}
 use Rattle.std.proofs.lemmas.List.{take_at, drop_at, append-nil, length-append}
 use Rattle.std.proofs.lemmas.Nat.{from_le_bytes-to_le_bytes_4, from_be_bytes-to_be_bytes_4}
 use Rattle.pcap.specs.File.{number, number_of, header_of}
-use Rattle.pcap.specs.Records.{Captured, Fits, record_header, record_bytes, records_bytes, AreRecords, EndsEarly, IsCut, Whole, StopsIn, Reads}
+use Rattle.pcap.specs.Records.{Captured, FitsFields, record_header, record_bytes, records_bytes, AreRecords, EndsEarly, IsCut, Whole, StopsIn, Reads}
 use Rattle.pcap.specs.declared.fault.Fault.{Fault}
 use Rattle.pcap.specs.declared.fault.Why.{Why}
 use Rattle.pcap.specs.declared.fault.Why.TheVariants.{HeaderCut, BadMagic, BadVersion, BadLinkType, RecordCut, BytesCut}
@@ -84,7 +84,7 @@ record_len o r x =
     let d = ap length (parted o r x) in
     omega (arith, a, b, c, d)
 
-same_record : (o : Order) (r s : Captured) (x y : List ℕ) → Fits r → Fits s
+same_record : (o : Order) (r s : Captured) (x y : List ℕ) → FitsFields r → FitsFields s
     → record_bytes o r ++ x ≡ record_bytes o s ++ y → (r ≡ s) × (x ≡ y)
 same_record o r s x y f g e =
     let h =
@@ -97,7 +97,7 @@ same_record o r s x y f g e =
 
 -- no record begins what is cut
 pub no_record : (o : Order) (why : Why) (bytes : List ℕ) (at : ℕ) (r : Captured) (x : List ℕ) → IsCut why o bytes at
-    → Fits r → bytes ≡ record_bytes o r ++ x → ⊥
+    → FitsFields r → bytes ≡ record_bytes o r ++ x → ⊥
 no_record o RecordCut bytes at r x cut f e =
     let l : length bytes ≡ length (record_bytes o r ++ x) = ap length e in
     let k = record_len o r x in
@@ -118,7 +118,7 @@ no_record o BadLinkType bytes at r x cut f e = cut
 
 -- no record begins these bytes
 pub record NoRecord (o : Order) (bytes : List ℕ) : Type 0 where
-  pub none : (r : Captured) (x : List ℕ) → Fits r → bytes ≡ record_bytes o r ++ x → ⊥
+  pub none : (r : Captured) (x : List ℕ) → FitsFields r → bytes ≡ record_bytes o r ++ x → ⊥
 
 none_in_nothing : (o : Order) → NoRecord o []
 none_in_nothing o = record {
@@ -132,7 +132,8 @@ none_in_cut : (o : Order) (why : Why) (bytes : List ℕ) (at : ℕ) → IsCut wh
 none_in_cut o why bytes at cut = record { none = λ r x f e. no_record o why bytes at r x cut f e }
 
 -- two lists of records before what is no record
-same_records : (o : Order) (rs ss : List Captured) (x y : List ℕ) → AllByRecursion Fits rs → AllByRecursion Fits ss
+same_records : (o : Order) (rs ss : List Captured) (x y : List ℕ) → AllByRecursion FitsFields rs
+    → AllByRecursion FitsFields ss
     → NoRecord o x → NoRecord o y
     → records_bytes o rs ++ x ≡ records_bytes o ss ++ y → (rs ≡ ss) × (x ≡ y)
 same_records o [] [] x y f g p q e = (refl, e)

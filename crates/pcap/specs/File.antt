@@ -3,7 +3,7 @@
 use Rattle.std.specs.Prelude.{◌≡◌, ℕ, ◌+◌, ◌*◌, ◌%◌, ◌^◌, ◌<◌, ◌≤◌, ◌⊎◌, List, [], ◌∷◌, ◌++◌, length, drop, Option, Some, None, Result, Ok, Err, nat_lt, ◌==◌, ◌&&◌, if◌then◌else◌}
 use Rattle.std.specs.Int.{Width, w16, w32, to_le_bytes, to_be_bytes, from_le_bytes, from_be_bytes}
 use Rattle.std.specs.List.{flat_map, AllByRecursion}
-use Rattle.pcap.specs.Types.{link_of}
+use Rattle.pcap.specs.Types.{link_type_of}
 use Rattle.pcap.specs.declared.link_type.LinkType.{LinkType}
 use Rattle.pcap.specs.declared.link_type.LinkType.TheVariants.{Ipv4}
 use Rattle.pcap.specs.declared.fault.Fault.{Fault}
@@ -16,9 +16,9 @@ use Rattle.pcap.specs.declared.header.Resolution.{Resolution}
 use Rattle.pcap.specs.declared.header.Resolution.TheVariants.{Microseconds, Nanoseconds}
 
 -- what a function answered, seen by view, is this
-abbrev pub Gives : {X Y E : Type 0} → (X → Y) → Result X E → Result Y E → Type 0
-Gives view (Ok x) answer = answer ≡ Ok (view x)
-Gives view (Err e) answer = answer ≡ Err e
+abbrev pub AnswersBy : {X Y E : Type 0} → (X → Y) → Result X E → Result Y E → Type 0
+AnswersBy view (Ok x) answer = answer ≡ Ok (view x)
+AnswersBy view (Err e) answer = answer ≡ Err e
 
 -- the bytes of a number, in either order
 abbrev pub number : Order → Width → ℕ → List ℕ
@@ -62,7 +62,7 @@ abbrev pub version_of : Option (Order × Resolution) → List ℕ → Result Hea
 version_of None file = Err (fault BadMagic 0)
 version_of (Some m) file =
     if (number_of m.0 w16 (drop 4 file) == 2) && (number_of m.0 w16 (drop 6 file) == 4)
-    then fields_of m.0 m.1 (link_of (number_of m.0 w32 (drop 20 file) % 2 ^ 16)) file
+    then fields_of m.0 m.1 (link_type_of (number_of m.0 w32 (drop 20 file) % 2 ^ 16)) file
     else Err (fault BadVersion 4)
 
 -- what the header of a file says, or the first fault in it
@@ -78,8 +78,8 @@ magic Microseconds = 0xa1b2c3d4
 magic Nanoseconds = 0xa1b23c4d
 
 -- the 24 bytes of a header: the magic number, the version, and the other fields
-abbrev pub header_bytes : Header → List ℕ
-header_bytes h =
+abbrev pub file_header_bytes : Header → List ℕ
+file_header_bytes h =
     number h.order w32 (magic h.resolution) ++ number h.order w16 2 ++ number h.order w16 4
     ++ number h.order w32 h.time_zone
     ++ number h.order w32 h.accuracy ++ number h.order w32 h.snap_len ++ number h.order w32 h.link_field
@@ -90,7 +90,7 @@ pub record IsHeader (h : Header) : Type 0 where
   pub accuracy : h.accuracy < 2 ^ 32
   pub snap_len : h.snap_len < 2 ^ 32
   pub link_field : h.link_field < 2 ^ 32
-  pub link : link_of (h.link_field % 2 ^ 16) ≡ Some h.link
+  pub link : link_type_of (h.link_field % 2 ^ 16) ≡ Some h.link
 
 -- the header of each file that is written
 abbrev pub our_header : Header

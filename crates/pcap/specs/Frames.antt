@@ -58,14 +58,14 @@ by_version [] = Err FrameCut
 by_version (b ∷ bs) = if b / 16 == 4 then Ok (unpadded (b ∷ bs)) else Err (OtherVersion (b / 16))
 
 -- the IPv4 packet in a frame of a link type, or why there is none
-abbrev pub packet_of : LinkType → List ℕ → Result (List ℕ) NoPacket
-packet_of Ethernet frame = by_protocol 12 14 frame
-packet_of LinuxCooked frame = by_protocol 14 16 frame
-packet_of LinuxCooked2 frame = by_protocol 0 20 frame
-packet_of Null frame = by_family host_family frame
-packet_of Loop frame = by_family (number_of Big w32) frame
-packet_of Raw frame = by_version frame
-packet_of Ipv4 frame = Ok (unpadded frame)
+abbrev pub packet_in_frame : LinkType → List ℕ → Result (List ℕ) NoPacket
+packet_in_frame Ethernet frame = by_protocol 12 14 frame
+packet_in_frame LinuxCooked frame = by_protocol 14 16 frame
+packet_in_frame LinuxCooked2 frame = by_protocol 0 20 frame
+packet_in_frame Null frame = by_family host_family frame
+packet_in_frame Loop frame = by_family (number_of Big w32) frame
+packet_in_frame Raw frame = by_version frame
+packet_in_frame Ipv4 frame = Ok (unpadded frame)
 
 -- ---- frames as they are written
 
@@ -83,13 +83,14 @@ IsTagged bytes carried =
     ⊎ ((a b c d : ℕ) × (bytes ≡ 0x88 ∷ 0xa8 ∷ a ∷ b ∷ 0x81 ∷ 0 ∷ c ∷ d ∷ 8 ∷ 0 ∷ carried))
 
 -- the frame of a link type carries these bytes as IPv4
-abbrev pub Carries : LinkType → List ℕ → List ℕ → Type 0
-Carries Ethernet frame carried =
+abbrev pub CarriesIpv4 : LinkType → List ℕ → List ℕ → Type 0
+CarriesIpv4 Ethernet frame carried =
     (addresses behind : List ℕ) × (length addresses ≡ 12) × IsTagged behind carried × (frame ≡ addresses ++ behind)
-Carries LinuxCooked frame carried =
+CarriesIpv4 LinuxCooked frame carried =
     (front behind : List ℕ) × (length front ≡ 14) × IsTagged behind carried × (frame ≡ front ++ behind)
-Carries LinuxCooked2 frame carried = (others : List ℕ) × (length others ≡ 18) × (frame ≡ 8 ∷ 0 ∷ (others ++ carried))
-Carries Null frame carried = (frame ≡ 2 ∷ 0 ∷ 0 ∷ 0 ∷ carried) ⊎ (frame ≡ 0 ∷ 0 ∷ 0 ∷ 2 ∷ carried)
-Carries Loop frame carried = frame ≡ 0 ∷ 0 ∷ 0 ∷ 2 ∷ carried
-Carries Raw frame carried = frame ≡ carried
-Carries Ipv4 frame carried = frame ≡ carried
+CarriesIpv4 LinuxCooked2 frame carried =
+    (others : List ℕ) × (length others ≡ 18) × (frame ≡ 8 ∷ 0 ∷ (others ++ carried))
+CarriesIpv4 Null frame carried = (frame ≡ 2 ∷ 0 ∷ 0 ∷ 0 ∷ carried) ⊎ (frame ≡ 0 ∷ 0 ∷ 0 ∷ 2 ∷ carried)
+CarriesIpv4 Loop frame carried = frame ≡ 0 ∷ 0 ∷ 0 ∷ 2 ∷ carried
+CarriesIpv4 Raw frame carried = frame ≡ carried
+CarriesIpv4 Ipv4 frame carried = frame ≡ carried

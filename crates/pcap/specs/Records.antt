@@ -19,7 +19,7 @@ pub record Captured : Type 0 where
   pub bytes : List ℕ
 
 -- the numbers of a record fit their fields
-pub record Fits (r : Captured) : Type 0 where
+pub record FitsFields (r : Captured) : Type 0 where
   pub seconds : r.seconds < 2 ^ 32
   pub fraction : r.fraction < 2 ^ 32
   pub captured : length r.bytes < 2 ^ 32
@@ -39,7 +39,7 @@ records_bytes o rs = flat_map (record_bytes o) rs
 
 -- these bytes are these records
 pub record AreRecords (o : Order) (bytes : List ℕ) (rs : List Captured) : Type 0 where
-  pub fit : AllByRecursion Fits rs
+  pub fit : AllByRecursion FitsFields rs
   pub bytes_are : bytes ≡ records_bytes o rs
 
 -- these bytes begin with a record's header, and then the file ends before the record does
@@ -65,15 +65,15 @@ IsCut _ o bytes at = ⊥
 -- ---- a reader, and its steps
 
 -- a reader: the header, the bytes that it has left, and how far into the file they begin
-pub record Reading : Type 0 where
+pub record RecordReading : Type 0 where
   pub header : Header
   pub offset : ℕ
   pub rest : List ℕ
 
 -- a step of a reader, from old to new: no record is left, or the next one, or why there is none
-abbrev pub Steps : Reading → Reading → Result (Option Captured) Fault → Type 0
+abbrev pub Steps : RecordReading → RecordReading → Result (Option Captured) Fault → Type 0
 Steps old new (Ok None) = (old.rest ≡ []) × (new ≡ old)
-Steps old new (Ok (Some r)) = Fits r × (old.rest ≡ record_bytes old.header.order r ++ new.rest)
+Steps old new (Ok (Some r)) = FitsFields r × (old.rest ≡ record_bytes old.header.order r ++ new.rest)
     × (new.offset ≡ old.offset + length (record_bytes old.header.order r)) × (new.header ≡ old.header)
 Steps old new (Err f) =
     ((at : ℕ) × (f.offset ≡ old.offset + at) × IsCut f.why old.header.order old.rest at) × (new ≡ old)
@@ -91,7 +91,7 @@ pub record StopsIn (file : List ℕ) (f : Fault) : Type 0 where
   pub rest : List ℕ
   pub at : ℕ
   pub read : header_of file ≡ Ok header
-  pub fit : AllByRecursion Fits records
+  pub fit : AllByRecursion FitsFields records
   pub bytes_are : drop 24 file ≡ records_bytes header.order records ++ rest
   pub offset_is : f.offset ≡ 24 + length (records_bytes header.order records) + at
   pub cut : IsCut f.why header.order rest at

@@ -22,7 +22,7 @@ abbrev pub whole : Capture → Whole
 whole c = record { header = c.header; records = map captured c.records.items }
 
 -- what was answered is so, unless memory ran out
-abbrev pub Answers : Result Capture ReadError → (Result Whole Fault → Type 0) → Type 0
-Answers (Ok c) P = P (Ok (whole c))
-Answers (Err errors.Memory) P = Unit {0}
-Answers (Err (errors.Fault f)) P = P (Err f)
+abbrev pub AnswersUnlessMemory : Result Capture ReadError → (Result Whole Fault → Type 0) → Type 0
+AnswersUnlessMemory (Ok c) P = P (Ok (whole c))
+AnswersUnlessMemory (Err errors.Memory) P = Unit {0}
+AnswersUnlessMemory (Err (errors.Fault f)) P = P (Err f)

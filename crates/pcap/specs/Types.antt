@@ -4,8 +4,8 @@ use Rattle.pcap.specs.declared.link_type.LinkType.{LinkType}
 use Rattle.pcap.specs.declared.link_type.LinkType.TheVariants.{Null, Ethernet, Raw, Loop, LinuxCooked, Ipv4, LinuxCooked2}
 
 -- the link type of a number
-abbrev pub link_of : ℕ → Option LinkType
-link_of n =
+abbrev pub link_type_of : ℕ → Option LinkType
+link_type_of n =
     if n == 0 then Some Null else
     if n == 1 then Some Ethernet else
     if n == 12 then Some Raw else

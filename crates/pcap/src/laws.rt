@@ -1,10 +1,10 @@
 //! Laws of the definitions, for callers to cite: each is the contract of a function that does nothing.
 ghost use Rattle.std.specs.Prelude.{◌≡◌, ◌++◌, List, ℕ, Ok, Result, drop};
 ghost use Rattle.std.specs.List.{AllByRecursion};
-ghost use Rattle.pcap.specs.File.{IsHeader, header_bytes, header_of};
-ghost use Rattle.pcap.specs.Frames.{Carries, IsPacket, packet_of};
+ghost use Rattle.pcap.specs.File.{IsHeader, file_header_bytes, header_of};
+ghost use Rattle.pcap.specs.Frames.{CarriesIpv4, IsPacket, packet_in_frame};
 ghost use Rattle.pcap.specs.declared.link_type.LinkType.{LinkType};
-ghost use Rattle.pcap.specs.Records.{Captured, Fits, Reads, Whole, records_bytes};
+ghost use Rattle.pcap.specs.Records.{Captured, FitsFields, Reads, Whole, records_bytes};
 ghost use Rattle.pcap.specs.declared.header.Header.{Header};
 ghost use Rattle.pcap.specs.declared.fault.Fault.{Fault};
 
@@ -12,14 +12,14 @@ ghost use Rattle.pcap.specs.declared.fault.Fault.{Fault};
 #[tactic(auto, using(crate::proofs::Headers::header_again))]
 pub fn headers_are_read()
     ensures { (h : Header) (rest : List ℕ) → IsHeader h
-        → (header_of (header_bytes h ++ rest) ≡ Ok h) × (drop 24 (header_bytes h ++ rest) ≡ rest) }
+        → (header_of (file_header_bytes h ++ rest) ≡ Ok h) × (drop 24 (file_header_bytes h ++ rest) ≡ rest) }
 {}
 
 /// A header and records as the format spells them read as these and no others, by `one_reading`.
 #[tactic(auto, using(crate::proofs::Headers::spelled_reads))]
 pub fn written_is_read()
-    ensures { (w : Whole) → IsHeader w.header → AllByRecursion Fits w.records
-        → Reads (header_bytes w.header ++ records_bytes w.header.order w.records) (Ok w) }
+    ensures { (w : Whole) → IsHeader w.header → AllByRecursion FitsFields w.records
+        → Reads (file_header_bytes w.header ++ records_bytes w.header.order w.records) (Ok w) }
 {}
 
 /// A file reads in one way: as one header with one list of records, or with one fault.
@@ -33,5 +33,5 @@ pub fn one_reading()
 #[tactic(auto, using(crate::proofs::Framed::carried))]
 pub fn frames_hold_packets()
     ensures { (link : LinkType) (frame packet padding : List ℕ) → IsPacket packet
-        → Carries link frame (packet ++ padding) → packet_of link frame ≡ Ok packet }
+        → CarriesIpv4 link frame (packet ++ padding) → packet_in_frame link frame ≡ Ok packet }
 {}

@@ -1,9 +1,9 @@
 //! The IPv4 packet in a frame.
 ghost use Rattle.std.specs.Prelude.{◌≡◌, ◌+◌, ◌≤◌, length};
 ghost use Rattle.std.specs.Int.{w32};
-ghost use Rattle.pcap.specs.File.{Gives, number_of};
+ghost use Rattle.pcap.specs.File.{AnswersBy, number_of};
 ghost use Rattle.pcap.specs.declared.header.Order.TheVariants.{Big};
-ghost use Rattle.pcap.specs.Frames.{behind, by_family, by_protocol, by_version, host_family, packet_of, unpadded, untagged};
+ghost use Rattle.pcap.specs.Frames.{behind, by_family, by_protocol, by_version, host_family, packet_in_frame, unpadded, untagged};
 
 use crate::link_type::LinkType;
 use byteorder::{BigEndian, ByteOrder, LittleEndian};
@@ -57,7 +57,7 @@ fn without_padding(bytes: &[u8]) -> &[u8]
 
 /// A protocol and the bytes behind it, with one VLAN tag taken off if there is one.
 fn without_tag(protocol: u16, rest: &[u8]) -> Result<(u16, &[u8]), NoPacket>
-    ensures { Gives (λ x. (x.0, x.1.now)) result (untagged protocol rest.now) }
+    ensures { AnswersBy (λ x. (x.0, x.1.now)) result (untagged protocol rest.now) }
 {
     if protocol != VLAN && protocol != OUTER_VLAN {
         return Ok((protocol, rest));
@@ -71,7 +71,7 @@ fn without_tag(protocol: u16, rest: &[u8]) -> Result<(u16, &[u8]), NoPacket>
 /// The packet behind a protocol and at most two tags.
 #[tactic(auto, unfolding(crate::specs::Frames::behind))]
 fn behind_protocol(protocol: u16, rest: &[u8]) -> Result<&[u8], NoPacket>
-    ensures { Gives (λ p. p.now) result (behind protocol rest.now) }
+    ensures { AnswersBy (λ p. p.now) result (behind protocol rest.now) }
 {
     let (protocol, rest) = without_tag(protocol, rest)?;
     let (protocol, rest) = without_tag(protocol, rest)?;
@@ -84,7 +84,7 @@ fn behind_protocol(protocol: u16, rest: &[u8]) -> Result<&[u8], NoPacket>
 /// The packet of a frame whose protocol stands at `at`, in a header of so many bytes.
 fn in_frame(frame: &[u8], at: usize, header: usize) -> Result<&[u8], NoPacket>
     requires { at + 2 ≤ header }
-    ensures { Gives (λ p. p.now) result (by_protocol at header frame.now) }
+    ensures { AnswersBy (λ p. p.now) result (by_protocol at header frame.now) }
 {
     if frame.len() < header {
         return Err(NoPacket::FrameCut);
@@ -94,7 +94,7 @@ fn in_frame(frame: &[u8], at: usize, header: usize) -> Result<&[u8], NoPacket>
 
 /// The packet behind a family that some host wrote.
 fn behind_host_family(frame: &[u8]) -> Result<&[u8], NoPacket>
-    ensures { Gives (λ p. p.now) result (by_family host_family frame.now) }
+    ensures { AnswersBy (λ p. p.now) result (by_family host_family frame.now) }
 {
     if frame.len() < 4 {
         return Err(NoPacket::FrameCut);
@@ -111,7 +111,7 @@ fn behind_host_family(frame: &[u8]) -> Result<&[u8], NoPacket>
 
 /// The packet behind a family with its high byte first.
 fn behind_family(frame: &[u8]) -> Result<&[u8], NoPacket>
-    ensures { Gives (λ p. p.now) result (by_family (number_of Big w32) frame.now) }
+    ensures { AnswersBy (λ p. p.now) result (by_family (number_of Big w32) frame.now) }
 {
     if frame.len() < 4 {
         return Err(NoPacket::FrameCut);
@@ -125,7 +125,7 @@ fn behind_family(frame: &[u8]) -> Result<&[u8], NoPacket>
 
 /// A packet that is told by its version.
 fn of_version(frame: &[u8]) -> Result<&[u8], NoPacket>
-    ensures { Gives (λ p. p.now) result (by_version frame.now) }
+    ensures { AnswersBy (λ p. p.now) result (by_version frame.now) }
 {
     match frame {
         [] => Err(NoPacket::FrameCut),
@@ -140,7 +140,7 @@ fn of_version(frame: &[u8]) -> Result<&[u8], NoPacket>
 /// there in the place of IPv4: `OtherProtocol` (Ethernet and Linux cooked), `OtherFamily` (Null and Loop) or
 /// `OtherVersion` (Raw).
 pub fn ipv4_packet(link: LinkType, frame: &[u8]) -> Result<&[u8], NoPacket>
-    ensures { Gives (λ p. p.now) result (packet_of link frame.now) }
+    ensures { AnswersBy (λ p. p.now) result (packet_in_frame link frame.now) }
 {
     match link {
         LinkType::Ethernet => in_frame(frame, 12, 14),

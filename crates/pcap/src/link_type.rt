@@ -1,6 +1,6 @@
 //! The link types that the reader takes.
 ghost use Rattle.std.specs.Prelude.{◌≡◌};
-ghost use Rattle.pcap.specs.Types.{link_of};
+ghost use Rattle.pcap.specs.Types.{link_type_of};
 
 /// What the bytes of a record are (tcpdump.org/linktypes.html).
 #[derive(Clone, Copy, Debug, PartialEq, Eq)]
@@ -24,7 +24,7 @@ pub enum LinkType {
 impl LinkType {
     /// The link type of a number, or `None` for one that isn't taken.
     pub fn of(number: u16) -> Option<LinkType>
-        ensures { result ≡ link_of number }
+        ensures { result ≡ link_type_of number }
     {
         match number {
             0 => Some(LinkType::Null),

@@ -1,9 +1,9 @@
 //! Files read, record by record or whole.
 ghost use Rattle.std.specs.Prelude.{◌≡◌, ◌+◌, ◌*◌, ◌^◌, ◌<◌, ◌≤◌, ◌++◌, ℕ, drop, length, IfOk, IfErr, OnErr, Result};
 ghost use Rattle.std.specs.Int.{w32};
-ghost use Rattle.pcap.specs.File.{Gives, header_of, number_of};
-ghost use Rattle.pcap.specs.Records.{Captured, Fits, IsCut, Reads, Steps, Whole, Reading, nanoseconds, record_bytes};
-ghost use Rattle.pcap.specs.Seen.{Answers, captured, stepped};
+ghost use Rattle.pcap.specs.File.{AnswersBy, header_of, number_of};
+ghost use Rattle.pcap.specs.Records.{Captured, FitsFields, IsCut, Reads, Steps, Whole, RecordReading, nanoseconds, record_bytes};
+ghost use Rattle.pcap.specs.Seen.{AnswersUnlessMemory, captured, stepped};
 ghost use Rattle.pcap.specs.declared.fault.Fault.{Fault};
 
 use crate::fault::{Fault, ReadError, Why};
@@ -39,9 +39,9 @@ pub struct Reader<'a> {
 
 impl<'a> Model for Reader<'a> {
     ghost use Rattle.std.specs.Prelude.{◌-◌, ◌≤◌, length};
-    ghost use Rattle.pcap.specs.Records.{Reading};
+    ghost use Rattle.pcap.specs.Records.{RecordReading};
 
-    ghost Value = { Reading };
+    ghost Value = { RecordReading };
 
     ghost view = { λ r. record { header = r.header; offset = r.file_len - length r.rest.now; rest = r.rest.now } };
 
@@ -68,7 +68,7 @@ pub fn captured_len(order: Order, bytes: &[u8]) -> usize
 /// header's 16 bytes, and with `BytesCut` if there are fewer than the header says, by the offset in these bytes.
 pub fn first_record(order: Order, bytes: &[u8]) -> Result<(Record<'_>, &[u8]), Fault>
     requires { 0 < length bytes.now }
-    ensures fits { IfOk result (λ r. Fits (captured r.0)) }
+    ensures fits { IfOk result (λ r. FitsFields (captured r.0)) }
     ensures spelled { IfOk result (λ r. bytes.now ≡ record_bytes order (captured r.0) ++ r.1.now) }
     ensures sized { IfOk result (λ r. length bytes.now ≡ 16 + number_of order w32 (drop 8 bytes.now) + length r.1.now) }
     ensures cut { IfErr result (λ f. IsCut f.why order bytes.now f.offset) }
@@ -102,7 +102,7 @@ impl<'a> Reader<'a> {
     /// Opens a file, of which all bytes are given. Refused with the first fault of its header: `HeaderCut`, `BadMagic`,
     /// `BadVersion`, `BadLinkType`.
     pub fn open(file: &'a [u8]) -> Result<Reader<'a>, Fault>
-        ensures header { Gives (λ r. r.header) result (header_of file.now) }
+        ensures header { AnswersBy (λ r. r.header) result (header_of file.now) }
         ensures start { IfOk result (λ r. (r.offset ≡ 24) × (r.rest ≡ drop 24 file.now)) }
     {
         let header = read_header(file)?;
@@ -161,7 +161,7 @@ impl Header {
 
 /// What is read of a whole file.
 fn read_all<'a>(alloc: Global, file: &'a [u8]) -> Result<Capture<'a>, ReadError>
-    ensures { Answers result (Reads file.now) }
+    ensures { AnswersUnlessMemory result (Reads file.now) }
 {
     let mut reader = Reader::open(file)?;
     let mut records = Vec::new(alloc);
@@ -177,9 +177,9 @@ fn read_all<'a>(alloc: Global, file: &'a [u8]) -> Result<Capture<'a>, ReadError>
 /// Reads a whole file. Refused with its first fault, or `Memory`.
 #[tactic(auto, using(crate::proofs::Answered::only_one))]
 pub fn read<'a>(alloc: Global, file: &'a [u8]) -> Result<Capture<'a>, ReadError>
-    ensures found { Answers result (Reads file.now) }
+    ensures found { AnswersUnlessMemory result (Reads file.now) }
     ensures only { (outcome : Result Whole Fault) → Reads file.now outcome
-        → Answers result (λ answer. answer ≡ outcome) }
+        → AnswersUnlessMemory result (λ answer. answer ≡ outcome) }
 {
     read_all(alloc, file)
 }

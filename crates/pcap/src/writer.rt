@@ -1,6 +1,6 @@
 //! The headers of files that are written: that of the file, and that of each packet.
 ghost use Rattle.std.specs.Prelude.{◌≡◌};
-ghost use Rattle.pcap.specs.File.{header_bytes, our_header};
+ghost use Rattle.pcap.specs.File.{file_header_bytes, our_header};
 ghost use Rattle.pcap.specs.Records.{record_header};
 ghost use Rattle.pcap.specs.declared.header.Order.TheVariants.{Little};
 
@@ -21,7 +21,7 @@ const LINK_IPV4: u32 = 228;
 /// The header of each file that is written: little endian, version 2.4, microseconds, time zone and accuracy 0,
 /// snapshot length 65,535, link type IPV4 (228).
 pub fn file_header() -> [u8; 24]
-    ensures { result ≡ header_bytes our_header }
+    ensures { result ≡ file_header_bytes our_header }
 {
     let mut header = [0; 24];
     LittleEndian::write_u32(&mut header, MAGIC);

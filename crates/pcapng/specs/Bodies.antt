@@ -2,7 +2,7 @@
 use Rattle.std.specs.Prelude.{ℕ, zero, suc, ◌+◌, ◌-◌, ◌*◌, ◌/◌, ◌^◌, List, length, take, drop, get_or, Result, Ok, Err, nat_lt, not, ◌==◌, ◌&&◌, ◌||◌, if◌then◌else◌}
 use Rattle.std.specs.Int.{w16, w32}
 use Rattle.pcap.specs.File.{number_of}
-use Rattle.pcap.specs.Types.{link_of}
+use Rattle.pcap.specs.Types.{link_type_of}
 use Rattle.pcap.specs.declared.header.Order.{Order}
 use Rattle.pcapng.specs.declared.body.Section.{Section}
 use Rattle.pcapng.specs.declared.body.Interface.{Interface}
@@ -55,7 +55,7 @@ abbrev pub with_ticks : Order → List ℕ → Result ℕ BodyFault → Result I
 with_ticks o body (Err f) = Err f
 with_ticks o body (Ok ticks) = Ok (record {
   link_number = number_of o w16 body;
-  link = link_of (number_of o w16 body);
+  link = link_type_of (number_of o w16 body);
   snap_len = number_of o w32 (drop 4 body);
   ticks_per_second = ticks;
 })

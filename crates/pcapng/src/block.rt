@@ -1,6 +1,6 @@
 //! Blocks, one after the other.
 ghost use Rattle.std.specs.Prelude.{◌≡◌, ◌+◌, ◌<◌, ◌≤◌, ◌^◌, ◌++◌, None, Ok, IfOk, IfErr, length};
-ghost use Rattle.pcap.specs.File.{Gives};
+ghost use Rattle.pcap.specs.File.{AnswersBy};
 ghost use Rattle.pcapng.specs.Blocks.{Reading, Steps, block_bytes, head_of, next_of, order_at, size};
 ghost use Rattle.pcapng.specs.Seen.{part, stepped};
 
@@ -101,7 +101,7 @@ pub fn block_head(current: Option<Order>, bytes: &[u8]) -> Result<(Order, usize)
 /// the block, by the offset in these bytes.
 #[tactic(auto, unfolding(crate::specs::Blocks::next_of, crate::specs::Blocks::head_of))]
 pub fn first_block(current: Option<Order>, bytes: &[u8]) -> Result<(Block<'_>, &[u8]), Fault>
-    ensures found { Gives (λ r. part r.0) result (next_of current bytes.now) }
+    ensures found { AnswersBy (λ r. part r.0) result (next_of current bytes.now) }
     ensures spelled { IfOk result (λ r. bytes.now ≡ block_bytes (part r.0) ++ r.1.now) }
     ensures sized { IfOk result (λ r. length bytes.now ≡ size (part r.0) + length r.1.now) }
     ensures headed { IfOk result (λ r. head_of current bytes.now ≡ Ok (r.0.order, size (part r.0))) }

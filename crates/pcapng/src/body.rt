@@ -1,6 +1,6 @@
 //! What the bodies of blocks say.
 ghost use Rattle.std.specs.Prelude.{◌≡◌, ◌+◌, ◌≤◌, IfOk, drop, length, take};
-ghost use Rattle.pcap.specs.File.{Gives};
+ghost use Rattle.pcap.specs.File.{AnswersBy};
 ghost use Rattle.pcapng.specs.Bodies.{enhanced_in, interface_in, plain_in, passed, section_in, ticks_by, ticks_said};
 ghost use Rattle.pcapng.specs.Seen.{enhanced, plain};
 
@@ -75,7 +75,7 @@ const MICROSECONDS: u64 = 1_000_000;
 
 /// What stands behind the first option, if another may say the ticks of a second; else what the options say.
 fn pass_option(order: Order, options: &[u8]) -> Result<&[u8], Result<u64, BodyFault>>
-    ensures { Gives (λ r. r.now) result (passed order options.now) }
+    ensures { AnswersBy (λ r. r.now) result (passed order options.now) }
 {
     if options.len() < 4 {
         return Err(Ok(MICROSECONDS));
@@ -153,7 +153,7 @@ impl<'a> Block<'a> {
 
     /// What the body says as an enhanced packet. Refused with `BodyCut`.
     pub fn enhanced_packet(&self) -> Result<EnhancedPacket<'a>, BodyFault>
-        ensures found { Gives enhanced result (enhanced_in self.now.order self.now.body.now) }
+        ensures found { AnswersBy enhanced result (enhanced_in self.now.order self.now.body.now) }
         ensures place { IfOk result (λ p. p.bytes.now ≡ take (length p.bytes.now) (drop 20 self.now.body.now)) }
         ensures inside { IfOk result (λ p. 20 + length p.bytes.now ≤ length self.now.body.now) }
     {
@@ -177,7 +177,7 @@ impl<'a> Block<'a> {
     /// What the body says as a simple packet, if the section's first interface keeps so many bytes. Refused with
     /// `BodyCut`.
     pub fn simple_packet(&self, snap_len: u32) -> Result<SimplePacket<'a>, BodyFault>
-        ensures found { Gives plain result (plain_in snap_len self.now.order self.now.body.now) }
+        ensures found { AnswersBy plain result (plain_in snap_len self.now.order self.now.body.now) }
         ensures place { IfOk result (λ p. p.bytes.now ≡ take (length p.bytes.now) (drop 4 self.now.body.now)) }
         ensures inside { IfOk result (λ p. 4 + length p.bytes.now ≤ length self.now.body.now) }
     {

@@ -41,6 +41,7 @@ pub exact_not : (q : LookupKey) (bs : List Block) (b : Block) → best_block q b
 exact_not q bs b e some = go (youngest_block 0 q bs) refl e
   where
     go : (o : Option Block) → youngest_block 0 q bs ≡ o
-        → option_or o (option_or (youngest_block 1 q bs) (youngest_block 2 q bs)) ≡ Some b → youngest_block 0 q bs ≡ None
+        → option_or o (option_or (youngest_block 1 q bs) (youngest_block 2 q bs)) ≡ Some b
+        → youngest_block 0 q bs ≡ None
     go None is e = is
     go (Some c) is e = absurd (some (score_of 0 q bs b (is ∙ e)))

@@ -20,9 +20,9 @@ use Rattle.pcb_table.specs.declared.block.Connection.{Connection}
 use Rattle.pcb_table.specs.declared.interface.Interface.{Interface}
 use Rattle.pcb_table.specs.Table.{Queues, IsDescriptor, block_at, machine, packet_key, socket_with}
 use Rattle.pcb_table.specs.Found.{ChecksDestination, EnsuresPort, Finds, FindsAll, SendsFrom}
-use Rattle.pcb_table.specs.Inside.Search.{best_block, youngest_block, hearing_blocks, block_connect_faults, config_of, GivesPort}
+use Rattle.pcb_table.specs.Inside.Search.{best_block, youngest_block, hearing_blocks, block_connect_faults, interface_config, GivesPort}
 use Rattle.pcb_table.specs.Apart.{does_match, plain, AreApart, has_fd}
-use Rattle.pcb_table.specs.Inside.Fields.{IsCached, IsLowestFree}
+use Rattle.pcb_table.specs.Inside.Fields.{IsCached, IsLowestUnused}
 use Rattle.pcb_table.specs.Inside.Changed.{unbound_block}
 use Rattle.pcb_table.proofs.Descriptors.{named_times, up_to_few, filter_few}
 use Rattle.pcb_table.proofs.Keeping.{addr_same, cached_is_best}
@@ -94,15 +94,16 @@ cached_best bs cache k ip port source apart cached is e =
 
 module _ (i : Interface) (bs : List Block) (last : Option ℕ) (fd : ℕ) (b : Block) (at : find (has_fd fd) bs ≡ Some b)
   where
-    pub sends_from : (ip source : ℕ) → source ≡ source_for (config_of i) (plain b) ip
+    pub sends_from : (ip source : ℕ) → source ≡ source_for (interface_config i) (plain b) ip
         → SendsFrom (table_of i bs last) fd ip source
     sends_from ip source e rest queues c found =
         let same : b ≡ c = same_Some b c (sym at ∙ found) in
-        e ∙ ap (λ (d : Block). source_for (config_of i) (plain d) ip) same
+        e ∙ ap (λ (d : Block). source_for (interface_config i) (plain d) ip) same
 
     abbrev destination_faults : (a : Addr) (c : Block) → List (Bool × Errno)
     destination_faults a c =
-        (is_some c.peer, IsConnected) ∷ block_connect_faults (config_of i) bs c (read_addr (config_of i) a)
+        (is_some c.peer, IsConnected) ∷ block_connect_faults (interface_config i) bs c
+        (read_addr (interface_config i) a)
 
     faults_are : (a : Addr) (rest : State) (queues : Queues) (c : Block) → block_at fd (table_of i bs last) ≡ Some c
         → first_fault (address_faults (machine rest queues (table_of i bs last)) (socket_with queues c) (Some a))
@@ -110,7 +111,7 @@ module _ (i : Interface) (bs : List Block) (last : Option ℕ) (fd : ℕ) (b : B
     faults_are a rest queues c found =
         let same : c ≡ b = same_Some c b (sym found ∙ at) in
         ap (λ (fs : List (Bool × Errno)). first_fault ((is_some c.peer, IsConnected) ∷ fs))
-        (connect_faults-blocks rest queues (table_of i bs last) c (read_addr (config_of i) a))
+        (connect_faults-blocks rest queues (table_of i bs last) c (read_addr (interface_config i) a))
         ∙ ap (λ (d : Block). first_fault (destination_faults a d)) same
 
     pub checks_connected : (a : Addr) → is_some b.peer ≡ true
@@ -118,16 +119,16 @@ module _ (i : Interface) (bs : List Block) (last : Option ℕ) (fd : ℕ) (b : B
     checks_connected a e rest queues c found =
         faults_are a rest queues c found
         ∙ ap (λ t. cond t (Some IsConnected)
-        (first_fault (block_connect_faults (config_of i) bs b (read_addr (config_of i) a)))) e
+        (first_fault (block_connect_faults (interface_config i) bs b (read_addr (interface_config i) a)))) e
 
     pub checks_refused : (a : Addr) (errno : Errno) → is_some b.peer ≡ false
-        → first_fault (block_connect_faults (config_of i) bs b (read_addr (config_of i) a)) ≡ Some errno
+        → first_fault (block_connect_faults (interface_config i) bs b (read_addr (interface_config i) a)) ≡ Some errno
         → ChecksDestination (table_of i bs last) fd a (Err errno)
     checks_refused a errno e fault rest queues c found =
         faults_are a rest queues c found ∙ (λ j. cond (e j) (Some IsConnected) (fault j))
 
-    pub checks_passed : (a to : Addr) → is_some b.peer ≡ false → to ≡ read_addr (config_of i) a
-        → first_fault (block_connect_faults (config_of i) bs b (read_addr (config_of i) a)) ≡ None
+    pub checks_passed : (a to : Addr) → is_some b.peer ≡ false → to ≡ read_addr (interface_config i) a
+        → first_fault (block_connect_faults (interface_config i) bs b (read_addr (interface_config i) a)) ≡ None
         → ChecksDestination (table_of i bs last) fd a (Ok to)
     checks_passed a to e is none rest queues c found =
         (faults_are a rest queues c found ∙ (λ j. cond (e j) (Some IsConnected) (none j)), is)
@@ -152,7 +153,7 @@ module _ (i : Interface) (bs : List Block) (last : Option ℕ) (fd : ℕ) (b : B
 
 -- ---- a new socket
 
-pub opens : (i : Interface) (bs new : List Block) (last : Option ℕ) (fd : ℕ) → length bs < 64 → IsLowestFree bs fd
+pub opens : (i : Interface) (bs new : List Block) (last : Option ℕ) (fd : ℕ) → length bs < 64 → IsLowestUnused bs fd
     → new ≡ unbound_block fd ∷ bs
     → (rest : State) (queues : Queues) → queues fd ≡ []
     → Opens 64 (machine rest queues (table_of i bs last)) (Opened fd) (machine rest queues (table_of i new last))

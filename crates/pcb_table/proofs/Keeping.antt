@@ -16,7 +16,7 @@ use Rattle.pcb_table.specs.declared.block.Block.{Block}
 use Rattle.pcb_table.specs.declared.block.Connection.{Connection}
 use Rattle.pcb_table.specs.Inside.Search.{youngest_block, best_block, key_port, GivesPort, block_bind_faults, block_connect_faults}
 use Rattle.pcb_table.specs.Apart.{does_match, has_score, plain, has_fd, four, has_four, lacks_port, AreApart}
-use Rattle.pcb_table.specs.Inside.Fields.{is_connected_as, IsLocated, IsCached, IsLowestFree}
+use Rattle.pcb_table.specs.Inside.Fields.{is_connected_as, IsLocated, IsCached, IsLowestUnused}
 use Rattle.pcb_table.specs.Inside.Changed.{unbound_block, block_with_option, bound_block, connected_block, disconnected_block, forgotten, connection_by, connection_of}
 use Rattle.pcb_table.proofs.Searching.{counted-cons, one_sided-most}
 use Rattle.pcb_table.proofs.Places.{one_if, one_if-most, counted-set, counted-remove, counts_at, none_counted, find_gives, find_only, best_found_as}
@@ -242,7 +242,7 @@ cached_remove bs i d cache fd lt same h = go (forgotten fd cache) refl
 
 -- ---- a new block
 
-pub apart_open : (bs : List Block) (fd : ℕ) → AreApart bs → IsLowestFree bs fd → fd < 67
+pub apart_open : (bs : List Block) (fd : ℕ) → AreApart bs → IsLowestUnused bs fd → fd < 67
     → AreApart (unbound_block fd ∷ bs)
 apart_open bs fd apart lowest most = record {
   fds = λ k. elim (cases_eq fd k) [

@@ -38,7 +38,8 @@ up_to_first-map f p [] = refl
 up_to_first-map f p (x ∷ xs) = go (p (f x)) (up_to_first-map f p xs)
   where
     go : (b : Bool) → up_to_first p (map f xs) ≡ map f (up_to_first (λ y. p (f y)) xs)
-        → cond b (f x ∷ []) (f x ∷ up_to_first p (map f xs)) ≡ map f (cond b (x ∷ []) (x ∷ up_to_first (λ y. p (f y)) xs))
+        → cond b (f x ∷ []) (f x ∷ up_to_first p (map f xs))
+        ≡ map f (cond b (x ∷ []) (x ∷ up_to_first (λ y. p (f y)) xs))
     go true e = refl
     go false e = ap (λ ys. f x ∷ ys) e
 

@@ -6,7 +6,7 @@ use Rattle.pcb_table.specs.declared.block.Block.{Block}
 use Rattle.pcb_table.specs.declared.interface.Interface.{Interface}
 use Rattle.pcb_table.specs.Table.{KeepsOpen, OpensOnly, ClosesOnly}
 use Rattle.pcb_table.specs.Apart.{AreApart}
-use Rattle.pcb_table.specs.Inside.Fields.{IsLocated, IsLowestFree}
+use Rattle.pcb_table.specs.Inside.Fields.{IsLocated, IsLowestUnused}
 use Rattle.pcb_table.specs.Inside.Changed.{unbound_block}
 use Rattle.pcb_table.proofs.Searching.{counted-cons}
 use Rattle.pcb_table.proofs.Descriptors.{fds_of}
@@ -45,6 +45,6 @@ remove_closes i bs last fd index b apart at = record {
       ∙ sym (filter-map (λ (c : Block). c.fd) (λ k. not (k == fd)) bs);
 }
 
-pub unbound_opens : (i : Interface) (bs : List Block) (last : Option ℕ) (fd : ℕ) → IsLowestFree bs fd
+pub unbound_opens : (i : Interface) (bs : List Block) (last : Option ℕ) (fd : ℕ) → IsLowestUnused bs fd
     → OpensOnly (table_of i bs last) fd (table_of i (unbound_block fd ∷ bs) last)
 unbound_opens i bs last fd lowest = record { before = ap is_some lowest.free; after = refl }

@@ -6,7 +6,7 @@ use Rattle.flat_model.specs.declared.lookup_key.LookupKey.{LookupKey}
 use Rattle.flat_model.specs.Sockets.Lookup.{are_same}
 use Rattle.pcb_table.specs.declared.block.Block.{Block}
 use Rattle.pcb_table.specs.Inside.Changed.{unbound_block}
-use Rattle.pcb_table.specs.Inside.Fields.{HasPorts, PassesLanes, noted}
+use Rattle.pcb_table.specs.Inside.Fields.{HasPorts, PassesLanes, noted_port}
 use Rattle.pcb_table.specs.Inside.Search.{from_port, has_port}
 use Rattle.pcb_table.proofs.Searching.{Walked}
 
@@ -64,7 +64,7 @@ pub from_past : (port : ℕ) (bs : List Block) (at : ℕ) → length bs ≤ at �
 from_past port bs at le = ap (from_port port) (drop_past bs at le)
 
 -- a block whose noted port is another lacks the port
-lacks : (port : ℕ) (b : Block) → (noted b == port) ≡ false → has_port port b ≡ false
+lacks : (port : ℕ) (b : Block) → (noted_port b == port) ≡ false → has_port port b ≡ false
 lacks port b e = go b.port e
   where
     go : (o : Option ℕ) → (unwrap_or o 0 == port) ≡ false → are_same o (Some port) ≡ false

@@ -199,7 +199,12 @@ reached_from q port done (b ∷ bs) found fewest is s =
         → Reached q port (done ++ b ∷ bs) (cond t (b ∷ bs) (from_port port bs)) found fewest
     go later true has = record { done = done; cut = refl; first = has; seen = s }
     go later false lacks = let more = later lacks in
-        record { done = more.done; cut = more.cut ∙ append_assoc done (b ∷ []) bs; first = more.first; seen = more.seen }
+        record {
+          done = more.done;
+          cut = more.cut ∙ append_assoc done (b ∷ []) bs;
+          first = more.first;
+          seen = more.seen;
+        }
 
 reached : (q : LookupKey) (port : ℕ) (whole after rest : List Block) (found : Option Block) (fewest : ℕ)
     → q.port ≡ Some port → rest ≡ from_port port after → Walked q whole after found fewest

@@ -15,7 +15,7 @@ use Rattle.flat_model.specs.declared.option.Opt.TheVariants.{Broadcast, ReusePor
 use Rattle.pcb_table.specs.declared.block.Block.{Block}
 use Rattle.pcb_table.specs.declared.interface.Interface.{Interface}
 use Rattle.pcb_table.specs.Table.{Table, Queues, IsCall, block_at, machine, socket_with}
-use Rattle.pcb_table.specs.Inside.Search.{youngest_block, best_block, key_port, is_used, is_in_way, lacks_option, IsFreePort, GivesPort, config_of, block_bind_faults, block_connect_faults}
+use Rattle.pcb_table.specs.Inside.Search.{youngest_block, best_block, key_port, is_used, is_in_way, lacks_option, IsFreePort, GivesPort, interface_config, block_bind_faults, block_connect_faults}
 use Rattle.pcb_table.specs.Apart.{plain, has_fd, AreApart}
 use Rattle.pcb_table.specs.Inside.Fields.{IsLocated}
 use Rattle.pcb_table.specs.Found.{Changes, EnsuresPort}
@@ -123,7 +123,7 @@ module _ (rest : State) (queues : Queues) (t : Table) where
 
   pub bind_faults-blocks : (me : Block) (a : Addr)
       → bind_faults (machine rest queues t) (socket_with queues me) a
-      ≡ block_bind_faults (config_of (interface_of t)) t.blocks me a
+      ≡ block_bind_faults (interface_config (interface_of t)) t.blocks me a
   bind_faults-blocks me a = λ i.
       (is_some me.port || is_some me.local, Invalid)
       ∷ (not ((a.ip == 0) || ((a.ip == t.addr) || (a.ip == t.bcast) || (a.ip == 2130706433))), AddressNotAvailable)
@@ -132,14 +132,14 @@ module _ (rest : State) (queues : Queues) (t : Table) where
 
   pub connect_faults-blocks : (me : Block) (a : Addr)
       → connect_faults (machine rest queues t) (socket_with queues me) a
-      ≡ block_connect_faults (config_of (interface_of t)) t.blocks me a
+      ≡ block_connect_faults (interface_config (interface_of t)) t.blocks me a
   connect_faults-blocks me a =
       ap (λ (x : Bool). (a.port == 0, AddressNotAvailable) ∷ (not (is_reached a.ip), HostUnreachable)
       ∷ (x, AddressInUse) ∷ []) found
     where
       q : LookupKey
       q = record {
-        local = Some (source_for (config_of (interface_of t)) (plain me) a.ip);
+        local = Some (source_for (interface_config (interface_of t)) (plain me) a.ip);
         port = me.port;
         peer = Some a;
       }
@@ -197,7 +197,8 @@ module _ (i : Interface) (bs : List Block) (last : Option ℕ) (fd index : ℕ) 
             (sym (filter-map (socket_with queues) (λ socket. not (socket.fd == fd)) bs)),
       )
 
-  pub bind_refused : (a : Addr) (errno : Errno) → first_fault (block_bind_faults (config_of i) bs b a) ≡ Some errno
+  pub bind_refused : (a : Addr) (errno : Errno)
+      → first_fault (block_bind_faults (interface_config i) bs b a) ≡ Some errno
       → IsCall (table_of i bs last) (Bind fd a) (Refused errno) (table_of i bs last)
   bind_refused a errno fault rest queues =
       on_open rest queues (table_of i bs last) fd b (Refused errno) (machine rest queues (table_of i bs last)) _
@@ -207,7 +208,7 @@ module _ (i : Interface) (bs : List Block) (last : Option ℕ) (fd index : ℕ) 
       (ap first_fault (bind_faults-blocks rest queues (table_of i bs last) b a) ∙ fault))
 
   pub bind_step : (new : List Block) (a : Addr) (port : ℕ) (later : Option ℕ)
-      → first_fault (block_bind_faults (config_of i) bs b a) ≡ None
+      → first_fault (block_bind_faults (interface_config i) bs b a) ≡ None
       → GivesPort bs last (unless_zero a.ip) (unless_zero a.port) port later
       → new ≡ set bs index (bound_block (unless_zero a.ip) port b)
       → IsCall (table_of i bs last) (Bind fd a) Done (table_of i new later)
@@ -255,39 +256,43 @@ module _ (i : Interface) (bs : List Block) (last : Option ℕ) (fd index : ℕ) 
 
   first_disconnects : (rest : State) (queues : Queues) (gone : List Block) (a : Addr) (reply : Reply) (new : State)
       → gone ≡ set bs index (disconnected_block b)
-      → ConnectsTo fd (read_addr (config_of i) a) (socket_with queues (disconnected_block b))
+      → ConnectsTo fd (read_addr (interface_config i) a) (socket_with queues (disconnected_block b))
       (machine rest queues (table_of i gone last)) reply new
       → OnSocket fd (machine rest queues (table_of i bs last)) reply new
       (λ me. Connects fd a me (machine rest queues (table_of i bs last)) reply new)
   first_disconnects rest queues gone a reply new g goes =
       on_open rest queues (table_of i bs last) fd b reply new _ (located_found bs fd index b apart at)
-      (subst (λ (s : State). ConnectsTo fd (read_addr (config_of i) a) (disconnected (socket_with queues b)) s reply
+      (subst (λ (s : State). ConnectsTo fd (read_addr (interface_config i) a) (disconnected (socket_with queues b)) s
+      reply
       new) (disconnect_step gone g rest queues)
-      (subst (λ (me : Socket). ConnectsTo fd (read_addr (config_of i) a) me (machine rest queues (table_of i gone last))
+      (subst (λ (me : Socket). ConnectsTo fd (read_addr (interface_config i) a) me
+      (machine rest queues (table_of i gone last))
       reply new) (disconnected_commutes queues b) goes))
 
   pub connect_refused : (gone : List Block) (a : Addr) (errno : Errno) → gone ≡ set bs index (disconnected_block b)
-      → first_fault (block_connect_faults (config_of i) gone (disconnected_block b) (read_addr (config_of i) a))
+      → first_fault (block_connect_faults (interface_config i) gone (disconnected_block b)
+      (read_addr (interface_config i) a))
       ≡ Some errno
       → IsCall (table_of i bs last) (Connect fd a) (Refused errno) (table_of i gone last)
   connect_refused gone a errno g fault rest queues =
       first_disconnects rest queues gone a (Refused errno) (machine rest queues (table_of i gone last)) g
       (refused_by (connect_faults (machine rest queues (table_of i gone last))
-      (socket_with queues (disconnected_block b)) (read_addr (config_of i) a)) (machine rest queues
+      (socket_with queues (disconnected_block b)) (read_addr (interface_config i) a)) (machine rest queues
       (table_of i gone last)) errno _
       (ap first_fault (connect_faults-blocks rest queues (table_of i gone last) (disconnected_block b)
-      (read_addr (config_of i) a)) ∙ fault))
+      (read_addr (interface_config i) a)) ∙ fault))
 
   pub connect_step : (gone new : List Block) (a : Addr) (source port : ℕ) (later : Option ℕ)
       → gone ≡ set bs index (disconnected_block b)
-      → first_fault (block_connect_faults (config_of i) gone (disconnected_block b) (read_addr (config_of i) a)) ≡ None
-      → source ≡ source_for (config_of i) (plain (disconnected_block b)) (read_addr (config_of i) a).ip
+      → first_fault (block_connect_faults (interface_config i) gone (disconnected_block b)
+      (read_addr (interface_config i) a)) ≡ None
+      → source ≡ source_for (interface_config i) (plain (disconnected_block b)) (read_addr (interface_config i) a).ip
       → GivesPort gone last (disconnected_block b).local (disconnected_block b).port port later
       → AreApart gone → IsLocated fd gone index (disconnected_block b)
-      → new ≡ set gone index (connected_block source port (read_addr (config_of i) a) (disconnected_block b))
+      → new ≡ set gone index (connected_block source port (read_addr (interface_config i) a) (disconnected_block b))
       → IsCall (table_of i bs last) (Connect fd a) Done (table_of i new later)
   connect_step gone new a source port later g none from given free there n rest queues =
-      let to : Addr = read_addr (config_of i) a in
+      let to : Addr = read_addr (interface_config i) a in
       let me : Block = disconnected_block b in
       let M : State = machine rest queues (table_of i gone last) in
       first_disconnects rest queues gone a Done (machine rest queues (table_of i new later)) g

@@ -1,7 +1,7 @@
 //! The machine's one interface: which addresses are its own.
 ghost use Rattle.std.specs.Prelude.{◌≡◌, ℕ};
 ghost use Rattle.flat_model.specs.Machine.Calls as flat;
-ghost use Rattle.pcb_table.specs.Inside.Search.{config_of};
+ghost use Rattle.pcb_table.specs.Inside.Search.{interface_config};
 ghost use Rattle.pcb_table.specs.Apart.{plain};
 
 use crate::block::Block;
@@ -18,14 +18,14 @@ pub(crate) struct Interface {
 impl Interface {
     /// Whether a socket may be bound to the address.
     pub(crate) fn is_ours(self, ip: u32) -> bool
-        ensures { result ≡ flat.is_ours (config_of self) ip }
+        ensures { result ≡ flat.is_ours (interface_config self) ip }
     {
         ip == self.addr || ip == self.bcast || ip == LOOPBACK
     }
 
     /// The address with 0.0.0.0 read as this machine, and 255.255.255.255 as its broadcast address.
     pub(crate) fn read(self, address: Addr) -> Addr
-        ensures { result ≡ flat.read_addr (config_of self) address }
+        ensures { result ≡ flat.read_addr (interface_config self) address }
     {
         let ip = if address.ip == 0 {
             self.addr
@@ -42,7 +42,7 @@ impl Interface {
 
     /// The address that the block's packets to this one come from.
     pub(crate) fn source(self, block: &Block, ip: u32) -> u32
-        ensures { result ≡ flat.source_for (config_of self) (plain block.now) ip }
+        ensures { result ≡ flat.source_for (interface_config self) (plain block.now) ip }
     {
         match block.local {
             Some(local) => local,

@@ -3,7 +3,7 @@ ghost use Rattle.std.specs.Prelude.{◌≡◌, ℕ, ◌+◌, ◌<◌, ◌≤◌,
 ghost use Rattle.flat_model.specs.Machine.Calls as flat;
 ghost use Rattle.pcb_table.specs.Inside.Search.{GivesPort, IsFreePort, is_used};
 ghost use Rattle.pcb_table.specs.Apart.{AreApart};
-ghost use Rattle.pcb_table.specs.Inside.Fields.{IsInCircle, IsLowestFree};
+ghost use Rattle.pcb_table.specs.Inside.Fields.{IsInCircle, IsLowestUnused};
 
 use crate::blocks::Blocks;
 use crate::search::best;
@@ -91,7 +91,7 @@ pub(crate) fn port_for(
 /// The lowest descriptor that no block has. There is one of 3 to 66, since fewer than 64 are in use.
 pub(crate) fn lowest_free(blocks: &Blocks) -> u32
     requires few { length blocks.now < MAX_SOCKETS }
-    ensures free { IsLowestFree blocks.now result }
+    ensures free { IsLowestUnused blocks.now result }
     ensures most { result < FIRST_DESCRIPTOR + MAX_SOCKETS }
 {
     for fd in FIRST_DESCRIPTOR..FIRST_DESCRIPTOR + MAX_SOCKETS {

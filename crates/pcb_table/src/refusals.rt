@@ -2,7 +2,7 @@
 ghost use Rattle.std.specs.Prelude.{◌≡◌, ℕ, Some, is_some};
 ghost use Rattle.flat_model.specs.Packets.Header.{first_fault};
 ghost use Rattle.flat_model.specs.Machine.Calls as flat;
-ghost use Rattle.pcb_table.specs.Inside.Search.{block_bind_faults, block_connect_faults, config_of, is_in_way, youngest_block};
+ghost use Rattle.pcb_table.specs.Inside.Search.{block_bind_faults, block_connect_faults, interface_config, is_in_way, youngest_block};
 
 use crate::block::Block;
 use crate::blocks::Blocks;
@@ -52,7 +52,7 @@ pub(crate) fn bind_fault(
     me: &Block,
     address: Addr,
 ) -> Option<Errno>
-    ensures { result ≡ first_fault (block_bind_faults (config_of interface) blocks.now me.now address) }
+    ensures { result ≡ first_fault (block_bind_faults (interface_config interface) blocks.now me.now address) }
 {
     if me.port.is_some() || me.local.is_some() {
         return Some(Errno::Invalid);
@@ -93,7 +93,7 @@ pub(crate) fn destination_fault(
     me: &Block,
     to: Addr,
 ) -> Option<Errno>
-    ensures { result ≡ first_fault (block_connect_faults (config_of interface) blocks.now me.now to) }
+    ensures { result ≡ first_fault (block_connect_faults (interface_config interface) blocks.now me.now to) }
 {
     if to.port == 0 {
         return Some(Errno::AddressNotAvailable);

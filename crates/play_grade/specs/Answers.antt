@@ -1,7 +1,7 @@
 -- What an answer is worth beside that of a key (this project's own).
 use Rattle.std.specs.Prelude.{ℕ, ◌==◌, ◌&&◌, ◌||◌, not, Bool, true, false, List, [], ◌∷◌, length, if◌then◌else◌, codes, bytes_eq, Option, Some, None}
 use Rattle.flat_model.specs.Scripts.Grammar.{words}
-use Rattle.play_script.specs.Outcomes.{meets}
+use Rattle.play_script.specs.Outcomes.{meets_reply}
 use Rattle.play_grade.specs.declared.marks.Mark.{Mark}
 use Rattle.play_grade.specs.declared.marks.Mark.TheVariants.{Right, Wrong, Missing}
 
@@ -24,5 +24,5 @@ abbrev pub mark_of : List ℕ → Option (List ℕ) → Mark
 mark_of wanted None = Missing
 mark_of wanted (Some given) =
     if all_open (words given) then Missing
-    else if meets wanted given then Right
+    else if meets_reply wanted given then Right
     else Wrong

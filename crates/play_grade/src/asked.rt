@@ -1,7 +1,7 @@
 //! A line that was read, with the plain line that it stands for.
 ghost use Rattle.std.specs.Prelude.{◌≡◌, ◌*◌, vec_len};
 ghost use Rattle.params.specs.declared.TheConstants.{IP_MAX_PACKET};
-ghost use Rattle.play_script.specs.Views.{plain_of};
+ghost use Rattle.play_script.specs.Views.{plain_line};
 
 use play_line::LONGEST;
 use play_packet::PACKET;
@@ -32,7 +32,7 @@ impl Asked {
 
     /// Puts the plain line that the line stands for in its place.
     pub(crate) fn put_plain(&mut self)
-        ensures plain { self.new.plain ≡ plain_of self.old.line }
+        ensures plain { self.new.plain ≡ plain_line self.old.line }
         ensures line { self.new.line ≡ self.old.line }
     {
         self.plain.clear();

@@ -101,19 +101,19 @@ text_after done escaped (byte ∷ rest) =
 -- ---- numbers and patterns
 
 -- the number that digits write, or 65,536 if it's more than that
-abbrev pub value_of : List ℕ → ℕ
-value_of word = fold (λ value byte. min 65536 (10 * value + (byte - 48))) 0 word
+abbrev pub digits_value : List ℕ → ℕ
+digits_value word = fold (λ value byte. min 65536 (10 * value + (byte - 48))) 0 word
 
 -- a number of 1 to 65,535, which n digits write
-abbrev pub count_of : List ℕ → ℕ → Left ℕ
-count_of left n =
+abbrev pub repeats_read : List ℕ → ℕ → Left ℕ
+repeats_read left n =
     if n == 0 then stop NoCount left
-    else if value_of (take n left) == 0 then stop ZeroCount (drop n left)
-    else if nat_lt 65535 (value_of (take n left)) then stop TooManyBytes (drop n left)
-    else Ok (value_of (take n left), drop n left)
+    else if digits_value (take n left) == 0 then stop ZeroCount (drop n left)
+    else if nat_lt 65535 (digits_value (take n left)) then stop TooManyBytes (drop n left)
+    else Ok (digits_value (take n left), drop n left)
 
 abbrev pub count_at : List ℕ → Left ℕ
-count_at left = count_of left (front Decimal left)
+count_at left = repeats_read left (front Decimal left)
 
 -- the bytes 0, 1, 2 .. 255, 0 .., so many of them
 abbrev pub counting : ℕ → List ℕ
@@ -123,8 +123,8 @@ counting (suc n) = counting n ++ digits (n % 256)
 -- ---- parts
 
 -- the next n bytes, which have to be hexadecimal digits, two for each byte, if `hex`
-abbrev pub word_of : Bool → ℕ → List ℕ → Left (List ℕ)
-word_of hex n left =
+abbrev pub word_read : Bool → ℕ → List ℕ → Left (List ℕ)
+word_read hex n left =
     if n == 0 then stop NoBytes left
     else if nat_lt MOST_DIGITS n then stop TooManyBytes (drop n left)
     else if hex && nat_lt (front Hex left) n then stop NotHex (drop (front Hex left) left)
@@ -147,14 +147,14 @@ repeated piece left =
     if is_next 42 left then next (count_at (drop 1 left)) (λ t. copies piece t.0 t.1) else copies piece 1 left
 
 -- a text, or the next n bytes as they stand
-abbrev pub piece_at : Bool → ℕ → List ℕ → Left (List ℕ)
-piece_at hex n left = if is_next 34 left then text_after [] false (drop 1 left) else word_of hex n left
+abbrev pub piece_read : Bool → ℕ → List ℕ → Left (List ℕ)
+piece_read hex n left = if is_next 34 left then text_after [] false (drop 1 left) else word_read hex n left
 
 -- the same, or a pattern
 abbrev pub part_at : Bool → ℕ → List ℕ → Left Part
 part_at hex n left =
     if is_next 64 left then next (count_at (drop 1 left)) (λ t. copies (counting t.0) 1 t.1)
-    else next (piece_at hex n left) (λ t. repeated t.0 t.1)
+    else next (piece_read hex n left) (λ t. repeated t.0 t.1)
 
 -- ---- what the code has in hand
 
@@ -162,6 +162,6 @@ abbrev pub with_left : {A : Type 0} → A → Result (Bor (List ℕ)) Misread �
 with_left a (Ok left) = Ok (a, left.now)
 with_left a (Err e) = Err e
 
-abbrev pub counted : Result (ℕ × Bor (List ℕ)) Misread → Left ℕ
-counted (Ok t) = Ok (t.0, t.1.now)
-counted (Err e) = Err e
+abbrev pub count_now : Result (ℕ × Bor (List ℕ)) Misread → Left ℕ
+count_now (Ok t) = Ok (t.0, t.1.now)
+count_now (Err e) = Err e

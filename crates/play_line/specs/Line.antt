@@ -13,15 +13,15 @@ use Rattle.play_line.specs.declared.part.Part.{Part}
 use Rattle.play_line.specs.declared.part.TheConstants.{MOST_DIGITS}
 
 -- a line so far
-pub record Front : Type 0 where
+pub record LineFront : Type 0 where
   pub plain : List ℕ  -- its plain line
   pub begin : ℕ  -- where the last word begins there
   pub awaits : ℕ  -- how many words on the bytes of the line stand, or 0
   pub ended : Bool  -- nothing more is read
   pub left : List ℕ
 
-abbrev pub fresh : List ℕ → Front
-fresh line = record { plain = []; begin = 0; awaits = 0; ended = false; left = line }
+abbrev pub fresh_front : List ℕ → LineFront
+fresh_front line = record { plain = []; begin = 0; awaits = 0; ended = false; left = line }
 
 -- ---- which words have to be bytes
 
@@ -57,19 +57,19 @@ abbrev pub appended : List ℕ → ℕ → List ℕ → List ℕ
 appended done zero piece = done
 appended done (suc n) piece = appended done n piece ++ piece
 
-abbrev pub with_part : Front → Part × List ℕ → Result Front Misread
+abbrev pub with_part : LineFront → Part × List ℕ → Result LineFront Misread
 with_part f t =
     if nat_lt MOST_DIGITS ((length f.plain - f.begin) + t.0.count * length t.0.piece) then stop TooManyBytes t.1
     else if nat_lt LONGEST (length f.plain + t.0.count * length t.0.piece) then stop TooLong t.1
     else Ok (record f { plain = appended f.plain t.0.count t.0.piece; left = t.1 })
 
 -- the next n bytes, or a text or a pattern
-abbrev pub part_in : Bool → ℕ → Front → Result Front Misread
+abbrev pub part_in : Bool → ℕ → LineFront → Result LineFront Misread
 part_in hex n f = next (part_at hex n f.left) (with_part f)
 
 -- after `+`, which joins bytes to the word in front of it
-unfoldable pub joined : Front → Result Front Misread
-joined f = part_in true (front Word f.left) f
+unfoldable pub joined_part : LineFront → Result LineFront Misread
+joined_part f = part_in true (front Word f.left) f
 
 -- a space stands in front of a word, but for the first one, and for `=` right after another word
 abbrev pub is_apart : List ℕ → List ℕ → List ℕ → Bool
@@ -83,7 +83,7 @@ begin_after apart len = if apart then len + 1 else len
 abbrev pub word_len : List ℕ → ℕ
 word_len left = if is_next 61 left then 1 + front Word (drop 1 left) else front Word left
 
-abbrev pub opened : Bool → List ℕ → Front → Front
+abbrev pub opened : Bool → List ℕ → LineFront → LineFront
 opened apart word f = record f {
   plain = if apart then f.plain ++ 32 ∷ [] else f.plain;
   begin = begin_after apart (length f.plain);
@@ -91,7 +91,7 @@ opened apart word f = record f {
 }
 
 -- a word of n bytes, if it's neither a text nor a pattern
-abbrev pub word_in : Bool → ℕ → Front → Result Front Misread
+abbrev pub word_in : Bool → ℕ → LineFront → Result LineFront Misread
 word_in apart n f =
     part_in (has_digits f.plain f.awaits (take n f.left) (drop n f.left)) n (opened apart (take n f.left) f)
 
@@ -101,60 +101,60 @@ is_end [] = true
 is_end (byte ∷ rest) = byte == 35
 
 -- the next word, or the next bytes that `+` joins; none from the word on that begins at the goal
-abbrev pub step_at : ℕ → Bool → Front → Result Front Misread
+abbrev pub step_at : ℕ → Bool → LineFront → Result LineFront Misread
 step_at goal apart f =
     if is_end f.left then Ok (record f { ended = true })
     else if is_next 43 f.left
-    then (if length f.plain == 0 then stop NoBytes f.left else joined (record f { left = skip (drop 1 f.left) }))
+    then (if length f.plain == 0 then stop NoBytes f.left else joined_part (record f { left = skip (drop 1 f.left) }))
     else if apart && nat_le LONGEST (length f.plain) then stop TooLong f.left
     else if begin_after apart (length f.plain) == goal then Ok (record f { ended = true })
     else word_in apart (word_len f.left) f
 
-unfoldable pub step : ℕ → Front → Result Front Misread
+unfoldable pub step : ℕ → LineFront → Result LineFront Misread
 step goal f = step_at goal (is_apart f.plain f.left (skip f.left)) (record f { left = skip f.left })
 
 -- ---- a line
 
 -- the next n words and joined bytes
-abbrev pub line_after : ℕ → ℕ → Front → Result Front Misread
+abbrev pub line_after : ℕ → ℕ → LineFront → Result LineFront Misread
 line_after zero goal f = Ok f
 line_after (suc n) goal f = next (step goal f) (λ g. if g.ended then Ok g else line_after n goal g)
 
 -- all of them: none is shorter than a byte
-abbrev pub read : ℕ → List ℕ → Result Front Misread
-read goal line = line_after (length line) goal (fresh line)
+abbrev pub line_read : ℕ → List ℕ → Result LineFront Misread
+line_read goal line = line_after (length line) goal (fresh_front line)
 
 -- the column of the first byte that is left, the first column being 1
 abbrev pub column_at : List ℕ → ℕ → ℕ
 column_at line left = 1 + (length line - left)
 
-abbrev pub plain_of : List ℕ → Result Front Misread → Result (List ℕ) Slip
+abbrev pub plain_of : List ℕ → Result LineFront Misread → Result (List ℕ) Slip
 plain_of line (Ok f) = Ok f.plain
 plain_of line (Err e) = Err (record { fault = e.fault; column = column_at line e.left })
 
 -- the plain line that a line stands for, or what is wrong with it
 abbrev pub expanded : List ℕ → Result (List ℕ) Slip
-expanded line = plain_of line (read WHOLE line)
+expanded line = plain_of line (line_read WHOLE line)
 
-abbrev pub left_of : Result Front Misread → ℕ
+abbrev pub left_of : Result LineFront Misread → ℕ
 left_of (Ok f) = length f.left
 left_of (Err e) = e.left
 
 -- the column of the word that begins at this place of the plain line, or the one after the line's last byte
 abbrev pub column_of : List ℕ → ℕ → ℕ
-column_of line place = column_at line (left_of (read place line))
+column_of line place = column_at line (left_of (line_read place line))
 
 -- ---- what the code has in hand
 
-abbrev pub front_of : Reader → List ℕ → Front
-front_of r left = record { plain = r.plain; begin = r.begin; awaits = r.awaits; ended = r.ended; left = left }
+abbrev pub reader_front : Reader → List ℕ → LineFront
+reader_front r left = record { plain = r.plain; begin = r.begin; awaits = r.awaits; ended = r.ended; left = left }
 
-abbrev pub done_or : Result Unit Misread → Front → Result Front Misread
+abbrev pub done_or : Result Unit Misread → LineFront → Result LineFront Misread
 done_or (Ok done) f = Ok f
 done_or (Err e) f = Err e
 
-abbrev pub front_or : Result (Bor (List ℕ)) Misread → Reader → Result Front Misread
-front_or (Ok left) r = Ok (front_of r left.now)
+abbrev pub front_or : Result (Bor (List ℕ)) Misread → Reader → Result LineFront Misread
+front_or (Ok left) r = Ok (reader_front r left.now)
 front_or (Err e) r = Err e
 
 -- what a slice has

@@ -135,7 +135,7 @@ pub(crate) fn read_text<'a>(
 
 /// The number that decimal digits write, or 65,536 if it's more than that.
 fn value_of(word: &[u8]) -> u32
-    ensures is { result ≡ bytes.value_of word.now }
+    ensures is { result ≡ bytes.digits_value word.now }
     ensures most { result ≤ 65536 }
 {
     let mut value = 0u32;
@@ -147,7 +147,7 @@ fn value_of(word: &[u8]) -> u32
 
 /// A number of 1 to 65,535, and what is left after it.
 pub(crate) fn read_count(left: &[u8]) -> Result<(u32, &[u8]), Misread>
-    ensures is { bytes.counted result ≡ bytes.count_at left.now }
+    ensures is { bytes.count_now result ≡ bytes.count_at left.now }
     ensures most { IfOk result (λ t. t.0 ≤ 65535) }
 {
     let n = front(Class::Decimal, left);

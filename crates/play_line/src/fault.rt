@@ -1,6 +1,6 @@
 //! What is wrong with a line.
 ghost use Rattle.std.specs.Prelude.{◌≡◌, ◌≤◌, length};
-ghost use Rattle.play_line.specs.Faults.{words_of};
+ghost use Rattle.play_line.specs.Faults.{misread_words};
 
 /// What is wrong with a line.
 #[derive(Clone, Copy)]
@@ -85,7 +85,7 @@ pub(crate) fn stop<T>(fault: Fault, left: &[u8]) -> Result<T, Misread>
 impl Fault {
     /// What is wrong, in words.
     pub fn words(self) -> &'static str
-        ensures is { result.now ≡ words_of self }
+        ensures is { result.now ≡ misread_words self }
         ensures short { length result.now ≤ 48 }
     {
         match self {

@@ -146,8 +146,8 @@ impl Reader {
 
     /// Puts the part that was read into the plain line.
     fn put_part(&mut self, rest: &[u8]) -> Result<(), Misread>
-        ensures { line_specs.done_or result (line_specs.front_of self.new rest.now)
-            ≡ line_specs.with_part (line_specs.front_of self.old rest.now) (self.old.part, rest.now) }
+        ensures { line_specs.done_or result (line_specs.reader_front self.new rest.now)
+            ≡ line_specs.with_part (line_specs.reader_front self.old rest.now) (self.old.part, rest.now) }
     {
         let more = self.part.count as usize * self.part.piece.len();
         if MOST_DIGITS < self.plain.len().saturating_sub(self.begin) + more {
@@ -164,7 +164,7 @@ impl Reader {
     fn read_part<'a>(&mut self, hex: bool, n: usize, at: &'a [u8]) -> Result<&'a [u8], Misread>
         requires { n ≤ length at.now }
         ensures { line_specs.front_or result self.new
-            ≡ line_specs.part_in hex n (line_specs.front_of self.old at.now) }
+            ≡ line_specs.part_in hex n (line_specs.reader_front self.old at.now) }
     {
         match self.part.read(hex, n, at) {
             Ok(rest) => match self.put_part(rest) {
@@ -177,7 +177,8 @@ impl Reader {
 
     /// Reads bytes that `+` joins to the word in front of it.
     fn read_joined<'a>(&mut self, at: &'a [u8]) -> Result<&'a [u8], Misread>
-        ensures { line_specs.front_or result self.new ≡ line_specs.joined (line_specs.front_of self.old at.now) }
+        ensures { line_specs.front_or result self.new
+            ≡ line_specs.joined_part (line_specs.reader_front self.old at.now) }
     {
         self.read_part(true, front(Class::Word, at), at)
     }
@@ -185,8 +186,8 @@ impl Reader {
     /// Begins a word, with a space in front if it's apart from what was read.
     fn open(&mut self, apart: bool, word: &[u8], at: &[u8])
         requires { apart ≡ true → length self.old.plain < LONGEST }
-        ensures is { line_specs.front_of self.new at.now
-            ≡ line_specs.opened apart word.now (line_specs.front_of self.old at.now) }
+        ensures is { line_specs.reader_front self.new at.now
+            ≡ line_specs.opened apart word.now (line_specs.reader_front self.old at.now) }
     {
         self.awaits = self.next_awaits(word);
         if apart {
@@ -199,7 +200,7 @@ impl Reader {
     fn read_word<'a>(&mut self, apart: bool, at: &'a [u8]) -> Result<&'a [u8], Misread>
         requires { apart ≡ true → length self.old.plain < LONGEST }
         ensures { line_specs.front_or result self.new
-            ≡ line_specs.word_in apart (line_specs.word_len at.now) (line_specs.front_of self.old at.now) }
+            ≡ line_specs.word_in apart (line_specs.word_len at.now) (line_specs.reader_front self.old at.now) }
     {
         let n = word_len(at);
         let (word, rest) = at.split_at(n);
@@ -211,7 +212,7 @@ impl Reader {
     /// Reads the next word, or the next bytes that `+` joins; none from the word on that begins at the goal.
     fn step_at<'a>(&mut self, goal: usize, apart: bool, at: &'a [u8]) -> Result<&'a [u8], Misread>
         ensures { line_specs.front_or result self.new
-            ≡ line_specs.step_at goal apart (line_specs.front_of self.old at.now) }
+            ≡ line_specs.step_at goal apart (line_specs.reader_front self.old at.now) }
     {
         if is_end(at) {
             self.ended = true;
@@ -237,7 +238,8 @@ impl Reader {
 
     /// The same after the blanks in front.
     fn step<'a>(&mut self, goal: usize, left: &'a [u8]) -> Result<&'a [u8], Misread>
-        ensures { line_specs.front_or result self.new ≡ line_specs.step goal (line_specs.front_of self.old left.now) }
+        ensures { line_specs.front_or result self.new
+            ≡ line_specs.step goal (line_specs.reader_front self.old left.now) }
     {
         let at = skip(left);
         let apart = 0 < self.plain.len() && at.len() < left.len();
@@ -246,7 +248,7 @@ impl Reader {
 
     /// Reads a line up to the word that begins at the goal of the plain line, and answers what is left.
     fn read<'a>(&mut self, goal: usize, line: &'a [u8]) -> Result<&'a [u8], Misread>
-        ensures { line_specs.front_or result self.new ≡ line_specs.read goal line.now }
+        ensures { line_specs.front_or result self.new ≡ line_specs.line_read goal line.now }
     {
         self.plain.clear();
         self.begin = 0;

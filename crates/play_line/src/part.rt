@@ -40,7 +40,7 @@ fn read_word<'a>(
     left: &'a [u8],
 ) -> Result<&'a [u8], Misread>
     requires { n ≤ length left.now }
-    ensures { bytes.with_left piece.new result ≡ bytes.word_of hex n left.now }
+    ensures { bytes.with_left piece.new result ≡ bytes.word_read hex n left.now }
 {
     let good = front(Class::Hex, left);
     if n == 0 {
@@ -66,7 +66,7 @@ fn read_piece<'a>(
     left: &'a [u8],
 ) -> Result<&'a [u8], Misread>
     requires { n ≤ length left.now }
-    ensures { bytes.with_left piece.new result ≡ bytes.piece_at hex n left.now }
+    ensures { bytes.with_left piece.new result ≡ bytes.piece_read hex n left.now }
 {
     if is_next(b'"', left) {
         read_text(piece, &left[1..])

@@ -5,7 +5,7 @@ use Rattle.hex.specs.Hex.{decode_of}
 use Rattle.hex.specs.declared.error.FromHexError.{FromHexError}
 use Rattle.hex.proofs.HexLemmas.{decode_of-ok}
 use Rattle.flat_model.specs.Scripts.Grammar.{IsHex}
-use Rattle.play_packet.specs.Numbers.{bytes_in, some_bytes, front_of}
+use Rattle.play_packet.specs.Numbers.{word_bytes, some_bytes, front_of_room}
 
 bytes_eq-true : (a b : List ℕ) → a ≡ b → bytes_eq a b ≡ true
 bytes_eq-true a b e = (bytes_eq-Decides a b).1 e
@@ -23,7 +23,7 @@ not_dash word bytes e = elim (bytes_eq word (codes "-")) as (λ b. bytes_eq word
 sized : (bytes : List ℕ) → 0 < length bytes → length bytes ≤ 65535 → some_bytes (Ok bytes) ≡ Some bytes
 sized bytes some most = grind arith
 
-pub IsHex-bytes_in : (word bytes : List ℕ) → IsHex word bytes → bytes_in word ≡ Some bytes
+pub IsHex-bytes_in : (word bytes : List ℕ) → IsHex word bytes → word_bytes word ≡ Some bytes
 IsHex-bytes_in word bytes (inl (dash, none)) = rw (bytes_eq-true word (codes "-") dash, none) refl
 IsHex-bytes_in word bytes (inr (some, most, decoded)) =
     rw (not_dash word bytes decoded, decoded) (sized bytes some most)
@@ -37,7 +37,7 @@ undecoded : (word : List ℕ) (r : Result (List ℕ) FromHexError) → decode_of
 undecoded word (Err fault) e none = refl
 undecoded word (Ok bytes) e none = unsized bytes (λ some most. none bytes (inr (some, most, e)))
 
-pub no_bytes : (word : List ℕ) → ((bytes : List ℕ) → IsHex word bytes → ⊥) → bytes_in word ≡ None
+pub no_bytes : (word : List ℕ) → ((bytes : List ℕ) → IsHex word bytes → ⊥) → word_bytes word ≡ None
 no_bytes word none = elim (bytes_eq word (codes "-")) as (λ b. bytes_eq word (codes "-") ≡ b
     → cond b (Some []) (some_bytes (decode_of word)) ≡ None) [
       | true ↦ λ is. absurd (none [] (inl ((bytes_eq-Decides word (codes "-")).0 is, refl)))
@@ -47,6 +47,6 @@ no_bytes word none = elim (bytes_eq word (codes "-")) as (λ b. bytes_eq word (c
 -- so many bytes of a room are those that a word writes
 pub bytes-are : (word room : List ℕ) (r : Option ℕ)
     → MatchOption r ((bytes : List ℕ) → IsHex word bytes → ⊥) (λ n. IsHex word (take n room))
-    → front_of room r ≡ bytes_in word
+    → front_of_room room r ≡ word_bytes word
 bytes-are word room None h = sym (no_bytes word h)
 bytes-are word room (Some n) h = sym (IsHex-bytes_in word (take n room) h)

@@ -8,8 +8,8 @@ use Rattle.flat_model.specs.Scripts.Texts.{hex_text}
 use Rattle.play_line.specs.Line.{column_of}
 use Rattle.play_line.specs.declared.fault.Fault.TheVariants.{NoBytes, PastEnd, TooLarge}
 use Rattle.play_line.specs.declared.fault.Slip.{Slip}
-use Rattle.play_packet.specs.Forms.{misfit, next, form_of, is_named, place_in}
-use Rattle.play_packet.specs.Numbers.{bytes_in}
+use Rattle.play_packet.specs.Forms.{misfit, and_then, form_of, names_packet, word_place}
+use Rattle.play_packet.specs.Numbers.{word_bytes}
 use Rattle.play_packet.specs.declared.form.Form.{Form}
 use Rattle.play_packet.specs.declared.form.Misfit.{Misfit}
 use Rattle.play_packet.specs.declared.form.Sum.{Sum}
@@ -80,17 +80,17 @@ packet_of f carried =
 
 -- ---- what can't be built
 
-abbrev pub place_of : Option Told → ℕ
-place_of None = 0
-place_of (Some told) = told.place
+abbrev pub told_place : Option Told → ℕ
+told_place None = 0
+told_place (Some told) = told.place
 
 -- of a datagram the packet carries what it's told to, or all that is left from its offset on
 abbrev pub cut_of : Form → ℕ → List ℕ → Result (List ℕ) Misfit
 cut_of f place datagram =
     let left : ℕ = length datagram - value_or 0 f.offset in
     let size : ℕ = value_or left f.size in
-    if left == 0 then misfit PastEnd (place_of f.offset)
-    else if nat_lt left size then misfit PastEnd (place_of f.size)
+    if left == 0 then misfit PastEnd (told_place f.offset)
+    else if nat_lt left size then misfit PastEnd (told_place f.size)
     else if nat_lt IP_MAX_DATA size then misfit TooLarge place
     else Ok (packet_of f (take size (drop (value_or 0 f.offset) datagram)))
 
@@ -103,15 +103,15 @@ built f place (Some sent) =
 -- ---- the plain line
 
 -- the packet that the words after `rx udp` name
-abbrev pub packet_in : List ℕ → Result (List ℕ) Misfit
-packet_in text = next (form_of text) (λ t. built t.0 t.1.place (bytes_in (take t.1.len (drop t.1.place text))))
+abbrev pub packet_named : List ℕ → Result (List ℕ) Misfit
+packet_named text = and_then (form_of text) (λ t. built t.0 t.1.place (word_bytes (take t.1.len (drop t.1.place text))))
 
 abbrev pub plain_packet : List ℕ → List ℕ → Result (List ℕ) Misfit → Result (List ℕ) Slip
 plain_packet line text (Ok bytes) = Ok (codes "rx " ++ hex_text bytes)
-plain_packet line text (Err e) = Err (record { fault = e.fault; column = column_of line (place_in text e.place) })
+plain_packet line text (Err e) = Err (record { fault = e.fault; column = column_of line (word_place text e.place) })
 
 -- The plain line for the words of a line, of which `line` is what was written: `rx` with the packet that they name, or
 -- the words as they are if they name none; or what is wrong with them, and the column of the word that is, or of the
 -- last one if a word is missing.
 abbrev pub named : List ℕ → List ℕ → Result (List ℕ) Slip
-named line text = if is_named text then plain_packet line text (packet_in text) else Ok text
+named line text = if names_packet text then plain_packet line text (packet_named text) else Ok text

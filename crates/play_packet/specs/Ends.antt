@@ -11,12 +11,12 @@ abbrev pub next_of : {A B : Type 0} → Option A → (A → Option B) → Option
 next_of None more = None
 next_of (Some a) more = more a
 
-abbrev pub place_of : ℕ → List ℕ → Option ℕ
-place_of sought text = position (λ byte. byte == sought) text
+abbrev pub first_place : ℕ → List ℕ → Option ℕ
+first_place sought text = position (λ byte. byte == sought) text
 
 -- a number of 0 to 255 with a dot after it, and what stands after the dot
 abbrev pub octet_in : List ℕ → Option (ℕ × List ℕ)
-octet_in text = next_of (place_of 46 text) (λ at.
+octet_in text = next_of (first_place 46 text) (λ at.
     option_map (λ n. (n, drop (at + 1) text)) (number_in 255 (take at text)))
 
 -- four numbers with dots between them
@@ -36,7 +36,7 @@ end_at word (Some at) = end_of (address_in (take at word)) (number_in 65535 (dro
 
 -- the address and the port that a word writes, with a colon between them
 abbrev pub end_in : List ℕ → Result Addr Fault
-end_in word = end_at word (place_of 58 word)
+end_in word = end_at word (first_place 58 word)
 
 abbrev pub octet_now : Option (ℕ × Bor (List ℕ)) → Option (ℕ × List ℕ)
 octet_now None = None

@@ -21,19 +21,19 @@ abbrev pub misfit : {A : Type 0} → Fault → ℕ → Result A Misfit
 misfit fault place = Err (record { fault = fault; place = place })
 
 -- what is read next, unless something is wrong
-abbrev pub next : {A B : Type 0} → Result A Misfit → (A → Result B Misfit) → Result B Misfit
-next (Ok a) more = more a
-next (Err e) more = Err e
+abbrev pub and_then : {A B : Type 0} → Result A Misfit → (A → Result B Misfit) → Result B Misfit
+and_then (Ok a) more = more a
+and_then (Err e) more = Err e
 
 -- ---- words
 
 -- up to the next space
-abbrev pub word_in : List ℕ → List ℕ
-word_in text = take (place_or_end (position (λ byte. byte == 32) text) text) text
+abbrev pub first_word : List ℕ → List ℕ
+first_word text = take (place_or_end (position (λ byte. byte == 32) text) text) text
 
 -- the word that begins at a place
 unfoldable pub word_at : List ℕ → ℕ → Option (List ℕ)
-word_at text at = if nat_lt (length text) at then None else Some (word_in (drop at text))
+word_at text at = if nat_lt (length text) at then None else Some (first_word (drop at text))
 
 -- where the last word begins, after the first `at` bytes and the last place so far
 abbrev pub last_after : ℕ → ℕ → List ℕ → ℕ
@@ -44,8 +44,8 @@ abbrev pub last_place : List ℕ → ℕ
 last_place text = last_after 0 0 text
 
 -- the place of a word, or of the last one if it's missing
-abbrev pub place_in : List ℕ → ℕ → ℕ
-place_in text at = if nat_lt (length text) at then last_place text else at
+abbrev pub word_place : List ℕ → ℕ → ℕ
+word_place text at = if nat_lt (length text) at then last_place text else at
 
 abbrev pub with_word : {A : Type 0} → Fault → ℕ → Option (List ℕ) → (List ℕ → ℕ → Result A Misfit)
     → Result A Misfit
@@ -64,8 +64,8 @@ abbrev pub or_misfit : {A : Type 0} → Result A Fault → ℕ → ℕ → Resul
 or_misfit (Ok a) at after = Ok (a, after)
 or_misfit (Err fault) at after = misfit fault at
 
-abbrev pub end_at : List ℕ → ℕ → Result (Addr × ℕ) Misfit
-end_at text at = needs NoEnd text at (λ word after. or_misfit (end_in word) at after)
+abbrev pub end_read : List ℕ → ℕ → Result (Addr × ℕ) Misfit
+end_read text at = needs NoEnd text at (λ word after. or_misfit (end_in word) at after)
 
 abbrev pub arrow_at : List ℕ → ℕ → Result ℕ Misfit
 arrow_at text at = needs NoArrow text at (λ word after.
@@ -75,12 +75,12 @@ arrow_at text at = needs NoArrow text at (λ word after.
 abbrev pub bytes_at : List ℕ → ℕ → Result (Span × ℕ) Misfit
 bytes_at text at = needs NoBytes text at (λ word after. Ok (record { place = at; len = length word }, after))
 
-abbrev pub told_or : Option ℕ → Fault → ℕ → ℕ → Result (Told × ℕ) Misfit
-told_or (Some value) fault at after = Ok (record { value = value; place = at }, after)
-told_or None fault at after = misfit fault at
+abbrev pub told_or_misfit : Option ℕ → Fault → ℕ → ℕ → Result (Told × ℕ) Misfit
+told_or_misfit (Some value) fault at after = Ok (record { value = value; place = at }, after)
+told_or_misfit None fault at after = misfit fault at
 
 abbrev pub number_at : Fault → ℕ → List ℕ → ℕ → Result (Told × ℕ) Misfit
-number_at fault most text at = needs NoCount text at (λ word after. told_or (number_in most word) fault at after)
+number_at fault most text at = needs NoCount text at (λ word after. told_or_misfit (number_in most word) fault at after)
 
 -- whether more fragments come after it
 abbrev pub more_at : List ℕ → ℕ → Result (Bool × ℕ) Misfit
@@ -110,8 +110,8 @@ is_changed Right = false
 is_changed Missing = true
 is_changed Wrong = true
 
-abbrev pub mark_of : List ℕ → Option Mark
-mark_of word =
+abbrev pub mark_named : List ℕ → Option Mark
+mark_named word =
     if bytes_eq word (codes "id") then Some mark.Id else
     if bytes_eq word (codes "ttl") then Some mark.Ttl else
     if bytes_eq word (codes "at") then Some mark.Offset else
@@ -133,25 +133,25 @@ has f mark.BadUdp = is_changed f.sum
 has f mark.NoSum = is_changed f.sum
 
 abbrev pub with_id : Form → List ℕ → ℕ → Result (Form × ℕ) Misfit
-with_id f text at = next (number_at NoId 65535 text at) (λ t. Ok (record f { id = Some t.0.value }, t.1))
+with_id f text at = and_then (number_at NoId 65535 text at) (λ t. Ok (record f { id = Some t.0.value }, t.1))
 
-abbrev pub with_ttl : Form → List ℕ → ℕ → Result (Form × ℕ) Misfit
-with_ttl f text at = next (number_at NoTtl 255 text at) (λ t. Ok (record f { ttl = Some t.0.value }, t.1))
+abbrev pub ttl_read : Form → List ℕ → ℕ → Result (Form × ℕ) Misfit
+ttl_read f text at = and_then (number_at NoTtl 255 text at) (λ t. Ok (record f { ttl = Some t.0.value }, t.1))
 
 abbrev pub with_size : Form → List ℕ → ℕ → Result (Form × ℕ) Misfit
-with_size f text at = next (number_at NoSize 65515 text at) (λ t. Ok (record f { size = Some t.0 }, t.1))
+with_size f text at = and_then (number_at NoSize 65515 text at) (λ t. Ok (record f { size = Some t.0 }, t.1))
 
 -- where a fragment begins, a multiple of 8
 abbrev pub with_offset : Form → List ℕ → ℕ → Result (Form × ℕ) Misfit
-with_offset f text at = next (number_at NoOffset 65528 text at) (λ t.
+with_offset f text at = and_then (number_at NoOffset 65528 text at) (λ t.
     if t.0.value % 8 == 0
-    then next (more_at text t.1) (λ m. Ok (record f { offset = Some t.0; more = m.0 }, m.1))
+    then and_then (more_at text t.1) (λ m. Ok (record f { offset = Some t.0; more = m.0 }, m.1))
     else misfit NoOffset t.0.place)
 
 -- after a word that says this, where what belongs to it begins at a place
 abbrev pub with_mark : Form → Mark → List ℕ → ℕ → Result (Form × ℕ) Misfit
 with_mark f mark.Id text at = with_id f text at
-with_mark f mark.Ttl text at = with_ttl f text at
+with_mark f mark.Ttl text at = ttl_read f text at
 with_mark f mark.Offset text at = with_offset f text at
 with_mark f mark.Size text at = with_size f text at
 with_mark f mark.Whole text at = Ok (record f { whole = true }, at)
@@ -165,7 +165,7 @@ marked f (Some m) text at after = if has f m then misfit ToldTwice at else with_
 
 -- after this word at this place, and what belongs to it
 unfoldable pub with_word_at : Form → List ℕ → List ℕ → ℕ → Result (Form × ℕ) Misfit
-with_word_at f word text at = marked f (mark_of word) text at (at + length word + 1)
+with_word_at f word text at = marked f (mark_named word) text at (at + length word + 1)
 
 -- ---- all words
 
@@ -178,13 +178,14 @@ if_word (Some word) other more = more word
 abbrev pub marks_after : ℕ → List ℕ → Form → ℕ → Result Form Misfit
 marks_after zero text f at = Ok f
 marks_after (suc n) text f at = if_word (word_at text at) (Ok f) (λ word.
-    next (with_word_at f word text at) (λ t. marks_after n text t.0 t.1))
+    and_then (with_word_at f word text at) (λ t. marks_after n text t.0 t.1))
 
 -- what stands after `rx udp`, and the word of the bytes
 abbrev pub form_of : List ℕ → Result (Form × Span) Misfit
-form_of text = next (end_at text 7) (λ s. next (arrow_at text s.1) (λ a. next (end_at text a) (λ d.
-    next (bytes_at text d.1) (λ b. next (marks_after (length text) text (fresh s.0 d.0) b.1) (λ f. Ok (f, b.0))))))
+form_of text = and_then (end_read text 7) (λ s. and_then (arrow_at text s.1) (λ a. and_then (end_read text a) (λ d.
+    and_then (bytes_at text d.1) (λ b. and_then (marks_after (length text) text (fresh s.0 d.0) b.1)
+    (λ f. Ok (f, b.0))))))
 
 -- the line names a packet
-abbrev pub is_named : List ℕ → Bool
-is_named text = is_word (codes "rx") (word_at text 0) && is_word (codes "udp") (word_at text 3)
+abbrev pub names_packet : List ℕ → Bool
+names_packet text = is_word (codes "rx") (word_at text 0) && is_word (codes "udp") (word_at text 3)

@@ -23,10 +23,10 @@ some_bytes (Ok bytes) = if length bytes == 0 || nat_lt 65535 (length bytes) then
 some_bytes (Err fault) = None
 
 -- the bytes that a word writes, as in any line: a dash for none, or the digits of 1 to 65,535 bytes
-abbrev pub bytes_in : List ℕ → Option (List ℕ)
-bytes_in word = if bytes_eq word (codes "-") then Some [] else some_bytes (decode_of word)
+abbrev pub word_bytes : List ℕ → Option (List ℕ)
+word_bytes word = if bytes_eq word (codes "-") then Some [] else some_bytes (decode_of word)
 
 -- so many bytes of a room, if any
-abbrev pub front_of : List ℕ → Option ℕ → Option (List ℕ)
-front_of room None = None
-front_of room (Some n) = Some (take n room)
+abbrev pub front_of_room : List ℕ → Option ℕ → Option (List ℕ)
+front_of_room room None = None
+front_of_room room (Some n) = Some (take n room)

@@ -4,7 +4,7 @@ ghost use Rattle.params.specs.declared.TheConstants.{IP_MAX_DATA};
 ghost use Rattle.flat_model.specs.Packets.Checksum.{checksum as checksum_of};
 ghost use Rattle.flat_model.specs.Packets.Header as header;
 ghost use Rattle.play_packet.specs.Builds as builds;
-ghost use Rattle.play_packet.specs.Numbers.{bytes_in as bytes_of_word};
+ghost use Rattle.play_packet.specs.Numbers.{word_bytes as bytes_of_word};
 ghost use Rattle.play_packet.specs.Reads.{put_or};
 
 use crate::form::{Form, Misfit, Sum, Told, refuse};
@@ -188,7 +188,7 @@ fn value_or(default: usize, told: Option<Told>) -> usize
 
 /// Where a number was told.
 fn place_of(told: Option<Told>) -> usize
-    ensures { result ≡ builds.place_of told }
+    ensures { result ≡ builds.told_place told }
 {
     match told {
         Some(told) => told.place,
@@ -367,7 +367,7 @@ impl Builder {
 
     /// Builds the packet that the words after `rx udp` name in the second buffer.
     pub(crate) fn build(&mut self, text: &[u8]) -> Result<(), Misfit>
-        ensures is { put_or result self.new.second ≡ builds.packet_in text.now }
+        ensures is { put_or result self.new.second ≡ builds.packet_named text.now }
         ensures most { OnOk result (length self.new.second ≤ 65535) }
     {
         match Form::read(text) {

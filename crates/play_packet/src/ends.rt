@@ -8,7 +8,7 @@ use play_line::Fault;
 
 /// Where a byte is first.
 fn place_of(sought: u8, text: &[u8]) -> Option<usize>
-    ensures is { result ≡ ends.place_of sought text.now }
+    ensures is { result ≡ ends.first_place sought text.now }
     ensures most { IfSome result (λ at. at < length text.now) }
 {
     text.iter().position(|byte| *byte == sought)

@@ -85,14 +85,14 @@ pub(crate) fn refuse<T>(fault: Fault, place: usize) -> Result<T, Misfit>
 
 /// Whether a line names a packet.
 pub(crate) fn is_named(text: &[u8]) -> bool
-    ensures { result ≡ forms.is_named text.now }
+    ensures { result ≡ forms.names_packet text.now }
 {
     is_word(b"rx".as_slice(), word_at(text, 0)) && is_word(b"udp".as_slice(), word_at(text, 3))
 }
 
 /// An end of the datagram, and the place after it.
 fn end_at(text: &[u8], at: usize) -> Result<(Addr, usize), Misfit>
-    ensures { result ≡ forms.end_at text.now at }
+    ensures { result ≡ forms.end_read text.now at }
 {
     let Some(word) = word_at(text, at) else {
         return refuse(Fault::NoEnd, at);
@@ -163,7 +163,7 @@ fn more_at(text: &[u8], at: usize) -> Result<(bool, usize), Misfit>
 
 /// What a word says.
 fn mark_of(word: &[u8]) -> Option<Mark>
-    ensures { result ≡ forms.mark_of word.now }
+    ensures { result ≡ forms.mark_named word.now }
 {
     if word == b"id".as_slice() {
         return Some(Mark::Id);
@@ -249,7 +249,7 @@ impl Form {
 
     /// The number after `ttl`.
     fn with_ttl(self, text: &[u8], at: usize) -> Result<(Form, usize), Misfit>
-        ensures { result ≡ forms.with_ttl self text.now at }
+        ensures { result ≡ forms.ttl_read self text.now at }
     {
         let (ttl, after) = number_at(Fault::NoTtl, 255, text, at)?;
         let ttl = Some(ttl.value as u8);

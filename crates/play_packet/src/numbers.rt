@@ -38,7 +38,7 @@ pub(crate) fn number_in(word: &[u8], most: u32) -> Option<u32>
 /// Puts the bytes that a word writes into the room, and answers how many they are.
 pub(crate) fn bytes_in(word: &[u8], room: &mut [u8]) -> Option<usize>
     requires { length room.old ≡ IP_MAX_PACKET }
-    ensures is { numbers.front_of room.new result ≡ numbers.bytes_in word.now }
+    ensures is { numbers.front_of_room room.new result ≡ numbers.word_bytes word.now }
     ensures most { IfSome result (λ n. n ≤ IP_MAX_PACKET) }
     ensures len { length room.new ≡ IP_MAX_PACKET }
 {

@@ -12,7 +12,7 @@ fn space_in(text: &[u8]) -> Option<usize>
 
 /// The word in front of a text.
 fn word_in(text: &[u8]) -> &[u8]
-    ensures is { result.now ≡ forms.word_in text.now }
+    ensures is { result.now ≡ forms.first_word text.now }
     ensures most { length result.now ≤ length text.now }
 {
     match space_in(text) {
@@ -51,7 +51,7 @@ fn last_place(text: &[u8]) -> usize
 
 /// The place of a word of a text, or of its last one if there's no word at this place.
 pub(crate) fn place_in(text: &[u8], at: usize) -> usize
-    ensures { result ≡ forms.place_in text.now at }
+    ensures { result ≡ forms.word_place text.now at }
 {
     if text.len() < at {
         last_place(text)

@@ -4,18 +4,18 @@ use Rattle.std.specs.List.{AllByRecursion}
 use Rattle.std.specs.Int.{w16}
 use Rattle.std.proofs.lemmas.Bool.{le-ltb}
 use Rattle.flat_model.specs.Machine.Event.{Event, Comes}
-use Rattle.pcap.specs.File.{IsHeader, header_bytes, our_header, number_of}
+use Rattle.pcap.specs.File.{IsHeader, file_header_bytes, our_header, number_of}
 use Rattle.pcap.specs.Frames.{unpadded}
-use Rattle.pcap.specs.Records.{Fits, Reads, Whole, records_bytes}
+use Rattle.pcap.specs.Records.{FitsFields, Reads, Whole, records_bytes}
 use Rattle.pcap.specs.declared.header.Order.TheVariants.{Big}
-use Rattle.play_pcap.specs.Events.{events_of, played, taken}
+use Rattle.play_pcap.specs.Events.{record_events, played, taken}
 use Rattle.play_pcap.specs.Traces.{IsPass, Pass, file_of, passes_bytes, record_of}
 
 our_header_is : IsHeader our_header
 our_header_is =
     record { time_zone = lit< tt; accuracy = lit< tt; snap_len = lit< tt; link_field = lit< tt; link = refl }
 
-all_fit : (ps : List Pass) → AllByRecursion IsPass ps → AllByRecursion Fits (map record_of ps)
+all_fit : (ps : List Pass) → AllByRecursion IsPass ps → AllByRecursion FitsFields (map record_of ps)
 all_fit [] h = tt
 all_fit (p ∷ ps) h =
     let ticks = h.0.ticks in
@@ -24,9 +24,10 @@ all_fit (p ∷ ps) h =
       all_fit ps h.1,
     )
 
-pub read_back : ((w : Whole) → IsHeader w.header → AllByRecursion Fits w.records
-    → Reads (header_bytes w.header ++ records_bytes w.header.order w.records) (Ok w))
-    → (ps : List Pass) → AllByRecursion IsPass ps → Reads (header_bytes our_header ++ passes_bytes ps) (Ok (file_of ps))
+pub read_back : ((w : Whole) → IsHeader w.header → AllByRecursion FitsFields w.records
+    → Reads (file_header_bytes w.header ++ records_bytes w.header.order w.records) (Ok w))
+    → (ps : List Pass) → AllByRecursion IsPass ps
+    → Reads (file_header_bytes our_header ++ passes_bytes ps) (Ok (file_of ps))
 read_back law ps h = law (file_of ps) our_header_is (all_fit ps h)
 
 take_shorter : (n : ℕ) (bytes : List ℕ) → length (take n bytes) ≤ length bytes
@@ -49,9 +50,9 @@ whole_packet bytes short =
     let no : ltb 65_535 (length (unpadded bytes)) ≡ false = le-ltb _ _ small in rw no refl
 
 plays : (begin : ℕ) (ps : List Pass) → AllByRecursion IsPass ps
-    → events_of (record { header = our_header; ticks = false; begin = begin }) 0 (map record_of ps)
+    → record_events (record { header = our_header; ticks = false; begin = begin }) 0 (map record_of ps)
     ≡ map (λ (p : Pass). Comes (unpadded p.packet)) ps
-unfolding events_of
+unfolding record_events
 plays begin [] h = refl
 plays begin (p ∷ ps) h =
     rw (whole_packet p.packet h.0.short) (ap (λ (es : List Event). Comes (unpadded p.packet) ∷ es) (plays begin ps h.1))

@@ -1,7 +1,7 @@
 -- Events one after another.
 use Rattle.std.proofs.Common.{◌≡◌, ℕ, suc, zero, ◌+◌, ◌-◌, ◌<◌, List, [], ◌∷◌, ◌++◌, replicate, sym, ap, ◌∙◌, subst, arith}
 use Rattle.flat_model.specs.Machine.Event.{Event, Comes, Tick}
-use Rattle.play_pcap.specs.Events.{Goes, came, ticked}
+use Rattle.play_pcap.specs.Events.{Goes, came, ticks_in}
 
 pub goes_append : {S : Type 0} (go : S → Event → S → Type 0) (xs ys : List Event) (a b c : S)
     → Goes go xs a b → Goes go ys b c → Goes go (xs ++ ys) a c
@@ -33,10 +33,10 @@ pub came_move : (n : ℕ) (packet : List ℕ) (es all : List Event) → all ≡ 
 came_move n packet es all is = ap came is ∙ came_after n packet es
 
 ticked_after : (n : ℕ) (packet : List ℕ) (es : List Event)
-    → ticked (replicate n Tick ++ Comes packet ∷ es) ≡ n + ticked es
+    → ticks_in (replicate n Tick ++ Comes packet ∷ es) ≡ n + ticks_in es
 ticked_after zero packet es = omega arith
 ticked_after (suc n) packet es = ap suc (ticked_after n packet es) ∙ omega arith
 
 pub ticked_move : (n : ℕ) (packet : List ℕ) (es all : List Event) → all ≡ replicate n Tick ++ Comes packet ∷ es
-    → ticked all ≡ n + ticked es
-ticked_move n packet es all is = ap ticked is ∙ ticked_after n packet es
+    → ticks_in all ≡ n + ticks_in es
+ticked_move n packet es all is = ap ticks_in is ∙ ticked_after n packet es

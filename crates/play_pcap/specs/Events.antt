@@ -2,7 +2,7 @@
 use Rattle.std.specs.Prelude.{◌≡◌, ℕ, ◌+◌, ◌-◌, ◌/◌, ◌<◌, ◌≤◌, suc, Bool, List, [], ◌∷◌, ◌++◌, length, take, drop, map, min, max, replicate, nat_lt, if◌then◌else◌, Option, Some, None, Result, Ok, Err}
 use Rattle.std.specs.Borrow.{Bor}
 use Rattle.flat_model.specs.Machine.Event.{Event, Comes, Tick}
-use Rattle.pcap.specs.Frames.{packet_of}
+use Rattle.pcap.specs.Frames.{packet_in_frame}
 use Rattle.pcap.specs.Records.{Captured, Reads, Whole, nanoseconds}
 use Rattle.pcap.specs.Seen.{captured}
 use Rattle.pcap.specs.declared.header.Header.{Header}
@@ -26,8 +26,8 @@ taken (Ok packet) = if nat_lt 65_535 (length packet) then None else Some packet
 taken (Err none) = None
 
 -- the packet in a record
-abbrev pub packet_in : LinkType → List ℕ → Option (List ℕ)
-packet_in link bytes = taken (packet_of link bytes)
+abbrev pub packet_in_record : LinkType → List ℕ → Option (List ℕ)
+packet_in_record link bytes = taken (packet_in_frame link bytes)
 
 abbrev pub seen_packet : Option (Bor (List ℕ)) → Option (List ℕ)
 seen_packet None = None
@@ -49,11 +49,11 @@ put_before (Some packet) n after skipped = replicate n Tick ++ Comes packet ∷ 
 put_before None n after skipped = skipped
 
 -- what the records do after so many ticks
-unfoldable pub events_of : Course → ℕ → List Captured → List Event
-events_of k passed [] = []
-events_of k passed (c ∷ cs) =
-    put_before (packet_in k.header.link c.bytes) (due k c - passed) (events_of k (max passed (due k c)) cs)
-    (events_of k passed cs)
+unfoldable pub record_events : Course → ℕ → List Captured → List Event
+record_events k passed [] = []
+record_events k passed (c ∷ cs) =
+    put_before (packet_in_record k.header.link c.bytes) (due k c - passed) (record_events k (max passed (due k c)) cs)
+    (record_events k passed cs)
 
 -- the records that are asked for
 abbrev pub selected : {A : Type 0} → Option Range → List A → List A
@@ -78,7 +78,7 @@ course_of ticks h cs = record { header = h; ticks = ticks; begin = begin_of h cs
 
 -- what these records of a capture do
 abbrev pub played : Bool → Header → List Captured → List Event
-played ticks h cs = events_of (course_of ticks h cs) 0 cs
+played ticks h cs = record_events (course_of ticks h cs) 0 cs
 
 -- what a capture does, one event after another: packets come, and ticks pass
 abbrev pub capture_events : Details → Whole → List Event
@@ -99,14 +99,14 @@ pub record Going : Type 0 where
 abbrev pub going : Moves → Going
 going m = record { course = m.course; passed = m.passed; rest = map captured m.rest.now }
 
-abbrev pub left_of : Going → List Event
-left_of g = events_of g.course g.passed g.rest
+abbrev pub events_left : Going → List Event
+events_left g = record_events g.course g.passed g.rest
 
 -- the next packet with its ticks, and what is left behind it
 abbrev pub Moves_on : Going → Option Move → Going → Type 0
-Moves_on old None new = (left_of old ≡ []) × (new.passed ≡ old.passed)
+Moves_on old None new = (events_left old ≡ []) × (new.passed ≡ old.passed)
 Moves_on old (Some m) new =
-    (left_of old ≡ replicate m.ticks Tick ++ Comes m.packet.now ∷ left_of new) × (length m.packet.now ≤ 65_535)
+    (events_left old ≡ replicate m.ticks Tick ++ Comes m.packet.now ∷ events_left new) × (length m.packet.now ≤ 65_535)
     × (new.passed ≡ old.passed + m.ticks) × (length new.rest < length old.rest)
 
 -- ---- what came of it
@@ -117,13 +117,13 @@ came [] = 0
 came (Comes packet ∷ es) = suc (came es)
 came (e ∷ es) = came es
 
-abbrev pub ticked : List Event → ℕ
-ticked [] = 0
-ticked (Tick ∷ es) = suc (ticked es)
-ticked (e ∷ es) = ticked es
+abbrev pub ticks_in : List Event → ℕ
+ticks_in [] = 0
+ticks_in (Tick ∷ es) = suc (ticks_in es)
+ticks_in (e ∷ es) = ticks_in es
 
 abbrev pub tally_of : ℕ → List Event → Tally
-tally_of n es = record { packets = came es; others = n - came es; ticks = ticked es }
+tally_of n es = record { packets = came es; others = n - came es; ticks = ticks_in es }
 
 -- the events happen one after another
 abbrev pub Goes : {S : Type 0} → (S → Event → S → Type 0) → List Event → S → S → Type 0

@@ -14,22 +14,22 @@ why_words BadLinkType = codes "unknown link type"
 why_words RecordCut = codes "record header cut short"
 why_words BytesCut = codes "record cut short"
 
-abbrev pub words_of : CaptureFault → List ℕ
-words_of NotOpened = codes "it can't be opened"
-words_of NotRead = codes "reading failed"
-words_of TooLong = codes "longer than 16777216 bytes"
-words_of Memory = codes "no memory"
-words_of TooFew = codes "it has fewer records"
-words_of (Bad fault) = why_words fault.why
+abbrev pub capture_fault_words : CaptureFault → List ℕ
+capture_fault_words NotOpened = codes "it can't be opened"
+capture_fault_words NotRead = codes "reading failed"
+capture_fault_words TooLong = codes "longer than 16777216 bytes"
+capture_fault_words Memory = codes "no memory"
+capture_fault_words TooFew = codes "it has fewer records"
+capture_fault_words (Bad fault) = why_words fault.why
 
 -- where a bad file is wrong
-abbrev pub place_of : CaptureFault → List ℕ
-place_of (Bad fault) = codes " at byte " ++ decimal fault.offset
-place_of _ = []
+abbrev pub fault_place : CaptureFault → List ℕ
+fault_place (Bad fault) = codes " at byte " ++ decimal fault.offset
+fault_place _ = []
 
 -- what is told of a capture that was played in, or wasn't
-abbrev pub outcome_text : Result Tally CaptureFault → List ℕ
-outcome_text (Ok t) =
+abbrev pub capture_text : Result Tally CaptureFault → List ℕ
+capture_text (Ok t) =
     codes "ok " ++ decimal t.packets ++ codes " packets, " ++ decimal t.others ++ codes " others, "
     ++ decimal t.ticks ++ codes " ticks"
-outcome_text (Err fault) = codes "error " ++ words_of fault ++ place_of fault
+capture_text (Err fault) = codes "error " ++ capture_fault_words fault ++ fault_place fault

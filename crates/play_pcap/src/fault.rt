@@ -1,6 +1,6 @@
 //! Why a capture wasn't played.
 ghost use Rattle.std.specs.Prelude.{◌≡◌, ◌≤◌, length};
-ghost use Rattle.play_pcap.specs.Told.{words_of, why_words};
+ghost use Rattle.play_pcap.specs.Told.{capture_fault_words, why_words};
 
 use pcap::{Fault, Why};
 
@@ -39,7 +39,7 @@ pub(crate) fn words_for(why: Why) -> &'static str
 impl CaptureFault {
     /// Why, in words; of a bad file without the offset.
     pub(crate) fn words(self) -> &'static str
-        ensures is { result.now ≡ words_of self }
+        ensures is { result.now ≡ capture_fault_words self }
         ensures short { length result.now ≤ 32 }
     {
         match self {

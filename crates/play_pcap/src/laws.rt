@@ -5,7 +5,7 @@ ghost use Rattle.flat_model.specs.Machine.Event.{Comes};
 ghost use Rattle.flat_model.specs.Scripts.Grammar.{IsLine};
 ghost use Rattle.flat_model.specs.Scripts.Texts.{hex_text};
 ghost use Rattle.hex.specs.Hex.{IsBytes};
-ghost use Rattle.pcap.specs.File.{header_bytes, our_header};
+ghost use Rattle.pcap.specs.File.{file_header_bytes, our_header};
 ghost use Rattle.pcap.specs.Frames.{unpadded};
 ghost use Rattle.pcap.specs.Records.{Reads};
 ghost use Rattle.play_pcap.specs.Events.{played};
@@ -22,7 +22,7 @@ pub fn trace_law()
 /// The file of these packets reads as these, each whole, in their order.
 pub fn read_back_law()
     ensures { (ps : List Pass) → AllByRecursion IsPass ps
-        → Reads (header_bytes our_header ++ passes_bytes ps) (Ok (file_of ps)) }
+        → Reads (file_header_bytes our_header ++ passes_bytes ps) (Ok (file_of ps)) }
 {
     written_is_read();
 }

@@ -52,7 +52,7 @@ pub(crate) struct Moves<'a> {
 
 /// The packet in a record, if there is one that a machine takes.
 fn packet_in<'a>(link: LinkType, bytes: &'a [u8]) -> Option<&'a [u8]>
-    ensures is { events.seen_packet result ≡ events.packet_in link bytes.now }
+    ensures is { events.seen_packet result ≡ events.packet_in_record link bytes.now }
     ensures short { IfSome result (λ p. length p.now ≤ 65535) }
 {
     match ipv4_packet(link, bytes) {

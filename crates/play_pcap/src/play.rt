@@ -2,7 +2,7 @@
 ghost use Rattle.std.specs.Prelude.{◌≡◌, ◌≤◌, ◌+◌, length, map, replicate};
 ghost use Rattle.flat_model.specs.Machine.Event.{Tick};
 ghost use Rattle.pcap.specs.Seen.{captured};
-ghost use Rattle.play_pcap.specs.Events.{Goes, IsOrdered, PlaysFile, Selects, came, going, left_of, played, tally_of, ticked};
+ghost use Rattle.play_pcap.specs.Events.{Goes, IsOrdered, PlaysFile, Selects, came, going, events_left, played, tally_of, ticks_in};
 
 use crate::ask::{Details, Range};
 use crate::fault::CaptureFault;
@@ -25,10 +25,10 @@ fn tick_all<X: Wire>(wire: &mut X, count: u32)
 /// Lets all packets come that are left, with their ticks, and answers how many they were.
 fn go_all<X: Wire>(wire: &mut X, moves: &mut Moves<'_>) -> u64
     requires { moves.old.passed ≤ 65535 }
-    ensures goes { Goes X.may_go (left_of (going moves.old)) (X.state wire.old) (X.state wire.new) }
-    ensures packets { result ≡ came (left_of (going moves.old)) }
+    ensures goes { Goes X.may_go (events_left (going moves.old)) (X.state wire.old) (X.state wire.new) }
+    ensures packets { result ≡ came (events_left (going moves.old)) }
     ensures most { result ≤ length moves.old.rest.now }
-    ensures ticks { moves.new.passed ≡ moves.old.passed + ticked (left_of (going moves.old)) }
+    ensures ticks { moves.new.passed ≡ moves.old.passed + ticks_in (events_left (going moves.old)) }
 {
     let mut packets: u64 = 0;
     while let Some(next) = moves.next_move() {

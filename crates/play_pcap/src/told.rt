@@ -1,6 +1,6 @@
 //! What is told of a capture.
 ghost use Rattle.std.specs.Prelude.{◌≡◌, ◌+◌, ◌≤◌, ◌++◌, length};
-ghost use Rattle.play_pcap.specs.Told.{outcome_text, place_of};
+ghost use Rattle.play_pcap.specs.Told.{capture_text, fault_place};
 
 use crate::fault::CaptureFault;
 use crate::moves::Tally;
@@ -14,7 +14,7 @@ pub const OUTCOME: usize = 128;
 /// Puts after the text where a bad file is wrong.
 fn put_place<const N: usize>(text: &mut Buffer<N>, fault: CaptureFault)
     requires { length text.old + 30 ≤ N }
-    ensures items { text.new ≡ text.old ++ place_of fault }
+    ensures items { text.new ≡ text.old ++ fault_place fault }
     ensures len { length text.new ≤ length text.old + 30 }
 {
     if let CaptureFault::Bad(fault) = fault {
@@ -26,7 +26,7 @@ fn put_place<const N: usize>(text: &mut Buffer<N>, fault: CaptureFault)
 /// none, and how many ticks passed; or why nothing happened, with the offset in a bad file.
 pub fn put_outcome<const N: usize>(text: &mut Buffer<N>, outcome: Result<Tally, CaptureFault>)
     requires { length text.old + OUTCOME ≤ N }
-    ensures items { text.new ≡ text.old ++ outcome_text outcome }
+    ensures items { text.new ≡ text.old ++ capture_text outcome }
     ensures len { length text.new ≤ length text.old + OUTCOME }
 {
     match outcome {

@@ -1,7 +1,7 @@
 //! The capture of a run, which is written as packets come and go.
 ghost use Rattle.std.specs.Prelude.{◌≡◌, ◌≤◌, ◌+◌, length};
 ghost use Rattle.params.specs.declared.TheConstants.{IP_MAX_PACKET};
-ghost use Rattle.pcap.specs.File.{header_bytes, our_header};
+ghost use Rattle.pcap.specs.File.{file_header_bytes, our_header};
 ghost use Rattle.play_pcap.specs.Traces.{Keeps, Sent, later, pass_at, pass_bytes, unwritten};
 
 use pcap::{file_header, record_header};
@@ -63,7 +63,7 @@ impl<W: Sink> Trace<W> {
     /// Begins a capture: writes the header of its file.
     pub fn begin(mut sink: W, room: Buffer<RECORD>) -> Trace<W>
         ensures ticks { result.ticks ≡ 0 }
-        ensures kept { Keeps (unwritten (W.contents sink)) result (header_bytes our_header) }
+        ensures kept { Keeps (unwritten (W.contents sink)) result (file_header_bytes our_header) }
     {
         let whole = send(&mut sink, &file_header());
         Trace {

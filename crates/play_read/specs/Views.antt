@@ -21,9 +21,9 @@ asked_by (Some ask) = Some (ask_of ask)
 asked_by None = None
 
 -- no packet is longer than one can be, and no range of records ends before it begins
-abbrev pub IsSound : Ask → Type 0
-IsSound (Call request) = room_of request ≤ IP_MAX_PACKET
-IsSound (Ticks n) = Unit {0}
-IsSound (Show topic) = Unit {0}
-IsSound (Capture capture) = IsOrdered capture.details.range
-IsSound (Settings plain) = Unit {0}
+abbrev pub IsSoundAsk : Ask → Type 0
+IsSoundAsk (Call request) = room_of request ≤ IP_MAX_PACKET
+IsSoundAsk (Ticks n) = Unit {0}
+IsSoundAsk (Show topic) = Unit {0}
+IsSoundAsk (Capture capture) = IsOrdered capture.details.range
+IsSoundAsk (Settings plain) = Unit {0}

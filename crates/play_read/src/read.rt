@@ -2,7 +2,7 @@
 ghost use Rattle.std.specs.Prelude.{◌≡◌, length, IfSome};
 ghost use Rattle.params.specs.declared.TheConstants.{IP_MAX_PACKET};
 ghost use Rattle.play_read.specs.Asks.{AsksFor};
-ghost use Rattle.play_read.specs.Views.{asked_by, IsSound};
+ghost use Rattle.play_read.specs.Views.{asked_by, IsSoundAsk};
 
 use crate::ask::Ask;
 use crate::settings::is_settings;
@@ -15,7 +15,7 @@ use request::request_of;
 pub fn ask_of<'l, 'r>(plain: &'l [u8], room: &'r mut [u8]) -> Option<Ask<'l, 'r>>
     requires { length room.old ≡ IP_MAX_PACKET }
     ensures asks { AsksFor plain.now (asked_by result) }
-    ensures sound { IfSome result IsSound }
+    ensures sound { IfSome result IsSoundAsk }
 {
     if is_settings(plain) {
         return Some(Ask::Settings(plain));

@@ -14,7 +14,7 @@ use Rattle.play_script.specs.Inside.{IsTold, IsToldAs}
 use Rattle.play_script.specs.Lines.{Reading, Asks, reading}
 use Rattle.play_script.specs.Plays.{CapturedView, captured_of}
 use Rattle.play_script.specs.Tells.{Play, Tells, TellsAsk, TellsAsked, TellsReading, TellsSettings, is_sound, next_line, stays_head, told_text}
-use Rattle.play_script.specs.Views.{plain_of}
+use Rattle.play_script.specs.Views.{plain_line}
 use Rattle.play_script.specs.declared.line.Line.{Line}
 use Rattle.play_script.specs.declared.tell.Told.{Told}
 use Rattle.play_script.specs.declared.tell.Told.TheVariants as told
@@ -71,10 +71,10 @@ words_if : (b : Bool) (packet plain : List ℕ) (named : List (List ℕ))
 words_if true packet plain named h = absurd (false≢true h.0)
 words_if false packet plain named h = refl
 
-pub settings_words : (line : Line) (ask : Ask) (named : List (List ℕ)) → AsksFor (plain_of line) (Some ask)
-    → ask ≡ Settings named → line.words ≡ plain_of line
+pub settings_words : (line : Line) (ask : Ask) (named : List (List ℕ)) → AsksFor (plain_line line) (Some ask)
+    → ask ≡ Settings named → line.words ≡ plain_line line
 settings_words line ask named asks is =
-    words_if line.named line.packet line.words named (subst (λ (a : Ask). Writes (plain_of line) a) is asks)
+    words_if line.named line.packet line.words named (subst (λ (a : Ask). Writes (plain_line line) a) is asks)
 
 -- a line of settings
 pub Settings-tell : (step : State → Event → Reply → State → Type 0) (has : List ℕ → List ℕ → Type 0)

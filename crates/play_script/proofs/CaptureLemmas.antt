@@ -9,7 +9,7 @@ use Rattle.pcap.specs.Records.{Captured, record_bytes}
 use Rattle.pcap.specs.declared.header.Order.TheVariants.{Little}
 use Rattle.play_pcap.specs.Traces.{Keeps, Pass, SentAfter, Traced, later, pass_at, pass_bytes, passes_bytes, record_of}
 use Rattle.play_script.proofs.DeedLemmas.{ticks_move}
-use Rattle.play_script.specs.Deeds.{moved_in, turns_of}
+use Rattle.play_script.specs.Deeds.{moved_in, turns_with}
 use Rattle.play_script.specs.Captures.{Captures, Notes, after_ticks, all_passes, later_by, moved_by, pass_if, passes, tick_in, ticks_after, turn_of}
 use Rattle.play_script.specs.Inside.{events_of, ticks_of}
 use Rattle.play_script.specs.declared.deed.Deed.{Deed}
@@ -54,11 +54,11 @@ pub Notes-ticks : (number n : ℕ) (old mid new : Traced) (moved : Option (List 
 Notes-ticks number n old mid new moved h is =
     subst (λ (t : Traced). Notes number old moved n t) (sym is) (h.0, ap (λ (t : ℕ). later_by n t) h.1)
 
-ticks_pass : (number n t : ℕ) (reply : Reply) → passes number t (turns_of (replicate n Tick) reply) ≡ []
+ticks_pass : (number n t : ℕ) (reply : Reply) → passes number t (turns_with (replicate n Tick) reply) ≡ []
 ticks_pass number zero t reply = refl
 ticks_pass number (suc n) t reply = ticks_pass number n (later t) reply
 
-ticks_later : (n t : ℕ) (reply : Reply) → later_by n t ≡ ticks_after t (turns_of (replicate n Tick) reply)
+ticks_later : (n t : ℕ) (reply : Reply) → later_by n t ≡ ticks_after t (turns_with (replicate n Tick) reply)
 ticks_later zero t reply = refl
 ticks_later (suc n) t reply = ticks_later n (later t) reply
 
@@ -78,7 +78,7 @@ Captures-one number old new event reply moved n is ticks h = (
 -- what a line has a machine do
 pub Captures-deed : (number : ℕ) (old new : Traced) (deed : Deed) (reply : Reply) (moved : Option (List ℕ)) (n : ℕ)
     → moved ≡ moved_in (events_of deed) reply → n ≡ ticks_of deed → Notes number old moved n new
-    → Captures number old (turns_of (events_of deed) reply) new
+    → Captures number old (turns_with (events_of deed) reply) new
 Captures-deed number old new (Call request) reply moved n is ticks h =
     Captures-one number old new (event_of request) reply moved n is ticks h
 Captures-deed number old new (Ticks count) reply moved n is ticks h = (

@@ -20,7 +20,7 @@ and-and-false true b = and-false b
 and-and-false false b = refl
 
 -- `..` alone fits whatever is left
-pub rest-fits : (wanted told : List (List ℕ)) → outcomes.is_rest wanted ≡ true → outcomes.fits wanted told ≡ true
+pub rest-fits : (wanted told : List (List ℕ)) → outcomes.is_rest wanted ≡ true → outcomes.fits_words wanted told ≡ true
 rest-fits [] told e = absurd (Rattle.std.proofs.lemmas.Bool.false≢true e)
 rest-fits (word ∷ more) [] e = e
 rest-fits (word ∷ more) (got ∷ rest) e = rw e refl
@@ -32,19 +32,19 @@ rest-longer wanted [] word e some = absurd (some refl)
 rest-longer wanted (next ∷ more) word e some = rw e refl
 
 -- no more is told
-pub fits-end : (wanted : List (List ℕ)) → (wanted ≡ [] → ⊥) → outcomes.fits wanted [] ≡ outcomes.is_rest wanted
+pub fits-end : (wanted : List (List ℕ)) → (wanted ≡ [] → ⊥) → outcomes.fits_words wanted [] ≡ outcomes.is_rest wanted
 fits-end [] some = absurd (some refl)
 fits-end (word ∷ more) some = refl
 
-fits-fewer : (told : List (List ℕ)) → (told ≡ [] → ⊥) → outcomes.fits [] told ≡ false
+fits-fewer : (told : List (List ℕ)) → (told ≡ [] → ⊥) → outcomes.fits_words [] told ≡ false
 fits-fewer [] some = absurd (some refl)
 fits-fewer (got ∷ rest) some = refl
 
 -- a word that isn't the rest, by itself and what comes after it
 pub fits-step : (wanted told more rest : List (List ℕ)) (word got : List ℕ) → wanted ≡ word ∷ more → told ≡ got ∷ rest
     → outcomes.is_rest wanted ≡ false
-    → outcomes.fits wanted told
-    ≡ ((bytes_eq word (codes "_") || bytes_eq word got) && outcomes.fits more rest)
+    → outcomes.fits_words wanted told
+    ≡ ((bytes_eq word (codes "_") || bytes_eq word got) && outcomes.fits_words more rest)
 fits-step wanted told more rest word got e f none =
     rw (e, f) (
     let mine : outcomes.is_rest (word ∷ more) ≡ false = rw e at none in rw mine refl
@@ -53,13 +53,13 @@ fits-step wanted told more rest word got e f none =
 -- more words are wanted than were told, or fewer
 pub fits-longer : (wanted told more : List (List ℕ)) (word got : List ℕ) → wanted ≡ word ∷ more → told ≡ got ∷ []
     → (more ≡ [] → ⊥) → outcomes.is_rest wanted ≡ false → (bytes_eq word (codes "_") || bytes_eq word got) ≡ true
-    → outcomes.fits wanted told ≡ outcomes.is_rest more
+    → outcomes.fits_words wanted told ≡ outcomes.is_rest more
 fits-longer wanted told more word got e f some none same =
     rw (fits-step wanted told more [] word got e f none, same) (fits-end more some)
 
 pub fits-shorter : (wanted told more : List (List ℕ)) (word got : List ℕ) → wanted ≡ word ∷ [] → told ≡ got ∷ more
     → (more ≡ [] → ⊥) → outcomes.is_rest wanted ≡ false
-    → outcomes.fits wanted told ≡ false
+    → outcomes.fits_words wanted told ≡ false
 fits-shorter wanted told more word got e f some none =
     rw (fits-step wanted told [] more word got e f none, fits-fewer more some) (and-false _)
 

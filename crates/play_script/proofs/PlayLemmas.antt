@@ -19,7 +19,7 @@ use Rattle.play_script.proofs.CaptureLemmas.{Joins, Keeps-none, passes_bytes-app
 use Rattle.play_script.specs.Captures.{Captures, moved_by, pass_if, passes, ticks_after, ticks_by}
 use Rattle.play_script.specs.Lines.{Asks}
 use Rattle.play_script.specs.Plays.{ComesTo, CapturedView, came_turn}
-use Rattle.play_script.specs.Runs.{AreTurns}
+use Rattle.play_script.specs.Runs.{ArePlayedTurns}
 
 -- the bytes behind a reference are bytes
 pub are_bytes : (xs : List ℕ) → ((k : ℕ) → get_or xs k 0 < 256) → IsBytes xs
@@ -70,7 +70,7 @@ Goes-turns join (event ∷ events) old new (mid, went, rest) =
 abbrev pub MakesTurns : (List ℕ → List ℕ → Type 0) → List ℕ → List ℕ → Option (List ℕ) → CapturedView → CapturedView
     → Type 0
 MakesTurns has shown plain wanted old new =
-    (turns : List Turn) × AreTurns has (Asks shown plain wanted) turns
+    (turns : List Turn) × ArePlayedTurns has (Asks shown plain wanted) turns
     × Leads exact_ledger old.machine turns new.machine
     × Captures old.line old.traced turns new.traced
 

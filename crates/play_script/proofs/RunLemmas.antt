@@ -7,7 +7,7 @@ use Rattle.script_loop.specs.Serves.{Serves}
 use Rattle.script_loop.specs.declared.fault.RunFault.{RunFault}
 use Rattle.script_loop.specs.declared.fault.RunFault.TheVariants.{Read, Write, Memory, TooManyLines, BadSizes, BadConfig}
 use Rattle.script_loop.proofs.Laws.{Moves-none}
-use Rattle.link_script.specs.Boots.{IsUnbooted}
+use Rattle.link_script.specs.Boots.{IsRunUnbooted}
 use Rattle.play_text.specs.declared.form.Form.{Form}
 use Rattle.play_pcap.specs.Files.{no_folder}
 use Rattle.play_pcap.specs.Traces.{Traced, unwritten}
@@ -22,7 +22,7 @@ started-is machine traced config number sound form form' name name' c e f h s = 
 
 unserved : (step : State → Event → Reply → State → Type 0) (has : List ℕ → List ℕ → Type 0) (c : Config)
     (fault : RunFault) (begun : Play) (a w : Option (List ℕ))
-    → IsUnbooted c fault → Serves (Tells step has) begun begun a a w w (Err fault)
+    → IsRunUnbooted c fault → Serves (Tells step has) begun begun a a w w (Err fault)
 unserved step has c Memory begun a w h = (Moves-none a w, refl)
 unserved step has c BadSizes begun a w h = (Moves-none a w, refl)
 unserved step has c BadConfig begun a w h = (Moves-none a w, refl)
@@ -33,7 +33,7 @@ unserved step has c TooManyLines begun a w h = absurd h
 -- nothing is served without a machine
 pub Serves-unbooted : (step : State → Event → Reply → State → Type 0) (has : List ℕ → List ℕ → Type 0) (c : Config)
     (fault : RunFault) (traced : Traced)
-    (form : Form) (name : List ℕ) (a w : Option (List ℕ)) → IsUnbooted c fault
+    (form : Form) (name : List ℕ) (a w : Option (List ℕ)) → IsRunUnbooted c fault
     → (new : Play) × Serves (Tells step has) (started (boot c) traced form name) new a a w w (Err fault)
     × (true ≡ new.sound) × (traced ≡ new.traced)
 Serves-unbooted step has c fault traced form name a w h =
@@ -66,7 +66,7 @@ Untraced step machine form name a b w v r sound =
 
 pub Serves-untraced : (step : State → Event → Reply → State → Type 0) (c : Config) (fault : RunFault) (form : Form)
     (name : List ℕ)
-    (a w : Option (List ℕ)) → IsUnbooted c fault → Untraced step (boot c) form name a a w w (Err fault) true
+    (a w : Option (List ℕ)) → IsRunUnbooted c fault → Untraced step (boot c) form name a a w w (Err fault) true
 Serves-untraced step c fault form name a w h = (
   unwritten None,
   started (boot c) (unwritten None) form name,

@@ -4,9 +4,9 @@ use Rattle.std.proofs.lemmas.Bool.{false≢true}
 use Rattle.flat_model.specs.declared.config.Config.{Config}
 use Rattle.play_read.specs.Settings.{IsSet}
 use Rattle.play_read.specs.declared.fault.SettingFault.{SettingFault}
-use Rattle.play_script.specs.Tells.{IsRefused, IsSettled}
+use Rattle.play_script.specs.Tells.{IsSettingRefused, IsSettled}
 
 pub Settled-refused : (head : Bool) (old new : Config) (named : List (List ℕ)) (fault : SettingFault) → head ≡ true
-    → IsSet old named (Ok new) → IsRefused new fault → IsSettled head old named (Err fault)
+    → IsSet old named (Ok new) → IsSettingRefused new fault → IsSettled head old named (Err fault)
 Settled-refused true old new named fault h set refused = inr (new, set, refused)
 Settled-refused false old new named fault h set refused = absurd (false≢true h)

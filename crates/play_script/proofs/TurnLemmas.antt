@@ -21,21 +21,21 @@ use Rattle.play_read.specs.Asks.{Ask, Call, Ticks, Show, Capture, Settings, IsTi
 use Rattle.play_read.proofs.Laws.{Settings-idle, Show-idle}
 use Rattle.play_script.proofs.CaptureLemmas.{Joins, Keeps-none, Captures-join}
 use Rattle.play_script.proofs.PlayLemmas.{Captures-same, Named-turns}
-use Rattle.play_script.specs.Deeds.{Does, turns_of}
+use Rattle.play_script.specs.Deeds.{Does, turns_with}
 use Rattle.play_script.specs.Captures.{Captures, all_passes, turn_of}
 use Rattle.play_script.specs.Lines.{Reading, Nothing, TooLong, Faulty, Asks, reading}
 use Rattle.play_script.specs.Plays.{CapturedView, captured_of}
-use Rattle.play_script.specs.Runs.{AreTurns, IsRunOf, all_turns, MaySet, MaySetAll}
+use Rattle.play_script.specs.Runs.{ArePlayedTurns, IsRunOf, all_turns, MaySet, MaySetAll}
 use Rattle.play_script.specs.Tells.{Play, Tells, TellsAsk, TellsReading, TellsAsked, TellsSettled, IsSettled, next_line, stays_head}
 
 -- ticks one after another are turns
 Ticks-lead : (n : ℕ) (old new : State) (reply : Reply) → Does Step old (replicate n Tick) reply new
-    → Leads exact_ledger old (turns_of (replicate n Tick) reply) new
+    → Leads exact_ledger old (turns_with (replicate n Tick) reply) new
 Ticks-lead zero old new reply h = h
 Ticks-lead (suc n) old new reply (mid, step, rest) = (tt, mid, step, Ticks-lead n mid new reply rest)
 
 -- and each of them answers that it's done
-ticks_turns : (n : ℕ) → turns_of (replicate n Tick) Done ≡ replicate n (turn_of Tick Done)
+ticks_turns : (n : ℕ) → turns_with (replicate n Tick) Done ≡ replicate n (turn_of Tick Done)
 ticks_turns zero = refl
 ticks_turns (suc n) = ap (λ (ts : List Turn). turn_of Tick Done ∷ ts) (ticks_turns n)
 
@@ -54,12 +54,12 @@ Leads-append old mid new (turn ∷ first) rest (range, next, step, leads) later 
 -- the turns of a line, and what they do and add to a capture
 abbrev Makes : (List ℕ → List ℕ → Type 0) → Reading → ℕ → State → State → Traced → Traced → Type 0
 Makes has line number old new t u =
-    (turns : List Turn) × AreTurns has line turns × Leads exact_ledger old turns new × Captures number t turns u
+    (turns : List Turn) × ArePlayedTurns has line turns × Leads exact_ledger old turns new × Captures number t turns u
 
 Makes-one : (has : List ℕ → List ℕ → Type 0) (number : ℕ) (old new : State) (t u : Traced) (shown plain : List ℕ)
     (wanted : Option (List ℕ)) (event : Event) (reply : Reply)
     → script.Asks all_events plain event → Does Step old (event ∷ []) reply new
-    → Captures number t (turns_of (event ∷ []) reply) u
+    → Captures number t (turns_with (event ∷ []) reply) u
     → Makes has (Asks shown plain wanted) number old new t u
 Makes-one has number old new t u shown plain wanted event reply asks (mid, step, same) captured = (
   turn_of event reply ∷ [],
@@ -71,19 +71,19 @@ Makes-one has number old new t u shown plain wanted event reply asks (mid, step,
 Makes-ticks : (has : List ℕ → List ℕ → Type 0) (number : ℕ) (old new : State) (t u : Traced) (shown plain : List ℕ)
     (wanted : Option (List ℕ)) (n : ℕ) (reply : Reply)
     → IsTicks plain n → Does Step old (replicate n Tick) reply new
-    → Captures number t (turns_of (replicate n Tick) reply) u
+    → Captures number t (turns_with (replicate n Tick) reply) u
     → Makes has (Asks shown plain wanted) number old new t u
 Makes-ticks has number old new t u shown plain wanted n reply is does captured =
-    let done : turns_of (replicate n Tick) reply ≡ replicate n (turn_of Tick Done) =
-    ap (λ (r : Reply). turns_of (replicate n Tick) r) (Ticks-done n old new reply is.3 does) ∙ ticks_turns n in
-    (turns_of (replicate n Tick) reply, inr (inl (n, is, done)), Ticks-lead n old new reply does, captured)
+    let done : turns_with (replicate n Tick) reply ≡ replicate n (turn_of Tick Done) =
+    ap (λ (r : Reply). turns_with (replicate n Tick) r) (Ticks-done n old new reply is.3 does) ∙ ticks_turns n in
+    (turns_with (replicate n Tick) reply, inr (inl (n, is, done)), Ticks-lead n old new reply does, captured)
 
 -- ---- a line
 
 -- A line that isn't of settings: its turns, none of them if settings may still come.
 record Asked (has : List ℕ → List ℕ → Type 0) (now : Play) (line : Reading) (new : Play) : Type 0 where
   turns : List Turn
-  are : AreTurns has line turns
+  are : ArePlayedTurns has line turns
   leads : Leads exact_ledger now.machine turns new.machine
   captured : Captures now.number now.traced turns new.traced
   number : new.number ≡ now.number
@@ -92,7 +92,7 @@ record Asked (has : List ℕ → List ℕ → Type 0) (now : Play) (line : Readi
 
 -- a line whose settings made a new machine
 record Settled (has : List ℕ → List ℕ → Type 0) (now : Play) (line : Reading) (new : Play) : Type 0 where
-  are : AreTurns has line []
+  are : ArePlayedTurns has line []
   captured : Captures now.number now.traced [] new.traced
   number : new.number ≡ now.number
   was : now.head ≡ true
@@ -106,7 +106,7 @@ not_late c e = cc
 Told-turns : Joins → (has : List ℕ → List ℕ → Type 0) (ask : Ask) (old new : CapturedView) (shown plain : List ℕ)
     (wanted : Option (List ℕ)) (text below : List ℕ) (quiet : Bool)
     → Writes plain ask → TellsAsk Step has quiet ask old text below new
-    → (turns : List Turn) × AreTurns has (Asks shown plain wanted) turns
+    → (turns : List Turn) × ArePlayedTurns has (Asks shown plain wanted) turns
     × Leads exact_ledger old.machine turns new.machine
     × Captures old.line old.traced turns new.traced × (stays_head ask ≡ true → turns ≡ [])
 Told-turns join has (Call event) old new shown plain wanted text below quiet asks done =
@@ -141,7 +141,7 @@ and_second : (a b : Bool) → (a && b) ≡ true → b ≡ true
 and_second true b h = h
 and_second false b h = absurd (false≢true h)
 
-Idle : (has : List ℕ → List ℕ → Type 0) (now new : Play) (line : Reading) → AreTurns has line []
+Idle : (has : List ℕ → List ℕ → Type 0) (now new : Play) (line : Reading) → ArePlayedTurns has line []
     → new.machine ≡ now.machine → new.traced ≡ now.traced → new.number ≡ now.number
     → new.config ≡ now.config → new.head ≡ now.head → Asked has now line new
 Idle has now new line are machine traced number config head = record {
@@ -204,7 +204,8 @@ Asked-line join has now new shown plain text wanted (Some ask, asks, inl (after,
       are = made.1;
       leads = subst (λ s. Leads exact_ledger now.machine made.0 s) (sym (ap (λ (p : Play). p.machine) same)) made.2;
       captured =
-          subst (λ (t : Traced). Captures now.number now.traced made.0 t) (sym (ap (λ (p : Play). p.traced) same)) made.3;
+          subst (λ (t : Traced). Captures now.number now.traced made.0 t) (sym (ap (λ (p : Play). p.traced) same))
+          made.3;
       number = ap (λ (p : Play). p.number) same;
       config = ap (λ (p : Play). p.config) same;
       head = λ h. (
@@ -284,7 +285,8 @@ Asked-before join has now old mid new line lines m t n c h first rest =
           ),
         );
         turns = [] ∷ rest.turns;
-        are = (subst (λ (ts : List Turn). AreTurns has (reading line) ts) (first.head stays).1 first.are, rest.are);
+        are =
+            (subst (λ (ts : List Turn). ArePlayedTurns has (reading line) ts) (first.head stays).1 first.are, rest.are);
         leads = rest.leads;
         kept = Kept-before join has now old mid new lines [] rest t n first.number
             (subst (λ (ts : List Turn). Captures now.number now.traced ts mid.traced) (first.head stays).1

@@ -10,14 +10,14 @@ turn_of event reply = record { event = event; reply = reply }
 
 -- ---- a turn
 
-abbrev pub given : Reply → Option (List ℕ)
-given (Given packet) = packet
-given reply = None
+abbrev pub given_packet : Reply → Option (List ℕ)
+given_packet (Given packet) = packet
+given_packet reply = None
 
 -- the packet that a turn moves: the one that comes from the wire, or the one that the link takes
 abbrev pub moved_by : Event → Reply → Option (List ℕ)
 moved_by (Comes packet) reply = Some packet
-moved_by Transmit reply = given reply
+moved_by Transmit reply = given_packet reply
 moved_by event reply = None
 
 -- how many ticks an event is

@@ -9,8 +9,8 @@ use Rattle.play_show.specs.declared.snapshot.Snapshot.{Snapshot}
 use Rattle.play_script.specs.Captures.{moved_by, turn_of}
 
 -- the turns of events that all have this reply
-abbrev pub turns_of : List Event → Reply → List Turn
-turns_of events reply = map (λ event. turn_of event reply) events
+abbrev pub turns_with : List Event → Reply → List Turn
+turns_with events reply = map (λ event. turn_of event reply) events
 
 -- the packet that they move: no more than one event moves one
 abbrev pub moved_in : List Event → Reply → Option (List ℕ)

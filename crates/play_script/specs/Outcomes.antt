@@ -88,20 +88,20 @@ is_rest (word ∷ next ∷ words) = false
 
 -- Word by word the same, but for `_`, which is any word, and for `..` at the end, which is whatever is left, even
 -- nothing.
-abbrev pub fits : List (List ℕ) → List (List ℕ) → Bool
-fits [] [] = true
-fits (word ∷ words) (got ∷ gots) =
-    is_rest (word ∷ words) || ((bytes_eq word (codes "_") || bytes_eq word got) && fits words gots)
-fits [] (got ∷ gots) = false
-fits (word ∷ words) [] = is_rest (word ∷ words)
+abbrev pub fits_words : List (List ℕ) → List (List ℕ) → Bool
+fits_words [] [] = true
+fits_words (word ∷ words) (got ∷ gots) =
+    is_rest (word ∷ words) || ((bytes_eq word (codes "_") || bytes_eq word got) && fits_words words gots)
+fits_words [] (got ∷ gots) = false
+fits_words (word ∷ words) [] = is_rest (word ∷ words)
 
 -- an error may be expected without its number
 abbrev pub fits_unnumbered : List (List ℕ) → List (List ℕ) → Bool
 fits_unnumbered (word ∷ words) (got ∷ number ∷ gots) =
-    bytes_eq word (codes "error") && (bytes_eq got (codes "error") && fits words gots)
+    bytes_eq word (codes "error") && (bytes_eq got (codes "error") && fits_words words gots)
 fits_unnumbered [] gots = false
 fits_unnumbered (word ∷ words) [] = false
 fits_unnumbered (word ∷ words) (got ∷ []) = false
 
-abbrev pub meets : List ℕ → List ℕ → Bool
-meets wanted told = fits (words wanted) (words told) || fits_unnumbered (words wanted) (words told)
+abbrev pub meets_reply : List ℕ → List ℕ → Bool
+meets_reply wanted told = fits_words (words wanted) (words told) || fits_unnumbered (words wanted) (words told)

@@ -7,7 +7,7 @@ use Rattle.pcap.specs.Records.{Whole, Reads}
 use Rattle.play_pcap.specs.Asks.{IsAsked}
 use Rattle.play_pcap.specs.Events.{HasRange, capture_events}
 use Rattle.play_pcap.specs.Files.{IsHad, PlaysNamed}
-use Rattle.play_pcap.specs.Told.{outcome_text}
+use Rattle.play_pcap.specs.Told.{capture_text}
 use Rattle.play_pcap.specs.Traces.{Traced}
 use Rattle.play_pcap.specs.declared.ask.Details.{Details}
 use Rattle.play_pcap.specs.declared.fault.CaptureFault.{CaptureFault}
@@ -58,5 +58,5 @@ module _ (step : State → Event → Reply → State → Type 0) where
       (outcome : Result Tally CaptureFault) × (before after : Snapshot)
       × PlaysNamed has ComesTo d word outcome old new
       × IsSnapshot step old.machine before × IsSnapshot step new.machine after
-      × (told ≡ outcome_text outcome ++ drops_text before.counters after.counters)
+      × (told ≡ capture_text outcome ++ drops_text before.counters after.counters)
       × (below ≡ below_text quiet None before after new.machine.output)

@@ -19,11 +19,11 @@ use Rattle.play_script.specs.Tells.{Play}
 -- for, so many ticks, or those of the capture that it plays in; none if it asks for nothing, or for a capture that
 -- isn't
 -- played in.
-abbrev pub AreTurns : (List ℕ → List ℕ → Type 0) → Reading → List Turn → Type 0
-AreTurns has Nothing turns = turns ≡ []
-AreTurns has TooLong turns = turns ≡ []
-AreTurns has (Faulty slip) turns = turns ≡ []
-AreTurns has (Asks shown plain wanted) turns =
+abbrev pub ArePlayedTurns : (List ℕ → List ℕ → Type 0) → Reading → List Turn → Type 0
+ArePlayedTurns has Nothing turns = turns ≡ []
+ArePlayedTurns has TooLong turns = turns ≡ []
+ArePlayedTurns has (Faulty slip) turns = turns ≡ []
+ArePlayedTurns has (Asks shown plain wanted) turns =
     ((event : Event) × (reply : Reply) × script.Asks all_events plain event × (turns ≡ turn_of event reply ∷ []))
     ⊎ ((n : ℕ) × IsTicks plain n × (turns ≡ replicate n (turn_of Tick Done)))
     ⊎ PlaysIn has plain turns
@@ -33,7 +33,7 @@ AreTurns has (Asks shown plain wanted) turns =
 abbrev pub AreAllTurns : (List ℕ → List ℕ → Type 0) → List (List ℕ) → List (List Turn) → Type 0
 AreAllTurns has [] turns = turns ≡ []
 AreAllTurns has (line ∷ lines) [] = ⊥
-AreAllTurns has (line ∷ lines) (first ∷ rest) = AreTurns has (reading line) first × AreAllTurns has lines rest
+AreAllTurns has (line ∷ lines) (first ∷ rest) = ArePlayedTurns has (reading line) first × AreAllTurns has lines rest
 
 -- one after another
 abbrev pub all_turns : List (List Turn) → List Turn

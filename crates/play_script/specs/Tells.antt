@@ -20,10 +20,10 @@ use Rattle.play_show.specs.Tells.{Shows}
 use Rattle.play_show.specs.declared.snapshot.Snapshot.{Snapshot}
 use Rattle.play_pcap.specs.Traces.{Traced}
 use Rattle.play_read.specs.Asks.{Ask, Call, Ticks, Show, Capture, Settings, AsksFor}
-use Rattle.play_script.specs.Deeds.{Does, below_text, moved_in, turns_of}
+use Rattle.play_script.specs.Deeds.{Does, below_text, moved_in, turns_with}
 use Rattle.play_script.specs.Captures.{Captures}
 use Rattle.play_script.specs.Lines.{Reading, Nothing, TooLong, Faulty, Asks, reading}
-use Rattle.play_script.specs.Outcomes.{told, drops_text, meets}
+use Rattle.play_script.specs.Outcomes.{told, drops_text, meets_reply}
 use Rattle.play_script.specs.Plays.{IsPlayed, CapturedView, captured_of}
 
 -- What a player has in hand: its machine, the capture of its packets, and the configuration that the machine was booted
@@ -57,7 +57,7 @@ started machine traced form name = record {
 -- what was told is what was expected
 abbrev pub is_sound : Option (List ℕ) → List ℕ → Bool
 is_sound None told = true
-is_sound (Some wanted) told = meets wanted told
+is_sound (Some wanted) told = meets_reply wanted told
 
 -- what is told of a line, the lines below it, and what was expected, in the player's form
 abbrev pub told_text : Form → List ℕ → ℕ → List ℕ → Option (List ℕ) → List ℕ → List ℕ → List ℕ
@@ -75,16 +75,16 @@ stays_head (Capture name details) = false
 stays_head (Settings named) = true
 
 -- why there is no machine of a configuration
-abbrev pub IsRefused : Config → SettingFault → Type 0
-IsRefused c settings.BadSizes = ¬ HasSizes c
-IsRefused c settings.BadConfig = HasSizes c × ¬ IsConfig c
-IsRefused c settings.Memory = IsConfig c
-IsRefused c settings.Late = ⊥
-IsRefused c settings.Unknown = ⊥
-IsRefused c settings.NoValue = ⊥
-IsRefused c settings.NotAddress = ⊥
-IsRefused c settings.NotNumber = ⊥
-IsRefused c settings.OtherNetwork = ⊥
+abbrev pub IsSettingRefused : Config → SettingFault → Type 0
+IsSettingRefused c settings.BadSizes = ¬ HasSizes c
+IsSettingRefused c settings.BadConfig = HasSizes c × ¬ IsConfig c
+IsSettingRefused c settings.Memory = IsConfig c
+IsSettingRefused c settings.Late = ⊥
+IsSettingRefused c settings.Unknown = ⊥
+IsSettingRefused c settings.NoValue = ⊥
+IsSettingRefused c settings.NotAddress = ⊥
+IsSettingRefused c settings.NotNumber = ⊥
+IsSettingRefused c settings.OtherNetwork = ⊥
 
 -- What settings make of a configuration: in the script's head what their names and values say, if there can be such a
 -- machine.
@@ -92,7 +92,7 @@ abbrev pub IsSettled : Bool → Config → List (List ℕ) → Result Config Set
 IsSettled false old named outcome = outcome ≡ Err settings.Late
 IsSettled true old named (Ok new) = IsSet old named (Ok new) × IsConfig new
 IsSettled true old named (Err fault) =
-    IsSet old named (Err fault) ⊎ ((new : Config) × IsSet old named (Ok new) × IsRefused new fault)
+    IsSet old named (Err fault) ⊎ ((new : Config) × IsSet old named (Ok new) × IsSettingRefused new fault)
 
 -- a line of settings is told as `ok`, and the machine is a new one; or it's told what is wrong
 abbrev pub TellsSettled : Play → List ℕ → Option (List ℕ) → Result Config SettingFault → List ℕ → Play → Type 0
@@ -122,7 +122,7 @@ module _ (step : State → Event → Reply → State → Type 0) where
     pub before : Snapshot
     pub after : Snapshot
     pub does : Does step old.machine events reply new.machine
-    pub captured : Captures old.line old.traced (turns_of events reply) new.traced
+    pub captured : Captures old.line old.traced (turns_with events reply) new.traced
     pub was : IsSnapshot step old.machine before
     pub now : IsSnapshot step new.machine after
     pub tells : text ≡ told (reply_text reply) (drops_text before.counters after.counters)
@@ -183,16 +183,16 @@ module _ (step : State → Event → Reply → State → Type 0) (has : List ℕ
 
 -- ---- the status
 
-abbrev pub fault_status : RunFault → ℕ
-fault_status Memory = 3
-fault_status BadSizes = 3
-fault_status BadConfig = 3
-fault_status Read = 4
-fault_status Write = 4
-fault_status TooManyLines = 4
+abbrev pub play_fault_status : RunFault → ℕ
+play_fault_status Memory = 3
+play_fault_status BadSizes = 3
+play_fault_status BadConfig = 3
+play_fault_status Read = 4
+play_fault_status Write = 4
+play_fault_status TooManyLines = 4
 
 -- 0 exactly if all lines were served, all of them asked for something, and all expectations held
-abbrev pub status_of : Result Unit RunFault → Bool → ℕ
-status_of (Ok done) true = 0
-status_of (Ok done) false = 1
-status_of (Err fault) sound = fault_status fault
+abbrev pub play_status : Result Unit RunFault → Bool → ℕ
+play_status (Ok done) true = 0
+play_status (Ok done) false = 1
+play_status (Err fault) sound = play_fault_status fault

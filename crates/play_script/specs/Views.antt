@@ -12,12 +12,12 @@ abbrev pub expected_on : Line → Option (List ℕ)
 expected_on line = if_there line.expects line.wanted
 
 -- The plain line that a line stands for: its words, or `rx` and the packet that they name.
-abbrev pub plain_of : Line → List ℕ
-plain_of line = if line.named then codes "rx " ++ hex_text line.packet else line.words
+abbrev pub plain_line : Line → List ℕ
+plain_line line = if line.named then codes "rx " ++ hex_text line.packet else line.words
 
 -- a line of this kind
 abbrev pub is_reading : Kind → Line → Reading
 is_reading kind.Nothing line = Nothing
 is_reading kind.TooLong line = TooLong
 is_reading (kind.Faulty slip) line = Faulty slip
-is_reading kind.Asks line = Asks line.shown (plain_of line) (expected_on line)
+is_reading kind.Asks line = Asks line.shown (plain_line line) (expected_on line)

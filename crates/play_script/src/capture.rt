@@ -1,7 +1,7 @@
 //! The capture of the packets that come and go.
 ghost use Rattle.std.specs.Prelude.{◌≡◌, ◌≤◌, length, IfSome, Some};
 ghost use Rattle.params.specs.declared.TheConstants.{IP_MAX_PACKET};
-ghost use Rattle.request.specs.Replies.{packet_of};
+ghost use Rattle.request.specs.Replies.{packet_behind};
 ghost use Rattle.play_script.specs.Captures.{Notes, after_ticks};
 
 use play_pcap::Trace;
@@ -39,7 +39,7 @@ impl<T: Sink> Capture<T> {
     fn keep_moved(&mut self, moved: Option<&[u8]>)
         requires { IfSome moved (λ p. length p.now ≤ IP_MAX_PACKET) }
         ensures line { self.new.line ≡ self.old.line }
-        ensures notes { Notes self.old.line self.old.trace (packet_of moved.entry) 0 self.new.trace }
+        ensures notes { Notes self.old.line self.old.trace (packet_behind moved.entry) 0 self.new.trace }
     {
         if let Some(packet) = moved {
             self.keep(packet);
@@ -50,7 +50,7 @@ impl<T: Sink> Capture<T> {
     pub(crate) fn note(&mut self, moved: Option<&[u8]>, ticks: u32)
         requires { IfSome moved (λ p. length p.now ≤ IP_MAX_PACKET) }
         ensures line { self.new.line ≡ self.old.line }
-        ensures notes { Notes self.old.line self.old.trace (packet_of moved.entry) ticks self.new.trace }
+        ensures notes { Notes self.old.line self.old.trace (packet_behind moved.entry) ticks self.new.trace }
     {
         self.keep_moved(moved);
         self.tick(ticks);

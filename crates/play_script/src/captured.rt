@@ -3,7 +3,7 @@ ghost use Rattle.std.specs.Prelude.{◌≡◌, vec_len};
 ghost use Rattle.params.specs.declared.TheConstants.{IP_MAX_PACKET};
 ghost use Rattle.play_script.specs.Plays.{CapturedView, ComesTo, captured_of};
 ghost use Rattle.net_stack.specs.Stack.{state_of};
-ghost use Rattle.stack_call.specs.Moves.{Moves};
+ghost use Rattle.stack_call.specs.Moves.{StackSteps};
 
 use crate::capture::Capture;
 use net_stack::Stack;
@@ -35,13 +35,13 @@ impl<T: Sink> CapturedStack<T> {
     }
 }
 
-#[tactic(auto, unfolding(stack_call::specs::Moves::Moves))]
+#[tactic(auto, unfolding(stack_call::specs::Moves::StackSteps))]
 impl<T: Sink> Wire for CapturedStack<T> {
     ghost State = { CapturedView };
 
     ghost state = { λ s. captured_of (state_of s.stack) s.capture.trace s.capture.line };
 
-    ghost may_go = { ComesTo Moves };
+    ghost may_go = { ComesTo StackSteps };
 
     fn rx(&mut self, packet: &[u8]) {
         self.stack.rx(packet);

@@ -3,8 +3,8 @@ ghost use Rattle.std.specs.Prelude.{◌≡◌, ◌≤◌, length, replicate, IfS
 ghost use Rattle.params.specs.declared.TheConstants.{IP_MAX_PACKET};
 ghost use Rattle.flat_model.specs.Machine.Event.{Done, Tick};
 ghost use Rattle.net_stack.specs.Stack.{state_of};
-ghost use Rattle.request.specs.Replies.{len_of, packet_of, reply_of};
-ghost use Rattle.stack_call.specs.Moves.{Moves};
+ghost use Rattle.request.specs.Replies.{len_of, packet_behind, reply_of};
+ghost use Rattle.stack_call.specs.Moves.{StackSteps};
 ghost use Rattle.request.specs.Requests.{event_of, room_of};
 ghost use Rattle.play_script.specs.Captures as captures;
 ghost use Rattle.play_script.specs.Deeds.{Does, moved_in};
@@ -25,9 +25,9 @@ pub(crate) enum Deed<'a> {
 }
 
 /// Lets so many ticks pass.
-#[tactic(auto, unfolding(stack_call::specs::Moves::Moves))]
+#[tactic(auto, unfolding(stack_call::specs::Moves::StackSteps))]
 fn tick_all(stack: &mut Stack, count: u32)
-    ensures { Does Moves (state_of stack.old) (replicate count Tick) Done (state_of stack.new) }
+    ensures { Does StackSteps (state_of stack.old) (replicate count Tick) Done (state_of stack.new) }
 {
     let mut left = count;
     while left > 0 {
@@ -40,7 +40,7 @@ fn tick_all(stack: &mut Stack, count: u32)
 pub(crate) fn do_deed<'r>(stack: &mut Stack, deed: Deed<'_>, room: &'r mut [u8]) -> Reply<'r>
     requires fits { most_of deed ≤ IP_MAX_PACKET }
     requires room { length room.old ≡ IP_MAX_PACKET }
-    ensures does { Does Moves (state_of stack.old) (events_of deed.entry) (reply_of result) (state_of stack.new) }
+    ensures does { Does StackSteps (state_of stack.old) (events_of deed.entry) (reply_of result) (state_of stack.new) }
     ensures len { len_of result ≤ IP_MAX_PACKET }
 {
     match deed {
@@ -55,7 +55,7 @@ pub(crate) fn do_deed<'r>(stack: &mut Stack, deed: Deed<'_>, room: &'r mut [u8])
 /// The packet that the link was given, if there was one.
 fn given<'a>(reply: &Reply<'a>) -> Option<&'a [u8]>
     requires { len_of reply.now ≤ IP_MAX_PACKET }
-    ensures packet { packet_of result ≡ captures.given (reply_of reply.now) }
+    ensures packet { packet_behind result ≡ captures.given_packet (reply_of reply.now) }
     ensures fits { IfSome result (λ p. length p.now ≤ IP_MAX_PACKET) }
 {
     match *reply {
@@ -68,7 +68,7 @@ fn given<'a>(reply: &Reply<'a>) -> Option<&'a [u8]>
 pub(crate) fn moved_by<'a>(deed: &Deed<'a>, reply: &Reply<'a>) -> Option<&'a [u8]>
     requires deed { most_of deed.now ≤ IP_MAX_PACKET }
     requires reply { len_of reply.now ≤ IP_MAX_PACKET }
-    ensures packet { packet_of result ≡ moved_in (events_of deed.now) (reply_of reply.now) }
+    ensures packet { packet_behind result ≡ moved_in (events_of deed.now) (reply_of reply.now) }
     ensures fits { IfSome result (λ p. length p.now ≤ IP_MAX_PACKET) }
 {
     match *deed {

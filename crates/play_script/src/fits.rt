@@ -33,7 +33,7 @@ fn if_errors(word: &[u8], got: &[u8], so: bool) -> bool
 /// Whether the words are the same one by one, but for `_`, which is any word, and for `..` at the end, which is
 /// whatever is left.
 fn fits(wanted: &[u8], told: &[u8]) -> bool
-    ensures { result ≡ outcomes.fits (words wanted.now) (words told.now) }
+    ensures { result ≡ outcomes.fits_words (words wanted.now) (words told.now) }
 {
     let mut left = wanted;
     let mut got_left = told;
@@ -81,7 +81,7 @@ fn fits_unnumbered(wanted: &[u8], told: &[u8]) -> bool
 /// Whether what is told is what was expected: word by word the same, but for `_`, which is any word, for `..` at the
 /// end, which is whatever is left, even nothing, and for the number of an error, which may be left out.
 pub fn meets(wanted: &[u8], told: &[u8]) -> bool
-    ensures { result ≡ outcomes.meets wanted.now told.now }
+    ensures { result ≡ outcomes.meets_reply wanted.now told.now }
 {
     fits(wanted, told) || fits_unnumbered(wanted, told)
 }

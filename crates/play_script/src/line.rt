@@ -4,8 +4,8 @@ ghost use Rattle.play_script.specs.Lines.{asked, expected, reading, unheaded, un
 ghost use Rattle.flat_model.specs.Scripts.Texts.{hex_text};
 ghost use Rattle.params.specs.declared.TheConstants.{IP_MAX_PACKET};
 ghost use Rattle.play_read.specs.Asks.{AsksFor, Writes};
-ghost use Rattle.play_read.specs.Views.{IsSound, ask_of as ask_value, asked_by};
-ghost use Rattle.play_script.specs.Views.{is_reading, plain_of};
+ghost use Rattle.play_read.specs.Views.{IsSoundAsk, ask_of as ask_value, asked_by};
+ghost use Rattle.play_script.specs.Views.{is_reading, plain_line};
 
 use crate::report::bytes_of;
 use play_line::{LONGEST, Slip, put_shown};
@@ -48,7 +48,7 @@ pub struct Line {
 fn packet_ask<'a>(packet: &'a [u8]) -> Ask<'a, 'a>
     requires { length packet.now ≤ IP_MAX_PACKET }
     ensures writes { Writes (codes "rx " ++ hex_text packet.now) (ask_value result) }
-    ensures sound { IsSound result }
+    ensures sound { IsSoundAsk result }
 {
     lines_law();
     Ask::Call(Request::Packet(packet))
@@ -70,7 +70,7 @@ impl Line {
     /// Spells its plain line out, in the place of its words, with the digits of a packet that they name.
     pub(crate) fn spell(&mut self, digits: &mut [u8])
         requires { length digits.old ≡ 2 * IP_MAX_PACKET }
-        ensures { self.new.words ≡ plain_of self.old }
+        ensures { self.new.words ≡ plain_line self.old }
     {
         if self.named {
             self.words.clear();
@@ -83,8 +83,8 @@ impl Line {
     /// 65,535.
     pub fn ask<'l>(&'l self, room: &'l mut [u8]) -> Option<Ask<'l, 'l>>
         requires { length room.old ≡ IP_MAX_PACKET }
-        ensures asks { AsksFor (plain_of self.now) (asked_by result) }
-        ensures sound { IfSome result IsSound }
+        ensures asks { AsksFor (plain_line self.now) (asked_by result) }
+        ensures sound { IfSome result IsSoundAsk }
     {
         if self.named {
             return Some(packet_ask(bytes_of(&self.packet)));

@@ -5,8 +5,8 @@ ghost use Rattle.net_stack.specs.Stack.{state_of};
 ghost use Rattle.params.specs.declared.TheConstants.{IP_MAX_PACKET};
 ghost use Rattle.play_script.specs.Inside.{play_of};
 ghost use Rattle.play_script.specs.Tells.{Play, Tells, TellsAsked, TellsSettings};
-ghost use Rattle.play_script.specs.Views.{expected_on, plain_of};
-ghost use Rattle.stack_call.specs.Moves.{Moves};
+ghost use Rattle.play_script.specs.Views.{expected_on, plain_line};
+ghost use Rattle.stack_call.specs.Moves.{StackSteps};
 
 use crate::captured::CapturedStack;
 use crate::line::{Kind, Line, read_line};
@@ -93,10 +93,10 @@ impl<T: Sink, F: Folder> Player<T, F> {
     fn ask(&mut self, text: &mut Buffer<ROOM>)
         requires { length text.old ≤ HELD }
         ensures { (added : List ℕ)
-            × TellsAsked Moves F.may_have
+            × TellsAsked StackSteps F.may_have
             (play_of (state_of self.old.captured.stack) self.old.captured.capture.trace self.old.config self.old.head
             self.old.printer)
-            self.old.line.shown (plain_of self.old.line) (expected_on self.old.line) added
+            self.old.line.shown (plain_line self.old.line) (expected_on self.old.line) added
             (play_of (state_of self.new.captured.stack) self.new.captured.capture.trace self.new.config self.new.head
             self.new.printer)
             × (text.new ≡ text.old ++ added) }
@@ -128,7 +128,7 @@ impl<T: Sink, F: Folder> Answers<ROOM> for Player<T, F> {
 
     ghost state = { λ p. play_of (state_of p.captured.stack) p.captured.capture.trace p.config p.head p.printer };
 
-    ghost may_answer = { Tells Moves F.may_have };
+    ghost may_answer = { Tells StackSteps F.may_have };
 
     fn answer(&mut self, line: &[u8], text: &mut Buffer<ROOM>) {
         self.printer.next_line();

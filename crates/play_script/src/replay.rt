@@ -4,7 +4,7 @@ ghost use Rattle.play_pcap.specs.Events.{IsOrdered};
 ghost use Rattle.play_pcap.specs.Files.{PlaysNamed};
 ghost use Rattle.play_script.specs.Plays.{ComesTo, IsPlayed, captured_of};
 ghost use Rattle.net_stack.specs.Stack.{state_of};
-ghost use Rattle.stack_call.specs.Moves.{Moves};
+ghost use Rattle.stack_call.specs.Moves.{StackSteps};
 
 use crate::captured::CapturedStack;
 use crate::outcome::put_drops;
@@ -29,7 +29,7 @@ fn play_in<T: Sink, F: Folder>(
     ask: Ask<'_>,
 ) -> Result<Tally, CaptureFault>
     requires { IsOrdered ask.details.range }
-    ensures { PlaysNamed F.may_have (ComesTo Moves) ask.entry.details ask.entry.name.now result
+    ensures { PlaysNamed F.may_have (ComesTo StackSteps) ask.entry.details ask.entry.name.now result
         (captured_of (state_of captured.old.stack) captured.old.capture.trace captured.old.capture.line)
         (captured_of (state_of captured.new.stack) captured.new.capture.trace captured.new.capture.line) }
 {
@@ -48,7 +48,7 @@ pub(crate) fn tell_capture<T: Sink, F: Folder>(
     report: &mut Report,
 )
     requires { IsOrdered ask.details.range }
-    ensures plays { IsPlayed Moves F.may_have report.old.quiet ask.entry.details ask.entry.name.now
+    ensures plays { IsPlayed StackSteps F.may_have report.old.quiet ask.entry.details ask.entry.name.now
         (captured_of (state_of captured.old.stack) captured.old.capture.trace captured.old.capture.line)
         report.new.told report.new.below
         (captured_of (state_of captured.new.stack) captured.new.capture.trace captured.new.capture.line) }

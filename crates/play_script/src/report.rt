@@ -6,10 +6,10 @@ ghost use Rattle.params.specs.declared.TheConstants.{IP_MAX_PACKET};
 ghost use Rattle.play_forms.specs.Advice.{IsAdvised};
 ghost use Rattle.play_forms.specs.declared.text.TheConstants.{ADVICE};
 ghost use Rattle.play_script.specs.Outcomes.{drops_text, told};
-ghost use Rattle.play_script.specs.Views.{plain_of};
+ghost use Rattle.play_script.specs.Views.{plain_line};
 ghost use Rattle.play_show.specs.Tells.{Shows};
 ghost use Rattle.request.specs.Replies.{len_of, reply_of};
-ghost use Rattle.stack_call.specs.Moves.{Moves};
+ghost use Rattle.stack_call.specs.Moves.{StackSteps};
 
 use crate::line::Line;
 use crate::outcome::{DROPS, TOLD, put_drops, put_told};
@@ -80,7 +80,7 @@ impl Report {
 
     /// Tells what a line could have been that asks the player for nothing. Its plain line is spelled out.
     pub fn tell_advice(&mut self, player: Player, line: &mut Line)
-        ensures advised { IsAdvised player (plain_of line.old) self.new.told }
+        ensures advised { IsAdvised player (plain_line line.old) self.new.told }
         ensures len { length self.new.told ≤ ADVICE }
         ensures quiet { self.new.quiet ≡ self.old.quiet }
     {
@@ -90,7 +90,7 @@ impl Report {
 
     /// Tells what a stack has in hand.
     pub fn tell_topic(&mut self, stack: &Stack, topic: Topic)
-        ensures shows { Shows Moves (state_of stack.now) topic self.new.told self.new.below }
+        ensures shows { Shows StackSteps (state_of stack.now) topic self.new.told self.new.below }
         ensures quiet { self.new.quiet ≡ self.old.quiet }
     {
         tell_topic(stack, topic, &mut self.shown, &mut self.below);

@@ -6,12 +6,12 @@ ghost use Rattle.flat_model.specs.Machine.State.{boot};
 ghost use Rattle.flat_model.specs.Machine.Step.{Step};
 ghost use Rattle.script_loop.specs.Streams.{MoreBy, reader_failures, writer_failures};
 ghost use Rattle.script_loop.specs.Serves.{Serves, IsServed};
-ghost use Rattle.link_script.specs.Boots.{Boots};
+ghost use Rattle.link_script.specs.Boots.{BootsRun};
 ghost use Rattle.play_script.specs.declared.print.TheConstants.{NAME};
 ghost use Rattle.play_pcap.specs.Files.{no_folder};
-ghost use Rattle.play_script.specs.Tells.{Play, Tells, started, status_of};
+ghost use Rattle.play_script.specs.Tells.{Play, Tells, started, play_status};
 ghost use Rattle.net_stack.specs.Stack.{state_of};
-ghost use Rattle.stack_call.specs.Moves.{Moves};
+ghost use Rattle.stack_call.specs.Moves.{StackSteps};
 
 use crate::capture::Capture;
 use crate::captured::CapturedStack;
@@ -42,7 +42,7 @@ impl Played {
     /// The status that the program ends with: 0 if all lines asked for something and all expectations held, 1 if not; 3
     /// if there is no machine, 4 if reading or writing failed or the script has too many lines (this project's own).
     pub fn status(&self) -> u8
-        ensures { result ≡ status_of self.now.outcome self.now.sound }
+        ensures { result ≡ play_status self.now.outcome self.now.sound }
     {
         match self.outcome {
             Ok(()) if self.sound => 0,
@@ -108,7 +108,7 @@ fn play_machine<R: Source, W: Sink, T: Sink, F: Folder>(
     ensures read { MoreBy (reader_failures result.played.outcome) (R.failures reader.old) (R.failures reader.new) }
     ensures wrote { MoreBy (writer_failures result.played.outcome) (W.failures writer.old) (W.failures writer.new) }
     ensures served { (new : Play)
-        × Serves (Tells Moves F.may_have)
+        × Serves (Tells StackSteps F.may_have)
         (started (state_of booted.0) booted.1.trace style.entry.form (take NAME style.entry.name.now)) new
         (R.remaining reader.old) (R.remaining reader.new)
         (W.contents writer.old) (W.contents writer.new) result.played.outcome
@@ -175,7 +175,7 @@ fn play_untraced<R: Source, W: Sink>(
     ensures read { MoreBy (reader_failures result.outcome) (R.failures reader.old) (R.failures reader.new) }
     ensures wrote { MoreBy (writer_failures result.outcome) (W.failures writer.old) (W.failures writer.new) }
     ensures served { (traced : Traced) × (new : Play)
-        × Serves (Tells Moves no_folder)
+        × Serves (Tells StackSteps no_folder)
         (started (state_of booted.0) traced style.entry.form (take NAME style.entry.name.now)) new
         (R.remaining reader.old) (R.remaining reader.new)
         (W.contents writer.old) (W.contents writer.new) result.outcome
@@ -216,7 +216,7 @@ fn play_untraced<R: Source, W: Sink>(
 /// error, or takes none of the bytes that it is given: a front of the answers was written. `TooManyLines` at a byte
 /// after the 10,000,000th line, or one that makes a line longer than 1,048,576 bytes: each whole line before it was
 /// answered.
-#[tactic(auto, unfolding(stack_call::specs::Moves::Moves))]
+#[tactic(auto, unfolding(stack_call::specs::Moves::StackSteps))]
 pub fn play<R: Source, W: Sink>(
     alloc: Global,
     config: Config,
@@ -224,7 +224,7 @@ pub fn play<R: Source, W: Sink>(
     reader: &mut R,
     writer: &mut W,
 ) -> Played
-    ensures booted { Boots config result.outcome }
+    ensures booted { BootsRun config result.outcome }
     // The reader failed once if the fault is `Read`, and the writer if it is `Write`; else they didn't.
     ensures read { MoreBy (reader_failures result.outcome) (R.failures reader.old) (R.failures reader.new) }
     ensures wrote { MoreBy (writer_failures result.outcome) (W.failures writer.old) (W.failures writer.new) }
@@ -254,7 +254,7 @@ pub fn play<R: Source, W: Sink>(
 /// # Errors
 ///
 /// Those of [`play`], with which nothing is added to the capture unless a line was answered.
-#[tactic(auto, unfolding(stack_call::specs::Moves::Moves))]
+#[tactic(auto, unfolding(stack_call::specs::Moves::StackSteps))]
 pub fn play_captured<R: Source, W: Sink, T: Sink, F: Folder>(
     alloc: Global,
     start: Start<T, F>,
@@ -262,7 +262,7 @@ pub fn play_captured<R: Source, W: Sink, T: Sink, F: Folder>(
     reader: &mut R,
     writer: &mut W,
 ) -> Captured<T>
-    ensures booted { Boots start.config result.played.outcome }
+    ensures booted { BootsRun start.config result.played.outcome }
     ensures read { MoreBy (reader_failures result.played.outcome) (R.failures reader.old) (R.failures reader.new) }
     ensures wrote { MoreBy (writer_failures result.played.outcome) (W.failures writer.old) (W.failures writer.new) }
     // The capture has what the lines add to it that were answered: see `runs_law`.

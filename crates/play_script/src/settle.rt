@@ -3,9 +3,9 @@ ghost use Rattle.std.specs.Prelude.{◌≡◌, Err, MatchResult, Ok};
 ghost use Rattle.flat_model.specs.Machine.State.{boot};
 ghost use Rattle.flat_model.specs.Scripts.Grammar.{words};
 ghost use Rattle.flat_model.specs.declared.config.Config.{Config};
-ghost use Rattle.link_script.specs.Boots.{IsUnbooted};
+ghost use Rattle.link_script.specs.Boots.{IsRunUnbooted};
 ghost use Rattle.net_stack.specs.Stack.{state_of};
-ghost use Rattle.play_script.specs.Tells.{IsRefused, IsSettled};
+ghost use Rattle.play_script.specs.Tells.{IsSettingRefused, IsSettled};
 
 use flat_model::Config;
 use link_script::booted;
@@ -16,7 +16,7 @@ use std::alloc::Global;
 
 /// Why settings are refused that no machine has.
 fn refusal_of(fault: RunFault) -> SettingFault
-    ensures { (c : Config) → IsUnbooted c fault → IsRefused c result }
+    ensures { (c : Config) → IsRunUnbooted c fault → IsSettingRefused c result }
 {
     match fault {
         RunFault::BadSizes => SettingFault::BadSizes,

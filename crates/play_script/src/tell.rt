@@ -2,14 +2,14 @@
 ghost use Rattle.std.specs.Prelude.{◌≡◌, ◌≤◌, length, IfSome};
 ghost use Rattle.net_stack.specs.Stack.{state_of};
 ghost use Rattle.params.specs.declared.TheConstants.{IP_MAX_PACKET, MAX_MTU};
-ghost use Rattle.play_read.specs.Views.{IsSound, ask_of};
+ghost use Rattle.play_read.specs.Views.{IsSoundAsk, ask_of};
 ghost use Rattle.play_script.specs.Deeds.{below_text};
 ghost use Rattle.play_script.specs.Inside.{IsTold, IsToldAs, events_of, most_of};
 ghost use Rattle.play_script.specs.Plays.{captured_of};
 ghost use Rattle.play_script.specs.Tells.{IsDone};
-ghost use Rattle.play_script.specs.Views.{plain_of};
-ghost use Rattle.request.specs.Replies.{packet_of};
-ghost use Rattle.stack_call.specs.Moves.{Moves};
+ghost use Rattle.play_script.specs.Views.{plain_line};
+ghost use Rattle.request.specs.Replies.{packet_behind};
+ghost use Rattle.stack_call.specs.Moves.{StackSteps};
 
 use crate::capture::Capture;
 use crate::captured::CapturedStack;
@@ -34,7 +34,7 @@ pub(crate) fn put_below(
 )
     requires moved { IfSome moved.0 (λ p. length p.now ≤ IP_MAX_PACKET) }
     requires room { MAX_MTU ≤ length room.old }
-    ensures { below.new ≡ below_text quiet (packet_of moved.entry.0) moved.entry.1.now moved.entry.2.now
+    ensures { below.new ≡ below_text quiet (packet_behind moved.entry.0) moved.entry.1.now moved.entry.2.now
         (state_of stack.now).output }
 {
     if quiet {
@@ -68,7 +68,8 @@ fn tell_deed<T: Sink>(
 )
     requires room { length room.old ≡ IP_MAX_PACKET }
     requires deed { most_of deed ≤ IP_MAX_PACKET }
-    ensures done { IsDone Moves report.old.quiet (captured_of (state_of stack.old) capture.old.trace capture.old.line)
+    ensures done { IsDone StackSteps report.old.quiet
+        (captured_of (state_of stack.old) capture.old.trace capture.old.line)
         (events_of deed.entry) report.new.told report.new.below
         (captured_of (state_of stack.new) capture.new.trace capture.new.line) }
     ensures quiet { report.new.quiet ≡ report.old.quiet }
@@ -95,8 +96,8 @@ fn tell_ask<T: Sink, F: Folder>(
     ask: Ask<'_, '_>,
     report: &mut Report,
 ) -> Told
-    requires { IsSound ask }
-    ensures { IsToldAs Moves F.may_have report.old.quiet (ask_of ask.entry) result
+    requires { IsSoundAsk ask }
+    ensures { IsToldAs StackSteps F.may_have report.old.quiet (ask_of ask.entry) result
         (captured_of (state_of captured.old.stack) captured.old.capture.trace captured.old.capture.line)
         report.new.told report.new.below
         (captured_of (state_of captured.new.stack) captured.new.capture.trace captured.new.capture.line) }
@@ -144,7 +145,7 @@ pub(crate) fn tell_line<T: Sink, F: Folder>(
     report: &mut Report,
 ) -> Told
     requires { length room.old ≡ IP_MAX_PACKET }
-    ensures { IsTold Moves F.may_have report.old.quiet (plain_of line.now) result
+    ensures { IsTold StackSteps F.may_have report.old.quiet (plain_line line.now) result
         (captured_of (state_of captured.old.stack) captured.old.capture.trace captured.old.capture.line)
         report.new.told report.new.below
         (captured_of (state_of captured.new.stack) captured.new.capture.trace captured.new.capture.line) }

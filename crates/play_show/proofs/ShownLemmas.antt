@@ -7,8 +7,8 @@ use Rattle.flat_model.specs.declared.counters.Counters.{Counters}
 use Rattle.flat_model.specs.declared.usage.Mbstat.{Mbstat}
 use Rattle.flat_model.specs.Machine.Ledger.{usage_of}
 use Rattle.play_show.specs.Changes.{IsSnapshot}
-use Rattle.play_show.specs.Counts.{counters_text, pool_text}
-use Rattle.play_show.specs.Tells.{Shows, told_of, below_of}
+use Rattle.play_show.specs.Counts.{counter_lines, pool_text}
+use Rattle.play_show.specs.Tells.{Shows, topic_told, below_of}
 use Rattle.play_show.specs.declared.snapshot.Snapshot.{Snapshot}
 use Rattle.play_show.specs.declared.topic.Topic.{Topic}
 use Rattle.play_show.specs.declared.topic.Topic.TheVariants as topic
@@ -20,12 +20,12 @@ same_usage : (u v : Mbstat) → Shown u ≡ Shown v → u ≡ v
 same_usage u v e = cc
 
 pub Shows-stack : (s : State) (about : Topic) (told below : List ℕ) → Shows Step s about told below
-    → (told ≡ told_of s about) × (below ≡ below_of s about)
+    → (told ≡ topic_told s about) × (below ≡ below_of s about)
 Shows-stack s topic.Sockets told below h = h
 Shows-stack s topic.Unfinished told below h = h
 Shows-stack s topic.Queue told below h = h
 Shows-stack s topic.Counters told below (counters, step, t, b) =
-    (t, b ∙ ap counters_text (same_counters counters s.counters step.0))
+    (t, b ∙ ap counter_lines (same_counters counters s.counters step.0))
 Shows-stack s topic.Pool told below (usage, (shown, is, reply, same), t, b) =
     (t ∙ ap pool_text (same_usage usage shown reply ∙ is), b)
 

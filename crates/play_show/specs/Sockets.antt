@@ -3,7 +3,7 @@ use Rattle.std.specs.Prelude.{ℕ, zero, suc, ◌+◌, Bool, true, false, List, 
 use Rattle.params.specs.declared.TheConstants.{FIRST_DESCRIPTOR}
 use Rattle.flat_model.specs.Machine.State.{State}
 use Rattle.flat_model.specs.declared.errno.Errno.{Errno}
-use Rattle.sock_calls.specs.Questions.{bytes_queued, next_datagram, socket_name}
+use Rattle.sock_calls.specs.Questions.{bytes_queued_at, next_datagram, socket_name}
 use Rattle.sock_calls.specs.declared.questions.SocketName.{SocketName}
 use Rattle.sock_calls.specs.declared.questions.NextDatagram.{NextDatagram}
 use Rattle.play_show.specs.Texts.{socket_line}
@@ -14,7 +14,7 @@ named_line fd (Err errno) next queued = []
 
 -- the line of a descriptor's socket, if one is open
 abbrev pub descriptor_line : State → ℕ → List ℕ
-descriptor_line s fd = named_line fd (socket_name fd s) (next_datagram fd s) (bytes_queued fd s)
+descriptor_line s fd = named_line fd (socket_name fd s) (next_datagram fd s) (bytes_queued_at fd s)
 
 abbrev pub is_named : Result SocketName Errno → Bool
 is_named (Ok name) = true

@@ -23,8 +23,8 @@ ranges_below zero i s = []
 ranges_below (suc k) i s = ranges_below k i s ++ held_option (nth_range i k s.unfinished)
 
 -- identification, protocol and addresses, how long it's kept, and how many bytes are held
-abbrev pub head_text : UnfinishedDatagram → List ℕ
-head_text d =
+abbrev pub unfinished_head : UnfinishedDatagram → List ℕ
+unfinished_head d =
     codes "    datagram " ++ decimal d.key.id ++ codes " of " ++ way_text d.key.protocol d.key.source d.key.destination
     ++ codes ": " ++ amount d.ticks (codes "tick") ++ codes " left, " ++ amount d.bytes (codes "byte") ++ codes " held"
 
@@ -34,7 +34,7 @@ rest_text all = if nat_lt MOST_RANGES all then codes " and " ++ decimal (all - M
 
 -- a datagram and its ranges
 abbrev pub datagram_line : UnfinishedDatagram → ℕ → State → List ℕ
-datagram_line d i s = head_text d ++ ranges_below MOST_RANGES i s ++ rest_text d.ranges ++ codes "\n"
+datagram_line d i s = unfinished_head d ++ ranges_below MOST_RANGES i s ++ rest_text d.ranges ++ codes "\n"
 
 abbrev pub line_option : Option UnfinishedDatagram → ℕ → State → List ℕ
 line_option None i s = []

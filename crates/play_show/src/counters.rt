@@ -1,6 +1,6 @@
 //! Counters and the pool in words.
 ghost use Rattle.std.specs.Prelude.{◌≡◌, ◌+◌, ◌*◌, ◌≤◌, ◌++◌, length};
-ghost use Rattle.play_show.specs.Counts.{meaning, counter_line, counters_text, pool_text};
+ghost use Rattle.play_show.specs.Counts.{counter_meaning, counter_line, counter_lines, pool_text};
 
 use crate::SHOWN;
 use flat_model::{Counter, Counters, Mbstat};
@@ -10,7 +10,7 @@ use script_loop::Buffer;
 
 /// What a counter counts.
 fn meaning_of(counter: Counter) -> &'static str
-    ensures is { result.now ≡ meaning counter }
+    ensures is { result.now ≡ counter_meaning counter }
     ensures short { length result.now ≤ 80 }
 {
     match counter {
@@ -65,7 +65,7 @@ fn put_counter(text: &mut Buffer<SHOWN>, counter: Counter, counters: &Counters)
 
 /// Puts the lines of all counters into a buffer.
 pub(crate) fn put_counters(text: &mut Buffer<SHOWN>, counters: &Counters)
-    ensures { text.new ≡ counters_text counters.now }
+    ensures { text.new ≡ counter_lines counters.now }
 {
     text.clear();
     for counter in Counter::all() {

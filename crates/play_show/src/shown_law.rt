@@ -6,12 +6,12 @@ ghost use Rattle.flat_model.specs.Machine.Ledger.{usage_of};
 ghost use Rattle.play_show.specs.Changes.{IsSnapshot};
 ghost use Rattle.play_show.specs.declared.snapshot.Snapshot.{Snapshot};
 ghost use Rattle.play_show.specs.declared.topic.Topic.{Topic};
-ghost use Rattle.play_show.specs.Tells.{Shows, told_of, below_of};
+ghost use Rattle.play_show.specs.Tells.{Shows, topic_told, below_of};
 
 /// What is told of a stack is a function of its state.
 pub fn shows_law()
     ensures { (s : State) (topic : Topic) (told below : List ℕ) → Shows Step s topic told below
-        → (told ≡ told_of s topic) × (below ≡ below_of s topic) }
+        → (told ≡ topic_told s topic) × (below ≡ below_of s topic) }
 {}
 
 /// What is looked at of a stack is a function of its state: its counters, and how much of its pool is in use.

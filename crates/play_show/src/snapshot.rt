@@ -2,7 +2,7 @@
 ghost use Rattle.std.specs.Prelude.{◌≡◌};
 ghost use Rattle.sock_calls.specs.Questions.{next_datagram};
 ghost use Rattle.play_show.specs.Changes.{IsSnapshot, waiting_of};
-ghost use Rattle.stack_call.specs.Moves.{Moves};
+ghost use Rattle.stack_call.specs.Moves.{StackSteps};
 ghost use Rattle.net_stack.specs.Stack.{state_of};
 
 use flat_model::{Counters, Mbstat};
@@ -36,9 +36,9 @@ fn waiting_in(machine: &Stack, fd: u32) -> u32
 }
 
 /// Looks at a machine, which isn't changed. It takes a step for each of the 64 descriptors, and one for each cluster.
-#[tactic(auto, unfolding(stack_call::specs::Moves::Moves))]
+#[tactic(auto, unfolding(stack_call::specs::Moves::StackSteps))]
 pub fn snapshot_of(machine: &Stack) -> Snapshot
-    ensures { IsSnapshot Moves (state_of machine.now) result }
+    ensures { IsSnapshot StackSteps (state_of machine.now) result }
 {
     let mut waiting = [0; SOCKETS];
     'places: for place in 0..SOCKETS {

@@ -1,6 +1,6 @@
 //! What is told of a machine.
 ghost use Rattle.play_show.specs.Tells.{Shows};
-ghost use Rattle.stack_call.specs.Moves.{Moves};
+ghost use Rattle.stack_call.specs.Moves.{StackSteps};
 ghost use Rattle.net_stack.specs.Stack.{state_of};
 
 use crate::SHOWN;
@@ -19,14 +19,14 @@ use script_loop::Buffer;
 /// in the order of [`Counter::all`](flat_model::Counter::all); no line for the output queue and the pool. What the
 /// buffers held before is lost. The machine isn't changed. It takes a step for each of the 64 descriptors, and for the
 /// pool one for each cluster.
-#[tactic(auto, unfolding(stack_call::specs::Moves::Moves))]
+#[tactic(auto, unfolding(stack_call::specs::Moves::StackSteps))]
 pub fn tell_topic(
     machine: &Stack,
     topic: Topic,
     told: &mut Buffer<SHOWN>,
     below: &mut Buffer<SHOWN>,
 )
-    ensures { Shows Moves (state_of machine.now) topic told.new below.new }
+    ensures { Shows StackSteps (state_of machine.now) topic told.new below.new }
 {
     told.clear();
     below.clear();

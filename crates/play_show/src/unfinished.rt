@@ -61,7 +61,7 @@ fn put_ranges(machine: &Stack, text: &mut Buffer<SHOWN>, i: u32)
 /// bytes are held.
 fn put_head(text: &mut Buffer<SHOWN>, datagram: UnfinishedDatagram)
     requires { length text.old + 180 ≤ SHOWN }
-    ensures items { text.new ≡ text.old ++ texts.head_text datagram }
+    ensures items { text.new ≡ text.old ++ texts.unfinished_head datagram }
     ensures len { length text.new ≤ length text.old + 180 }
 {
     let key = datagram.key;

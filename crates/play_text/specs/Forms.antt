@@ -59,6 +59,6 @@ part_text colour (byte ∷ bytes) = colour ++ (byte ∷ bytes) ++ ended
 abbrev pub parts_text : ℕ → List ℕ → List ℕ
 parts_text at told = part_text (reply_colour told) (take at told) ++ part_text yellow (drop at told)
 
-abbrev pub reply_text : Bool → List ℕ → List ℕ
-reply_text true told = parts_text (drops_at told) told
-reply_text false told = told
+abbrev pub told_reply : Bool → List ℕ → List ℕ
+told_reply true told = parts_text (drops_at told) told
+told_reply false told = told

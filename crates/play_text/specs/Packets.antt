@@ -13,8 +13,8 @@ has_header packet = nat_le IP_HEADER (length packet) && slice_index packet 0 == 
 abbrev pub carried_by : List ℕ → ℕ
 carried_by packet = total_of packet - IP_HEADER
 
-abbrev pub is_fragment : Head → Bool
-is_fragment h = h.more || nat_lt 0 h.offset
+abbrev pub is_fragment_packet : Head → Bool
+is_fragment_packet h = h.more || nat_lt 0 h.offset
 
 -- UDP, and all 8 bytes of its header are there
 abbrev pub has_ports : Head → List ℕ → Bool
@@ -46,7 +46,7 @@ other_text h carried =
 
 abbrev pub headed_text : Head → List ℕ → List ℕ
 headed_text h packet =
-    if is_fragment h then fragment_text h (carried_by packet) else
+    if is_fragment_packet h then fragment_text h (carried_by packet) else
     if has_ports h packet then datagram_text h packet else other_text h (carried_by packet)
 
 -- what is told of a packet

@@ -47,13 +47,13 @@ piece_text (Way protocol source destination) = way_text protocol source destinat
 piece_text (Range offset n) = range_text offset n
 piece_text (Quoted bytes) = string_text bytes.now
 
-abbrev pub text_after : List ℕ → List Piece → List ℕ
-text_after text [] = text
-text_after text (piece ∷ pieces) = text_after (text ++ piece_text piece) pieces
+abbrev pub pieces_after : List ℕ → List Piece → List ℕ
+pieces_after text [] = text
+pieces_after text (piece ∷ pieces) = pieces_after (text ++ piece_text piece) pieces
 
 -- one after another
 abbrev pub text_of : List Piece → List ℕ
-text_of pieces = text_after [] pieces
+text_of pieces = pieces_after [] pieces
 
 -- ---- how many bytes that are at most
 
@@ -70,6 +70,6 @@ piece_room (Way protocol source destination) = 53
 piece_room (Range offset n) = 40
 piece_room (Quoted bytes) = 6 * length bytes.now + 2
 
-abbrev pub room_of : List Piece → ℕ
-room_of [] = 0
-room_of (piece ∷ pieces) = piece_room piece + room_of pieces
+abbrev pub pieces_room : List Piece → ℕ
+pieces_room [] = 0
+pieces_room (piece ∷ pieces) = piece_room piece + pieces_room pieces

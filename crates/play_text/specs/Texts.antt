@@ -1,8 +1,8 @@
 -- What is printed for a line of a script (this project's own).
 use Rattle.std.specs.Prelude.{ℕ, Bool, true, false, List, [], ◌++◌, if◌then◌else◌, codes, decimal, Option, Some, None, is_some}
-use Rattle.play_line.specs.Faults.{words_of}
+use Rattle.play_line.specs.Faults.{misread_words}
 use Rattle.play_line.specs.declared.fault.Slip.{Slip}
-use Rattle.play_text.specs.Forms.{is_quiet, is_coloured, is_json, if_coloured, red, ended, reply_text}
+use Rattle.play_text.specs.Forms.{is_quiet, is_coloured, is_json, if_coloured, red, ended, told_reply}
 use Rattle.play_text.specs.Pieces.{number_or}
 use Rattle.play_text.specs.Strings.{string_text}
 use Rattle.play_text.specs.declared.form.Form.{Form}
@@ -22,7 +22,7 @@ head_text false number line = decimal number ++ codes "  " ++ line ++ codes " =>
 -- the line and what is told of it
 abbrev pub line_text : Form → ℕ → List ℕ → List ℕ → List ℕ
 line_text form number line told =
-    head_text (is_quiet form) number line ++ reply_text (is_coloured form) told ++ codes "\n"
+    head_text (is_quiet form) number line ++ told_reply (is_coloured form) told ++ codes "\n"
 
 abbrev pub differs_text : Form → List ℕ → ℕ → List ℕ → List ℕ → List ℕ
 differs_text form name number wanted told =
@@ -72,7 +72,7 @@ fault_text form name number what = spot_fault form name number None what
 
 -- bytes that can't be read, with their column
 abbrev pub slip_text : Form → List ℕ → ℕ → Slip → List ℕ
-slip_text form name number slip = spot_fault form name number (Some slip.column) (words_of slip.fault)
+slip_text form name number slip = spot_fault form name number (Some slip.column) (misread_words slip.fault)
 
 -- what is told of a line and the lines below it, and what was expected, if that isn't what is told
 abbrev pub outcome_text : Form → List ℕ → ℕ → List ℕ → Option (List ℕ) → Bool → List ℕ → List ℕ → List ℕ

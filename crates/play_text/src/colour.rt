@@ -71,7 +71,7 @@ fn put_part<'a, const N: usize>(text: &mut Buffer<N>, colour: &'a [u8], part: &'
 /// Puts what is told after the text, in its colours if there are colours.
 pub(crate) fn put_reply<const N: usize>(text: &mut Buffer<N>, colours: bool, told: &[u8])
     requires { length text.old + (length told.now + 18) ≤ N }
-    ensures items { text.new ≡ text.old ++ forms.reply_text colours told.now }
+    ensures items { text.new ≡ text.old ++ forms.told_reply colours told.now }
     ensures len { length text.new ≤ length text.old + (length told.now + 18) }
 {
     if colours {

@@ -2,7 +2,7 @@
 ghost use Rattle.std.specs.Prelude.{◌≡◌, ◌+◌, ◌-◌, ◌≤◌, ◌++◌, length};
 ghost use Rattle.params.specs.declared.TheConstants.{IP_HEADER, IP_MAX_PACKET};
 ghost use Rattle.flat_model.specs.Packets.Header.{total_of};
-ghost use Rattle.flat_plain.specs.Heads.{head_for};
+ghost use Rattle.flat_plain.specs.Heads.{plain_head};
 ghost use Rattle.play_text.specs.Packets as texts;
 
 use crate::piece::Piece::{Amount, Either, End, Number, Range, Text, Way};
@@ -29,14 +29,14 @@ fn carried_by(packet: &[u8]) -> u32
 
 /// Whether a packet carries UDP, and all 8 bytes of its header.
 fn has_ports(head: Head, packet: &[u8]) -> bool
-    ensures { result ≡ texts.has_ports (head_for head) packet.now }
+    ensures { result ≡ texts.has_ports (plain_head head) packet.now }
 {
     head.protocol == PROTOCOL_UDP && IP_UDP_HEADERS as usize <= packet.len()
 }
 
 /// Whether a packet carries a part of its datagram.
 fn is_fragment(head: Head) -> bool
-    ensures { result ≡ texts.is_fragment (head_for head) }
+    ensures { result ≡ texts.is_fragment_packet (plain_head head) }
 {
     head.more || 0 < head.offset
 }
@@ -44,7 +44,7 @@ fn is_fragment(head: Head) -> bool
 /// Puts the fragment of a datagram after the text.
 fn put_fragment<const N: usize>(text: &mut Buffer<N>, head: Head, carried: u32)
     requires { length text.old + 174 ≤ N }
-    ensures items { text.new ≡ text.old ++ texts.fragment_text (head_for head) carried }
+    ensures items { text.new ≡ text.old ++ texts.fragment_text (plain_head head) carried }
     ensures len { length text.new ≤ length text.old + 174 }
 {
     put(
@@ -64,7 +64,7 @@ fn put_fragment<const N: usize>(text: &mut Buffer<N>, head: Head, carried: u32)
 fn put_datagram<const N: usize>(text: &mut Buffer<N>, head: Head, packet: &[u8])
     requires ports { 28 ≤ length packet.now }
     requires room { length text.old + 174 ≤ N }
-    ensures items { text.new ≡ text.old ++ texts.datagram_text (head_for head) packet.now }
+    ensures items { text.new ≡ text.old ++ texts.datagram_text (plain_head head) packet.now }
     ensures len { length text.new ≤ length text.old + 174 }
 {
     let source = Addr {
@@ -94,7 +94,7 @@ fn put_datagram<const N: usize>(text: &mut Buffer<N>, head: Head, packet: &[u8])
 /// Puts another packet that isn't a fragment after the text.
 fn put_other<const N: usize>(text: &mut Buffer<N>, head: Head, carried: u32)
     requires { length text.old + 174 ≤ N }
-    ensures items { text.new ≡ text.old ++ texts.other_text (head_for head) carried }
+    ensures items { text.new ≡ text.old ++ texts.other_text (plain_head head) carried }
     ensures len { length text.new ≤ length text.old + 174 }
 {
     put(
@@ -113,7 +113,7 @@ fn put_other<const N: usize>(text: &mut Buffer<N>, head: Head, carried: u32)
 fn put_headed<const N: usize>(text: &mut Buffer<N>, head: Head, packet: &[u8])
     requires header { IP_HEADER ≤ length packet.now }
     requires room { length text.old + 174 ≤ N }
-    ensures items { text.new ≡ text.old ++ texts.headed_text (head_for head) packet.now }
+    ensures items { text.new ≡ text.old ++ texts.headed_text (plain_head head) packet.now }
     ensures len { length text.new ≤ length text.old + 174 }
 {
     if is_fragment(head) {
@@ -151,7 +151,7 @@ pub fn put_packet<const N: usize>(text: &mut Buffer<N>, packet: &[u8])
 /// Puts a line after the text: that a fragment with this header is kept.
 fn put_held<const N: usize>(text: &mut Buffer<N>, head: Head, carried: u32)
     requires { length text.old + 100 ≤ N }
-    ensures items { text.new ≡ text.old ++ texts.held_line (head_for head) carried }
+    ensures items { text.new ≡ text.old ++ texts.held_line (plain_head head) carried }
     ensures len { length text.new ≤ length text.old + 100 }
 {
     put(

@@ -1,6 +1,6 @@
 //! Texts, piece by piece.
 ghost use Rattle.std.specs.Prelude.{◌≡◌, ◌+◌, ◌≤◌, ◌++◌, [], length, if◌then◌else◌};
-ghost use Rattle.play_text.specs.Pieces.{amount, end_text, number_or, piece_room, piece_text, protocol_text, range_text, room_of, text_of, way_text};
+ghost use Rattle.play_text.specs.Pieces.{amount, end_text, number_or, piece_room, piece_text, protocol_text, range_text, pieces_room, text_of, way_text};
 
 use crate::escape::put_string;
 use flat_model::Addr;
@@ -139,9 +139,9 @@ fn put_piece<const N: usize>(text: &mut Buffer<N>, piece: &Piece<'_>)
 /// number and 20 for a long one, 12 more than its word for an amount, 15, 26 and 53 for an address, an end and a way,
 /// 40 for a range, and six for each byte of a string and two more.
 pub fn put<const N: usize>(text: &mut Buffer<N>, pieces: &[Piece<'_>])
-    requires { length text.old + room_of pieces.now ≤ N }
+    requires { length text.old + pieces_room pieces.now ≤ N }
     ensures items { text.new ≡ text.old ++ text_of pieces.now }
-    ensures len { length text.new ≤ length text.old + room_of pieces.now }
+    ensures len { length text.new ≤ length text.old + pieces_room pieces.now }
 {
     for piece in pieces {
         put_piece(text, piece);
@@ -150,9 +150,9 @@ pub fn put<const N: usize>(text: &mut Buffer<N>, pieces: &[Piece<'_>])
 
 /// Puts pieces after the text if so, as [`put`] does, and else nothing. The room must be there all the same.
 pub fn put_if<const N: usize>(text: &mut Buffer<N>, so: bool, pieces: &[Piece<'_>])
-    requires { length text.old + room_of pieces.now ≤ N }
+    requires { length text.old + pieces_room pieces.now ≤ N }
     ensures items { text.new ≡ text.old ++ (if so then text_of pieces.now else []) }
-    ensures len { length text.new ≤ length text.old + room_of pieces.now }
+    ensures len { length text.new ≤ length text.old + pieces_room pieces.now }
 {
     if so {
         put(text, pieces);

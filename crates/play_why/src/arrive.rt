@@ -3,7 +3,7 @@ ghost use Rattle.std.specs.Prelude.{◌≡◌, ◌≤◌, length};
 ghost use Rattle.params.specs.declared.TheConstants.{IP_MAX_PACKET};
 ghost use Rattle.flat_model.specs.Machine.Event.{Comes, Done};
 ghost use Rattle.play_why.specs.Fates.{IsSeen, record_text};
-ghost use Rattle.stack_call.specs.Moves.{Moves};
+ghost use Rattle.stack_call.specs.Moves.{StackSteps};
 ghost use Rattle.net_stack.specs.Stack.{state_of};
 
 use crate::FATE;
@@ -18,7 +18,7 @@ use script_loop::Buffer;
 use stack_call::call;
 
 /// What a machine has counted.
-#[tactic(auto, unfolding(stack_call::specs::Moves::Moves))]
+#[tactic(auto, unfolding(stack_call::specs::Moves::StackSteps))]
 pub(crate) fn counted(machine: &Stack) -> Counters
     ensures { result ≡ (state_of machine.now).counters }
 {
@@ -29,7 +29,7 @@ pub(crate) fn counted(machine: &Stack) -> Counters
 fn comes(machine: &mut Stack, packet: &[u8], room: &mut [u8])
     requires packet { length packet.now ≤ IP_MAX_PACKET }
     requires room { length room.old ≡ IP_MAX_PACKET }
-    ensures { Moves (state_of machine.old) (Comes packet.now) Done (state_of machine.new) }
+    ensures { StackSteps (state_of machine.old) (Comes packet.now) Done (state_of machine.new) }
 {
     let _reply = call(machine, Request::Packet(packet), room);
 }
@@ -46,7 +46,7 @@ pub fn tell_record(
     text: &mut Buffer<FATE>,
 )
     requires { IsSeen seen.now }
-    ensures moves { Moves (state_of machine.old) (Comes seen.now.packet.now) Done (state_of machine.new) }
+    ensures moves { StackSteps (state_of machine.old) (Comes seen.now.packet.now) Done (state_of machine.new) }
     ensures text { text.new ≡ record_text layout seen.now (state_of machine.old).counters
         (state_of machine.new).counters (state_of machine.new) ours }
 {

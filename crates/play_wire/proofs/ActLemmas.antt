@@ -4,21 +4,21 @@ use Rattle.std.specs.Prelude.{slice_get, slice_set}
 use Rattle.flat_model.specs.Amounts.Choice.{Choice}
 use Rattle.flat_model.specs.Machine.Event.{Tick, Done}
 use Rattle.flat_model.specs.Runs.Run.{Turn}
-use Rattle.net_stack.specs.Runs.{AreCalls, IsCall}
+use Rattle.net_stack.specs.Runs.{AreCalls, IsTurnOf}
 use Rattle.net_stack.specs.Stack.{StackView}
 use Rattle.segment.specs.Law.{Act, Calls, Collects, Delivers, IsAct, AreActs}
-use Rattle.segment.specs.Segment.{SegmentView, AreCarried, IsCarried, is_quiet}
-use Rattle.play_wire.specs.Acts.{Moves, turn_of, with_stack}
+use Rattle.segment.specs.Segment.{SegmentView, AreCarried, IsCarried, is_quiet_segment}
+use Rattle.play_wire.specs.Acts.{AreLedTo, call_turn, with_stack_at}
 use Rattle.play_wire.specs.Inside.{IsExchanged, IsKept}
 
 pub acts_append : (u v w : SegmentView) (xs ys : List Act) → AreActs u xs v → AreActs v ys w → AreActs u (xs ++ ys) w
 acts_append u v w [] ys same later = subst (λ (x : SegmentView). AreActs x ys w) same later
 acts_append u v w (x ∷ xs) ys (mid, is, rest) later = (mid, is, acts_append mid v w xs ys rest later)
 
-pub moves_not : (v w : SegmentView) → w ≡ v → Moves v w
+pub moves_not : (v w : SegmentView) → w ≡ v → AreLedTo v w
 moves_not v w same = ([], same)
 
-pub moves_on : (u v w : SegmentView) → Moves u v → Moves v w → Moves u w
+pub moves_on : (u v w : SegmentView) → AreLedTo u v → AreLedTo v w → AreLedTo u w
 moves_on u v w (xs, first) (ys, second) = (xs ++ ys, acts_append u v w xs ys first second)
 
 -- ---- one stack among others
@@ -45,12 +45,12 @@ get_set (z ∷ xs) (suc i) x y e = get_set xs i x y e
 -- calls on a stack are acts on its segment
 pub calls_are_acts : (place : ℕ) (v : SegmentView) (turns : List Turn) (s t : StackView)
     → slice_get v.stacks place ≡ Some s → AreCalls s turns t
-    → AreActs v (map (Calls place) turns) (with_stack place t v)
+    → AreActs v (map (Calls place) turns) (with_stack_at place t v)
 calls_are_acts place v [] s t here same =
     ap (λ (xs : List StackView). record v { stacks = xs })
     (ap (slice_set v.stacks place) same ∙ set_same v.stacks place s here)
 calls_are_acts place v (turn ∷ turns) s t here (range, mid, is, rest) = (
-  with_stack place mid v,
+  with_stack_at place mid v,
   record {
     before = s;
     after = mid;
@@ -65,9 +65,10 @@ calls_are_acts place v (turn ∷ turns) s t here (range, mid, is, rest) = (
     random = refl;
     tallies = refl;
   },
-  subst (λ (xs : List StackView). AreActs (with_stack place mid v) (map (Calls place) turns) (record v { stacks = xs }))
+  subst (λ (xs : List StackView). AreActs (with_stack_at place mid v) (map (Calls place) turns)
+      (record v { stacks = xs }))
       (set_twice v.stacks place mid t)
-      (calls_are_acts place (with_stack place mid v) turns mid t (get_set v.stacks place s mid here) rest),
+      (calls_are_acts place (with_stack_at place mid v) turns mid t (get_set v.stacks place s mid here) rest),
 )
 
 -- ---- ticks
@@ -80,40 +81,40 @@ calls_append : (s t u : StackView) (xs ys : List Turn) → AreCalls s xs t → A
 calls_append s t u [] ys same later = subst (λ (x : StackView). AreCalls x ys u) same later
 calls_append s t u (x ∷ xs) ys (range, mid, is, rest) later = (range, mid, is, calls_append mid t u xs ys rest later)
 
-pub one_tick_more : (n : ℕ) (s t u : StackView) → AreCalls s (replicate n (turn_of Tick Done)) t
-    → IsCall t (turn_of Tick Done) u
-    → AreCalls s (replicate (suc n) (turn_of Tick Done)) u
+pub one_tick_more : (n : ℕ) (s t u : StackView) → AreCalls s (replicate n (call_turn Tick Done)) t
+    → IsTurnOf t (call_turn Tick Done) u
+    → AreCalls s (replicate (suc n) (call_turn Tick Done)) u
 one_tick_more n s t u before step =
-    subst (λ (xs : List Turn). AreCalls s xs u) (one_more n (turn_of Tick Done))
-    (calls_append s t u (replicate n (turn_of Tick Done)) (turn_of Tick Done ∷ []) before (tt, u, step, refl))
+    subst (λ (xs : List Turn). AreCalls s xs u) (one_more n (call_turn Tick Done))
+    (calls_append s t u (replicate n (call_turn Tick Done)) (call_turn Tick Done ∷ []) before (tt, u, step, refl))
 
-pub one_tick_later : (n : ℕ) (s t u : StackView) → AreCalls s (replicate n (turn_of Tick Done)) t
-    → IsCall t (turn_of Tick Done) u
-    → AreCalls s (replicate (n + 1) (turn_of Tick Done)) u
+pub one_tick_later : (n : ℕ) (s t u : StackView) → AreCalls s (replicate n (call_turn Tick Done)) t
+    → IsTurnOf t (call_turn Tick Done) u
+    → AreCalls s (replicate (n + 1) (call_turn Tick Done)) u
 one_tick_later n s t u before step =
-    subst (λ k. AreCalls s (replicate k (turn_of Tick Done)) u) (sym (add-one n)) (one_tick_more n s t u before step)
+    subst (λ k. AreCalls s (replicate k (call_turn Tick Done)) u) (sym (add-one n)) (one_tick_more n s t u before step)
 
 -- ---- carries
 
-pub carried_moves : (v w : SegmentView) → IsCarried v w → Moves v w
+pub carried_moves : (v w : SegmentView) → IsCarried v w → AreLedTo v w
 carried_moves v w (mid, collected, delivered) =
     (Collects v ∷ Delivers mid ∷ [], (mid, (refl, collected), (w, (refl, delivered), refl)))
 
-by_choice : (v w : SegmentView) (n : ℕ) → ((mid : SegmentView) → AreCarried n mid w → Moves mid w) → (b : Bool)
-    → is_quiet v ≡ b
-    → AreCarried (suc n) v w → Moves v w
+by_choice : (v w : SegmentView) (n : ℕ) → ((mid : SegmentView) → AreCarried n mid w → AreLedTo mid w) → (b : Bool)
+    → is_quiet_segment v ≡ b
+    → AreCarried (suc n) v w → AreLedTo v w
 by_choice v w n later true e choice = moves_not v w (choice.yes e)
 by_choice v w n later false e choice = let more = choice.no e in
     moves_on v more.0 w (carried_moves v more.0 more.1) (later more.0 more.2)
 
-pub all_carried_move : (n : ℕ) (v w : SegmentView) → AreCarried n v w → Moves v w
+pub all_carried_move : (n : ℕ) (v w : SegmentView) → AreCarried n v w → AreLedTo v w
 all_carried_move zero v w same = moves_not v w same
 all_carried_move (suc n) v w choice =
-    by_choice v w n (λ mid rest. all_carried_move n mid w rest) (is_quiet v) refl choice
+    by_choice v w n (λ mid rest. all_carried_move n mid w rest) (is_quiet_segment v) refl choice
 
 -- ---- what changes no stack
 
-pub one_act : (v w : SegmentView) (act : Act) → IsAct v act w → Moves v w
+pub one_act : (v w : SegmentView) (act : Act) → IsAct v act w → AreLedTo v w
 one_act v w act is = (act ∷ [], (w, is, refl))
 
 -- ---- the stack of a host, handed over and put back
@@ -121,7 +122,7 @@ one_act v w act is = (act ∷ [], (w, is, refl))
 pub put_back : (place : ℕ) (v mid w : SegmentView) (spare s t other : StackView) (b : Bool)
     → IsExchanged place v spare mid s
     → Choice b (IsExchanged place mid t w other) (IsKept place mid w)
-    → (slice_get v.stacks place ≡ Some s) × (w ≡ with_stack place t v)
+    → (slice_get v.stacks place ≡ Some s) × (w ≡ with_stack_at place t v)
 put_back place v mid w spare s t other b (here, is) back = (here, by b refl)
   where
     there : slice_get mid.stacks place ≡ Some spare
@@ -130,15 +131,15 @@ put_back place v mid w spare s t other b (here, is) back = (here, by b refl)
     never : None ≡ Some spare → ⊥
     never e = cc
 
-    by : (c : Bool) → b ≡ c → w ≡ with_stack place t v
+    by : (c : Bool) → b ≡ c → w ≡ with_stack_at place t v
     by true e =
-        (back.yes e).1 ∙ ap (with_stack place t) is
+        (back.yes e).1 ∙ ap (with_stack_at place t) is
         ∙ ap (λ (xs : List StackView). record v { stacks = xs }) (set_twice v.stacks place spare t)
     by false e = absurd (never (sym (back.no e).0 ∙ there))
 
 pub calls_move : (place : ℕ) (v mid w : SegmentView) (spare s t other : StackView) (b : Bool) (turns : List Turn)
     → IsExchanged place v spare mid s
-    → AreCalls s turns t → Choice b (IsExchanged place mid t w other) (IsKept place mid w) → Moves v w
+    → AreCalls s turns t → Choice b (IsExchanged place mid t w other) (IsKept place mid w) → AreLedTo v w
 calls_move place v mid w spare s t other b turns first calls back =
     let put = put_back place v mid w spare s t other b first back in (
       map (Calls place) turns,

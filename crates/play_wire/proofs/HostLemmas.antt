@@ -12,7 +12,7 @@ use Rattle.play_read.specs.Asks.{Call, Writes}
 use Rattle.play_script.specs.Outcomes.{told, drops_text}
 use Rattle.segment.specs.Law.{Calls}
 use Rattle.segment.specs.Segment.{SegmentView}
-use Rattle.play_wire.specs.Acts.{Outcome, Told, IsAnswered, IsHostLine, turn_of}
+use Rattle.play_wire.specs.Acts.{Outcome, Told, IsLineAnswered, IsHostLine, call_turn}
 use Rattle.play_wire.specs.Inside.{IsExchanged, IsKept}
 use Rattle.play_wire.proofs.ActLemmas.{put_back}
 
@@ -29,9 +29,9 @@ counted_is a b e = ap (λ r. counts_of r a) e
 pub answered_by_call : (plain : List ℕ) (s t : StackView) (text below : List ℕ) (event : Event) (reply : Reply)
     → Writes plain (Call event) → Step (state_of s) event reply (state_of t)
     → text ≡ told (reply_text reply) (drops_text (state_of s).counters (state_of t).counters) → below ≡ []
-    → (turns : List Turn) × IsAnswered plain s turns (Told text below) t
+    → (turns : List Turn) × IsLineAnswered plain s turns (Told text below) t
 answered_by_call plain s t text below event reply asks step is none = (
-  turn_of event reply ∷ [],
+  call_turn event reply ∷ [],
   (
     Some (Call event),
     asks,
@@ -43,7 +43,7 @@ answered_by_call plain s t text below event reply asks step is none = (
 -- a line of a host, on its stack while that is handed over
 pub host_line : (place : ℕ) (plain : List ℕ) (v mid w : SegmentView) (spare s t other : StackView) (came : Outcome)
     (turns : List Turn) (b : Bool)
-    → IsExchanged place v spare mid s → IsAnswered plain s turns came t
+    → IsExchanged place v spare mid s → IsLineAnswered plain s turns came t
     → Choice b (IsExchanged place mid t w other) (IsKept place mid w)
     → IsHostLine place plain v (map (Calls place) turns) came w
 host_line place plain v mid w spare s t other came turns b first answered back =

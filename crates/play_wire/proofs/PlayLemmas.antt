@@ -5,16 +5,16 @@ use Rattle.play_text.specs.Texts.{if_there}
 use Rattle.play_script.specs.Lines.{Reading, reading}
 use Rattle.segment.specs.Law.{Act, AreActs}
 use Rattle.segment.specs.Segment.{SegmentView}
-use Rattle.play_wire.specs.Acts.{Outcome, Refused, Moves, IsHostLine, IsMissing}
-use Rattle.play_wire.specs.Tells.{Play, IsDone, IsParted, Tells, TellsLeft, TellsPart, left_text, next_line}
+use Rattle.play_wire.specs.Acts.{Outcome, Refused, AreLedTo, IsHostLine, IsMissing}
+use Rattle.play_wire.specs.Tells.{WirePlay, IsDone, IsParted, Tells, TellsLeft, TellsPart, left_text, next_wire_line}
 use Rattle.flat_model.specs.Scripts.Grammar.{words}
 use Rattle.play_wire.specs.Inside.{came_of}
 use Rattle.play_wire.specs.declared.fault.Fault.{Fault}
 use Rattle.play_wire.specs.declared.fault.Fault.TheVariants as fault
 
-pub done_by_wire : (play : Play) (named : Bool) (host plain : List ℕ) (came : Outcome) (v w : SegmentView)
+pub done_by_wire : (play : WirePlay) (named : Bool) (host plain : List ℕ) (came : Outcome) (v w : SegmentView)
     (old new : List (List ℕ))
-    → play.segment ≡ v → play.names ≡ old → named ≡ false → Moves v w → (more : List (List ℕ)) × (new ≡ old ++ more)
+    → play.segment ≡ v → play.names ≡ old → named ≡ false → AreLedTo v w → (more : List (List ℕ)) × (new ≡ old ++ more)
     → TellsLeft plain came w
     → (acts : List Act) × IsDone play (if_there named host) plain acts came w new
 done_by_wire play named host plain came v w old new e f is (acts, are) (more, joined) tells = (
@@ -35,7 +35,7 @@ pub tells_left : (came : Result Unit Fault) (plain words' told below : List ℕ)
 tells_left (Ok done) plain words' told below w same tells = λ rest is. tells rest (ap words same ∙ is)
 tells_left (Err fault) plain words' told below w same tells = tt
 
-pub done_by_host : (play : Play) (named : Bool) (host words plain : List ℕ) (came : Outcome) (v w : SegmentView)
+pub done_by_host : (play : WirePlay) (named : Bool) (host words plain : List ℕ) (came : Outcome) (v w : SegmentView)
     (old : List (List ℕ)) (place : ℕ)
     → play.segment ≡ v → play.names ≡ old → named ≡ true → slice_get old place ≡ Some host → words ≡ plain
     → (acts : List Act) × (IsHostLine place words v acts came w ⊎ IsMissing place v acts came w)
@@ -52,7 +52,7 @@ done_by_host play named host words plain came v w old place e f is there same (a
           (sym f, inl (place, named_so, mine)),
     )
 
-pub done_by_none : (play : Play) (named : Bool) (host plain : List ℕ) (v : SegmentView) (old : List (List ℕ))
+pub done_by_none : (play : WirePlay) (named : Bool) (host plain : List ℕ) (v : SegmentView) (old : List (List ℕ))
     → play.segment ≡ v → play.names ≡ old → named ≡ true
     → (acts : List Act) × IsDone play (if_there named host) plain acts (Refused fault.NoHost) v old
 done_by_none play named host plain v old e f is = (
@@ -62,7 +62,7 @@ done_by_none play named host plain v old e f is = (
 )
 
 -- a packet by name comes to no host
-pub done_by_nobody : (play : Play) (named : Bool) (host plain : List ℕ) (v : SegmentView) (old : List (List ℕ))
+pub done_by_nobody : (play : WirePlay) (named : Bool) (host plain : List ℕ) (v : SegmentView) (old : List (List ℕ))
     → play.segment ≡ v → play.names ≡ old → named ≡ false
     → (acts : List Act) × IsDone play (if_there named host) plain acts (Refused fault.Nothing) v old
 done_by_nobody play named host plain v old e f is = (
@@ -72,10 +72,10 @@ done_by_nobody play named host plain v old e f is = (
 )
 
 -- a line that is read so
-pub told_part : (old new : Play) (line part : List ℕ) (host : Option (List ℕ)) (read : Reading) (acts : List Act)
+pub told_part : (old new : WirePlay) (line part : List ℕ) (host : Option (List ℕ)) (read : Reading) (acts : List Act)
     (text : List ℕ)
     → IsParted line host part → reading part ≡ read
-    → TellsPart (next_line old) host (length line - length part) read acts text new
+    → TellsPart (next_wire_line old) host (length line - length part) read acts text new
     → Tells old line text new
 told_part old new line part host read acts text parted is tells = (
   acts,
@@ -83,7 +83,7 @@ told_part old new line part host read acts text parted is tells = (
     host,
     part,
     parted,
-    subst (λ r. TellsPart (next_line old) host (length line - length part) r acts text new)
+    subst (λ r. TellsPart (next_wire_line old) host (length line - length part) r acts text new)
         (sym is) tells,
   ),
 )

@@ -7,7 +7,7 @@ use Rattle.segment.specs.Segment.{SegmentView}
 use Rattle.play_wire.specs.Acts.{Outcome, IsHostLine}
 use Rattle.play_wire.specs.Runs.{AreToldBy, IsLawful, IsPlayed}
 use Rattle.play_text.specs.declared.form.Form.{Form}
-use Rattle.play_wire.specs.Tells.{Play, Tells, TellsPart, IsDone, next_line, started}
+use Rattle.play_wire.specs.Tells.{WirePlay, Tells, TellsPart, IsDone, next_wire_line, wire_started}
 use Rattle.play_wire.proofs.ActLemmas.{acts_append, calls_are_acts}
 
 none_are : (v w : SegmentView) (acts : List Act) → acts ≡ [] → w ≡ v → AreActs v acts w
@@ -20,7 +20,7 @@ host_acts place plain v w acts came is =
     (subst (λ (x : SegmentView). AreActs v (map (Calls place) is.turns) x) (sym is.leads)
     (calls_are_acts place v is.turns is.before is.after is.here is.answered.2))
 
-done_acts : (now : Play) (host : Option (List ℕ)) (plain : List ℕ) (acts : List Act) (came : Outcome)
+done_acts : (now : WirePlay) (host : Option (List ℕ)) (plain : List ℕ) (acts : List Act) (came : Outcome)
     (segment : SegmentView) (names : List (List ℕ))
     → IsDone now host plain acts came segment names → AreActs now.segment acts segment
 done_acts now None plain acts came segment names done = done.0
@@ -31,38 +31,39 @@ done_acts now (Some host) plain acts came segment names (same, inl (place, named
 done_acts now (Some host) plain acts came segment names (same, inr (none, kept, refused)) =
     none_are now.segment segment acts none kept
 
-part_acts : (now new : Play) (host : Option (List ℕ)) (before : ℕ) (line : Reading) (acts : List Act) (text : List ℕ)
+part_acts : (now new : WirePlay) (host : Option (List ℕ)) (before : ℕ) (line : Reading) (acts : List Act)
+    (text : List ℕ)
     → TellsPart now host before line acts text new → AreActs now.segment acts new.segment
 part_acts now new host before Nothing acts text (none, is, same) =
-    none_are now.segment new.segment acts none (ap (λ (p : Play). p.segment) same)
+    none_are now.segment new.segment acts none (ap (λ (p : WirePlay). p.segment) same)
 part_acts now new host before TooLong acts text (none, is, same) =
-    none_are now.segment new.segment acts none (ap (λ (p : Play). p.segment) same)
+    none_are now.segment new.segment acts none (ap (λ (p : WirePlay). p.segment) same)
 part_acts now new host before (Faulty slip) acts text (none, is, same) =
-    none_are now.segment new.segment acts none (ap (λ (p : Play). p.segment) same)
+    none_are now.segment new.segment acts none (ap (λ (p : WirePlay). p.segment) same)
 part_acts now new host before (Asks shown plain wanted) acts text (came, segment, names, done, is, same) =
-    subst (λ (v : SegmentView). AreActs now.segment acts v) (sym (ap (λ (p : Play). p.segment) same))
+    subst (λ (v : SegmentView). AreActs now.segment acts v) (sym (ap (λ (p : WirePlay). p.segment) same))
     (done_acts now host plain acts came segment names done)
 
 -- what is printed for lines, with the acts that made it
-pub told_by_acts : (old new : Play) (lines : List (List ℕ)) (printed : List ℕ) → Prints Tells old lines printed new
+pub told_by_acts : (old new : WirePlay) (lines : List (List ℕ)) (printed : List ℕ) → Prints Tells old lines printed new
     → (acts : List Act) × AreToldBy old lines acts printed new × AreActs old.segment acts new.segment
-told_by_acts old new [] printed (same, none) = ([], (refl, none, same), ap (λ (p : Play). p.segment) same)
+told_by_acts old new [] printed (same, none) = ([], (refl, none, same), ap (λ (p : WirePlay). p.segment) same)
 told_by_acts old new (line ∷ lines) printed (mid, text, more, (first, tells), later, joined) =
     let rest = told_by_acts mid new lines more later in (
       first ++ rest.0,
       (mid, first, rest.0, text, more, tells, rest.1, refl, joined),
       acts_append old.segment mid.segment new.segment first rest.0
-          (part_acts (next_line old) mid tells.0 _ (reading tells.1) first text tells.3) rest.2,
+          (part_acts (next_wire_line old) mid tells.0 _ (reading tells.1) first text tells.3) rest.2,
     )
 
-pub played : (seed : ℕ) (form : Form) (name : List ℕ) (new : Play) (lines : List (List ℕ)) (printed : List ℕ)
-    → ((acts : List Act) → IsLawful acts new.segment) → Prints Tells (started seed form name) lines printed new
+pub played : (seed : ℕ) (form : Form) (name : List ℕ) (new : WirePlay) (lines : List (List ℕ)) (printed : List ℕ)
+    → ((acts : List Act) → IsLawful acts new.segment) → Prints Tells (wire_started seed form name) lines printed new
     → IsPlayed seed form name lines printed new
 played seed form name new lines printed law prints =
-    let made = told_by_acts (started seed form name) new lines printed prints in
+    let made = told_by_acts (wire_started seed form name) new lines printed prints in
     record {
       acts = made.0;
       told = made.1;
-      done = ((started seed form name).segment, refl, made.2);
+      done = ((wire_started seed form name).segment, refl, made.2);
       lawful = law (Seeds seed ∷ made.0);
     }

@@ -20,24 +20,24 @@ pub data Outcome : Type 0 where
   Refused : (fault : Fault) → Outcome
 
 -- a call, and its reply
-abbrev pub turn_of : Event → Reply → Turn
-turn_of event reply = record { event = event; reply = reply }
+abbrev pub call_turn : Event → Reply → Turn
+call_turn event reply = record { event = event; reply = reply }
 
 -- some acts lead from one segment to the other
-abbrev pub Moves : SegmentView → SegmentView → Type 0
-Moves old new = (acts : List Act) × AreActs old acts new
+abbrev pub AreLedTo : SegmentView → SegmentView → Type 0
+AreLedTo old new = (acts : List Act) × AreActs old acts new
 
 -- the segment with another stack at a place
-abbrev pub with_stack : ℕ → StackView → SegmentView → SegmentView
-with_stack place s v = record v { stacks = slice_set v.stacks place s }
+abbrev pub with_stack_at : ℕ → StackView → SegmentView → SegmentView
+with_stack_at place s v = record v { stacks = slice_set v.stacks place s }
 
 -- What a line asks for, or nothing, is these calls, which lead a stack from s to t, and comes out so.
 abbrev pub Does : Option Ask → StackView → List Turn → Outcome → StackView → Type 0
 -- the reply is told, and the causes for which packets were dropped
 Does (Some (Call event)) s turns outcome t =
-    (reply : Reply) × (turns ≡ turn_of event reply ∷ [])
+    (reply : Reply) × (turns ≡ call_turn event reply ∷ [])
     × (outcome ≡ Told (told (reply_text reply) (drops_text (state_of s).counters (state_of t).counters)) [])
-Does (Some (Ticks n)) s turns outcome t = (turns ≡ replicate n (turn_of Tick Done)) × (outcome ≡ Told (codes "ok") [])
+Does (Some (Ticks n)) s turns outcome t = (turns ≡ replicate n (call_turn Tick Done)) × (outcome ≡ Told (codes "ok") [])
 Does (Some (Show topic)) s turns outcome t =
     (text below : List ℕ) × Shows Step (state_of s) topic text below × (turns ≡ []) × (outcome ≡ Told text below)
 -- no capture is played in
@@ -47,8 +47,8 @@ Does (Some (Settings named)) s turns outcome t = (turns ≡ []) × (outcome ≡ 
 Does None s turns outcome t = (turns ≡ []) × (outcome ≡ Refused fault.Nothing)
 
 -- a line leads a stack from s to t, and comes out so
-abbrev pub IsAnswered : List ℕ → StackView → List Turn → Outcome → StackView → Type 0
-IsAnswered plain s turns outcome t =
+abbrev pub IsLineAnswered : List ℕ → StackView → List Turn → Outcome → StackView → Type 0
+IsLineAnswered plain s turns outcome t =
     (ask : Option Ask) × AsksFor plain ask × AreCalls s turns t × Does ask s turns outcome t
 
 -- a line of the host at a place leads from v to w by these acts, and comes out so
@@ -58,9 +58,9 @@ pub record IsHostLine (place : ℕ) (plain : List ℕ) (v : SegmentView) (acts :
   pub before : StackView
   pub after : StackView
   pub here : slice_get v.stacks place ≡ Some before
-  pub answered : IsAnswered plain before turns outcome after
+  pub answered : IsLineAnswered plain before turns outcome after
   pub acts_are : acts ≡ map (Calls place) turns
-  pub leads : w ≡ with_stack place after v
+  pub leads : w ≡ with_stack_at place after v
 
 -- there is no host at the place
 abbrev pub IsMissing : ℕ → SegmentView → List Act → Outcome → SegmentView → Type 0

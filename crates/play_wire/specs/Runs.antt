@@ -10,14 +10,14 @@ use Rattle.net_stack.specs.Stack.{StackView, state_of}
 use Rattle.segment.specs.Law.{Act, Seeds, AreActs, AreOnSegment, turns_of}
 use Rattle.segment.specs.Segment.{SegmentView, no_hosts}
 use Rattle.play_text.specs.declared.form.Form.{Form}
-use Rattle.play_wire.specs.Tells.{Play, TellsBy, started}
+use Rattle.play_wire.specs.Tells.{WirePlay, TellsBy, wire_started}
 use Rattle.play_wire.specs.declared.hosts.TheConstants.{PACKETS}
 
 -- these lines have this text by these acts, one line after another
-abbrev pub AreToldBy : Play → List (List ℕ) → List Act → List ℕ → Play → Type 0
+abbrev pub AreToldBy : WirePlay → List (List ℕ) → List Act → List ℕ → WirePlay → Type 0
 AreToldBy old [] acts printed new = (acts ≡ []) × (printed ≡ []) × (new ≡ old)
 AreToldBy old (line ∷ lines) acts printed new =
-    (mid : Play) × (first rest : List Act) × (text more : List ℕ)
+    (mid : WirePlay) × (first rest : List Act) × (text more : List ℕ)
     × TellsBy old line first text mid × AreToldBy mid lines rest more new
     × (acts ≡ first ++ rest) × (printed ≡ text ++ more)
 
@@ -36,8 +36,8 @@ IsLawful acts last =
 -- What is printed for the lines of a script that begins with this seed is told by acts, line by line. With the start of
 -- the generator in front, they lead from a segment without hosts to this one, and of them the law holds.
 pub record IsPlayed (seed : ℕ) (form : Form) (name : List ℕ) (lines : List (List ℕ)) (printed : List ℕ)
-    (new : Play) : Type 0 where
+    (new : WirePlay) : Type 0 where
   pub acts : List Act
-  pub told : AreToldBy (started seed form name) lines acts printed new
+  pub told : AreToldBy (wire_started seed form name) lines acts printed new
   pub done : AreActs (no_hosts PACKETS) (Seeds seed ∷ acts) new.segment
   pub lawful : IsLawful (Seeds seed ∷ acts) new.segment

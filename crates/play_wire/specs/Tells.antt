@@ -9,7 +9,7 @@ use Rattle.play_script.specs.Tells.{is_sound, told_text}
 use Rattle.segment.specs.Law.{Act, AreActs}
 use Rattle.segment.specs.Chances.{seeded}
 use Rattle.flat_model.specs.Scripts.Grammar.{words}
-use Rattle.segment.specs.Segment.{SegmentView, is_quiet, no_hosts}
+use Rattle.segment.specs.Segment.{SegmentView, is_quiet_segment, no_hosts}
 use Rattle.play_wire.specs.Acts.{IsHostLine, IsMissing, Outcome, Told, Refused}
 use Rattle.play_wire.specs.Faults.{IsReason}
 use Rattle.play_wire.specs.declared.fault.Fault.TheVariants as fault
@@ -17,7 +17,7 @@ use Rattle.play_wire.specs.declared.hosts.TheConstants.{PACKETS}
 
 -- What a player has in hand: its hosts and their wire, with the names of the hosts by their places; how many lines it
 -- has seen; whether all of them could be read, and all expectations held; and how it prints.
-pub record Play : Type 0 where
+pub record WirePlay : Type 0 where
   pub segment : SegmentView
   pub names : List (List ℕ)
   pub number : ℕ
@@ -26,8 +26,8 @@ pub record Play : Type 0 where
   pub name : List ℕ
 
 -- before the first line: no hosts, and this seed for all choices
-abbrev pub started : ℕ → Form → List ℕ → Play
-started seed form name =
+abbrev pub wire_started : ℕ → Form → List ℕ → WirePlay
+wire_started seed form name =
     record {
       segment = record (no_hosts PACKETS) { random = seeded seed };
       names = [];
@@ -38,8 +38,8 @@ started seed form name =
     }
 
 -- the next line
-abbrev pub next_line : Play → Play
-next_line old = record old { number = more_by 1 old.number }
+abbrev pub next_wire_line : WirePlay → WirePlay
+next_wire_line old = record old { number = more_by 1 old.number }
 
 -- the line names this host in front of a colon, and then stands this part; or the part is all of it
 abbrev pub IsParted : List ℕ → Option (List ℕ) → List ℕ → Type 0
@@ -54,7 +54,7 @@ labelled (Some host) shown = host ++ codes ": " ++ shown
 labelled None shown = shown
 
 -- what is told of a line
-abbrev pub IsText : Play → Option (List ℕ) → List ℕ → List ℕ → Option (List ℕ) → Outcome → List ℕ → Type 0
+abbrev pub IsText : WirePlay → Option (List ℕ) → List ℕ → List ℕ → Option (List ℕ) → Outcome → List ℕ → Type 0
 IsText now host shown plain wanted (Told told below) text =
     text ≡ told_text now.form now.name now.number (labelled host shown) wanted told below
 IsText now host shown plain wanted (Refused reason) text =
@@ -73,7 +73,8 @@ shifted before slip = record slip { column = more_by before slip.column }
 
 -- what a line `carry` tells: whether anything is under way, or waits for a link
 abbrev pub left_text : SegmentView → List ℕ
-left_text v = if is_quiet v then codes "quiet" else codes "left " ++ decimal (length v.flight) ++ codes " under way"
+left_text v =
+    if is_quiet_segment v then codes "quiet" else codes "left " ++ decimal (length v.flight) ++ codes " under way"
 
 -- if a line `carry` does something, that's what is told of it
 abbrev pub TellsLeft : List ℕ → Outcome → SegmentView → Type 0
@@ -83,7 +84,7 @@ TellsLeft plain (Refused reason) segment = Unit
 
 -- A line of a host is that of the host with this name. A line of the wire may add hosts, and `carry` tells what is
 -- left.
-abbrev pub IsDone : Play → Option (List ℕ) → List ℕ → List Act → Outcome → SegmentView → List (List ℕ) → Type 0
+abbrev pub IsDone : WirePlay → Option (List ℕ) → List ℕ → List Act → Outcome → SegmentView → List (List ℕ) → Type 0
 IsDone now (Some host) plain acts outcome segment names =
     (names ≡ now.names)
     × (((place : ℕ) × (slice_get now.names place ≡ Some host)
@@ -94,7 +95,7 @@ IsDone now None plain acts outcome segment names =
     × (more : List (List ℕ)) × (names ≡ now.names ++ more)
 
 -- what the part of a line that is read so does, where `now` has its number
-abbrev pub TellsPart : Play → Option (List ℕ) → ℕ → Reading → List Act → List ℕ → Play → Type 0
+abbrev pub TellsPart : WirePlay → Option (List ℕ) → ℕ → Reading → List Act → List ℕ → WirePlay → Type 0
 TellsPart now host before Nothing acts text new = (acts ≡ []) × (text ≡ []) × (new ≡ now)
 TellsPart now host before TooLong acts text new =
     (acts ≡ []) × (text ≡ fault_text now.form now.name now.number (codes "the line is too long"))
@@ -109,10 +110,10 @@ TellsPart now host before (Asks shown plain wanted) acts text new =
     × (new ≡ record now { segment = segment; names = names; sound = now.sound && sound_of wanted outcome })
 
 -- a line may have this text, by these acts
-abbrev pub TellsBy : Play → List ℕ → List Act → List ℕ → Play → Type 0
+abbrev pub TellsBy : WirePlay → List ℕ → List Act → List ℕ → WirePlay → Type 0
 TellsBy old line acts text new =
     (host : Option (List ℕ)) × (part : List ℕ) × IsParted line host part
-    × TellsPart (next_line old) host (length line - length part) (reading part) acts text new
+    × TellsPart (next_wire_line old) host (length line - length part) (reading part) acts text new
 
-abbrev pub Tells : Play → List ℕ → List ℕ → Play → Type 0
+abbrev pub Tells : WirePlay → List ℕ → List ℕ → WirePlay → Type 0
 Tells old line text new = (acts : List Act) × TellsBy old line acts text new

@@ -1,7 +1,7 @@
 //! What is done by hand to the packets that are under way.
 ghost use Rattle.std.specs.Prelude.{◌≡◌};
 ghost use Rattle.segment.specs.Inside.{view};
-ghost use Rattle.play_wire.specs.Acts.{Moves};
+ghost use Rattle.play_wire.specs.Acts.{AreLedTo};
 
 use crate::fault::Fault;
 use script_loop::{number, one, two};
@@ -35,7 +35,7 @@ pub(crate) fn by_hand_in(word: &[u8], rest: Option<&[u8]>) -> Option<ByHand> {
 
 /// Does it. Whether all packets were there, and there was room for a copy.
 fn is_done(segment: &mut Segment, what: ByHand) -> bool
-    ensures { Moves (view segment.old) (view segment.new) }
+    ensures { AreLedTo (view segment.old) (view segment.new) }
 {
     match what {
         ByHand::Drop(at) => segment.lose(at),
@@ -46,7 +46,7 @@ fn is_done(segment: &mut Segment, what: ByHand) -> bool
 
 /// Does it. Refused, and then nothing changes, if a packet isn't there, or there's no room for a copy.
 pub(crate) fn do_by_hand(segment: &mut Segment, what: ByHand) -> Result<(), Fault>
-    ensures { Moves (view segment.old) (view segment.new) }
+    ensures { AreLedTo (view segment.old) (view segment.new) }
 {
     if is_done(segment, what) {
         Ok(())

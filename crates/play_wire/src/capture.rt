@@ -1,6 +1,6 @@
 //! The capture of what goes on the wire.
 ghost use Rattle.segment.specs.Inside.{view};
-ghost use Rattle.play_wire.specs.Acts.{Moves};
+ghost use Rattle.play_wire.specs.Acts.{AreLedTo};
 
 use params::IP_MAX_PACKET;
 use play_script::Capture;
@@ -20,7 +20,7 @@ fn keep_from<T: Sink + Drop>(capture: &mut Capture<T>, segment: &Segment, first:
 
 /// What waits for the links goes on the wire, and is kept. Answers the place of the first such packet.
 pub(crate) fn collect<T: Sink + Drop>(capture: &mut Capture<T>, segment: &mut Segment) -> usize
-    ensures { Moves (view segment.old) (view segment.new) }
+    ensures { AreLedTo (view segment.old) (view segment.new) }
 {
     let first = segment.flight_len();
     segment.collect();

@@ -1,6 +1,6 @@
 //! What waits for the links passes.
 ghost use Rattle.segment.specs.Inside.{view};
-ghost use Rattle.play_wire.specs.Acts.{Moves};
+ghost use Rattle.play_wire.specs.Acts.{AreLedTo};
 
 use crate::capture::collect;
 use crate::names::NAME;
@@ -48,7 +48,7 @@ pub(crate) fn carry<T: Sink + Drop>(
     names: &[Buffer<NAME>],
     text: &mut Buffer<SHOWN>,
 )
-    ensures { Moves (view segment.old) (view segment.new) }
+    ensures { AreLedTo (view segment.old) (view segment.new) }
 {
     match bound {
         Bound::Times(count) => carry_times(segment, count, capture, names, text),
@@ -63,7 +63,7 @@ fn carry_once<T: Sink + Drop>(
     names: &[Buffer<NAME>],
     text: &mut Buffer<SHOWN>,
 )
-    ensures { Moves (view segment.old) (view segment.new) }
+    ensures { AreLedTo (view segment.old) (view segment.new) }
 {
     let first = collect(capture, segment);
     add_went(text, segment, names, first);
@@ -78,7 +78,7 @@ fn carry_times<T: Sink + Drop>(
     names: &[Buffer<NAME>],
     text: &mut Buffer<SHOWN>,
 )
-    ensures { Moves (view segment.old) (view segment.new) }
+    ensures { AreLedTo (view segment.old) (view segment.new) }
 {
     for _ in 0..count {
         carry_once(segment, capture, names, text);
@@ -93,7 +93,7 @@ fn carry_all<T: Sink + Drop>(
     names: &[Buffer<NAME>],
     text: &mut Buffer<SHOWN>,
 )
-    ensures { Moves (view segment.old) (view segment.new) }
+    ensures { AreLedTo (view segment.old) (view segment.new) }
 {
     for _ in 0..most {
         if segment.is_quiet() {

@@ -4,8 +4,8 @@ ghost use Rattle.params.specs.declared.TheConstants.{IP_MAX_PACKET};
 ghost use Rattle.flat_model.specs.Runs.Run.{Turn};
 ghost use Rattle.segment.specs.Inside.{view};
 ghost use Rattle.segment.specs.Law.{Act};
-ghost use Rattle.play_wire.specs.Acts.{IsAnswered, IsHostLine, IsMissing};
-ghost use Rattle.play_script.specs.Views.{plain_of};
+ghost use Rattle.play_wire.specs.Acts.{IsLineAnswered, IsHostLine, IsMissing};
+ghost use Rattle.play_script.specs.Views.{plain_line};
 ghost use Rattle.play_wire.specs.Inside.{came_of};
 
 use crate::fault::Fault;
@@ -19,7 +19,7 @@ use stack_call::call;
 
 /// Does what a line asks of a stack, and reports what is told of it. No capture is played in here, and no settings make
 /// another stack. The bytes that the line names stand in `bytes` then, and those of the reply in `room`.
-#[tactic(auto, unfolding(stack_call::specs::Moves::Moves))]
+#[tactic(auto, unfolding(stack_call::specs::Moves::StackSteps))]
 fn answer_stack(
     stack: &mut Stack,
     bytes: &mut [u8],
@@ -29,7 +29,7 @@ fn answer_stack(
 ) -> Result<(), Fault>
     requires bytes { length bytes.old ≡ IP_MAX_PACKET }
     requires room { length room.old ≡ IP_MAX_PACKET }
-    ensures { (turns : List Turn) × IsAnswered (plain_of line.now) stack.old turns
+    ensures { (turns : List Turn) × IsLineAnswered (plain_line line.now) stack.old turns
         (came_of result report.new.told report.new.below) stack.new }
 {
     let Some(ask) = line.ask(bytes) else {
@@ -68,7 +68,7 @@ pub(crate) fn answer_host(
     report: &mut Report,
 ) -> Result<(), Fault>
     ensures { (acts : List Act)
-        × (IsHostLine place (plain_of line.now) (view segment.old) acts
+        × (IsHostLine place (plain_line line.now) (view segment.old) acts
         (came_of result report.new.told report.new.below) (view segment.new)
         ⊎ IsMissing place (view segment.old) acts (came_of result report.new.told report.new.below)
         (view segment.new)) }

@@ -3,7 +3,7 @@ ghost use Rattle.std.specs.Prelude.{◌≡◌, ◌≤◌, ◌++◌, ℕ, List, [
 ghost use Rattle.segment.specs.Inside.{view};
 ghost use Rattle.segment.specs.Chances.{seeded};
 ghost use Rattle.segment.specs.Segment.{no_hosts};
-ghost use Rattle.play_wire.specs.Acts.{Moves};
+ghost use Rattle.play_wire.specs.Acts.{AreLedTo};
 
 use crate::capture;
 use crate::fault::Fault;
@@ -136,7 +136,7 @@ impl<T: Sink + Drop> Hosts<T> {
 
     /// `host NAME ..`: a host with these settings has the next place.
     pub(crate) fn add(&mut self, rest: Option<&[u8]>) -> Result<(), Fault>
-        ensures moves { Moves (view self.old.segment) (view self.new.segment) }
+        ensures moves { AreLedTo (view self.old.segment) (view self.new.segment) }
         ensures names { (more : List (List ℕ)) × (self.new.names.items ≡ self.old.names.items ++ more) }
     {
         let (name, config) = self.host_of(rest)?;

@@ -1,7 +1,7 @@
 //! The lines that set what becomes of packets.
 ghost use Rattle.std.specs.Prelude.{◌≡◌};
 ghost use Rattle.segment.specs.Inside.{view};
-ghost use Rattle.play_wire.specs.Acts.{Moves};
+ghost use Rattle.play_wire.specs.Acts.{AreLedTo};
 
 use crate::chance::{Part, part_in};
 use crate::fault::Fault;
@@ -13,7 +13,7 @@ use std::str;
 
 /// Sets this of what the host at a place sends.
 fn set(segment: &mut Segment, place: usize, part: Part)
-    ensures { Moves (view segment.old) (view segment.new) }
+    ensures { AreLedTo (view segment.old) (view segment.new) }
 {
     if let Some(chances) = segment.chances(place) {
         segment.impair(place, part.put(chances));
@@ -22,7 +22,7 @@ fn set(segment: &mut Segment, place: usize, part: Part)
 
 /// Sets this of what each host sends.
 fn set_all(segment: &mut Segment, part: Part)
-    ensures { Moves (view segment.old) (view segment.new) }
+    ensures { AreLedTo (view segment.old) (view segment.new) }
 {
     for place in 0..segment.hosts() {
         set(segment, place, part);
@@ -40,7 +40,7 @@ fn seed_in(word: &[u8]) -> Option<u64> {
 impl<T: Sink + Drop> Hosts<T> {
     /// `loss C`, `repeat C`, `reorder C`, `delay A-B`: of what all hosts send, or, with `from NAME`, of what one sends.
     pub(crate) fn impair(&mut self, word: &[u8], rest: Option<&[u8]>) -> Result<(), Fault>
-        ensures moves { Moves (view self.old.segment) (view self.new.segment) }
+        ensures moves { AreLedTo (view self.old.segment) (view self.new.segment) }
         ensures names { self.new.names ≡ self.old.names }
     {
         let Some(words) = rest else {
@@ -72,7 +72,7 @@ impl<T: Sink + Drop> Hosts<T> {
 
     /// `seed N`.
     pub(crate) fn seed(&mut self, rest: Option<&[u8]>) -> Result<(), Fault>
-        ensures moves { Moves (view self.old.segment) (view self.new.segment) }
+        ensures moves { AreLedTo (view self.old.segment) (view self.new.segment) }
         ensures names { self.new.names ≡ self.old.names }
     {
         let Some(word) = one(rest) else {

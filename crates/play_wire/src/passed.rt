@@ -1,6 +1,6 @@
 //! What passed by a line `carry`, in words.
 ghost use Rattle.segment.specs.Inside.{view};
-ghost use Rattle.play_wire.specs.Acts.{Moves};
+ghost use Rattle.play_wire.specs.Acts.{AreLedTo};
 
 use crate::add::{add, add_number};
 use crate::names::NAME;
@@ -41,7 +41,7 @@ impl Counted {
 
 /// What the host at a place has counted. Nothing changes.
 fn counted_at(segment: &mut Segment, spare: &mut Stack, place: usize) -> Counted
-    ensures { Moves (view segment.old) (view segment.new) }
+    ensures { AreLedTo (view segment.old) (view segment.new) }
 {
     let counters = counters_at(segment, spare, place);
     match (segment.tally(place), counters) {
@@ -52,7 +52,7 @@ fn counted_at(segment: &mut Segment, spare: &mut Stack, place: usize) -> Counted
 
 /// Takes down what each host has counted.
 pub(crate) fn take_counts(segment: &mut Segment, spare: &mut Stack, counts: &mut [Counted])
-    ensures { Moves (view segment.old) (view segment.new) }
+    ensures { AreLedTo (view segment.old) (view segment.new) }
 {
     for place in 0..counts.len() {
         let now = counted_at(segment, spare, place);
@@ -165,7 +165,7 @@ pub(crate) fn add_all(
     names: &[Buffer<NAME>],
     counts: &[Counted],
 )
-    ensures { Moves (view segment.old) (view segment.new) }
+    ensures { AreLedTo (view segment.old) (view segment.new) }
 {
     for place in 0..counts.len() {
         let old = counts[place];

@@ -2,12 +2,12 @@
 ghost use Rattle.std.specs.Prelude.{◌≡◌, ◌≤◌, ◌++◌, IfSome, List, Some, false, length, slice_get, ℕ};
 ghost use Rattle.segment.specs.Inside.{view};
 ghost use Rattle.segment.specs.Law.{Act};
-ghost use Rattle.play_script.specs.Views.{expected_on, plain_of};
+ghost use Rattle.play_script.specs.Views.{expected_on, plain_line};
 ghost use Rattle.play_script.specs.Lines.{Asks};
 ghost use Rattle.play_forms.specs.declared.text.TheConstants.{ADVICE};
-ghost use Rattle.play_wire.specs.Faults.{IsReason, player_of, words_of};
+ghost use Rattle.play_wire.specs.Faults.{IsReason, player_of, wire_fault_words};
 ghost use Rattle.play_wire.specs.Inside.{came_of, named_by, play_with};
-ghost use Rattle.play_wire.specs.Tells.{Play, IsDone, Tells, TellsPart};
+ghost use Rattle.play_wire.specs.Tells.{WirePlay, IsDone, Tells, TellsPart};
 
 use crate::fault::Fault;
 use crate::host_line::answer_host;
@@ -43,8 +43,8 @@ fn answer_words<T: Sink + Drop>(
     line: &Line,
     report: &mut Report,
 ) -> Result<(), Fault>
-    ensures { (play : Play) → play.segment ≡ view hosts.old.segment → play.names ≡ hosts.old.names.items
-        → (acts : List Act) × IsDone play (named_by target.now) (plain_of line.now) acts
+    ensures { (play : WirePlay) → play.segment ≡ view hosts.old.segment → play.names ≡ hosts.old.names.items
+        → (acts : List Act) × IsDone play (named_by target.now) (plain_line line.now) acts
         (came_of result report.new.told report.new.below) (view hosts.new.segment) hosts.new.names.items }
 {
     if target.named {
@@ -72,7 +72,7 @@ fn advised_by(target: &Target) -> Advised
 
 /// Reports a reason in words.
 fn tell_words(report: &mut Report, fault: Fault)
-    ensures told { report.new.told ≡ words_of fault }
+    ensures told { report.new.told ≡ wire_fault_words fault }
     ensures len { length report.new.told ≤ ADVICE }
 {
     report.told.clear();
@@ -81,7 +81,7 @@ fn tell_words(report: &mut Report, fault: Fault)
 
 /// Reports why a line did nothing: what it could have been, if it asks for nothing.
 fn tell_reason(report: &mut Report, target: &Target, line: &mut Line, fault: Fault)
-    ensures reason { IsReason (named_by target.now) (plain_of line.old) fault report.new.told }
+    ensures reason { IsReason (named_by target.now) (plain_line line.old) fault report.new.told }
     ensures len { length report.new.told ≤ ADVICE }
 {
     match fault {
@@ -97,7 +97,7 @@ impl<T: Sink + Drop> Player<T> {
         ensures { (acts : List Act) × (added : List ℕ)
             × TellsPart (play_with (view self.old.hosts.segment) self.old.hosts.names.items self.old.printer)
             (named_by self.old.target) 0
-            (Asks self.old.line.shown (plain_of self.old.line) (expected_on self.old.line)) acts added
+            (Asks self.old.line.shown (plain_line self.old.line) (expected_on self.old.line)) acts added
             (play_with (view self.new.hosts.segment) self.new.hosts.names.items self.new.printer)
             × (text.new ≡ text.old ++ added) }
     {
@@ -133,7 +133,7 @@ impl<T: Sink + Drop> Player<T> {
 }
 
 impl<T: Sink + Drop> Answers<ROOM> for Player<T> {
-    ghost State = { Play };
+    ghost State = { WirePlay };
 
     ghost state = { λ p. play_with (view p.hosts.segment) p.hosts.names.items p.printer };
 

@@ -10,7 +10,7 @@ ghost use Rattle.segment.specs.Inside.{view};
 ghost use Rattle.segment.specs.Segment.{no_hosts};
 ghost use Rattle.play_wire.specs.Inside.{play_with};
 ghost use Rattle.play_wire.specs.Runs.{IsPlayed};
-ghost use Rattle.play_wire.specs.Tells.{Play, Tells, started};
+ghost use Rattle.play_wire.specs.Tells.{WirePlay, Tells, wire_started};
 
 use crate::hosts::Hosts;
 use crate::player::Player;
@@ -96,7 +96,7 @@ fn player_for<T: Sink + Drop>(
     sink: T,
 ) -> Option<Player<T>>
     ensures { IfSome result (λ p. play_with (view p.hosts.segment) p.hosts.names.items p.printer
-        ≡ started seed style.entry.form (take NAME style.entry.name.now)) }
+        ≡ wire_started seed style.entry.form (take NAME style.entry.name.now)) }
 {
     let hosts = hosts_for(alloc, seed, sink)?;
     let Ok(parts) = parts_for(alloc, style) else {
@@ -146,14 +146,14 @@ pub fn play_hosts<R: Source, W: Sink, T: Sink + Drop>(
     ensures read { MoreBy (reader_failures result.played.outcome) (R.failures reader.old) (R.failures reader.new) }
     ensures wrote { MoreBy (writer_failures result.played.outcome) (W.failures writer.old) (W.failures writer.new) }
     // What is written is told of the lines of what is read, one after another.
-    ensures served { (new : Play)
-        × Serves Tells (started start.seed style.entry.form (take NAME style.entry.name.now)) new
+    ensures served { (new : WirePlay)
+        × Serves Tells (wire_started start.seed style.entry.form (take NAME style.entry.name.now)) new
         (R.remaining reader.old) (R.remaining reader.new)
         (W.contents writer.old) (W.contents writer.new) result.played.outcome
         × (result.played.sound ≡ new.sound) }
     // Whatever is told of lines so is told by acts of which the law of a wire holds.
-    ensures lawful { (new : Play) (lines : List (List ℕ)) (printed : List ℕ)
-        → Prints Tells (started start.seed style.entry.form (take NAME style.entry.name.now)) lines printed new
+    ensures lawful { (new : WirePlay) (lines : List (List ℕ)) (printed : List ℕ)
+        → Prints Tells (wire_started start.seed style.entry.form (take NAME style.entry.name.now)) lines printed new
         → IsPlayed start.seed style.entry.form (take NAME style.entry.name.now) lines printed new }
     ensures begun { IsServed result.played.outcome }
 {

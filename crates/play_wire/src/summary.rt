@@ -1,7 +1,7 @@
 //! What was counted of each host.
 ghost use Rattle.std.specs.Prelude.{◌≡◌};
 ghost use Rattle.segment.specs.Inside.{view};
-ghost use Rattle.play_wire.specs.Acts.{Moves};
+ghost use Rattle.play_wire.specs.Acts.{AreLedTo};
 
 use crate::add::{add, add_number};
 use crate::names::NAME;
@@ -76,7 +76,7 @@ pub(crate) fn counters_at(
     spare: &mut Stack,
     place: usize,
 ) -> Option<Counters>
-    ensures { Moves (view segment.old) (view segment.new) }
+    ensures { AreLedTo (view segment.old) (view segment.new) }
 {
     if exchange(segment, place, spare) {
         let counters = spare.counters();
@@ -95,7 +95,7 @@ fn tell_host(
     place: usize,
     below: &mut Buffer<SHOWN>,
 )
-    ensures { Moves (view segment.old) (view segment.new) }
+    ensures { AreLedTo (view segment.old) (view segment.new) }
 {
     let counters = counters_at(segment, spare, place);
     if let (Some(tally), Some(counters)) = (segment.tally(place), counters) {
@@ -110,7 +110,7 @@ pub(crate) fn tell_summary(
     names: &[Buffer<NAME>],
     below: &mut Buffer<SHOWN>,
 )
-    ensures { Moves (view segment.old) (view segment.new) }
+    ensures { AreLedTo (view segment.old) (view segment.new) }
 {
     for place in 0..segment.hosts() {
         tell_host(segment, spare, names, place, below);

@@ -5,7 +5,7 @@ ghost use Rattle.flat_model.specs.Machine.Event.{Tick, Done};
 ghost use Rattle.net_stack.specs.Runs.{AreCalls};
 ghost use Rattle.segment.specs.Inside.{view};
 ghost use Rattle.segment.specs.Law.{Calls, AreActs};
-ghost use Rattle.play_wire.specs.Acts.{Moves, turn_of};
+ghost use Rattle.play_wire.specs.Acts.{AreLedTo, call_turn};
 ghost use Rattle.play_wire.specs.Inside.{IsExchanged, IsKept};
 
 use net_stack::Stack;
@@ -28,7 +28,7 @@ pub(crate) fn exchange(segment: &mut Segment, place: usize, stack: &mut Stack) -
 
 /// Lets so many ticks pass at a stack.
 pub(crate) fn tick_stack(stack: &mut Stack, count: u32)
-    ensures { AreCalls stack.old (replicate count (turn_of Tick Done)) stack.new }
+    ensures { AreCalls stack.old (replicate count (call_turn Tick Done)) stack.new }
 {
     let mut passed = 0;
     while passed < count {
@@ -40,7 +40,7 @@ pub(crate) fn tick_stack(stack: &mut Stack, count: u32)
 /// Lets so many ticks pass at the host at a place, if there is such a host. The spare stack stands in its place
 /// meanwhile.
 fn tick_host(segment: &mut Segment, spare: &mut Stack, place: usize, count: u32)
-    ensures { Moves (view segment.old) (view segment.new) }
+    ensures { AreLedTo (view segment.old) (view segment.new) }
 {
     if exchange(segment, place, spare) {
         tick_stack(spare, count);
@@ -50,7 +50,7 @@ fn tick_host(segment: &mut Segment, spare: &mut Stack, place: usize, count: u32)
 
 /// Lets so many ticks pass at each host.
 pub(crate) fn tick_all(segment: &mut Segment, spare: &mut Stack, count: u32)
-    ensures { Moves (view segment.old) (view segment.new) }
+    ensures { AreLedTo (view segment.old) (view segment.new) }
 {
     for place in 0..segment.hosts() {
         tick_host(segment, spare, place, count);

@@ -2,7 +2,7 @@
 ghost use Rattle.std.specs.Prelude.{◌≡◌, ◌++◌, ◌∷◌, ℕ, List, IfOk, codes};
 ghost use Rattle.segment.specs.Inside.{view};
 ghost use Rattle.flat_model.specs.Scripts.Grammar as line;
-ghost use Rattle.play_wire.specs.Acts.{Moves};
+ghost use Rattle.play_wire.specs.Acts.{AreLedTo};
 ghost use Rattle.play_wire.specs.Tells.{left_text};
 
 use crate::by_hand::{by_hand_in, do_by_hand};
@@ -84,7 +84,7 @@ impl<T: Sink + Drop> Hosts<T> {
     /// Carries so often, and reports which packets went, how many were lost, repeated and received, and why some were
     /// dropped. Nothing of it is reported if the report is quiet.
     fn pass(&mut self, bound: Bound, report: &mut Report)
-        ensures moves { Moves (view self.old.segment) (view self.new.segment) }
+        ensures moves { AreLedTo (view self.old.segment) (view self.new.segment) }
         ensures names { self.new.names ≡ self.old.names }
     {
         let names = self.names.as_slice();
@@ -112,7 +112,7 @@ impl<T: Sink + Drop> Hosts<T> {
 
     /// `carry ..`.
     fn carry(&mut self, rest: Option<&[u8]>, report: &mut Report) -> Result<(), Fault>
-        ensures moves { Moves (view self.old.segment) (view self.new.segment) }
+        ensures moves { AreLedTo (view self.old.segment) (view self.new.segment) }
         ensures names { self.new.names ≡ self.old.names }
         ensures left { IfOk result (λ _. report.new.told ≡ left_text (view self.new.segment)) }
     {
@@ -129,7 +129,7 @@ impl<T: Sink + Drop> Hosts<T> {
 
     /// `tick` or `tick N`: all hosts.
     fn tick(&mut self, words: &[u8]) -> Result<(), Fault>
-        ensures moves { Moves (view self.old.segment) (view self.new.segment) }
+        ensures moves { AreLedTo (view self.old.segment) (view self.new.segment) }
         ensures names { self.new.names ≡ self.old.names }
     {
         let count = if words == b"tick".as_slice() {
@@ -147,7 +147,7 @@ impl<T: Sink + Drop> Hosts<T> {
 
     /// `collect` or `deliver`: the halves of a carry.
     fn half(&mut self, word: &[u8], rest: Option<&[u8]>) -> Result<(), Fault>
-        ensures moves { Moves (view self.old.segment) (view self.new.segment) }
+        ensures moves { AreLedTo (view self.old.segment) (view self.new.segment) }
         ensures names { self.new.names ≡ self.old.names }
     {
         if !is_end(rest) {
@@ -166,7 +166,7 @@ impl<T: Sink + Drop> Hosts<T> {
 
     /// `drop I`, `repeat I` or `swap I J`.
     fn by_hand(&mut self, word: &[u8], rest: Option<&[u8]>) -> Result<(), Fault>
-        ensures moves { Moves (view self.old.segment) (view self.new.segment) }
+        ensures moves { AreLedTo (view self.old.segment) (view self.new.segment) }
         ensures names { self.new.names ≡ self.old.names }
     {
         match by_hand_in(word, rest) {
@@ -177,7 +177,7 @@ impl<T: Sink + Drop> Hosts<T> {
 
     /// `repeat I` by hand, or `repeat C`, which is a chance.
     fn repeat(&mut self, rest: Option<&[u8]>) -> Result<(), Fault>
-        ensures moves { Moves (view self.old.segment) (view self.new.segment) }
+        ensures moves { AreLedTo (view self.old.segment) (view self.new.segment) }
         ensures names { self.new.names ≡ self.old.names }
     {
         match by_hand_in(b"repeat", rest) {
@@ -188,7 +188,7 @@ impl<T: Sink + Drop> Hosts<T> {
 
     /// Does what a line asks that names no host, but for `carry`.
     fn do_line(&mut self, words: &[u8]) -> Result<(), Fault>
-        ensures moves { Moves (view self.old.segment) (view self.new.segment) }
+        ensures moves { AreLedTo (view self.old.segment) (view self.new.segment) }
         ensures names { (more : List (List ℕ)) × (self.new.names.items ≡ self.old.names.items ++ more) }
     {
         let (word, rest) = first_word(words);
@@ -209,7 +209,7 @@ impl<T: Sink + Drop> Hosts<T> {
 
     /// `show wire` and `summary`: puts what is told into the report. Whether a line asks for one of them.
     fn tell(&mut self, words: &[u8], report: &mut Report) -> bool
-        ensures moves { Moves (view self.old.segment) (view self.new.segment) }
+        ensures moves { AreLedTo (view self.old.segment) (view self.new.segment) }
         ensures names { self.new.names ≡ self.old.names }
     {
         let names = self.names.as_slice();
@@ -231,7 +231,7 @@ impl<T: Sink + Drop> Hosts<T> {
 
     /// Does what a line asks that names no host, but for `carry`, and puts what is told of it into the report.
     fn answer_other(&mut self, words: &[u8], report: &mut Report) -> Result<(), Fault>
-        ensures moves { Moves (view self.old.segment) (view self.new.segment) }
+        ensures moves { AreLedTo (view self.old.segment) (view self.new.segment) }
         ensures names { (more : List (List ℕ)) × (self.new.names.items ≡ self.old.names.items ++ more) }
     {
         report.told.clear();
@@ -246,7 +246,7 @@ impl<T: Sink + Drop> Hosts<T> {
 
     /// Does what a line asks that names no host, and puts what is told of it into the report.
     pub(crate) fn answer_wire(&mut self, words: &[u8], report: &mut Report) -> Result<(), Fault>
-        ensures moves { Moves (view self.old.segment) (view self.new.segment) }
+        ensures moves { AreLedTo (view self.old.segment) (view self.new.segment) }
         ensures names { (more : List (List ℕ)) × (self.new.names.items ≡ self.old.names.items ++ more) }
         ensures left { (rest : List (List ℕ)) → line.words words.now ≡ codes "carry" ∷ rest
             → IfOk result (λ _. report.new.told ≡ left_text (view self.new.segment)) }

@@ -1,8 +1,8 @@
 //! Worked headers, needs and packets.
 ghost use Rattle.std.specs.Prelude.{◌≤◌};
 ghost use Rattle.mbuf_chain.specs.Chain.{IsLive, chain_of};
-ghost use Rattle.ip_out.specs.Packets.{IsDatagram};
-ghost use Rattle.ip_out.specs.Queues.{IsQueue};
+ghost use Rattle.ip_out.specs.Packets.{IsDatagramChain};
+ghost use Rattle.ip_out.specs.Queues.{IsOutputQueue};
 
 use chain_ops::{from_user, from_wire, m_prepend};
 use flat_model::{Lack, Need, Why};
@@ -134,7 +134,7 @@ static BYTES: [u8; 9216] = [0x61; 9216];
 /// Stops where a chain can't be output.
 fn must_be_datagram(rt: &impl Abort, pool: &Pool, chain: &Chain)
     requires { IsLive pool.now chain.now }
-    ensures { IsDatagram (chain_of pool.now chain.now) }
+    ensures { IsDatagramChain (chain_of pool.now chain.now) }
 {
     let first = pool.segment(chain, pool.first(chain));
     assert!(rt; pool.has_header(chain) && pool.len(chain) <= 65_535);
@@ -147,7 +147,7 @@ fn must_be_datagram(rt: &impl Abort, pool: &Pool, chain: &Chain)
 /// A chain of the bytes, and room for both headers in front of them.
 fn datagram(rt: &impl Abort, pool: &mut Pool) -> Chain
     ensures live { IsLive pool.new result }
-    ensures datagram { IsDatagram (chain_of pool.new result) }
+    ensures datagram { IsDatagramChain (chain_of pool.new result) }
 {
     let mut chain = from_user(pool, &BYTES).expect(rt, "the buffers are free");
     m_prepend(pool, &mut chain, &[0; 28]).expect(rt, "an mbuf is free");
@@ -158,7 +158,7 @@ fn datagram(rt: &impl Abort, pool: &mut Pool) -> Chain
 /// Puts the packets of the bytes into an empty queue.
 fn sent(rt: &impl Abort, pool: &mut Pool, mtu: u16) -> (Queue, Result<(), Lack>)
     requires { 68 ≤ mtu }
-    ensures { IsQueue pool.new result.0 }
+    ensures { IsOutputQueue pool.new result.0 }
 {
     let mut queue = Queue::new();
     assert!(rt; queue.is_empty());
@@ -227,8 +227,8 @@ static CUT: [(u32, u32, u32); 7] = [
 
 /// Takes the oldest packet and frees it: what its header says, its length, and how many mbufs it had.
 fn popped(rt: &impl Abort, pool: &mut Pool, queue: &mut Queue) -> Option<(IpHead, u32, u32)>
-    requires { IsQueue pool.old queue.old }
-    ensures { IsQueue pool.new queue.new }
+    requires { IsOutputQueue pool.old queue.old }
+    ensures { IsOutputQueue pool.new queue.new }
 {
     let packet = queue.pop(pool)?;
     let head = read_head(pool, &packet).expect(rt, "the header is right");
@@ -239,8 +239,8 @@ fn popped(rt: &impl Abort, pool: &mut Pool, queue: &mut Queue) -> Option<(IpHead
 
 /// Takes the seven packets, and no other.
 fn pops_seven(rt: &impl Abort, pool: &mut Pool, queue: &mut Queue)
-    requires { IsQueue pool.old queue.old }
-    ensures { IsQueue pool.new queue.new }
+    requires { IsOutputQueue pool.old queue.old }
+    ensures { IsOutputQueue pool.new queue.new }
 {
     'packets: for (offset, len, mbufs) in CUT {
         let head = IpHead {

@@ -1,7 +1,7 @@
 -- What callers use: the sizes of a region after each change, and what a write over a list leaves.
 use Rattle.std.proofs.Common.{ℕ, ◌+◌, ◌*◌, ◌≤◌, ◌<◌, List, length, take, sym, ap, ◌∙◌, subst, arith, length-set}
 use Rattle.std.proofs.lemmas.List.{length-replicate}
-use Rattle.raw_cells.specs.Cells.{Cells, zero_cells, zero_head, region_size, origin, place, write, IsSized, IsRoom, IsPart, SetsHead}
+use Rattle.raw_cells.specs.Cells.{Cells, zero_cells, zero_head, region_size, origin, place, cells_written, IsSized, IsCellRoom, IsCellPart, SetsCellHead}
 use Rattle.raw_cells.specs.declared.head.Head.{Head}
 use Rattle.raw_cells.specs.declared.part.Part.{Part}
 use Rattle.raw_cells.specs.declared.part.Buffer.{Buffer}
@@ -19,16 +19,16 @@ sized_zero m k some most few =
       clusters = few;
     }
 
-room_fits : (c : Cells) (b : Buffer) (s n : ℕ) → IsSized c → IsRoom c b s n → origin c b + s + n ≤ length c.bytes
+room_fits : (c : Cells) (b : Buffer) (s n : ℕ) → IsSized c → IsCellRoom c b s n → origin c b + s + n ≤ length c.bytes
 room_fits c (Mbuf i) s n sized at = omega (arith, sized.block, at.0, at.3)
 room_fits c (Cluster i) s n sized at = omega (arith, sized.block, at.0, at.1)
 
 -- a part lies in the block
-pub part_fits : (c : Cells) (p : Part) → IsSized c → IsPart c p → place c p + p.len ≤ length c.bytes
+pub part_fits : (c : Cells) (p : Part) → IsSized c → IsCellPart c p → place c p + p.len ≤ length c.bytes
 part_fits c p sized at = room_fits c p.buffer p.start p.len sized at
 
 -- a write leaves the sizes
-pub sized_written : (c : Cells) (p : Part) (ws : List ℕ) → IsSized c → IsPart c p → IsSized (write c p ws)
+pub sized_written : (c : Cells) (p : Part) (ws : List ℕ) → IsSized c → IsCellPart c p → IsSized (cells_written c p ws)
 sized_written c p ws sized at =
     let fits = part_fits c p sized at in
     record {
@@ -38,7 +38,8 @@ sized_written c p ws sized at =
     }
 
 -- so does a new head
-pub sized_after_head : (old new : Cells) (i : ℕ) (h : Head) → IsSized old → i < length old.heads → SetsHead old new i h
+pub sized_after_head : (old new : Cells) (i : ℕ) (h : Head) → IsSized old → i < length old.heads
+    → SetsCellHead old new i h
     → IsSized new
 sized_after_head old new i h sized lt sets =
     let heads = length-set old.heads i h in

@@ -4,8 +4,8 @@ use Rattle.std.specs.Prelude.{IsSome}
 use Rattle.std.proofs.lemmas.List.{get_or-take}
 use Rattle.std.proofs.lemmas.Bool.{eq-eqb, false≢true}
 use Rattle.raw_cells.specs.Over.{over}
-use Rattle.raw_cells.specs.Cells.{Cells, SetsHead, IsSized, zero_head, head_of, head_size, with_arrival, with_head, with_packet_len}
-use Rattle.raw_cells.specs.Inside.Layout.{u16_at, u32_at, link_of, head_by, head_in, seen, IsRegion}
+use Rattle.raw_cells.specs.Cells.{Cells, SetsCellHead, IsSized, zero_head, cell_head, head_size, with_arrival, with_head, with_packet_len}
+use Rattle.raw_cells.specs.Inside.Layout.{little_u16_at, little_u32_at, link_of, head_by, cell_head_in, cells_of, IsRegion}
 use Rattle.raw_cells.specs.declared.head.Head.{Head}
 use Rattle.raw_cells.specs.declared.head.PacketHeader.{PacketHeader}
 use Rattle.raw_cells.specs.declared.region.Region.TheInside.{Inside}
@@ -49,13 +49,13 @@ module _ (bs : List ℕ) (o k : ℕ) (w : List ℕ) (room : o + 32 ≤ length bs
       patched_other j (omega arith) (elim apart [ inl below ↦ inl (omega arith) | inr above ↦ inr (omega arith) ])
 
   pub other_u16 : (j : ℕ) → j + 2 ≤ 32 → (j + 2 ≤ k) ⊎ (k + length w ≤ j)
-      → u16_at (patched bs o k w) j ≡ u16_at bs (o + j)
+      → little_u16_at (patched bs o k w) j ≡ little_u16_at bs (o + j)
   other_u16 j within apart =
       let a = first_byte j 2 within (omega arith) apart in let b = other_byte j 1 2 within (omega arith) apart in
       λ t. a t + b t * 0x100
 
   pub other_u32 : (j : ℕ) → j + 4 ≤ 32 → (j + 4 ≤ k) ⊎ (k + length w ≤ j)
-      → u32_at (patched bs o k w) j ≡ u32_at bs (o + j)
+      → little_u32_at (patched bs o k w) j ≡ little_u32_at bs (o + j)
   other_u32 j within apart =
       let a = first_byte j 4 within (omega arith) apart in let b = other_byte j 1 4 within (omega arith) apart in
       let c = other_byte j 2 4 within (omega arith) apart in let d = other_byte j 3 4 within (omega arith) apart in
@@ -64,13 +64,13 @@ module _ (bs : List ℕ) (o k : ℕ) (w : List ℕ) (room : o + 32 ≤ length bs
   in_byte : (p q m : ℕ) → p ≡ k + q → q < length w → m ≡ p → get_or (patched bs o k w) m 0 ≡ get_or w q 0
   in_byte p q m e lt f = ap (λ x. get_or (patched bs o k w) x 0) (f ∙ e) ∙ patched_in q lt
 
-  pub in_u16 : (p : ℕ) → p ≡ k → length w ≡ 2 → u16_at (patched bs o k w) p ≡ u16_at w 0
+  pub in_u16 : (p : ℕ) → p ≡ k → length w ≡ 2 → little_u16_at (patched bs o k w) p ≡ little_u16_at w 0
   in_u16 p e long =
       let a = in_byte p 0 p (omega arith) (omega arith) refl in
       let b = in_byte (p + 1) 1 (p + 1) (omega arith) (omega arith) refl in
       λ t. a t + b t * 0x100
 
-  pub in_u32 : (p q : ℕ) → p ≡ k + q → q + 4 ≤ length w → u32_at (patched bs o k w) p ≡ u32_at w q
+  pub in_u32 : (p q : ℕ) → p ≡ k + q → q + 4 ≤ length w → little_u32_at (patched bs o k w) p ≡ little_u32_at w q
   in_u32 p q e long =
       let a = in_byte p q p (omega arith) (omega arith) refl in
       let b = in_byte (p + 1) (q + 1) (p + 1) (omega arith) (omega arith) refl in
@@ -127,10 +127,11 @@ module _ (bs : List ℕ) (o k : ℕ) (w : List ℕ) (room : o + 32 ≤ length bs
 
 -- ---- the head that is read from the patched bytes
 head_from : (xs : List ℕ) (next next_packet : Option ℕ) (len start kind flags total arrival cluster : ℕ)
-    → link_of (u32_at xs 0) ≡ next → link_of (u32_at xs 4) ≡ next_packet → u32_at xs 8 ≡ len → u32_at xs 12 ≡ start
-    → u16_at xs 16 ≡ kind → u16_at xs 18 ≡ flags
-    → u32_at xs 20 ≡ total → u32_at xs 24 ≡ arrival → u32_at xs 28 ≡ cluster
-    → head_in xs 0 ≡ record {
+    → link_of (little_u32_at xs 0) ≡ next → link_of (little_u32_at xs 4) ≡ next_packet → little_u32_at xs 8 ≡ len
+    → little_u32_at xs 12 ≡ start
+    → little_u16_at xs 16 ≡ kind → little_u16_at xs 18 ≡ flags
+    → little_u32_at xs 20 ≡ total → little_u32_at xs 24 ≡ arrival → little_u32_at xs 28 ≡ cluster
+    → cell_head_in xs 0 ≡ record {
       next = next;
       next_packet = next_packet;
       len = len;
@@ -152,14 +153,14 @@ head_from xs next next_packet len start kind flags total arrival cluster e0 e1 e
 
 module _ (bs : List ℕ) (o : ℕ) (w : List ℕ) (room : o + 32 ≤ length bs) where
   later : (k : ℕ) → k + length w ≤ 32 → k + length w ≤ 24 ⊎ 28 ≤ k
-      → u32_at (patched bs o k w) 24 ≡ u32_at bs (o + 20 + 4)
+      → little_u32_at (patched bs o k w) 24 ≡ little_u32_at bs (o + 20 + 4)
   later k fits apart =
       let there : o + 24 ≡ o + 20 + 4 = omega arith in
       other_u32 bs o k w room fits 24 (omega arith)
-      (elim apart [ inl below ↦ inr (omega arith) | inr above ↦ inl (omega arith) ]) ∙ ap (u32_at bs) there
+      (elim apart [ inl below ↦ inr (omega arith) | inr above ↦ inl (omega arith) ]) ∙ ap (little_u32_at bs) there
 
-  pub next_set : (next : Option ℕ) → length w ≡ 4 → link_of (u32_at w 0) ≡ next
-      → head_in (patched bs o 0 w) 0 ≡ record (head_in bs o) { next = next }
+  pub next_set : (next : Option ℕ) → length w ≡ 4 → link_of (little_u32_at w 0) ≡ next
+      → cell_head_in (patched bs o 0 w) 0 ≡ record (cell_head_in bs o) { next = next }
   unfolding head_by
   next_set next long is =
       let fits : 0 + length w ≤ 32 = omega arith in
@@ -173,8 +174,8 @@ module _ (bs : List ℕ) (o : ℕ) (w : List ℕ) (room : o + 32 ≤ length bs) 
       (at 20 (omega arith) (inr (omega arith))) (later 0 fits (inl (omega arith)))
       (at 28 (omega arith) (inr (omega arith)))
 
-  pub next_packet_set : (next : Option ℕ) → length w ≡ 4 → link_of (u32_at w 0) ≡ next
-      → head_in (patched bs o 4 w) 0 ≡ record (head_in bs o) { next_packet = next }
+  pub next_packet_set : (next : Option ℕ) → length w ≡ 4 → link_of (little_u32_at w 0) ≡ next
+      → cell_head_in (patched bs o 4 w) 0 ≡ record (cell_head_in bs o) { next_packet = next }
   unfolding head_by
   next_packet_set next long is =
       let fits : 4 + length w ≤ 32 = omega arith in
@@ -188,8 +189,8 @@ module _ (bs : List ℕ) (o : ℕ) (w : List ℕ) (room : o + 32 ≤ length bs) 
       (at 20 (omega arith) (inr (omega arith))) (later 4 fits (inl (omega arith)))
       (at 28 (omega arith) (inr (omega arith)))
 
-  pub data_set : (len start : ℕ) → length w ≡ 8 → u32_at w 0 ≡ len → u32_at w 4 ≡ start
-      → head_in (patched bs o 8 w) 0 ≡ record (head_in bs o) { len = len; start = start }
+  pub data_set : (len start : ℕ) → length w ≡ 8 → little_u32_at w 0 ≡ len → little_u32_at w 4 ≡ start
+      → cell_head_in (patched bs o 8 w) 0 ≡ record (cell_head_in bs o) { len = len; start = start }
   unfolding head_by
   data_set len start long is_len is_start =
       let fits : 8 + length w ≤ 32 = omega arith in
@@ -208,8 +209,8 @@ module _ (bs : List ℕ) (o : ℕ) (w : List ℕ) (room : o + 32 ≤ length bs) 
   mapped f true p = refl
   mapped f false p = refl
 
-  pub packet_len_set : (n : ℕ) → length w ≡ 4 → u32_at w 0 ≡ n
-      → head_in (patched bs o 20 w) 0 ≡ with_packet_len (head_in bs o) n
+  pub packet_len_set : (n : ℕ) → length w ≡ 4 → little_u32_at w 0 ≡ n
+      → cell_head_in (patched bs o 20 w) 0 ≡ with_packet_len (cell_head_in bs o) n
   unfolding head_by
   packet_len_set n long is =
       let fits : 20 + length w ≤ 32 = omega arith in
@@ -221,12 +222,12 @@ module _ (bs : List ℕ) (o : ℕ) (w : List ℕ) (room : o + 32 ≤ length bs) 
       (other_u16 bs o 20 w room fits 18 (omega arith) (inl (omega arith)))
       (in_u32 bs o 20 w room fits 20 0 refl (omega arith) ∙ is) (later 20 fits (inl (omega arith)))
       (at 28 (omega arith) (inr (omega arith)))
-      ∙ ap (λ (p : Option PacketHeader). record (head_in bs o) { packet = p })
-      (mapped (λ p. record p { len = n }) (u16_at bs (o + 18) / 2 % 2 == 0)
-      (record { len = u32_at bs (o + 20); arrival = u32_at bs (o + 20 + 4) }))
+      ∙ ap (λ (p : Option PacketHeader). record (cell_head_in bs o) { packet = p })
+      (mapped (λ p. record p { len = n }) (little_u16_at bs (o + 18) / 2 % 2 == 0)
+      (record { len = little_u32_at bs (o + 20); arrival = little_u32_at bs (o + 20 + 4) }))
 
-  pub arrival_set : (n : ℕ) → length w ≡ 4 → u32_at w 0 ≡ n
-      → head_in (patched bs o 24 w) 0 ≡ with_arrival (head_in bs o) n
+  pub arrival_set : (n : ℕ) → length w ≡ 4 → little_u32_at w 0 ≡ n
+      → cell_head_in (patched bs o 24 w) 0 ≡ with_arrival (cell_head_in bs o) n
   unfolding head_by
   arrival_set n long is =
       let fits : 24 + length w ≤ 32 = omega arith in
@@ -238,27 +239,28 @@ module _ (bs : List ℕ) (o : ℕ) (w : List ℕ) (room : o + 32 ≤ length bs) 
       (other_u16 bs o 24 w room fits 18 (omega arith) (inl (omega arith)))
       (at 20 (omega arith) (inl (omega arith))) (in_u32 bs o 24 w room fits 24 0 refl (omega arith) ∙ is)
       (at 28 (omega arith) (inr (omega arith)))
-      ∙ ap (λ (p : Option PacketHeader). record (head_in bs o) { packet = p })
-      (mapped (λ p. record p { arrival = n }) (u16_at bs (o + 18) / 2 % 2 == 0)
-      (record { len = u32_at bs (o + 20); arrival = u32_at bs (o + 20 + 4) }))
+      ∙ ap (λ (p : Option PacketHeader). record (cell_head_in bs o) { packet = p })
+      (mapped (λ p. record p { arrival = n }) (little_u16_at bs (o + 18) / 2 % 2 == 0)
+      (record { len = little_u32_at bs (o + 20); arrival = little_u32_at bs (o + 20 + 4) }))
 
-  pub packet_dropped : length w ≡ 2 → u16_at w 0 / 2 % 2 ≡ 0 → u16_at w 0 % 2 ≡ u16_at bs (o + 18) % 2
-      → head_in (patched bs o 18 w) 0 ≡ record (head_in bs o) { packet = None }
+  pub packet_dropped : length w ≡ 2 → little_u16_at w 0 / 2 % 2 ≡ 0
+      → little_u16_at w 0 % 2 ≡ little_u16_at bs (o + 18) % 2
+      → cell_head_in (patched bs o 18 w) 0 ≡ record (cell_head_in bs o) { packet = None }
   unfolding head_by
   packet_dropped long none same =
       let fits : 18 + length w ≤ 32 = omega arith in
       let at = other_u32 bs o 18 w room fits in
-      head_from (patched bs o 18 w) _ _ _ _ _ (u16_at w 0) _ _ _
+      head_from (patched bs o 18 w) _ _ _ _ _ (little_u16_at w 0) _ _ _
       (ap link_of (at 0 (omega arith) (inl (omega arith)))) (ap link_of (at 4 (omega arith) (inl (omega arith))))
       (at 8 (omega arith) (inl (omega arith))) (at 12 (omega arith) (inl (omega arith)))
       (other_u16 bs o 18 w room fits 16 (omega arith) (inl (omega arith))) (in_u16 bs o 18 w room fits 18 refl long)
       (at 20 (omega arith) (inr (omega arith))) (later 18 fits (inl (omega arith)))
       (at 28 (omega arith) (inr (omega arith)))
-      ∙ (λ t. record (head_in bs o) {
+      ∙ (λ t. record (cell_head_in bs o) {
         packet =
-            if eq-eqb (u16_at w 0 / 2 % 2) 0 none t then None
-            else Some (record { len = u32_at bs (o + 20); arrival = u32_at bs (o + 20 + 4) });
-        cluster = if same t == 0 then None else Some (u32_at bs (o + 28));
+            if eq-eqb (little_u16_at w 0 / 2 % 2) 0 none t then None
+            else Some (record { len = little_u32_at bs (o + 20); arrival = little_u32_at bs (o + 20 + 4) });
+        cluster = if same t == 0 then None else Some (little_u32_at bs (o + 28));
       })
 
 -- ---- a field of a region's head is set
@@ -287,22 +289,23 @@ pub packet_field : (h : Head) (f : PacketHeader → PacketHeader) (n : ℕ) → 
     → n ≤ head_size (record h { packet = option_map f h.packet })
 packet_field h f n few has = omega (arith, sized_packet h f has)
 
-module _ (r : Inside) (is : IsRegion r) (v : Cells) (e : seen r ≡ v) (i : ℕ) (lt : i < length v.heads) where
+module _ (r : Inside) (is : IsRegion r) (v : Cells) (e : cells_of r ≡ v) (i : ℕ) (lt : i < length v.heads) where
   there : i < r.mbufs
-  there = let below : i < length (seen r).heads = subst (λ (x : Cells). i < length x.heads) (sym e) lt in
+  there = let below : i < length (cells_of r).heads = subst (λ (x : Cells). i < length x.heads) (sym e) lt in
       omega (arith, below, length-heads r.mbufs r.block)
 
   pub field_room : 128 * i + 32 ≤ length r.block
   field_room = omega (arith, is.0, there)
 
-  head_there : head_in r.block (128 * i) ≡ head_of v i
-  head_there = sym (head_at r.mbufs r.block i zero_head there) ∙ ap (λ (x : Cells). head_of x i) e
+  head_there : cell_head_in r.block (128 * i) ≡ cell_head v i
+  head_there = sym (head_at r.mbufs r.block i zero_head there) ∙ ap (λ (x : Cells). cell_head x i) e
 
   pub field_set : (g : Head → Head) (k n at : ℕ) (ws : List ℕ) → at ≡ 128 * i + k → length ws ≡ n
-      → k + n ≤ head_size (g (head_of v i)) → head_in (patched r.block (128 * i) k ws) 0 ≡ g (head_in r.block (128 * i))
-      → SetsHead v (seen (record r { block = over r.block at (take n ws) })) i (g (head_of v i))
+      → k + n ≤ head_size (g (cell_head v i))
+      → cell_head_in (patched r.block (128 * i) k ws) 0 ≡ g (cell_head_in r.block (128 * i))
+      → SetsCellHead v (cells_of (record r { block = over r.block at (take n ws) })) i (g (cell_head v i))
   field_set g k n at ws place long few decoded =
-      let h = g (head_of v i) in
+      let h = g (cell_head v i) in
       let o : ℕ = 128 * i in
       let fits : k + length ws ≤ 32 = omega (arith, head_size_le h) in
       let p = patched r.block o k ws in
@@ -314,7 +317,7 @@ module _ (r : Inside) (is : IsRegion r) (v : Cells) (e : seen r ≡ v) (i : ℕ)
       ∙ patch_over r.block o k ws field_room fits (head_size h) (omega arith) (head_size_le h) in (
         b,
         length-take-le (head_size h) p (omega (arith, p_long, head_size_le h)),
-        (λ t. seen (record r { block = same t }))
+        (λ t. cells_of (record r { block = same t }))
             ∙ (λ t. record {
               heads = head_written r.block p r.mbufs i h there (omega (arith, is.0)) p_long
                   (decoded ∙ ap g head_there) t;
@@ -324,7 +327,7 @@ module _ (r : Inside) (is : IsRegion r) (v : Cells) (e : seen r ≡ v) (i : ℕ)
             ∙ ap (λ (x : Cells). with_head x i h b) e,
       )
 
-  pub field_sized : (h : Head) (t : Cells) → SetsHead v t i h → IsSized t
+  pub field_sized : (h : Head) (t : Cells) → SetsCellHead v t i h → IsSized t
   field_sized h t sets = sized_after_head v t i h (subst IsSized e (region_sized r is)) lt sets
 
   pub field_kept : (k n at : ℕ) (ws : List ℕ) → at ≡ 128 * i + k → length ws ≡ n → k + n ≤ 32
@@ -334,11 +337,12 @@ module _ (r : Inside) (is : IsRegion r) (v : Cells) (e : seen r ≡ v) (i : ℕ)
       (length_over r.block at (take n ws) (omega (arith, field_room)) ∙ is.0, is.1, is.2, is.3)
 
 -- the flags as they stand in the two bytes lent
-pub flags_read : (bs : List ℕ) (at : ℕ) (lent : List ℕ) → lent ≡ take 2 (drop at bs) → u16_at lent 0 ≡ u16_at bs at
+pub flags_read : (bs : List ℕ) (at : ℕ) (lent : List ℕ) → lent ≡ take 2 (drop at bs)
+    → little_u16_at lent 0 ≡ little_u16_at bs at
 flags_read bs at lent is =
     let low : get_or (take 2 (drop at bs)) 0 0 ≡ get_or bs at 0 =
     get_or-take 2 (drop at bs) 0 0 (omega arith) ∙ get_or-drop at bs 0 0
     ∙ (let same : at + 0 ≡ at = omega arith in ap (λ x. get_or bs x 0) same) in
     let high : get_or (take 2 (drop at bs)) 1 0 ≡ get_or bs (at + 1) 0 =
     get_or-take 2 (drop at bs) 1 0 (omega arith) ∙ get_or-drop at bs 1 0 in
-    ap (λ l. u16_at l 0) is ∙ (λ t. low t + high t * 0x100)
+    ap (λ l. little_u16_at l 0) is ∙ (λ t. low t + high t * 0x100)

@@ -32,8 +32,8 @@ IsLink (Some k) = k < 0xffffffff
 abbrev pub IsHead : Head → Type 0
 IsHead h = IsLink h.next × IsLink h.next_packet
 
-abbrev pub head_of : Cells → ℕ → Head
-head_of c i = slice_index_or c.heads i zero_head
+abbrev pub cell_head : Cells → ℕ → Head
+cell_head c i = slice_index_or c.heads i zero_head
 
 abbrev pub region_size : ℕ → ℕ → ℕ
 region_size mbufs clusters = MSIZE * mbufs + MCLBYTES * clusters
@@ -59,21 +59,21 @@ abbrev pub place : Cells → Part → ℕ
 place c p = origin c p.buffer + p.start
 
 -- the n bytes from s on lie in a cluster, or in the room of an mbuf that refers to no cluster
-abbrev pub IsRoom : Cells → Buffer → ℕ → ℕ → Type 0
-IsRoom c (Mbuf i) s n =
-    (i < length c.heads) × ((head_of c i).cluster ≡ None) × (head_size (head_of c i) ≤ s) × (s + n ≤ MSIZE)
-IsRoom c (Cluster i) s n = (i < c.clusters) × (s + n ≤ MCLBYTES)
+abbrev pub IsCellRoom : Cells → Buffer → ℕ → ℕ → Type 0
+IsCellRoom c (Mbuf i) s n =
+    (i < length c.heads) × ((cell_head c i).cluster ≡ None) × (head_size (cell_head c i) ≤ s) × (s + n ≤ MSIZE)
+IsCellRoom c (Cluster i) s n = (i < c.clusters) × (s + n ≤ MCLBYTES)
 
-abbrev pub IsPart : Cells → Part → Type 0
-IsPart c p = IsRoom c p.buffer p.start p.len
+abbrev pub IsCellPart : Cells → Part → Type 0
+IsCellPart c p = IsCellRoom c p.buffer p.start p.len
 
 -- the bytes of a part
 abbrev pub read : Cells → Part → List ℕ
 read c p = take p.len (drop (place c p) c.bytes)
 
 -- c with ws as the bytes of a part, the heads as they were. What would not fit is cut
-abbrev pub write : Cells → Part → List ℕ → Cells
-write c p ws = record c { bytes = over c.bytes (place c p) (take p.len ws) }
+abbrev pub cells_written : Cells → Part → List ℕ → Cells
+cells_written c p ws = record c { bytes = over c.bytes (place c p) (take p.len ws) }
 
 -- c with a new head for the mbuf i, whose first bytes are then b
 abbrev pub with_head : Cells → ℕ → Head → List ℕ → Cells
@@ -81,8 +81,8 @@ with_head c i h b = record { heads = slice_set c.heads i h; bytes = over c.bytes
 
 -- the mbuf i has a new head: it takes some bytes of its own at the beginning of the mbuf, and every other byte and head
 -- is as it was
-abbrev pub SetsHead : Cells → Cells → ℕ → Head → Type 0
-SetsHead old new i h = (b : List ℕ) × (length b ≡ head_size h) × (new ≡ with_head old i h b)
+abbrev pub SetsCellHead : Cells → Cells → ℕ → Head → Type 0
+SetsCellHead old new i h = (b : List ℕ) × (length b ≡ head_size h) × (new ≡ with_head old i h b)
 
 -- ---- one field of a head
 abbrev pub with_packet_len : Head → ℕ → Head

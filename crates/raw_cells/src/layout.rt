@@ -1,7 +1,7 @@
 //! Heads as bytes.
 ghost use Rattle.std.specs.Prelude.{◌≡◌, ◌+◌, ◌/◌, ◌%◌, ◌≤◌, length};
 ghost use Rattle.raw_cells.specs.Cells.{head_size, IsHead, IsLink};
-ghost use Rattle.raw_cells.specs.Inside.Layout.{head_in, link_of, packet_in, cluster_in, flags_of, u16_at, u32_at};
+ghost use Rattle.raw_cells.specs.Inside.Layout.{cell_head_in, link_of, packet_header_in, cluster_in, head_flags, little_u16_at, little_u32_at};
 
 use crate::head::{Head, PacketHeader};
 use byteorder::{ByteOrder, LittleEndian};
@@ -12,21 +12,21 @@ const NO_MBUF: u32 = 0xffff_ffff;
 
 fn read_u16(bytes: &[u8], at: usize) -> u16
     requires { at + 2 ≤ length bytes.now }
-    ensures { result ≡ u16_at bytes.now at }
+    ensures { result ≡ little_u16_at bytes.now at }
 {
     LittleEndian::read_u16(&bytes[at..])
 }
 
 fn read_u32(bytes: &[u8], at: usize) -> u32
     requires { at + 4 ≤ length bytes.now }
-    ensures { result ≡ u32_at bytes.now at }
+    ensures { result ≡ little_u32_at bytes.now at }
 {
     LittleEndian::read_u32(&bytes[at..])
 }
 
 fn read_link(bytes: &[u8], at: usize) -> Option<u32>
     requires { at + 4 ≤ length bytes.now }
-    ensures link { result ≡ link_of (u32_at bytes.now at) }
+    ensures link { result ≡ link_of (little_u32_at bytes.now at) }
     ensures storable { IsLink result }
 {
     let number = read_u32(bytes, at);
@@ -39,7 +39,7 @@ fn read_link(bytes: &[u8], at: usize) -> Option<u32>
 
 fn read_packet(bytes: &[u8], at: usize, flags: u16) -> Option<PacketHeader>
     requires { at + 8 ≤ length bytes.now }
-    ensures { result ≡ packet_in bytes.now at flags }
+    ensures { result ≡ packet_header_in bytes.now at flags }
 {
     if flags / 2 % 2 == 0 {
         return None;
@@ -65,7 +65,7 @@ fn read_cluster(bytes: &[u8], at: usize, flags: u16) -> Option<u32>
 #[inline(always)]
 pub(crate) fn read_head(bytes: &[u8], at: usize) -> Head
     requires { at + 32 ≤ length bytes.now }
-    ensures head { result ≡ head_in bytes.now at }
+    ensures head { result ≡ cell_head_in bytes.now at }
     ensures storable { IsHead result }
 {
     let flags = read_u16(bytes, at + 18);
@@ -96,7 +96,7 @@ pub(crate) fn head_len(head: &Head) -> usize
 
 #[inline(always)]
 fn bytes_u16(x: u16) -> [u8; 2]
-    ensures { u16_at result 0 ≡ x }
+    ensures { little_u16_at result 0 ≡ x }
 {
     let mut bytes = [0; 2];
     LittleEndian::write_u16(&mut bytes, x);
@@ -105,7 +105,7 @@ fn bytes_u16(x: u16) -> [u8; 2]
 
 #[inline(always)]
 fn bytes_u32(x: u32) -> [u8; 4]
-    ensures { u32_at result 0 ≡ x }
+    ensures { little_u32_at result 0 ≡ x }
 {
     let mut bytes = [0; 4];
     LittleEndian::write_u32(&mut bytes, x);
@@ -115,7 +115,7 @@ fn bytes_u32(x: u32) -> [u8; 4]
 #[inline(always)]
 fn bytes_link(link: Option<u32>) -> [u8; 4]
     requires { IsLink link }
-    ensures { link_of (u32_at result 0) ≡ link }
+    ensures { link_of (little_u32_at result 0) ≡ link }
 {
     bytes_u32(link.unwrap_or(NO_MBUF))
 }
@@ -124,7 +124,7 @@ fn bytes_link(link: Option<u32>) -> [u8; 4]
 #[inline(always)]
 pub(crate) fn put_u32(bytes: &mut [u8], x: u32)
     requires { length bytes.old ≡ 4 }
-    ensures value { u32_at bytes.new 0 ≡ x }
+    ensures value { little_u32_at bytes.new 0 ≡ x }
     ensures len { length bytes.new ≡ 4 }
 {
     LittleEndian::write_u32(bytes, x);
@@ -134,7 +134,7 @@ pub(crate) fn put_u32(bytes: &mut [u8], x: u32)
 pub(crate) fn put_link(bytes: &mut [u8], link: Option<u32>)
     requires len { length bytes.old ≡ 4 }
     requires link { IsLink link }
-    ensures value { link_of (u32_at bytes.new 0) ≡ link }
+    ensures value { link_of (little_u32_at bytes.new 0) ≡ link }
     ensures len { length bytes.new ≡ 4 }
 {
     put_u32(bytes, link.unwrap_or(NO_MBUF));
@@ -144,8 +144,8 @@ pub(crate) fn put_link(bytes: &mut [u8], link: Option<u32>)
 #[inline(always)]
 pub(crate) fn put_data(bytes: &mut [u8], len: u32, start: u32)
     requires { length bytes.old ≡ 8 }
-    ensures len { u32_at bytes.new 0 ≡ len }
-    ensures start { u32_at bytes.new 4 ≡ start }
+    ensures len { little_u32_at bytes.new 0 ≡ len }
+    ensures start { little_u32_at bytes.new 4 ≡ start }
     ensures long { length bytes.new ≡ 8 }
 {
     let both = u64::from(len) + (u64::from(start) << 32);
@@ -155,8 +155,8 @@ pub(crate) fn put_data(bytes: &mut [u8], len: u32, start: u32)
 /// Clears the flag of a packet header.
 pub(crate) fn clear_packet(bytes: &mut [u8])
     requires { length bytes.old ≡ 2 }
-    ensures packet { u16_at bytes.new 0 / 2 % 2 ≡ 0 }
-    ensures cluster { u16_at bytes.new 0 % 2 ≡ u16_at bytes.old 0 % 2 }
+    ensures packet { little_u16_at bytes.new 0 / 2 % 2 ≡ 0 }
+    ensures cluster { little_u16_at bytes.new 0 % 2 ≡ little_u16_at bytes.old 0 % 2 }
     ensures len { length bytes.new ≡ 2 }
 {
     let flags = LittleEndian::read_u16(bytes);
@@ -165,7 +165,7 @@ pub(crate) fn clear_packet(bytes: &mut [u8])
 
 #[inline(always)]
 fn flags(head: &Head) -> u16
-    ensures { result ≡ flags_of head.now }
+    ensures { result ≡ head_flags head.now }
 {
     u16::from(head.cluster.is_some()) + 2 * u16::from(head.packet.is_some())
 }
@@ -174,7 +174,7 @@ fn flags(head: &Head) -> u16
 #[inline(always)]
 pub(crate) fn encode(head: &Head) -> [u8; 32]
     requires { IsHead head.now }
-    ensures decoded { head_in result 0 ≡ head.now }
+    ensures decoded { cell_head_in result 0 ≡ head.now }
     ensures len { length result ≡ 32 }
 {
     let packet = head.packet.unwrap_or(PacketHeader { len: 0, arrival: 0 });

@@ -1,7 +1,7 @@
 //! The region: mbufs, and clusters after them, in one block.
 ghost use Rattle.std.specs.Prelude.{◌≡◌, ◌+◌, ◌<◌, ◌≤◌, IfOk, IsSome, None, length};
 ghost use Rattle.std.specs.Borrow.{sem};
-ghost use Rattle.raw_cells.specs.Cells.{zero_cells, head_of, with_arrival, with_packet_len, IsHead, IsLink, IsPart, IsSized, SetsHead, read, write, place};
+ghost use Rattle.raw_cells.specs.Cells.{zero_cells, cell_head, with_arrival, with_packet_len, IsHead, IsLink, IsCellPart, IsSized, SetsCellHead, read, cells_written, place};
 
 use crate::block::Block;
 use crate::head::Head;
@@ -33,15 +33,15 @@ impl Model for Region {
 
     ghost Value = { Cells };
 
-    ghost use Rattle.raw_cells.specs.Inside.Layout.{seen, IsRegion};
+    ghost use Rattle.raw_cells.specs.Inside.Layout.{cells_of, IsRegion};
 
-    ghost view = { seen };
+    ghost view = { cells_of };
 
     ghost invariant = { IsRegion };
 }
 
 impl Region {
-    ghost use Rattle.raw_cells.specs.Lending.{LendsPart};
+    ghost use Rattle.raw_cells.specs.Lending.{LendsCellPart};
 
     /// A region of `mbufs` mbufs, 1 to 65,535, and `clusters` clusters, at most 4,096, in which every
     /// byte is 0: each head reads as zeros too, without a packet header or a cluster. It is the one
@@ -67,7 +67,7 @@ impl Region {
     #[inline(always)]
     pub fn head(&self, index: u32) -> Head
         requires { index < length self.now.heads }
-        ensures value { result ≡ head_of self.now index }
+        ensures value { result ≡ cell_head self.now index }
         ensures links { IsHead result }
         ensures sized { IsSized self.now }
     {
@@ -83,7 +83,7 @@ impl Region {
     pub fn set_head(&mut self, index: u32, head: Head)
         requires index { index < length self.old.heads }
         requires links { IsHead head }
-        ensures change { SetsHead self.old self.new index head }
+        ensures change { SetsCellHead self.old self.new index head }
         ensures sized { IsSized self.new }
     {
         let bytes = encode(&head);
@@ -98,7 +98,7 @@ impl Region {
     pub fn set_next(&mut self, index: u32, next: Option<u32>)
         requires index { index < length self.old.heads }
         requires link { IsLink next }
-        ensures change { SetsHead self.old self.new index (record (head_of self.old index) { next = next }) }
+        ensures change { SetsCellHead self.old self.new index (record (cell_head self.old index) { next = next }) }
         ensures sized { IsSized self.new }
     {
         put_link(self.block.slice_mut(MBUF_LEN * index as usize, 4), next);
@@ -109,8 +109,8 @@ impl Region {
     pub fn set_next_packet(&mut self, index: u32, next_packet: Option<u32>)
         requires index { index < length self.old.heads }
         requires link { IsLink next_packet }
-        ensures change { SetsHead self.old self.new index
-            (record (head_of self.old index) { next_packet = next_packet }) }
+        ensures change { SetsCellHead self.old self.new index
+            (record (cell_head self.old index) { next_packet = next_packet }) }
         ensures sized { IsSized self.new }
     {
         put_link(
@@ -124,8 +124,8 @@ impl Region {
     #[inline(always)]
     pub fn set_data(&mut self, index: u32, start: u32, len: u32)
         requires { index < length self.old.heads }
-        ensures change { SetsHead self.old self.new index
-            (record (head_of self.old index) { len = len; start = start }) }
+        ensures change { SetsCellHead self.old self.new index
+            (record (cell_head self.old index) { len = len; start = start }) }
         ensures sized { IsSized self.new }
     {
         put_data(
@@ -140,8 +140,8 @@ impl Region {
     #[inline(always)]
     pub fn set_packet_len(&mut self, index: u32, len: u32)
         requires index { index < length self.old.heads }
-        requires packet { IsSome (head_of self.old index).packet }
-        ensures change { SetsHead self.old self.new index (with_packet_len (head_of self.old index) len) }
+        requires packet { IsSome (cell_head self.old index).packet }
+        ensures change { SetsCellHead self.old self.new index (with_packet_len (cell_head self.old index) len) }
         ensures sized { IsSized self.new }
     {
         put_u32(self.block.slice_mut(MBUF_LEN * index as usize + 20, 4), len);
@@ -151,8 +151,8 @@ impl Region {
     /// a packet header, and leaves all else of its head.
     pub fn set_arrival(&mut self, index: u32, arrival: u32)
         requires index { index < length self.old.heads }
-        requires packet { IsSome (head_of self.old index).packet }
-        ensures change { SetsHead self.old self.new index (with_arrival (head_of self.old index) arrival) }
+        requires packet { IsSome (cell_head self.old index).packet }
+        ensures change { SetsCellHead self.old self.new index (with_arrival (cell_head self.old index) arrival) }
         ensures sized { IsSized self.new }
     {
         put_u32(
@@ -165,7 +165,7 @@ impl Region {
     /// the 8 bytes that the packet header had belong to the room, as they are.
     pub fn drop_packet(&mut self, index: u32)
         requires { index < length self.old.heads }
-        ensures change { SetsHead self.old self.new index (record (head_of self.old index) { packet = None }) }
+        ensures change { SetsCellHead self.old self.new index (record (cell_head self.old index) { packet = None }) }
         ensures sized { IsSized self.new }
     {
         clear_packet(self.block.slice_mut(MBUF_LEN * index as usize + 18, 2));
@@ -174,7 +174,7 @@ impl Region {
     /// Where the part begins in the block.
     #[inline(always)]
     fn start(&self, part: Part) -> usize
-        requires { IsPart self.now part }
+        requires { IsCellPart self.now part }
         ensures at { result ≡ place self.now part }
         ensures within { place self.now part + part.len ≤ length self.now.bytes }
     {
@@ -191,7 +191,7 @@ impl Region {
     /// refers to no cluster.
     #[inline(always)]
     pub fn bytes(&self, part: Part) -> &[u8]
-        requires { IsPart self.now part }
+        requires { IsCellPart self.now part }
         ensures value { result.now ≡ read self.now part }
         ensures len { length result.now ≡ part.len }
         ensures sized { IsSized self.now }
@@ -204,8 +204,8 @@ impl Region {
     // Inlined, so that a caller that knows the length writes by stores.
     #[inline(always)]
     pub fn bytes_mut(&mut self, part: Part) -> &mut [u8]
-        requires { IsPart self.old part }
-        ensures* writes_back { sem 𝓛 (LendsPart self.entry part result) }
+        requires { IsCellPart self.old part }
+        ensures* writes_back { sem 𝓛 (LendsCellPart self.entry part result) }
         ensures value { result.now ≡ read self.old part }
         ensures len { length result.now ≡ part.len }
         ensures sized { IsSized self.old }
@@ -217,10 +217,10 @@ impl Region {
     /// Copies the bytes of `from` over those of `to`, a part of the same length, as `memmove` does:
     /// two parts that share bytes are copied as if by way of a third place.
     pub fn copy(&mut self, from: Part, to: Part)
-        requires from { IsPart self.old from }
-        requires to { IsPart self.old to }
+        requires from { IsCellPart self.old from }
+        requires to { IsCellPart self.old to }
         requires len { from.len ≡ to.len }
-        ensures change { self.new ≡ write self.old to (read self.old from) }
+        ensures change { self.new ≡ cells_written self.old to (read self.old from) }
         ensures sized { IsSized self.new }
     {
         let at = self.start(from);

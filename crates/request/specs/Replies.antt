@@ -6,16 +6,16 @@ use Rattle.request.specs.declared.reply.Reply.{Reply}
 use Rattle.request.specs.declared.reply.Reply.TheVariants.{Done, Opened, Sent, Received, Given, Counted, Shown, Refused}
 
 -- the packet behind a reference
-abbrev pub packet_of : Option (Bor (List ℕ)) → Option (List ℕ)
-packet_of (Some packet) = Some packet.now
-packet_of None = None
+abbrev pub packet_behind : Option (Bor (List ℕ)) → Option (List ℕ)
+packet_behind (Some packet) = Some packet.now
+packet_behind None = None
 
 abbrev pub reply_of : Reply → event.Reply
 reply_of Done = event.Done
 reply_of (Opened fd) = event.Opened fd
 reply_of (Sent n) = event.Sent n
 reply_of (Received sender bytes) = event.Received sender bytes.now
-reply_of (Given packet) = event.Given (packet_of packet)
+reply_of (Given packet) = event.Given (packet_behind packet)
 reply_of (Counted counters) = event.Counted counters
 reply_of (Shown usage) = event.Shown usage
 reply_of (Refused errno) = event.Refused errno

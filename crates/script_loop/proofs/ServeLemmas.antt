@@ -4,7 +4,7 @@ use Rattle.std.specs.Io.KnownBytes.{Appends, Consumes, IsAtEnd}
 use Rattle.std.proofs.KnownBytes.{Appends-trans, Consumes-trans}
 use Rattle.flat_model.specs.Scripts.Lines.{whole_lines, begun_line, last_line, lines}
 use Rattle.script_loop.specs.Streams.{Sends, reader_failures}
-use Rattle.script_loop.specs.Serves.{Serves, Moves, IsServed}
+use Rattle.script_loop.specs.Serves.{Serves, ReadsAndWrites, IsServed}
 use Rattle.script_loop.specs.Inside.{Answered, TakesChunk}
 use Rattle.script_loop.specs.declared.fault.RunFault.{RunFault}
 use Rattle.script_loop.specs.declared.fault.RunFault.TheVariants.{Read, Write, Memory, TooManyLines, BadSizes, BadConfig}
@@ -22,16 +22,17 @@ Answered-start gives begin = record {
 }
 
 pub Moves-then : (a b c w v u : Option (List ℕ)) (seen more written further : List ℕ)
-    → Moves a b seen w v written → Consumes b c more → Appends v u further
-    → Moves a c (seen ++ more) w u (written ++ further)
+    → ReadsAndWrites a b seen w v written → Consumes b c more → Appends v u further
+    → ReadsAndWrites a c (seen ++ more) w u (written ++ further)
 Moves-then a b c w v u seen more written further m read sent = record {
   consumed = Consumes-trans a b c seen more m.consumed read;
   appended = Appends-trans w v u written further m.appended sent;
 }
 
-Moves-same : (a b w v : Option (List ℕ)) (seen seen' written : List ℕ) → seen ≡ seen' → Moves a b seen w v written
-    → Moves a b seen' w v written
-Moves-same a b w v seen seen' written e m = subst (λ (s : List ℕ). Moves a b s w v written) e m
+Moves-same : (a b w v : Option (List ℕ)) (seen seen' written : List ℕ) → seen ≡ seen'
+    → ReadsAndWrites a b seen w v written
+    → ReadsAndWrites a b seen' w v written
+Moves-same a b w v seen seen' written e m = subst (λ (s : List ℕ). ReadsAndWrites a b s w v written) e m
 
 last_line-some : (line : List ℕ) → (line ≡ [] → ⊥) → last_line line ≡ line ∷ []
 last_line-some [] some = absurd (some refl)
@@ -45,7 +46,7 @@ whole-lines-last seen line e some =
 pub Serves-stop : {S : Type 0} (gives : S → List ℕ → List ℕ → S → Type 0) (begin now : S)
     (a b c w v u : Option (List ℕ))
     (seen chunk written line : List ℕ) (e : RunFault)
-    → Moves a b seen w v written → Consumes b c chunk
+    → ReadsAndWrites a b seen w v written → Consumes b c chunk
     → TakesChunk gives begin now seen chunk written v u [] line (Err e)
     → Serves gives begin now a c w u (Err e)
 Serves-stop gives begin now a b c w v u seen chunk written line Write m read h = (
@@ -78,7 +79,8 @@ Serves-stop gives begin now a b c w v u seen chunk written line BadConfig m read
 pub Serves-last : {S : Type 0} (gives : S → List ℕ → List ℕ → S → Type 0) (begin now new : S)
     (a b c w v u : Option (List ℕ))
     (seen line written : List ℕ) (count : ℕ) (text : List ℕ) (r : Result Unit RunFault)
-    → Moves a b seen w v written → Consumes b c [] → IsAtEnd c → Answered gives begin now seen line count written
+    → ReadsAndWrites a b seen w v written → Consumes b c [] → IsAtEnd c
+    → Answered gives begin now seen line count written
     → (line ≡ [] → ⊥)
     → gives now line text new → Sends v u text r
     → Serves gives begin new a c w u r

@@ -21,7 +21,7 @@ StaysWithin input = (k : ℕ) → k < length input → GoesTooFar (take k input)
 -- ---- outcomes
 
 -- The reader gave the bytes read, and the writer took those written, where they tell.
-pub record Moves (unread rest : Option (List ℕ)) (read : List ℕ) (before after : Option (List ℕ))
+pub record ReadsAndWrites (unread rest : Option (List ℕ)) (read : List ℕ) (before after : Option (List ℕ))
     (written : List ℕ) : Type 0 where
   pub consumed : Consumes unread rest read
   pub appended : Appends before after written
@@ -32,26 +32,29 @@ abbrev pub Serves : {S : Type 0} → (S → List ℕ → List ℕ → S → Type
     → Option (List ℕ) → Option (List ℕ) → Option (List ℕ) → Option (List ℕ) → Result Unit RunFault → Type 0
 -- all lines were answered
 Serves gives old new unread rest before after (Ok done) =
-    (input written : List ℕ) × Moves unread rest input before after written × IsAtEnd rest × StaysWithin input
+    (input written : List ℕ) × ReadsAndWrites unread rest input before after written × IsAtEnd rest × StaysWithin input
     × Prints gives old (lines input) written new
 -- each whole line was answered, and the line begun was not
 Serves gives old new unread rest before after (Err Read) =
-    (input written : List ℕ) × Moves unread rest input before after written × StaysWithin input
+    (input written : List ℕ) × ReadsAndWrites unread rest input before after written × StaysWithin input
     × Prints gives old (whole_lines input) written new
 -- a front of the answers to whole lines was written, or to all lines where the input has ended
 Serves gives old new unread rest before after (Err Write) =
-    (input more written unwritten : List ℕ) × Moves unread rest (input ++ more) before after written × StaysWithin input
+    (input more written unwritten : List ℕ) × ReadsAndWrites unread rest (input ++ more) before after written
+    × StaysWithin input
     × (Prints gives old (whole_lines input) (written ++ unwritten) new
     ⊎ ((more ≡ []) × IsAtEnd rest × Prints gives old (lines input) (written ++ unwritten) new))
 -- each whole line before the byte that goes too far was answered
 Serves gives old new unread rest before after (Err TooManyLines) =
     (input : List ℕ) × (byte : ℕ) × (more written : List ℕ)
-    × Moves unread rest (input ++ byte ∷ more) before after written × StaysWithin input × GoesTooFar input byte
+    × ReadsAndWrites unread rest (input ++ byte ∷ more) before after written × StaysWithin input × GoesTooFar input byte
     × Prints gives old (whole_lines input) written new
 -- nothing was read or written
-Serves gives old new unread rest before after (Err Memory) = Moves unread rest [] before after [] × (new ≡ old)
-Serves gives old new unread rest before after (Err BadSizes) = Moves unread rest [] before after [] × (new ≡ old)
-Serves gives old new unread rest before after (Err BadConfig) = Moves unread rest [] before after [] × (new ≡ old)
+Serves gives old new unread rest before after (Err Memory) = ReadsAndWrites unread rest [] before after [] × (new ≡ old)
+Serves gives old new unread rest before after (Err BadSizes) =
+    ReadsAndWrites unread rest [] before after [] × (new ≡ old)
+Serves gives old new unread rest before after (Err BadConfig) =
+    ReadsAndWrites unread rest [] before after [] × (new ≡ old)
 
 -- a refusal of boot is no outcome of serving
 abbrev pub IsServed : Result Unit RunFault → Type 0

@@ -11,7 +11,8 @@ use Rattle.segment.proofs.BareActs.{AreBare, IsBare}
 use Rattle.segment.proofs.History.{get_within, length-last}
 
 -- a segment with as many links as one on an Ethernet
-not_none : (old : SegmentView) (links : List LinkState) → is_ether old ≡ true → length links ≡ length old.links → links ≡ [] → ⊥
+not_none : (old : SegmentView) (links : List LinkState) → is_ether old ≡ true → length links ≡ length old.links
+    → links ≡ [] → ⊥
 not_none old links is same none = go old.links is (sym same ∙ ap length none)
   where
     never : false ≡ true → ⊥

@@ -5,7 +5,7 @@ use Rattle.std.specs.List.{AllByRecursion as Each}
 use Rattle.rand_pcg.specs.Lcg.{Lcg}
 use Rattle.flat_model.proofs.Laws.{each-append, each-filter, each-map, each-take}
 use Rattle.segment.specs.Chances.{chances_at, copies_before, drawn, entering, fate_of, reorder_at, shuffled_from}
-use Rattle.segment.specs.Flying.{Flying, aged, is_due, is_early}
+use Rattle.segment.specs.Flying.{Flying, flying_aged, is_due, is_early}
 use Rattle.segment.specs.Segment.{SegmentView, leaving}
 use Rattle.segment.specs.declared.chances.Chances.{Chances}
 use Rattle.segment.specs.declared.chances.Fate.{Fate}
@@ -62,9 +62,9 @@ module _ (Q : List ℕ → Type 0) where
       each_shuffled v.chances (length (filter is_due v.flight) - 1) 0 (filter is_due v.flight) v.random
       (each-filter (λ (f : Flying). Q f.packet) is_due v.flight h)
 
-  pub each_stay : (fs : List Flying) → Fly fs → Fly (map aged (filter is_early fs))
+  pub each_stay : (fs : List Flying) → Fly fs → Fly (map flying_aged (filter is_early fs))
   each_stay fs h =
-      each-map (λ (f : Flying). Q f.packet) aged (λ f q. q) (filter is_early fs)
+      each-map (λ (f : Flying). Q f.packet) flying_aged (λ f q. q) (filter is_early fs)
       (each-filter (λ (f : Flying). Q f.packet) is_early fs h)
 
   -- ---- by hand

@@ -3,7 +3,7 @@ use Rattle.std.proofs.Common.{◌≡◌, ℕ, List, [], ◌∷◌, ◌++◌, tak
 use Rattle.rand_pcg.specs.Lcg.{Lcg}
 use Rattle.segment.specs.Chances.{chances_at, copies_before, entering, fate_of}
 use Rattle.segment.specs.Flying.{Flying}
-use Rattle.segment.specs.Tallies.{counts, tallied}
+use Rattle.segment.specs.Tallies.{with_tally, tallied}
 use Rattle.segment.specs.declared.tally.Tally.{Tally}
 use Rattle.segment.specs.declared.chances.Chances.{Chances}
 use Rattle.segment.specs.declared.chances.Fate.{Fate}
@@ -35,7 +35,7 @@ tallied-append : (chances : List Chances) (xs ys : List Flying) (g : Lcg) (talli
 tallied-append chances [] ys g tallies = refl
 tallied-append chances (x ∷ xs) ys g tallies =
     tallied-append chances xs ys (fate_of (chances_at chances x.sender) g).1
-    (counts x.sender (fate_of (chances_at chances x.sender) g).0 tallies)
+    (with_tally x.sender (fate_of (chances_at chances x.sender) g).0 tallies)
 
 -- these packets went under way, behind the first ones, as far as there was room
 pub record Entered (room : ℕ) (chances : List Chances) (first last : List Flying) (g h : Lcg)

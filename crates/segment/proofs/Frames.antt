@@ -6,7 +6,7 @@ use Rattle.std.proofs.lemmas.List.{append-nil, map-append, take_more}
 use Rattle.std.proofs.lemmas.List.Elements.{filter-append}
 use Rattle.rand_pcg.specs.Lcg.{Lcg}
 use Rattle.segment.specs.Chances.{chances_at, drawn, reorder_at, shuffled_from}
-use Rattle.segment.specs.Flying.{Flying, aged, is_due, is_early}
+use Rattle.segment.specs.Flying.{Flying, flying_aged, is_due, is_early}
 use Rattle.segment.specs.Inside.{flying}
 use Rattle.segment.specs.declared.chances.Chances.{Chances}
 use Rattle.segment.specs.declared.frame.Frame.{Frame}
@@ -64,7 +64,7 @@ next_frames all i frame h is =
 -- what of the first frames is due, and the others a carry older
 pub record Parted (all : List Frame) (i : ℕ) (now later : List Frame) : Type 0 where
   pub due : map flying now ≡ filter is_due (map flying (take i all))
-  pub early : map flying later ≡ map aged (filter is_early (map flying (take i all)))
+  pub early : map flying later ≡ map flying_aged (filter is_early (map flying (take i all)))
 
 pub none_parted : (all due early : List Frame) → due ≡ [] → early ≡ [] → Parted all 0 due early
 none_parted all due early d e = record { due = ap (map flying) d; early = ap (map flying) e }
@@ -85,12 +85,13 @@ module _ (all due early : List Frame) (i : ℕ) (frame : Frame) (within : i < le
       ap (filter is_due) (next_frames all i frame within is)
       ∙ filter-append is_due (map flying (take i all)) (flying frame ∷ [])
 
-  early_more : map aged (filter is_early (map flying (take (i + 1) all)))
-      ≡ map aged (filter is_early (map flying (take i all))) ++ map aged (filter is_early (flying frame ∷ []))
+  early_more : map flying_aged (filter is_early (map flying (take (i + 1) all)))
+      ≡ map flying_aged (filter is_early (map flying (take i all)))
+      ++ map flying_aged (filter is_early (flying frame ∷ []))
   early_more =
-      ap (λ fs. map aged (filter is_early fs)) (next_frames all i frame within is)
-      ∙ ap (map aged) (filter-append is_early (map flying (take i all)) (flying frame ∷ []))
-      ∙ map-append aged (filter is_early (map flying (take i all))) (filter is_early (flying frame ∷ []))
+      ap (λ fs. map flying_aged (filter is_early fs)) (next_frames all i frame within is)
+      ∙ ap (map flying_aged) (filter-append is_early (map flying (take i all)) (flying frame ∷ []))
+      ∙ map-append flying_aged (filter is_early (map flying (take i all))) (filter is_early (flying frame ∷ []))
 
   pub one_due : (frame.wait == 0) ≡ true → Parted all (i + 1) (due ++ frame ∷ []) early
   one_due e =
@@ -100,12 +101,12 @@ module _ (all due early : List Frame) (i : ℕ) (frame : Frame) (within : i < le
             map-append flying due (frame ∷ []) ∙ ap (λ fs. fs ++ flying frame ∷ []) so_far.due
             ∙ ap (λ fs. filter is_due (map flying (take i all)) ++ fs) (sym one.0) ∙ sym due_more;
         early =
-            so_far.early ∙ sym (append-nil (map aged (filter is_early (map flying (take i all)))))
-            ∙ ap (λ fs. map aged (filter is_early (map flying (take i all))) ++ map aged fs) (sym one.1)
+            so_far.early ∙ sym (append-nil (map flying_aged (filter is_early (map flying (take i all)))))
+            ∙ ap (λ fs. map flying_aged (filter is_early (map flying (take i all))) ++ map flying_aged fs) (sym one.1)
             ∙ sym early_more;
       }
 
-  pub one_early : (older : Frame) → flying older ≡ aged (flying frame) → (frame.wait == 0) ≡ false
+  pub one_early : (older : Frame) → flying older ≡ flying_aged (flying frame) → (frame.wait == 0) ≡ false
       → Parted all (i + 1) due (early ++ older ∷ [])
   one_early older aging e =
       let one = by_wait false e in
@@ -115,8 +116,8 @@ module _ (all due early : List Frame) (i : ℕ) (frame : Frame) (within : i < le
             ∙ ap (λ fs. filter is_due (map flying (take i all)) ++ fs) (sym one.0) ∙ sym due_more;
         early =
             map-append flying early (older ∷ []) ∙ ap (λ fs. fs ++ flying older ∷ []) so_far.early
-            ∙ ap (λ f. map aged (filter is_early (map flying (take i all))) ++ f ∷ []) aging
-            ∙ ap (λ fs. map aged (filter is_early (map flying (take i all))) ++ map aged fs) (sym one.1)
+            ∙ ap (λ f. map flying_aged (filter is_early (map flying (take i all))) ++ f ∷ []) aging
+            ∙ ap (λ fs. map flying_aged (filter is_early (map flying (take i all))) ++ map flying_aged fs) (sym one.1)
             ∙ sym early_more;
       }
 
@@ -127,7 +128,7 @@ module _ (all due early : List Frame) (i : ℕ) (frame : Frame) (within : i < le
       subst (λ xs. Parted all (i + 1) xs later) (sym one)
       (subst (λ ys. Parted all (i + 1) (due ++ frame ∷ []) ys) (sym same) (one_due (eq-eqb frame.wait 0 e)))
 
-  pub then_early : (now later : List Frame) (older : Frame) → frame.wait ≢ 0 → flying older ≡ aged (flying frame)
+  pub then_early : (now later : List Frame) (older : Frame) → frame.wait ≢ 0 → flying older ≡ flying_aged (flying frame)
       → later ≡ early ++ older ∷ [] → now ≡ due → Parted all (i + 1) now later
   then_early now later older e aging one same =
       subst (λ xs. Parted all (i + 1) xs later) (sym same)

@@ -9,7 +9,7 @@ use Rattle.flat_model.specs.declared.config.Config.{Config}
 use Rattle.flat_ether.specs.Links.{LinkState, ticks}
 use Rattle.flat_ether.specs.declared.link.Link.{Link}
 use Rattle.flat_ether.specs.declared.mac.Mac.{Mac}
-use Rattle.ether_host.specs.Inside.{seen}
+use Rattle.ether_host.specs.Inside.{link_seen}
 use Rattle.ether_host.specs.View.{halves}
 use Rattle.ether_host.specs.declared.layer.LinkLayer.{LinkLayer}
 use Rattle.net_stack.specs.Boots.{IsUnbooted}
@@ -72,7 +72,7 @@ sent_one sender given f = map-append _ given (f ∷ [])
 
 pub hosts_at : (stacks : List StackView) (links : List LinkLayer) (k : ℕ) (s : StackView) (l : LinkLayer)
     → slice_get stacks k ≡ Some s → slice_get links k ≡ Some l
-    → slice_get (hosts_of stacks (map seen links)) k ≡ Some (halves s (seen l))
+    → slice_get (hosts_of stacks (map link_seen links)) k ≡ Some (halves s (link_seen l))
 hosts_at [] links k s l e f = absurd (never e)
   where
     never : None ≡ Some s → ⊥
@@ -84,34 +84,34 @@ hosts_at (x ∷ stacks) [] k s l e f = absurd (never f)
 hosts_at (x ∷ stacks) (y ∷ links) zero s l e f = both x y e f
   where
     both : (a : StackView) (b : LinkLayer) → Some a ≡ Some s → Some b ≡ Some l
-        → Some (halves a (seen b)) ≡ Some (halves s (seen l))
+        → Some (halves a (link_seen b)) ≡ Some (halves s (link_seen l))
     both a b g h = cc
 hosts_at (x ∷ stacks) (y ∷ links) (suc k) s l e f = hosts_at stacks links k s l e f
 
 pub hosts_set : (stacks : List StackView) (links : List LinkLayer) (k : ℕ) (s : StackView) (l : LinkLayer)
-    → hosts_of (slice_set stacks k s) (map seen (slice_set links k l))
-    ≡ slice_set (hosts_of stacks (map seen links)) k (halves s (seen l))
+    → hosts_of (slice_set stacks k s) (map link_seen (slice_set links k l))
+    ≡ slice_set (hosts_of stacks (map link_seen links)) k (halves s (link_seen l))
 hosts_set [] links k s l = refl
 hosts_set (x ∷ stacks) [] zero s l = refl
 hosts_set (x ∷ stacks) [] (suc k) s l = refl
 hosts_set (x ∷ stacks) (y ∷ links) zero s l = refl
 hosts_set (x ∷ stacks) (y ∷ links) (suc k) s l =
-    ap (λ hs. halves x (seen y) ∷ hs) (hosts_set stacks links k s l)
+    ap (λ hs. halves x (link_seen y) ∷ hs) (hosts_set stacks links k s l)
 
 pub hosts_length : (stacks : List StackView) (links : List LinkLayer)
-    → length (hosts_of stacks (map seen links)) ≤ length links
+    → length (hosts_of stacks (map link_seen links)) ≤ length links
 hosts_length [] links = omega arith
 hosts_length (x ∷ stacks) [] = omega arith
 hosts_length (x ∷ stacks) (y ∷ links) = omega (arith, hosts_length stacks links)
 
 pub hosts_short : (stacks : List StackView) (links : List LinkLayer)
-    → length (hosts_of stacks (map seen links)) ≤ length stacks
+    → length (hosts_of stacks (map link_seen links)) ≤ length stacks
 hosts_short [] links = omega arith
 hosts_short (x ∷ stacks) [] = omega arith
 hosts_short (x ∷ stacks) (y ∷ links) = omega (arith, hosts_short stacks links)
 
 pub hosts_long : (stacks : List StackView) (links : List LinkLayer) (k : ℕ) → k < length stacks → k < length links
-    → k < length (hosts_of stacks (map seen links))
+    → k < length (hosts_of stacks (map link_seen links))
 hosts_long [] links k h g = absurd (omega arith)
 hosts_long (x ∷ stacks) [] k h g = absurd (omega arith)
 hosts_long (x ∷ stacks) (y ∷ links) zero h g = omega arith
@@ -120,11 +120,11 @@ hosts_long (x ∷ stacks) (y ∷ links) (suc k) h g = omega (arith, hosts_long s
 -- the host at a place whose stack and link are these
 pub hosts_here : (stacks : List StackView) (links : List LinkLayer) (k : ℕ) (s ds : StackView) (l dl : LinkLayer)
     (d : Host) → k < length stacks → k < length links → s ≡ get_or stacks k ds → l ≡ get_or links k dl
-    → halves s (seen l) ≡ get_or (hosts_of stacks (map seen links)) k d
+    → halves s (link_seen l) ≡ get_or (hosts_of stacks (map link_seen links)) k d
 hosts_here [] links k s ds l dl d h g e f = absurd (omega arith)
 hosts_here (x ∷ stacks) [] k s ds l dl d h g e f = absurd (omega arith)
 hosts_here (x ∷ stacks) (y ∷ links) zero s ds l dl d h g e f =
-    ap (λ (a : StackView). halves a (seen l)) e ∙ ap (λ (b : LinkLayer). halves x (seen b)) f
+    ap (λ (a : StackView). halves a (link_seen l)) e ∙ ap (λ (b : LinkLayer). halves x (link_seen b)) f
 hosts_here (x ∷ stacks) (y ∷ links) (suc k) s ds l dl d h g e f =
     hosts_here stacks links k s ds l dl d (omega arith) (omega arith) e f
 
@@ -192,7 +192,8 @@ pub hear_goes : (place : ℕ) (mac : Mac) (f : Flying) (h k u : Host) (bytes : L
     → HearEach (if_heard place mac f) h u
 hear_goes place mac f h k u bytes is same end heard =
     subst (λ (b : Bool). HearEach (cons_option (if b then Some f.packet else None) []) h u) (sym is)
-    (subst (λ (p : List ℕ). HearEach (p ∷ []) h u) same (subst (λ (x : Host). HearEach (bytes ∷ []) h x) (sym end) heard))
+    (subst (λ (p : List ℕ). HearEach (p ∷ []) h u) same
+    (subst (λ (x : Host). HearEach (bytes ∷ []) h x) (sym end) heard))
 
 pub hear_not : (place : ℕ) (mac : Mac) (f : Flying) (h k : Host) → frame_goes_to place mac f ≡ false → k ≡ h
     → HearEach (if_heard place mac f) h k
@@ -226,53 +227,58 @@ heard_counted place mac i frames frame n m goes within is before test after = go
 
 -- ---- one host of a segment
 
-pub walked_by : (R : ℕ → Host → Host → Type 0) (old : List Host) (stacks ss : List StackView) (links ls : List LinkLayer)
-    (place : ℕ) (s t : StackView) (l m : LinkLayer) → IsWalked R old (hosts_of stacks (map seen links)) place
+pub walked_by : (R : ℕ → Host → Host → Type 0) (old : List Host) (stacks ss : List StackView)
+    (links ls : List LinkLayer)
+    (place : ℕ) (s t : StackView) (l m : LinkLayer) → IsWalked R old (hosts_of stacks (map link_seen links)) place
     → place < length stacks → place < length links → s ≡ get_or stacks place s → l ≡ get_or links place l
-    → R place (halves s (seen l)) (halves t (seen m)) → ss ≡ slice_set stacks place t → ls ≡ slice_set links place m
-    → IsWalked R old (hosts_of ss (map seen ls)) (place + 1)
+    → R place (halves s (link_seen l)) (halves t (link_seen m)) → ss ≡ slice_set stacks place t
+    → ls ≡ slice_set links place m
+    → IsWalked R old (hosts_of ss (map link_seen ls)) (place + 1)
 walked_by R old stacks ss links ls place s t l m w within near is at step a b =
     subst (λ (hs : List Host). IsWalked R old hs (place + 1))
-    (sym (ap (λ (xs : List StackView). hosts_of xs (map seen ls)) a
-    ∙ ap (λ (ys : List LinkLayer). hosts_of (slice_set stacks place t) (map seen ys)) b
+    (sym (ap (λ (xs : List StackView). hosts_of xs (map link_seen ls)) a
+    ∙ ap (λ (ys : List LinkLayer). hosts_of (slice_set stacks place t) (map link_seen ys)) b
     ∙ hosts_set stacks links place t m))
-    (walk_on R old (hosts_of stacks (map seen links)) place (halves s (seen l)) (halves t (seen m)) (halves s (seen l)) w
+    (walk_on R old (hosts_of stacks (map link_seen links)) place (halves s (link_seen l)) (halves t (link_seen m))
+    (halves s (link_seen l)) w
     (hosts_long stacks links place within near)
-    (hosts_here stacks links place s s l l (halves s (seen l)) within near is at) step)
+    (hosts_here stacks links place s s l l (halves s (link_seen l)) within near is at) step)
 
 pub walked_past : (R : ℕ → Host → Host → Type 0) (old : List Host) (stacks ss : List StackView)
-    (links ls : List LinkLayer) (place : ℕ) → IsWalked R old (hosts_of stacks (map seen links)) place
-    → length stacks ≤ place → ss ≡ stacks → ls ≡ links → IsWalked R old (hosts_of ss (map seen ls)) (place + 1)
+    (links ls : List LinkLayer) (place : ℕ) → IsWalked R old (hosts_of stacks (map link_seen links)) place
+    → length stacks ≤ place → ss ≡ stacks → ls ≡ links → IsWalked R old (hosts_of ss (map link_seen ls)) (place + 1)
 walked_past R old stacks ss links ls place w past a b =
     subst (λ (hs : List Host). IsWalked R old hs (place + 1))
-    (sym (ap (λ (xs : List StackView). hosts_of xs (map seen ls)) a
-    ∙ ap (λ (ys : List LinkLayer). hosts_of stacks (map seen ys)) b))
-    (walk_none R old (hosts_of stacks (map seen links)) place w (omega (arith, hosts_short stacks links)))
+    (sym (ap (λ (xs : List StackView). hosts_of xs (map link_seen ls)) a
+    ∙ ap (λ (ys : List LinkLayer). hosts_of stacks (map link_seen ys)) b))
+    (walk_none R old (hosts_of stacks (map link_seen links)) place w (omega (arith, hosts_short stacks links)))
 
 -- what a host at one more place gives
 pub below_by : (place : ℕ) (R : ℕ → Host → Host → Type 0) (old : List Host) (stacks : List StackView)
-    (links : List LinkLayer) (s : StackView) (l : LinkLayer) → IsWalked R old (hosts_of stacks (map seen links)) place
+    (links : List LinkLayer) (s : StackView) (l : LinkLayer)
+    → IsWalked R old (hosts_of stacks (map link_seen links)) place
     → place < length stacks → place < length links → s ≡ get_or stacks place s → l ≡ get_or links place l
     → frames_below old (place + 1)
-    ≡ frames_below old place ++ sent_by place (frames_given FRAMES (halves s (seen l))).0
+    ≡ frames_below old place ++ sent_by place (frames_given FRAMES (halves s (link_seen l))).0
 below_by place R old stacks links s l w within near is at =
-    below_next place R old (hosts_of stacks (map seen links)) (halves s (seen l)) (halves s (seen l)) w
+    below_next place R old (hosts_of stacks (map link_seen links)) (halves s (link_seen l)) (halves s (link_seen l)) w
     (hosts_long stacks links place within near)
-    (hosts_here stacks links place s s l l (halves s (seen l)) within near is at)
+    (hosts_here stacks links place s s l l (halves s (link_seen l)) within near is at)
 
 pub below_past : (place : ℕ) (R : ℕ → Host → Host → Type 0) (old : List Host) (stacks : List StackView)
-    (links : List LinkLayer) → IsWalked R old (hosts_of stacks (map seen links)) place → length stacks ≤ place
+    (links : List LinkLayer) → IsWalked R old (hosts_of stacks (map link_seen links)) place → length stacks ≤ place
     → frames_below old (place + 1) ≡ frames_below old place
 below_past place R old stacks links w past =
-    below_none place R old (hosts_of stacks (map seen links)) w (omega (arith, hosts_short stacks links))
+    below_none place R old (hosts_of stacks (map link_seen links)) w (omega (arith, hosts_short stacks links))
 
 -- a link that is a tick older
 pub aged_here : (links : List LinkLayer) (place : ℕ) (l m : LinkLayer) → place < length links
-    → l ≡ get_or links place l → seen m ≡ ticks (seen l)
-    → map seen (slice_set links place m) ≡ aged_in (map seen links) place (slice_get (map seen links) place)
+    → l ≡ get_or links place l → link_seen m ≡ ticks (link_seen l)
+    → map link_seen (slice_set links place m)
+    ≡ aged_in (map link_seen links) place (slice_get (map link_seen links) place)
 aged_here links place l m within is step =
-    map_set seen links place m ∙ ap (slice_set (map seen links) place) step
-    ∙ ap (aged_in (map seen links) place) (sym (map_get seen links place l within is))
+    map_set link_seen links place m ∙ ap (slice_set (map link_seen links) place) step
+    ∙ ap (aged_in (map link_seen links) place) (sym (map_get link_seen links place l within is))
 
 pub set_back : {X : Type 0} (xs : List X) (i : ℕ) (x : X) → slice_get xs i ≡ Some x → slice_set xs i x ≡ xs
 set_back [] i x e = refl

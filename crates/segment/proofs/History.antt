@@ -9,9 +9,9 @@ use Rattle.flat_model.specs.Runs.Run.{Turn}
 use Rattle.flat_model.specs.declared.config.Config.{Config}
 use Rattle.net_stack.specs.Stack.{StackView, state_of}
 use Rattle.net_stack.specs.Runs.{AreCalls}
-use Rattle.segment.specs.Flying.{Flying, comes, gives, waiting}
-use Rattle.segment.specs.Segment.{SegmentView, AreBoth, AtEach, IsCollected, IsDelivered, IsJoined, leaving, received_in, waiting_in}
-use Rattle.segment.specs.Law.{Act, Ether, Joins, Calls, Collects, Delivers, Impairs, Seeds, Loses, Repeats, Swaps, IsCalled, AreActs, turns_in, turns_of}
+use Rattle.segment.specs.Flying.{Flying, comes, transmits_of, waiting}
+use Rattle.segment.specs.Segment.{SegmentView, AreBoth, AtEach, IsCollected, HasComeDue, IsJoined, leaving, received_in, waiting_in}
+use Rattle.segment.specs.Law.{Act, Ether, Joins, Calls, Collects, Delivers, Impairs, Seeds, Loses, Repeats, Swaps, IsHostCalled, AreActs, turns_in, turns_of}
 use Rattle.segment.proofs.BareActs.{AreBare}
 use Rattle.segment.proofs.Taking.{then_calls}
 use Rattle.segment.proofs.Walking.{below_or, get_set_same, get_set_other, get_past}
@@ -116,7 +116,7 @@ module _ (k : ℕ) (c : Config) (t : StackView) where
   on turns more (Some d) (Some s) None none h b = absurd h
   on turns more (Some d) (Some s) (Some u) none h b = (b.0, then_calls s u t more turns h b.1)
 
-  none_waits : (x : Option StackView) → x ≡ None → gives (waiting_in x) ≡ []
+  none_waits : (x : Option StackView) → x ≡ None → transmits_of (waiting_in x) ≡ []
   none_waits None e = refl
   none_waits (Some s) e = absurd (none-some _ (sym e))
 
@@ -124,8 +124,8 @@ module _ (k : ℕ) (c : Config) (t : StackView) where
   none_comes flight None e = refl
   none_comes flight (Some d) e = absurd (none-some _ (sym e))
 
-  both_give : (x y : Option StackView) → AreBoth (λ s u. AreCalls s (gives (waiting s)) u) x y
-      → AreBoth (λ s u. AreCalls s (gives (waiting_in x)) u) x y
+  both_give : (x y : Option StackView) → AreBoth (λ s u. AreCalls s (transmits_of (waiting s)) u) x y
+      → AreBoth (λ s u. AreCalls s (transmits_of (waiting_in x)) u) x y
   both_give None None h = tt
   both_give None (Some u) h = absurd h
   both_give (Some s) None h = absurd h
@@ -140,7 +140,7 @@ module _ (k : ℕ) (c : Config) (t : StackView) where
       (both_give (slice_get old.stacks k) (slice_get new.stacks k) (is.hosts k))
       (subst (λ (xs : List Config). Begins c turns t (slice_get xs k) (slice_get new.stacks k)) is.configs from)
 
-  delivers : (turns : List Turn) (old new : SegmentView) → IsDelivered old new
+  delivers : (turns : List Turn) (old new : SegmentView) → HasComeDue old new
       → Begins c turns t (slice_get new.configs k) (slice_get new.stacks k)
       → Begins c (turns_in k (Delivers old) ++ turns) t (slice_get old.configs k) (slice_get old.stacks k)
   delivers turns old new is from =
@@ -161,7 +161,7 @@ module _ (k : ℕ) (c : Config) (t : StackView) where
       subst (λ z. AreBoth (λ a b. AreCalls a more b) z y) (sym e)
       (subst (λ z. AreBoth (λ a b. AreCalls a more b) (Some s) z) (sym f) calls)
 
-  calls : (place : ℕ) (turn : Turn) (turns : List Turn) (old new : SegmentView) → IsCalled place turn old new
+  calls : (place : ℕ) (turn : Turn) (turns : List Turn) (old new : SegmentView) → IsHostCalled place turn old new
       → Begins c turns t (slice_get new.configs k) (slice_get new.stacks k)
       → Begins c (turns_in k (Calls place turn) ++ turns) t (slice_get old.configs k) (slice_get old.stacks k)
   calls place turn turns old new is from = by (eqb_tells place k)
@@ -194,7 +194,8 @@ module _ (k : ℕ) (c : Config) (t : StackView) where
       by (inr h) = go false h.0 [] (λ e. refl) (same_both _ _ (get_set_other old.stacks place k is.after h.1)) refl
 
   -- whatever was done
-  pub began : (acts : List Act) (v last : SegmentView) → AreBare acts → length v.configs ≡ length v.stacks → AreActs v acts last
+  pub began : (acts : List Act) (v last : SegmentView) → AreBare acts → length v.configs ≡ length v.stacks
+      → AreActs v acts last
       → slice_get last.configs k ≡ Some c → slice_get last.stacks k ≡ Some t
       → Begins c (turns_of k acts) t (slice_get v.configs k) (slice_get v.stacks k)
   began [] v last bare even done is_c is_t =
@@ -205,7 +206,8 @@ module _ (k : ℕ) (c : Config) (t : StackView) where
   began (Joins d ∷ acts) v last bare even (mid, j, done) is_c is_t = joined d (turns_of k acts) v mid even j
       (began acts mid last bare.1 (ap length j.configs ∙ length-last v.configs d ∙ ap (λ n. n + 1) even
       ∙ sym (ap length j.stacks ∙ length-last v.stacks j.stack)) done is_c is_t)
-  began (Calls place turn ∷ acts) v last bare even (mid, is, done) is_c is_t = calls place turn (turns_of k acts) v mid is
+  began (Calls place turn ∷ acts) v last bare even (mid, is, done) is_c is_t =
+      calls place turn (turns_of k acts) v mid is
       (began acts mid last bare.1 (ap length is.configs ∙ even
       ∙ sym (ap length is.stacks ∙ length-set v.stacks place is.after)) done is_c is_t)
   began (Collects found ∷ acts) v last bare even (mid, (found_is, is), done) is_c is_t =
@@ -213,7 +215,8 @@ module _ (k : ℕ) (c : Config) (t : StackView) where
       (slice_get v.stacks k)) (sym found_is)
       (collects (turns_of k acts) v mid is
       (began acts mid last bare.1 (ap length is.configs ∙ even
-      ∙ AtEach-length (λ place s u. AreCalls s (gives (waiting s)) u) v.stacks mid.stacks is.hosts) done is_c is_t))
+      ∙ AtEach-length (λ place s u. AreCalls s (transmits_of (waiting s)) u) v.stacks mid.stacks
+      is.hosts) done is_c is_t))
   began (Delivers found ∷ acts) v last bare even (mid, (found_is, is), done) is_c is_t =
       subst (λ (f : SegmentView). Begins c (turns_in k (Delivers f) ++ turns_of k acts) t (slice_get v.configs k)
       (slice_get v.stacks k)) (sym found_is)
@@ -223,21 +226,26 @@ module _ (k : ℕ) (c : Config) (t : StackView) where
       u) v.stacks mid.stacks is.hosts) done is_c is_t))
   began (Impairs place chances ∷ acts) v last bare even (mid, is, done) is_c is_t =
       subst (λ (w : SegmentView). Begins c (turns_of k acts) t (slice_get w.configs k) (slice_get w.stacks k)) is
-      (began acts mid last bare.1 (subst (λ (w : SegmentView). length w.configs ≡ length w.stacks) (sym is) even) done is_c
+      (began acts mid last bare.1 (subst (λ (w : SegmentView). length w.configs ≡ length w.stacks) (sym is) even) done
+      is_c
       is_t)
   began (Seeds seed ∷ acts) v last bare even (mid, is, done) is_c is_t =
       subst (λ (w : SegmentView). Begins c (turns_of k acts) t (slice_get w.configs k) (slice_get w.stacks k)) is
-      (began acts mid last bare.1 (subst (λ (w : SegmentView). length w.configs ≡ length w.stacks) (sym is) even) done is_c
+      (began acts mid last bare.1 (subst (λ (w : SegmentView). length w.configs ≡ length w.stacks) (sym is) even) done
+      is_c
       is_t)
   began (Loses at ∷ acts) v last bare even (mid, is, done) is_c is_t =
       subst (λ (w : SegmentView). Begins c (turns_of k acts) t (slice_get w.configs k) (slice_get w.stacks k)) is
-      (began acts mid last bare.1 (subst (λ (w : SegmentView). length w.configs ≡ length w.stacks) (sym is) even) done is_c
+      (began acts mid last bare.1 (subst (λ (w : SegmentView). length w.configs ≡ length w.stacks) (sym is) even) done
+      is_c
       is_t)
   began (Repeats at ∷ acts) v last bare even (mid, is, done) is_c is_t =
       subst (λ (w : SegmentView). Begins c (turns_of k acts) t (slice_get w.configs k) (slice_get w.stacks k)) is
-      (began acts mid last bare.1 (subst (λ (w : SegmentView). length w.configs ≡ length w.stacks) (sym is) even) done is_c
+      (began acts mid last bare.1 (subst (λ (w : SegmentView). length w.configs ≡ length w.stacks) (sym is) even) done
+      is_c
       is_t)
   began (Swaps at other ∷ acts) v last bare even (mid, is, done) is_c is_t =
       subst (λ (w : SegmentView). Begins c (turns_of k acts) t (slice_get w.configs k) (slice_get w.stacks k)) is
-      (began acts mid last bare.1 (subst (λ (w : SegmentView). length w.configs ≡ length w.stacks) (sym is) even) done is_c
+      (began acts mid last bare.1 (subst (λ (w : SegmentView). length w.configs ≡ length w.stacks) (sym is) even) done
+      is_c
       is_t)

@@ -11,12 +11,12 @@ use Rattle.flat_model.specs.Runs.Run.{Turn}
 use Rattle.flat_model.specs.declared.config.Config.{Config}
 use Rattle.flat_model.specs.Amounts.Weight.{Item}
 use Rattle.flat_model.proofs.Laws.{each-map_to}
-use Rattle.flat_wire.specs.Wire.{ComesFrom, source_of}
+use Rattle.flat_wire.specs.Wire.{ComesFrom, ip_source}
 use Rattle.net_stack.specs.Stack.{StackView, state_of}
 use Rattle.net_stack.specs.Runs.{AreCalls}
-use Rattle.segment.specs.Flying.{comes, gives, waiting}
+use Rattle.segment.specs.Flying.{comes, transmits_of, waiting}
 use Rattle.segment.specs.Segment.{SegmentView, AreBoth, AtEach, IsJoined, are_apart, leaving, no_hosts, received_in, waiting_in}
-use Rattle.segment.specs.Law.{Act, Ether, Joins, Calls, Collects, Delivers, Impairs, Seeds, Loses, Repeats, Swaps, IsAct, IsCalled, AreActs}
+use Rattle.segment.specs.Law.{Act, Ether, Joins, Calls, Collects, Delivers, Impairs, Seeds, Loses, Repeats, Swaps, IsAct, IsHostCalled, AreActs}
 use Rattle.segment.proofs.BareActs.{AreBare, IsBare}
 use Rattle.segment.proofs.Sources.{IsOwn, IsSourced, boot_sourced, calls_sourced}
 use Rattle.segment.proofs.Walking.{get_set_same, get_set_other}
@@ -161,7 +161,7 @@ went_on old new turns fine configs each = record {
     go k c t None e is h = absurd h
     go k c t (Some s) e is h = calls_sourced c s t (turns k s) (fine.sourced k c s is e) h
 
-called_fine : (place : ℕ) (turn : Turn) (old new : SegmentView) → AreFine old → IsCalled place turn old new
+called_fine : (place : ℕ) (turn : Turn) (old new : SegmentView) → AreFine old → IsHostCalled place turn old new
     → AreFine new
 called_fine place turn old new fine is = record {
   even = ap length is.configs ∙ fine.even ∙ sym (ap length is.stacks ∙ length-set old.stacks place is.after);
@@ -190,7 +190,8 @@ pub act_fine : (act : Act) (old new : SegmentView) → IsBare act → AreFine ol
 act_fine (Ether act) old new bare fine is = absurd bare
 act_fine (Joins d) old new bare fine is = joined_fine d old new fine is
 act_fine (Calls place turn) old new bare fine is = called_fine place turn old new fine is
-act_fine (Collects found) old new bare fine is = went_on old new (λ place s. gives (waiting s)) fine is.1.configs is.1.hosts
+act_fine (Collects found) old new bare fine is =
+    went_on old new (λ place s. transmits_of (waiting s)) fine is.1.configs is.1.hosts
 act_fine (Delivers found) old new bare fine is =
     went_on old new (λ place s. comes (received_in place (slice_get old.configs place) (leaving old).0)) fine
     is.1.configs is.1.hosts
@@ -216,7 +217,8 @@ acts_fine (act ∷ acts) v last bare fine (mid, is, done) =
     acts_fine acts mid last bare.1 (act_fine act v mid bare.0 fine is) done
 
 -- a host keeps its place and its configuration
-stays : (act : Act) (old new : SegmentView) (k : ℕ) (c : Config) → IsBare act → IsAct old act new → slice_get old.configs k ≡ Some c
+stays : (act : Act) (old new : SegmentView) (k : ℕ) (c : Config) → IsBare act → IsAct old act new
+    → slice_get old.configs k ≡ Some c
     → slice_get new.configs k ≡ Some c
 stays (Ether act) old new k c bare is e = absurd bare
 stays (Joins d) old new k c bare is e =
@@ -241,19 +243,19 @@ remains (act ∷ acts) v last k c bare (mid, is, done) e =
 -- a packet of one host doesn't bear the address of one that can be told apart
 pub not_from : (c d : Config) (bytes : List ℕ) → IsConfig c → AreApart c d → IsOwn d bytes → ¬ ComesFrom c.addr bytes
 not_from c d bytes is apart own from =
-    go (or_cases ((source_of bytes == d.addr) || (source_of bytes == d.bcast)) (source_of bytes == loopback) own)
+    go (or_cases ((ip_source bytes == d.addr) || (ip_source bytes == d.bcast)) (ip_source bytes == loopback) own)
   where
     lo : c.addr ≢ loopback
     lo e = is.addr.no_loopback (ap (λ n. n / 2 ^ 24) e)
 
-    first : ((source_of bytes == d.addr) ≡ true) ⊎ ((source_of bytes == d.bcast) ≡ true) → ⊥
-    first (inl e) = apart.addr (sym from.source ∙ eqb-true (source_of bytes) d.addr e)
-    first (inr e) = apart.bcast (sym from.source ∙ eqb-true (source_of bytes) d.bcast e)
+    first : ((ip_source bytes == d.addr) ≡ true) ⊎ ((ip_source bytes == d.bcast) ≡ true) → ⊥
+    first (inl e) = apart.addr (sym from.source ∙ eqb-true (ip_source bytes) d.addr e)
+    first (inr e) = apart.bcast (sym from.source ∙ eqb-true (ip_source bytes) d.bcast e)
 
-    go : (((source_of bytes == d.addr) || (source_of bytes == d.bcast)) ≡ true) ⊎ ((source_of bytes == loopback) ≡ true)
+    go : (((ip_source bytes == d.addr) || (ip_source bytes == d.bcast)) ≡ true) ⊎ ((ip_source bytes == loopback) ≡ true)
         → ⊥
-    go (inl e) = first (or_cases (source_of bytes == d.addr) (source_of bytes == d.bcast) e)
-    go (inr e) = lo (sym from.source ∙ eqb-true (source_of bytes) loopback e)
+    go (inl e) = first (or_cases (ip_source bytes == d.addr) (ip_source bytes == d.bcast) e)
+    go (inr e) = lo (sym from.source ∙ eqb-true (ip_source bytes) loopback e)
 
 -- what waits at a host that can be told apart doesn't
 pub none_from : (c : Config) (v : SegmentView) (k : ℕ)

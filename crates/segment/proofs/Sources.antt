@@ -4,7 +4,7 @@ use Rattle.std.specs.Prelude.{◌==◌, ◌||◌, unwrap_or}
 use Rattle.std.specs.List.{AllByRecursion as Each}
 use Rattle.params.specs.declared.TheConstants.{OUTPUT_QUEUE_PACKETS}
 use Rattle.flat_model.specs.Amounts.Weight.{Weight, Item, ◌⊕◌, nothing}
-use Rattle.flat_model.specs.Amounts.Layout.{Entry, Need, sent, wire, laid_on, weight_of}
+use Rattle.flat_model.specs.Amounts.Layout.{LayoutEntry, Need, sent, wire, laid_on, weight_of}
 use Rattle.flat_model.specs.Fragments.Cuts.{Part}
 use Rattle.flat_model.specs.Fragments.Overlay.{Map, Fragment}
 use Rattle.flat_model.specs.Fragments.Whole.{bytes_below}
@@ -25,7 +25,7 @@ use Rattle.flat_model.specs.Runs.Consistent.{IsConsistent, IsSocket}
 use Rattle.flat_model.specs.declared.address.Addr.{Addr}
 use Rattle.flat_model.specs.declared.config.Config.{Config}
 use Rattle.flat_model.proofs.Laws.{by_choice, by_case, each-append, each-find, each-take, boot_is_consistent, step_is_consistent}
-use Rattle.flat_wire.specs.Wire.{source_of}
+use Rattle.flat_wire.specs.Wire.{ip_source}
 use Rattle.net_stack.specs.Stack.{StackView, state_of}
 use Rattle.net_stack.specs.Runs.{AreCalls}
 
@@ -167,7 +167,7 @@ module _ (c : Config) (out : List Item) where
 
 -- the packet's source is one of the host's addresses
 abbrev pub IsOwn : Config → List ℕ → Type 0
-IsOwn c bytes = is_ours c (source_of bytes) ≡ true
+IsOwn c bytes = is_ours c (ip_source bytes) ≡ true
 
 four : (n : ℕ) → 65536 * (256 * (n / 65536 / 256) + n / 65536 % 256) + (256 * (n % 65536 / 256) + n % 65536 % 256) ≡ n
 four n = omega arith
@@ -202,7 +202,8 @@ own_source c me to is = go me.local refl
     go (Some ip) h = is.local ip h
     go None h = default (to == loopback)
 
-own_items : (c : Config) (entries : List Entry) (f : Part → List ℕ) (parts : List Part) → ((p : Part) → IsOwn c (f p))
+own_items : (c : Config) (entries : List LayoutEntry) (f : Part → List ℕ) (parts : List Part)
+    → ((p : Part) → IsOwn c (f p))
     → Each {X = Item} (λ item. IsOwn c item.bytes) (items entries f parts)
 own_items c entries f [] own = tt
 own_items c entries f (p ∷ later) own = (own p, go later)

@@ -5,7 +5,7 @@ use Rattle.std.specs.List.{AllByRecursion as Each, cons_option}
 use Rattle.std.proofs.lemmas.List.{length-append, map-append, take_more}
 use Rattle.std.proofs.lemmas.List.Elements.{All-from_recursion, filter_map-append}
 use Rattle.flat_model.specs.declared.config.Config.{Config}
-use Rattle.segment.specs.Flying.{Flying, gives, comes, received, sent_by, goes_to}
+use Rattle.segment.specs.Flying.{Flying, transmits_of, comes, received, sent_by, goes_to}
 use Rattle.segment.specs.Inside.{flying}
 use Rattle.segment.specs.declared.frame.Frame.{Frame}
 use Rattle.flat_model.specs.Amounts.Weight.{Item}
@@ -60,12 +60,12 @@ take_again (suc n) [] ys = refl
 take_again (suc n) (x ∷ xs) ys = ap (λ zs. x ∷ zs) (take_again n xs ys)
 
 -- one more packet was taken
-pub more_calls : (a s t : StackView) (packets : List (List ℕ)) (i : ℕ) → AreCalls a (gives (take i packets)) s
-    → AreCalls s (gives (take 1 (drop i packets))) t
-    → AreCalls a (gives (take (suc i) packets)) t
+pub more_calls : (a s t : StackView) (packets : List (List ℕ)) (i : ℕ) → AreCalls a (transmits_of (take i packets)) s
+    → AreCalls s (transmits_of (take 1 (drop i packets))) t
+    → AreCalls a (transmits_of (take (suc i) packets)) t
 more_calls a s t packets i before one = subst (λ (turns : List Turn). AreCalls a turns t)
-    (sym (ap gives (take_next i packets) ∙ map-append _ (take i packets) (take 1 (drop i packets))))
-    (then_calls a s t (gives (take i packets)) (gives (take 1 (drop i packets))) before one)
+    (sym (ap transmits_of (take_next i packets) ∙ map-append _ (take i packets) (take 1 (drop i packets))))
+    (then_calls a s t (transmits_of (take i packets)) (transmits_of (take 1 (drop i packets))) before one)
 
 -- one more packet of those that wait
 pub sent_next : (sender i : ℕ) (packets : List (List ℕ))

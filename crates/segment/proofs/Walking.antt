@@ -63,7 +63,8 @@ walk_on R old now place s t d w within is step =
     by : (k : ℕ) → k < place + 1 → (k < place) ⊎ (place ≤ k)
         → AreBoth (R k) (slice_get old k) (slice_get (slice_set now place t) k)
     by k within' (inl h) =
-        subst (λ x. AreBoth (R k) (slice_get old k) x) (sym (get_set_other now place k t (λ e. omega arith))) (w.done k h)
+        subst (λ x. AreBoth (R k) (slice_get old k) x) (sym (get_set_other now place k t (λ e. omega arith)))
+        (w.done k h)
     by k within' (inr h) = let e : place ≡ k = omega arith in
         subst (λ j. AreBoth (R j) (slice_get old j) (slice_get (slice_set now place t) j)) e here
 

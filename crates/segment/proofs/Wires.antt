@@ -10,7 +10,7 @@ use Rattle.flat_model.specs.declared.config.Config.{Config}
 use Rattle.flat_model.proofs.Laws.{each-append, each-map_to, each-take, each-weaker}
 use Rattle.flat_wire.specs.Wire.{ComesFrom, packet_in, packet_out}
 use Rattle.net_stack.specs.Stack.{StackView}
-use Rattle.segment.specs.Flying.{Flying, comes, gives, goes_to, received, sent_by}
+use Rattle.segment.specs.Flying.{Flying, comes, transmits_of, goes_to, received, sent_by}
 use Rattle.segment.specs.Segment.{SegmentView, IsCollected, collected, given_below, leaving, received_in, waiting_in}
 use Rattle.segment.proofs.BareActs.{AreBare}
 use Rattle.segment.proofs.Choosing.{each_entering, each_leaving, each_lost, each_repeated, each_stay, each_swapped}
@@ -35,11 +35,11 @@ contains_each (x ∷ xs) ys =
     ((0, omega arith, refl), each-weaker (λ y h. (suc h.0, omega (arith, h.1), h.2)) xs (contains_each xs ys))
 
 -- what gives gives out, and nothing comes by it; what comes comes
-out_gives : (packets : List (List ℕ)) → out (gives packets) ≡ packets
+out_gives : (packets : List (List ℕ)) → out (transmits_of packets) ≡ packets
 out_gives [] = refl
 out_gives (p ∷ packets) = ap (λ ps. p ∷ ps) (out_gives packets)
 
-into_gives : (packets : List (List ℕ)) → into (gives packets) ≡ []
+into_gives : (packets : List (List ℕ)) → into (transmits_of packets) ≡ []
 into_gives [] = refl
 into_gives (p ∷ packets) = into_gives packets
 
@@ -105,7 +105,7 @@ module _ (i j a : ℕ) (G : List ℕ → Type 0) where
       → Each P (into (turns_in j (Collects v) ++ rest))
   each_collected v rest later =
       let front = waiting_in (slice_get v.stacks j) in
-      subst (Each P) (sym (filter_map-append packet_in (gives front) rest
+      subst (Each P) (sym (filter_map-append packet_in (transmits_of front) rest
       ∙ ap (λ ps. ps ++ into rest) (into_gives front))) later
 
   -- what is under way after it
@@ -140,7 +140,7 @@ module _ (i j a : ℕ) (G : List ℕ → Type 0) where
   given_up v acts up =
       let w = waiting_in (slice_get v.stacks i) in
       let is : out (turns_of i (Collects v ∷ acts)) ≡ w ++ out (turns_of i acts) =
-      filter_map-append packet_out (gives w) (turns_of i acts)
+      filter_map-append packet_out (transmits_of w) (turns_of i acts)
       ∙ ap (λ ps. ps ++ out (turns_of i acts)) (out_gives w) in
       each-weaker (λ packet h. up packet (subst (λ ps. Contains ps packet) (sym is) h)) w
       (contains_each w (out (turns_of i acts)))
@@ -160,7 +160,8 @@ module _ (i j a : ℕ) (G : List ℕ → Type 0) where
         → Each (λ p. ¬ ComesFrom a p) (waiting_in (slice_get v.stacks k))
     elsewhere acts v bare fine done k other =
         subst (λ n. Each (λ p. ¬ ComesFrom n p) (waiting_in (slice_get v.stacks k))) (sym is_addr)
-        (none_from first v k (λ d e. whole.apart i k first d other first_is (remains acts v last k d bare done e)) is_config
+        (none_from first v k (λ d e. whole.apart i k first d other first_is (remains acts v last k d bare done e))
+        is_config
         fine)
 
     pub wires : (acts : List Act) (v : SegmentView) → AreBare acts → AreActs v acts last → AreFine v → Fly v.flight
@@ -173,7 +174,8 @@ module _ (i j a : ℕ) (G : List ℕ → Type 0) where
         (up_later (Joins c) acts up) outside
     wires (Calls place turn ∷ acts) v bare (mid, is, done) fine flies up outside =
         each_called place turn (turns_of j acts) (called_of j acts) outside
-        (λ later. wires acts mid bare.1 done (act_fine (Calls place turn) v mid bare.0 fine is) (subst Fly (sym is.flight) flies)
+        (λ later. wires acts mid bare.1 done (act_fine (Calls place turn) v mid bare.0 fine is)
+        (subst Fly (sym is.flight) flies)
         (up_later (Calls place turn) acts up) later)
     wires (Collects found ∷ acts) v bare (mid, (found_is, is), done) fine flies up outside =
         let given : (k : ℕ) → Each P (waiting_in (slice_get v.stacks k)) = from_senders v
@@ -181,7 +183,8 @@ module _ (i j a : ℕ) (G : List ℕ → Type 0) where
         → Contains (out (turns_of i (Collects f ∷ acts))) packet → G packet) found_is up))
         (elsewhere (Collects found ∷ acts) v bare fine (mid, (found_is, is), done)) in
         each_collected found (turns_of j acts)
-        (wires acts mid bare.1 done (act_fine (Collects found) v mid bare.0 fine (found_is, is)) (flies_on v mid is flies given)
+        (wires acts mid bare.1 done (act_fine (Collects found) v mid bare.0 fine (found_is, is))
+        (flies_on v mid is flies given)
         (up_later (Collects found) acts up) outside)
     wires (Delivers found ∷ acts) v bare (mid, (found_is, is), done) fine flies up outside =
         subst (λ (f : SegmentView). Each P (into (turns_in j (Delivers f) ++ turns_of j acts))) (sym found_is)

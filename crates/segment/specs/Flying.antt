@@ -18,8 +18,8 @@ pub record Flying : Type 0 where
 abbrev pub waits : ℕ → Flying → Flying
 waits wait f = record f { wait = wait }
 
-abbrev pub aged : Flying → Flying
-aged f = record f { wait = f.wait - 1 }
+abbrev pub flying_aged : Flying → Flying
+flying_aged f = record f { wait = f.wait - 1 }
 
 -- it's due in the next carry, or not
 abbrev pub is_due : Flying → Bool
@@ -29,17 +29,17 @@ abbrev pub is_early : Flying → Bool
 is_early f = not (f.wait == 0)
 
 -- the destination that a packet names (RFC 791, section 3.1)
-abbrev pub destination_of : List ℕ → ℕ
-destination_of packet = u32_at 16 packet
+abbrev pub ip_destination : List ℕ → ℕ
+ip_destination packet = u32_at 16 packet
 
 -- a host with these addresses is named: by its own, by the broadcast address of its network, or by 255.255.255.255
-abbrev pub is_named : Config → ℕ → Bool
-is_named c ip = (ip == c.addr) || (ip == c.bcast) || (ip == LIMITED_BROADCAST)
+abbrev pub is_destination : Config → ℕ → Bool
+is_destination c ip = (ip == c.addr) || (ip == c.bcast) || (ip == LIMITED_BROADCAST)
 
 -- a packet goes to the host at this place: another has sent it, and its header names the host
 abbrev pub goes_to : ℕ → Config → Flying → Bool
 goes_to place c f =
-    not (f.sender == place) && (nat_le IP_HEADER (length f.packet) && is_named c (destination_of f.packet))
+    not (f.sender == place) && (nat_le IP_HEADER (length f.packet) && is_destination c (ip_destination f.packet))
 
 -- the packets that come to the host at this place, in their order
 abbrev pub received : ℕ → Config → List Flying → List (List ℕ)
@@ -50,8 +50,8 @@ abbrev pub waiting : StackView → List (List ℕ)
 waiting s = map (λ (item : Item). item.bytes) (state_of s).output
 
 -- the turns by which the link takes these packets, and those by which these packets come
-abbrev pub gives : List (List ℕ) → List Turn
-gives packets = map (λ (packet : List ℕ). record { event = Transmit; reply = Given (Some packet) }) packets
+abbrev pub transmits_of : List (List ℕ) → List Turn
+transmits_of packets = map (λ (packet : List ℕ). record { event = Transmit; reply = Given (Some packet) }) packets
 
 abbrev pub comes : List (List ℕ) → List Turn
 comes packets = map (λ (packet : List ℕ). record { event = Comes packet; reply = Done }) packets

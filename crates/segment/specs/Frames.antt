@@ -17,7 +17,7 @@ use Rattle.net_stack.specs.Boots.{IsUnbooted}
 use Rattle.net_stack.specs.Stack.{StackView, state_of}
 use Rattle.net_stack.specs.declared.stack.BootFault.TheVariants.{Memory}
 use Rattle.segment.specs.Chances.{entering, no_chances}
-use Rattle.segment.specs.Flying.{Flying, aged, is_early, sent_by}
+use Rattle.segment.specs.Flying.{Flying, flying_aged, is_early, sent_by}
 use Rattle.segment.specs.Segment.{SegmentView, AtEach, are_apart, leaving}
 use Rattle.segment.specs.Tallies.{hears, nothing_counted, tallied}
 use Rattle.segment.specs.declared.links.TheConstants.{FRAMES}
@@ -98,7 +98,7 @@ pub record AreFramesDelivered (old new : SegmentView) : Type 0 where
   pub room : new.room ≡ old.room
   pub chances : new.chances ≡ old.chances
   pub links : length new.links ≡ length old.links
-  pub flight : new.flight ≡ map aged (filter is_early old.flight)
+  pub flight : new.flight ≡ map flying_aged (filter is_early old.flight)
   pub random : new.random ≡ (leaving old).1
   pub tallies : AtEach (λ place t u. u
       ≡ hears (length (frames_in place (slice_get old.links place) (leaving old).0)) t) old.tallies new.tallies

@@ -2,7 +2,7 @@
 use Rattle.std.specs.Prelude.{ℕ, List, ◌++◌, map, take, vec_capacity, Option}
 use Rattle.std.specs.Borrow.{LendsIf, MutBor, Fml}
 use Rattle.std.specs.Vec.{with_item}
-use Rattle.ether_host.specs.Inside.{seen}
+use Rattle.ether_host.specs.Inside.{link_seen}
 use Rattle.net_stack.specs.Stack.{StackView}
 use Rattle.net_stack.specs.contracts.stack.Stack.{the_row as stack_row}
 use Rattle.segment.specs.contracts.segment.Segment.{the_row}
@@ -26,8 +26,8 @@ abbrev pub under_way : Flight → List Flying
 under_way f = map flying f.frames.items
 
 -- what is under way once these packets went on the wire, as far as there is room; the generator and the counts then
-abbrev pub behind : Flight → Impairment → List Flying → List Flying
-behind f i fs = take (vec_capacity f.frames) (under_way f ++ (entering i.chances.items fs i.random).0)
+abbrev pub sent_behind : Flight → Impairment → List Flying → List Flying
+sent_behind f i fs = take (vec_capacity f.frames) (under_way f ++ (entering i.chances.items fs i.random).0)
 
 abbrev pub random_after : Impairment → List Flying → Lcg
 random_after i fs = (entering i.chances.items fs i.random).1
@@ -40,7 +40,7 @@ abbrev pub view : Segment → SegmentView
 view s = record {
   configs = s.configs.items;
   stacks = s.stacks.items;
-  links = map seen s.links.items;
+  links = map link_seen s.links.items;
   flight = under_way s.flight;
   room = vec_capacity s.flight.frames;
   chances = s.impairment.chances.items;

@@ -10,11 +10,11 @@ use Rattle.net_stack.specs.Runs.{AreCalls}
 use Rattle.flat_model.specs.declared.errno.Errno.{Errno}
 use Rattle.flat_ether.specs.declared.error.NetFault.{NetFault}
 use Rattle.flat_ether.specs.declared.link.Link.{Link}
-use Rattle.segment.specs.Flying.{comes, gives}
+use Rattle.segment.specs.Flying.{comes, transmits_of}
 use Rattle.segment.specs.Frames.{AreFramesCollected, AreFramesDelivered, IsAskedError, IsEtherJoined, IsHeard, link_aged}
 use Rattle.segment.specs.Chances.{seeded}
 use Rattle.segment.specs.declared.chances.Chances.{Chances}
-use Rattle.segment.specs.Segment.{SegmentView, is_ether, IsCollected, IsDelivered, IsJoined, leaving, lost_at, no_hosts, repeated_at, swapped_at, received_in, waiting_in}
+use Rattle.segment.specs.Segment.{SegmentView, is_ether, IsCollected, HasComeDue, IsJoined, leaving, lost_at, no_hosts, repeated_at, swapped_at, received_in, waiting_in}
 
 -- What was done by hosts on an Ethernet: one joined; their frames were collected, or delivered; a frame came to the
 -- host at a place from outside; it was asked for an error of a socket; or its link is a tick older.
@@ -51,7 +51,7 @@ pub data Act : Type 0 where
   Swaps : (place other : ℕ) → Act
 
 -- a call on the stack of the host at a place
-pub record IsCalled (place : ℕ) (turn : Turn) (old new : SegmentView) : Type 0 where
+pub record IsHostCalled (place : ℕ) (turn : Turn) (old new : SegmentView) : Type 0 where
   pub before : StackView
   pub after : StackView
   pub here : slice_get old.stacks place ≡ Some before
@@ -68,9 +68,9 @@ pub record IsCalled (place : ℕ) (turn : Turn) (old new : SegmentView) : Type 0
 abbrev pub IsAct : SegmentView → Act → SegmentView → Type 0
 IsAct old (Ether act) new = IsEtherAct old act new
 IsAct old (Joins config) new = IsJoined config old new
-IsAct old (Calls place turn) new = IsCalled place turn old new
+IsAct old (Calls place turn) new = IsHostCalled place turn old new
 IsAct old (Collects found) new = (found ≡ old) × IsCollected old new
-IsAct old (Delivers found) new = (found ≡ old) × IsDelivered old new
+IsAct old (Delivers found) new = (found ≡ old) × HasComeDue old new
 IsAct old (Impairs place chances) new = new ≡ record old { chances = slice_set old.chances place chances }
 IsAct old (Seeds seed) new = new ≡ record old { random = seeded seed }
 IsAct old (Loses place) new = new ≡ lost_at place old
@@ -87,7 +87,7 @@ abbrev pub turns_in : ℕ → Act → List Turn
 turns_in place (Ether act) = []
 turns_in place (Joins config) = []
 turns_in place (Calls other turn) = if other == place then turn ∷ [] else []
-turns_in place (Collects v) = gives (waiting_in (slice_get v.stacks place))
+turns_in place (Collects v) = transmits_of (waiting_in (slice_get v.stacks place))
 turns_in place (Delivers v) = comes (received_in place (slice_get v.configs place) (leaving v).0)
 turns_in place (Impairs other chances) = []
 turns_in place (Seeds seed) = []

@@ -13,7 +13,7 @@ use Rattle.segment.specs.declared.segment.JoinFault.{JoinFault}
 use Rattle.segment.specs.declared.segment.JoinFault.TheVariants.{TooManyHosts, AddressTaken, Unbooted, OtherLink, MacTaken, BadLink}
 use Rattle.rand_pcg.specs.Lcg.{Lcg}
 use Rattle.segment.specs.declared.chances.Chances.{Chances}
-use Rattle.segment.specs.Flying.{Flying, aged, comes, gives, is_due, is_early, received, sent_by, waiting}
+use Rattle.segment.specs.Flying.{Flying, flying_aged, comes, transmits_of, is_due, is_early, received, sent_by, waiting}
 use Rattle.segment.specs.declared.tally.Tally.{Tally}
 use Rattle.segment.specs.Tallies.{hears, nothing_counted, tallied}
 use Rattle.segment.specs.Chances.{entering, no_chances, seeded, shuffled}
@@ -90,15 +90,15 @@ pub record IsCollected (old new : SegmentView) : Type 0 where
   pub flight : new.flight ≡ take old.room (old.flight ++ (collected old).0)
   pub random : new.random ≡ (collected old).1
   pub tallies : new.tallies ≡ tallied old.chances (given_below old.stacks (length old.stacks)) old.random old.tallies
-  pub hosts : AtEach (λ place s t. AreCalls s (gives (waiting s)) t) old.stacks new.stacks
+  pub hosts : AtEach (λ place s t. AreCalls s (transmits_of (waiting s)) t) old.stacks new.stacks
 
 -- What was due came, and the rest is a carry older.
-pub record IsDelivered (old new : SegmentView) : Type 0 where
+pub record HasComeDue (old new : SegmentView) : Type 0 where
   pub configs : new.configs ≡ old.configs
   pub room : new.room ≡ old.room
   pub links : new.links ≡ old.links
   pub chances : new.chances ≡ old.chances
-  pub flight : new.flight ≡ map aged (filter is_early old.flight)
+  pub flight : new.flight ≡ map flying_aged (filter is_early old.flight)
   pub random : new.random ≡ (leaving old).1
   pub tallies : AtEach (λ place t u. u
       ≡ hears (length (received_in place (slice_get old.configs place) (leaving old).0)) t) old.tallies new.tallies
@@ -107,21 +107,21 @@ pub record IsDelivered (old new : SegmentView) : Type 0 where
 
 -- a carry is both
 abbrev pub IsCarried : SegmentView → SegmentView → Type 0
-IsCarried old new = (mid : SegmentView) × IsCollected old mid × IsDelivered mid new
+IsCarried old new = (mid : SegmentView) × IsCollected old mid × HasComeDue mid new
 
 -- nothing waits for its link
 abbrev pub is_silent : StackView → Bool
 is_silent s = length (state_of s).output == 0
 
 -- nothing is under way, and nothing waits for a link
-abbrev pub is_quiet : SegmentView → Bool
-is_quiet v = (length v.flight == 0) && list_all is_silent v.stacks
+abbrev pub is_quiet_segment : SegmentView → Bool
+is_quiet_segment v = (length v.flight == 0) && list_all is_silent v.stacks
 
 -- carries, one after another, as long as something is left, and at most so many
 abbrev pub AreCarried : ℕ → SegmentView → SegmentView → Type 0
 AreCarried zero old new = new ≡ old
 AreCarried (suc n) old new =
-    Choice (is_quiet old) (new ≡ old) ((mid : SegmentView) × IsCarried old mid × AreCarried n mid new)
+    Choice (is_quiet_segment old) (new ≡ old) ((mid : SegmentView) × IsCarried old mid × AreCarried n mid new)
 
 -- ---- by hand
 
@@ -169,12 +169,12 @@ abbrev pub IsBarePlace : SegmentView → Type 0
 IsBarePlace v = (length v.stacks < 64) × (is_ether v ≡ false)
 
 -- why a host doesn't join, the first that is true
-abbrev pub IsRefused : SegmentView → Config → JoinFault → Type 0
-IsRefused v config TooManyHosts = 64 ≤ length v.stacks
-IsRefused v config OtherLink = (length v.stacks < 64) × (is_ether v ≡ true)
-IsRefused v config BadLink = ⊥
-IsRefused v config MacTaken = ⊥
-IsRefused v config AddressTaken = IsBarePlace v × (list_all (are_apart config) v.configs ≡ false)
-IsRefused v config (Unbooted Memory) = IsBarePlace v × (list_all (are_apart config) v.configs ≡ true)
-IsRefused v config (Unbooted fault) =
+abbrev pub IsJoinRefused : SegmentView → Config → JoinFault → Type 0
+IsJoinRefused v config TooManyHosts = 64 ≤ length v.stacks
+IsJoinRefused v config OtherLink = (length v.stacks < 64) × (is_ether v ≡ true)
+IsJoinRefused v config BadLink = ⊥
+IsJoinRefused v config MacTaken = ⊥
+IsJoinRefused v config AddressTaken = IsBarePlace v × (list_all (are_apart config) v.configs ≡ false)
+IsJoinRefused v config (Unbooted Memory) = IsBarePlace v × (list_all (are_apart config) v.configs ≡ true)
+IsJoinRefused v config (Unbooted fault) =
     IsBarePlace v × (list_all (are_apart config) v.configs ≡ true) × IsUnbooted config fault

@@ -14,10 +14,10 @@ abbrev pub nothing_counted : Tally
 nothing_counted = record { sent = 0; lost = 0; repeated = 0; received = 0 }
 
 -- one more packet went on the wire, with this fate
-abbrev pub counted : Fate → Tally → Tally
-counted Lost t = record t { sent = more_by 1 t.sent; lost = more_by 1 t.lost }
-counted (Once wait) t = record t { sent = more_by 1 t.sent }
-counted (Twice first second) t = record t { sent = more_by 1 t.sent; repeated = more_by 1 t.repeated }
+abbrev pub tally_counted : Fate → Tally → Tally
+tally_counted Lost t = record t { sent = more_by 1 t.sent; lost = more_by 1 t.lost }
+tally_counted (Once wait) t = record t { sent = more_by 1 t.sent }
+tally_counted (Twice first second) t = record t { sent = more_by 1 t.sent; repeated = more_by 1 t.repeated }
 
 -- so many packets came
 abbrev pub hears : ℕ → Tally → Tally
@@ -26,15 +26,15 @@ hears packets t = record t { received = more_by packets t.received }
 -- with the count at a place changed so, if there is one
 abbrev pub set_if : List Tally → ℕ → Fate → Option Tally → List Tally
 set_if tallies place fate None = tallies
-set_if tallies place fate (Some t) = slice_set tallies place (counted fate t)
+set_if tallies place fate (Some t) = slice_set tallies place (tally_counted fate t)
 
 -- a packet of the host at a place is counted
-abbrev pub counts : ℕ → Fate → List Tally → List Tally
-counts place fate tallies = set_if tallies place fate (slice_get tallies place)
+abbrev pub with_tally : ℕ → Fate → List Tally → List Tally
+with_tally place fate tallies = set_if tallies place fate (slice_get tallies place)
 
 -- these packets are, one after another
 abbrev pub tallied : List Chances → List Flying → Lcg → List Tally → List Tally
 tallied chances [] g tallies = tallies
 tallied chances (f ∷ fs) g tallies =
     let fate = fate_of (chances_at chances f.sender) g in
-    tallied chances fs fate.1 (counts f.sender fate.0 tallies)
+    tallied chances fs fate.1 (with_tally f.sender fate.0 tallies)

@@ -2,9 +2,9 @@
 ghost use Rattle.std.specs.Prelude.{◌≡◌, ◌-◌, ◌++◌, [], length, map, slice_get, take, vec_capacity};
 ghost use Rattle.std.specs.List.{list_all};
 ghost use Rattle.net_stack.specs.Runs.{AreCalls};
-ghost use Rattle.segment.specs.Flying.{comes, gives, waiting};
-ghost use Rattle.segment.specs.Segment.{AreCarried, AtEach, IsCarried, IsCollected, IsDelivered, given_below, is_quiet, is_silent, received_in};
-ghost use Rattle.segment.specs.Inside.{behind, flying, random_after, tallies_after, under_way, view};
+ghost use Rattle.segment.specs.Flying.{comes, transmits_of, waiting};
+ghost use Rattle.segment.specs.Segment.{AreCarried, AtEach, IsCarried, IsCollected, HasComeDue, given_below, is_quiet_segment, is_silent, received_in};
+ghost use Rattle.segment.specs.Inside.{sent_behind, flying, random_after, tallies_after, under_way, view};
 
 use crate::chances::Impairment;
 use crate::flight::Flight;
@@ -31,9 +31,9 @@ fn nothing_waits(stacks: &[Stack]) -> bool
 
 /// Each host gives all that waits for its link.
 fn collect_all(flight: &mut Flight, impairment: &mut Impairment, stacks: &mut Vec<Stack>)
-    ensures hosts { AtEach (λ place s t. AreCalls s (gives (waiting s)) t) stacks.old.items stacks.new.items }
+    ensures hosts { AtEach (λ place s t. AreCalls s (transmits_of (waiting s)) t) stacks.old.items stacks.new.items }
     ensures taken { under_way flight.new
-        ≡ behind flight.old impairment.old (given_below stacks.old.items (length stacks.old.items)) }
+        ≡ sent_behind flight.old impairment.old (given_below stacks.old.items (length stacks.old.items)) }
     ensures random { impairment.new.random
         ≡ random_after impairment.old (given_below stacks.old.items (length stacks.old.items)) }
     ensures tallies { impairment.new.tallies.items
@@ -73,7 +73,7 @@ impl Segment {
     /// Before that it's drawn for each but the last, from the first on, whether it changes places with the one after
     /// it. What isn't due yet is a carry nearer then.
     pub fn deliver(&mut self)
-        ensures { IsDelivered (view self.old) (view self.new) }
+        ensures { HasComeDue (view self.old) (view self.new) }
     {
         let flight = &mut self.flight;
         flight.leave();
@@ -100,7 +100,7 @@ impl Segment {
 
     /// Whether nothing is under way, and nothing waits for a link.
     pub fn is_quiet(&self) -> bool
-        ensures { result ≡ is_quiet (view self.now) }
+        ensures { result ≡ is_quiet_segment (view self.now) }
     {
         self.flight.frames.is_empty() && nothing_waits(self.stacks.as_slice())
     }
@@ -109,7 +109,7 @@ impl Segment {
     /// left.
     pub fn carry_all(&mut self, most: u32) -> bool
         ensures carried { AreCarried most (view self.old) (view self.new) }
-        ensures quiet { result ≡ is_quiet (view self.new) }
+        ensures quiet { result ≡ is_quiet_segment (view self.new) }
     {
         for _ in 0..most {
             if self.is_quiet() {

@@ -1,7 +1,7 @@
 //! What becomes of a packet as it goes on the wire, by chances and the numbers of a generator.
 ghost use Rattle.std.specs.Prelude.{◌≡◌, map, nat_lt, vec_capacity};
 ghost use Rattle.segment.specs.Chances.{chances_at, drawn, fate_of, seeded, shuffled, wait_of};
-ghost use Rattle.segment.specs.Tallies.{counts};
+ghost use Rattle.segment.specs.Tallies.{with_tally};
 ghost use Rattle.segment.specs.Inside.{flying};
 
 use crate::frame::Frame;
@@ -122,7 +122,7 @@ impl Impairment {
         ensures value { result ≡ (fate_of (chances_at self.old.chances.items sender) self.old.random).0 }
         ensures after { self.new.random ≡ (fate_of (chances_at self.old.chances.items sender) self.old.random).1 }
         ensures chances { self.new.chances ≡ self.old.chances }
-        ensures tallies { self.new.tallies.items ≡ counts sender result self.old.tallies.items }
+        ensures tallies { self.new.tallies.items ≡ with_tally sender result self.old.tallies.items }
     {
         let fate = self.chances_at(sender).fate(&mut self.random);
         count(&mut self.tallies, sender, fate);

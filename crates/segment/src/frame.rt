@@ -5,7 +5,7 @@ ghost use Rattle.net_stack.specs.Runs.{AreCalls};
 ghost use Rattle.flat_ether.specs.Frames.{is_heard, mac_at};
 ghost use Rattle.flat_ether.specs.declared.sizes.TheConstants.{ETHER_HEADER};
 ghost use Rattle.segment.specs.Frames.{frame_goes_to};
-ghost use Rattle.segment.specs.Flying.{destination_of, gives, goes_to, is_named, waiting};
+ghost use Rattle.segment.specs.Flying.{ip_destination, transmits_of, goes_to, is_destination, waiting};
 
 use byteorder::{BigEndian, ByteOrder};
 use flat_ether::{ETHER_BROADCAST, ETHER_HEADER, Mac};
@@ -54,7 +54,7 @@ impl Frame {
     /// Takes the packet that has waited longest for the link of this host. One has to wait.
     pub(crate) fn fill(&mut self, sender: usize, stack: &mut Stack)
         requires { 0 < length (waiting stack.old) }
-        ensures calls { AreCalls stack.old (gives (take self.new.len self.new.room ∷ [])) stack.new }
+        ensures calls { AreCalls stack.old (transmits_of (take self.new.len self.new.room ∷ [])) stack.new }
         ensures waits { waiting stack.old ≡ take self.new.len self.new.room ∷ waiting stack.new }
         ensures sender { self.new.sender ≡ sender }
     {
@@ -108,14 +108,14 @@ fn is_heard(mac: Mac, frame: &[u8]) -> bool
 /// The destination that a packet's header names.
 fn destination_of(packet: &[u8]) -> u32
     requires { IP_HEADER ≤ length packet.now }
-    ensures { result ≡ destination_of packet.now }
+    ensures { result ≡ ip_destination packet.now }
 {
     BigEndian::read_u32(&packet[16..])
 }
 
 /// Whether an address names a host with this configuration.
 fn is_named(config: &Config, ip: u32) -> bool
-    ensures { result ≡ is_named config.now ip }
+    ensures { result ≡ is_destination config.now ip }
 {
     ip == config.addr || ip == config.bcast || ip == LIMITED_BROADCAST
 }

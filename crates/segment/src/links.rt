@@ -1,13 +1,13 @@
 //! Hosts on an Ethernet: what their links give goes under way in frames, and frames come to them.
 ghost use Rattle.std.specs.Prelude.{◌≡◌, ◌≤◌, ◌==◌, ◌∷◌, [], not, if◌then◌else◌, take, Some, None, map, slice_get, vec_capacity, length};
 ghost use Rattle.params.specs.declared.TheConstants.{MAX_MTU};
-ghost use Rattle.ether_host.specs.Inside.{seen};
+ghost use Rattle.ether_host.specs.Inside.{link_seen};
 ghost use Rattle.ether_host.specs.View.{halves};
 ghost use Rattle.segment.specs.Flying.{sent_by};
 ghost use Rattle.segment.specs.Frames.{AreFramesCollected, AreFramesDelivered, HearEach, frames_below, frames_given, frames_in, frames_to, gives_short, hosts_of};
 ghost use Rattle.segment.specs.Segment.{AtEach};
 ghost use Rattle.segment.specs.Tallies.{hears};
-ghost use Rattle.segment.specs.Inside.{behind, flying, random_after, tallies_after, under_way, view};
+ghost use Rattle.segment.specs.Inside.{sent_behind, flying, random_after, tallies_after, under_way, view};
 
 use crate::chances::Impairment;
 use crate::flight::Flight;
@@ -24,9 +24,12 @@ pub const FRAMES: u32 = 256;
 impl Frame {
     /// Takes the next frame of this host. Whether it has one.
     pub(crate) fn give(&mut self, sender: usize, stack: &mut Stack, link: &mut LinkLayer) -> bool
-        ensures step {
-            (if result then Some (take self.new.len self.new.room) else None, halves stack.new (seen link.new))
-            ≡ gives_short (halves stack.old (seen link.old)) }
+        ensures step { (
+          if result then Some (take self.new.len self.new.room) else None,
+          halves stack.new
+              (link_seen link.new),
+        )
+            ≡ gives_short (halves stack.old (link_seen link.old)) }
         ensures sender { self.new.sender ≡ sender }
         ensures wait { self.new.wait ≡ 0 }
     {
@@ -47,7 +50,7 @@ impl Frame {
 
 /// The frame in hand goes under way as its fate wants it. If it finds no room, it's lost.
 fn send(flight: &mut Flight, impairment: &mut Impairment)
-    ensures taken { under_way flight.new ≡ behind flight.old impairment.old (flying flight.old.hand ∷ []) }
+    ensures taken { under_way flight.new ≡ sent_behind flight.old impairment.old (flying flight.old.hand ∷ []) }
     ensures random { impairment.new.random ≡ random_after impairment.old (flying flight.old.hand ∷ []) }
     ensures tallies { impairment.new.tallies.items ≡ tallies_after impairment.old (flying flight.old.hand ∷ []) }
     ensures chances { impairment.new.chances ≡ impairment.old.chances }
@@ -65,14 +68,14 @@ fn take_frames(
     stack: &mut Stack,
     link: &mut LinkLayer,
 )
-    ensures host { halves stack.new (seen link.new)
-        ≡ (frames_given FRAMES (halves stack.old (seen link.old))).1 }
-    ensures taken { under_way flight.new ≡ behind flight.old impairment.old
-        (sent_by sender (frames_given FRAMES (halves stack.old (seen link.old))).0) }
+    ensures host { halves stack.new (link_seen link.new)
+        ≡ (frames_given FRAMES (halves stack.old (link_seen link.old))).1 }
+    ensures taken { under_way flight.new ≡ sent_behind flight.old impairment.old
+        (sent_by sender (frames_given FRAMES (halves stack.old (link_seen link.old))).0) }
     ensures random { impairment.new.random ≡ random_after impairment.old
-        (sent_by sender (frames_given FRAMES (halves stack.old (seen link.old))).0) }
+        (sent_by sender (frames_given FRAMES (halves stack.old (link_seen link.old))).0) }
     ensures tallies { impairment.new.tallies.items ≡ tallies_after impairment.old
-        (sent_by sender (frames_given FRAMES (halves stack.old (seen link.old))).0) }
+        (sent_by sender (frames_given FRAMES (halves stack.old (link_seen link.old))).0) }
     ensures chances { impairment.new.chances ≡ impairment.old.chances }
     ensures room { vec_capacity flight.new.frames ≡ vec_capacity flight.old.frames }
 {
@@ -92,14 +95,14 @@ fn collect_frames(
     links: &mut Vec<LinkLayer>,
 )
     ensures hosts { AtEach (λ place h k. k ≡ (frames_given FRAMES h).1)
-        (hosts_of stacks.old.items (map seen links.old.items))
-        (hosts_of stacks.new.items (map seen links.new.items)) }
-    ensures taken { under_way flight.new ≡ behind flight.old impairment.old
-        (frames_below (hosts_of stacks.old.items (map seen links.old.items)) (length links.old.items)) }
+        (hosts_of stacks.old.items (map link_seen links.old.items))
+        (hosts_of stacks.new.items (map link_seen links.new.items)) }
+    ensures taken { under_way flight.new ≡ sent_behind flight.old impairment.old
+        (frames_below (hosts_of stacks.old.items (map link_seen links.old.items)) (length links.old.items)) }
     ensures random { impairment.new.random ≡ random_after impairment.old
-        (frames_below (hosts_of stacks.old.items (map seen links.old.items)) (length links.old.items)) }
+        (frames_below (hosts_of stacks.old.items (map link_seen links.old.items)) (length links.old.items)) }
     ensures tallies { impairment.new.tallies.items ≡ tallies_after impairment.old
-        (frames_below (hosts_of stacks.old.items (map seen links.old.items)) (length links.old.items)) }
+        (frames_below (hosts_of stacks.old.items (map link_seen links.old.items)) (length links.old.items)) }
     ensures chances { impairment.new.chances ≡ impairment.old.chances }
     ensures room { vec_capacity flight.new.frames ≡ vec_capacity flight.old.frames }
     ensures links { length links.new.items ≡ length links.old.items }
@@ -132,7 +135,7 @@ fn count_to(due: &[Frame], place: usize, mac: Mac) -> u64
 
 /// How many of these frames come to the host at a place.
 fn heard(due: &[Frame], place: usize, links: &[LinkLayer]) -> u64
-    ensures { result ≡ length (frames_in place (slice_get (map seen links.now) place) (map flying due.now)) }
+    ensures { result ≡ length (frames_in place (slice_get (map link_seen links.now) place) (map flying due.now)) }
 {
     match links.get(place) {
         Some(link) => count_to(due, place, link.link().mac),
@@ -143,7 +146,7 @@ fn heard(due: &[Frame], place: usize, links: &[LinkLayer]) -> u64
 /// Counts at each host the frames that come to it.
 fn count_frames(due: &[Frame], links: &[LinkLayer], tallies: &mut Vec<Tally>)
     ensures { AtEach (λ place t u.
-        u ≡ hears (length (frames_in place (slice_get (map seen links.now) place) (map flying due.now))) t)
+        u ≡ hears (length (frames_in place (slice_get (map link_seen links.now) place) (map flying due.now))) t)
         tallies.old.items tallies.new.items }
 {
     for place in 0..tallies.len() {
@@ -155,15 +158,16 @@ fn count_frames(due: &[Frame], links: &[LinkLayer], tallies: &mut Vec<Tally>)
 /// A frame comes to a host.
 fn hand_over(stack: &mut Stack, link: &mut LinkLayer, frame: &[u8])
     requires { length frame.now ≤ MAX_MTU }
-    ensures { HearEach (frame.now ∷ []) (halves stack.old (seen link.old)) (halves stack.new (seen link.new)) }
+    ensures { HearEach (frame.now ∷ []) (halves stack.old (link_seen link.old))
+        (halves stack.new (link_seen link.new)) }
 {
     link.receive(stack, frame);
 }
 
 /// Hands to the host at a place all of these frames that come to it.
 fn hand_frames(due: &[Frame], place: usize, stack: &mut Stack, link: &mut LinkLayer)
-    ensures { HearEach (frames_to place (seen link.old).link.mac (map flying due.now))
-        (halves stack.old (seen link.old)) (halves stack.new (seen link.new)) }
+    ensures { HearEach (frames_to place (link_seen link.old).link.mac (map flying due.now))
+        (halves stack.old (link_seen link.old)) (halves stack.new (link_seen link.new)) }
 {
     let mac = link.link().mac;
     for at in 0..due.len() {
@@ -177,8 +181,8 @@ fn hand_frames(due: &[Frame], place: usize, stack: &mut Stack, link: &mut LinkLa
 /// All frames that come to a host are handed to it.
 fn deliver_frames(due: &[Frame], stacks: &mut Vec<Stack>, links: &mut Vec<LinkLayer>)
     ensures hosts { AtEach (λ place h k. HearEach (frames_to place h.link.link.mac (map flying due.now)) h k)
-        (hosts_of stacks.old.items (map seen links.old.items))
-        (hosts_of stacks.new.items (map seen links.new.items)) }
+        (hosts_of stacks.old.items (map link_seen links.old.items))
+        (hosts_of stacks.new.items (map link_seen links.new.items)) }
     ensures links { length links.new.items ≡ length links.old.items }
 {
     for place in 0..links.len() {

@@ -1,7 +1,7 @@
 //! How packets go under way, and leave.
 ghost use Rattle.std.specs.Prelude.{◌≡◌, ◌≤◌, ◌++◌, ◌∷◌, [], filter, length, map, take, vec_capacity, vec_len};
 ghost use Rattle.segment.specs.Chances.{copies_before};
-ghost use Rattle.segment.specs.Flying.{aged, is_due, is_early, waits};
+ghost use Rattle.segment.specs.Flying.{flying_aged, is_due, is_early, waits};
 ghost use Rattle.segment.specs.Inside.{flying, under_way};
 
 use crate::chances::Fate;
@@ -16,7 +16,7 @@ fn part(all: &[Frame], due: &mut Vec<Frame>, early: &mut Vec<Frame>)
     requires room { length all.now ≤ vec_capacity due.old }
     requires early_room { length all.now ≤ vec_capacity early.old }
     ensures due { map flying due.new.items ≡ filter is_due (map flying all.now) }
-    ensures early { map flying early.new.items ≡ map aged (filter is_early (map flying all.now)) }
+    ensures early { map flying early.new.items ≡ map flying_aged (filter is_early (map flying all.now)) }
     ensures due_room { vec_capacity due.new ≡ vec_capacity due.old }
     ensures same_room { vec_capacity early.new ≡ vec_capacity early.old }
 {
@@ -64,7 +64,7 @@ impl Flight {
     /// What is due leaves, and the rest is a carry older.
     pub(crate) fn leave(&mut self)
         ensures due { map flying self.new.due.items ≡ filter is_due (under_way self.old) }
-        ensures early { under_way self.new ≡ map aged (filter is_early (under_way self.old)) }
+        ensures early { under_way self.new ≡ map flying_aged (filter is_early (under_way self.old)) }
         ensures room { vec_capacity self.new.frames ≡ vec_capacity self.old.frames }
     {
         self.due.clear();

@@ -5,7 +5,7 @@ ghost use Rattle.flat_model.specs.Amounts.Choice.{Choice};
 ghost use Rattle.params.specs.declared.TheConstants.{IP_MAX_PACKET};
 ghost use Rattle.flat_ether.specs.Claims.{address_state};
 ghost use Rattle.flat_ether.specs.declared.sizes.TheConstants.{ETHER_HEADER};
-ghost use Rattle.ether_host.specs.Inside.{seen};
+ghost use Rattle.ether_host.specs.Inside.{link_seen};
 ghost use Rattle.segment.specs.Frames.{IsAskedError, IsEtherJoined, IsEtherRefused, IsFree, IsHeard, link_aged, other_mac};
 ghost use Rattle.segment.specs.Inside.{view};
 
@@ -19,7 +19,7 @@ use std::alloc::Global;
 
 /// Whether no link has this hardware address.
 fn is_other_mac(mac: Mac, links: &[LinkLayer]) -> bool
-    ensures { result ≡ list_all (other_mac mac) (map seen links.now) }
+    ensures { result ≡ list_all (other_mac mac) (map link_seen links.now) }
 {
     let mut rest = links;
     while let [link, left @ ..] = rest {

@@ -2,7 +2,7 @@
 ghost use Rattle.std.specs.Prelude.{◌≡◌, ◌∷◌, [], ◌++◌, ◌+◌, length, nat_lt, option_map, slice_get, slice_set, IfOk, MatchResult};
 ghost use Rattle.std.specs.List.{list_all};
 ghost use Rattle.segment.specs.Chances.{seeded};
-ghost use Rattle.segment.specs.Segment.{IsJoined, IsRefused, are_apart, is_ether, no_hosts};
+ghost use Rattle.segment.specs.Segment.{IsJoined, IsJoinRefused, are_apart, is_ether, no_hosts};
 ghost use Rattle.segment.specs.Inside.{lends_stack, view, with_stack};
 ghost use Rattle.std.specs.Borrow.{sem};
 
@@ -108,7 +108,7 @@ impl Segment {
     /// broadcast address; `Unbooted` if there is no stack by this configuration, or host memory was refused.
     pub fn join(&mut self, alloc: Global, config: Config) -> Result<(), JoinFault>
         ensures { MatchResult result (λ _. IsJoined config (view self.old) (view self.new)) (λ fault.
-            IsRefused (view self.old) config fault × (view self.new ≡ view self.old)) }
+            IsJoinRefused (view self.old) config fault × (view self.new ≡ view self.old)) }
     {
         if self.stacks.len() >= MAX_HOSTS {
             return Err(JoinFault::TooManyHosts);

@@ -1,7 +1,7 @@
 //! What is counted of each host's packets.
 ghost use Rattle.std.specs.Prelude.{◌≡◌, length, map, slice_get};
 ghost use Rattle.segment.specs.Flying.{received};
-ghost use Rattle.segment.specs.Tallies.{counted, counts, hears};
+ghost use Rattle.segment.specs.Tallies.{tally_counted, with_tally, hears};
 ghost use Rattle.segment.specs.Segment.{AtEach, received_in};
 ghost use Rattle.segment.specs.Inside.{flying};
 
@@ -34,7 +34,7 @@ pub(crate) const NOTHING: Tally = Tally {
 impl Tally {
     /// One more packet went on the wire, with this fate.
     fn counted(self, fate: Fate) -> Tally
-        ensures { result ≡ counted fate self }
+        ensures { result ≡ tally_counted fate self }
     {
         let mut tally = self;
         tally.sent = tally.sent.saturating_add(1);
@@ -57,7 +57,7 @@ impl Tally {
 
 /// Counts a packet of the host at a place.
 pub(crate) fn count(tallies: &mut Vec<Tally>, sender: usize, fate: Fate)
-    ensures { tallies.new.items ≡ counts sender fate tallies.old.items }
+    ensures { tallies.new.items ≡ with_tally sender fate tallies.old.items }
 {
     if sender < tallies.len() {
         tallies[sender] = tallies[sender].counted(fate);

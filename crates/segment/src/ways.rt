@@ -2,8 +2,8 @@
 ghost use Rattle.std.specs.Prelude.{◌≡◌, ◌<◌, ◌≤◌, ◌++◌, ◌∷◌, [], drop, length, map, take, vec_capacity};
 ghost use Rattle.params.specs.declared.TheConstants.{MAX_MTU};
 ghost use Rattle.net_stack.specs.Runs.{AreCalls};
-ghost use Rattle.segment.specs.Flying.{comes, gives, received, sent_by, waiting};
-ghost use Rattle.segment.specs.Inside.{behind, flying, random_after, tallies_after, under_way};
+ghost use Rattle.segment.specs.Flying.{comes, transmits_of, received, sent_by, waiting};
+ghost use Rattle.segment.specs.Inside.{sent_behind, flying, random_after, tallies_after, under_way};
 
 use crate::chances::Impairment;
 use crate::flight::Flight;
@@ -19,8 +19,8 @@ pub(crate) fn take_all(
     sender: usize,
     stack: &mut Stack,
 )
-    ensures calls { AreCalls stack.old (gives (waiting stack.old)) stack.new }
-    ensures taken { under_way flight.new ≡ behind flight.old impairment.old (sent_by sender (waiting stack.old)) }
+    ensures calls { AreCalls stack.old (transmits_of (waiting stack.old)) stack.new }
+    ensures taken { under_way flight.new ≡ sent_behind flight.old impairment.old (sent_by sender (waiting stack.old)) }
     ensures random { impairment.new.random ≡ random_after impairment.old (sent_by sender (waiting stack.old)) }
     ensures tallies { impairment.new.tallies.items
         ≡ tallies_after impairment.old (sent_by sender (waiting stack.old)) }
@@ -35,10 +35,10 @@ pub(crate) fn take_all(
 /// Takes the packet that has waited longest for the link. One has to wait.
 fn take_one(flight: &mut Flight, impairment: &mut Impairment, sender: usize, stack: &mut Stack)
     requires { 0 < length (waiting stack.old) }
-    ensures calls { AreCalls stack.old (gives (take 1 (waiting stack.old))) stack.new }
+    ensures calls { AreCalls stack.old (transmits_of (take 1 (waiting stack.old))) stack.new }
     ensures waits { waiting stack.new ≡ drop 1 (waiting stack.old) }
     ensures taken { under_way flight.new
-        ≡ behind flight.old impairment.old (sent_by sender (take 1 (waiting stack.old))) }
+        ≡ sent_behind flight.old impairment.old (sent_by sender (take 1 (waiting stack.old))) }
     ensures random { impairment.new.random ≡ random_after impairment.old (sent_by sender (take 1 (waiting stack.old))) }
     ensures tallies { impairment.new.tallies.items
         ≡ tallies_after impairment.old (sent_by sender (take 1 (waiting stack.old))) }

@@ -19,11 +19,11 @@ use Rattle.mbuf_chain.specs.Chain.{ChainView, Entry, PoolView, chain_of, string}
 use Rattle.mbuf_chain.specs.Owners.{IsOwned, Moves}
 use Rattle.mbuf_chain.specs.Frames.{SameAt}
 use Rattle.mbuf_chain.proofs.Laws.Owners.{times-append, live_at_most, moves_trans, moves_beside, owned_after, same_beside, shown_with}
-use Rattle.chain_ops.specs.Weights.{laid}
+use Rattle.chain_ops.specs.Weights.{laid_entries}
 use Rattle.ip_out.specs.declared.head.IpHead.{IpHead}
 use Rattle.pcb_table.specs.declared.block.Block.{Block}
 use Rattle.pcb_table.specs.Table.{Table, Queues, IsOpen, block_at, socket_with}
-use Rattle.ledger.specs.Accounts.{weight_of, weight_at, item_at, IsAccounted}
+use Rattle.ledger.specs.Accounts.{entries_weight, weight_at, item_at, IsAccounted}
 use Rattle.ledger.proofs.Laws.{accounted_after}
 use Rattle.sockbuf.specs.SockBuf.{SockBufView}
 use Rattle.udp.specs.Datagrams as udp
@@ -35,21 +35,21 @@ use Rattle.sock_calls.proofs.Delivered.{freed, freed_accounts, ends_here, shows_
 use Rattle.sock_calls.proofs.Hearing.{named_is}
 
 -- ---- weights
-pub laid_weight : (es : List Entry) → flat.weight_of (laid es) ≡ weight_of es
+pub laid_weight : (es : List Entry) → flat.weight_of (laid_entries es) ≡ entries_weight es
 laid_weight [] = refl
 laid_weight (e ∷ es) = go e.cluster (laid_weight es)
   where
-    go : (o : Option ℕ) → flat.weight_of (laid es) ≡ weight_of es
-        → flat.weight_of (laid (record { bytes = e.bytes; start = e.start; cluster = o } ∷ es))
-        ≡ weight_of (record { bytes = e.bytes; start = e.start; cluster = o } ∷ es)
+    go : (o : Option ℕ) → flat.weight_of (laid_entries es) ≡ entries_weight es
+        → flat.weight_of (laid_entries (record { bytes = e.bytes; start = e.start; cluster = o } ∷ es))
+        ≡ entries_weight (record { bytes = e.bytes; start = e.start; cluster = o } ∷ es)
     go None later = λ i. record { mbufs = suc (later i).mbufs; bag = (later i).bag }
     go (Some k) later = λ i. record { mbufs = suc (later i).mbufs; bag = k ∷ (later i).bag }
 
 kept_weight : {p q : PoolView} {c d : ℕ} {h : IpHead} {t : Table} {to : List ℕ} {from : Addr}
-    → udp.IsDelivered p c h t q to from d → weight_at q d ≡ weight_at p c
+    → udp.IsForSockets p c h t q to from d → weight_at q d ≡ weight_at p c
 kept_weight {p} {q} {c} {d} is =
-    ap (λ (k : ℕ). weight_of (chain_of q k).entries) is.same
-    ∙ ap (λ (v : ChainView). weight_of v.entries) (shown_with p q c _ is.chain)
+    ap (λ (k : ℕ). entries_weight (chain_of q k).entries) is.same
+    ∙ ap (λ (v : ChainView). entries_weight v.entries) (shown_with p q c _ is.chain)
     ∙ sym (laid_weight _) ∙ data_weight _ (chain_of p c) ∙ laid_weight (chain_of p c).entries
 
 -- ---- the sockets that hear it
@@ -121,7 +121,7 @@ same_accounts {p} {q} {s} held c d a o m e =
 pub delivered_input : {p q r : PoolView} {t u : Table} {bs cs : List SockBufView} {us vs ws : List Unfinished}
     {xs ys zs : List ℕ} {c e : Counters} {chain d : ℕ} {h : IpHead} {to : List ℕ} {from : Addr}
     → IsSocks p (record { pcbs = t; queues = bs }) → IsOwned p (chain ∷ (xs ++ queued_chains p bs))
-    → udp.IsDelivered p chain h t q to from d → Moves p (chain ∷ []) q (d ∷ []) → vs ≡ us → ys ≡ xs
+    → udp.IsForSockets p chain h t q to from d → Moves p (chain ∷ []) q (d ∷ []) → vs ≡ us → ys ≡ xs
     → IsDelivered (seen q (record { pcbs = t; queues = bs }) vs ys c) d to from
     (seen r (record { pcbs = u; queues = cs }) ws zs e)
     → IsInput (seen p (record { pcbs = t; queues = bs }) us xs c) chain h.src h.dst h.proto
@@ -197,7 +197,7 @@ dropped_input {p} {q} {t} {bs} {us} {vs} {xs} {ys} {c} {e} {chain} {h} why socks
 pub delivered_to : {p q r : PoolView} {t t' u : Table} {bs cs : List SockBufView} {us vs ws : List Unfinished}
     {xs ys zs : List ℕ} {c e : Counters} {chain d : ℕ} {h : IpHead} {to fds : List ℕ} {from : Addr}
     → IsSocks p (record { pcbs = t; queues = bs }) → IsOwned p (chain ∷ (xs ++ queued_chains p bs))
-    → udp.IsDelivered p chain h t q to from d → Moves p (chain ∷ []) q (d ∷ []) → vs ≡ us → ys ≡ xs → t' ≡ t
+    → udp.IsForSockets p chain h t q to from d → Moves p (chain ∷ []) q (d ∷ []) → vs ≡ us → ys ≡ xs → t' ≡ t
     → fds ≡ to
     → IsDelivered (seen q (record { pcbs = t'; queues = bs }) vs ys c) d fds from
     (seen r (record { pcbs = u; queues = cs }) ws zs e)

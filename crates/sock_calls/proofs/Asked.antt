@@ -10,8 +10,8 @@ use Rattle.pcb_table.specs.declared.block.Block.{Block}
 use Rattle.pcb_table.specs.Table.{Table, Queues, block_at, machine, socket_with}
 use Rattle.pcb_table.proofs.Laws.{socket_found}
 use Rattle.sockbuf.specs.SockBuf.{SockBufView, IsSockBuf, datagrams, no_datagrams}
-use Rattle.sock_calls.specs.Questions.{named, next_in, next_of, next_datagram, bytes_in, bytes_queued, socket_name, set_below, waits_in}
-use Rattle.sock_calls.specs.Inside.Asked.{name_in, waits_at}
+use Rattle.sock_calls.specs.Questions.{name_or_fault, next_in, oldest_datagram, next_datagram, bytes_waiting, bytes_queued_at, socket_name, set_below, waits_in}
+use Rattle.sock_calls.specs.Inside.Asked.{told_name, waits_at}
 use Rattle.sock_calls.specs.Sockets.{IsSocks, from_three, queue_at, queues_of}
 use Rattle.sock_calls.proofs.Frames.{at_default}
 use Rattle.sock_calls.proofs.Hearing.{named_at}
@@ -21,18 +21,18 @@ use Rattle.sock_calls.proofs.Places.{at_three}
 
 -- a socket has the name of its block
 pub block_named : (f : Queues) (t : Table) (fd : ℕ) (rest : State)
-    → name_in (block_at fd t) ≡ socket_name fd (machine rest f t)
-block_named f t fd rest = go (block_at fd t) ∙ ap named (sym (socket_found rest f t fd))
+    → told_name (block_at fd t) ≡ socket_name fd (machine rest f t)
+block_named f t fd rest = go (block_at fd t) ∙ ap name_or_fault (sym (socket_found rest f t fd))
   where
-    go : (o : Option Block) → name_in o ≡ named (option_map (socket_with f) o)
+    go : (o : Option Block) → told_name o ≡ name_or_fault (option_map (socket_with f) o)
     go None = refl
     go (Some b) = refl
 
 -- the oldest datagram of a queue is that of the socket whose block was found
 pub next_found : (f : Queues) (t : Table) (fd : ℕ) (b : Block) (rest : State) → block_at fd t ≡ Some b → b.fd ≡ fd
-    → next_of (f fd) ≡ next_datagram fd (machine rest f t)
+    → oldest_datagram (f fd) ≡ next_datagram fd (machine rest f t)
 next_found f t fd b rest is names =
-    ap (λ (k : ℕ). next_of (f k)) (sym names)
+    ap (λ (k : ℕ). oldest_datagram (f k)) (sym names)
     ∙ ap (λ (o : Option Block). next_in (option_map (socket_with f) o)) (sym is)
     ∙ ap next_in (sym (socket_found rest f t fd))
 
@@ -44,17 +44,17 @@ next_refused f t fd rest is =
 
 -- the same of how many bytes wait
 pub bytes_found : (f : Queues) (t : Table) (fd : ℕ) (b : Block) (rest : State) → block_at fd t ≡ Some b → b.fd ≡ fd
-    → Ok (queue.bytes_queued (f fd)) ≡ bytes_queued fd (machine rest f t)
+    → Ok (queue.bytes_queued (f fd)) ≡ bytes_queued_at fd (machine rest f t)
 bytes_found f t fd b rest is names =
     ap (λ (k : ℕ). Ok (queue.bytes_queued (f k))) (sym names)
-    ∙ ap (λ (o : Option Block). bytes_in (option_map (socket_with f) o)) (sym is)
-    ∙ ap bytes_in (sym (socket_found rest f t fd))
+    ∙ ap (λ (o : Option Block). bytes_waiting (option_map (socket_with f) o)) (sym is)
+    ∙ ap bytes_waiting (sym (socket_found rest f t fd))
 
 pub bytes_refused : (f : Queues) (t : Table) (fd : ℕ) (rest : State) → block_at fd t ≡ None
-    → bytes_in None ≡ bytes_queued fd (machine rest f t)
+    → bytes_waiting None ≡ bytes_queued_at fd (machine rest f t)
 bytes_refused f t fd rest is =
-    ap (λ (o : Option Block). bytes_in (option_map (socket_with f) o)) (sym is)
-    ∙ ap bytes_in (sym (socket_found rest f t fd))
+    ap (λ (o : Option Block). bytes_waiting (option_map (socket_with f) o)) (sym is)
+    ∙ ap bytes_waiting (sym (socket_found rest f t fd))
 
 -- ---- all sockets
 

@@ -6,7 +6,7 @@ use Rattle.flat_model.specs.Fragments.Whole.{weight_of_pieces}
 use Rattle.flat_model.specs.Machine.State.{State, Socket, Unfinished, ends, change_socket}
 use Rattle.flat_model.specs.Machine.Count.{counted}
 use Rattle.flat_model.specs.Machine.Ledger.{weight_of_state, exact_ledger, HasBuffers, need_mbufs}
-use Rattle.flat_model.specs.Machine.Arrival.{Appends, queued}
+use Rattle.flat_model.specs.Machine.Arrival.{Appends, with_datagram}
 use Rattle.flat_model.specs.Sockets.Fits.{fits}
 use Rattle.flat_model.specs.declared.address.Addr.{Addr}
 use Rattle.flat_model.specs.declared.counters.Counters.{Counters}
@@ -14,13 +14,13 @@ use Rattle.flat_model.specs.declared.counters.Why.{Why}
 use Rattle.flat_model.specs.declared.counters.Why.TheVariants.{NoBufs, UdpFullSocket}
 use Rattle.flat_model.proofs.Laws.{times-both, all_of-append}
 use Rattle.mbuf_chain.specs.Chain.{ChainView, PoolView, chain_of, flat_bytes, string, without}
-use Rattle.mbuf_chain.specs.Owners.{times, IsOwned, Moves}
+use Rattle.mbuf_chain.specs.Owners.{times_among, IsOwned, Moves}
 use Rattle.mbuf_chain.specs.Frames.{SameAt}
 use Rattle.mbuf_chain.proofs.Laws.Owners.{times_same, times-append, live_at_most, live_first, apart_first, moves_without, moves_beside, moves_trans, same_without, same_beside, owned_after, chain_same}
 use Rattle.pcb_table.specs.declared.block.Block.{Block}
 use Rattle.pcb_table.specs.Table.{Table, IsOpen, block_at, machine, socket_with, sockets_with}
 use Rattle.pcb_table.proofs.Laws.{same_machine, queue_changed}
-use Rattle.ledger.specs.Accounts.{weight_of, weight_at, weight_owned, item_at, IsAccounted}
+use Rattle.ledger.specs.Accounts.{entries_weight, weight_at, weight_owned, item_at, IsAccounted}
 use Rattle.ledger.specs.Reserve.{Reserves}
 use Rattle.ledger.proofs.Laws.{accounted_after}
 use Rattle.sockbuf.specs.SockBuf.{SockBufView, datagram_from}
@@ -145,7 +145,7 @@ module _ (held : Weight) (sender : Addr) (item : Item) (to : Socket) (old mid ne
   fitting_appends : fits to.queue (length item.bytes) ≡ true
       → HasBuffers exact_ledger old (held ⊕ item.weight) (need_mbufs 1) true mid
       → new ≡ change_socket to.fd
-      (queued (record { sender = sender; item = record item { weight = mbuf ⊕ item.weight } })) mid
+      (with_datagram (record { sender = sender; item = record item { weight = mbuf ⊕ item.weight } })) mid
       → Appends exact_ledger held sender item to old new
   fitting_appends f a e = record {
     yes = λ _. record {
@@ -167,9 +167,9 @@ pub freed : (p q : PoolView) (c : ℕ) (xs : List ℕ) (s : SocksView) → IsOwn
     → IsSocks p s → q ≡ without p c → Freed p c xs s q
 freed p q c xs s o r e =
     let ys : List ℕ = queued_chains p s.queues in
-    let gone : times c (xs ++ ys) ≡ 0 = apart_first p c (xs ++ ys) o in
-    let no_xs : times c xs ≡ 0 = omega (arith, gone, times-append c xs ys) in
-    let no_ys : times c ys ≡ 0 = omega (arith, gone, times-append c xs ys) in
+    let gone : times_among c (xs ++ ys) ≡ 0 = apart_first p c (xs ++ ys) o in
+    let no_xs : times_among c xs ≡ 0 = omega (arith, gone, times-append c xs ys) in
+    let no_ys : times_among c ys ≡ 0 = omega (arith, gone, times-append c xs ys) in
     let k : Kept p q s = kept p q s (same_without p q c ys no_ys e) r in
     let m : Moves p (c ∷ []) q [] = moves_without p q c (live_first p c (xs ++ ys) o) e in
     record {
@@ -304,7 +304,7 @@ lacking_end {p} {q} {r} {t} {bs} {us} {vs} {ws} {xs} {ys} {zs} {c} {d} {e} {chai
         accounts = λ rest held a.
             subst (λ (m : State). IsAccounted r m held) (sym (now rest))
             (freed_accounts chain NoBufs
-            (subst (λ (v : ChainView). IsAccounted q (with_net p s vs d rest) (held ⊕ weight_of v.entries))
+            (subst (λ (v : ChainView). IsAccounted q (with_net p s vs d rest) (held ⊕ entries_weight v.entries))
             (sym x.chain) (i.reserves rest (held ⊕ weight_at p chain) a).accounted) (λ k. omega (arith, x.owned k))
             is_r);
         ready = gone.socks.ready;
@@ -341,11 +341,11 @@ fitting_end {p} {q} {r} {t} {bs} {cs} {us} {vs} {ws} {xs} {ys} {zs} {c} {d} {cha
     let came : queues_of r cs fd ≡ queues_of p bs fd ++ datagram_from sender p chain ∷ [] =
     here ∙ (λ n. x.socks.shows fd n ++ record {
       sender = sender;
-      item = record { bytes = flat_bytes (x.chain n).entries; weight = mbuf ⊕ weight_of (x.chain n).entries };
+      item = record { bytes = flat_bytes (x.chain n).entries; weight = mbuf ⊕ entries_weight (x.chain n).entries };
     }
     ∷ []) in
     let pushed : (rest : State) → with_net r (record { pcbs = t; queues = cs }) ws d rest
-    ≡ change_socket fd (queued (datagram_from sender p chain)) (with_net p s vs d rest) = λ rest.
+    ≡ change_socket fd (with_datagram (datagram_from sender p chain)) (with_net p s vs d rest) = λ rest.
     (λ n. machine (record rest { unfinished = same_ws j.same n; counters = d }) (queues_of r cs) t)
     ∙ queue_changed (queues_of p bs) (queues_of r cs) t (record rest { unfinished = vs; counters = d }) fd
     (λ ds. ds ++ datagram_from sender p chain ∷ []) came (λ k ne. st.others k ne ∙ x.socks.shows k) in
@@ -356,7 +356,7 @@ fitting_end {p} {q} {r} {t} {bs} {cs} {us} {vs} {ws} {xs} {ys} {zs} {c} {d} {cha
           (ap (λ (k : ℕ). fits (queues_of p bs k) (length (string (chain_of p chain)))) (named b at) ∙ room)
           (i.reserves rest (held ⊕ weight_at p chain) a).has_buffers
           (pushed rest
-          ∙ ap (λ (k : ℕ). change_socket k (queued (datagram_from sender p chain)) (with_net p s vs d rest))
+          ∙ ap (λ (k : ℕ). change_socket k (with_datagram (datagram_from sender p chain)) (with_net p s vs d rest))
           (sym (named b at)));
       others = λ k ne. st.others k ne ∙ x.socks.shows k;
       parts = record {
@@ -364,7 +364,7 @@ fitting_end {p} {q} {r} {t} {bs} {cs} {us} {vs} {ws} {xs} {ys} {zs} {c} {d} {cha
             let a1 = (i.reserves rest (held ⊕ weight_at p chain) a).accounted in
             let a2 = subst (λ (m : State). IsAccounted q m (held ⊕ weight_at p chain))
             (sym (shows_same p q t bs d rest x.socks.shows refl)) a1 in
-            let a3 = subst (λ (v : ChainView). IsAccounted q (with_net q s vs d rest) (held ⊕ weight_of v.entries))
+            let a3 = subst (λ (v : ChainView). IsAccounted q (with_net q s vs d rest) (held ⊕ entries_weight v.entries))
             (sym x.chain) a2 in
             subst (λ (us : List Unfinished). IsAccounted r (with_net r (record { pcbs = t; queues = cs }) us d rest)
             held) (sym (same_ws j.same))

@@ -4,12 +4,12 @@ use Rattle.std.specs.Prelude.{slice_index_or, slice_set}
 use Rattle.std.proofs.lemmas.Bool.{cases_eq}
 use Rattle.std.proofs.lemmas.List.{length-set, length-map}
 use Rattle.mbuf_chain.specs.Chain.{PoolView}
-use Rattle.mbuf_chain.specs.Owners.{times, IsOwned, Moves}
+use Rattle.mbuf_chain.specs.Owners.{times_among, IsOwned, Moves}
 use Rattle.mbuf_chain.specs.Frames.{SameAt}
 use Rattle.mbuf_chain.proofs.Laws.Owners.{times-append, live_at_most, same_beside, same_part, moves_beside, moves_trans, owned_same, owned_after}
 use Rattle.mbuf_chain.specs.Train.{QueuedPacket, queued_packet_of, queued_packets}
 use Rattle.mbuf_chain.proofs.Laws.Trains.{length-queued_packets}
-use Rattle.sockbuf.specs.SockBuf.{SockBufView, IsSockBuf, datagrams, datagram_of, datagrams_of, chains_of, no_datagrams}
+use Rattle.sockbuf.specs.SockBuf.{SockBufView, IsSockBuf, datagrams, queued_datagram, datagrams_of, chains_of, no_datagrams}
 use Rattle.sockbuf.proofs.Laws.{chains_same, datagrams_same, ready_same}
 use Rattle.sock_calls.specs.Sockets.{SocksView, IsSocks, StepsAt, AreEmpty, from_three, queue_at, queues_of, queued_chains}
 use Rattle.sock_calls.specs.Delivery.{NetView, KeepsParts}
@@ -30,8 +30,8 @@ at_other (x ∷ qs) (suc i) (suc k) q ne = at_other qs i k q (λ e. ne (ap suc e
 
 -- the chains of all, with one queue changed
 pub times_set : (p : PoolView) (qs : List SockBufView) (i : ℕ) (q : SockBufView) (k : ℕ) → i < length qs
-    → times k (queued_chains p (slice_set qs i q)) + times k (chains_of p (queue_at qs i))
-    ≡ times k (queued_chains p qs) + times k (chains_of p q)
+    → times_among k (queued_chains p (slice_set qs i q)) + times_among k (chains_of p (queue_at qs i))
+    ≡ times_among k (queued_chains p qs) + times_among k (chains_of p q)
 times_set p [] i q k h = absurd (omega arith)
 times_set p (x ∷ qs) zero q k h = omega (
   arith,
@@ -47,7 +47,7 @@ times_set p (x ∷ qs) (suc i) q k h = omega (
 )
 
 pub times_at : (p : PoolView) (qs : List SockBufView) (i k : ℕ)
-    → times k (chains_of p (queue_at qs i)) ≤ times k (queued_chains p qs)
+    → times_among k (chains_of p (queue_at qs i)) ≤ times_among k (queued_chains p qs)
 times_at p [] i k = omega arith
 times_at p (x ∷ qs) zero k = omega (arith, times-append k (chains_of p x) (queued_chains p qs))
 times_at p (x ∷ qs) (suc i) k = omega (arith, times_at p qs i k, times-append k (chains_of p x) (queued_chains p qs))
@@ -78,8 +78,8 @@ pub one_steps : {p q : PoolView} (ins outs : List ℕ) (qs : List SockBufView) (
     → IsSockBuf q v → Moves p (ins ++ chains_of p (queue_at qs i)) q (outs ++ chains_of q v) → Steps p ins qs i v q outs
 one_steps {p} {q} ins outs qs i v h each owned ready m =
     let rest : List SockBufView = slice_set qs i no_datagrams in
-    let parts : (k : ℕ) → times k (queued_chains p rest) + times k (chains_of p (queue_at qs i))
-    ≡ times k (queued_chains p qs) = λ k. omega (arith, times_set p qs i no_datagrams k h) in
+    let parts : (k : ℕ) → times_among k (queued_chains p rest) + times_among k (chains_of p (queue_at qs i))
+    ≡ times_among k (queued_chains p qs) = λ k. omega (arith, times_set p qs i no_datagrams k h) in
     let same : SameAt p q (queued_chains p rest) =
     same_beside (queued_chains p rest) m (λ k. omega (arith, parts k, owned k, times-append k ins (queued_chains p qs)))
     (λ k some. omega (
@@ -95,7 +95,7 @@ one_steps {p} {q} ins outs qs i v h each owned ready m =
     (λ j. omega (
       arith,
       times_at p rest k j,
-      ap (λ (x : SockBufView). times j (chains_of p x)) (at_other qs i k no_datagrams ne),
+      ap (λ (x : SockBufView). times_among j (chains_of p x)) (at_other qs i k no_datagrams ne),
     )) in
     record {
       others = λ k ne. ap (datagrams q) (at_other qs i k v ne) ∙ datagrams_same p q (queue_at qs k) (at k ne);
@@ -117,8 +117,8 @@ one_steps {p} {q} ins outs qs i v h each owned ready m =
             times-append k outs (queued_chains q (slice_set qs i v)),
             times-append k outs (chains_of q v),
             times_set q (slice_set qs i v) i no_datagrams k (omega (arith, length-set qs i v, h)),
-            ap (λ (x : SockBufView). times k (chains_of q x)) (at_set qs i v h),
-            ap (times k) (ap (queued_chains q) (set-set qs i v no_datagrams) ∙ queued_same p q rest same),
+            ap (λ (x : SockBufView). times_among k (chains_of q x)) (at_set qs i v h),
+            ap (times_among k) (ap (queued_chains q) (set-set qs i v no_datagrams) ∙ queued_same p q rest same),
           ));
     }
   where
@@ -144,7 +144,7 @@ kept p q v s r =
     record {
       ready = record {
         each = λ k. ready_same p q (queue_at v.queues k) (at k) (r.each k);
-        owned = λ k. omega (arith, owned_same p q (queued_chains p v.queues) s r.owned k, ap (times k) chains);
+        owned = λ k. omega (arith, owned_same p q (queued_chains p v.queues) s r.owned k, ap (times_among k) chains);
         places = r.places;
         apart = r.apart;
         closed = λ k e. shows k ∙ r.closed k e;
@@ -207,7 +207,7 @@ all_empty q (b ∷ bs) each none = (
   omega (
     arith,
     length-queued_packets q b.train (each 0).held,
-    length-map (queued_packets q b.train) (λ (queued_packet : QueuedPacket). datagram_of queued_packet.entries),
+    length-map (queued_packets q b.train) (λ (queued_packet : QueuedPacket). queued_datagram queued_packet.entries),
     ap
         length (none 0 (omega arith)),
   ),

@@ -24,11 +24,11 @@ use Rattle.flat_model.specs.declared.errno.Errno.TheVariants.{BadDescriptor, NoB
 use Rattle.flat_model.specs.declared.errno.Lack.TheVariants.{Pool, Queue}
 use Rattle.flat_model.proofs.Laws.{times-both, count_cons, all_of-append}
 use Rattle.mbuf_chain.specs.Chain.{PoolView, references}
-use Rattle.mbuf_chain.specs.Owners.{times, Moves}
+use Rattle.mbuf_chain.specs.Owners.{times_among, Moves}
 use Rattle.mbuf_chain.specs.Frames.{SameAt}
 use Rattle.mbuf_chain.specs.Train.{QueuedPacket, queued_packet_of, numbers, IsHeld}
 use Rattle.mbuf_chain.proofs.Laws.Owners.{times-append, live_at_most, moves_beside, moves_none, same_beside}
-use Rattle.ip_out.specs.Packets.{packets, AreBegunPlain}
+use Rattle.ip_out.specs.Packets.{train_packets, AreBegunPlain}
 use Rattle.pcb_table.specs.declared.block.Block.{Block}
 use Rattle.pcb_table.specs.Table.{Table, Queues, block_at, machine, socket_with}
 use Rattle.pcb_table.specs.Apart.{AreApart}
@@ -43,7 +43,7 @@ use Rattle.sock_calls.specs.declared.net.Net.{Net}
 use Rattle.sock_calls.specs.Sockets.{SocksView, queues_of, queued_chains}
 use Rattle.sock_calls.specs.Sends.{SendsBy, SendsOnce}
 use Rattle.sock_calls.specs.Outgoing.{SendView, sending, state_in, with_output, weight_of_all, CanSend, IsSent}
-use Rattle.sock_calls.specs.Inside.Putting.{config_of, sent_as, counts_sent, IsPut}
+use Rattle.sock_calls.specs.Inside.Putting.{send_config, sent_as, counts_sent, IsPut}
 use Rattle.sock_calls.specs.Inside.Destination.{ChecksSend}
 use Rattle.sock_calls.proofs.Frames.{Kept, kept}
 use Rattle.sock_calls.proofs.Keeping.{keeps_open}
@@ -77,7 +77,7 @@ pub unchanged : {fd : ℕ} {to : Option Addr} {bytes : List ℕ} {errno : Errno}
     → SendsOnce exact_ledger fd to bytes (state_in v rest) (Refused errno) [] (state_in v rest))
     → IsSent fd to bytes v (Err errno) v
 unchanged {fd} {to} {bytes} {errno} v can step =
-    let none : packets v.pool v.net.looped ≡ [] = none_wait v.pool v.net.looped can.none in
+    let none : train_packets v.pool v.net.looped ≡ [] = none_wait v.pool v.net.looped can.none in
     record {
       step = λ rest e a. subst (λ (l : List Item). SendsOnce exact_ledger fd to bytes (state_in v rest) (Refused errno)
           l (state_in v rest)) (sym none) (step rest e a);
@@ -111,22 +111,22 @@ refused_early {fd} {mtu} {errno} to bytes t f rest b at e checks =
 
 -- ---- the test of the pool
 need_same : (t : Table) (rest : State) (f : Queues) (ip n mtu : ℕ) → rest.config.mtu ≡ mtu
-    → need_to (machine rest f t).config ip n ≡ need_to (config_of t mtu) ip n
-need_same t rest f ip n mtu e = ap (λ (m : ℕ). need_to (config_of t m) ip n) e
+    → need_to (machine rest f t).config ip n ≡ need_to (send_config t mtu) ip n
+need_same t rest f ip n mtu e = ap (λ (m : ℕ). need_to (send_config t m) ip n) e
 
 tested : (p : PoolView) (t : Table) (rest : State) (f : Queues) (ip n mtu : ℕ) (answer : Bool) → rest.config.mtu ≡ mtu
     → IsAccounted p (machine rest f t) nothing
-    → are_free p (need_to (config_of t mtu) ip n).mbufs (need_to (config_of t mtu) ip n).clusters ≡ answer
+    → are_free p (need_to (send_config t mtu) ip n).mbufs (need_to (send_config t mtu) ip n).clusters ≡ answer
     → answer ≡ has_enough (machine rest f t) nothing (need_to (machine rest f t).config ip n)
 tested p t rest f ip n mtu answer e a is =
     sym (ap (has_enough (machine rest f t) nothing) (need_same t rest f ip n mtu e)
-    ∙ test_is p (machine rest f t) nothing (need_to (config_of t mtu) ip n) a ∙ is)
+    ∙ test_is p (machine rest f t) nothing (need_to (send_config t mtu) ip n) a ∙ is)
 
 pub lacks_buffers : {p : PoolView} {fd mtu : ℕ} {a : Addr} (to : Option Addr) (bytes : List ℕ) (t : Table) (f : Queues)
     (rest : State) (b : Block) → block_at fd t ≡ Some b → rest.config.mtu ≡ mtu
     → IsAccounted p (machine rest f t) nothing → ChecksSend t mtu fd to (length bytes) (Ok a)
-    → are_free p (need_to (config_of t mtu) a.ip (length bytes)).mbufs
-    (need_to (config_of t mtu) a.ip (length bytes)).clusters ≡ false
+    → are_free p (need_to (send_config t mtu) a.ip (length bytes)).mbufs
+    (need_to (send_config t mtu) a.ip (length bytes)).clusters ≡ false
     → SendsOnce exact_ledger fd to bytes (machine rest f t) (Refused (NoBufs Pool)) [] (machine rest f t)
 lacks_buffers {p} {fd} {mtu} {a} to bytes t f rest b at e accounted checks few =
     let is = checks rest f b at e in
@@ -143,7 +143,7 @@ lacks_buffers {p} {fd} {mtu} {a} to bytes t f rest b at e accounted checks few =
     }
 
 -- ---- a send that has its buffers
-pub bag_of_times : (c : ℕ) (cs : List ℕ) → bag_times c cs ≡ times c cs
+pub bag_of_times : (c : ℕ) (cs : List ℕ) → bag_times c cs ≡ times_among c cs
 bag_of_times c [] = refl
 bag_of_times c (x ∷ cs) = omega (arith, count_cons (λ k. k == c) x cs, bag_of_times c cs)
 
@@ -174,12 +174,12 @@ module _ (p q : PoolView) (t u : Table) (bs : List SockBufView) (n m : Net) (fd 
   pub puts : (rest : State) (b : Block) → block_at fd t ≡ Some b → rest.config.mtu ≡ n.mtu
       → IsAccounted p (machine (with_output p n rest) f t) nothing
       → Puts exact_ledger fd (socket_with f b) to bytes (machine (with_output p n rest) f t)
-      (sent_or lost (length bytes)) (packets q m.looped) (machine (with_output q m rest) (queues_of q bs) u)
+      (sent_or lost (length bytes)) (train_packets q m.looped) (machine (with_output q m rest) (queues_of q bs) u)
   puts rest b at e a =
       let before : State = with_output p n rest in
       let old : State = machine before f t in
       let named : State = machine before f (record t { last_port = k.port.last }) in
-      let c : Config = config_of t n.mtu in
+      let c : Config = send_config t n.mtu in
       let y : flat.Sending = record {
         id = n.next_id;
         source = source_for old.config (socket_with f b) to.ip;
@@ -196,22 +196,22 @@ module _ (p q : PoolView) (t u : Table) (bs : List SockBufView) (n m : Net) (fd 
         bytes = bytes;
       } in
       let items_are : flat.packets c k.clusters (sent_as k.heading bytes) ≡ flat.packets old.config k.clusters y =
-      λ i. flat.packets (config_of t (sym e i)) k.clusters (same_x i) in
+      λ i. flat.packets (send_config t (sym e i)) k.clusters (same_x i) in
       let link_is : to_link c to.ip (flat.packets c k.clusters (sent_as k.heading bytes))
       ≡ to_link old.config to.ip (flat.packets old.config k.clusters y) = ap (to_link c to.ip) items_are in
       let lost_is : lost ≡ nat_lt OUTPUT_QUEUE_PACKETS
-      (length (packets p n.out ++ to_link old.config to.ip (flat.packets old.config k.clusters y))) = k.is_lost
-      ∙ ap (λ (l : List Item). nat_lt OUTPUT_QUEUE_PACKETS (length (packets p n.out ++ l))) link_is in
+      (length (train_packets p n.out ++ to_link old.config to.ip (flat.packets old.config k.clusters y))) = k.is_lost
+      ∙ ap (λ (l : List Item). nat_lt OUTPUT_QUEUE_PACKETS (length (train_packets p n.out ++ l))) link_is in
       let cut_is : nat_lt 1 (length (flat.parts_of c (sent_as k.heading bytes)))
       ≡ nat_lt 1 (length (flat.parts_of old.config y)) =
-      λ i. nat_lt 1 (length (flat.parts_of (config_of t (sym e i)) (same_x i))) in
+      λ i. nat_lt 1 (length (flat.parts_of (send_config t (sym e i)) (same_x i))) in
       let counts_are : m.counters ≡ counts_sent (nat_lt 1 (length (flat.parts_of old.config y)))
       (nat_lt OUTPUT_QUEUE_PACKETS
-      (length (packets p n.out ++ to_link old.config to.ip (flat.packets old.config k.clusters y)))) n.counters =
+      (length (train_packets p n.out ++ to_link old.config to.ip (flat.packets old.config k.clusters y)))) n.counters =
       k.counters ∙ (λ i. counts_sent (cut_is i) (lost_is i) n.counters) in
-      let out_is : packets q m.out ≡ take OUTPUT_QUEUE_PACKETS
-      (packets p n.out ++ to_link old.config to.ip (flat.packets old.config k.clusters y)) = k.out
-      ∙ ap (λ (l : List Item). take OUTPUT_QUEUE_PACKETS (packets p n.out ++ l)) link_is in (
+      let out_is : train_packets q m.out ≡ take OUTPUT_QUEUE_PACKETS
+      (train_packets p n.out ++ to_link old.config to.ip (flat.packets old.config k.clusters y)) = k.out
+      ∙ ap (λ (l : List Item). take OUTPUT_QUEUE_PACKETS (train_packets p n.out ++ l)) link_is in (
         k.heading.port,
         named,
         k.clusters,
@@ -256,7 +256,7 @@ module _ (p q : PoolView) (t u : Table) (bs : List SockBufView) (n m : Net) (fd 
       go false rest = λ i. queue_weight s.queue ⊕ rest i
 
   pub accounts : IsHeld p n.out → (rest : State) → IsAccounted p (machine (with_output p n rest) f t) nothing
-      → IsAccounted q (machine (with_output q m rest) (queues_of q bs) u) (weight_of_all (packets q m.looped))
+      → IsAccounted q (machine (with_output q m rest) (queues_of q bs) u) (weight_of_all (train_packets q m.looped))
   accounts held rest a =
       let changed = after_is (with_output q m rest) in
       let ss : Weight = weight_sockets (map (socket_with f) t.blocks) in
@@ -268,7 +268,7 @@ module _ (p q : PoolView) (t u : Table) (bs : List SockBufView) (n m : Net) (fd 
       let wo = out_weighs p (numbers p n.out) in
       let wn = out_weighs q (numbers q m.out) in
       let wl = out_weighs q (numbers q m.looped) in
-      let l : Weight = weight_of_all (packets q m.looped) in
+      let l : Weight = weight_of_all (train_packets q m.looped) in
       let both : weight_owned q (numbers q m.looped ++ numbers q m.out)
       ≡ weight_owned q (numbers q m.looped) ⊕ weight_owned q (numbers q m.out) =
       all_of-append (weight_at q) (numbers q m.looped) (numbers q m.out) in
@@ -289,11 +289,11 @@ module _ (p q : PoolView) (t u : Table) (bs : List SockBufView) (n m : Net) (fd 
           ap (λ (w : Weight). bag_times j w.bag) same,
           ap (λ (w : Weight). bag_times j w.bag) both,
           times-both j (weight_owned q (numbers q m.looped)) (weight_owned q (numbers q m.out)),
-          times-both j (ss ⊕ us ⊕ weight_of_all (packets p n.out)) nothing,
-          times-both j (ss ⊕ us) (weight_of_all (packets p n.out)),
+          times-both j (ss ⊕ us ⊕ weight_of_all (train_packets p n.out)) nothing,
+          times-both j (ss ⊕ us) (weight_of_all (train_packets p n.out)),
           times-both j ss us,
-          times-both j (sn ⊕ us ⊕ weight_of_all (packets q m.out)) l,
-          times-both j (sn ⊕ us) (weight_of_all (packets q m.out)),
+          times-both j (sn ⊕ us ⊕ weight_of_all (train_packets q m.out)) l,
+          times-both j (sn ⊕ us) (weight_of_all (train_packets q m.out)),
           times-both j sn us,
         );
       })
@@ -303,8 +303,8 @@ pub sent_is : {p q : PoolView} {t u : Table} {bs : List SockBufView} {n m : Net}
     {bytes : List ℕ} {lost : Bool} (b : Block) (result : Result ℕ Errno)
     → CanSend (sending p (record { pcbs = t; queues = bs }) n) → IsPut fd a bytes p t n lost q u m → AreApart u.blocks
     → block_at fd t ≡ Some b → ChecksSend t n.mtu fd to (length bytes) (Ok a)
-    → are_free p (need_to (config_of t n.mtu) a.ip (length bytes)).mbufs
-    (need_to (config_of t n.mtu) a.ip (length bytes)).clusters ≡ true
+    → are_free p (need_to (send_config t n.mtu) a.ip (length bytes)).mbufs
+    (need_to (send_config t n.mtu) a.ip (length bytes)).clusters ≡ true
     → sent_or lost (length bytes) ≡ sent_reply result
     → IfErr result (λ errno. (errno ≡ NoBufs Queue)
     ⊎ (sending q (record { pcbs = u; queues = bs }) m ≡ sending p (record { pcbs = t; queues = bs }) n))
@@ -312,7 +312,7 @@ pub sent_is : {p q : PoolView} {t u : Table} {bs : List SockBufView} {n m : Net}
     (sending q (record { pcbs = u; queues = bs }) m)
 sent_is {p} {q} {t} {u} {bs} {n} {m} {fd} {to} {a} {bytes} {lost} b result can k apart at checks free reply refused =
     let xs : List ℕ = queued_chains p bs in
-    let sums : (j : ℕ) → times j (numbers p n.out ++ xs) ≡ times j (numbers p n.out) + times j xs =
+    let sums : (j : ℕ) → times_among j (numbers p n.out ++ xs) ≡ times_among j (numbers p n.out) + times_among j xs =
     λ j. times-append j (numbers p n.out) xs in
     let same : SameAt p q xs = same_beside xs k.moves (λ j. omega (arith, can.owned j, sums j))
     (λ j some. omega (arith, can.owned j, sums j, some, live_at_most p j)) in
@@ -324,8 +324,9 @@ sent_is {p} {q} {t} {u} {bs} {n} {m} {fd} {to} {a} {bytes} {lost} b result can k
           let old : State = machine (with_output p n rest) f t in
           let new : State = machine (with_output q m rest) (queues_of q bs) u in
           let is = checks (with_output p n rest) f b at e in
-          subst (λ (r : Reply). SendsOnce exact_ledger fd to bytes old r (packets q m.looped) new) reply
-          (on_block fd to bytes t f (with_output p n rest) b (sent_or lost (length bytes)) (packets q m.looped) new at
+          subst (λ (r : Reply). SendsOnce exact_ledger fd to bytes old r (train_packets q m.looped) new) reply
+          (on_block fd to bytes t f (with_output p n rest) b (sent_or lost (length bytes)) (train_packets q m.looped)
+          new at
           record {
             none = λ none. (
               true,
@@ -333,7 +334,7 @@ sent_is {p} {q} {t} {u} {bs} {n} {m} {fd} {to} {a} {bytes} {lost} b result can k
                   (tested p t (with_output p n rest) f a.ip (length bytes) n.mtu true e accounted free),
               record {
                 yes = λ h. subst (λ (x : Addr). Puts exact_ledger fd (socket_with f b) x bytes old
-                    (sent_or lost (length bytes)) (packets q m.looped) new) is.1
+                    (sent_or lost (length bytes)) (train_packets q m.looped) new) is.1
                     (puts p q t u bs n m fd a bytes lost k s.shows rest b at e accounted);
                 no = λ h. absurd (true≢false h);
               },
@@ -352,7 +353,7 @@ sent_is {p} {q} {t} {u} {bs} {n} {m} {fd} {to} {a} {bytes} {lost} b result can k
           (λ j. omega (arith, sums j))
           (λ j. omega (
             arith,
-            ap (times j) s.chains,
+            ap (times_among j) s.chains,
             times-append j (numbers q m.looped) (numbers q m.out ++ queued_chains q bs),
             times-append j (numbers q m.out) (queued_chains q bs),
             times-append j (numbers q m.looped) (numbers q m.out),

@@ -17,14 +17,14 @@ use Rattle.flat_model.specs.declared.counters.Counters.{Counters}
 use Rattle.flat_model.specs.declared.counters.Why.TheVariants.{NoBufs}
 use Rattle.flat_model.proofs.Laws.{times-both}
 use Rattle.mbuf_chain.specs.Chain.{Entry, PoolView, ChainView, chain_of}
-use Rattle.mbuf_chain.specs.Owners.{times, IsOwned, Moves}
+use Rattle.mbuf_chain.specs.Owners.{times_among, IsOwned, Moves}
 use Rattle.mbuf_chain.specs.Frames.{SameAt}
 use Rattle.mbuf_chain.proofs.Laws.Owners.{times_same, times-append, live_at_most, moves_trans, moves_beside, owned_after, same_beside, chain_same}
 use Rattle.chain_ops.specs.Copies.{copied_all}
 use Rattle.pcb_table.specs.declared.block.Block.{Block}
 use Rattle.pcb_table.specs.Apart.{AreApart, has_fd}
 use Rattle.pcb_table.specs.Table.{Table, Queues, IsDescriptor, IsOpen, block_at, socket_with}
-use Rattle.ledger.specs.Accounts.{item_of, item_at, weight_of, weight_at, IsAccounted}
+use Rattle.ledger.specs.Accounts.{item_of, item_at, entries_weight, weight_at, IsAccounted}
 use Rattle.ledger.proofs.Laws.{accounted_after}
 use Rattle.sockbuf.specs.SockBuf.{SockBufView}
 use Rattle.sock_calls.specs.Sockets.{SocksView, IsSocks, queues_of, queued_chains, with_net}
@@ -169,7 +169,8 @@ lacking_offer {p} {q} {t} {bs} {us} {vs} {xs} {ys} {c} {d} {e} {chain} {n} fd se
             subst (λ (m : State). IsAccounted q m (held ⊕ weight_at p chain)) (sym (ended rest))
             (ends_accounted {s = with_net p s vs d rest} NoBufs
             (i.reserves rest (held ⊕ weight_at p chain) a).accounted) in
-            subst (λ (v : ChainView). IsAccounted q (with_net q s vs e rest) (held ⊕ weight_of v.entries)) (sym x.chain)
+            subst (λ (v : ChainView). IsAccounted q (with_net q s vs e rest) (held ⊕ entries_weight v.entries))
+            (sym x.chain)
             ends;
         ready = x.socks.ready;
         pcbs = refl;
@@ -234,7 +235,7 @@ copy_offer {p} {q} {r} {z} {t} {u} {bs} {cs} {us} {vs} {ws} {ks} {xs} {ys} {ms} 
             (subst (λ (m : State). IsAccounted r m ((held ⊕ weight_at p chain) ⊕ weight_at r copy)) (sym (now rest))
             (copy_accounts copy a1.accounted m)) in
             subst (λ (v : ChainView). IsAccounted z (with_net z (record { pcbs = u; queues = cs }) ks e rest)
-            (held ⊕ weight_of v.entries)) (sym (gone.chain ∙ k.chain ∙ x.chain)) a2;
+            (held ⊕ entries_weight v.entries)) (sym (gone.chain ∙ k.chain ∙ x.chain)) a2;
         ready = done.parts.ready;
         pcbs = done.parts.pcbs;
         moves = moves_trans x.moves (moves_trans k.moves
@@ -249,7 +250,7 @@ drop_more [] i d h = absurd (omega arith)
 drop_more (x ∷ xs) zero d h = refl
 drop_more (x ∷ xs) (suc i) d h = drop_more xs i d (omega arith)
 
-times_drop : (k : ℕ) (xs : List ℕ) (i : ℕ) → times k (drop i xs) ≤ times k xs
+times_drop : (k : ℕ) (xs : List ℕ) (i : ℕ) → times_among k (drop i xs) ≤ times_among k xs
 times_drop k xs zero = omega arith
 times_drop k [] (suc i) = omega arith
 times_drop k (x ∷ xs) (suc i) = omega (arith, times_drop k xs i)
@@ -335,7 +336,7 @@ module _ (v : NetView) (c : ℕ) (fds : List ℕ) (sender : Addr) where
       let named : b.fd ≡ fd = find_named fd u.socks.pcbs.blocks b is in
       let same : queues_at u b.fd ≡ queues_at v b.fd =
       subst (λ (k : ℕ). queues_at u k ≡ queues_at v k) (sym named)
-      (w.untouched fd (omega (arith, ap (times fd) e, times_same fd (drop (suc i) fds)))) in
+      (w.untouched fd (omega (arith, ap (times_among fd) e, times_same fd (drop (suc i) fds)))) in
       (λ j. record (socket_with (queues_at v) b) { queue = same j })
       ∙ sym (named_is (queues_at v) v.socks.pcbs fd b (subst (λ (t : Table). block_at fd t ≡ Some b) w.parts.pcbs is))
 
@@ -363,20 +364,21 @@ module _ (v : NetView) (c : ℕ) (fds : List ℕ) (sender : Addr) where
             (sockets_named (queues_at v) v.socks.pcbs l) (state_at u rest) new) (sym d)
             (more_delivers held sender (item_at v.pool c) (queues_at v) v.socks.pcbs fd (drop (suc i) fds)
             (state_at u rest) (state_at x rest) new (drop_length fds (suc i) more) offers later));
-        untouched = λ k h. o.others k (λ e. apart k d h e) ∙ w.untouched k (omega (arith, h, ap (times k) d));
+        untouched = λ k h. o.others k (λ e. apart k d h e) ∙ w.untouched k (omega (arith, h, ap (times_among k) d));
         chain = o.chain ∙ w.chain;
         parts = keeps_trans w.parts o.parts;
       }
     where
-      apart : (k : ℕ) → drop i fds ≡ fd ∷ drop (suc i) fds → 0 < times k (drop (suc i) fds) → k ≡ fd → ⊥
+      apart : (k : ℕ) → drop i fds ≡ fd ∷ drop (suc i) fds → 0 < times_among k (drop (suc i) fds) → k ≡ fd → ⊥
       apart k d h e =
-          let some : 0 < times fd (drop (suc i) fds) = subst (λ (j : ℕ). 0 < times j (drop (suc i) fds)) e h in
+          let some : 0 < times_among fd (drop (suc i) fds) =
+          subst (λ (j : ℕ). 0 < times_among j (drop (suc i) fds)) e h in
           omega (
             arith,
             once fd,
             bag_of_times fd fds,
             times_drop fd fds i,
-            ap (times fd) d,
+            ap (times_among fd) d,
             times_same fd (drop (suc i) fds),
             some,
           )

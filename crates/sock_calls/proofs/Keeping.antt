@@ -8,7 +8,7 @@ use Rattle.flat_model.specs.Machine.State.{State}
 use Rattle.pcb_table.specs.Table.{Table, Queues, KeepsOpen, OpensOnly, ClosesOnly, block_at, machine}
 use Rattle.pcb_table.specs.Apart.{AreApart}
 use Rattle.pcb_table.proofs.Laws.{same_open, opened, opened_others, closed, closed_others, same_machine}
-use Rattle.mbuf_chain.specs.Owners.{times, IsOwned}
+use Rattle.mbuf_chain.specs.Owners.{times_among, IsOwned}
 use Rattle.sockbuf.specs.SockBuf.{SockBufView, IsSockBuf, no_datagrams, datagrams, chains_of}
 use Rattle.sockbuf.proofs.Laws.{new_ready}
 use Rattle.sock_calls.specs.Sockets.{SocksView, IsSocks, StepsAt, from_three, queue_at, queues_of, queued_chains}
@@ -78,7 +78,7 @@ none_queued p [] e = refl
 none_queued p (b ∷ bs) e = λ i. chains_of p (e 0 i) ++ none_queued p bs (λ fd. e (suc fd)) i
 
 none_owned : (p : PoolView) (bs : List SockBufView) → Empty bs → IsOwned p (queued_chains p bs)
-none_owned p bs e = λ k. omega (arith, ap (times k) (none_queued p bs e))
+none_owned p bs e = λ k. omega (arith, ap (times_among k) (none_queued p bs e))
 
 none_apart : AreApart []
 none_apart = record {

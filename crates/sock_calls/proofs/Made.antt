@@ -20,8 +20,8 @@ use Rattle.ip_out.specs.declared.head.IpHead.{IpHead}
 use Rattle.ip_out.specs.declared.sending.Sent.{Sent}
 use Rattle.ip_out.specs.declared.ways.Way.{Way}
 use Rattle.ledger.specs.Accounts.{item_of}
-use Rattle.ip_out.specs.Packets.{packets, packets_of, parts_of, BeginPlain}
-use Rattle.ip_out.specs.Queues.{IsQueue}
+use Rattle.ip_out.specs.Packets.{train_packets, packets_of, chain_parts, BeginPlain}
+use Rattle.ip_out.specs.Queues.{IsOutputQueue}
 use Rattle.ip_out.specs.Ways as ways
 use Rattle.ip_out.specs.Ways.{way_need}
 use Rattle.ip_out.proofs.Laws.{packets_sent, sending_head}
@@ -49,19 +49,19 @@ packets_fit {p} {q} {chain} {mtu} {way} c x routed fits free b way_is mtu_is lac
       makes_mbufs m,
     )
 
-link_is : (c : Config) (ip : ℕ) (items : List Item) → ways.to_link (way_of c ip) items ≡ to_link c ip items
+link_is : (c : Config) (ip : ℕ) (items : List Item) → ways.to_link_by (way_of c ip) items ≡ to_link c ip items
 link_is c ip items = go (is_looped c ip) (ip == c.bcast)
   where
-    go : (u t : Bool) → ways.to_link (cond u Way.Loopback (cond t Way.Both Way.Link)) items
+    go : (u t : Bool) → ways.to_link_by (cond u Way.Loopback (cond t Way.Both Way.Link)) items
         ≡ cond {A = List Item} u [] items
     go true t = refl
     go false true = refl
     go false false = refl
 
-back_is : (c : Config) (ip : ℕ) (items : List Item) → ways.to_self (way_of c ip) items ≡ to_self c ip items
+back_is : (c : Config) (ip : ℕ) (items : List Item) → ways.to_self_by (way_of c ip) items ≡ to_self c ip items
 back_is c ip items = go (is_looped c ip) (ip == c.bcast)
   where
-    go : (u t : Bool) → ways.to_self (cond u Way.Loopback (cond t Way.Both Way.Link)) items
+    go : (u t : Bool) → ways.to_self_by (cond u Way.Loopback (cond t Way.Both Way.Link)) items
         ≡ cond {A = List Item} (u || t) items []
     go true t = refl
     go false true = refl
@@ -70,14 +70,15 @@ back_is c ip items = go (is_looped c ip) (ip == c.bcast)
 pub packets_made : {p q r : PoolView} {chain mtu : ℕ} {way : Way} {head : IpHead} {o u : TrainView} {made : Sent}
     (c : Config) (x : sending.Sending) → IsBuilt p x q chain → way ≡ way_of c x.to.ip → mtu ≡ mtu_to c x.to.ip
     → head ≡ sending_head x
-    → IsHeld p o → packets r u ≡ take OUTPUT_QUEUE_PACKETS
-    (packets q o ++ ways.to_link way (packets_of (chain_of q chain) head mtu))
+    → IsHeld p o → train_packets r u ≡ take OUTPUT_QUEUE_PACKETS
+    (train_packets q o ++ ways.to_link_by way (packets_of (chain_of q chain) head mtu))
     → made.is_lost ≡ nat_lt OUTPUT_QUEUE_PACKETS
-    (length (packets q o ++ ways.to_link way (packets_of (chain_of q chain) head mtu)))
-    → packets r made.looped ≡ ways.to_self way (packets_of (chain_of q chain) head mtu)
-    → made.is_cut ≡ nat_lt 1 (length (parts_of (chain_of q chain) mtu)) → IsHeld r made.looped
+    (length (train_packets q o ++ ways.to_link_by way (packets_of (chain_of q chain) head mtu)))
+    → train_packets r made.looped ≡ ways.to_self_by way (packets_of (chain_of q chain) head mtu)
+    → made.is_cut ≡ nat_lt 1 (length (chain_parts (chain_of q chain) mtu)) → IsHeld r made.looped
     → BeginPlain r made.looped
-    → IsQueue r u → Moves q (chain ∷ numbers q o) r (numbers r made.looped ++ numbers r u) → AreMade p c x o r made u
+    → IsOutputQueue r u → Moves q (chain ∷ numbers q o) r (numbers r made.looped ++ numbers r u)
+    → AreMade p c x o r made u
 packets_made {p} {q} {r} {chain} {mtu} {way} {head} {o} {u} {made} c x b way_is mtu_is head_is waits out lost back cut
     held plain queue moves =
     let v : ChainView = chain_of q chain in
@@ -87,18 +88,20 @@ packets_made {p} {q} {r} {chain} {mtu} {way} {head} {o} {u} {made} c x b way_is 
     let size : length (string v) - 20 ≡ length (sending.datagram x) =
     omega (arith, length-drop 20 (string v), ap (λ (xs : List ℕ). length xs) b.datagram) in
     let beside : Beside p q o = beside_adds o b.lies.made waits in
-    let before : packets q o ≡ packets p o = ap (map (λ (queued_packet : QueuedPacket). item_of queued_packet.entries))
+    let before : train_packets q o ≡ train_packets p o =
+    ap (map (λ (queued_packet : QueuedPacket). item_of queued_packet.entries))
     beside.queued_packets in
-    let linked : ways.to_link way (packets_of v head mtu) ≡ to_link c x.to.ip (sending.packets c b.clusters x) =
-    (λ i. ways.to_link (way_is i) (items_are i)) ∙ link_is c x.to.ip (sending.packets c b.clusters x) in
-    let all : packets q o ++ ways.to_link way (packets_of v head mtu) ≡ packets p o
+    let linked : ways.to_link_by way (packets_of v head mtu) ≡ to_link c x.to.ip (sending.packets c b.clusters x) =
+    (λ i. ways.to_link_by (way_is i) (items_are i)) ∙ link_is c x.to.ip (sending.packets c b.clusters x) in
+    let all : train_packets q o ++ ways.to_link_by way (packets_of v head mtu) ≡ train_packets p o
     ++ to_link c x.to.ip (sending.packets c b.clusters x) = λ i. before i ++ linked i in
     record {
       clusters = b.clusters;
       number = b.lies.number ∙ sym (need_clusters c x.to.ip (length x.bytes));
       free = b.lies.free;
       out = out ∙ ap (take OUTPUT_QUEUE_PACKETS) all;
-      back = back ∙ (λ i. ways.to_self (way_is i) (items_are i)) ∙ back_is c x.to.ip (sending.packets c b.clusters x);
+      back =
+          back ∙ (λ i. ways.to_self_by (way_is i) (items_are i)) ∙ back_is c x.to.ip (sending.packets c b.clusters x);
       is_cut = cut ∙ (λ i. nat_lt 1 (length (cuts (size i) (mtu_is i))));
       is_lost = lost ∙ ap (λ (l : List Item). nat_lt OUTPUT_QUEUE_PACKETS (length l)) all;
       queue = queue;

@@ -14,13 +14,13 @@ use Rattle.mbuf_chain.proofs.Laws.Steps.{adds_undone}
 use Rattle.chain_ops.specs.Makes.{Makes, LacksMbufs}
 use Rattle.chain_ops.specs.Prepends.{has_front, prepended, prepended_front, prepend_need}
 use Rattle.chain_ops.specs.Stored.{AreFree, Has, Lacks, stored_first}
-use Rattle.chain_ops.specs.Weights.{laid}
+use Rattle.chain_ops.specs.Weights.{laid_entries}
 use Rattle.chain_ops.proofs.Laws.Makes.{makes_held, makes_mbufs, makes_as, makes_then}
-use Rattle.ip_out.specs.Packets.{IsDatagram}
+use Rattle.ip_out.specs.Packets.{IsDatagramChain}
 use Rattle.ip_out.proofs.Laws.{datagram_sent}
-use Rattle.udp.specs.Datagrams.{built}
+use Rattle.udp.specs.Datagrams.{with_udp_header}
 use Rattle.udp.proofs.Laws.{built_laid}
-use Rattle.sock_calls.specs.Inside.Putting.{IsLaidOut, IsStored, IsBuilt}
+use Rattle.sock_calls.specs.Inside.Putting.{IsSendLaidOut, IsStored, IsBuilt}
 use Rattle.sock_calls.proofs.SentRooms.{beside, laid_count}
 
 -- ---- the bytes in buffers of their own
@@ -32,7 +32,7 @@ Stores p bytes q d =
 -- the headers in front of them give the layout of a send
 abbrev pub SentLayout : Type 0
 SentLayout = (cs xs hs : List ℕ) → length cs ≡ count_by is_cluster (user (length xs)) → length hs ≡ 28
-    → laid (prepended (record {
+    → laid_entries (prepended (record {
       front = alone true;
       entries = stored_first 56 true cs (user (length xs)) xs;
       cells = [];
@@ -43,15 +43,15 @@ no_lack p n has (inl few) = omega (arith, has.0, few, (beside n).mbufs)
 no_lack p n has (inr few) = omega (arith, has.1, few, (beside n).clusters)
 
 laid_there : {p q : PoolView} {d : ℕ} (bytes hs : List ℕ) → SentLayout → (s : Stores p bytes q d) → length hs ≡ 28
-    → laid (prepended (chain_of q d) hs) ≡ laid_on s.0 (sent (length bytes))
-laid_there {p} {q} {d} bytes hs law s len = ap laid
+    → laid_entries (prepended (chain_of q d) hs) ≡ laid_on s.0 (sent (length bytes))
+laid_there {p} {q} {d} bytes hs law s len = ap laid_entries
     (λ i. prepended (record { front = s.3.front i; entries = s.3.entries i; cells = [] }) hs) ∙ law s.0 bytes hs s.2 len
 
 count_there : {p q : PoolView} {d : ℕ} (bytes hs : List ℕ) → SentLayout → Stores p bytes q d → length hs ≡ 28
     → length (prepended (chain_of q d) hs) ≡ length (sent (length bytes))
 count_there {p} {q} {d} bytes hs law s len =
     sym (length-map (prepended (chain_of q d) hs) _)
-    ∙ ap (λ (es : List flat.Entry). length es) (laid_there bytes hs law s len)
+    ∙ ap (λ (es : List flat.LayoutEntry). length es) (laid_there bytes hs law s len)
     ∙ laid_count s.0 (sent (length bytes))
 
 prepend_few : (v : ChainView) (hs : List ℕ) → prepend_need v (length hs) + length v.entries ≤ length (prepended v hs)
@@ -100,7 +100,7 @@ stored_is {p} {q} {r} {d} {d'} bytes hs law s is len m string_is =
         free = s.1;
         made = made.adds;
         headed = ap (λ f. f.header) made.front ∙ headed_front (chain_of q d) (length hs) s.3.front;
-        laid = ap laid made.entries ∙ laid_there bytes hs law s len;
+        laid = ap laid_entries made.entries ∙ laid_there bytes hs law s len;
         size = omega (arith, ap (λ (xs : List ℕ). length xs) whole, length-append hs bytes, len);
         held = omega (
           arith,
@@ -113,16 +113,17 @@ stored_is {p} {q} {r} {d} {d'} bytes hs law s is len m string_is =
     }
 
 -- ---- the UDP header written into it
-pub ready : {p q : PoolView} {cs : List ℕ} {n c : ℕ} → IsLaidOut p n cs q c → n ≤ 9216 → IsDatagram (chain_of q c)
+pub ready : {p q : PoolView} {cs : List ℕ} {n c : ℕ} → IsSendLaidOut p n cs q c → n ≤ 9216
+    → IsDatagramChain (chain_of q c)
 ready {p} {q} {cs} {n} {c} l most = datagram_sent (chain_of q c) cs n l.headed l.laid (omega (arith, l.size, most))
 
-no_flat : flat.Entry
+no_flat : flat.LayoutEntry
 no_flat = record { size = 0; cluster = None }
 
-first_size : (es : List Entry) (x : flat.Entry) (xs : List flat.Entry) → laid es ≡ x ∷ xs
+first_size : (es : List Entry) (x : flat.LayoutEntry) (xs : List flat.LayoutEntry) → laid_entries es ≡ x ∷ xs
     → length (slice_index_or es 0 no_entry).bytes ≡ x.size
-first_size [] x xs h = absurd (omega (arith, ap (λ (ys : List flat.Entry). length ys) h))
-first_size (e ∷ es) x xs h = ap (λ (ys : List flat.Entry). (slice_index_or ys 0 no_flat).size) h
+first_size [] x xs h = absurd (omega (arith, ap (λ (ys : List flat.LayoutEntry). length ys) h))
+first_size (e ∷ es) x xs h = ap (λ (ys : List flat.LayoutEntry). (slice_index_or ys 0 no_flat).size) h
 
 plain_first : (cs : List ℕ) (n : ℕ) (rooms : List flat.Room)
     → laid_on cs (flat.Plain n ∷ rooms) ≡ record { size = n; cluster = None } ∷ laid_on cs rooms
@@ -131,34 +132,36 @@ plain_first [] n rooms = refl
 plain_first (c ∷ cs) n rooms = refl
 
 -- the headers stand in the first mbuf
-pub has_headers : {p q : PoolView} {cs : List ℕ} {n c : ℕ} → IsLaidOut p n cs q c
+pub has_headers : {p q : PoolView} {cs : List ℕ} {n c : ℕ} → IsSendLaidOut p n cs q c
     → 28 ≤ length (entry_of (chain_of q c) 0).bytes
 has_headers {p} {q} {cs} {n} {c} l = go (nat_le n 72) l.laid
   where
-    go : (t : Bool) → laid (chain_of q c).entries
+    go : (t : Bool) → laid_entries (chain_of q c).entries
         ≡ laid_on cs (cond {A = List flat.Room} t (flat.Plain (28 + n) ∷ []) (flat.Plain 28 ∷ user n))
         → 28 ≤ length (entry_of (chain_of q c) 0).bytes
     go true is = omega (arith, first_size (chain_of q c).entries _ _ (is ∙ plain_first cs (28 + n) []))
     go false is = omega (arith, first_size (chain_of q c).entries _ _ (is ∙ plain_first cs 28 (user n)))
 
-string_size : (es : List Entry) → length (flat_bytes es) ≡ sum_by (λ (x : flat.Entry). x.size) (laid es)
+string_size : (es : List Entry) → length (flat_bytes es) ≡ sum_by (λ (x : flat.LayoutEntry). x.size) (laid_entries es)
 string_size [] = refl
 string_size (e ∷ es) = omega (
   arith,
   length-append e.bytes (flat_bytes es),
-  sum_by-cons (λ (x : flat.Entry). x.size) (record { size = length e.bytes; cluster = e.cluster }) (laid es),
+  sum_by-cons (λ (x : flat.LayoutEntry). x.size) (record { size = length e.bytes; cluster = e.cluster })
+      (laid_entries es),
   string_size es,
 )
 
 pub built_is : {p q r : PoolView} {c : ℕ} (x : sending.Sending) → IsStored p x.bytes q c
-    → r ≡ with_chain q c (built x.source x.to.ip x.port x.to.port (chain_of q c))
+    → r ≡ with_chain q c (with_udp_header x.source x.to.ip x.port x.to.port (chain_of q c))
     → string (chain_of r c) ≡ take 20 (string (chain_of q c))
     ++ udp x.source x.to.ip x.port x.to.port (drop 28 (string (chain_of q c))) → IsBuilt p x r c
 built_is {p} {q} {r} {c} x s e string_is =
     let v : ChainView = chain_of q c in
-    let w : ChainView = built x.source x.to.ip x.port x.to.port v in
+    let w : ChainView = with_udp_header x.source x.to.ip x.port x.to.port v in
     let shown : chain_of r c ≡ w = shown_with q r c w e in
-    let laid_is : laid (chain_of r c).entries ≡ laid v.entries = ap (λ (u : ChainView). laid u.entries) shown
+    let laid_is : laid_entries (chain_of r c).entries ≡ laid_entries v.entries =
+    ap (λ (u : ChainView). laid_entries u.entries) shown
     ∙ built_laid x.source x.to.ip x.port x.to.port v (has_headers s.lies) in
     let m : Makes p q c v.front v.entries = record { adds = s.lies.made; front = refl; entries = refl } in
     let made : Makes p r c w.front w.entries = makes_then r w m e in
@@ -172,16 +175,16 @@ built_is {p} {q} {r} {c} x s e string_is =
         headed = ap (λ (u : ChainView). u.front.header) shown ∙ s.lies.headed;
         laid = laid_is ∙ s.lies.laid;
         size = string_size (chain_of r c).entries
-            ∙ ap (λ (es : List flat.Entry). sum_by (λ (y : flat.Entry). y.size) es) laid_is
+            ∙ ap (λ (es : List flat.LayoutEntry). sum_by (λ (y : flat.LayoutEntry). y.size) es) laid_is
             ∙ sym (string_size v.entries) ∙ s.lies.size;
         held = omega (
           arith,
           makes_held made,
           ap (λ (u : ChainView). length u.entries) shown,
-          length-map {B = flat.Entry} (chain_of r c).entries
+          length-map {B = flat.LayoutEntry} (chain_of r c).entries
               (λ (y : Entry). record { size = length y.bytes; cluster = y.cluster }),
-          ap (λ (es : List flat.Entry). length es) laid_is,
-          ap (λ (es : List flat.Entry). length es) s.lies.laid,
+          ap (λ (es : List flat.LayoutEntry). length es) laid_is,
+          ap (λ (es : List flat.LayoutEntry). length es) s.lies.laid,
           laid_count s.clusters (sent (length x.bytes)),
         );
       };

@@ -17,10 +17,10 @@ use Rattle.mbuf_chain.proofs.Laws.Accounts.{held-adds}
 use Rattle.mbuf_chain.proofs.Laws.Owners.{live_adds, shown_adds}
 use Rattle.mbuf_chain.proofs.Laws.Steps.{adds_undone, linked_front}
 use Rattle.chain_ops.specs.Stored.{AreFree, Has}
-use Rattle.chain_ops.specs.Weights.{laid}
+use Rattle.chain_ops.specs.Weights.{laid_entries}
 use Rattle.chain_ops.proofs.Laws.Rooms.{one_cluster}
 use Rattle.ip_out.specs.declared.ways.Way.{Way}
-use Rattle.sock_calls.specs.Inside.Putting.{IsBuilt, IsLaidOut, IsStored, way_of}
+use Rattle.sock_calls.specs.Inside.Putting.{IsBuilt, IsSendLaidOut, IsStored, way_of}
 use Rattle.sock_calls.proofs.SentRooms.{laid_count}
 
 -- ---- what it takes
@@ -88,7 +88,7 @@ entry xs start o = record { bytes = xs; start = start; cluster = o }
 
 lies : {p q : PoolView} {c : ℕ} (v : ChainView) (cs : List ℕ) (n : ℕ) → Adds p q c v → v.front.header ≡ true
     → length cs ≡ count_by is_cluster (sent n) → AreFree p cs
-    → laid v.entries ≡ laid_on cs (sent n) → length (string v) ≡ n + 28 → IsLaidOut p n cs q c
+    → laid_entries v.entries ≡ laid_on cs (sent n) → length (string v) ≡ n + 28 → IsSendLaidOut p n cs q c
 lies {p} {q} {c} v cs n adds headed number free is size =
     let shown : chain_of q c ≡ v = shown_adds adds in
     record {
@@ -96,13 +96,14 @@ lies {p} {q} {c} v cs n adds headed number free is size =
       free = free;
       made = subst (λ (w : ChainView). Adds p q c w) (sym shown) adds;
       headed = ap (λ (w : ChainView). w.front.header) shown ∙ headed;
-      laid = ap (λ (w : ChainView). laid w.entries) shown ∙ is;
+      laid = ap (λ (w : ChainView). laid_entries w.entries) shown ∙ is;
       size = ap (λ (w : ChainView). length (string w)) shown ∙ size;
       held = omega (
         arith,
         held-adds adds,
-        length-map {B = flat.Entry} v.entries (λ (e : Entry). record { size = length e.bytes; cluster = e.cluster }),
-        ap (λ (es : List flat.Entry). length es) is,
+        length-map {B = flat.LayoutEntry} v.entries
+            (λ (e : Entry). record { size = length e.bytes; cluster = e.cluster }),
+        ap (λ (es : List flat.LayoutEntry). length es) is,
         laid_count cs (sent n),
       );
     }

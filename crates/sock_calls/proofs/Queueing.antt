@@ -11,16 +11,16 @@ use Rattle.mbuf_chain.specs.Chain.{PoolView}
 use Rattle.mbuf_chain.specs.Train.{TrainView}
 use Rattle.pcb_table.specs.Table.{Table, KeepsOpen}
 use Rattle.pcb_table.specs.Found.{EnsuresPort, SendsFrom}
-use Rattle.ip_out.specs.Packets.{packets}
+use Rattle.ip_out.specs.Packets.{train_packets}
 use Rattle.ip_out.specs.declared.sending.Sent.{Sent}
 use Rattle.sock_calls.specs.declared.net.Net.{Net}
 use Rattle.sock_calls.specs.declared.packets.Heading.{Heading}
-use Rattle.sock_calls.specs.Inside.Putting.{config_of, sent_as, counts_sent, AreMade, IsPut}
+use Rattle.sock_calls.specs.Inside.Putting.{send_config, sent_as, counts_sent, AreMade, IsPut}
 
 pub put_is : {p q : PoolView} {t u : Table} {n : Net} {made : Sent} {o back : TrainView} {d : Counters} {fd : ℕ}
     {to : Addr} {bytes : List ℕ} (h : Heading)
     → h.id ≡ n.next_id → h.to ≡ to → SendsFrom t fd to.ip h.source → EnsuresPort t fd h.port u → KeepsOpen t u
-    → AreMade p (config_of t n.mtu) (sent_as h bytes) n.out q made o
+    → AreMade p (send_config t n.mtu) (sent_as h bytes) n.out q made o
     → d ≡ counts_sent made.is_cut made.is_lost n.counters → back ≡ made.looped
     → IsPut fd to bytes p t n made.is_lost q u (record {
       mtu = n.mtu;
@@ -31,7 +31,7 @@ pub put_is : {p q : PoolView} {t u : Table} {n : Net} {made : Sent} {o back : Tr
     })
 put_is {p} {q} {t} {u} {n} {made} {o} {back} {d} {fd} {to} {bytes} h id_is to_is source port keeps a d_is back_is =
     let x : flat.Sending = sent_as h bytes in
-    let ps : List Item = flat.packets (config_of t n.mtu) a.clusters x in
+    let ps : List Item = flat.packets (send_config t n.mtu) a.clusters x in
     subst (λ (b : TrainView). IsPut fd to bytes p t n made.is_lost q u
     (record { mtu = n.mtu; next_id = (n.next_id + 1) % 65536; counters = d; out = o; looped = b })) (sym back_is)
     record {
@@ -42,15 +42,15 @@ put_is {p} {q} {t} {u} {n} {made} {o} {back} {d} {fd} {to} {bytes} h id_is to_is
       port = port;
       descriptors = keeps;
       clusters = a.clusters;
-      number = subst (λ (k : Addr). length a.clusters ≡ (need_to (config_of t n.mtu) k.ip (length bytes)).clusters)
+      number = subst (λ (k : Addr). length a.clusters ≡ (need_to (send_config t n.mtu) k.ip (length bytes)).clusters)
           to_is a.number;
       free = a.free;
-      back = a.back ∙ ap (λ (k : Addr). to_self (config_of t n.mtu) k.ip ps) to_is;
+      back = a.back ∙ ap (λ (k : Addr). to_self (send_config t n.mtu) k.ip ps) to_is;
       out = a.out ∙ ap (λ (k : Addr). take OUTPUT_QUEUE_PACKETS
-          (packets p n.out ++ to_link (config_of t n.mtu) k.ip ps)) to_is;
+          (train_packets p n.out ++ to_link (send_config t n.mtu) k.ip ps)) to_is;
       is_lost = a.is_lost
           ∙ ap (λ (k : Addr). nat_lt OUTPUT_QUEUE_PACKETS
-          (length (packets p n.out ++ to_link (config_of t n.mtu) k.ip ps))) to_is;
+          (length (train_packets p n.out ++ to_link (send_config t n.mtu) k.ip ps))) to_is;
       next_id = refl;
       counters = d_is ∙ ap (λ (b : Bool). counts_sent b made.is_lost n.counters) a.is_cut;
       mtu = refl;

@@ -11,7 +11,7 @@ use Rattle.flat_model.specs.Machine.Send.{need_to}
 use Rattle.flat_model.specs.Machine.Sending.{is_looped, mtu_to}
 use Rattle.flat_model.specs.declared.config.Config.{Config}
 use Rattle.mbuf_chain.specs.Chain.{ChainView, PoolView, held_mbufs, string}
-use Rattle.chain_ops.specs.Weights.{laid}
+use Rattle.chain_ops.specs.Weights.{laid_entries}
 use Rattle.chain_ops.proofs.Laws.Rooms.{rest_rooms, rooms_step, rest_none}
 use Rattle.ip_out.specs.declared.ways.Way.{Way}
 use Rattle.ip_out.specs.Packets.{part_need, later_need}
@@ -31,34 +31,36 @@ laid_count [] (Cluster n ∷ rooms) = ap suc (laid_count [] rooms)
 laid_count (c ∷ cs) (Cluster n ∷ rooms) = ap suc (laid_count cs rooms)
 
 -- one more mbuf, which a range meets or doesn't
-met_one : (at a b n : ℕ) (e : flat.Entry) (es : List flat.Entry) (room : Room) (rooms : List Room)
+met_one : (at a b n : ℕ) (e : flat.LayoutEntry) (es : List flat.LayoutEntry) (room : Room) (rooms : List Room)
     → e.size ≡ size_of room
-    → ((at : ℕ) → length (meets_from (λ (x : flat.Entry). x.size) at es a b) ≡ length (meets_from size_of at rooms a b))
-    → length (meets_from (λ (x : flat.Entry). x.size) at (e ∷ es) a b)
+    → ((at : ℕ) → length (meets_from (λ (x : flat.LayoutEntry). x.size) at es a b)
+    ≡ length (meets_from size_of at rooms a b))
+    → length (meets_from (λ (x : flat.LayoutEntry). x.size) at (e ∷ es) a b)
     ≡ length (meets_from size_of at (room ∷ rooms) a b)
 unfolding meets_from
 met_one at a b n e es room rooms same later =
-    ap (λ (k : ℕ). length (cond {A = List flat.Entry} (nat_lt (max at a) (min (at + k) b))
-    (e ∷ meets_from (λ (x : flat.Entry). x.size) (at + k) es a b)
-    (meets_from (λ (x : flat.Entry). x.size) (at + k) es a b))) same
+    ap (λ (k : ℕ). length (cond {A = List flat.LayoutEntry} (nat_lt (max at a) (min (at + k) b))
+    (e ∷ meets_from (λ (x : flat.LayoutEntry). x.size) (at + k) es a b)
+    (meets_from (λ (x : flat.LayoutEntry). x.size) (at + k) es a b))) same
     ∙ go (nat_lt (max at a) (min (at + size_of room) b)) (later (at + size_of room))
   where
-    go : (t : Bool) → length (meets_from (λ (x : flat.Entry). x.size) (at + size_of room) es a b)
+    go : (t : Bool) → length (meets_from (λ (x : flat.LayoutEntry). x.size) (at + size_of room) es a b)
         ≡ length (meets_from size_of (at + size_of room) rooms a b)
-        → length (cond {A = List flat.Entry} t (e ∷ meets_from (λ (x : flat.Entry). x.size) (at + size_of room) es a b)
-        (meets_from (λ (x : flat.Entry). x.size) (at + size_of room) es a b))
+        → length (cond {A = List flat.LayoutEntry} t
+        (e ∷ meets_from (λ (x : flat.LayoutEntry). x.size) (at + size_of room) es a b)
+        (meets_from (λ (x : flat.LayoutEntry). x.size) (at + size_of room) es a b))
         ≡ length (cond {A = List Room} t (room ∷ meets_from size_of (at + size_of room) rooms a b)
         (meets_from size_of (at + size_of room) rooms a b))
     go true h = ap suc h
     go false h = h
 
-met_none : (at a b : ℕ) → length (meets_from (λ (x : flat.Entry). x.size) at [] a b)
+met_none : (at a b : ℕ) → length (meets_from (λ (x : flat.LayoutEntry). x.size) at [] a b)
     ≡ length (meets_from size_of at [] a b)
 unfolding meets_from
 met_none at a b = refl
 
 met_laid : (cs : List ℕ) (rooms : List Room) (a b at : ℕ)
-    → length (meets_from (λ (x : flat.Entry). x.size) at (laid_on cs rooms) a b)
+    → length (meets_from (λ (x : flat.LayoutEntry). x.size) at (laid_on cs rooms) a b)
     ≡ length (meets_from size_of at rooms a b)
 unfolding laid_on
 met_laid [] [] a b at = met_none at a b
@@ -73,13 +75,14 @@ met_laid (c ∷ cs) (Cluster n ∷ rooms) a b at = met_one at a b n (record { si
     (laid_on cs rooms) (Cluster n) rooms refl (met_laid cs rooms a b)
 
 -- ---- what the later fragments take
-parts_need : (v : ChainView) (cs : List ℕ) (rooms : List Room) → laid v.entries ≡ laid_on cs rooms → (ps : List Part)
+parts_need : (v : ChainView) (cs : List ℕ) (rooms : List Room) → laid_entries v.entries ≡ laid_on cs rooms
+    → (ps : List Part)
     → sum_by (part_need v) ps ≡ sum_by (need_of_part rooms) ps
 parts_need v cs rooms is [] = refl
 parts_need v cs rooms is (p ∷ ps) =
-    let here : length (entries_met (laid v.entries) (20 + p.offset) (20 + p.offset + p.size))
+    let here : length (entries_met (laid_entries v.entries) (20 + p.offset) (20 + p.offset + p.size))
     ≡ length (meets rooms (20 + p.offset) (20 + p.offset + p.size)) =
-    ap (λ (es : List flat.Entry). length (entries_met es (20 + p.offset) (20 + p.offset + p.size))) is
+    ap (λ (es : List flat.LayoutEntry). length (entries_met es (20 + p.offset) (20 + p.offset + p.size))) is
     ∙ met_laid cs rooms (20 + p.offset) (20 + p.offset + p.size) 0 in
     omega (
       arith,
@@ -89,7 +92,7 @@ parts_need v cs rooms is (p ∷ ps) =
       sum_by-cons (need_of_part rooms) p ps,
     )
 
-pub later_is : (v : ChainView) (cs : List ℕ) (n mtu : ℕ) → laid v.entries ≡ laid_on cs (sent n)
+pub later_is : (v : ChainView) (cs : List ℕ) (n mtu : ℕ) → laid_entries v.entries ≡ laid_on cs (sent n)
     → length (string v) ≡ n + 28 → later_need v mtu ≡ sum_by (need_of_part (sent n)) (drop 1 (cuts (n + 8) mtu))
 later_is v cs n mtu is size =
     let carried : length (string v) - 20 ≡ n + 8 = omega (arith, size) in
@@ -167,12 +170,12 @@ has_mbufs p c ip n h = enough_mbufs p (need_to c ip n).mbufs (need_to c ip n).cl
 
 -- ---- the packets beyond the datagram take the rest
 pub need_is_way : (c : Config) (ip n : ℕ) (v : ChainView) (cs : List ℕ) → IsRouted c → (ip ≡ c.bcast → n + 28 ≤ c.mtu)
-    → laid v.entries ≡ laid_on cs (sent n) → length (string v) ≡ n + 28
+    → laid_entries v.entries ≡ laid_on cs (sent n) → length (string v) ≡ n + 28
     → (need_to c ip n).mbufs ≡ length (sent n) + way_need (way_of c ip) v (mtu_to c ip)
 need_is_way c ip n v cs routed fits is size = go (ip == c.bcast) refl (is_looped c ip) refl
   where
     count : length v.entries ≡ length (sent n)
-    count = sym (length-map v.entries _) ∙ ap (λ (es : List flat.Entry). length es) is ∙ laid_count cs (sent n)
+    count = sym (length-map v.entries _) ∙ ap (λ (es : List flat.LayoutEntry). length es) is ∙ laid_count cs (sent n)
 
     not_looped : (ip == c.bcast) ≡ true → is_looped c ip ≡ false
     not_looped e =

@@ -11,18 +11,18 @@ use Rattle.pcb_table.specs.declared.block.Block.{Block}
 use Rattle.pcb_table.specs.Table.{Table, block_at, sockets_with}
 use Rattle.pcb_table.specs.Apart.{AreApart, has_fd}
 use Rattle.pcb_table.proofs.Laws.{queued_mbufs, queued_times, by_descriptor}
-use Rattle.ledger.specs.Accounts.{weight_of, weight_at, weight_owned}
-use Rattle.sockbuf.specs.SockBuf.{SockBufView, IsSockBuf, IsDatagram, datagram_of, datagrams, datagrams_of, chains_of}
+use Rattle.ledger.specs.Accounts.{entries_weight, weight_at, weight_owned}
+use Rattle.sockbuf.specs.SockBuf.{SockBufView, IsSockBuf, IsDatagram, queued_datagram, datagrams, datagrams_of, chains_of}
 use Rattle.sock_calls.specs.Sockets.{SocksView, IsSocks, queue_at, queues_of, queued_chains}
 
 -- ---- one queue
-weighs : (es : List Entry) → IsDatagram es → weight_of es ≡ (datagram_of es).item.weight
+weighs : (es : List Entry) → IsDatagram es → entries_weight es ≡ (queued_datagram es).item.weight
 weighs [] h = absurd h
 weighs (e ∷ es) h =
     let none : e.cluster ≡ None = ap (λ (x : Entry). x.cluster) h.0 in
-    let bag : (weight_of (e ∷ es)).bag ≡ (weight_of es).bag =
-    ap (λ (o : Option ℕ). (weight_of (record { bytes = e.bytes; start = e.start; cluster = o } ∷ es)).bag) none in
-    let mbufs : (weight_of (e ∷ es)).mbufs ≡ 1 + (weight_of es).mbufs = omega arith in
+    let bag : (entries_weight (e ∷ es)).bag ≡ (entries_weight es).bag =
+    ap (λ (o : Option ℕ). (entries_weight (record { bytes = e.bytes; start = e.start; cluster = o } ∷ es)).bag) none in
+    let mbufs : (entries_weight (e ∷ es)).mbufs ≡ 1 + (entries_weight es).mbufs = omega arith in
     λ i. record { mbufs = mbufs i; bag = bag i }
 
 abbrev pub queue_weight : List Datagram → Weight
@@ -32,7 +32,8 @@ owned_weighs : (p : PoolView) (xs : List ℕ) → Each (λ (queued_packet : Queu
     (map (queued_packet_of p) xs) → weight_owned p xs ≡ queue_weight (datagrams_of (map (queued_packet_of p) xs))
 owned_weighs p [] h = refl
 owned_weighs p (x ∷ xs) h =
-    let here : weight_at p x ≡ (datagram_of (chain_of p x).entries).item.weight = weighs (chain_of p x).entries h.0 in
+    let here : weight_at p x ≡ (queued_datagram (chain_of p x).entries).item.weight =
+    weighs (chain_of p x).entries h.0 in
     let later : weight_owned p xs ≡ queue_weight (datagrams_of (map (queued_packet_of p) xs)) = owned_weighs p xs h.1 in
     λ i. here i ⊕ later i
 

@@ -17,7 +17,7 @@ use Rattle.flat_model.specs.Machine.State.{State, Socket, Datagram, change_socke
 use Rattle.flat_model.specs.Machine.Ledger as state
 use Rattle.flat_model.specs.Machine.Ledger.{IsFree, exact_ledger, has_enough, need_mbufs}
 use Rattle.flat_model.specs.Machine.Step.{ComesIn}
-use Rattle.flat_model.specs.Machine.Arrival.{By_wire, Appends, GoesTo, WholeArrives, Passes, Arrives, carried, counts_packet, hearers, is_for_us, queued}
+use Rattle.flat_model.specs.Machine.Arrival.{By_wire, Appends, GoesTo, WholeArrives, Passes, Arrives, carried, counts_packet, hearers, is_for_us, with_datagram}
 use Rattle.flat_model.proofs.Laws.{count_cons}
 use Rattle.mbuf_chain.specs.Chain.{PoolView, free_clusters, held_mbufs, references}
 use Rattle.ledger.specs.Accounts.{IsAccounted}
@@ -123,7 +123,7 @@ module _ (p q : PoolView) (t : Table) (bs cs : List SockBufView) (packet : List 
       λ i. le-leb 1 (state.free_mbufs mid (nothing ⊕ w)) some i
       && le-leb 0 (state.free_clusters mid (nothing ⊕ w)) (omega arith) i
 
-  put : new ≡ change_socket fd (queued (stored_datagram from (drop 28 packet) is.cluster)) mid
+  put : new ≡ change_socket fd (with_datagram (stored_datagram from (drop 28 packet) is.cluster)) mid
   put = queue_changed f (queues_of q cs) t (counts_packet rest) fd
       (λ (ds : List Datagram). ds ++ stored_datagram from (drop 28 packet) is.cluster ∷ []) is.here is.steps.others
 
@@ -135,7 +135,7 @@ module _ (p q : PoolView) (t : Table) (bs cs : List SockBufView) (packet : List 
       has_buffers = inl (sym one_more, refl);
       goes_on = record {
         yes = λ _. put
-            ∙ ap (λ (k : ℕ). change_socket k (queued (stored_datagram from (drop 28 packet) is.cluster)) mid)
+            ∙ ap (λ (k : ℕ). change_socket k (with_datagram (stored_datagram from (drop 28 packet) is.cluster)) mid)
             (sym is.found.1);
         no = λ e. absurd (true≢false e);
       };

@@ -14,8 +14,8 @@ use Rattle.mbuf_chain.specs.Chain.{PoolView}
 use Rattle.mbuf_chain.specs.Owners.{IsOwned, Moves}
 use Rattle.mbuf_chain.specs.Train.{IsHeld, numbers}
 use Rattle.ledger.specs.Accounts.{IsAccounted}
-use Rattle.ip_out.specs.Packets.{packets, BeginPlain}
-use Rattle.ip_out.specs.Queues.{IsQueue}
+use Rattle.ip_out.specs.Packets.{train_packets, BeginPlain}
+use Rattle.ip_out.specs.Queues.{IsOutputQueue}
 use Rattle.sock_calls.specs.declared.net.Net.{Net}
 use Rattle.sock_calls.specs.Sockets.{SocksView, IsSocks, queued_chains, with_sockets}
 use Rattle.sock_calls.specs.Sends.{SendsOnce}
@@ -31,7 +31,7 @@ sending p s n = record { pool = p; socks = s; net = n }
 
 -- the machine that has this output queue, next identification and these counters, in all else `rest`
 abbrev pub with_output : PoolView → Net → State → State
-with_output p n rest = record rest { output = packets p n.out; next_id = n.next_id; counters = n.counters }
+with_output p n rest = record rest { output = train_packets p n.out; next_id = n.next_id; counters = n.counters }
 
 -- the machine that has all this, in all else `rest`
 abbrev pub state_in : SendView → State → State
@@ -45,7 +45,7 @@ weight_of_all items = all_of (λ item. item.weight) items
 -- differ, of which the broadcast address isn't 127.0.0.1.
 pub record CanSend (v : SendView) : Type 0 where
   pub socks : IsSocks v.pool v.socks
-  pub out : IsQueue v.pool v.net.out
+  pub out : IsOutputQueue v.pool v.net.out
   pub owned : IsOwned v.pool (numbers v.pool v.net.out ++ queued_chains v.pool v.socks.queues)
   pub looped : IsHeld v.pool v.net.looped
   pub none : v.net.looped.len ≡ 0
@@ -58,13 +58,13 @@ pub record CanSend (v : SendView) : Type 0 where
 pub record IsSent (fd : ℕ) (to : Option Addr) (bytes : List ℕ) (v : SendView) (result : Result ℕ Errno) (u : SendView)
     : Type 0 where
   pub step : (rest : State) → rest.config.mtu ≡ v.net.mtu → IsAccounted v.pool (state_in v rest) nothing
-      → SendsOnce exact_ledger fd to bytes (state_in v rest) (sent_reply result) (packets u.pool u.net.looped)
+      → SendsOnce exact_ledger fd to bytes (state_in v rest) (sent_reply result) (train_packets u.pool u.net.looped)
       (state_in u rest)
   pub accounts : (rest : State) → IsAccounted v.pool (state_in v rest) nothing
-      → IsAccounted u.pool (state_in u rest) (weight_of_all (packets u.pool u.net.looped))
+      → IsAccounted u.pool (state_in u rest) (weight_of_all (train_packets u.pool u.net.looped))
   pub refused : IfErr result (λ errno. (errno ≡ NoBufs Queue) ⊎ (u ≡ v))
   pub socks : IsSocks u.pool u.socks
-  pub out : IsQueue u.pool u.net.out
+  pub out : IsOutputQueue u.pool u.net.out
   pub looped : IsHeld u.pool u.net.looped
   pub plain : BeginPlain u.pool u.net.looped
   pub mtu : u.net.mtu ≡ v.net.mtu

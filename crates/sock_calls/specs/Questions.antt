@@ -13,8 +13,8 @@ use Rattle.sock_calls.specs.declared.questions.NextDatagram.{NextDatagram}
 -- ---- one socket
 
 -- what it is bound and connected to, and its options
-abbrev pub name_of : Socket → SocketName
-name_of me = record {
+abbrev pub socket_name_of : Socket → SocketName
+socket_name_of me = record {
   local = me.local;
   port = me.port;
   peer = me.peer;
@@ -22,35 +22,35 @@ name_of me = record {
   reuse_port = me.reuse_port;
 }
 
-abbrev pub named : Option Socket → Result SocketName Errno
-named None = Err BadDescriptor
-named (Some me) = Ok (name_of me)
+abbrev pub name_or_fault : Option Socket → Result SocketName Errno
+name_or_fault None = Err BadDescriptor
+name_or_fault (Some me) = Ok (socket_name_of me)
 
 -- the name of a descriptor's socket; refused where no such socket is open
 abbrev pub socket_name : ℕ → State → Result SocketName Errno
-socket_name fd s = named (socket_at fd s)
+socket_name fd s = name_or_fault (socket_at fd s)
 
 -- the oldest of these datagrams; refused where there is none
-abbrev pub next_of : List Datagram → Result NextDatagram Errno
-next_of [] = Err WouldBlock
-next_of (d ∷ later) = Ok (record { sender = d.sender; len = length d.item.bytes; waiting = suc (length later) })
+abbrev pub oldest_datagram : List Datagram → Result NextDatagram Errno
+oldest_datagram [] = Err WouldBlock
+oldest_datagram (d ∷ later) = Ok (record { sender = d.sender; len = length d.item.bytes; waiting = suc (length later) })
 
 abbrev pub next_in : Option Socket → Result NextDatagram Errno
 next_in None = Err BadDescriptor
-next_in (Some me) = next_of me.queue
+next_in (Some me) = oldest_datagram me.queue
 
 -- the oldest datagram that waits in a descriptor's socket; refused where no such socket is open, and where none waits
 abbrev pub next_datagram : ℕ → State → Result NextDatagram Errno
 next_datagram fd s = next_in (socket_at fd s)
 
-abbrev pub bytes_in : Option Socket → Result ℕ Errno
-bytes_in None = Err BadDescriptor
-bytes_in (Some me) = Ok (queue.bytes_queued me.queue)
+abbrev pub bytes_waiting : Option Socket → Result ℕ Errno
+bytes_waiting None = Err BadDescriptor
+bytes_waiting (Some me) = Ok (queue.bytes_queued me.queue)
 
 -- How many bytes wait in a descriptor's socket, with 16 for each sender's address (`sb_cc` of chapter 16); refused
 -- where no such socket is open.
-abbrev pub bytes_queued : ℕ → State → Result ℕ Errno
-bytes_queued fd s = bytes_in (socket_at fd s)
+abbrev pub bytes_queued_at : ℕ → State → Result ℕ Errno
+bytes_queued_at fd s = bytes_waiting (socket_at fd s)
 
 -- ---- all sockets
 

@@ -12,7 +12,7 @@ ghost use Rattle.sockbuf.specs.Stored.{IsTaken, stored_datagram};
 ghost use Rattle.flat_model.specs.Amounts.Layout.{wire};
 ghost use Rattle.sock_calls.specs.Sockets.{IsSocks, StepsAt, from_three, queue_at, queues_of, queued_chains};
 ghost use Rattle.sock_calls.specs.Delivery.{seen, IsAppended, IsOffered, IsDelivered};
-ghost use Rattle.sock_calls.specs.Inside.Parts.{shown};
+ghost use Rattle.sock_calls.specs.Inside.Parts.{socks_of};
 ghost use Rattle.sock_calls.specs.Whole.{ComesWhole, one_room};
 
 use crate::parts::Parts;
@@ -120,10 +120,10 @@ impl Parts {
     // Inlined, as `deliver` is.
     #[inline(always)]
     pub(crate) fn take_whole(&mut self, pool: &mut Pool, packet: &Checked<'_>) -> bool
-        requires { IsSocks pool.old (shown self.old) }
-        ensures came { result ≡ true → ComesWhole pool.old (shown self.old) packet.now.packet.now
-            pool.new (shown self.new) }
-        ensures same { result ≡ false → (pool.new ≡ pool.old) × (shown self.new ≡ shown self.old) }
+        requires { IsSocks pool.old (socks_of self.old) }
+        ensures came { result ≡ true → ComesWhole pool.old (socks_of self.old) packet.now.packet.now
+            pool.new (socks_of self.new) }
+        ensures same { result ≡ false → (pool.new ≡ pool.old) × (socks_of self.new ≡ socks_of self.old) }
     {
         let len = packet.packet.len() as u32;
         let Some(is_large) = one_room(len) else {
@@ -155,16 +155,16 @@ impl Parts {
         fd: u32,
         datagram: Datagram,
     )
-        requires socks { IsSocks pool.old (shown self.old) }
+        requires socks { IsSocks pool.old (socks_of self.old) }
         requires opened { IsOpen fd self.old.pcbs }
         requires waits { R.is_ready pool.old waiting.old }
         requires owned { IsOwned pool.old (datagram.chain
             ∷ (R.owned pool.old waiting.old ++ queued_chains pool.old (from_three self.old.queues))) }
         ensures appended { IsAppended
-            (seen pool.old (shown self.old) (R.unfinished pool.old waiting.old)
+            (seen pool.old (socks_of self.old) (R.unfinished pool.old waiting.old)
             (R.owned pool.old waiting.old) counters.old)
             datagram.chain fd datagram.sender
-            (seen pool.new (shown self.new) (R.unfinished pool.new waiting.new)
+            (seen pool.new (socks_of self.new) (R.unfinished pool.new waiting.new)
             (R.owned pool.new waiting.new) counters.new) }
         ensures waits { R.is_ready pool.new waiting.new }
     {
@@ -195,16 +195,16 @@ impl Parts {
         fd: u32,
         datagram: &Datagram,
     )
-        requires socks { IsSocks pool.old (shown self.old) }
+        requires socks { IsSocks pool.old (socks_of self.old) }
         requires opened { IsOpen fd self.old.pcbs }
         requires waits { R.is_ready pool.old waiting.old }
         requires owned { IsOwned pool.old (datagram.now.chain
             ∷ (R.owned pool.old waiting.old ++ queued_chains pool.old (from_three self.old.queues))) }
         ensures offered { IsOffered
-            (seen pool.old (shown self.old) (R.unfinished pool.old waiting.old)
+            (seen pool.old (socks_of self.old) (R.unfinished pool.old waiting.old)
             (R.owned pool.old waiting.old) counters.old)
             datagram.now.chain fd datagram.now.sender
-            (seen pool.new (shown self.new) (R.unfinished pool.new waiting.new)
+            (seen pool.new (socks_of self.new) (R.unfinished pool.new waiting.new)
             (R.owned pool.new waiting.new) counters.new) }
         ensures waits { R.is_ready pool.new waiting.new }
     {
@@ -231,7 +231,7 @@ impl Parts {
         fds: &[u32],
         datagram: Datagram,
     )
-        requires socks { IsSocks pool.old (shown self.old) }
+        requires socks { IsSocks pool.old (socks_of self.old) }
         requires some { 0 < length fds.now }
         requires opened { All (λ fd. IsOpen fd self.old.pcbs) fds.now }
         requires distinct { (fd : ℕ) → times fd fds.now ≤ 1 }
@@ -239,10 +239,10 @@ impl Parts {
         requires owned { IsOwned pool.old (datagram.chain
             ∷ (R.owned pool.old waiting.old ++ queued_chains pool.old (from_three self.old.queues))) }
         ensures delivered { IsDelivered
-            (seen pool.old (shown self.old) (R.unfinished pool.old waiting.old)
+            (seen pool.old (socks_of self.old) (R.unfinished pool.old waiting.old)
             (R.owned pool.old waiting.old) counters.old)
             datagram.chain fds.now datagram.sender
-            (seen pool.new (shown self.new) (R.unfinished pool.new waiting.new)
+            (seen pool.new (socks_of self.new) (R.unfinished pool.new waiting.new)
             (R.owned pool.new waiting.new) counters.new) }
         ensures waits { R.is_ready pool.new waiting.new }
     {

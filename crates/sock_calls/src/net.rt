@@ -4,7 +4,7 @@ ghost use Rattle.flat_model.specs.Machine.Count.{no_counts};
 ghost use Rattle.mbuf_chain.specs.Chain.{PoolView};
 ghost use Rattle.mbuf_chain.specs.Owners.{Moves};
 ghost use Rattle.mbuf_chain.specs.Train.{numbers};
-ghost use Rattle.ip_out.specs.Queues.{IsQueue};
+ghost use Rattle.ip_out.specs.Queues.{IsOutputQueue};
 
 use flat_model::Counters;
 use ip_out::Queue;
@@ -32,7 +32,7 @@ impl Net {
         ensures mtu { result.mtu ≡ mtu }
         ensures next_id { result.next_id ≡ first_id }
         ensures counters { result.counters ≡ no_counts }
-        ensures out { (p : PoolView) → IsQueue p result.out }
+        ensures out { (p : PoolView) → IsOutputQueue p result.out }
         ensures waits { result.out.len ≡ 0 }
         ensures looped { result.looped ≡ record { first = None; last = None; len = 0 } }
     {
@@ -47,7 +47,7 @@ impl Net {
 
     /// Frees all packets that wait for the link. None may be left that was to come back.
     pub fn end(self, pool: &mut Pool)
-        requires out { IsQueue pool.old self.out }
+        requires out { IsOutputQueue pool.old self.out }
         requires none { self.looped.len ≡ 0 }
         ensures { Moves pool.old (numbers pool.old self.out) pool.new [] }
     {

@@ -6,7 +6,7 @@ ghost use Rattle.flat_model.specs.Machine.Send.{need_to};
 ghost use Rattle.flat_model.specs.Machine.Sending as flat;
 ghost use Rattle.flat_model.specs.Machine.Sending.{is_looped, mtu_to};
 ghost use Rattle.chain_ops.specs.Stored.{Has};
-ghost use Rattle.sock_calls.specs.Inside.Putting.{config_of, head_as, sent_as, IsBuilt, IsStored, way_of};
+ghost use Rattle.sock_calls.specs.Inside.Putting.{send_config, head_as, sent_as, IsBuilt, IsStored, way_of};
 
 use chain_ops::theorems::sent_layout;
 use chain_ops::{from_user, m_prepend};
@@ -47,7 +47,7 @@ pub(crate) struct Route {
 /// Whether packets to an address come back and stay off the link.
 #[inline(always)]
 fn is_looped(pcbs: &Pcbs, ip: u32) -> bool
-    ensures { result ≡ is_looped (config_of pcbs.now 0) ip }
+    ensures { result ≡ is_looped (send_config pcbs.now 0) ip }
 {
     ip == pcbs.addr() || ip == LOOPBACK
 }
@@ -55,8 +55,8 @@ fn is_looped(pcbs: &Pcbs, ip: u32) -> bool
 /// Where packets to an address go, and how long the longest of them is.
 #[inline(always)]
 pub(crate) fn way_to(pcbs: &Pcbs, mtu: u16, ip: u32) -> (Way, u16)
-    ensures way { result.0 ≡ way_of (config_of pcbs.now mtu) ip }
-    ensures mtu { result.1 ≡ mtu_to (config_of pcbs.now mtu) ip }
+    ensures way { result.0 ≡ way_of (send_config pcbs.now mtu) ip }
+    ensures mtu { result.1 ≡ mtu_to (send_config pcbs.now mtu) ip }
 {
     if is_looped(pcbs, ip) {
         (Way::Loopback, LOOPBACK_MTU)
@@ -72,8 +72,8 @@ pub(crate) fn way_to(pcbs: &Pcbs, mtu: u16, ip: u32) -> (Way, u16)
 pub(crate) fn need_to(pcbs: &Pcbs, longest: u16, ip: u32, len: u32) -> Need
     requires most { len ≤ UDP_SEND_SPACE }
     requires longest { MIN_MTU ≤ longest }
-    ensures { (mtu : ℕ) → longest ≡ mtu_to (config_of pcbs.now mtu) ip
-        → result ≡ need_to (config_of pcbs.now mtu) ip len }
+    ensures { (mtu : ℕ) → longest ≡ mtu_to (send_config pcbs.now mtu) ip
+        → result ≡ need_to (send_config pcbs.now mtu) ip len }
 {
     if ip == pcbs.bcast() {
         need_bcast(len)

@@ -4,8 +4,8 @@ ghost use Rattle.flat_model.specs.Sockets.Fits as flat;
 ghost use Rattle.mbuf_chain.specs.Chain.{PoolView};
 ghost use Rattle.pcb_table.specs.Table.{block_at};
 ghost use Rattle.sockbuf.specs.SockBuf.{IsSockBuf, datagrams};
-ghost use Rattle.sock_calls.specs.Questions.{set_below, next_of};
-ghost use Rattle.sock_calls.specs.Inside.Asked.{name_in, waits_at};
+ghost use Rattle.sock_calls.specs.Questions.{set_below, oldest_datagram};
+ghost use Rattle.sock_calls.specs.Inside.Asked.{told_name, waits_at};
 ghost use Rattle.sock_calls.specs.Sockets.{queue_at, queues_of};
 
 use crate::queues::QUEUES;
@@ -44,7 +44,7 @@ pub struct NextDatagram {
 
 /// The name of a descriptor's socket.
 pub(crate) fn name_of(pcbs: &Pcbs, fd: u32) -> Result<SocketName, Errno>
-    ensures { result ≡ name_in (block_at fd pcbs.now) }
+    ensures { result ≡ told_name (block_at fd pcbs.now) }
 {
     match pcbs.block(fd) {
         Some(block) => Ok(SocketName {
@@ -62,7 +62,7 @@ pub(crate) fn name_of(pcbs: &Pcbs, fd: u32) -> Result<SocketName, Errno>
 pub(crate) fn next_at(pool: &Pool, queues: &[SockBuf], place: usize) -> Result<NextDatagram, Errno>
     requires each { (k : ℕ) → IsSockBuf pool.now (queue_at queues.now k) }
     requires place { place < length queues.now }
-    ensures { result ≡ next_of (queues_of pool.now queues.now place) }
+    ensures { result ≡ oldest_datagram (queues_of pool.now queues.now place) }
 {
     let queue = &queues[place];
     match queue.oldest(pool) {

@@ -2,10 +2,10 @@
 ghost use Rattle.std.specs.Prelude.{◌≡◌, ◌+◌, ◌≤◌, length, true, false, Ok, Some};
 ghost use Rattle.flat_model.specs.Machine.Sending.{mtu_to};
 ghost use Rattle.pcb_table.specs.Table.{block_at};
-ghost use Rattle.ip_out.specs.Queues.{IsQueue};
+ghost use Rattle.ip_out.specs.Queues.{IsOutputQueue};
 ghost use Rattle.sock_calls.specs.Outgoing.{sending, CanSend, IsSent};
-ghost use Rattle.sock_calls.specs.Inside.Parts.{shown};
-ghost use Rattle.sock_calls.specs.Inside.Putting.{config_of, counts_sent, way_of, IsFreeFor, IsPut, IsRouted};
+ghost use Rattle.sock_calls.specs.Inside.Parts.{socks_of};
+ghost use Rattle.sock_calls.specs.Inside.Putting.{send_config, counts_sent, way_of, IsFreeFor, IsPut, IsRouted};
 
 use crate::destination::{link_target, send_target};
 use crate::net::Net;
@@ -45,14 +45,14 @@ impl Parts {
         bytes: &[u8],
     ) -> bool
         requires opened { block_at block.now.fd self.old.pcbs ≡ Some block.now }
-        requires queue { IsQueue pool.old net.old.out }
+        requires queue { IsOutputQueue pool.old net.old.out }
         requires none { net.old.looped.len ≡ 0 }
         requires most { length bytes.now ≤ UDP_SEND_SPACE }
-        requires routed { IsRouted (config_of self.old.pcbs net.old.mtu) }
-        requires way { route.way ≡ way_of (config_of self.old.pcbs net.old.mtu) route.to.ip }
-        requires longest { route.longest ≡ mtu_to (config_of self.old.pcbs net.old.mtu) route.to.ip }
+        requires routed { IsRouted (send_config self.old.pcbs net.old.mtu) }
+        requires way { route.way ≡ way_of (send_config self.old.pcbs net.old.mtu) route.to.ip }
+        requires longest { route.longest ≡ mtu_to (send_config self.old.pcbs net.old.mtu) route.to.ip }
         requires uncut { route.to.ip ≡ self.old.pcbs.bcast → length bytes.now + IP_UDP_HEADERS ≤ net.old.mtu }
-        requires free { IsFreeFor pool.old (config_of self.old.pcbs net.old.mtu) route.to.ip (length bytes.now) }
+        requires free { IsFreeFor pool.old (send_config self.old.pcbs net.old.mtu) route.to.ip (length bytes.now) }
         ensures put { IsPut block.now.fd route.to bytes.now pool.old self.old.pcbs net.old
             result pool.new self.new.pcbs net.new }
         ensures queues { self.new.queues ≡ self.old.queues }
@@ -93,9 +93,9 @@ impl Parts {
         to: Option<Addr>,
         bytes: &[u8],
     ) -> bool
-        requires { CanSend (sending pool.old (shown self.now) net.old) }
-        ensures sent { result ≡ true → IsSent fd to bytes.now (sending pool.old (shown self.now) net.old)
-            (Ok (length bytes.now)) (sending pool.new (shown self.now) net.new) }
+        requires { CanSend (sending pool.old (socks_of self.now) net.old) }
+        ensures sent { result ≡ true → IsSent fd to bytes.now (sending pool.old (socks_of self.now) net.old)
+            (Ok (length bytes.now)) (sending pool.new (socks_of self.now) net.new) }
         ensures same { result ≡ false → (pool.new ≡ pool.old) × (net.new ≡ net.old) }
     {
         if net.out.len() >= OUTPUT_QUEUE_PACKETS {
@@ -140,9 +140,9 @@ impl Parts {
         to: Option<Addr>,
         bytes: &[u8],
     ) -> Result<usize, Errno>
-        requires { CanSend (sending pool.old (shown self.old) net.old) }
-        ensures { IsSent fd to bytes.now (sending pool.old (shown self.old) net.old) result
-            (sending pool.new (shown self.new) net.new) }
+        requires { CanSend (sending pool.old (socks_of self.old) net.old) }
+        ensures { IsSent fd to bytes.now (sending pool.old (socks_of self.old) net.old) result
+            (sending pool.new (socks_of self.new) net.new) }
     {
         if self.send_one(pool, net, fd, to, bytes) {
             return Ok(bytes.len());
@@ -160,9 +160,9 @@ impl Parts {
         to: Option<Addr>,
         bytes: &[u8],
     ) -> Result<usize, Errno>
-        requires { CanSend (sending pool.old (shown self.old) net.old) }
-        ensures { IsSent fd to bytes.now (sending pool.old (shown self.old) net.old) result
-            (sending pool.new (shown self.new) net.new) }
+        requires { CanSend (sending pool.old (socks_of self.old) net.old) }
+        ensures { IsSent fd to bytes.now (sending pool.old (socks_of self.old) net.old) result
+            (sending pool.new (socks_of self.new) net.new) }
     {
         let Some(block) = self.pcbs.block(fd) else {
             return Err(Errno::BadDescriptor);

@@ -10,7 +10,7 @@ ghost use Rattle.pcb_table.specs.Table.{IsDescriptor};
 ghost use Rattle.sock_calls.specs.Delivery.{seen, IsInput};
 ghost use Rattle.sock_calls.specs.Whole.{ComesWhole};
 ghost use Rattle.sock_calls.specs.Outgoing.{sending, CanSend, IsSent};
-ghost use Rattle.sock_calls.specs.Questions.{bytes_queued, next_datagram, readable, socket_name};
+ghost use Rattle.sock_calls.specs.Questions.{bytes_queued_at, next_datagram, readable, socket_name};
 ghost use Rattle.sock_calls.specs.Sockets.{AreEmpty, IsSocks, IsCalled, queued_chains, with_sockets};
 
 use crate::delivery::Datagram;
@@ -49,11 +49,11 @@ pub struct Socks {
 
 impl Model for Socks {
     ghost use Rattle.sock_calls.specs.Sockets.{SocksView};
-    ghost use Rattle.sock_calls.specs.Inside.Parts.{shown};
+    ghost use Rattle.sock_calls.specs.Inside.Parts.{socks_of};
 
     ghost Value = { SocksView };
 
-    ghost view = { λ s. shown s.parts };
+    ghost view = { λ s. socks_of s.parts };
 }
 
 impl Socks {
@@ -115,7 +115,7 @@ impl Socks {
     /// `BadDescriptor`.
     pub fn bytes_queued(&self, fd: u32) -> Result<u32, Errno>
         ensures { (p : PoolView) (rest : State) → IsSocks p self.now
-            → result ≡ bytes_queued fd (with_sockets p self.now rest) }
+            → result ≡ bytes_queued_at fd (with_sockets p self.now rest) }
     {
         match self.parts.pcbs.block(fd) {
             Some(_) => Ok(bytes_at(self.parts.queues.as_slice(), place_of(fd))),

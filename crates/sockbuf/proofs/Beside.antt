@@ -4,7 +4,7 @@ use Rattle.std.specs.List.{AllByRecursion as Each}
 use Rattle.flat_model.specs.Sockets.Fits.{bytes_queued, memory_queued}
 use Rattle.mbuf_chain.specs.Chain.{PoolView, without}
 use Rattle.mbuf_chain.specs.Frames.{SameAt}
-use Rattle.mbuf_chain.specs.Owners.{times, IsOwned, Moves}
+use Rattle.mbuf_chain.specs.Owners.{times_among, IsOwned, Moves}
 use Rattle.mbuf_chain.specs.Train.{QueuedPacket}
 use Rattle.mbuf_chain.proofs.Laws.Owners.{times_same, live_at_most, same_beside, same_without}
 use Rattle.mbuf_chain.proofs.Laws.Trains.{numbers_same, queued_packets_same, held_same, held_none}
@@ -35,7 +35,7 @@ ready_same p q b s h = record {
 }
 
 -- ---- a chain that is made, and one that is freed
-pub apart_made : {p q : PoolView} {c : ℕ} (xs : List ℕ) → Moves p [] q (c ∷ []) → IsOwned p xs → times c xs ≡ 0
+pub apart_made : {p q : PoolView} {c : ℕ} (xs : List ℕ) → Moves p [] q (c ∷ []) → IsOwned p xs → times_among c xs ≡ 0
 apart_made {p} {q} {c} xs m o = omega (arith, m.owned c, times_same c [], live_at_most q c, o c)
 
 pub made_beside : {p q : PoolView} {c : ℕ} (b : SockBufView) → Moves p [] q (c ∷ []) → IsSockBuf p b
@@ -46,11 +46,11 @@ pub ready_made : {p q : PoolView} {c : ℕ} (b : SockBufView) → Moves p [] q (
 ready_made {p} {q} b m h = ready_same p q b (made_beside b m h) h
 
 pub apart_ready : {p q : PoolView} {c : ℕ} (b : SockBufView) → Moves p [] q (c ∷ []) → IsSockBuf p b
-    → times c (chains_of q b) ≡ 0
+    → times_among c (chains_of q b) ≡ 0
 apart_ready {p} {q} {c} b m h =
-    ap (times c) (chains_same p q b (made_beside b m h)) ∙ apart_made (chains_of p b) m h.held.owned
+    ap (times_among c) (chains_same p q b (made_beside b m h)) ∙ apart_made (chains_of p b) m h.held.owned
 
-pub ready_freed : {p q : PoolView} (c : ℕ) (b : SockBufView) → IsSockBuf p b → times c (chains_of p b) ≡ 0
+pub ready_freed : {p q : PoolView} (c : ℕ) (b : SockBufView) → IsSockBuf p b → times_among c (chains_of p b) ≡ 0
     → q ≡ without p c → IsSockBuf q b
 ready_freed {p} {q} c b h apart e = ready_same p q b (same_without p q c (chains_of p b) apart e) h
 

@@ -6,7 +6,7 @@ use Rattle.mbuf_chain.specs.Frames.{IsBounded}
 use Rattle.mbuf_chain.specs.Owners.{IsOwned}
 use Rattle.mbuf_chain.proofs.Laws.Owners.{owned_more}
 use Rattle.mbuf_chain.proofs.Laws.Accounts.{owned_held}
-use Rattle.ledger.specs.Accounts.{weight_of}
+use Rattle.ledger.specs.Accounts.{entries_weight}
 
 -- one entry of a layout for each mbuf
 pub layout_long : (es : List Entry) → length (layout_of es) ≡ length es
@@ -18,21 +18,21 @@ abbrev pub references_in : List (ℕ × Option ℕ) → ℕ
 references_in [] = 0
 references_in (x ∷ xs) = cond (is_some x.1) 1 0 + references_in xs
 
-pub references_are : (es : List Entry) → references_in (layout_of es) ≡ length (weight_of es).bag
+pub references_are : (es : List Entry) → references_in (layout_of es) ≡ length (entries_weight es).bag
 references_are [] = refl
 references_are (e ∷ es) = go e.cluster (references_are es)
   where
-    go : (o : Option ℕ) → references_in (layout_of es) ≡ length (weight_of es).bag
+    go : (o : Option ℕ) → references_in (layout_of es) ≡ length (entries_weight es).bag
         → cond {A = ℕ} (is_some o) 1 0 + references_in (layout_of es)
         ≡ length (filter_map (λ (e : Entry). e.cluster) (record { bytes = e.bytes; start = e.start; cluster = o } ∷ es))
     go None h = omega (arith, h)
     go (Some k) h = omega (arith, h)
 
-pub bag_few : (es : List Entry) → length (weight_of es).bag ≤ length es
+pub bag_few : (es : List Entry) → length (entries_weight es).bag ≤ length es
 bag_few [] = omega arith
 bag_few (e ∷ es) = go e.cluster (bag_few es)
   where
-    go : (o : Option ℕ) → length (weight_of es).bag ≤ length es
+    go : (o : Option ℕ) → length (entries_weight es).bag ≤ length es
         → length (filter_map (λ (e : Entry). e.cluster) (record { bytes = e.bytes; start = e.start; cluster = o } ∷ es))
         ≤ suc (length es)
     go None h = omega (arith, h)

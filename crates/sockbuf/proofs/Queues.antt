@@ -10,35 +10,37 @@ use Rattle.flat_model.specs.Machine.State.{Datagram}
 use Rattle.flat_model.specs.Sockets.Fits.{bytes_queued, memory_queued}
 use Rattle.flat_model.specs.declared.address.Addr.{Addr}
 use Rattle.mbuf_chain.specs.Chain.{Entry, PoolView, IsLive, alone, chain_of, flat_bytes}
-use Rattle.mbuf_chain.specs.Owners.{times, IsOwned, Moves}
+use Rattle.mbuf_chain.specs.Owners.{times_among, IsOwned, Moves}
 use Rattle.mbuf_chain.specs.Frames.{SameAt}
 use Rattle.mbuf_chain.specs.Train.{TrainView, QueuedPacket, no_queued_packet, queued_packets, queued_packet_at, numbers, IsHeld}
 use Rattle.mbuf_chain.proofs.Laws.Owners.{times_other, moves_trans, moves_before, same_beside, owned_more, owned_after, apart_first}
 use Rattle.mbuf_chain.proofs.Laws.Trains.{numbers_same, queued_packets_same, held_same, length-queued_packets}
-use Rattle.ledger.specs.Accounts.{weight_of}
-use Rattle.sockbuf.specs.SockBuf.{SockBufView, IsSockBuf, IsDatagram, TakesOldest, datagram_of, datagrams_of, datagrams, chains_of, datagram_from, memory_of, sockaddr_in, address_entry}
+use Rattle.ledger.specs.Accounts.{entries_weight}
+use Rattle.sockbuf.specs.SockBuf.{SockBufView, IsSockBuf, IsDatagram, TakesOldest, queued_datagram, datagrams_of, datagrams, chains_of, datagram_from, memory_of, sockaddr_in, address_entry}
 use Rattle.sockbuf.proofs.Fronts.{address_again}
 
 -- ---- a step beside the queue
 
 -- an owner of a train whose one chain outside became another
-pub beside_one : {p q : PoolView} {c d : ℕ} (t : TrainView) → Moves p (c ∷ []) q (d ∷ []) → times c (numbers p t) ≡ 0
+pub beside_one : {p q : PoolView} {c d : ℕ} (t : TrainView) → Moves p (c ∷ []) q (d ∷ [])
+    → times_among c (numbers p t) ≡ 0
     → IsHeld p t → SameAt p q (numbers p t)
 beside_one {p} {q} {c} {d} t m apart h =
     same_beside (numbers p t) m h.owned (λ k in_t. elim (cases_eq k c) [
-      | inl e ↦ absurd (omega (arith, apart, in_t, ap (λ (j : ℕ). times j (numbers p t)) e))
+      | inl e ↦ absurd (omega (arith, apart, in_t, ap (λ (j : ℕ). times_among j (numbers p t)) e))
       | inr ne ↦ times_other k c [] ne
     ])
 
-pub held_beside : {p q : PoolView} {c d : ℕ} (t : TrainView) → Moves p (c ∷ []) q (d ∷ []) → times c (numbers p t) ≡ 0
+pub held_beside : {p q : PoolView} {c d : ℕ} (t : TrainView) → Moves p (c ∷ []) q (d ∷ [])
+    → times_among c (numbers p t) ≡ 0
     → IsHeld p t → IsHeld q t
 held_beside {p} {q} t m apart h = held_same p q t (beside_one t m apart h) h
 
 pub apart_beside : {p q : PoolView} {c d : ℕ} (t : TrainView) → Moves p (c ∷ []) q (d ∷ []) → IsLive p c
-    → times c (numbers p t) ≡ 0 → IsHeld p t → times d (numbers q t) ≡ 0
+    → times_among c (numbers p t) ≡ 0 → IsHeld p t → times_among d (numbers q t) ≡ 0
 apart_beside {p} {q} {c} {d} t m live apart h =
     let o : IsOwned p (c ∷ numbers p t) = owned_more p c (numbers p t) h.owned live apart in
-    ap (times d) (numbers_same p q t (beside_one t m apart h))
+    ap (times_among d) (numbers_same p q t (beside_one t m apart h))
     ∙ apart_first q d (numbers p t) (owned_after (moves_before (numbers p t) m) o)
 
 -- ---- the shape of a queued chain
@@ -55,27 +57,27 @@ shape (e ∷ es) h = record { front = e; rest = es; is = refl; address = h.0; so
 
 -- ---- sums
 cc_of : (es : List Entry) → Shape es → (ds : List Datagram)
-    → bytes_queued (datagram_of es ∷ ds) ≡ length (flat_bytes es) + bytes_queued ds
+    → bytes_queued (queued_datagram es ∷ ds) ≡ length (flat_bytes es) + bytes_queued ds
 cc_of es s ds =
     omega (
       arith,
-      sum_by-cons (λ (d : Datagram). 16 + length d.item.bytes) (datagram_of es) ds,
-      ap (λ (l : List Entry). length (datagram_of l).item.bytes) s.is,
+      sum_by-cons (λ (d : Datagram). 16 + length d.item.bytes) (queued_datagram es) ds,
+      ap (λ (l : List Entry). length (queued_datagram l).item.bytes) s.is,
       ap (λ (l : List Entry). length (flat_bytes l)) s.is,
       length-append s.front.bytes (flat_bytes s.rest),
       ap (λ (e : Entry). length e.bytes) s.address,
     )
 
 mbcnt_of : (es : List Entry) → Shape es → (ds : List Datagram)
-    → memory_queued (datagram_of es ∷ ds) ≡ memory_of (weight_of es) + memory_queued ds
+    → memory_queued (queued_datagram es ∷ ds) ≡ memory_of (entries_weight es) + memory_queued ds
 mbcnt_of es s ds =
-    let bag : (weight_of (s.front ∷ s.rest)).bag ≡ (weight_of s.rest).bag =
-    ap (λ (e : Entry). (weight_of (e ∷ s.rest)).bag) s.address in
+    let bag : (entries_weight (s.front ∷ s.rest)).bag ≡ (entries_weight s.rest).bag =
+    ap (λ (e : Entry). (entries_weight (e ∷ s.rest)).bag) s.address in
     omega (
       arith,
-      sum_by-cons (λ (d : Datagram). memory_of d.item.weight) (datagram_of es) ds,
-      ap (λ (l : List Entry). memory_of (datagram_of l).item.weight) s.is,
-      ap (λ (l : List Entry). memory_of (weight_of l)) s.is,
+      sum_by-cons (λ (d : Datagram). memory_of d.item.weight) (queued_datagram es) ds,
+      ap (λ (l : List Entry). memory_of (queued_datagram l).item.weight) s.is,
+      ap (λ (l : List Entry). memory_of (entries_weight l)) s.is,
       ap length bag,
     )
 
@@ -115,7 +117,7 @@ each_end (y ∷ ys) x h here = (h.0, each_end ys x h.1 here)
 pub record IsPutIn (p : PoolView) (b : SockBufView) (c d : ℕ) (a : Addr) (q r : PoolView) (u : TrainView) : Type 0 where
   pub live : IsLive p c
   pub some : 0 < length (chain_of p c).entries
-  pub apart : times c (chains_of p b) ≡ 0
+  pub apart : times_among c (chains_of p b) ≡ 0
   pub entries : (chain_of q d).entries ≡ address_entry a ∷ (chain_of p c).entries
   pub made : Moves p (c ∷ []) q (d ∷ [])
   pub queued_packets : queued_packets r u
@@ -131,7 +133,7 @@ pub record Appended (p : PoolView) (b : SockBufView) (c : ℕ) (a : Addr) (r : P
 pub appended : {p q r : PoolView} {b : SockBufView} {u : TrainView} {c d : ℕ} {a : Addr} (cc mbcnt : ℕ) → IsSockBuf p b
     → IsPutIn p b c d a q r u
     → cc ≡ b.cc + (16 + length (flat_bytes (chain_of p c).entries))
-    → mbcnt ≡ b.mbcnt + (128 + memory_of (weight_of (chain_of p c).entries))
+    → mbcnt ≡ b.mbcnt + (128 + memory_of (entries_weight (chain_of p c).entries))
     → Appended p b c a r (record { train = u; cc = cc; mbcnt = mbcnt })
 appended {p} {q} {r} {b} {u} {c} {d} {a} cc mbcnt ready i is_cc is_mbcnt =
     let t : TrainView = b.train in
@@ -146,7 +148,8 @@ appended {p} {q} {r} {b} {u} {c} {d} {a} cc mbcnt ready i is_cc is_mbcnt =
     ∙ ap (λ (l : List Entry). queued_packets p t ++ record { number = d; entries = l; tag = 0 } ∷ []) i.entries in
     let queued : datagrams_of (queued_packets r u) ≡ datagrams p b ++ datagram_from a p c ∷ [] =
     ap datagrams_of all
-    ∙ map-append (λ (queued_packet : QueuedPacket). datagram_of queued_packet.entries) (queued_packets p t) (new ∷ [])
+    ∙ map-append (λ (queued_packet : QueuedPacket). queued_datagram queued_packet.entries) (queued_packets p t)
+    (new ∷ [])
     ∙ ap (λ (x : Addr). datagrams p b ++ record (datagram_from a p c) { sender = x } ∷ []) (address_again a) in
     record {
       datagrams = queued;
@@ -182,10 +185,11 @@ pub record IsTakenOut (p : PoolView) (b : SockBufView) (c tag : ℕ) (q : PoolVi
 
 pub record Oldest (p : PoolView) (b : SockBufView) (c : ℕ) (q : PoolView) (u : TrainView) : Type 0 where
   pub shape : Shape (chain_of q c).entries
-  pub datagrams : datagrams p b ≡ datagram_of (chain_of q c).entries ∷ datagrams_of (queued_packets q u)
+  pub datagrams : datagrams p b ≡ queued_datagram (chain_of q c).entries ∷ datagrams_of (queued_packets q u)
   pub each : Each (λ (queued_packet : QueuedPacket). IsDatagram queued_packet.entries) (queued_packets q u)
   pub cc : b.cc ≡ length (flat_bytes (chain_of q c).entries) + bytes_queued (datagrams_of (queued_packets q u))
-  pub mbcnt : b.mbcnt ≡ memory_of (weight_of (chain_of q c).entries) + memory_queued (datagrams_of (queued_packets q u))
+  pub mbcnt : b.mbcnt ≡ memory_of (entries_weight (chain_of q c).entries)
+      + memory_queued (datagrams_of (queued_packets q u))
 
 pub oldest : {p q : PoolView} {b : SockBufView} {u : TrainView} {c tag : ℕ} → IsSockBuf p b → IsTakenOut p b c tag q u
     → Oldest p b c q u
@@ -200,13 +204,14 @@ oldest {p} {q} {b} {u} {c} {tag} ready i = go (queued_packets p b.train) refl re
         (sym (ap (λ (cs : List QueuedPacket). slice_index_or cs 0 no_queued_packet) e) ∙ i.taken) in
         let left : queued_packets q u ≡ xs = i.queued_packets ∙ ap (λ (cs : List QueuedPacket). remove cs 0) e in
         let s : Shape (chain_of q c).entries = subst Shape is_x (shape x.entries each.0) in
-        let queued : datagrams p b ≡ datagram_of (chain_of q c).entries ∷ datagrams_of (queued_packets q u) =
-        ap datagrams_of e ∙ (λ j. datagram_of (is_x j) ∷ datagrams_of (sym left j)) in
+        let queued : datagrams p b ≡ queued_datagram (chain_of q c).entries ∷ datagrams_of (queued_packets q u) =
+        ap datagrams_of e ∙ (λ j. queued_datagram (is_x j) ∷ datagrams_of (sym left j)) in
         record {
           shape = s;
           datagrams = queued;
           each =
-              subst (λ (cs : List QueuedPacket). Each (λ (queued_packet : QueuedPacket). IsDatagram queued_packet.entries)
+              subst (λ (cs : List QueuedPacket). Each
+              (λ (queued_packet : QueuedPacket). IsDatagram queued_packet.entries)
               cs) (sym left) each.1;
           cc = ready.cc ∙ ap bytes_queued queued ∙ cc_of (chain_of q c).entries s (datagrams_of (queued_packets q u));
           mbcnt =
@@ -221,7 +226,7 @@ no_more (c ∷ cs) e = absurd (omega arith)
 -- what the sums were, where nothing else waited
 pub record LastOne (b : SockBufView) (es : List Entry) : Type 0 where
   pub cc : b.cc ≡ length (flat_bytes es)
-  pub mbcnt : b.mbcnt ≡ memory_of (weight_of es)
+  pub mbcnt : b.mbcnt ≡ memory_of (entries_weight es)
 
 pub last_one : {p q : PoolView} {b : SockBufView} {u : TrainView} {c tag : ℕ} → IsSockBuf p b → IsTakenOut p b c tag q u
     → u.len ≡ 0 → LastOne b (chain_of q c).entries
@@ -240,7 +245,7 @@ pub record Address (p : PoolView) (c : ℕ) (i : ℕ) : Type 0 where
       → length bytes ≡ 16
   pub sender : (bytes : List ℕ) → bytes
       ≡ (slice_index_or (chain_of p c).entries i (record { bytes = []; start = 0; cluster = None })).bytes
-      → sockaddr_in bytes ≡ (datagram_of (chain_of p c).entries).sender
+      → sockaddr_in bytes ≡ (queued_datagram (chain_of p c).entries).sender
 
 pub address : {p : PoolView} {c : ℕ} (i : ℕ) → Shape (chain_of p c).entries → i ≡ 0 → Address p c i
 address {p} {c} i s first =
@@ -252,7 +257,7 @@ address {p} {c} i s first =
           ∙ ap (λ (x : Entry). length x.bytes) s.address;
       sender =
           λ bytes e. ap sockaddr_in e ∙ ap (λ (x : Entry). sockaddr_in x.bytes) is_front
-          ∙ ap (λ (l : List Entry). (datagram_of l).sender) (sym s.is);
+          ∙ ap (λ (l : List Entry). (queued_datagram l).sender) (sym s.is);
     }
 
 pub record Taken (p : PoolView) (b : SockBufView) (sender : Addr) (d : ℕ) (r : PoolView) (e : SockBufView) : Type 0
@@ -264,22 +269,23 @@ pub record Taken (p : PoolView) (b : SockBufView) (sender : Addr) (d : ℕ) (r :
 pub taken : {p q r : PoolView} {b : SockBufView} {u : TrainView} {c d tag : ℕ} (sender : Addr) (cc mbcnt : ℕ)
     → IsSockBuf p b → IsTakenOut p b c tag q u
     → (chain_of r d).entries ≡ drop 1 (chain_of q c).entries → (chain_of r d).front ≡ alone false
-    → Moves q (c ∷ []) r (d ∷ []) → sender ≡ (datagram_of (chain_of q c).entries).sender
+    → Moves q (c ∷ []) r (d ∷ []) → sender ≡ (queued_datagram (chain_of q c).entries).sender
     → cc ≡ b.cc - length (flat_bytes (chain_of q c).entries)
-    → mbcnt ≡ b.mbcnt - memory_of (weight_of (chain_of q c).entries)
+    → mbcnt ≡ b.mbcnt - memory_of (entries_weight (chain_of q c).entries)
     → Taken p b sender d r (record { train = u; cc = cc; mbcnt = mbcnt })
 taken {p} {q} {r} {b} {u} {c} {d} sender cc mbcnt ready i entries front m is_sender is_cc is_mbcnt =
     let o : Oldest p b c q u = oldest ready i in
     let s : Shape (chain_of q c).entries = o.shape in
-    let apart : times c (numbers q u) ≡ 0 = apart_first q c (numbers q u) (owned_after i.moves ready.held.owned) in
+    let apart : times_among c (numbers q u) ≡ 0 =
+    apart_first q c (numbers q u) (owned_after i.moves ready.held.owned) in
     let same : SameAt q r (numbers q u) = beside_one u m apart i.held in
     let kept : queued_packets r u ≡ queued_packets q u = queued_packets_same q r u same in
     let rest : (chain_of r d).entries ≡ s.rest = entries ∙ ap (drop 1) s.is in
-    let first : datagram_of (chain_of q c).entries ≡ datagram_from sender r d =
-    ap (λ (a : Addr). record (datagram_of (chain_of q c).entries) { sender = a }) (sym is_sender)
-    ∙ ap (λ (l : List Entry). record (datagram_of l) { sender = sender }) s.is
+    let first : queued_datagram (chain_of q c).entries ≡ datagram_from sender r d =
+    ap (λ (a : Addr). record (queued_datagram (chain_of q c).entries) { sender = a }) (sym is_sender)
+    ∙ ap (λ (l : List Entry). record (queued_datagram l) { sender = sender }) s.is
     ∙ ap (λ (l : List Entry). record
-    { sender = sender; item = record { bytes = flat_bytes l; weight = mbuf ⊕ weight_of l } }) (sym rest) in
+    { sender = sender; item = record { bytes = flat_bytes l; weight = mbuf ⊕ entries_weight l } }) (sym rest) in
     record {
       takes = record {
         datagrams = o.datagrams ∙ (λ j. first j ∷ datagrams_of (sym kept j));

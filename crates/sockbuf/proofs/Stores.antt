@@ -4,11 +4,11 @@ use Rattle.std.proofs.lemmas.List.{append-nil}
 use Rattle.flat_model.specs.Amounts.Weight.{mbuf, ◌⊕◌}
 use Rattle.flat_model.specs.declared.address.Addr.{Addr}
 use Rattle.mbuf_chain.specs.Chain.{ChainView, Entry, PoolView, IsLive, Adds, chain_of, held_mbufs, string}
-use Rattle.mbuf_chain.specs.Owners.{times, Moves}
+use Rattle.mbuf_chain.specs.Owners.{times_among, Moves}
 use Rattle.mbuf_chain.specs.Steps.{one_mbuf}
 use Rattle.mbuf_chain.proofs.Laws.Owners.{live_adds, moves_adds, moves_beside, shown_adds}
 use Rattle.mbuf_chain.proofs.Laws.Accounts.{held-adds}
-use Rattle.ledger.specs.Accounts.{weight_of}
+use Rattle.ledger.specs.Accounts.{entries_weight}
 use Rattle.sockbuf.specs.SockBuf.{SockBufView, IsSockBuf, chains_of, datagrams, datagram_from}
 use Rattle.sockbuf.specs.Stored.{bag_of, stored_datagram}
 use Rattle.sockbuf.proofs.Beside.{apart_ready, chains_same, datagrams_same, made_beside, ready_made}
@@ -21,7 +21,7 @@ entry bytes start o = record { bytes = bytes; start = start; cluster = o }
 pub record InHand (p : PoolView) (b : SockBufView) (bytes : List ℕ) (o : Option ℕ) (q : PoolView) (d : ℕ) : Type 0 where
   pub ready : IsSockBuf q b
   pub live : IsLive q d
-  pub apart : times d (chains_of q b) ≡ 0
+  pub apart : times_among d (chains_of q b) ≡ 0
   pub len : length bytes ≡ length (string (chain_of q d))
   pub same : datagrams q b ≡ datagrams p b
   pub held : held_mbufs q ≡ held_mbufs p + 1
@@ -30,7 +30,7 @@ pub record InHand (p : PoolView) (b : SockBufView) (bytes : List ℕ) (o : Optio
   pub is : (sender : Addr) → datagram_from sender q d ≡ stored_datagram sender bytes o
 
 one_weighs : (bytes : List ℕ) (start : ℕ) (o : Option ℕ)
-    → mbuf ⊕ weight_of (entry bytes start o ∷ []) ≡ record { mbufs = 2; bag = bag_of o }
+    → mbuf ⊕ entries_weight (entry bytes start o ∷ []) ≡ record { mbufs = 2; bag = bag_of o }
 one_weighs bytes start None = refl
 one_weighs bytes start (Some c) = refl
 
@@ -56,7 +56,7 @@ in_hand {p} {q} {b} {d} bytes start o ready adds =
         item =
             record {
               bytes = all i;
-              weight = (ap (λ (v : ChainView). mbuf ⊕ weight_of v.entries) shown
+              weight = (ap (λ (v : ChainView). mbuf ⊕ entries_weight v.entries) shown
                   ∙ one_weighs bytes start o) i;
             };
       };

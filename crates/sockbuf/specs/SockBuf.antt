@@ -11,7 +11,7 @@ use Rattle.flat_model.specs.declared.address.Addr.{Addr}
 use Rattle.mbuf_chain.specs.Chain.{Entry, PoolView, alone, chain_of, flat_bytes, held_mbufs, string}
 use Rattle.mbuf_chain.specs.Owners.{Moves}
 use Rattle.mbuf_chain.specs.Train.{TrainView, QueuedPacket, queued_packets, numbers, IsHeld}
-use Rattle.ledger.specs.Accounts.{weight_of, weight_at}
+use Rattle.ledger.specs.Accounts.{entries_weight, weight_at}
 use Rattle.sockbuf.specs.declared.buffer.Refusal.{Refusal}
 use Rattle.sockbuf.specs.declared.buffer.Refusal.TheVariants.{Full, NoBufs}
 
@@ -43,10 +43,13 @@ address_entry a = record { bytes = sockaddr_bytes a; start = PACKET_START; clust
 -- ---- the datagrams of a queue
 
 -- the datagram that the mbufs of a queued chain mean: the first has the sender's address
-abbrev pub datagram_of : List Entry → Datagram
-datagram_of [] = record { sender = record { ip = 0; port = 0 }; item = record { bytes = []; weight = nothing } }
-datagram_of (front ∷ es) =
-    record { sender = sockaddr_in front.bytes; item = record { bytes = flat_bytes es; weight = mbuf ⊕ weight_of es } }
+abbrev pub queued_datagram : List Entry → Datagram
+queued_datagram [] = record { sender = record { ip = 0; port = 0 }; item = record { bytes = []; weight = nothing } }
+queued_datagram (front ∷ es) =
+    record {
+      sender = sockaddr_in front.bytes;
+      item = record { bytes = flat_bytes es; weight = mbuf ⊕ entries_weight es };
+    }
 
 -- the first mbuf has an address, and one at least follows
 abbrev pub IsDatagram : List Entry → Type 0
@@ -54,7 +57,7 @@ IsDatagram [] = ⊥
 IsDatagram (front ∷ es) = (front ≡ address_entry (sockaddr_in front.bytes)) × (0 < length es)
 
 abbrev pub datagrams_of : List QueuedPacket → List Datagram
-datagrams_of cs = map (λ (queued_packet : QueuedPacket). datagram_of queued_packet.entries) cs
+datagrams_of cs = map (λ (queued_packet : QueuedPacket). queued_datagram queued_packet.entries) cs
 
 -- the datagrams of a queue, the oldest first
 abbrev pub datagrams : PoolView → SockBufView → List Datagram

@@ -3,7 +3,7 @@
 ghost use Rattle.std.specs.Prelude.{◌≡◌, ◌==◌, ◌<◌, ◌∷◌, [], ◌++◌, true, length, MatchOption, Ok, ℕ};
 ghost use Rattle.flat_model.specs.Sockets.Fits as flat;
 ghost use Rattle.mbuf_chain.specs.Chain.{IsLive, PoolView, chain_of, held_mbufs, string};
-ghost use Rattle.mbuf_chain.specs.Owners.{times, Moves};
+ghost use Rattle.mbuf_chain.specs.Owners.{times_among, Moves};
 ghost use Rattle.sockbuf.specs.Questions.{oldest_of};
 ghost use Rattle.sockbuf.specs.SockBuf.{AppendsAddr, IsEmpty, IsSockBuf, TakesOldest, chains_of, datagram_from, datagrams, no_datagrams};
 
@@ -129,7 +129,7 @@ impl SockBuf {
     ) -> Result<(), (Chain, Refusal)>
         requires ready { IsSockBuf pool.old self.old }
         requires live { IsLive pool.old chain }
-        requires apart { times chain (chains_of pool.old self.old) ≡ 0 }
+        requires apart { times_among chain (chains_of pool.old self.old) ≡ 0 }
         ensures appends { AppendsAddr pool.old self.old sender chain result pool.new self.new }
         ensures ready { IsSockBuf pool.new self.new }
     {
@@ -151,7 +151,7 @@ impl SockBuf {
     pub fn append_fitting(&mut self, pool: &mut Pool, sender: Addr, chain: Chain, len: u32)
         requires ready { IsSockBuf pool.old self.old }
         requires live { IsLive pool.old chain }
-        requires apart { times chain (chains_of pool.old self.old) ≡ 0 }
+        requires apart { times_among chain (chains_of pool.old self.old) ≡ 0 }
         requires len { len ≡ length (string (chain_of pool.old chain)) }
         requires fits { flat.fits (datagrams pool.old self.old) len ≡ true }
         requires free { held_mbufs pool.old < pool.old.mbufs }

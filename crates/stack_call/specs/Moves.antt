@@ -3,5 +3,5 @@ use Rattle.flat_model.specs.Machine.Event.{Event, Reply}
 use Rattle.flat_model.specs.Machine.State.{State}
 use Rattle.flat_model.specs.Machine.Step.{Step}
 
-unfoldable pub Moves : State → Event → Reply → State → Type 0
-Moves = Step
+unfoldable pub StackSteps : State → Event → Reply → State → Type 0
+StackSteps = Step

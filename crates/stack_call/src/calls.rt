@@ -6,7 +6,7 @@ ghost use Rattle.flat_model.specs.Machine.Replies.{done_reply, opened_reply, sen
 ghost use Rattle.net_stack.specs.Stack.{state_of};
 ghost use Rattle.request.specs.Requests.{event_of, room_of};
 ghost use Rattle.request.specs.Replies.{reply_of, len_of};
-ghost use Rattle.stack_call.specs.Moves.{Moves};
+ghost use Rattle.stack_call.specs.Moves.{StackSteps};
 
 use flat_model::Errno;
 use net_stack::Stack;
@@ -46,9 +46,10 @@ fn sent(outcome: Result<usize, Errno>) -> Reply<'static>
 }
 
 /// Receives as many bytes as there is room for.
-#[tactic(auto, unfolding(crate::specs::Moves::Moves))]
+#[tactic(auto, unfolding(crate::specs::Moves::StackSteps))]
 fn receive<'r>(stack: &mut Stack, fd: u32, room: &'r mut [u8]) -> Reply<'r>
-    ensures step { Moves (state_of stack.old) (Receive fd (length room.old)) (reply_of result) (state_of stack.new) }
+    ensures step { StackSteps (state_of stack.old) (Receive fd (length room.old)) (reply_of result)
+        (state_of stack.new) }
     ensures len { len_of result ≤ length room.old }
 {
     match stack.recvfrom(fd, room) {
@@ -58,10 +59,10 @@ fn receive<'r>(stack: &mut Stack, fd: u32, room: &'r mut [u8]) -> Reply<'r>
 }
 
 /// Lets the link take the oldest packet.
-#[tactic(auto, unfolding(crate::specs::Moves::Moves))]
+#[tactic(auto, unfolding(crate::specs::Moves::StackSteps))]
 fn transmit<'r>(stack: &mut Stack, room: &'r mut [u8]) -> Reply<'r>
     requires { MAX_MTU ≤ length room.old }
-    ensures step { Moves (state_of stack.old) Transmit (reply_of result) (state_of stack.new) }
+    ensures step { StackSteps (state_of stack.old) Transmit (reply_of result) (state_of stack.new) }
     ensures len { len_of result ≤ length room.old }
 {
     stack.laws();
@@ -73,11 +74,11 @@ fn transmit<'r>(stack: &mut Stack, room: &'r mut [u8]) -> Reply<'r>
 
 /// Asks a stack: makes the call that a request stands for, and answers its reply, whose bytes stand in front of the
 /// room.
-#[tactic(auto, unfolding(crate::specs::Moves::Moves))]
+#[tactic(auto, unfolding(crate::specs::Moves::StackSteps))]
 pub fn call<'r>(stack: &mut Stack, request: Request<'_>, room: &'r mut [u8]) -> Reply<'r>
     requires fits { room_of request ≤ IP_MAX_PACKET }
     requires room { length room.old ≡ IP_MAX_PACKET }
-    ensures step { Moves (state_of stack.old) (event_of request.entry) (reply_of result) (state_of stack.new) }
+    ensures step { StackSteps (state_of stack.old) (event_of request.entry) (reply_of result) (state_of stack.new) }
     ensures len { len_of result ≤ IP_MAX_PACKET }
 {
     match request {

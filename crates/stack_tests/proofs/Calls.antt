@@ -18,7 +18,7 @@ use Rattle.net_stack.specs.Stack.{StackView, state_of}
 use Rattle.net_stack.specs.Runs.{AreCalls}
 use Rattle.net_stack.specs.Wire.{AreOnOneWire}
 use Rattle.stack_tests.specs.declared.wire.TheConstants.{FIRST, SECOND, SOCKET, PORT}
-use Rattle.stack_tests.specs.Heard.{HasGiven, IsHeard, comes, events, receives, send_event}
+use Rattle.stack_tests.specs.Heard.{HasGiven, IsHeard, packet_comes, events, receives, send_event}
 
 pub then_calls : (a b c : StackView) (xs ys : List Turn) → AreCalls a xs b → AreCalls b ys c → AreCalls a (xs ++ ys) c
 then_calls a b c [] ys same later = subst (λ (s : StackView). AreCalls s ys c) same later
@@ -108,8 +108,8 @@ pub both : (a a1 b b1 b2 : StackView) {a2 a3 a4 a5 a6 s b3 b4 mid : StackView} {
     → HasGiven a4 a5 lost_packet → HasGiven a5 a6 late_packet → HasGiven a6 s early_packet
     → state_of b ≡ boot SECOND → Step (state_of b) Open opened' (state_of b1)
     → Step (state_of b1) (Bind SOCKET (record { ip = 0; port = PORT })) bound (state_of b2)
-    → AreCalls b2 (comes early_packet ∷ []) b3 → AreCalls b3 (comes late_packet ∷ []) b4
-    → AreCalls b4 (comes early_packet ∷ []) mid
+    → AreCalls b2 (packet_comes early_packet ∷ []) b3 → AreCalls b3 (packet_comes late_packet ∷ []) b4
+    → AreCalls b4 (packet_comes early_packet ∷ []) mid
     → AreBoth a s b mid lost late early
 both a a1 b b1 b2 {a2} {a3} {a4} {a5} {a6} {s} {b3} {b4} {mid} {opened} {bound} {opened'} {lost} {late} {early}
     {lost_packet} {late_packet} {early_packet} starts opens first second third gave_lost gave_late gave_early starts'
@@ -119,7 +119,7 @@ both a a1 b b1 b2 {a2} {a3} {a4} {a5} {a6} {s} {b3} {b4} {mid} {opened} {bound} 
     let early_turn : Turn = record { event = send_event early; reply = third.0 } in
     let given : List Turn = gave_lost.turn ∷ gave_late.turn ∷ gave_early.turn ∷ [] in
     let sending : List Turn = lost_turn ∷ late_turn ∷ early_turn ∷ given in
-    let coming : List Turn = comes early_packet ∷ comes late_packet ∷ comes early_packet ∷ [] in
+    let coming : List Turn = packet_comes early_packet ∷ packet_comes late_packet ∷ packet_comes early_packet ∷ [] in
     let port : Event = Bind SOCKET (record { ip = 0; port = PORT }) in
     let early_out : 16 ≤ length early_packet → Contains (filter_map packet_out given) early_packet =
     λ long. given_later gave_lost.turn (gave_late.turn ∷ gave_early.turn ∷ []) early_packet
@@ -136,8 +136,9 @@ both a a1 b b1 b2 {a2} {a3} {a4} {a5} {a6} {s} {b3} {b4} {mid} {opened} {bound} 
     (then_calls a2 a3 s (late_turn ∷ []) (early_turn ∷ given) second.1
     (then_calls a3 a4 s (early_turn ∷ []) given third.1 given_calls)) in
     let came : AreCalls b2 coming mid =
-    then_calls b2 b3 mid (comes early_packet ∷ []) (comes late_packet ∷ comes early_packet ∷ []) comes_early
-    (then_calls b3 b4 mid (comes late_packet ∷ []) (comes early_packet ∷ []) comes_late again) in
+    then_calls b2 b3 mid (packet_comes early_packet ∷ []) (packet_comes late_packet ∷ packet_comes early_packet ∷ [])
+    comes_early
+    (then_calls b3 b4 mid (packet_comes late_packet ∷ []) (packet_comes early_packet ∷ []) comes_late again) in
     record {
       sent = record { event = Open; reply = opened } ∷ sending;
       before = record { event = Open; reply = opened' } ∷ record { event = port; reply = bound } ∷ coming;

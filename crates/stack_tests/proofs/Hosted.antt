@@ -5,13 +5,13 @@ use Rattle.flat_model.specs.Machine.Event.{Event, Reply}
 use Rattle.flat_model.specs.declared.address.Addr.{Addr}
 use Rattle.flat_model.specs.declared.errno.Errno.{Errno}
 use Rattle.mbuf_chain.specs.Chain.{PoolView}
-use Rattle.mbuf_chain.specs.Owners.{times, IsOwned, Moves}
+use Rattle.mbuf_chain.specs.Owners.{times_among, IsOwned, Moves}
 use Rattle.mbuf_chain.specs.Frames.{SameAt}
 use Rattle.mbuf_chain.specs.Train.{TrainView, numbers}
 use Rattle.mbuf_chain.proofs.Laws.Owners.{times-append, live_at_most, same_beside, same_part, owned_after, moves_beside}
 use Rattle.mbuf_chain.proofs.Laws.Trains.{numbers_same, held_same, held_none, none_left}
 use Rattle.sockbuf.specs.SockBuf.{SockBufView}
-use Rattle.ip_out.specs.Queues.{IsQueue}
+use Rattle.ip_out.specs.Queues.{IsOutputQueue}
 use Rattle.sock_calls.specs.declared.net.Net.{Net}
 use Rattle.sock_calls.specs.Sockets.{SocksView, IsSocks, IsCalled, queued_chains}
 use Rattle.sock_calls.specs.Outgoing.{SendView, CanSend, IsSent, sending}
@@ -20,7 +20,7 @@ use Rattle.sock_calls.proofs.Laws.{Kept, kept}
 -- sockets, output queue, and the chains in hand
 pub record Held (p : PoolView) (s : SocksView) (t : TrainView) (xs : List ℕ) : Type 0 where
   pub socks : IsSocks p s
-  pub out : IsQueue p t
+  pub out : IsOutputQueue p t
   pub owned : IsOwned p (xs ++ (numbers p t ++ queued_chains p s.queues))
 
 -- the chains in hand became others
@@ -48,8 +48,8 @@ in_hand {p} {q} {s} {t} {xs} {ys} is m =
         times-append k ys (numbers q t ++ queued_chains q s.queues),
         times-append k (numbers p t) (queued_chains p s.queues),
         times-append k (numbers q t) (queued_chains q s.queues),
-        ap (times k) (numbers_same p q t o),
-        ap (times k) v.chains,
+        ap (times_among k) (numbers_same p q t o),
+        ap (times_among k) v.chains,
       );
     }
 
@@ -60,7 +60,7 @@ of_socks {p} {q} {s} {w} {t} xs ys is ready m =
     let zs : List ℕ = numbers p t in
     let us : List ℕ = xs ++ queued_chains p s.queues in
     let vs : List ℕ = ys ++ queued_chains q w.queues in
-    let all : (k : ℕ) → times k (xs ++ (zs ++ queued_chains p s.queues)) ≡ times k zs + times k us =
+    let all : (k : ℕ) → times_among k (xs ++ (zs ++ queued_chains p s.queues)) ≡ times_among k zs + times_among k us =
     λ k. omega (
       arith,
       times-append k xs (zs ++ queued_chains p s.queues),
@@ -81,17 +81,18 @@ of_socks {p} {q} {s} {w} {t} xs ys is ready m =
         times-append k ys (queued_chains q w.queues),
         times-append k ys (numbers q t ++ queued_chains q w.queues),
         times-append k (numbers q t) (queued_chains q w.queues),
-        ap (times k) (numbers_same p q t o),
+        ap (times_among k) (numbers_same p q t o),
       );
     }
 
 -- the output queue took a step, by which chains in hand became others
-pub of_queue : {p q : PoolView} {s : SocksView} {t u : TrainView} (xs ys : List ℕ) → Held p s t xs → IsQueue q u
+pub of_queue : {p q : PoolView} {s : SocksView} {t u : TrainView} (xs ys : List ℕ) → Held p s t xs → IsOutputQueue q u
     → Moves p (xs ++ numbers p t) q (ys ++ numbers q u) → Held q s u ys
 of_queue {p} {q} {s} {t} {u} xs ys is queue m =
     let zs : List ℕ = queued_chains p s.queues in
     let vs : List ℕ = ys ++ numbers q u in
-    let all : (k : ℕ) → times k (xs ++ (numbers p t ++ zs)) ≡ times k zs + times k (xs ++ numbers p t) =
+    let all : (k : ℕ) → times_among k (xs ++ (numbers p t ++ zs))
+    ≡ times_among k zs + times_among k (xs ++ numbers p t) =
     λ k. omega (
       arith,
       times-append k xs (numbers p t ++ zs),
@@ -112,7 +113,7 @@ of_queue {p} {q} {s} {t} {u} xs ys is queue m =
         times-append k ys (numbers q u),
         times-append k ys (numbers q u ++ queued_chains q s.queues),
         times-append k (numbers q u) (queued_chains q s.queues),
-        ap (times k) v.chains,
+        ap (times_among k) v.chains,
       );
     }
 
@@ -120,14 +121,14 @@ of_queue {p} {q} {s} {t} {u} xs ys is queue m =
 
 abbrev pub Parts : PoolView → SocksView → Net → Type 0
 Parts p s n =
-    IsSocks p s × IsQueue p n.out × IsOwned p (numbers p n.out ++ queued_chains p s.queues)
+    IsSocks p s × IsOutputQueue p n.out × IsOwned p (numbers p n.out ++ queued_chains p s.queues)
     × (n.looped ≡ record { first = None; last = None; len = 0 })
 
 pub parts : {p : PoolView} {s : SocksView} (n : Net) → Held p s n.out []
     → n.looped ≡ record { first = None; last = None; len = 0 } → Parts p s n
 parts n h none = (h.socks, h.out, h.owned, none)
 
-pub starts : (p : PoolView) (s : SocksView) (n : Net) → IsSocks p s → IsQueue p n.out → n.out.len ≡ 0
+pub starts : (p : PoolView) (s : SocksView) (n : Net) → IsSocks p s → IsOutputQueue p n.out → n.out.len ≡ 0
     → n.looped ≡ record { first = None; last = None; len = 0 } → Parts p s n
 starts p s n socks out empty none = (
   socks,
@@ -136,7 +137,7 @@ starts p s n socks out empty none = (
     arith,
     socks.owned k,
     times-append k (numbers p n.out) (queued_chains p s.queues),
-    ap (times k) (none_left p n.out empty),
+    ap (times_among k) (none_left p n.out empty),
   )),
   none,
 )
@@ -175,7 +176,7 @@ after_send h is = record { socks = is.socks; out = is.out; owned = owned_after i
 
 -- the queue beside the end of the sockets
 pub queue_left : {p q : PoolView} {s : SocksView} (n : Net) → Parts p s n → Moves p (queued_chains p s.queues) q []
-    → IsQueue q n.out
+    → IsOutputQueue q n.out
 queue_left {p} {q} {s} n h m =
     let zs : List ℕ = numbers p n.out in
     let xs : List ℕ = queued_chains p s.queues in

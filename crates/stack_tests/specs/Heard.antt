@@ -17,8 +17,8 @@ abbrev pub send_event : List ℕ → Event
 send_event bytes = Send SOCKET (Some (record { ip = SECOND.addr; port = PORT })) bytes
 
 -- the call by which a packet comes
-abbrev pub comes : List ℕ → Turn
-comes packet = record { event = Comes packet; reply = Done }
+abbrev pub packet_comes : List ℕ → Turn
+packet_comes packet = record { event = Comes packet; reply = Done }
 
 -- the call by which the second host asks for at most so many bytes
 abbrev pub receives : ℕ → Reply → Turn

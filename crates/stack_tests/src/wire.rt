@@ -3,7 +3,7 @@ ghost use Rattle.std.specs.Prelude.{◌≡◌, ◌≤◌, ◌∷◌, [], length,
 ghost use Rattle.flat_model.specs.Machine.Event.{Reply};
 ghost use Rattle.flat_model.specs.Machine.Replies.{received_reply};
 ghost use Rattle.net_stack.specs.Runs.{AreCalls};
-ghost use Rattle.stack_tests.specs.Heard.{HasGiven, IsHeard, comes, send_event};
+ghost use Rattle.stack_tests.specs.Heard.{HasGiven, IsHeard, packet_comes, send_event};
 ghost use Rattle.params.specs.declared.TheConstants.{IP_MAX_PACKET};
 
 use flat_model::{Addr, Config, Counter, Errno};
@@ -78,7 +78,7 @@ fn give(stack: &mut Stack, room: &mut [u8]) -> usize
 /// Hands a packet to a stack.
 fn hand_over(stack: &mut Stack, packet: &[u8])
     requires { length packet.now ≤ IP_MAX_PACKET }
-    ensures { AreCalls stack.old (comes packet.now ∷ []) stack.new }
+    ensures { AreCalls stack.old (packet_comes packet.now ∷ []) stack.new }
 {
     stack.rx(packet);
 }

@@ -6,7 +6,7 @@ use Rattle.flat_model.specs.Packets.Header.{not_zero, pseudo_header, udp}
 use Rattle.mbuf_chain.specs.Chain.{ChainView, Entry, entry_of, flat_bytes, no_entry, string}
 use Rattle.mbuf_chain.specs.Steps.{overwritten}
 use Rattle.std.specs.Prelude.{slice_index_or, slice_set}
-use Rattle.udp.specs.Datagrams.{built}
+use Rattle.udp.specs.Datagrams.{with_udp_header}
 use Rattle.udp.specs.Inside.{header_bytes}
 
 -- the first mbuf's bytes are some of all
@@ -60,7 +60,8 @@ module _ (src dst sport dport : ℕ) where
       ∙ (λ j. sym (take-append-le 20 b rest (omega arith)) j ++ (h ++ sym (drop-append-le 28 b rest long) j))
 
   pub built_string : (v : ChainView) → 28 ≤ length (entry_of v 0).bytes
-      → string (built src dst sport dport v) ≡ take 20 (string v) ++ udp src dst sport dport (drop 28 (string v))
+      → string (with_udp_header src dst sport dport v)
+      ≡ take 20 (string v) ++ udp src dst sport dport (drop 28 (string v))
   built_string v long =
       go v.entries long (header_length (drop 28 (string v)))
       ∙ ap (λ (xs : List ℕ). take 20 (string v) ++ xs) (sym (udp_parts (drop 28 (string v))))

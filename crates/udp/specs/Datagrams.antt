@@ -22,8 +22,8 @@ use Rattle.udp.specs.declared.arrival.Outcome.TheVariants.{Deliver, Drop}
 -- ---- sent
 
 -- a packet whose UDP header is written: 8 bytes of the first mbuf, after the 20 of the IP header
-abbrev pub built : ℕ → ℕ → ℕ → ℕ → ChainView → ChainView
-built src dst sport dport v =
+abbrev pub with_udp_header : ℕ → ℕ → ℕ → ℕ → ChainView → ChainView
+with_udp_header src dst sport dport v =
     with_entry v 0 (overwritten (entry_of v 0) IP_HEADER
     (take UDP_HEADER (udp src dst sport dport (drop IP_UDP_HEADERS (string v)))))
 
@@ -54,7 +54,7 @@ pub record AreHearers (t : Table) (destination : ℕ) (q : LookupKey) (fds : Lis
       → hearers (machine rest queues t) destination q ≡ map (socket_with queues) found
 
 -- From p to q, chain c became the data of a datagram for these sockets.
-pub record IsDelivered (p : PoolView) (c : ℕ) (h : IpHead) (t : Table) (q : PoolView) (to : List ℕ) (from : Addr)
+pub record IsForSockets (p : PoolView) (c : ℕ) (h : IpHead) (t : Table) (q : PoolView) (to : List ℕ) (from : Addr)
     (d : ℕ) : Type 0 where
   pub faultless : fault_of h (string (chain_of p c)) ≡ None
   pub sender : from ≡ sender_of h (string (chain_of p c))
@@ -76,11 +76,11 @@ pub record IsDropped (p : PoolView) (c : ℕ) (h : IpHead) (t : Table) (q : Pool
   pub freed : q ≡ without p c
 
 -- what becomes of a datagram, and the descriptors of those who get it
-abbrev pub IsInput : PoolView → ℕ → IpHead → Table → PoolView → List ℕ → Outcome → Type 0
-IsInput p c h t q to (Deliver from chain) = IsDelivered p c h t q to from chain
-IsInput p c h t q to (Drop why) = (to ≡ []) × IsDropped p c h t q why
+abbrev pub IsUdpInput : PoolView → ℕ → IpHead → Table → PoolView → List ℕ → Outcome → Type 0
+IsUdpInput p c h t q to (Deliver from chain) = IsForSockets p c h t q to from chain
+IsUdpInput p c h t q to (Drop why) = (to ≡ []) × IsDropped p c h t q why
 
 -- the chains in hand then
-abbrev pub chains_of : Outcome → List ℕ
-chains_of (Deliver from chain) = chain ∷ []
-chains_of (Drop why) = []
+abbrev pub outcome_chains : Outcome → List ℕ
+outcome_chains (Deliver from chain) = chain ∷ []
+outcome_chains (Drop why) = []

@@ -23,8 +23,8 @@ has_right_sum src dst s =
     (u16_at 6 s == 0) || (folded_sum (pseudo_header src dst (u16_at 4 s) ++ take (u16_at 4 s) s) == 65535)
 
 -- a chain with no more than its first n bytes
-abbrev pub cut_to : ℕ → ChainView → ChainView
-cut_to n v = record v { entries = only_first n v.entries }
+abbrev pub cut_chain : ℕ → ChainView → ChainView
+cut_chain n v = record v { entries = only_first n v.entries }
 
 -- one of the machine's two broadcast addresses
 abbrev pub broadcasts : Table → ℕ → Bool

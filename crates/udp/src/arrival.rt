@@ -5,7 +5,7 @@ ghost use Rattle.flat_model.specs.Machine.Arrival as flat;
 ghost use Rattle.mbuf_chain.specs.Chain.{IsLive, chain_of, string, with_chain, without};
 ghost use Rattle.mbuf_chain.specs.Owners.{Moves};
 ghost use Rattle.pcb_table.specs.Table.{packet_key};
-ghost use Rattle.udp.specs.Datagrams.{AreHearers, IsInput, chains_of, without_header};
+ghost use Rattle.udp.specs.Datagrams.{AreHearers, IsUdpInput, outcome_chains, without_header};
 ghost use Rattle.udp.specs.Inside.{broadcasts, header_in, unheard};
 
 use crate::header::{Header, read_header};
@@ -130,8 +130,8 @@ pub fn input(
 ) -> Outcome
     requires live { IsLive pool.old chain }
     requires most { length (string (chain_of pool.old chain)) ≤ IP_MAX_PACKET }
-    ensures answer { IsInput pool.old chain head pcbs.old pool.new hearers.new.items result }
-    ensures moves { Moves pool.old (chain ∷ []) pool.new (chains_of result) }
+    ensures answer { IsUdpInput pool.old chain head pcbs.old pool.new hearers.new.items result }
+    ensures moves { Moves pool.old (chain ∷ []) pool.new (outcome_chains result) }
     ensures blocks { pcbs.new ≡ pcbs.old }
 {
     // Mostly one stands there, and to pop it takes fewer steps than to clear an array.

@@ -2,7 +2,7 @@
 ghost use Rattle.std.specs.Prelude.{◌≡◌, ◌≤◌, ◌++◌, None, length, take, drop};
 ghost use Rattle.flat_model.specs.Packets.Header.{udp};
 ghost use Rattle.mbuf_chain.specs.Chain.{IsLive, chain_of, entry_of, string, with_chain};
-ghost use Rattle.udp.specs.Datagrams.{built};
+ghost use Rattle.udp.specs.Datagrams.{with_udp_header};
 
 use crate::header::{Header, to_bytes};
 use crate::sums::headers_sum;
@@ -48,7 +48,7 @@ pub fn build(pool: &mut Pool, chain: &Chain, from: Addr, to: Addr)
     requires headers { IP_UDP_HEADERS ≤ length (entry_of (chain_of pool.old chain.now) 0).bytes }
     requires most { length (string (chain_of pool.old chain.now)) ≤ IP_MAX_PACKET }
     ensures chain { pool.new ≡ with_chain pool.old chain.now
-        (built from.ip to.ip from.port to.port (chain_of pool.old chain.now)) }
+        (with_udp_header from.ip to.ip from.port to.port (chain_of pool.old chain.now)) }
     ensures string { string (chain_of pool.new chain.now)
         ≡ take IP_HEADER (string (chain_of pool.old chain.now))
         ++ udp from.ip to.ip from.port to.port (drop IP_UDP_HEADERS (string (chain_of pool.old chain.now))) }

@@ -11,7 +11,7 @@ use Rattle.flat_model.specs.Amounts.Weight.{Covers, times}
 use Rattle.flat_model.specs.Amounts.Layout as flat
 use Rattle.flat_model.specs.Amounts.Layout.{weight_of}
 use Rattle.chain_ops.specs.Joins.{filled_up, cat}
-use Rattle.chain_ops.specs.Weights.{laid, IsFit, AreFit}
+use Rattle.chain_ops.specs.Weights.{laid_entries, IsEntryFit, AreFit}
 use Rattle.chain_ops.proofs.Joins.{plain_with_room, fill-goes, fill-stops}
 
 -- ---- how many mbufs
@@ -46,10 +46,10 @@ unfolding one_at
 times_cons c None bag = omega arith
 times_cons c (Some k) bag = sum_by-cons (λ (j : ℕ). cond {A = ℕ} (nat_eq j c) 1 0) k bag
 
-times_laid : (c : ℕ) (es : List Entry) → times c (weight_of (laid es)).bag ≡ refs c es
+times_laid : (c : ℕ) (es : List Entry) → times c (weight_of (laid_entries es)).bag ≡ refs c es
 unfolding refs
 times_laid c [] = refl
-times_laid c (e ∷ es) = omega (arith, times_cons c e.cluster (weight_of (laid es)).bag, times_laid c es)
+times_laid c (e ∷ es) = omega (arith, times_cons c e.cluster (weight_of (laid_entries es)).bag, times_laid c es)
 
 filled_refs : (c : ℕ) (e : Entry) (fs : List Entry) → refs c (filled_up e fs) ≤ one_at c e.cluster + refs c fs
 unfolding refs
@@ -79,7 +79,8 @@ times-append c (x ∷ xs) ys =
     )
 
 pub cat_bag : (es fs : List Entry) (c : ℕ)
-    → times c (weight_of (laid (cat es fs))).bag ≤ times c ((weight_of (laid es)).bag ++ (weight_of (laid fs)).bag)
+    → times c (weight_of (laid_entries (cat es fs))).bag
+    ≤ times c ((weight_of (laid_entries es)).bag ++ (weight_of (laid_entries fs)).bag)
 cat_bag es fs c =
     omega (
       arith,
@@ -87,11 +88,11 @@ cat_bag es fs c =
       times_laid c es,
       times_laid c fs,
       cat_refs c es fs,
-      times-append c (weight_of (laid es)).bag (weight_of (laid fs)).bag,
+      times-append c (weight_of (laid_entries es)).bag (weight_of (laid_entries fs)).bag,
     )
 
 -- ---- room
-more_fit : (e f : Entry) → IsFit e → length f.bytes < trailing_space e → IsFit (with_back e f.bytes)
+more_fit : (e f : Entry) → IsEntryFit e → length f.bytes < trailing_space e → IsEntryFit (with_back e f.bytes)
 more_fit e f h room =
     let plain : e.cluster ≡ None = plain_with_room e (length f.bytes) room in
     let is : is_some e.cluster ≡ false = ap (λ (o : Option ℕ). is_some o) plain in
@@ -100,7 +101,7 @@ more_fit e f h room =
     cond-false {A = ℕ} (is_some e.cluster) 0 (128 - e.start - length e.bytes) is in
     record { low = h.low; high = omega (arith, h.high, end, back, room, length-append e.bytes f.bytes) }
 
-filled_fit : (e : Entry) (fs : List Entry) → IsFit e → AreFit fs → AreFit (filled_up e fs)
+filled_fit : (e : Entry) (fs : List Entry) → IsEntryFit e → AreFit fs → AreFit (filled_up e fs)
 filled_fit e [] h hs = (h, tt)
 filled_fit e (f ∷ fs) h hs =
     go (cases_lt (length f.bytes) (trailing_space e))
@@ -118,9 +119,9 @@ cat_fit (e ∷ []) fs h hs = filled_fit e fs h.0 hs
 cat_fit (e ∷ f ∷ es) fs h hs = (h.0, cat_fit (f ∷ es) fs h.1 hs)
 
 record Held (es : List Entry) : Type 0 where
-  bag : length (weight_of (laid es)).bag ≤ length (laid es)
-  room : length (flat_bytes es) ≤ 108 * (length (laid es) - length (weight_of (laid es)).bag)
-      + 2048 * length (weight_of (laid es)).bag
+  bag : length (weight_of (laid_entries es)).bag ≤ length (laid_entries es)
+  room : length (flat_bytes es) ≤ 108 * (length (laid_entries es) - length (weight_of (laid_entries es)).bag)
+      + 2048 * length (weight_of (laid_entries es)).bag
 
 held : (es : List Entry) → AreFit es → Held es
 held [] h = record { bag = omega arith; room = omega arith }
@@ -140,14 +141,16 @@ held (e ∷ es) h = go e.cluster h.0.low h.0.high (held es h.1)
           room = omega (arith, t.bag, t.room, low, high, length-append e.bytes (flat_bytes es));
         }
 
-pub covers_fit : (es : List Entry) → 0 < length es → AreFit es → Covers (weight_of (laid es)) (length (flat_bytes es))
+pub covers_fit : (es : List Entry) → 0 < length es → AreFit es
+    → Covers (weight_of (laid_entries es)) (length (flat_bytes es))
 covers_fit es some h =
     let t : Held es = held es h in
     record {
       some = omega (
         arith,
         some,
-        length-map es (λ (e : Entry). let x : flat.Entry = record { size = length e.bytes; cluster = e.cluster } in
+        length-map es (λ (e : Entry). let x : flat.LayoutEntry = record { size = length e.bytes; cluster = e.cluster }
+            in
             x),
       );
       references = t.bag;

@@ -9,7 +9,7 @@ use Rattle.chain_ops.specs.Rooms.{room_low, end_entry}
 use Rattle.chain_ops.specs.Copies.{Position, position_of, copied_entry, copied_from, copied, copied_all}
 use Rattle.chain_ops.specs.Trims.{without_first, only_first, adjusted, adjusted_bytes}
 use Rattle.chain_ops.specs.Joins.{filled_up, cat}
-use Rattle.chain_ops.specs.Pulls.{moved, has_room, pulled_len, pulled_up}
+use Rattle.chain_ops.specs.Pulls.{moved, has_room, pulled_len, entries_pulled}
 use Rattle.chain_ops.specs.Prepends.{has_front, prepended}
 use Rattle.chain_ops.specs.Splits.{rest_of, split_front, split_back}
 use Rattle.chain_ops.proofs.Laws.Lists.{take_over, take_least, drop_over, drop-append, piece_copied}
@@ -186,7 +186,7 @@ first_rest v = go v.entries
     go [] = refl
     go (e ∷ es) = refl
 
-pub pulled_up_bytes : (v : ChainView) (n : ℕ) → flat_bytes (pulled_up v n) ≡ string v
+pub pulled_up_bytes : (v : ChainView) (n : ℕ) → flat_bytes (entries_pulled v n) ≡ string v
 pulled_up_bytes v n = go (has_room (entry_of v 0) n)
   where
     go : (b : Bool)

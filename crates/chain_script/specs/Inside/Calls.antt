@@ -23,26 +23,26 @@ request_of (Free slot) room = lines.Free slot
 request_of Usage room = lines.Ask_usage
 
 -- its slots are slots, and its numbers are those of lines
-abbrev pub IsCall : Call → Type 0
-IsCall (User slot len) = (slot < SLOTS) × (len ≤ IP_MAX_PACKET)
-IsCall (Wire slot len) = (slot < SLOTS) × (len ≤ IP_MAX_PACKET)
-IsCall (Copy to slot extent) = (to < SLOTS) × (slot < SLOTS)
-IsCall (Prepend slot len) = (slot < SLOTS) × (len ≤ IP_MAX_PACKET)
-IsCall (PullUp slot n) = slot < SLOTS
-IsCall (Adjust slot n) = slot < SLOTS
-IsCall (Split to slot at) = (to < SLOTS) × (slot < SLOTS)
-IsCall (Join slot other) = (slot < SLOTS) × (other < SLOTS)
-IsCall (WriteOver slot off len) = (slot < SLOTS) × (off ≤ IP_MAX_PACKET) × (len ≤ IP_MAX_PACKET)
-IsCall (ReadOut slot off len) = (slot < SLOTS) × (off ≤ IP_MAX_PACKET) × (len ≤ IP_MAX_PACKET)
-IsCall (Show slot) = slot < SLOTS
-IsCall (Free slot) = slot < SLOTS
-IsCall Usage = Unit {0}
+abbrev pub IsSlotCall : Call → Type 0
+IsSlotCall (User slot len) = (slot < SLOTS) × (len ≤ IP_MAX_PACKET)
+IsSlotCall (Wire slot len) = (slot < SLOTS) × (len ≤ IP_MAX_PACKET)
+IsSlotCall (Copy to slot extent) = (to < SLOTS) × (slot < SLOTS)
+IsSlotCall (Prepend slot len) = (slot < SLOTS) × (len ≤ IP_MAX_PACKET)
+IsSlotCall (PullUp slot n) = slot < SLOTS
+IsSlotCall (Adjust slot n) = slot < SLOTS
+IsSlotCall (Split to slot at) = (to < SLOTS) × (slot < SLOTS)
+IsSlotCall (Join slot other) = (slot < SLOTS) × (other < SLOTS)
+IsSlotCall (WriteOver slot off len) = (slot < SLOTS) × (off ≤ IP_MAX_PACKET) × (len ≤ IP_MAX_PACKET)
+IsSlotCall (ReadOut slot off len) = (slot < SLOTS) × (off ≤ IP_MAX_PACKET) × (len ≤ IP_MAX_PACKET)
+IsSlotCall (Show slot) = slot < SLOTS
+IsSlotCall (Free slot) = slot < SLOTS
+IsSlotCall Usage = Unit {0}
 
 -- the words after the keyword ask for the request
-abbrev pub IsForm : List ℕ → List (List ℕ) → lines.Request → Type 0
-IsForm name args request = (lines.keyword request ≡ name) × lines.HasWords request args
+abbrev pub IsChainForm : List ℕ → List (List ℕ) → lines.Request → Type 0
+IsChainForm name args request = (lines.chain_keyword request ≡ name) × lines.HasWords request args
 
 -- what the words after the keyword ask for
-abbrev pub ReadsForm : List ℕ → List (List ℕ) → List ℕ → Option Call → Type 0
-ReadsForm name args room (Some call) = IsForm name args (request_of call room) × IsCall call
-ReadsForm name args room None = (request : lines.Request) → IsForm name args request → ⊥
+abbrev pub ReadsChainForm : List ℕ → List (List ℕ) → List ℕ → Option Call → Type 0
+ReadsChainForm name args room (Some call) = IsChainForm name args (request_of call room) × IsSlotCall call
+ReadsChainForm name args room None = (request : lines.Request) → IsChainForm name args request → ⊥

@@ -6,13 +6,13 @@ use Rattle.mbuf_chain.specs.Owners.{IsAll}
 use Rattle.chain_script.specs.Machines.{Machine, Slot}
 
 -- the numbers of the chains
-abbrev pub number_in : Option ℕ → List ℕ → List ℕ
-number_in None ks = ks
-number_in (Some c) ks = c ∷ ks
+abbrev pub with_number : Option ℕ → List ℕ → List ℕ
+with_number None ks = ks
+with_number (Some c) ks = c ∷ ks
 
-abbrev pub numbers : List (Option ℕ) → List ℕ
-numbers [] = []
-numbers (slot ∷ slots) = number_in slot (numbers slots)
+abbrev pub slot_numbers : List (Option ℕ) → List ℕ
+slot_numbers [] = []
+slot_numbers (slot ∷ slots) = with_number slot (slot_numbers slots)
 
 -- what a slot shows
 abbrev pub slot_of : PoolView → Option ℕ → Option Slot
@@ -23,5 +23,5 @@ abbrev pub machine_of : PoolView → List (Option ℕ) → Machine
 machine_of p slots = record { mbufs = p.mbufs; clusters = p.clusters; slots = map (slot_of p) slots }
 
 -- each chain of the pool stands in one slot
-abbrev pub Fits : PoolView → List (Option ℕ) → Type 0
-Fits p slots = IsAll p (numbers slots)
+abbrev pub FitsSlots : PoolView → List (Option ℕ) → Type 0
+FitsSlots p slots = IsAll p (slot_numbers slots)

@@ -8,7 +8,7 @@ use Rattle.std.proofs.lemmas.List.{take_min, drop-drop, length-drop, length-map,
 use Rattle.std.proofs.lemmas.List.FromFn.{length-range_with_len, get_or-map-range_with_len}
 use Rattle.std.proofs.lemmas.Bool.{cases_lt, le-leb, lt-leb, cond-true, cond-false}
 use Rattle.flat_model.specs.Fragments.Cuts.{Part, part, chunk, chunks, cuts}
-use Rattle.flat_model.specs.Runs.Laws.{bytes_of, CutsJoin}
+use Rattle.flat_model.specs.Runs.Laws.{bytes_of_part, CutsJoin}
 
 -- a chunk has 8 bytes or more, and fits
 pub chunk_some : (mtu : ℕ) → 28 ≤ mtu → 8 ≤ chunk mtu
@@ -32,7 +32,7 @@ chunks_needed n c i h l =
 
 -- the bytes of the parts from the i-th on
 pub parts_join : (s : List ℕ) (c i k : ℕ)
-    → flat_map (bytes_of s) (map (part (length s) c) (range_with_len i k)) ≡ take (k * c) (drop (i * c) s)
+    → flat_map (bytes_of_part s) (map (part (length s) c) (range_with_len i k)) ≡ take (k * c) (drop (i * c) s)
 parts_join s c i zero = let e : 0 * c ≡ 0 = omega arith in rw e refl
 parts_join s c i (suc k) =
     let first : take (min c (length s - i * c)) (drop (i * c) s) ≡ take c (drop (i * c) s) =
@@ -41,7 +41,7 @@ parts_join s c i (suc k) =
     let later : take (k * c) (drop ((i + 1) * c) s) ≡ take (k * c) (drop c (drop (i * c) s)) =
     ap (λ m. take (k * c) (drop m s)) on ∙ ap (take (k * c)) (sym (drop-drop c (i * c) s)) in
     let both : suc k * c ≡ c + k * c = omega arith in
-    ap (λ rest. bytes_of s (part (length s) c i) ++ rest) (parts_join s c (i + 1) k)
+    ap (λ rest. bytes_of_part s (part (length s) c i) ++ rest) (parts_join s c (i + 1) k)
     ∙ ap (λ x. x ++ take (k * c) (drop ((i + 1) * c) s)) first
     ∙ ap (λ rest. take c (drop (i * c) s) ++ rest) later
     ∙ sym (take-add c (k * c) (drop (i * c) s))
@@ -65,7 +65,7 @@ length-grid n c = length-map (range_with_len 0 (chunks n c)) (part n c) ∙ leng
 pub get_or-grid : (n c k : ℕ) (d : Part) → k < chunks n c → get_or (grid n c) k d ≡ part n c k
 get_or-grid n c k d h = get_or-map-range_with_len (part n c) 0 (chunks n c) k k d h (omega arith)
 
-joined_long : (s : List ℕ) (c : ℕ) → 0 < c → flat_map (bytes_of s) (grid (length s) c) ≡ s
+joined_long : (s : List ℕ) (c : ℕ) → 0 < c → flat_map (bytes_of_part s) (grid (length s) c) ≡ s
 joined_long s c h =
     let none : 0 * c ≡ 0 = omega arith in
     parts_join s c 0 (chunks (length s) c)

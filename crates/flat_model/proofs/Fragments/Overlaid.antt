@@ -7,7 +7,7 @@ use Rattle.std.proofs.lemmas.Option.{none-some, same_Some}
 use Rattle.flat_model.specs.Amounts.Weight.{Weight, Covers, all_of}
 use Rattle.flat_model.specs.Fragments.Overlay.{Held, Piece, Map, Fragment, empty, fragment_end, stays, first_owned, brought, cut_back, is_within, lies, overlay}
 use Rattle.flat_model.specs.Fragments.Whole.{piece_at, pieces_below, weight_of_pieces}
-use Rattle.flat_model.specs.Runs.Consistent.{Carries, IsPlace, IsMap}
+use Rattle.flat_model.specs.Runs.Consistent.{Carries, IsConsistentAt, IsMap}
 use Rattle.flat_model.specs.declared.config.Config.{Config}
 use Rattle.flat_model.proofs.Lists.Each.{each-append}
 use Rattle.flat_model.proofs.Lists.Totals.{total, total_le, total_add, total_spike, total_spike_most, spike, spike_here, count_cons}
@@ -342,7 +342,7 @@ module _ (c : Config) (bytes : Map) (f : Fragment) (is_map : IsMap c bytes)
           )
       go false t = kept (cut g) t
 
-  stayed_place : (offset : ℕ) (h : Held) → Stayed offset h → IsPlace c (overlay bytes f) offset h
+  stayed_place : (offset : ℕ) (h : Held) → Stayed offset h → IsConsistentAt c (overlay bytes f) offset h
   stayed_place offset h s =
       let p = is_map offset h s.was in
       record {
@@ -354,7 +354,7 @@ module _ (c : Config) (bytes : Map) (f : Fragment) (is_map : IsMap c bytes)
       }
 
   brought_place : (offset : ℕ) → f.offset ≤ offset → offset < fragment_end f → stays f.offset (bytes offset) ≡ false
-      → IsPlace c (overlay bytes f) offset (brought bytes f offset)
+      → IsConsistentAt c (overlay bytes f) offset (brought bytes f offset)
   brought_place offset low high new = record {
     inside = omega arith;
     first = (owned_from offset low high).1 new;
@@ -374,17 +374,17 @@ module _ (c : Config) (bytes : Map) (f : Fragment) (is_map : IsMap c bytes)
       fails k l m {b = true} e = let below = (owned_from k (omega (arith, owned_low)) m).0 e in absurd (omega arith)
 
   kept_place : (offset : ℕ) (h old : Held) → bytes offset ≡ Some old → is_within f offset ≡ false → h ≡ cut_back f old
-      → IsPlace c (overlay bytes f) offset h
+      → IsConsistentAt c (overlay bytes f) offset h
   kept_place offset h old was out is = go (cut old) (not_within offset out)
     where
-      p : IsPlace c bytes offset old
+      p : IsConsistentAt c bytes offset old
       p = is_map offset old was
 
       go : (Straddles old × (cut_back f old ≡ record old { piece = record (old.piece) { first = fragment_end f } }))
           ⊎ ((Straddles old → ⊥) × (cut_back f old ≡ old)) → (offset < f.offset) ⊎ (fragment_end f ≤ offset)
-          → IsPlace c (overlay bytes f) offset h
+          → IsConsistentAt c (overlay bytes f) offset h
       go (inl (s, e)) (inl before) = absurd (let first : old.piece.first ≤ offset = p.first in omega (arith, s.low))
-      go (inl (s, e)) (inr past) = subst (IsPlace c (overlay bytes f) offset) (sym (is ∙ e)) (record {
+      go (inl (s, e)) (inr past) = subst (IsConsistentAt c (overlay bytes f) offset) (sym (is ∙ e)) (record {
         inside = p.inside;
         first = past;
         filled = λ k low high.
@@ -402,7 +402,7 @@ module _ (c : Config) (bytes : Map) (f : Fragment) (is_map : IsMap c bytes)
           trimmed g same (inl (t, x)) =
               ap (λ (y : Held). y.piece) x ∙ ap (λ (q : Piece). record q { first = fragment_end f }) same
           trimmed g same (inr (n, x)) = absurd (n (straddles_too g old same s))
-      go (inr (n, e)) away = subst (IsPlace c (overlay bytes f) offset) (sym (is ∙ e)) (record {
+      go (inr (n, e)) away = subst (IsConsistentAt c (overlay bytes f) offset) (sym (is ∙ e)) (record {
         inside = p.inside;
         first = p.first;
         filled = λ k low high. let at = p.filled k low high in
@@ -418,9 +418,10 @@ module _ (c : Config) (bytes : Map) (f : Fragment) (is_map : IsMap c bytes)
   pub overlay_is : IsMap c (overlay bytes f)
   overlay_is offset h e = go (outcome offset h e)
     where
-      go : Stayed offset h ⊎ (Brought offset h ⊎ Kept offset h) → IsPlace c (overlay bytes f) offset h
+      go : Stayed offset h ⊎ (Brought offset h ⊎ Kept offset h) → IsConsistentAt c (overlay bytes f) offset h
       go (inl s) = stayed_place offset h s
-      go (inr (inl b)) = subst (IsPlace c (overlay bytes f) offset) (sym b.is) (brought_place offset b.low b.high b.new)
+      go (inr (inl b)) =
+          subst (IsConsistentAt c (overlay bytes f) offset) (sym b.is) (brought_place offset b.low b.high b.new)
       go (inr (inr k)) = kept_place offset h k.old k.was k.outside k.is
 
   -- ---- what it weighs

@@ -8,7 +8,7 @@ use Rattle.std.proofs.lemmas.List.{length-set, get_or-set_same, get_or-set_other
 use Rattle.std.proofs.lemmas.List.FromFn.{get_or-map-range_with_len, length-map-range_with_len}
 use denote.Enum.Enum.{tag_below}
 use denote.Enum.Declared.{variants}
-use Rattle.flat_model.specs.Machine.Count.{all_counters, more_by, place, value_of, counts_more}
+use Rattle.flat_model.specs.Machine.Count.{all_counters, more_by, counter_place, value_of, counts_more}
 use Rattle.flat_model.specs.contracts.counter.Counter.{the_type}
 use Rattle.flat_model.specs.declared.counter.TheConstants.{COUNTERS}
 use Rattle.flat_model.specs.declared.counter.Counter.{Counter}
@@ -36,21 +36,21 @@ module _ (n : ℕ) (xs : List ℕ) (i : ℕ) (f : ℕ → ℕ) (long : length xs
       (omega (arith, below, length-set xs i (f (get_or xs i 0)), long)) (omega arith)))
 
 -- the order of printing is that of the type
-places : map place all_counters ≡ range_with_len 0 COUNTERS
+places : map counter_place all_counters ≡ range_with_len 0 COUNTERS
 places = refl
 
-at_places : (f : ℕ → ℕ) → map f (map place all_counters) ≡ map (λ other. f (place other)) all_counters
+at_places : (f : ℕ → ℕ) → map f (map counter_place all_counters) ≡ map (λ other. f (counter_place other)) all_counters
 at_places f = refl
 
 -- the number at a counter's place, made so much more, is that counter's count
 pub counts_is : (counter : Counter) (k : ℕ) (c : Counters) (value : ℕ) → length c.values ≡ COUNTERS
     → value ≡ more_by k (value_of counter c)
-    → ◌≡◌ {A = Counters} (record { values = set c.values (place counter) value }) (counts_more counter k c)
+    → ◌≡◌ {A = Counters} (record { values = set c.values (counter_place counter) value }) (counts_more counter k c)
 counts_is counter k c value long is =
-    let below : place counter < COUNTERS = tag_below (variants the_type) (the_type.to counter) in
+    let below : counter_place counter < COUNTERS = tag_below (variants the_type) (the_type.to counter) in
     ap (λ (xs : List ℕ). record { values = xs }) (
-    ap (set c.values (place counter)) is
-    ∙ set_is COUNTERS c.values (place counter) (more_by k) long below
-    ∙ ap (map (changed COUNTERS c.values (place counter) (more_by k) long below)) (sym places)
-    ∙ at_places (changed COUNTERS c.values (place counter) (more_by k) long below)
+    ap (set c.values (counter_place counter)) is
+    ∙ set_is COUNTERS c.values (counter_place counter) (more_by k) long below
+    ∙ ap (map (changed COUNTERS c.values (counter_place counter) (more_by k) long below)) (sym places)
+    ∙ at_places (changed COUNTERS c.values (counter_place counter) (more_by k) long below)
     )

@@ -448,7 +448,7 @@ module _ (c : Config) where
   pub good_queued : (h fd : ℕ) (d : Datagram) (me : Socket) (s : State) → Good c (h + d.item.weight.mbufs) s
       → IsQueued c d → socket_at fd s ≡ Some me
       → 16 + length d.item.bytes + bytes_queued me.queue ≤ 41600 → length me.queue + 1 ≤ 325
-      → Good c h (change_socket fd (Arrival.queued d) s)
+      → Good c h (change_socket fd (Arrival.with_datagram d) s)
   good_queued h fd d me s good is at room more = record {
     config = good.config;
     sockets =
@@ -460,12 +460,12 @@ module _ (c : Config) where
           arith,
           good.few,
           length-map s.sockets
-              (λ (socket : Socket). cond (socket.fd == fd) (Arrival.queued d socket) socket),
+              (λ (socket : Socket). cond (socket.fd == fd) (Arrival.with_datagram d socket) socket),
         );
     distinct =
         λ k. let same =
         count-map (λ (socket : Socket). socket.fd == k)
-        (λ socket. cond (socket.fd == fd) (Arrival.queued d socket) socket)
+        (λ socket. cond (socket.fd == fd) (Arrival.with_datagram d socket) socket)
         (λ socket. fd_same socket k (socket.fd == fd)) s.sockets in omega (arith, good.distinct k);
     unfinished = good.unfinished;
     keys = good.keys;
@@ -475,19 +475,20 @@ module _ (c : Config) where
     next_id = good.next_id;
     mbufs =
         let more =
-        mbufs-changed weight_of_socket (λ (socket : Socket). socket.fd == fd) (Arrival.queued d) d.item.weight.mbufs
+        mbufs-changed weight_of_socket (λ (socket : Socket). socket.fd == fd) (Arrival.with_datagram d)
+        d.item.weight.mbufs
         (λ socket. let app = mbufs-append (λ (x : Datagram). x.item.weight) socket.queue (d ∷ []) in omega arith)
         s.sockets (good.distinct fd) in
         omega (arith, good.mbufs);
   }
     where
       fd_same : (socket : Socket) (k : ℕ) (b : Bool)
-          → ((cond b (Arrival.queued d socket) socket).fd == k) ≡ (socket.fd == k)
+          → ((cond b (Arrival.with_datagram d socket) socket).fd == k) ≡ (socket.fd == k)
       fd_same socket k true = refl
       fd_same socket k false = refl
 
       go : (socket : Socket) → IsSocket c socket → (b : Bool) → (socket.fd == fd) ≡ b
-          → ((socket.fd == fd) ≡ true → socket ≡ me) → IsSocket c (cond b (Arrival.queued d socket) socket)
+          → ((socket.fd == fd) ≡ true → socket ≡ me) → IsSocket c (cond b (Arrival.with_datagram d socket) socket)
       go socket g true e one =
           let same : socket.queue ≡ me.queue = ap (λ (x : Socket). x.queue) (one e) in
           let bytes_same : bytes_queued socket.queue ≡ bytes_queued me.queue = ap bytes_queued same in
@@ -636,12 +637,12 @@ module _ (c : Config) where
           let at = had_buffers s t.mid h (need_mbufs n) t.answer t.has_buffers e in
           by_choice t.goes_on (λ p r. goes t.mid r at) (λ p r. ap (socket_at y.fd) r ∙ at)
 
-      queued_at : (d : Datagram) (s : State) → after ≡ change_socket to.fd (Arrival.queued d) s
+      queued_at : (d : Datagram) (s : State) → after ≡ change_socket to.fd (Arrival.with_datagram d) s
           → socket_at y.fd s ≡ Some y → socket_at y.fd after ≡ Some y
       queued_at d s e at =
           ap (socket_at y.fd) e
-          ∙ find-changed y.fd to.fd (Arrival.queued d) s.sockets y (λ x. refl) at
-          ∙ ap (λ b. Some (cond b (Arrival.queued d y) y)) other
+          ∙ find-changed y.fd to.fd (Arrival.with_datagram d) s.sockets y (λ x. refl) at
+          ∙ ap (λ b. Some (cond b (Arrival.with_datagram d y) y)) other
 
       appended : (mid : State) → Arrival.Appends exact_ledger (held ⊕ item.weight) sender item to mid after
           → socket_at y.fd mid ≡ Some y → socket_at y.fd after ≡ Some y
@@ -667,7 +668,7 @@ module _ (c : Config) where
       fits : (mid : State) → Good c (held.mbufs + item.weight.mbufs + 1) mid → socket_at to.fd mid ≡ Some to
           → Fits.fits to.queue (length item.bytes) ≡ true
           → Good c held.mbufs (change_socket to.fd
-          (Arrival.queued (record { sender = sender; item = record item { weight = mbuf ⊕ item.weight } })) mid)
+          (Arrival.with_datagram (record { sender = sender; item = record item { weight = mbuf ⊕ item.weight } })) mid)
       fits mid at found e =
           let limits = and_parts _ _ e in
           let memory = leb-true _ _ limits.1 in

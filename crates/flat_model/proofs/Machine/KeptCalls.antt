@@ -13,7 +13,7 @@ use Rattle.flat_model.specs.declared.option.Opt.{Opt}
 use Rattle.flat_model.specs.declared.option.Opt.TheVariants.{Broadcast, ReusePort}
 use Rattle.flat_model.specs.Machine.State.{State, Socket, Datagram, loopback, change_socket, socket_at}
 use Rattle.flat_model.specs.Machine.Calls as Calls
-use Rattle.flat_model.specs.Machine.Calls.{Refuses, GetsPort, IsNextPort, IsLowestFree, port_after, unless_zero, is_ours, is_reached, disconnected, set_option, source_for, fresh, read_addr}
+use Rattle.flat_model.specs.Machine.Calls.{Refuses, GetsPort, IsNextPort, IsLowestFree, port_after, unless_zero, is_ours, is_reached, disconnected, set_option, source_for, new_socket, read_addr}
 use Rattle.flat_model.specs.Sockets.Fits.{bytes_queued}
 use Rattle.flat_model.specs.Runs.Consistent.{IsQueued, IsSocket, IsPeer}
 use Rattle.flat_model.specs.declared.address.Addr.{Addr}
@@ -223,17 +223,17 @@ module _ (c : Config) (host : is_ours c c.addr ≡ true) (lo : is_ours c loopbac
               never e = cc
 
       one : (fd : ℕ) → IsLowestFree old fd → (k : ℕ) (b : Bool) → (fd == k) ≡ b
-          → count_by (λ (socket : Socket). socket.fd == k) (fresh fd ∷ old.sockets) ≤ 1
+          → count_by (λ (socket : Socket). socket.fd == k) (new_socket fd ∷ old.sockets) ≤ 1
       one fd least k true e =
           let none = none_found (λ (socket : Socket). socket.fd == fd) old.sockets (nothing_at fd least.free) in
           let same : count_by (λ (socket : Socket). socket.fd == k) old.sockets
           ≡ count_by (λ (socket : Socket). socket.fd == fd) old.sockets =
           ap (λ j. count_by (λ (socket : Socket). socket.fd == j) old.sockets) (sym (eqb-true fd k e)) in
           let here : cond {A = ℕ} (fd == k) 1 0 ≡ 1 = ap (λ b. cond {A = ℕ} b 1 0) e in
-          omega (arith, count_cons (λ (socket : Socket). socket.fd == k) (fresh fd) old.sockets)
+          omega (arith, count_cons (λ (socket : Socket). socket.fd == k) (new_socket fd) old.sockets)
       one fd least k false e =
           let here : cond {A = ℕ} (fd == k) 1 0 ≡ 0 = ap (λ b. cond {A = ℕ} b 1 0) e in
-          omega (arith, count_cons (λ (socket : Socket). socket.fd == k) (fresh fd) old.sockets, good.distinct k)
+          omega (arith, count_cons (λ (socket : Socket). socket.fd == k) (new_socket fd) old.sockets, good.distinct k)
 
   pub closes : (fd : ℕ) (old new : State) (reply : Reply) → Good c 0 old → Calls.Closes fd old reply new → Good c 0 new
   closes fd old new reply good h = subst (Good c 0) (sym h.1) (record {
@@ -247,7 +247,8 @@ module _ (c : Config) (host : is_ours c c.addr ≡ true) (lo : is_ours c loopbac
           count_by-le-length (λ (socket : Socket). not (socket.fd == fd)) old.sockets,
         );
     distinct =
-        λ k. let le = count-filter (λ (socket : Socket). socket.fd == k) (λ socket. not (socket.fd == fd)) old.sockets in
+        λ k. let le =
+        count-filter (λ (socket : Socket). socket.fd == k) (λ socket. not (socket.fd == fd)) old.sockets in
         omega (arith, good.distinct k);
     unfinished = good.unfinished;
     keys = good.keys;

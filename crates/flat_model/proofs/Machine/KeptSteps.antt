@@ -212,7 +212,8 @@ module _ (c : Config) (boots : IsConfig c) where
     packets_fit : Each (ItemFits c mtu)
         (items (laid_on clusters (sent (length x.bytes))) (packet_for x) (cuts (length (datagram x)) mtu))
     packets_fit =
-        subst (λ m. Each (ItemFits c mtu) (items (laid_on clusters (sent (length x.bytes))) (packet_for x) (cuts m mtu)))
+        subst (λ m. Each (ItemFits c mtu)
+        (items (laid_on clusters (sent (length x.bytes))) (packet_for x) (cuts m mtu)))
         (sym size_of_datagram)
         (items_fit c clusters (length x.bytes) mtu number there (packet_for x) sizes (cuts (length x.bytes + 8) mtu)
         (parts_fit (length x.bytes + 8) mtu low))

@@ -6,7 +6,7 @@ use Rattle.std.proofs.lemmas.Bool.{ltb-false, leb-true, cases_lt}
 use Rattle.std.proofs.lemmas.List.Sums.{sum_by-cons}
 use Rattle.flat_model.specs.Amounts.Weight.{Item, all_of}
 use Rattle.flat_model.specs.Fragments.Cuts.{Part, part, chunk, chunks, cuts}
-use Rattle.flat_model.specs.Amounts.Layout.{Room, Plain, Cluster, size_of, is_cluster, next_room, filled, or_empty, user, sent, wire, Entry, laid_on, weight_of, meets_from, need_of_part}
+use Rattle.flat_model.specs.Amounts.Layout.{Room, Plain, Cluster, size_of, is_cluster, next_room, filled, or_empty, user, sent, wire, LayoutEntry, laid_on, weight_of, meets_from, need_of_part}
 use Rattle.flat_model.specs.Packets.Header as Flat
 use Rattle.flat_model.specs.Packets.Header.{packet}
 use Rattle.flat_model.specs.Machine.Sending.{items, later_weight}
@@ -95,7 +95,7 @@ sent_some n = go (nat_le n 72)
 
 -- ---- entries
 
-record IsLaid (rooms : List Room) (entries : List Entry) : Type 0 where
+record IsLaid (rooms : List Room) (entries : List LayoutEntry) : Type 0 where
   number : length entries ≡ length rooms
   references : length (weight_of entries).bag ≤ length entries
   room : bytes_in rooms ≤ 108 * (length entries - length (weight_of entries).bag)
@@ -169,29 +169,30 @@ shared_past : (at n size a b : ℕ) → min (at + n) b ≤ max at a → shared a
 unfolding shared
 shared_past at n size a b none = omega arith
 
-record IsMet (at : ℕ) (rooms : List Room) (a b : ℕ) (met : List Entry) : Type 0 where
+record IsMet (at : ℕ) (rooms : List Room) (a b : ℕ) (met : List LayoutEntry) : Type 0 where
   references : length (weight_of met).bag ≤ length met
   room : shared at (bytes_in rooms) a b
       ≤ 108 * (length met - length (weight_of met).bag) + 2048 * length (weight_of met).bag
 
 met_is : (clusters : List ℕ) (rooms : List Room) (at a b : ℕ) → length clusters ≡ count_by is_cluster rooms
     → Each RoomFits rooms
-    → IsMet at rooms a b (meets_from (λ (entry : Entry). entry.size) at (laid_on clusters rooms) a b)
+    → IsMet at rooms a b (meets_from (λ (entry : LayoutEntry). entry.size) at (laid_on clusters rooms) a b)
 unfolding laid_on bytes_in meets_from
 met_is clusters [] at a b e fit = record { references = omega arith; room = omega (arith, shared_none at a b) }
 met_is clusters (Plain n ∷ rooms) at a b e fit =
     let count = count_cons is_cluster (Plain n) rooms in
     go (met_is clusters rooms (at + n) a b (omega arith) fit.1) (nat_lt (max at a) (min (at + n) b)) refl
   where
-    later : List Entry
-    later = meets_from (λ (entry : Entry). entry.size) (at + n) (laid_on clusters rooms) a b
+    later : List LayoutEntry
+    later = meets_from (λ (entry : LayoutEntry). entry.size) (at + n) (laid_on clusters rooms) a b
 
-    go : IsMet (at + n) rooms a b (meets_from (λ (entry : Entry). entry.size) (at + n) (laid_on clusters rooms) a b)
+    go : IsMet (at + n) rooms a b (meets_from (λ (entry : LayoutEntry). entry.size) (at + n) (laid_on clusters rooms) a
+        b)
         → (t : Bool) → nat_lt (max at a) (min (at + n) b) ≡ t
         → IsMet at (Plain n ∷ rooms) a b
         (cond t (record { size = n; cluster = None }
-        ∷ meets_from (λ (entry : Entry). entry.size) (at + n) (laid_on clusters rooms) a b) (meets_from
-        (λ (entry : Entry). entry.size) (at + n) (laid_on clusters rooms) a b))
+        ∷ meets_from (λ (entry : LayoutEntry). entry.size) (at + n) (laid_on clusters rooms) a b) (meets_from
+        (λ (entry : LayoutEntry). entry.size) (at + n) (laid_on clusters rooms) a b))
     go rest true t =
         record {
           references = omega (arith, rest.references);
@@ -207,12 +208,13 @@ met_is (c ∷ clusters) (Cluster n ∷ rooms) at a b e fit =
     let count = count_cons is_cluster (Cluster n) rooms in
     go (met_is clusters rooms (at + n) a b (omega arith) fit.1) (nat_lt (max at a) (min (at + n) b)) refl
   where
-    go : IsMet (at + n) rooms a b (meets_from (λ (entry : Entry). entry.size) (at + n) (laid_on clusters rooms) a b)
+    go : IsMet (at + n) rooms a b (meets_from (λ (entry : LayoutEntry). entry.size) (at + n) (laid_on clusters rooms) a
+        b)
         → (t : Bool) → nat_lt (max at a) (min (at + n) b) ≡ t
         → IsMet at (Cluster n ∷ rooms) a b
         (cond t (record { size = n; cluster = Some c }
-        ∷ meets_from (λ (entry : Entry). entry.size) (at + n) (laid_on clusters rooms) a b) (meets_from
-        (λ (entry : Entry). entry.size) (at + n) (laid_on clusters rooms) a b))
+        ∷ meets_from (λ (entry : LayoutEntry). entry.size) (at + n) (laid_on clusters rooms) a b) (meets_from
+        (λ (entry : LayoutEntry). entry.size) (at + n) (laid_on clusters rooms) a b))
     go rest true t =
         record {
           references = omega (arith, rest.references);
@@ -225,48 +227,48 @@ met_is (c ∷ clusters) (Cluster n ∷ rooms) at a b e fit =
         }
 
 met_number : (clusters : List ℕ) (rooms : List Room) (at a b : ℕ)
-    → length (meets_from (λ (entry : Entry). entry.size) at (laid_on clusters rooms) a b)
+    → length (meets_from (λ (entry : LayoutEntry). entry.size) at (laid_on clusters rooms) a b)
     ≡ length (meets_from size_of at rooms a b)
 unfolding laid_on meets_from
 met_number clusters [] at a b = refl
 met_number clusters (Plain n ∷ rooms) at a b =
     go (nat_lt (max at a) (min (at + n) b)) _ _ (met_number clusters rooms (at + n) a b)
   where
-    go : (t : Bool) (xs : List Entry) (ys : List Room) → length xs ≡ length ys
+    go : (t : Bool) (xs : List LayoutEntry) (ys : List Room) → length xs ≡ length ys
         → length (cond t (record { size = n; cluster = None } ∷ xs) xs) ≡ length (cond t (Plain n ∷ ys) ys)
     go true xs ys e = ap suc e
     go false xs ys e = e
 met_number [] (Cluster n ∷ rooms) at a b =
     go (nat_lt (max at a) (min (at + n) b)) _ _ (met_number [] rooms (at + n) a b)
   where
-    go : (t : Bool) (xs : List Entry) (ys : List Room) → length xs ≡ length ys
+    go : (t : Bool) (xs : List LayoutEntry) (ys : List Room) → length xs ≡ length ys
         → length (cond t (record { size = n; cluster = None } ∷ xs) xs) ≡ length (cond t (Cluster n ∷ ys) ys)
     go true xs ys e = ap suc e
     go false xs ys e = e
 met_number (c ∷ clusters) (Cluster n ∷ rooms) at a b =
     go (nat_lt (max at a) (min (at + n) b)) _ _ (met_number clusters rooms (at + n) a b)
   where
-    go : (t : Bool) (xs : List Entry) (ys : List Room) → length xs ≡ length ys
+    go : (t : Bool) (xs : List LayoutEntry) (ys : List Room) → length xs ≡ length ys
         → length (cond t (record { size = n; cluster = Some c } ∷ xs) xs) ≡ length (cond t (Cluster n ∷ ys) ys)
     go true xs ys e = ap suc e
     go false xs ys e = e
 
-each_met : (P : ℕ → Type 0) (entries : List Entry) (at a b : ℕ) → Each P (weight_of entries).bag
-    → Each P (weight_of (meets_from (λ (entry : Entry). entry.size) at entries a b)).bag
+each_met : (P : ℕ → Type 0) (entries : List LayoutEntry) (at a b : ℕ) → Each P (weight_of entries).bag
+    → Each P (weight_of (meets_from (λ (entry : LayoutEntry). entry.size) at entries a b)).bag
 unfolding meets_from
 each_met P [] at a b h = tt
 each_met P (x ∷ xs) at a b h =
     go (nat_lt (max at a) (min (at + x.size) b)) x.cluster _ (each_met P xs (at + x.size) a b) h
   where
-    rest : List Entry
-    rest = meets_from (λ (entry : Entry). entry.size) (at + x.size) xs a b
+    rest : List LayoutEntry
+    rest = meets_from (λ (entry : LayoutEntry). entry.size) (at + x.size) xs a b
 
     with_it : (o : Option ℕ) (ks ms : List ℕ) → (Each P ks → Each P ms) → Each P (cons_option o ks)
         → Each P (cons_option o ms) × Each P ms
     with_it None ks ms f h = (f h, f h)
     with_it (Some k) ks ms f h = ((h.0, f h.1), f h.1)
 
-    go : (t : Bool) (o : Option ℕ) (ys : List Entry) → (Each P (weight_of xs).bag → Each P (weight_of ys).bag)
+    go : (t : Bool) (o : Option ℕ) (ys : List LayoutEntry) → (Each P (weight_of xs).bag → Each P (weight_of ys).bag)
         → Each P (cons_option o (weight_of xs).bag)
         → Each P (weight_of (cond t (record { size = x.size; cluster = o } ∷ ys) ys)).bag
     go true o ys f h = (with_it o _ _ f h).0

@@ -11,7 +11,7 @@ use Rattle.flat_model.specs.Fragments.Overlay.{Map, Fragment, Held, empty, overl
 use Rattle.flat_model.specs.Fragments.Whole.{bytes_below}
 use Rattle.flat_model.specs.Sockets.Lookup.{best, receivers}
 use Rattle.flat_model.specs.Machine.State.{Socket}
-use Rattle.flat_model.specs.Machine.Calls.{fresh}
+use Rattle.flat_model.specs.Machine.Calls.{new_socket}
 use Rattle.flat_model.specs.declared.address.Addr.{Addr}
 
 user_208 : user 208 ≡ Cluster 208 ∷ []
@@ -126,7 +126,7 @@ front_piece_bytes = refl
 -- ---- lookups
 
 bound : ℕ → Option ℕ → Option Addr → Socket
-bound fd local peer = record (fresh fd) { local = local; port = Some 7; peer = peer }
+bound fd local peer = record (new_socket fd) { local = local; port = Some 7; peer = peer }
 
 found : Option Socket → ℕ
 found None = 0
@@ -148,7 +148,7 @@ best_fewest : found (best from_other
 unfolding found bound from_other other
 best_fewest = refl
 
-best_none : found (best from_other (bound 6 (Some 5) None ∷ fresh 3 ∷ [])) ≡ 0
+best_none : found (best from_other (bound 6 (Some 5) None ∷ new_socket 3 ∷ [])) ≡ 0
 unfolding found bound from_other other
 best_none = refl
 

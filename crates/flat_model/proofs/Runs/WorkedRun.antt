@@ -12,7 +12,7 @@ use Rattle.flat_model.specs.declared.counter.Counter.TheVariants.{IpTotal}
 use Rattle.flat_model.specs.Machine.Event.{Event, Reply, Open, Bind, Receive, Comes, Done, Opened, Received, IsBytes}
 use Rattle.flat_model.specs.Machine.State.{State, boot}
 use Rattle.flat_model.specs.declared.config.Config.{Config}
-use Rattle.flat_model.specs.Machine.Calls.{fresh}
+use Rattle.flat_model.specs.Machine.Calls.{new_socket}
 use Rattle.flat_model.specs.Machine.Step.{Step}
 
 abbrev plain : Config
@@ -24,10 +24,10 @@ w = 69 ∷ 0 ∷ 0 ∷ 30 ∷ 0 ∷ 1 ∷ 0 ∷ 0 ∷ 64 ∷ 17 ∷ 102 ∷ 204 
     ∷ 111 ∷ 223 ∷ 104 ∷ 105 ∷ []
 
 abbrev s1 : State
-s1 = record (boot plain) { sockets = fresh 3 ∷ [] }
+s1 = record (boot plain) { sockets = new_socket 3 ∷ [] }
 
 abbrev s2 : State
-s2 = record (boot plain) { sockets = record (fresh 3) { port = Some 7 } ∷ [] }
+s2 = record (boot plain) { sockets = record (new_socket 3) { port = Some 7 } ∷ [] }
 
 abbrev turn : Event → Reply → Turn
 turn event reply = record { event = event; reply = reply }
@@ -66,7 +66,7 @@ binds = at_some _ (at_none (7, s1, (refl, refl), refl, refl))
 s3 : State
 s3 = record s2 {
   sockets =
-      record (fresh 3) {
+      record (new_socket 3) {
         port = Some 7;
         queue =
             record {

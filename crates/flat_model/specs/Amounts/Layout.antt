@@ -57,19 +57,19 @@ abbrev pub wire : ℕ → List Room
 wire n = or_empty (filled n MCLBYTES MHLEN n)
 
 -- the bytes of an mbuf, and the cluster to which it refers, if it does
-pub record Entry : Type 0 where
+pub record LayoutEntry : Type 0 where
   pub size : ℕ
   pub cluster : Option ℕ
 
 -- the mbufs of a layout on the clusters given, in their order
-unfoldable pub laid_on : List ℕ → List Room → List Entry
+unfoldable pub laid_on : List ℕ → List Room → List LayoutEntry
 laid_on clusters [] = []
 laid_on clusters (Plain n ∷ rooms) = record { size = n; cluster = None } ∷ laid_on clusters rooms
 laid_on [] (Cluster n ∷ rooms) = record { size = n; cluster = None } ∷ laid_on [] rooms
 laid_on (c ∷ clusters) (Cluster n ∷ rooms) = record { size = n; cluster = Some c } ∷ laid_on clusters rooms
 
 -- the weight of a chain of such mbufs
-abbrev pub weight_of : List Entry → Weight
+abbrev pub weight_of : List LayoutEntry → Weight
 weight_of entries = record { mbufs = length entries; bag = filter_map (λ entry. entry.cluster) entries }
 
 -- The elements that share a byte with the range from a up to b, where `size` is the bytes of one, and the first
@@ -86,7 +86,7 @@ abbrev pub meets : List Room → ℕ → ℕ → List Room
 meets rooms a b = meets_from size_of 0 rooms a b
 
 -- the same of mbufs whose clusters are known
-abbrev pub entries_met : List Entry → ℕ → ℕ → List Entry
+abbrev pub entries_met : List LayoutEntry → ℕ → ℕ → List LayoutEntry
 entries_met entries a b = meets_from (λ entry. entry.size) 0 entries a b
 
 -- how many free buffers something takes

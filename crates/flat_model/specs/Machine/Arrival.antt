@@ -33,8 +33,8 @@ is_broadcast c ip = (ip == c.bcast) || (ip == limited_broadcast)
 -- ---- what a delivery adds
 
 -- a socket with one more datagram in its queue
-abbrev pub queued : Datagram → Socket → Socket
-queued d socket = record socket { queue = socket.queue ++ d ∷ [] }
+abbrev pub with_datagram : Datagram → Socket → Socket
+with_datagram d socket = record socket { queue = socket.queue ++ d ∷ [] }
 
 -- who hears a datagram: many for a broadcast, else one
 abbrev pub hearers : State → ℕ → LookupKey → List Socket
@@ -113,7 +113,7 @@ module _ (L : Ledger) where
   Appends held sender item to old new =
       Choice (fits to.queue (length item.bytes))
       (Tests old (held ⊕ item.weight) 1 new (λ mid.
-      new ≡ change_socket to.fd (queued
+      new ≡ change_socket to.fd (with_datagram
       (record { sender = sender; item = record item { weight = mbuf ⊕ item.weight } })) mid))
       (new ≡ ends UdpFullSocket old)
 

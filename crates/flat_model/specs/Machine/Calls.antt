@@ -91,8 +91,9 @@ GetsPort old local None port new = IsNextPort old local port × (new ≡ record 
 -- ---- socket and close; descriptors are 3 to 66, and the lowest free one is given (this project's own)
 
 -- a new socket
-abbrev pub fresh : ℕ → Socket
-fresh fd = record { fd = fd; local = None; port = None; peer = None; broadcast = false; reuse_port = false; queue = [] }
+abbrev pub new_socket : ℕ → Socket
+new_socket fd =
+    record { fd = fd; local = None; port = None; peer = None; broadcast = false; reuse_port = false; queue = [] }
 
 -- the least descriptor from 3 on that no socket has
 pub record IsLowestFree (s : State) (fd : ℕ) : Type 0 where
@@ -104,7 +105,8 @@ pub record IsLowestFree (s : State) (fd : ℕ) : Type 0 where
 abbrev pub Opens : ℕ → State → Reply → State → Type 0
 Opens most old reply new =
     Choice (nat_lt (length old.sockets) most)
-    ((fd : ℕ) × IsLowestFree old fd × (reply ≡ Opened fd) × (new ≡ record old { sockets = fresh fd ∷ old.sockets }))
+    ((fd : ℕ) × IsLowestFree old fd × (reply ≡ Opened fd)
+    × (new ≡ record old { sockets = new_socket fd ∷ old.sockets }))
     (Refuses TooManyFiles old reply new)
 
 -- The socket goes with its queue. What it sent, and what has come for it in part, stays.

@@ -52,13 +52,14 @@ abbrev pub all_counters : List Counter
 all_counters = map (λ entry. entry.0) named_counters
 
 -- the place of a counter in the order of the type's declaration
-abbrev pub place : Counter → ℕ
-place = tag_of the_type
+abbrev pub counter_place : Counter → ℕ
+counter_place = tag_of the_type
 
 -- the name that stands beside a counter
 abbrev pub name_in : List (Counter × List ℕ) → Counter → List ℕ
 name_in [] counter = []
-name_in (entry ∷ entries) counter = if place entry.0 == place counter then entry.1 else name_in entries counter
+name_in (entry ∷ entries) counter =
+    if counter_place entry.0 == counter_place counter then entry.1 else name_in entries counter
 
 abbrev pub counter_name : Counter → List ℕ
 counter_name = name_in named_counters
@@ -71,13 +72,14 @@ no_counts = record { values = replicate COUNTERS 0 }
 
 -- what a counter has counted
 abbrev pub value_of : Counter → Counters → ℕ
-value_of counter c = slice_index c.values (place counter)
+value_of counter c = slice_index c.values (counter_place counter)
 
 -- it counts k more, and each other has counted what it had
 abbrev pub counts_more : Counter → ℕ → Counters → Counters
 counts_more counter k c = record {
   values =
-      map (λ other. if place other == place counter then more_by k (value_of other c) else value_of other c)
+      map (λ other. if counter_place other == counter_place counter then more_by k (value_of other c)
+      else value_of other c)
       all_counters;
 }
 

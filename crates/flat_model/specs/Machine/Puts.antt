@@ -13,7 +13,7 @@ use Rattle.flat_model.specs.declared.address.Addr.{Addr}
 use Rattle.flat_model.specs.Machine.Send.{need_to, to_link, to_self, overflows, enqueued, spent}
 
 -- what a send leaves whose packets are `out`: those for the link wait for it, and `looped` are to come back
-pub record Queues (fd : ℕ) (out : List Item) (x : Sending) (old : State) (reply : Reply) (looped : List Item)
+pub record QueuesPackets (fd : ℕ) (out : List Item) (x : Sending) (old : State) (reply : Reply) (looped : List Item)
     (new : State) : Type 0 where
   pub back : looped ≡ to_self old.config x.to.ip out
   pub state : new ≡ enqueued (to_link old.config x.to.ip out) (spent fd x.port (parts_of old.config x) old)
@@ -34,4 +34,4 @@ module _ (L : Ledger) where
         port = port;
         bytes = bytes;
       } in
-      Queues fd (packets named.config clusters x) x named reply looped new)
+      QueuesPackets fd (packets named.config clusters x) x named reply looped new)

@@ -3,7 +3,7 @@ use Rattle.std.specs.Prelude.{ℕ, ◌+◌, Bool, ◌==◌, ◌||◌, if◌then�
 use Rattle.params.specs.declared.TheConstants.{IP_HEADER, PROTOCOL_UDP, LOOPBACK_MTU}
 use Rattle.flat_model.specs.Amounts.Weight.{Weight, Item, mbuf, ◌⊕◌}
 use Rattle.flat_model.specs.Fragments.Cuts.{Part, cuts}
-use Rattle.flat_model.specs.Amounts.Layout.{Entry, sent, laid_on, weight_of, entries_met}
+use Rattle.flat_model.specs.Amounts.Layout.{LayoutEntry, sent, laid_on, weight_of, entries_met}
 use Rattle.flat_model.specs.Packets.Header.{Head, packet, udp}
 use Rattle.flat_model.specs.Machine.State.{loopback}
 use Rattle.flat_model.specs.declared.config.Config.{Config}
@@ -51,11 +51,11 @@ parts_of c x = cuts (length (datagram x)) (mtu_to c x.to.ip)
 
 -- The weight of a later packet. The first one lies in the send's own mbufs, trimmed at its end; a later one has an mbuf
 -- for its header and one for each mbuf in which its bytes lie, and shares the clusters of these.
-abbrev pub later_weight : List Entry → Part → Weight
+abbrev pub later_weight : List LayoutEntry → Part → Weight
 later_weight entries p = mbuf ⊕ weight_of (entries_met entries (IP_HEADER + p.offset) (IP_HEADER + p.offset + p.size))
 
 -- the packets of the parts, with what they weigh
-abbrev pub items : List Entry → (Part → List ℕ) → List Part → List Item
+abbrev pub items : List LayoutEntry → (Part → List ℕ) → List Part → List Item
 items entries bytes [] = []
 items entries bytes (p ∷ later) =
     record { bytes = bytes p; weight = weight_of entries }

@@ -46,9 +46,9 @@ pub record IsConfig (c : Config) : Type 0 where
   pub first_id : c.first_id < 2 ^ 16
 
 -- why boot refuses one: the sizes are tested first
-abbrev pub IsRefused : Config → ConfigFault → Type 0
-IsRefused c BadSizes = ¬ HasSizes c
-IsRefused c BadConfig = HasSizes c × ¬ IsConfig c
+abbrev pub IsConfigRefused : Config → ConfigFault → Type 0
+IsConfigRefused c BadSizes = ¬ HasSizes c
+IsConfigRefused c BadConfig = HasSizes c × ¬ IsConfig c
 
 -- a datagram in a receive queue, and who sent it; its weight has the mbuf for that address too
 pub record Datagram : Type 0 where

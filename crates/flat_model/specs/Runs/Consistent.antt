@@ -41,14 +41,14 @@ pub record IsSocket (c : Config) (socket : Socket) : Type 0 where
   pub queued : length socket.queue ≤ UDP_RECEIVE_MEMORY / (2 * MSIZE)
 
 -- What lies at an offset belongs to a piece without gaps from its first offset on, which has room for it.
-pub record IsPlace (c : Config) (bytes : Map) (offset : ℕ) (held : Held) : Type 0 where
+pub record IsConsistentAt (c : Config) (bytes : Map) (offset : ℕ) (held : Held) : Type 0 where
   pub inside : offset < IP_MAX_DATA
   pub first : held.piece.first ≤ offset
   pub filled : (k : ℕ) → held.piece.first ≤ k → k ≤ offset → (h : Held) × (bytes k ≡ Some h) × (h.piece ≡ held.piece)
   pub carries : Carries c held.piece.weight (offset + 1 - held.piece.first)
 
 abbrev pub IsMap : Config → Map → Type 0
-IsMap c bytes = (offset : ℕ) (held : Held) → bytes offset ≡ Some held → IsPlace c bytes offset held
+IsMap c bytes = (offset : ℕ) (held : Held) → bytes offset ≡ Some held → IsConsistentAt c bytes offset held
 
 pub record IsWaiting (c : Config) (u : Unfinished) : Type 0 where
   pub some_ticks : 1 ≤ u.ticks

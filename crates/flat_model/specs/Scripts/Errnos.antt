@@ -5,19 +5,19 @@ use Rattle.flat_model.specs.declared.errno.Errno.TheVariants.{BadDescriptor, Acc
 use Rattle.flat_model.specs.declared.errno.Lack.{Lack}
 use Rattle.flat_model.specs.declared.errno.Lack.TheVariants.{Pool, Queue}
 
-abbrev pub number_of : Errno → ℕ
-number_of BadDescriptor = 9
-number_of Access = 13
-number_of Invalid = 22
-number_of TooManyFiles = 24
-number_of WouldBlock = 35
-number_of DestinationRequired = 39
-number_of MessageSize = 40
-number_of AddressInUse = 48
-number_of AddressNotAvailable = 49
-number_of (NoBufs lack) = 55
-number_of IsConnected = 56
-number_of HostUnreachable = 65
+abbrev pub errno_number : Errno → ℕ
+errno_number BadDescriptor = 9
+errno_number Access = 13
+errno_number Invalid = 22
+errno_number TooManyFiles = 24
+errno_number WouldBlock = 35
+errno_number DestinationRequired = 39
+errno_number MessageSize = 40
+errno_number AddressInUse = 48
+errno_number AddressNotAvailable = 49
+errno_number (NoBufs lack) = 55
+errno_number IsConnected = 56
+errno_number HostUnreachable = 65
 
 abbrev pub name_of : Errno → List ℕ
 name_of BadDescriptor = codes "EBADF"

@@ -19,8 +19,8 @@ words line = slice_split (λ byte. byte == 32) line
 abbrev pub IsNumber : ℕ → List ℕ → ℕ → Type 0
 IsNumber most word n = (n ≤ most) × (word ≡ decimal n)
 
-abbrev pub IsDescriptor : List ℕ → ℕ → Type 0
-IsDescriptor word fd = IsNumber 4294967295 word fd
+abbrev pub WritesDescriptor : List ℕ → ℕ → Type 0
+WritesDescriptor word fd = IsNumber 4294967295 word fd
 
 abbrev pub IsPort : List ℕ → ℕ → Type 0
 IsPort word port = IsNumber 65535 word port
@@ -71,17 +71,17 @@ IsEnd a p address = IsAddress a address.ip × IsPort p address.port
 abbrev pub HasArguments : Event → List (List ℕ) → Type 0
 HasArguments Open args = args ≡ []
 HasArguments (Bind fd address) args =
-    (f a p : List ℕ) × (args ≡ f ∷ a ∷ p ∷ []) × IsDescriptor f fd × IsEnd a p address
+    (f a p : List ℕ) × (args ≡ f ∷ a ∷ p ∷ []) × WritesDescriptor f fd × IsEnd a p address
 HasArguments (Connect fd address) args =
-    (f a p : List ℕ) × (args ≡ f ∷ a ∷ p ∷ []) × IsDescriptor f fd × IsEnd a p address
+    (f a p : List ℕ) × (args ≡ f ∷ a ∷ p ∷ []) × WritesDescriptor f fd × IsEnd a p address
 HasArguments (Send fd (Some to) bytes) args =
-    (f a p h : List ℕ) × (args ≡ f ∷ a ∷ p ∷ h ∷ []) × IsDescriptor f fd × IsEnd a p to × IsHex h bytes
-HasArguments (Send fd None bytes) args = (f h : List ℕ) × (args ≡ f ∷ h ∷ []) × IsDescriptor f fd × IsHex h bytes
+    (f a p h : List ℕ) × (args ≡ f ∷ a ∷ p ∷ h ∷ []) × WritesDescriptor f fd × IsEnd a p to × IsHex h bytes
+HasArguments (Send fd None bytes) args = (f h : List ℕ) × (args ≡ f ∷ h ∷ []) × WritesDescriptor f fd × IsHex h bytes
 HasArguments (Receive fd most) args =
-    (f m : List ℕ) × (args ≡ f ∷ m ∷ []) × IsDescriptor f fd × IsNumber IP_MAX_PACKET m most × (0 < most)
-HasArguments (Close fd) args = (f : List ℕ) × (args ≡ f ∷ []) × IsDescriptor f fd
+    (f m : List ℕ) × (args ≡ f ∷ m ∷ []) × WritesDescriptor f fd × IsNumber IP_MAX_PACKET m most × (0 < most)
+HasArguments (Close fd) args = (f : List ℕ) × (args ≡ f ∷ []) × WritesDescriptor f fd
 HasArguments (Set_option fd option on) args =
-    (f : List ℕ) × (args ≡ f ∷ option_name option ∷ switch_name on ∷ []) × IsDescriptor f fd
+    (f : List ℕ) × (args ≡ f ∷ option_name option ∷ switch_name on ∷ []) × WritesDescriptor f fd
 HasArguments (Comes packet) args = (h : List ℕ) × (args ≡ h ∷ []) × IsHex h packet
 HasArguments Transmit args = args ≡ []
 HasArguments Tick args = args ≡ []

@@ -6,7 +6,7 @@ use Rattle.flat_model.specs.declared.errno.Errno.TheVariants.{NoBufs}
 use Rattle.flat_model.specs.declared.counters.Counters.{Counters}
 use Rattle.flat_model.specs.declared.usage.Mbstat.{Mbstat}
 use Rattle.flat_model.specs.Machine.Count.{value_of, counter_name, all_counters}
-use Rattle.flat_model.specs.Scripts.Errnos.{number_of, name_of, lack_name}
+use Rattle.flat_model.specs.Scripts.Errnos.{errno_number, name_of, lack_name}
 use Rattle.flat_model.specs.Machine.Event.{Reply, Done, Opened, Sent, Received, Given, Counted, Shown, Refused}
 use Rattle.flat_model.specs.Scripts.Grammar.{address_text}
 
@@ -22,7 +22,7 @@ lack_text (NoBufs lack) = codes " " ++ lack_name lack
 lack_text errno = []
 
 abbrev pub refusal_text : Errno → List ℕ
-refusal_text errno = codes "error " ++ decimal (number_of errno) ++ codes " " ++ name_of errno ++ lack_text errno
+refusal_text errno = codes "error " ++ decimal (errno_number errno) ++ codes " " ++ name_of errno ++ lack_text errno
 
 -- ---- counters
 

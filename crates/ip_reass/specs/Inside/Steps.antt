@@ -5,7 +5,7 @@ use Rattle.flat_model.specs.Fragments.Overlay.{overlay, is_covered}
 use Rattle.mbuf_chain.specs.Chain.{PoolView, chain_of, alone}
 use Rattle.mbuf_chain.specs.Owners.{Moves}
 use Rattle.mbuf_chain.specs.Train.{TrainView, numbers}
-use Rattle.ip_reass.specs.Fragments.{QueuedFragment, IsQueue, bytes_held, fragment_of, fragments, map_of, queued, laid, joined}
+use Rattle.ip_reass.specs.Fragments.{QueuedFragment, IsQueue, bytes_held, fragment_of, fragments, map_of, queued, laid_into, joined_fragments}
 use Rattle.ip_reass.specs.Layouts.{queue_of, queues, with_laid}
 use Rattle.ip_reass.specs.Table.{IsTable, held_all, unfinished, unfinished_of}
 use Rattle.ip_reass.specs.declared.datagram.Datagram.{Datagram}
@@ -31,7 +31,7 @@ pub record IsLaid (p : PoolView) (d : Datagram) (c : ℕ) (f : QueuedFragment) (
   pub covered : is_covered (map_of (fragments p d.fragments)) (fragment_of f) ≡ not answer
   pub map : OnTrue answer (map_of (fragments q e.fragments)
       ≡ overlay (map_of (fragments p d.fragments)) (fragment_of f))
-  pub laid : OnTrue answer (queued q e.fragments ≡ laid f (queued p d.fragments))
+  pub laid : OnTrue answer (queued q e.fragments ≡ laid_into f (queued p d.fragments))
   pub none : OnFalse answer (queued q e.fragments ≡ queued p d.fragments)
   pub queue : IsQueue q e.fragments
   pub counted : e.bytes ≡ bytes_held (fragments q e.fragments)
@@ -49,7 +49,7 @@ pub record LaysIn (p : PoolView) (ds : List Datagram) (i c : ℕ) (f : QueuedFra
       { bytes = overlay (map_of (fragments p (datagram_at ds i).fragments)) (fragment_of f) }))
   pub map : OnTrue answer (map_of (fragments q train)
       ≡ overlay (map_of (fragments p (datagram_at ds i).fragments)) (fragment_of f))
-  pub queue : OnTrue answer (queued q train ≡ laid f (queued p (datagram_at ds i).fragments))
+  pub queue : OnTrue answer (queued q train ≡ laid_into f (queued p (datagram_at ds i).fragments))
   pub same : OnFalse answer (unfinished q es ≡ unfinished p ds)
   pub rows : OnTrue answer (queues q es ≡ slice_set (queues p ds) i (with_laid f (queue_of p (datagram_at ds i))))
   pub rows_same : OnFalse answer (queues q es ≡ queues p ds)
@@ -59,7 +59,7 @@ pub record LaysIn (p : PoolView) (ds : List Datagram) (i c : ℕ) (f : QueuedFra
 -- from p and ds to q and es, datagram i was taken out, and chain c is what it carries
 pub record TakesOut (p : PoolView) (ds : List Datagram) (i c : ℕ) (q : PoolView) (es : List Datagram) : Type 0 where
   pub change : es ≡ remove ds i
-  pub entries : (chain_of q c).entries ≡ joined (queued p (datagram_at ds i).fragments)
+  pub entries : (chain_of q c).entries ≡ joined_fragments (queued p (datagram_at ds i).fragments)
   pub front : (chain_of q c).front ≡ alone true
   pub shows : unfinished q es ≡ remove (unfinished p ds) i
   pub rows : queues q es ≡ remove (queues p ds) i

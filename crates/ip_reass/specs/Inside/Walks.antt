@@ -8,7 +8,7 @@ use Rattle.flat_model.specs.Fragments.Whole.{IsWhole}
 use Rattle.mbuf_chain.specs.Chain.{PoolView, chain_of}
 use Rattle.mbuf_chain.specs.Train.{TrainView, IsQueuedPlace}
 use Rattle.mbuf_chain.specs.declared.queued_place.QueuedPlace.{QueuedPlace}
-use Rattle.ip_reass.specs.Fragments.{QueuedFragment, end_of}
+use Rattle.ip_reass.specs.Fragments.{QueuedFragment, end_of_fragment}
 use Rattle.ip_reass.specs.declared.queue.Laying.{Laying}
 use Rattle.ip_reass.specs.declared.queue.Laying.TheVariants.{Covered, Waits, Whole}
 
@@ -29,7 +29,7 @@ after (Some at) = at.index + 1
 -- where the last one ends
 abbrev pub reach : ℕ → List Fragment → ℕ
 reach low [] = low
-reach low (f ∷ fs) = reach (end_of f) fs
+reach low (f ∷ fs) = reach (end_of_fragment f) fs
 
 -- all begin at most at a;  all begin above a
 abbrev pub AllUpto : ℕ → List Fragment → Type 0
@@ -47,7 +47,7 @@ trimmed n f = record { offset = f.offset + n; bytes = drop n f.bytes; more = f.m
 -- what is left of the fragments from offset e on
 abbrev pub left_from : ℕ → List Fragment → List Fragment
 left_from e [] = []
-left_from e (f ∷ fs) = if nat_le e f.offset then f ∷ fs else if nat_le (end_of f) e then left_from e fs
+left_from e (f ∷ fs) = if nat_le e f.offset then f ∷ fs else if nat_le (end_of_fragment f) e then left_from e fs
     else trimmed (e - f.offset) f ∷ fs
 
 abbrev pub no_fragment : Fragment

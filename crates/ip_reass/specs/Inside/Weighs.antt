@@ -7,8 +7,8 @@ use Rattle.flat_model.specs.Amounts.Weight.{Weight, all_of, ◌⊕◌}
 use Rattle.flat_model.specs.Fragments.Overlay.{Piece, Map}
 use Rattle.flat_model.specs.Fragments.Whole.{piece_at, pieces_below, pieces, weight_of_pieces}
 use Rattle.flat_model.specs.Fragments.Overlay.{Fragment}
-use Rattle.ip_reass.specs.Fragments.{end_of, piece_of, map_of, Apart, AllEnd}
-use Rattle.ip_reass.specs.Inside.Known.{known_here, known_past, below, within, past, place, nothing_below, apart_lower}
+use Rattle.ip_reass.specs.Fragments.{end_of_fragment, piece_of, map_of, Apart, AllEnd}
+use Rattle.ip_reass.specs.Inside.Known.{known_here, known_past, below, within, past, known_place, nothing_below, apart_lower}
 
 abbrev pub firsts : (bytes : Map) (at n : ℕ) → List Piece
 firsts bytes at n = filter_map (λ k. piece_at k (bytes k)) (range_with_len at n)
@@ -20,14 +20,14 @@ firsts_same a b at (suc n) h = λ i. cons_option (h at (omega arith) i)
     (firsts_same a b (at + 1) n (λ k l. h k (omega arith)) i)
 
 -- a fragment past whose first offset one looks has no piece there
-hidden : (p : Fragment) (ps : List Fragment) (k : ℕ) → Apart (end_of p) ps → p.offset < k
+hidden : (p : Fragment) (ps : List Fragment) (k : ℕ) → Apart (end_of_fragment p) ps → p.offset < k
     → piece_at k (map_of (p ∷ ps) k) ≡ piece_at k (map_of ps k)
-hidden p ps k a l = elim (place p k) [
+hidden p ps k a l = elim (known_place p k) [
   | below b ↦ absurd (omega arith)
   | past b ↦ ap (piece_at k) (known_past p ps k b)
   | within b c ↦ ap (piece_at k) (known_here p ps k b c)
       ∙ (cond-false _ _ _ (ne_eqb p.offset k (λ e. absurd (omega arith)))
-      ∙ ap (piece_at k) (sym (nothing_below (end_of p) ps k a c)))
+      ∙ ap (piece_at k) (sym (nothing_below (end_of_fragment p) ps k a c)))
 ]
 
 pub firsts_are : (n at : ℕ) (ps : List Fragment) → Apart at ps → AllEnd (at + n) ps
@@ -47,7 +47,7 @@ firsts_are (suc n) at (p ∷ ps) a e = elim (cases_lt at p.offset) [
       (λ i. cons_option (here i) (firsts_same (map_of (p ∷ ps)) (map_of ps) (at + 1) n
       (λ k m. hidden p ps k a.2 (omega arith)) i))
       ∙ ap (λ (qs : List Piece). piece_of p ∷ qs)
-      (firsts_are n (at + 1) ps (apart_lower (end_of p) (at + 1) ps (omega arith) a.2) (more (p ∷ ps) e).1)
+      (firsts_are n (at + 1) ps (apart_lower (end_of_fragment p) (at + 1) ps (omega arith) a.2) (more (p ∷ ps) e).1)
 ]
   where
     more : (qs : List Fragment) → AllEnd (at + suc n) qs → AllEnd (at + 1 + n) qs

@@ -1,6 +1,6 @@
 use Rattle.std.proofs.Common.{subst, Some}
 use Rattle.flat_model.specs.Machine.Event.{Send}
-use Rattle.libbsdudp.specs.Calls.{IsSent}
+use Rattle.libbsdudp.specs.Calls.{AnswersSend}
 use Rattle.flat_model.specs.declared.address.Addr.{Addr}
 use Rattle.libbsdudp.specs.Plain.{addr_of}
 use Rattle.libbsdudp.specs.Held.{Boxed}
@@ -9,9 +9,10 @@ use Rattle.libbsdudp.proofs.bsdudp_core_sendto.Goals as goal
 
 pub returns-in-Some : goal.returns-in-Some
 returns-in-Some c =
-    answered_by c.send-answer.result _ (λ z. IsSent (Send c.args.fd (Some (addr_of c.args.to.now)) c.args.bytes.now) z)
+    answered_by c.send-answer.result _
+    (λ z. AnswersSend (Send c.args.fd (Some (addr_of c.args.to.now)) c.args.bytes.now) z)
     _ _ (record { sfits = c.send-answer.type_inv }) c.in-Some.ensures.taken c.put.ensures
-    (subst (λ (x : Boxed). (IsSent (Send c.args.fd (Some (addr_of c.args.to.now)) c.args.bytes.now)
+    (subst (λ (x : Boxed). (AnswersSend (Send c.args.fd (Some (addr_of c.args.to.now)) c.args.bytes.now)
     c.send-answer.result) x.stack c.send-answer.new.stack) c.deref_mut.ensures.value
-    (subst (λ (a : Addr). IsSent (Send c.args.fd (Some a) c.args.bytes.now) c.send-answer.result
+    (subst (λ (a : Addr). AnswersSend (Send c.args.fd (Some a) c.args.bytes.now) c.send-answer.result
     c.deref_mut.result.now.stack c.send-answer.new.stack) c.addr.ensures c.send-answer.ensures))

@@ -10,7 +10,7 @@ use Rattle.std.proofs.lemmas.Option.{same_Some}
 use Rattle.std.proofs.lemmas.List.Sums.{sum_by-cons}
 use Rattle.mbuf_chain.specs.Chain.{Entry, ChainView, PoolView, IsLive, IsUnshared, chain_of, entry_of, with_chain, without, Adds, mbufs_of, refers, references_of, held_mbufs, references, free_clusters}
 use Rattle.mbuf_chain.specs.Steps.{one_mbuf, empty_entry}
-use Rattle.mbuf_chain.specs.Owners.{times, live_at, IsOwned, IsAll, Moves}
+use Rattle.mbuf_chain.specs.Owners.{times_among, live_at, IsOwned, IsAll, Moves}
 use Rattle.mbuf_chain.specs.Frames.{IsBounded}
 use Rattle.mbuf_chain.proofs.Maps.{same, get_gone, get_left, get_here, get_there, total, total_is, total-insert, total-remove, total-empty}
 use Rattle.mbuf_chain.proofs.Laws.Owners.{times_same, times_other, live_same, live_none, live_at_most, live_from, live_first, live_owned, apart_first, none_from, chain_left, owned_after}
@@ -81,11 +81,11 @@ references-adds {p} {q} {c} {v} cluster a = sum-adds (references_of cluster) p q
 
 -- ---- what owners have
 -- a sum over a list that lacks c doesn't see that c is gone
-sum_left : (f : ChainView → ℕ) (p : PoolView) (c : ℕ) (xs : List ℕ) → times c xs ≡ 0
+sum_left : (f : ChainView → ℕ) (p : PoolView) (c : ℕ) (xs : List ℕ) → times_among c xs ≡ 0
     → sum_by (λ k. f (chain_of (without p c) k)) xs ≡ sum_by (λ k. f (chain_of p k)) xs
 sum_left f p c [] h = refl
 sum_left f p c (x ∷ xs) h =
-    let ne : x ≢ c = λ e. absurd (omega (arith, ap (λ (j : ℕ). times j (x ∷ xs)) e, times_same x xs)) in
+    let ne : x ≢ c = λ e. absurd (omega (arith, ap (λ (j : ℕ). times_among j (x ∷ xs)) e, times_same x xs)) in
     omega (
       arith,
       sum_by-cons (λ k. f (chain_of (without p c) k)) x xs,
@@ -96,18 +96,18 @@ sum_left f p c (x ∷ xs) h =
 
 all_left : (p : PoolView) (c : ℕ) (xs : List ℕ) → IsAll p (c ∷ xs) → IsAll (without p c) xs
 all_left p c xs h =
-    let gone : times c xs ≡ 0 = apart_first p c xs (λ k. omega (arith, h k)) in
+    let gone : times_among c xs ≡ 0 = apart_first p c xs (λ k. omega (arith, h k)) in
     λ k. elim (cases_eq k c) [
-      | inl e ↦ subst (λ (j : ℕ). times j xs ≡ live_at (without p c) j) (sym e)
+      | inl e ↦ subst (λ (j : ℕ). times_among j xs ≡ live_at (without p c) j) (sym e)
           (gone ∙ sym (live_none (without p c) c (get_gone p.chains c)))
       | inr ne ↦ omega (arith, h k, times_other k c xs ne, live_same p (without p c) k (get_left p.chains c k ne))
     ]
 
 owned_left : (p : PoolView) (c : ℕ) (xs : List ℕ) → IsOwned p (c ∷ xs) → IsOwned (without p c) xs
 owned_left p c xs o =
-    let gone : times c xs ≡ 0 = apart_first p c xs o in
+    let gone : times_among c xs ≡ 0 = apart_first p c xs o in
     λ k. elim (cases_eq k c) [
-      | inl e ↦ subst (λ (j : ℕ). times j xs ≤ live_at (without p c) j) (sym e) (omega (arith, gone))
+      | inl e ↦ subst (λ (j : ℕ). times_among j xs ≤ live_at (without p c) j) (sym e) (omega (arith, gone))
       | inr ne ↦ omega (arith, o k, times_other k c xs ne, live_same p (without p c) k (get_left p.chains c k ne))
     ]
 
@@ -170,16 +170,16 @@ sum_rest f p (x ∷ xs) o =
       sum_by-cons (λ k. f (chain_of p k)) x xs,
     )
 
-rest_kept : (p : PoolView) (xs : List ℕ) (k : ℕ) → times k xs ≡ 0
+rest_kept : (p : PoolView) (xs : List ℕ) (k : ℕ) → times_among k xs ≡ 0
     → finmap.get (without_all p xs).chains k ≡ finmap.get p.chains k
 rest_kept p [] k h = refl
 rest_kept p (x ∷ xs) k h =
-    let ne : k ≢ x = λ e. absurd (omega (arith, h, ap (λ (j : ℕ). times j (x ∷ xs)) e, times_same x xs)) in
+    let ne : k ≢ x = λ e. absurd (omega (arith, h, ap (λ (j : ℕ). times_among j (x ∷ xs)) e, times_same x xs)) in
     rest_kept (without p x) xs k (omega (arith, h)) ∙ get_left p.chains x k ne
 
-rest_gone : (p : PoolView) (xs : List ℕ) (k : ℕ) → 0 < times k xs → finmap.get (without_all p xs).chains k ≡ None
+rest_gone : (p : PoolView) (xs : List ℕ) (k : ℕ) → 0 < times_among k xs → finmap.get (without_all p xs).chains k ≡ None
 rest_gone p [] k h = absurd (omega (arith, h))
-rest_gone p (x ∷ xs) k h = elim (cases_eq (times k xs) 0) [
+rest_gone p (x ∷ xs) k h = elim (cases_eq (times_among k xs) 0) [
   | inr some ↦ rest_gone (without p x) xs k (omega (arith, some))
   | inl none ↦ elim (cases_eq k x) [
     | inl is ↦ rest_kept (without p x) xs k none
@@ -193,9 +193,9 @@ rest_same : {p q : PoolView} {xs ys : List ℕ} → Moves p xs q ys → IsOwned 
     → (without_all p xs).chains ≡ (without_all q ys).chains
 rest_same {p} {q} {xs} {ys} m o =
     same (without_all p xs).chains (without_all q ys).chains
-    (λ k. at k (times k xs) refl (live_at p k) refl (times k ys) refl)
+    (λ k. at k (times_among k xs) refl (live_at p k) refl (times_among k ys) refl)
   where
-    at : (k a : ℕ) → times k xs ≡ a → (b : ℕ) → live_at p k ≡ b → (c : ℕ) → times k ys ≡ c
+    at : (k a : ℕ) → times_among k xs ≡ a → (b : ℕ) → live_at p k ≡ b → (c : ℕ) → times_among k ys ≡ c
         → finmap.get (without_all p xs).chains k ≡ finmap.get (without_all q ys).chains k
     at k (suc a) ea b eb (suc c) ec = rest_gone p xs k (omega arith) ∙ sym (rest_gone q ys k (omega arith))
     at k (suc a) ea b eb zero ec =
@@ -241,7 +241,7 @@ unshared_new p q c d i header start a none first =
 
 -- owned chains are at most as many as the pool has mbufs
 some_each : (p : PoolView) (xs : List ℕ) → ((c : ℕ) → IsLive p c → 0 < mbufs_of (chain_of p c))
-    → ((k : ℕ) → 0 < times k xs → IsLive p k) → length xs ≤ sum_by (λ k. mbufs_of (chain_of p k)) xs
+    → ((k : ℕ) → 0 < times_among k xs → IsLive p k) → length xs ≤ sum_by (λ k. mbufs_of (chain_of p k)) xs
 some_each p [] h l = omega arith
 some_each p (x ∷ xs) h l =
     omega (

@@ -4,14 +4,14 @@ use Rattle.std.specs.List.{concat}
 use Rattle.std.proofs.lemmas.List.{length-append}
 use Rattle.std.proofs.lemmas.List.Sums.{sum_by-cons}
 use Rattle.mbuf_chain.specs.Chain.{Entry, ChainView, string, flat_bytes, layout, layout_of}
-use Rattle.mbuf_chain.specs.Pieces.{pieces, pieces_of}
+use Rattle.mbuf_chain.specs.Pieces.{chain_pieces, pieces_of}
 
 concat_of : (es : List Entry) → concat (pieces_of es) ≡ flat_bytes es
 concat_of [] = refl
 concat_of (e ∷ es) = ap (λ (xs : List ℕ). e.bytes ++ xs) (concat_of es)
 
 -- the bytes of all mbufs, one after another, are the chain's
-pub concat_pieces : (v : ChainView) → concat (pieces v) ≡ string v
+pub concat_pieces : (v : ChainView) → concat (chain_pieces v) ≡ string v
 concat_pieces v = concat_of v.entries
 
 sum_of : (es : List Entry) → sum_by (λ (p : ℕ × Option ℕ). p.0) (layout_of es) ≡ length (flat_bytes es)

@@ -3,16 +3,16 @@ use Rattle.std.proofs.Common.{◌≡◌, ◌≢◌, ℕ, zero, suc, ◌+◌, ◌
 use Rattle.std.specs.FinMap as finmap
 use Rattle.std.proofs.lemmas.Bool.{cases_eq, cond-false, ne_eqb}
 use Rattle.mbuf_chain.specs.Chain.{ChainView, PoolView, IsLive, chain_of, with_chain, without, no_chain, Adds}
-use Rattle.mbuf_chain.specs.Owners.{times, live_at, IsOwned, Moves}
+use Rattle.mbuf_chain.specs.Owners.{times_among, live_at, IsOwned, Moves}
 use Rattle.mbuf_chain.specs.Frames.{SameAt}
 pub use Rattle.mbuf_chain.specs.Kept.{times_same, chain_same, owned_same}
 use Rattle.mbuf_chain.proofs.Maps.{same, get_here, get_there, get_gone, get_left}
 
 -- ---- counting
-pub times_other : (k c : ℕ) (xs : List ℕ) → k ≢ c → times k (c ∷ xs) ≡ times k xs
+pub times_other : (k c : ℕ) (xs : List ℕ) → k ≢ c → times_among k (c ∷ xs) ≡ times_among k xs
 times_other k c xs ne = omega (arith, cond-false {A = ℕ} _ 1 0 (ne_eqb c k (λ e. ne (sym e))))
 
-pub times-append : (k : ℕ) (xs ys : List ℕ) → times k (xs ++ ys) ≡ times k xs + times k ys
+pub times-append : (k : ℕ) (xs ys : List ℕ) → times_among k (xs ++ ys) ≡ times_among k xs + times_among k ys
 times-append k [] ys = omega arith
 times-append k (x ∷ xs) ys = omega (arith, times-append k xs ys)
 
@@ -49,20 +49,21 @@ none_from p k l = go (finmap.get p.chains k) refl
     go (Some v) e = absurd (omega (arith, live_some p k v e))
 
 -- an owner's chains are live
-pub live_owned : (p : PoolView) (xs : List ℕ) (k : ℕ) → IsOwned p xs → 0 < times k xs → IsLive p k
+pub live_owned : (p : PoolView) (xs : List ℕ) (k : ℕ) → IsOwned p xs → 0 < times_among k xs → IsLive p k
 live_owned p xs k o h = live_from p k (omega (arith, o k))
 
 pub live_first : (p : PoolView) (c : ℕ) (xs : List ℕ) → IsOwned p (c ∷ xs) → IsLive p c
 live_first p c xs o = live_owned p (c ∷ xs) c o (omega (arith, times_same c xs))
 
 -- an owner's first chain isn't among the others
-pub apart_first : (p : PoolView) (c : ℕ) (xs : List ℕ) → IsOwned p (c ∷ xs) → times c xs ≡ 0
+pub apart_first : (p : PoolView) (c : ℕ) (xs : List ℕ) → IsOwned p (c ∷ xs) → times_among c xs ≡ 0
 apart_first p c xs o = omega (arith, o c, times_same c xs, live_at_most p c)
 
 -- a live chain that an owner hasn't comes to the others
-pub owned_more : (p : PoolView) (c : ℕ) (xs : List ℕ) → IsOwned p xs → IsLive p c → times c xs ≡ 0 → IsOwned p (c ∷ xs)
+pub owned_more : (p : PoolView) (c : ℕ) (xs : List ℕ) → IsOwned p xs → IsLive p c → times_among c xs ≡ 0
+    → IsOwned p (c ∷ xs)
 owned_more p c xs o l apart = λ k. elim (cases_eq k c) [
-  | inl e ↦ subst (λ (j : ℕ). times j (c ∷ xs) ≤ live_at p j) (sym e)
+  | inl e ↦ subst (λ (j : ℕ). times_among j (c ∷ xs) ≤ live_at p j) (sym e)
       (omega (arith, times_same c xs, apart, live_one p c l))
   | inr ne ↦ omega (arith, o k, times_other k c xs ne)
 ]
@@ -106,14 +107,15 @@ moves_trans {p} {q} {r} {xs} {ys} {zs} m n = record {
   clusters = n.clusters ∙ m.clusters;
   others = λ k l h.
       let same : finmap.get q.chains k ≡ finmap.get p.chains k = m.others k l h in
-      let mid : times k ys ≡ 0 = omega (arith, m.owned k, live_same p q k same) in
+      let mid : times_among k ys ≡ 0 = omega (arith, m.owned k, live_same p q k same) in
       n.others k (live_from q k (omega (arith, live_same p q k same, live_one p k l))) mid ∙ same;
   owned = λ k. omega (arith, m.owned k, n.owned k);
 }
 
 -- the owner has other chains beside those of the step
 pub moves_beside : {p q : PoolView} {xs ys : List ℕ} (us vs zs : List ℕ) → Moves p xs q ys
-    → ((k : ℕ) → times k us ≡ times k zs + times k xs) → ((k : ℕ) → times k vs ≡ times k zs + times k ys)
+    → ((k : ℕ) → times_among k us ≡ times_among k zs + times_among k xs)
+    → ((k : ℕ) → times_among k vs ≡ times_among k zs + times_among k ys)
     → Moves p us q vs
 moves_beside us vs zs m a b = record {
   mbufs = m.mbufs;
@@ -134,7 +136,8 @@ moves_before {p} {q} {xs} {ys} zs m =
 
 -- the order of an owner's list says nothing
 pub moves_reordered : {p q : PoolView} {xs ys : List ℕ} (us vs : List ℕ) → Moves p xs q ys
-    → ((k : ℕ) → times k us ≡ times k xs) → ((k : ℕ) → times k vs ≡ times k ys) → Moves p us q vs
+    → ((k : ℕ) → times_among k us ≡ times_among k xs) → ((k : ℕ) → times_among k vs ≡ times_among k ys)
+    → Moves p us q vs
 moves_reordered us vs m a b = moves_beside us vs [] m (λ k. omega (arith, a k)) (λ k. omega (arith, b k))
 
 pub owned_after : {p q : PoolView} {xs ys : List ℕ} → Moves p xs q ys → IsOwned p xs → IsOwned q ys
@@ -147,7 +150,7 @@ owned_beside {p} {q} {xs} {ys} zs m o = λ k. omega (arith, m.owned k, o k, time
 
 -- a step leaves the chains of an owner who has none of its own
 pub same_beside : {p q : PoolView} {xs ys : List ℕ} (zs : List ℕ) → Moves p xs q ys → IsOwned p zs
-    → ((k : ℕ) → 0 < times k zs → times k xs ≡ 0) → SameAt p q zs
+    → ((k : ℕ) → 0 < times_among k zs → times_among k xs ≡ 0) → SameAt p q zs
 same_beside {p} {q} {xs} {ys} zs m o h =
     record { mbufs = m.mbufs; same = λ k l. m.others k (live_owned p zs k o l) (h k l) }
 
@@ -159,12 +162,13 @@ same_after {p} {q} {xs} {ys} zs m o =
     (λ k h. omega (arith, o k, times-append k zs xs, live_at_most p k))
 
 pub same_nothing : (p q : PoolView) (xs : List ℕ) → xs ≡ [] → q.mbufs ≡ p.mbufs → SameAt p q xs
-same_nothing p q xs e m = record { mbufs = m; same = λ k h. absurd (omega (arith, h, ap (times k) e)) }
+same_nothing p q xs e m = record { mbufs = m; same = λ k h. absurd (omega (arith, h, ap (times_among k) e)) }
 
 pub same_trans : (p q r : PoolView) (xs : List ℕ) → SameAt p q xs → SameAt q r xs → SameAt p r xs
 same_trans p q r xs a b = record { mbufs = b.mbufs ∙ a.mbufs; same = λ k h. b.same k h ∙ a.same k h }
 
-pub same_part : (p q : PoolView) (xs ys : List ℕ) → SameAt p q xs → ((k : ℕ) → times k ys ≤ times k xs) → SameAt p q ys
+pub same_part : (p q : PoolView) (xs ys : List ℕ) → SameAt p q xs → ((k : ℕ) → times_among k ys ≤ times_among k xs)
+    → SameAt p q ys
 same_part p q xs ys s le = record { mbufs = s.mbufs; same = λ k h. s.same k (omega (arith, le k)) }
 
 -- ---- the steps of one chain
@@ -174,9 +178,9 @@ moves_without p q c l e = subst (λ (r : PoolView). Moves p (c ∷ []) r []) (sy
   clusters = refl;
   others =
       λ k l' h. get_left p.chains c k
-      (λ e. absurd (omega (arith, times_same c [], ap (λ (j : ℕ). times j (c ∷ [])) e)));
+      (λ e. absurd (omega (arith, times_same c [], ap (λ (j : ℕ). times_among j (c ∷ [])) e)));
   owned = λ k. elim (cases_eq k c) [
-    | inl e ↦ subst (λ (j : ℕ). live_at (without p c) j + times j (c ∷ []) ≡ live_at p j + 0) (sym e)
+    | inl e ↦ subst (λ (j : ℕ). live_at (without p c) j + times_among j (c ∷ []) ≡ live_at p j + 0) (sym e)
         (omega (arith, live_none (without p c) c (get_gone p.chains c), live_one p c l, times_same c []))
     | inr ne ↦ omega (arith, live_same p (without p c) k (get_left p.chains c k ne), times_other k c [] ne)
   ];
@@ -189,9 +193,10 @@ moves_with p q c v l e = subst (λ (r : PoolView). Moves p (c ∷ []) r (c ∷ [
   clusters = refl;
   others =
       λ k l' h. get_there p.chains c v k
-      (λ e. absurd (omega (arith, times_same c [], ap (λ (j : ℕ). times j (c ∷ [])) e)));
+      (λ e. absurd (omega (arith, times_same c [], ap (λ (j : ℕ). times_among j (c ∷ [])) e)));
   owned = λ k. elim (cases_eq k c) [
-    | inl e ↦ subst (λ (j : ℕ). live_at (with_chain p c v) j + times j (c ∷ []) ≡ live_at p j + times j (c ∷ []))
+    | inl e ↦ subst (λ (j : ℕ). live_at (with_chain p c v) j + times_among j (c ∷ [])
+        ≡ live_at p j + times_among j (c ∷ []))
         (sym e) (omega (arith, live_some (with_chain p c v) c v (get_here p.chains c v), live_one p c l))
     | inr ne ↦ omega (arith, live_same p (with_chain p c v) k (get_there p.chains c v k ne))
   ];
@@ -205,28 +210,35 @@ moves_adds {p} {q} {c} {v} a = subst (λ (r : PoolView). Moves p [] r (c ∷ [])
       λ k l h. get_there p.chains c v k
       (λ e. absurd (omega (arith, live_one p k l, ap (live_at p) e, live_none p c a.fresh)));
   owned = λ k. elim (cases_eq k c) [
-    | inl e ↦ subst (λ (j : ℕ). live_at (with_chain p c v) j + 0 ≡ live_at p j + times j (c ∷ [])) (sym e)
-        (omega (arith, live_some (with_chain p c v) c v (get_here p.chains c v), live_none p c a.fresh, times_same c []))
+    | inl e ↦ subst (λ (j : ℕ). live_at (with_chain p c v) j + 0 ≡ live_at p j + times_among j (c ∷ [])) (sym e)
+        (omega (
+          arith,
+          live_some (with_chain p c v) c v (get_here p.chains c v),
+          live_none p c a.fresh,
+          times_same c [],
+        ))
     | inr ne ↦ omega (arith, live_same p (with_chain p c v) k (get_there p.chains c v k ne), times_other k c [] ne)
   ];
 })
 
 -- an owner changes one of its chains
-pub moves_within : (p q : PoolView) (c : ℕ) (v : ChainView) (xs : List ℕ) → IsLive p c → 0 < times c xs
+pub moves_within : (p q : PoolView) (c : ℕ) (v : ChainView) (xs : List ℕ) → IsLive p c → 0 < times_among c xs
     → q ≡ with_chain p c v → Moves p xs q xs
 moves_within p q c v xs l h e = subst (λ (r : PoolView). Moves p xs r xs) (sym e) (record {
   mbufs = refl;
   clusters = refl;
-  others = λ k l' none. get_there p.chains c v k (λ is. absurd (omega (arith, ap (λ (j : ℕ). times j xs) is)));
+  others = λ k l' none. get_there p.chains c v k (λ is. absurd (omega (arith, ap (λ (j : ℕ). times_among j xs) is)));
   owned = λ k. elim (cases_eq k c) [
-    | inl e ↦ subst (λ (j : ℕ). live_at (with_chain p c v) j + times j xs ≡ live_at p j + times j xs) (sym e)
+    | inl e ↦ subst (λ (j : ℕ). live_at (with_chain p c v) j + times_among j xs ≡ live_at p j + times_among j xs)
+        (sym e)
         (omega (arith, live_some (with_chain p c v) c v (get_here p.chains c v), live_one p c l))
     | inr ne ↦ omega (arith, live_same p (with_chain p c v) k (get_there p.chains c v k ne))
   ];
 })
 
 -- a new chain's number is none of an owner's
-pub apart_new : {p q : PoolView} {c : ℕ} {v : ChainView} (xs : List ℕ) → Adds p q c v → IsOwned p xs → times c xs ≡ 0
+pub apart_new : {p q : PoolView} {c : ℕ} {v : ChainView} (xs : List ℕ) → Adds p q c v → IsOwned p xs
+    → times_among c xs ≡ 0
 apart_new {p} {q} {c} {v} xs a o = omega (arith, o c, live_none p c a.fresh)
 
 -- and it leaves them
@@ -259,21 +271,21 @@ pub shown_adds : {p q : PoolView} {c : ℕ} {v : ChainView} → Adds p q c v →
 shown_adds {p} {q} {c} {v} a = shown_with p q c v a.pool
 
 -- a step of one chain leaves the others of its owner
-pub same_with : (p q : PoolView) (c : ℕ) (v : ChainView) (xs : List ℕ) → times c xs ≡ 0 → q ≡ with_chain p c v
+pub same_with : (p q : PoolView) (c : ℕ) (v : ChainView) (xs : List ℕ) → times_among c xs ≡ 0 → q ≡ with_chain p c v
     → SameAt p q xs
 same_with p q c v xs h e = subst (λ (r : PoolView). SameAt p r xs) (sym e)
     (record {
       mbufs = refl;
       same = λ k l. get_there p.chains c v k
-          (λ is. absurd (omega (arith, ap (λ (j : ℕ). times j xs) is)));
+          (λ is. absurd (omega (arith, ap (λ (j : ℕ). times_among j xs) is)));
     })
 
-pub same_without : (p q : PoolView) (c : ℕ) (xs : List ℕ) → times c xs ≡ 0 → q ≡ without p c → SameAt p q xs
+pub same_without : (p q : PoolView) (c : ℕ) (xs : List ℕ) → times_among c xs ≡ 0 → q ≡ without p c → SameAt p q xs
 same_without p q c xs h e = subst (λ (r : PoolView). SameAt p r xs) (sym e)
     (record {
       mbufs = refl;
       same = λ k l. get_left p.chains c k
-          (λ is. absurd (omega (arith, ap (λ (j : ℕ). times j xs) is)));
+          (λ is. absurd (omega (arith, ap (λ (j : ℕ). times_among j xs) is)));
     })
 
 -- ---- an owner of nothing changes nothing

@@ -8,7 +8,7 @@ use Rattle.std.specs.List.{AllByRecursion}
 use Rattle.params.specs.declared.TheConstants.{MBUF_HEADER, MCLBYTES, MSIZE, PACKET_START}
 use Rattle.mbuf_pool.specs.Cells.{Head, PacketHeader, Buffer, Mbuf, Cluster, over}
 use Rattle.mbuf_chain.specs.declared.place.Place.{Place}
-use Rattle.mbuf_pool.specs.Store.{StoreView, is_out, mbuf_of, head_of, cluster_of, count_of, mbufs_out, with_mbuf, with_cluster, released, IsStore}
+use Rattle.mbuf_pool.specs.Store.{StoreView, is_out, mbuf_of, mbuf_head, cluster_of, cluster_count, mbufs_out, with_mbuf, with_cluster, released, IsStore}
 use Rattle.mbuf_chain.specs.Chain.{Entry, Front, ChainView, PoolView, chain_of, with_chain}
 use Rattle.mbuf_chain.specs.Steps.{with_entry}
 
@@ -50,27 +50,27 @@ entry_from s i h =
     record { bytes = take h.len (drop h.start (place_bytes s i h.cluster)); start = h.start; cluster = h.cluster }
 
 abbrev pub entry_at : StoreView → ℕ → Entry
-entry_at s i = entry_from s i (head_of s i)
+entry_at s i = entry_from s i (mbuf_head s i)
 
 -- 1 where the mbuf refers to cluster c
 abbrev pub refers_at : StoreView → ℕ → ℕ → ℕ
-refers_at s c i = cond (option_eq nat_eq (head_of s i).cluster (Some c)) 1 0
+refers_at s c i = cond (option_eq nat_eq (mbuf_head s i).cluster (Some c)) 1 0
 
 -- how many bytes the mbuf has
 abbrev pub len_at : StoreView → ℕ → ℕ
-len_at s i = (head_of s i).len
+len_at s i = (mbuf_head s i).len
 
 abbrev pub arrival_of : Option PacketHeader → ℕ
 arrival_of None = 0
 arrival_of (Some packet) = packet.arrival
 
 -- the packet length, or 0 without packet header
-abbrev pub total_of : Option PacketHeader → ℕ
-total_of None = 0
-total_of (Some packet) = packet.len
+abbrev pub packet_total : Option PacketHeader → ℕ
+packet_total None = 0
+packet_total (Some packet) = packet.len
 
 abbrev pub packet_len : Head → ℕ
-packet_len h = total_of h.packet
+packet_len h = packet_total h.packet
 
 abbrev pub front_of : Head → Front
 front_of h = record { header = is_some h.packet; after = h.next_packet; tag = arrival_of h.packet }
@@ -79,7 +79,7 @@ abbrev pub first_of : List ℕ → ℕ
 first_of l = slice_index l 0
 
 abbrev pub read_chain : StoreView → List ℕ → ChainView
-read_chain s l = record { front = front_of (head_of s (first_of l)); entries = map (entry_at s) l; cells = l }
+read_chain s l = record { front = front_of (mbuf_head s (first_of l)); entries = map (entry_at s) l; cells = l }
 
 -- the mbuf or cluster in which its data lies
 abbrev pub buffer_of : ℕ → Option ℕ → Buffer
@@ -91,7 +91,7 @@ buffer_of i (Some c) = Cluster c
 abbrev pub walk : ℕ → StoreView → Option ℕ → List ℕ
 walk zero s at = []
 walk (suc n) s None = []
-walk (suc n) s (Some i) = i ∷ walk n s (head_of s i).next
+walk (suc n) s (Some i) = i ∷ walk n s (mbuf_head s i).next
 
 abbrev pub cells_from : StoreView → Option ℕ → List ℕ
 cells_from s at = walk (length s.mbufs) s at
@@ -99,7 +99,7 @@ cells_from s at = walk (length s.mbufs) s at
 -- whether an mbuf below n that is handed out leads to q
 abbrev pub is_pointed : ℕ → StoreView → ℕ → Bool
 is_pointed zero s q = false
-is_pointed (suc n) s q = (is_out s n && option_eq nat_eq (head_of s n).next (Some q)) || is_pointed n s q
+is_pointed (suc n) s q = (is_out s n && option_eq nat_eq (mbuf_head s n).next (Some q)) || is_pointed n s q
 
 -- the chain that begins at an mbuf, if one does
 abbrev pub chain_at : StoreView → ℕ → Option ChainView
@@ -115,15 +115,15 @@ pool_of s = record { mbufs = length s.mbufs; clusters = length s.clusters; chain
 
 -- ---- what holds of the mbufs of a pool
 -- the first place of an mbuf's room, and the place after it
-abbrev pub room_low : Head → ℕ
-room_low h = if is_some h.cluster then 0 else (if is_some h.packet then PACKET_START else MBUF_HEADER)
+abbrev pub head_room_low : Head → ℕ
+head_room_low h = if is_some h.cluster then 0 else (if is_some h.packet then PACKET_START else MBUF_HEADER)
 
 abbrev pub room_high : Head → ℕ
 room_high h = if is_some h.cluster then MCLBYTES else MSIZE
 
 -- the data lies in the room
 pub record IsFit (h : Head) : Type 0 where
-  pub low : room_low h ≤ h.start
+  pub low : head_room_low h ≤ h.start
   pub high : h.start + h.len ≤ room_high h
   pub kind : h.kind ≡ 1
 
@@ -139,14 +139,15 @@ pub record IsFollower (h : Head) : Type 0 where
 -- the mbufs are linked in this order, from `at` on, the last to none
 abbrev pub IsLinked : StoreView → Option ℕ → List ℕ → Type 0
 IsLinked s at [] = at ≡ None
-IsLinked s at (c ∷ cs) = (at ≡ Some c) × (is_out s c ≡ true) × IsFit (head_of s c) × IsLinked s (head_of s c).next cs
+IsLinked s at (c ∷ cs) =
+    (at ≡ Some c) × (is_out s c ≡ true) × IsFit (mbuf_head s c) × IsLinked s (mbuf_head s c).next cs
 
 -- the links from an mbuf on lead to an end
-abbrev pub IsWhole : StoreView → Option ℕ → Type 0
-IsWhole s at = IsLinked s at (cells_from s at)
+abbrev pub LeadsToEnd : StoreView → Option ℕ → Type 0
+LeadsToEnd s at = IsLinked s at (cells_from s at)
 
 abbrev pub AllFollow : StoreView → List ℕ → Type 0
-AllFollow s l = AllByRecursion (λ k. IsFollower (head_of s k)) l
+AllFollow s l = AllByRecursion (λ k. IsFollower (mbuf_head s k)) l
 
 -- the mbufs of one chain
 abbrev pub IsChain : StoreView → List ℕ → Type 0
@@ -155,7 +156,8 @@ IsChain s (c ∷ cs) = IsLinked s (Some c) (c ∷ cs) × AllFollow s cs
 
 -- the packet length of the first mbuf, where it has one, is that of all
 abbrev pub IsTotal : StoreView → List ℕ → Type 0
-IsTotal s l = (packet : PacketHeader) → (head_of s (first_of l)).packet ≡ Some packet → packet.len ≡ weigh (len_at s) l
+IsTotal s l =
+    (packet : PacketHeader) → (mbuf_head s (first_of l)).packet ≡ Some packet → packet.len ≡ weigh (len_at s) l
 
 -- how far a packet length is off at the chain that begins at `first`
 abbrev pub off_at : ℕ → ℕ → List ℕ → ℕ
@@ -165,7 +167,7 @@ off_at first n l = cond (nat_eq (first_of l) first) n 0
 -- would be right there
 abbrev pub IsTotalBy : StoreView → ℕ → ℕ → ℕ → List ℕ → Type 0
 IsTotalBy s first added removed l =
-    (packet : PacketHeader) → (head_of s (first_of l)).packet ≡ Some packet
+    (packet : PacketHeader) → (mbuf_head s (first_of l)).packet ≡ Some packet
     → packet.len + off_at first added l ≡ weigh (len_at s) l + off_at first removed l
 
 -- 1 where the mbuf is handed out
@@ -173,26 +175,26 @@ abbrev pub out_at : StoreView → ℕ → ℕ
 out_at s k = cond (is_out s k) 1 0
 
 -- the lists are the mbufs of the chains: each that is handed out stands in one of them, once
-pub record IsSound (s : StoreView) (lists : List (List ℕ)) : Type 0 where
+pub record AreSoundChains (s : StoreView) (lists : List (List ℕ)) : Type 0 where
   pub linked : AllByRecursion (IsChain s) lists
   pub once : (k : ℕ) → weigh_all (is_at k) lists ≡ out_at s k
   pub total : weigh_all one lists ≡ mbufs_out s
-  pub counted : (c : ℕ) → count_of s c ≡ weigh_all (refers_at s c) lists
+  pub counted : (c : ℕ) → cluster_count s c ≡ weigh_all (refers_at s c) lists
   pub store : IsStore s
 
 -- the mbufs that are handed out are those of chains, and the packet lengths are right
 abbrev pub IsPool : StoreView → Type 0
-IsPool s = (lists : List (List ℕ)) × IsSound s lists × AllByRecursion (IsTotal s) lists
+IsPool s = (lists : List (List ℕ)) × AreSoundChains s lists × AllByRecursion (IsTotal s) lists
 
 -- a pool, but for the packet length of the chain that begins at `first`
 abbrev pub IsOff : StoreView → ℕ → ℕ → ℕ → Type 0
 IsOff s first added removed =
-    (lists : List (List ℕ)) × IsSound s lists × AllByRecursion (IsTotalBy s first added removed) lists
+    (lists : List (List ℕ)) × AreSoundChains s lists × AllByRecursion (IsTotalBy s first added removed) lists
 
 -- ---- a new mbuf
 -- the head of the only mbuf of a chain
-abbrev pub head_for : Bool → ℕ → ℕ → Option ℕ → Head
-head_for header start len cluster = record {
+abbrev pub only_head : Bool → ℕ → ℕ → Option ℕ → Head
+only_head header start len cluster = record {
   next = None;
   next_packet = None;
   len = len;
@@ -218,18 +220,18 @@ pub record Taken (s t : StoreView) (i : ℕ) (h : Head) : Type 0 where
 abbrev pub entry_over : StoreView → ℕ → ℕ → List ℕ → Entry
 entry_over s x start ws =
     record {
-      bytes = take (head_of s x).len
-          (drop (head_of s x).start (over (place_bytes s x (head_of s x).cluster) start ws));
+      bytes = take (mbuf_head s x).len
+          (drop (mbuf_head s x).start (over (place_bytes s x (mbuf_head s x).cluster) start ws));
       start =
-          (head_of s x).start;
-      cluster = (head_of s x).cluster;
+          (mbuf_head s x).start;
+      cluster = (mbuf_head s x).cluster;
     }
 
 -- from s to t bytes were written over those of the mbuf at a place of chain c, which no other mbuf shows
 pub record WritesPlace (s t : StoreView) (c : ℕ) (at : Place) (start : ℕ) (ws : List ℕ) : Type 0 where
-  pub head : head_of t at.cell ≡ head_of s at.cell
-  pub bytes : place_bytes t at.cell (head_of s at.cell).cluster
-      ≡ over (place_bytes s at.cell (head_of s at.cell).cluster) start ws
+  pub head : mbuf_head t at.cell ≡ mbuf_head s at.cell
+  pub bytes : place_bytes t at.cell (mbuf_head s at.cell).cluster
+      ≡ over (place_bytes s at.cell (mbuf_head s at.cell).cluster) start ws
   pub map_is : pool_of t ≡ with_chain (pool_of s) c
       (with_entry (chain_of (pool_of s) c) at.index (entry_over s at.cell start ws))
 
@@ -244,17 +246,17 @@ pub record Freed (s t : StoreView) (l m : List ℕ) : Type 0 where
   pub mbufs : length t.mbufs ≡ length s.mbufs
   pub clusters : length t.clusters ≡ length s.clusters
   pub kept : (k : ℕ) → is_out t k ≡ true → mbuf_of t k ≡ mbuf_of s k
-  pub bytes : (c : ℕ) → 0 < count_of t c → (cluster_of t c).bytes ≡ (cluster_of s c).bytes
+  pub bytes : (c : ℕ) → 0 < cluster_count t c → (cluster_of t c).bytes ≡ (cluster_of s c).bytes
   pub once : (k : ℕ) → out_at t k + weigh (is_at k) l ≡ out_at s k + weigh (is_at k) m
   pub total : mbufs_out t + weigh one l ≡ mbufs_out s + weigh one m
-  pub counted : (c : ℕ) → count_of t c + weigh (refers_at s c) l ≡ count_of s c + weigh (refers_at s c) m
+  pub counted : (c : ℕ) → cluster_count t c + weigh (refers_at s c) l ≡ cluster_count s c + weigh (refers_at s c) m
 
 -- the mbufs from one on are handed out, once each, and their references are counted
 pub record IsFreeable (s : StoreView) (at : Option ℕ) : Type 0 where
-  pub whole : IsWhole s at
+  pub whole : LeadsToEnd s at
   pub store : IsStore s
   pub once : (k : ℕ) → weigh (is_at k) (cells_from s at) ≤ out_at s k
-  pub counted : (c : ℕ) → weigh (refers_at s c) (cells_from s at) ≤ count_of s c
+  pub counted : (c : ℕ) → weigh (refers_at s c) (cells_from s at) ≤ cluster_count s c
 
 -- the last of the mbufs
 abbrev pub last_of : List ℕ → ℕ

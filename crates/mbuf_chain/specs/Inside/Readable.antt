@@ -1,9 +1,9 @@
 -- How a walk along the links means the entries of a chain (this project's own).
 use Rattle.std.specs.Prelude.{ℕ, ◌≤◌, List, map, Option}
 use Rattle.mbuf_pool.specs.Cells.{Head, Part}
-use Rattle.mbuf_pool.specs.Store.{StoreView, count_of, IsStore}
+use Rattle.mbuf_pool.specs.Store.{StoreView, cluster_count, IsStore}
 use Rattle.mbuf_chain.specs.Chain.{Entry}
-use Rattle.mbuf_chain.specs.Inside.Cells.{weigh, entry_at, refers_at, cells_from, buffer_of, IsWhole}
+use Rattle.mbuf_chain.specs.Inside.Cells.{weigh, entry_at, refers_at, cells_from, buffer_of, LeadsToEnd}
 
 -- the entries from an mbuf on
 abbrev pub entries_from : StoreView → Option ℕ → List Entry
@@ -11,9 +11,9 @@ entries_from s at = map (entry_at s) (cells_from s at)
 
 -- the mbufs from one on can be read: their links lead to an end, and their clusters are in use
 pub record IsReadable (s : StoreView) (at : Option ℕ) : Type 0 where
-  pub whole : IsWhole s at
+  pub whole : LeadsToEnd s at
   pub store : IsStore s
-  pub counted : (c : ℕ) → weigh (refers_at s c) (cells_from s at) ≤ count_of s c
+  pub counted : (c : ℕ) → weigh (refers_at s c) (cells_from s at) ≤ cluster_count s c
 
 -- the bytes that an mbuf shows under a head
 abbrev pub data_of : ℕ → Head → Part

@@ -4,7 +4,7 @@ use Rattle.std.specs.List.{range_with_len}
 use Rattle.params.specs.declared.TheConstants.{MSIZE, MCLBYTES}
 use Rattle.raw_cells.specs.Cells as cells
 use Rattle.raw_cells.specs.Cells.{Cells, IsSized}
-use Rattle.mbuf_pool.specs.Inside.FreeList.{times, walk, IsFreeList}
+use Rattle.mbuf_pool.specs.Inside.FreeList.{times_listed, walk_free, IsFreeList}
 use Rattle.mbuf_pool.specs.Inside.Link.{link_in, link_part}
 use Rattle.mbuf_pool.specs.Store.{MbufView, ClusterView, StoreView}
 use Rattle.mbuf_pool.specs.declared.store.Store.TheInside.{Inside}
@@ -18,7 +18,7 @@ cluster_bytes r c = take MCLBYTES (drop (MSIZE * length r.heads + MCLBYTES * c) 
 
 -- what is linked after a free mbuf, and after a free cluster
 abbrev pub next_mbuf : Cells → ℕ → Option ℕ
-next_mbuf r i = (cells.head_of r i).next
+next_mbuf r i = (cells.cell_head r i).next
 
 abbrev pub next_cluster : Cells → ℕ → Option ℕ
 next_cluster r c = link_in (cells.read r (link_part c))
@@ -26,25 +26,25 @@ next_cluster r c = link_in (cells.read r (link_part c))
 -- ---- what is shown of each
 abbrev pub mbuf_seen : Cells → List ℕ → ℕ → Option MbufView
 mbuf_seen r free i =
-    if times i free == 0 then Some (record { head = cells.head_of r i; bytes = mbuf_bytes r i }) else None
+    if times_listed i free == 0 then Some (record { head = cells.cell_head r i; bytes = mbuf_bytes r i }) else None
 
 abbrev pub cluster_seen : Cells → List ℕ → ℕ → ClusterView
 cluster_seen r counts c =
     record { count = slice_index counts c; bytes = if slice_index counts c == 0 then [] else cluster_bytes r c }
 
 -- a store over the region whose free mbufs are those of the list
-abbrev pub shown : Cells → List ℕ → List ℕ → StoreView
-shown r counts free = record {
+abbrev pub store_with : Cells → List ℕ → List ℕ → StoreView
+store_with r counts free = record {
   mbufs = map (mbuf_seen r free) (range_with_len 0 (length r.heads));
   clusters = map (cluster_seen r counts) (range_with_len 0 r.clusters);
 }
 
 -- a store over the region whose free mbufs are those linked from the first one on
 abbrev pub seen_in : Cells → List ℕ → Option ℕ → StoreView
-seen_in r counts first_mbuf = shown r counts (walk (next_mbuf r) (length r.heads) first_mbuf)
+seen_in r counts first_mbuf = store_with r counts (walk_free (next_mbuf r) (length r.heads) first_mbuf)
 
-abbrev pub seen : Inside → StoreView
-seen s = seen_in s.region s.counts.items s.first_mbuf
+abbrev pub store_of : Inside → StoreView
+store_of s = seen_in s.region s.counts.items s.first_mbuf
 
 -- ---- the invariant
 -- the mbufs of the one list are free, and the clusters of the other, which are those that no one holds
@@ -54,7 +54,7 @@ pub record IsSound (r : Cells) (counts : List ℕ) (first_mbuf : Option ℕ) (mb
   pub mbuf_list : IsFreeList (next_mbuf r) (length r.heads) first_mbuf mbufs free
   pub cluster_list : IsFreeList (next_cluster r) r.clusters first_cluster clusters free_clusters
   pub counts_long : length counts ≡ r.clusters
-  pub uncounted : (c : ℕ) → c < r.clusters → times c free_clusters ≡ cond (slice_index counts c == 0) 1 0
+  pub uncounted : (c : ℕ) → c < r.clusters → times_listed c free_clusters ≡ cond (slice_index counts c == 0) 1 0
 
 abbrev pub IsAccount : Cells → List ℕ → Option ℕ → ℕ → Option ℕ → ℕ → Type 0
 IsAccount r counts first_mbuf mbufs first_cluster clusters =

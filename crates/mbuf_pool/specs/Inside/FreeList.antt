@@ -2,23 +2,23 @@
 use Rattle.std.specs.Prelude.{◌≡◌, ℕ, zero, suc, ◌+◌, ◌<◌, ◌≤◌, cond, Option, None, Some, List, [], ◌∷◌, length, nat_eq}
 
 -- how often k stands in the list
-abbrev pub times : ℕ → List ℕ → ℕ
-times k [] = 0
-times k (x ∷ xs) = cond (nat_eq x k) 1 0 + times k xs
+abbrev pub times_listed : ℕ → List ℕ → ℕ
+times_listed k [] = 0
+times_listed k (x ∷ xs) = cond (nat_eq x k) 1 0 + times_listed k xs
 
 -- the places along the links from `at` on, at most so many
-abbrev pub walk : (ℕ → Option ℕ) → ℕ → Option ℕ → List ℕ
-walk next n None = []
-walk next zero (Some k) = []
-walk next (suc n) (Some k) = k ∷ walk next n (next k)
+abbrev pub walk_free : (ℕ → Option ℕ) → ℕ → Option ℕ → List ℕ
+walk_free next n None = []
+walk_free next zero (Some k) = []
+walk_free next (suc n) (Some k) = k ∷ walk_free next n (next k)
 
 -- the places of the list are linked in its order, from `at` on, and each is below the number of places
-abbrev pub IsLinked : (ℕ → Option ℕ) → ℕ → Option ℕ → List ℕ → Type 0
-IsLinked next places at [] = at ≡ None
-IsLinked next places at (x ∷ xs) = (at ≡ Some x) × (x < places) × IsLinked next places (next x) xs
+abbrev pub AreLinkedPlaces : (ℕ → Option ℕ) → ℕ → Option ℕ → List ℕ → Type 0
+AreLinkedPlaces next places at [] = at ≡ None
+AreLinkedPlaces next places at (x ∷ xs) = (at ≡ Some x) × (x < places) × AreLinkedPlaces next places (next x) xs
 
 -- the list is linked from the first place on, has no place twice, and is so long
 pub record IsFreeList (next : ℕ → Option ℕ) (places : ℕ) (first : Option ℕ) (number : ℕ) (free : List ℕ) : Type 0 where
-  pub linked : IsLinked next places first free
-  pub once : (k : ℕ) → times k free ≤ 1
+  pub linked : AreLinkedPlaces next places first free
+  pub once : (k : ℕ) → times_listed k free ≤ 1
   pub size : number ≡ length free

@@ -5,12 +5,12 @@ use Rattle.raw_cells.specs.declared.part.Part.{Part}
 use Rattle.raw_cells.specs.declared.part.Buffer.TheVariants.{Cluster}
 
 -- the link that a number stands for
-abbrev pub link_of : ℕ → Option ℕ
-link_of n = if n == 0xffffffff then None else Some n
+abbrev pub link_from : ℕ → Option ℕ
+link_from n = if n == 0xffffffff then None else Some n
 
 -- the link that bytes spell
 abbrev pub link_in : List ℕ → Option ℕ
-link_in bytes = link_of (little_number 4 bytes)
+link_in bytes = link_from (little_number 4 bytes)
 
 -- the bytes of a link
 abbrev pub link_bytes : Option ℕ → List ℕ

@@ -10,10 +10,10 @@ use Rattle.flat_model.specs.Machine.Step.{ComesIn}
 use Rattle.mbuf_chain.specs.Chain.{PoolView, alone, chain_of, string}
 use Rattle.chain_ops.specs.Makes.{Makes}
 use Rattle.chain_ops.specs.Stored.{AreFree, stored_first}
-use Rattle.chain_ops.specs.Weights.{laid}
+use Rattle.chain_ops.specs.Weights.{laid_entries}
 use Rattle.mbuf_chain.specs.Train.{TrainView, numbers}
 use Rattle.ledger.specs.Accounts.{item_at, weight_at, weight_owned}
-use Rattle.ip_out.specs.Packets.{packets}
+use Rattle.ip_out.specs.Packets.{train_packets}
 use Rattle.ip_out.specs.declared.head.IpHead.{IpHead}
 use Rattle.ip_reass.specs.Arrivals.{CameBy, carried_at, flat_head}
 use Rattle.sock_calls.specs.Delivery.{NetView, IsAccountedAt, KeepsParts, state_at}
@@ -23,7 +23,7 @@ abbrev pub is_ours_or_all : ℕ → ℕ → ℕ → Bool
 is_ours_or_all addr bcast ip = (((ip == addr) || (ip == bcast)) || (ip == loopback)) || (ip == limited_broadcast)
 
 -- chain c, a fragment whose header says `head` and whose bytes are as many as that says, arrived
-pub record IsTaken (v : NetView) (c : ℕ) (head : IpHead) (u : NetView) : Type 0 where
+pub record IsFragmentTaken (v : NetView) (c : ℕ) (head : IpHead) (u : NetView) : Type 0 where
   pub step : (rest : State) (held : Weight) (origin : Origin) → CameBy origin (chain_of v.pool c)
       → IsAccountedAt v rest (held ⊕ weight_at v.pool c)
       → FragmentArrives exact_ledger origin held (flat_head head) (carried_at v.pool c) (state_at v rest)
@@ -40,14 +40,14 @@ pub record IsArrived (v : NetView) (c : ℕ) (u : NetView) : Type 0 where
 -- The packets of a train arrived, one after another.
 pub record HaveArrived (v : NetView) (t : TrainView) (u : NetView) : Type 0 where
   pub step : (rest : State) → IsAccountedAt v rest (weight_owned v.pool (numbers v.pool t))
-      → AllArrive exact_ledger (packets v.pool t) (state_at v rest) (state_at u rest)
+      → AllArrive exact_ledger (train_packets v.pool t) (state_at v rest) (state_at u rest)
   pub parts : KeepsParts v (numbers v.pool t) u []
 
 -- The front of a train arrived: whatever becomes of the packets of what is left makes an arrival of them all.
 pub record AreArriving (v : NetView) (t : TrainView) (u : NetView) (left : TrainView) : Type 0 where
   pub goes : (rest new : State) → IsAccountedAt v rest (weight_owned v.pool (numbers v.pool t))
-      → AllArrive exact_ledger (packets u.pool left) (state_at u rest) new
-      → AllArrive exact_ledger (packets v.pool t) (state_at v rest) new
+      → AllArrive exact_ledger (train_packets u.pool left) (state_at u rest) new
+      → AllArrive exact_ledger (train_packets v.pool t) (state_at v rest) new
   pub parts : KeepsParts v (numbers v.pool t) u (numbers u.pool left)
 
 -- ---- from the wire
@@ -58,7 +58,8 @@ pub record IsLaidOut (p : PoolView) (bytes : List ℕ) (q : PoolView) (c : ℕ) 
   pub free : AreFree p clusters
   pub number : length clusters ≡ count_by is_cluster (wire (length bytes))
   pub made : Makes p q c (alone true) (stored_first 0 false clusters (wire (length bytes)) bytes)
-  pub layout : laid (stored_first 0 false clusters (wire (length bytes)) bytes) ≡ laid_on clusters (wire (length bytes))
+  pub layout : laid_entries (stored_first 0 false clusters (wire (length bytes)) bytes)
+      ≡ laid_on clusters (wire (length bytes))
   pub bytes_are : string (chain_of q c) ≡ bytes
 
 -- these bytes came from the wire, into buffers of their own or, where the pool had too few, into none

@@ -13,8 +13,8 @@ pub record Fields : Type 0 where
 abbrev pub fields : Inside → Fields
 fields s = record { config = s.config; host = s.host.value }
 
-abbrev pub seen : Fields → StackView
-seen s = record {
+abbrev pub stack_of : Fields → StackView
+stack_of s = record {
   config = s.config;
   pool = s.host.pool;
   socks = s.host.socks;
@@ -25,7 +25,7 @@ seen s = record {
 }
 
 -- what is shown fits together, the link is the configuration's, and no packet is left that was to come back
-pub record IsInside (s : Fields) : Type 0 where
-  pub stack : IsStack (seen s)
+pub record IsStackInside (s : Fields) : Type 0 where
+  pub stack : IsStack (stack_of s)
   pub mtu : s.host.net.mtu ≡ s.config.mtu
   pub looped : s.host.net.looped ≡ record { first = None; last = None; len = 0 }

@@ -16,8 +16,8 @@ use Rattle.flat_model.specs.declared.errno.Lack.TheVariants.{Pool, Queue}
 use Rattle.mbuf_chain.specs.Owners.{Moves}
 use Rattle.mbuf_chain.specs.Train.{TrainView, IsHeld, numbers}
 use Rattle.ledger.specs.Accounts.{weight_owned, IsAccounted}
-use Rattle.ip_out.specs.Packets.{packets, BeginPlain}
-use Rattle.ip_out.specs.Queues.{IsQueue}
+use Rattle.ip_out.specs.Packets.{train_packets, BeginPlain}
+use Rattle.ip_out.specs.Queues.{IsOutputQueue}
 use Rattle.ip_reass.specs.Table.{TableView, IsReady, held_all, unfinished}
 use Rattle.sock_calls.specs.Sockets.{IsSocks, queued_chains}
 use Rattle.sock_calls.specs.Outgoing.{SendView, state_in}
@@ -54,7 +54,7 @@ out_chains v = numbers v.pool v.net.out ++ queued_chains v.pool v.socks.queues
 -- The parts after a send fit the pool; packets that come back wait in `looped`.
 pub record AreParts (v : SendView) (r : TableView) (u : SendView) (t : TableView) : Type 0 where
   pub socks : IsSocks u.pool u.socks
-  pub out : IsQueue u.pool u.net.out
+  pub out : IsOutputQueue u.pool u.net.out
   pub looped : IsHeld u.pool u.net.looped
   pub plain : BeginPlain u.pool u.net.looped
   pub reass : IsReady u.pool t
@@ -67,7 +67,7 @@ pub record AreParts (v : SendView) (r : TableView) (u : SendView) (t : TableView
 pub record IsTried (fd : ℕ) (to : Option Addr) (bytes : List ℕ) (v : SendView) (r : TableView) (result : Result ℕ Errno)
     (u : SendView) (t : TableView) : Type 0 where
   pub goes : (rest new : State) → rest.config.mtu ≡ v.net.mtu → IsAccounted v.pool (all_in v r rest) nothing
-      → AllArrive exact_ledger (packets u.pool u.net.looped) (all_in u t rest) new
+      → AllArrive exact_ledger (train_packets u.pool u.net.looped) (all_in u t rest) new
       → Step (all_in v r rest) (Send fd to bytes) (sent_reply result) new
   pub accounts : (rest : State) → IsAccounted v.pool (all_in v r rest) nothing
       → IsAccounted u.pool (all_in u t rest) (weight_owned u.pool (numbers u.pool u.net.looped))
@@ -79,7 +79,7 @@ pub record HasSent (fd : ℕ) (to : Option Addr) (bytes : List ℕ) (v : SendVie
   pub step : (rest : State) → rest.config.mtu ≡ v.net.mtu → IsAccounted v.pool (all_in v r rest) nothing
       → Step (all_in v r rest) (Send fd to bytes) (sent_reply result) (all_in u t rest)
   pub socks : IsSocks u.pool u.socks
-  pub out : IsQueue u.pool u.net.out
+  pub out : IsOutputQueue u.pool u.net.out
   pub none : u.net.looped ≡ no_train
   pub reass : IsReady u.pool t
   pub mtu : u.net.mtu ≡ v.net.mtu

@@ -23,7 +23,7 @@ IsInCircle None = Unit {0}
 IsInCircle (Some port) = (FIRST_EPHEMERAL_PORT ≤ port) × (port ≤ LAST_EPHEMERAL_PORT)
 
 -- the lowest descriptor that no block has
-pub record IsLowestFree (bs : List Block) (fd : ℕ) : Type 0 where
+pub record IsLowestUnused (bs : List Block) (fd : ℕ) : Type 0 where
   pub least : FIRST_DESCRIPTOR ≤ fd
   pub free : find (has_fd fd) bs ≡ None
   pub passed : (k : ℕ) → FIRST_DESCRIPTOR ≤ k → k < fd → IsSome (find (has_fd k) bs)
@@ -39,12 +39,12 @@ Locates fd bs None = find (has_fd fd) bs ≡ None
 Locates fd bs (Some place) = IsLocated fd bs place.index place.block
 
 -- the port that is noted of a block: 0 if it has none
-abbrev pub noted : Block → ℕ
-noted b = unwrap_or b.port 0
+abbrev pub noted_port : Block → ℕ
+noted_port b = unwrap_or b.port 0
 
 -- the port of each block is noted at its place
 abbrev pub HasPorts : List Block → List ℕ → Type 0
-HasPorts bs ports = (k : ℕ) (d : Block) → k < length bs → get_or ports k 0 ≡ noted (slice_index_or bs k d)
+HasPorts bs ports = (k : ℕ) (d : Block) → k < length bs → get_or ports k 0 ≡ noted_port (slice_index_or bs k d)
 
 -- how many lanes come before the first whose bit is set, of sixteen
 abbrev pub lanes_clear : ℕ → ℕ

@@ -58,8 +58,8 @@ GivesPort bs last local None port later = IsFreePort bs last local port × (late
 -- ---- refusals
 
 -- a configuration with this interface
-abbrev pub config_of : Interface → Config
-config_of i = record { addr = i.addr; bcast = i.bcast; mtu = 0; mbufs = 0; clusters = 0; first_id = 0 }
+abbrev pub interface_config : Interface → Config
+interface_config i = record { addr = i.addr; bcast = i.bcast; mtu = 0; mbufs = 0; clusters = 0; first_id = 0 }
 
 abbrev pub lacks_option : Option Block → Bool
 lacks_option None = false

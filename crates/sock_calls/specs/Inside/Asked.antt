@@ -9,9 +9,9 @@ use Rattle.sock_calls.specs.declared.questions.SocketName.{SocketName}
 use Rattle.sock_calls.specs.Sockets.{queues_of}
 
 -- the name that a control block tells
-abbrev pub name_in : Option Block → Result SocketName Errno
-name_in None = Err BadDescriptor
-name_in (Some b) = Ok (record {
+abbrev pub told_name : Option Block → Result SocketName Errno
+told_name None = Err BadDescriptor
+told_name (Some b) = Ok (record {
   local = b.local;
   port = b.port;
   peer = b.peer;

@@ -6,7 +6,7 @@ use Rattle.flat_model.specs.Machine.Ledger.{exact_ledger}
 use Rattle.flat_model.specs.Machine.Arrival.{Delivers}
 use Rattle.flat_model.specs.declared.address.Addr.{Addr}
 use Rattle.mbuf_chain.specs.Chain.{chain_of}
-use Rattle.mbuf_chain.specs.Owners.{times}
+use Rattle.mbuf_chain.specs.Owners.{times_among}
 use Rattle.ledger.specs.Accounts.{item_at, weight_at}
 use Rattle.sock_calls.specs.Delivery.{NetView, IsAccountedAt, KeepsParts, state_at, queues_at, sockets_named}
 
@@ -18,6 +18,6 @@ pub record IsUnderWay (v : NetView) (c : ℕ) (fds : List ℕ) (sender : Addr) (
       (state_at u rest) new
       → Delivers exact_ledger held sender (item_at v.pool c) (sockets_named (queues_at v) v.socks.pcbs fds)
       (state_at v rest) new
-  pub untouched : (k : ℕ) → 0 < times k (drop i fds) → queues_at u k ≡ queues_at v k
+  pub untouched : (k : ℕ) → 0 < times_among k (drop i fds) → queues_at u k ≡ queues_at v k
   pub chain : chain_of u.pool c ≡ chain_of v.pool c
   pub parts : KeepsParts v (c ∷ []) u (c ∷ [])

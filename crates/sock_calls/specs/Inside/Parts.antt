@@ -2,5 +2,5 @@
 use Rattle.sock_calls.specs.declared.parts.Parts.{Parts}
 use Rattle.sock_calls.specs.Sockets.{SocksView, from_three}
 
-abbrev pub shown : Parts → SocksView
-shown s = record { pcbs = s.pcbs; queues = from_three s.queues }
+abbrev pub socks_of : Parts → SocksView
+socks_of s = record { pcbs = s.pcbs; queues = from_three s.queues }

@@ -13,9 +13,9 @@ use Rattle.mbuf_chain.specs.Chain.{PoolView, Adds, chain_of, held_mbufs, string}
 use Rattle.mbuf_chain.specs.Owners.{Moves}
 use Rattle.mbuf_chain.specs.Train.{TrainView, IsHeld, numbers}
 use Rattle.chain_ops.specs.Stored.{AreFree}
-use Rattle.chain_ops.specs.Weights.{laid}
-use Rattle.ip_out.specs.Packets.{packets, BeginPlain}
-use Rattle.ip_out.specs.Queues.{IsQueue}
+use Rattle.chain_ops.specs.Weights.{laid_entries}
+use Rattle.ip_out.specs.Packets.{train_packets, BeginPlain}
+use Rattle.ip_out.specs.Queues.{IsOutputQueue}
 use Rattle.ip_out.specs.declared.head.IpHead.{IpHead}
 use Rattle.ip_out.specs.declared.sending.Sent.{Sent}
 use Rattle.ip_out.specs.declared.ways.Way.{Way}
@@ -27,8 +27,8 @@ use Rattle.sock_calls.specs.declared.net.Net.{Net}
 use Rattle.sock_calls.specs.declared.packets.Heading.{Heading}
 
 -- what a send reads of the configuration of a machine with these blocks and this link
-abbrev pub config_of : Table → ℕ → Config
-config_of t mtu = record { addr = t.addr; bcast = t.bcast; mtu = mtu; mbufs = 0; clusters = 0; first_id = 0 }
+abbrev pub send_config : Table → ℕ → Config
+send_config t mtu = record { addr = t.addr; bcast = t.bcast; mtu = mtu; mbufs = 0; clusters = 0; first_id = 0 }
 
 -- its two addresses differ, the broadcast address isn't 127.0.0.1, and the link takes packets of 68 bytes
 pub record IsRouted (c : Config) : Type 0 where
@@ -65,25 +65,25 @@ head_as h = record {
 
 -- From p to q chain c came, of n bytes and 28 in front of them, laid out as a send of n bytes on clusters that were
 -- free.
-pub record IsLaidOut (p : PoolView) (n : ℕ) (clusters : List ℕ) (q : PoolView) (c : ℕ) : Type 0 where
+pub record IsSendLaidOut (p : PoolView) (n : ℕ) (clusters : List ℕ) (q : PoolView) (c : ℕ) : Type 0 where
   pub number : length clusters ≡ count_by is_cluster (sent n)
   pub free : AreFree p clusters
   pub made : Adds p q c (chain_of q c)
   pub headed : (chain_of q c).front.header ≡ true
-  pub laid : laid (chain_of q c).entries ≡ laid_on clusters (sent n)
+  pub laid : laid_entries (chain_of q c).entries ≡ laid_on clusters (sent n)
   pub size : length (string (chain_of q c)) ≡ n + IP_UDP_HEADERS
   pub held : held_mbufs q ≡ held_mbufs p + length (sent n)
 
 -- its data are the bytes
 pub record IsStored (p : PoolView) (bytes : List ℕ) (q : PoolView) (c : ℕ) : Type 0 where
   pub clusters : List ℕ
-  pub lies : IsLaidOut p (length bytes) clusters q c
+  pub lies : IsSendLaidOut p (length bytes) clusters q c
   pub holds : drop IP_UDP_HEADERS (string (chain_of q c)) ≡ bytes
 
 -- after 20 bytes it is the datagram
 pub record IsBuilt (p : PoolView) (x : flat.Sending) (q : PoolView) (c : ℕ) : Type 0 where
   pub clusters : List ℕ
-  pub lies : IsLaidOut p (length x.bytes) clusters q c
+  pub lies : IsSendLaidOut p (length x.bytes) clusters q c
   pub datagram : drop IP_HEADER (string (chain_of q c)) ≡ flat.datagram x
 
 -- From p and o to q and u the packets of a send came: what the output queue took, and what comes back.
@@ -92,12 +92,13 @@ pub record AreMade (p : PoolView) (c : Config) (x : flat.Sending) (o : TrainView
   pub clusters : List ℕ
   pub number : length clusters ≡ (need_to c x.to.ip (length x.bytes)).clusters
   pub free : AreFree p clusters
-  pub out : packets q u ≡ take OUTPUT_QUEUE_PACKETS (packets p o ++ to_link c x.to.ip (flat.packets c clusters x))
-  pub back : packets q made.looped ≡ to_self c x.to.ip (flat.packets c clusters x)
+  pub out : train_packets q u ≡ take OUTPUT_QUEUE_PACKETS
+      (train_packets p o ++ to_link c x.to.ip (flat.packets c clusters x))
+  pub back : train_packets q made.looped ≡ to_self c x.to.ip (flat.packets c clusters x)
   pub is_cut : made.is_cut ≡ nat_lt 1 (length (flat.parts_of c x))
   pub is_lost : made.is_lost ≡ nat_lt OUTPUT_QUEUE_PACKETS
-      (length (packets p o ++ to_link c x.to.ip (flat.packets c clusters x)))
-  pub queue : IsQueue q u
+      (length (train_packets p o ++ to_link c x.to.ip (flat.packets c clusters x)))
+  pub queue : IsOutputQueue q u
   pub held : IsHeld q made.looped
   pub plain : BeginPlain q made.looped
   pub moves : Moves p (numbers p o) q (numbers q made.looped ++ numbers q u)
@@ -119,21 +120,21 @@ pub record IsPut (fd : ℕ) (to : Addr) (bytes : List ℕ) (p : PoolView) (t : T
   pub port : EnsuresPort t fd heading.port u
   pub descriptors : KeepsOpen t u
   pub clusters : List ℕ
-  pub number : length clusters ≡ (need_to (config_of t n.mtu) to.ip (length bytes)).clusters
+  pub number : length clusters ≡ (need_to (send_config t n.mtu) to.ip (length bytes)).clusters
   pub free : AreFree p clusters
-  pub back : packets q m.looped ≡ to_self (config_of t n.mtu) to.ip
-      (flat.packets (config_of t n.mtu) clusters (sent_as heading bytes))
-  pub out : packets q m.out ≡ take OUTPUT_QUEUE_PACKETS
-      (packets p n.out ++ to_link (config_of t n.mtu) to.ip
-      (flat.packets (config_of t n.mtu) clusters (sent_as heading bytes)))
+  pub back : train_packets q m.looped ≡ to_self (send_config t n.mtu) to.ip
+      (flat.packets (send_config t n.mtu) clusters (sent_as heading bytes))
+  pub out : train_packets q m.out ≡ take OUTPUT_QUEUE_PACKETS
+      (train_packets p n.out ++ to_link (send_config t n.mtu) to.ip
+      (flat.packets (send_config t n.mtu) clusters (sent_as heading bytes)))
   pub is_lost : lost ≡ nat_lt OUTPUT_QUEUE_PACKETS
-      (length (packets p n.out ++ to_link (config_of t n.mtu) to.ip
-      (flat.packets (config_of t n.mtu) clusters (sent_as heading bytes))))
+      (length (train_packets p n.out ++ to_link (send_config t n.mtu) to.ip
+      (flat.packets (send_config t n.mtu) clusters (sent_as heading bytes))))
   pub next_id : m.next_id ≡ (n.next_id + 1) % 65536
   pub counters : m.counters ≡ counts_sent (nat_lt 1
-      (length (flat.parts_of (config_of t n.mtu) (sent_as heading bytes)))) lost n.counters
+      (length (flat.parts_of (send_config t n.mtu) (sent_as heading bytes)))) lost n.counters
   pub mtu : m.mtu ≡ n.mtu
-  pub queue : IsQueue q m.out
+  pub queue : IsOutputQueue q m.out
   pub held : IsHeld q m.looped
   pub plain : BeginPlain q m.looped
   pub moves : Moves p (numbers p n.out) q (numbers q m.looped ++ numbers q m.out)

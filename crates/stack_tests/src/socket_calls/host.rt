@@ -3,7 +3,7 @@
 ghost use Rattle.std.specs.Prelude.{◌∷◌, ◌++◌, true};
 ghost use Rattle.mbuf_chain.specs.Owners.{IsOwned};
 ghost use Rattle.mbuf_chain.specs.Train.{IsHeld, numbers};
-ghost use Rattle.ip_out.specs.Queues.{IsQueue};
+ghost use Rattle.ip_out.specs.Queues.{IsOutputQueue};
 ghost use Rattle.sock_calls.specs.Sockets.{IsSocks, queued_chains};
 
 use chain_ops::m_copydata;
@@ -28,14 +28,14 @@ impl Model for Host {
     ghost use Rattle.std.specs.Prelude.{◌≡◌, ◌++◌, None};
     ghost use Rattle.mbuf_chain.specs.Owners.{IsOwned};
     ghost use Rattle.mbuf_chain.specs.Train.{numbers};
-    ghost use Rattle.ip_out.specs.Queues.{IsQueue};
+    ghost use Rattle.ip_out.specs.Queues.{IsOutputQueue};
     ghost use Rattle.sock_calls.specs.Sockets.{IsSocks, queued_chains};
 
     ghost Value = { Unit {0} };
 
     ghost view = { λ h. tt };
 
-    ghost invariant = { λ h. IsSocks h.pool h.socks × IsQueue h.pool h.net.out
+    ghost invariant = { λ h. IsSocks h.pool h.socks × IsOutputQueue h.pool h.net.out
         × IsOwned h.pool (numbers h.pool h.net.out ++ queued_chains h.pool h.socks.queues)
         × (h.net.looped ≡ record { first = None; last = None; len = 0 }) };
 }

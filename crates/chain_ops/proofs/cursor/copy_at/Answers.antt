@@ -130,7 +130,8 @@ mbufs-preserved c =
     record {
       made = record { adds = m.adds; front = m.front ∙ was.front; entries = refl };
       all =
-          copied_step v c.unwrap-at.result c.mbufs.at.index c.mbufs.left c.min-n.result c.segment-in-mbufs.result.len done
+          copied_step v c.unwrap-at.result c.mbufs.at.index c.mbufs.left c.min-n.result c.segment-in-mbufs.result.len
+          done
           _ place next.1 c.mbufs-test.true len c.min-n.ensures now
           ∙ c.mbufs.invariant.all;
       place = place;

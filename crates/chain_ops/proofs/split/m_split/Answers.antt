@@ -178,7 +178,8 @@ returns-then-is_none-clause-ok c =
     ∙ length_now q r k i _ c.narrow.ensures ∙ ap (λ (x : ChainView). length x.entries) kept_q in
     record {
       made =
-          makes_as (with_chain p k (chain_of r k)) (alone v.front.header) (split_back v.front.header v.entries c.args.at)
+          makes_as (with_chain p k (chain_of r k)) (alone v.front.header)
+          (split_back v.front.header v.entries c.args.at)
           fin refl (ap (λ (x : ChainView). x.front) kept_d ∙ m.front ∙ ap alone c.has_header-header.ensures)
           (ap (λ (x : ChainView). x.entries) kept_d ∙ m.entries ∙ sym (append-nil (rest_of h e off))
           ∙ ap (λ (es : List Entry). rest_of h e off ++ es) (sym (none_after v.entries i end))
@@ -186,7 +187,8 @@ returns-then-is_none-clause-ok c =
           ∙ sym (c.find_cut-off.ensures.back h)
           ∙ ap (λ (b : Bool). split_back b v.entries c.args.at) c.has_header-header.ensures);
       front =
-          ap (λ (x : ChainView). x.front) (shown_with q r k _ c.narrow.ensures) ∙ ap (λ (x : ChainView). x.front) kept_q;
+          ap (λ (x : ChainView). x.front) (shown_with q r k _ c.narrow.ensures)
+          ∙ ap (λ (x : ChainView). x.front) kept_q;
       entries =
           now ∙ sym (take_all (i + 1) (slice_set v.entries i (narrowed e 0 off))
           (omega (
@@ -194,7 +196,8 @@ returns-then-is_none-clause-ok c =
             end,
             length-set v.entries i
                 (narrowed e 0 off),
-          ))) ∙ front_done v c.find_cut-off.result.0 off place c.find_cut-off.ensures.within ∙ sym c.find_cut-off.ensures.front;
+          ))) ∙ front_done v c.find_cut-off.result.0 off place c.find_cut-off.ensures.within
+          ∙ sym c.find_cut-off.ensures.front;
     }
 
 pub link_rest-requires-clause-len : goal.link_rest-requires-clause-len
@@ -269,7 +272,8 @@ returns-clause-ok c =
     let front' = ap (λ (x : ChainView). x.entries) head ∙ m.entries in
     record {
       made =
-          makes_as (with_chain p k (chain_of t k)) (alone v.front.header) (split_back v.front.header v.entries c.args.at)
+          makes_as (with_chain p k (chain_of t k)) (alone v.front.header)
+          (split_back v.front.header v.entries c.args.at)
           fin refl (ap (λ (x : ChainView). x.front) shown ∙ ap (λ (x : ChainView). x.front) head ∙ m.front
           ∙ ap alone c.has_header-header.ensures)
           (ap (λ (x : ChainView). x.entries) shown ∙ (λ j. front' j ++ back j)

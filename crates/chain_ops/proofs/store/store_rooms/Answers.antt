@@ -4,7 +4,7 @@ use Rattle.std.proofs.lemmas.List.{length-append}
 use Rattle.std.proofs.lemmas.Bool.{eqb-true, false≢true}
 use Rattle.mbuf_chain.specs.Steps.{one_mbuf, joined}
 use Rattle.mbuf_chain.specs.Chain.{Entry, ChainView, PoolView, chain_of, references, references_of, without}
-use Rattle.mbuf_chain.specs.Owners.{times}
+use Rattle.mbuf_chain.specs.Owners.{times_among}
 use Rattle.mbuf_chain.proofs.Laws.Owners.{live_adds, shown_adds, shown_with, times-append}
 use Rattle.mbuf_chain.proofs.Laws.Steps.{live_beside, live_shown, place_beside, linked_new}
 use Rattle.mbuf_chain.proofs.Laws.Accounts.{references-adds}
@@ -117,7 +117,7 @@ rooms-preserved c =
     let splits =
     more_splits p size c.next_room-next.result.0 later c.next_room-next.result.1 o some
     (sym c.next_room-next.ensures.cluster) taken c.next_room-next.ensures.len left in
-    let one : (k : ℕ) → references_of k w ≡ times k (option_to_list o) = λ k. refs_one k c.in-Ok.back false e in
+    let one : (k : ℕ) → references_of k w ≡ times_among k (option_to_list o) = λ k. refs_one k c.in-Ok.back false e in
     let frees =
     ledger_step p r c.next_room-next.result.1 o (ap (λ (s : PoolView). s.clusters) is)
     (λ k. refs_linked p r d k w live is ∙ ap (λ (n : ℕ). references p k + n) (one k)) taken in
@@ -126,7 +126,8 @@ rooms-preserved c =
       made = record { adds = m.adds; front = m.front ∙ was.front; entries = refl };
       all =
           more_all p (λ es. stored_first c.args.large c.args.ends es (rooms_for c.args.large (length c.args.bytes.now))
-          c.args.bytes.now) o cs size c.rooms.rest.now later c.next_room-next.result.1 c.next_room-next.result.0 c.split_at-in-rooms.result.0.now
+          c.args.bytes.now) o cs size c.rooms.rest.now later c.next_room-next.result.1
+          c.next_room-next.result.0 c.split_at-in-rooms.result.0.now
           v.entries _ some (sym c.next_room-next.ensures.cluster) taken c.next_room-next.ensures.len
           c.split_at-in-rooms.ensures.front c.split_at-in-rooms.ensures.back left m.entries inv.all;
       count = omega (arith, inv.count, splits.count, length-append cs (option_to_list o));

@@ -1,6 +1,6 @@
 use Rattle.std.proofs.Common.{◌≡◌, ◌≤◌, ℕ, ◌+◌, ◌++◌, true, List, length, count_by}
 use Rattle.mbuf_chain.specs.Chain.{IsPlace, chain_of, alone, references_of, free_clusters}
-use Rattle.mbuf_chain.specs.Owners.{times}
+use Rattle.mbuf_chain.specs.Owners.{times_among}
 use Rattle.flat_model.specs.Amounts.Layout.{is_cluster}
 use Rattle.chain_ops.specs.Makes.{Makes}
 use Rattle.chain_ops.specs.Stored.{AreFree, stored, stored_first, rooms_for}
@@ -17,7 +17,7 @@ invariant-rooms l = record {
       ≡ count_by is_cluster (rooms_for l.large (length l.bytes));
   number : length (chain_of l.pool l.chain).entries + length (rest_rooms (length l.rest))
       ≡ length (rooms_for l.large (length l.bytes));
-  refs : (k : ℕ) → times k clusters ≡ references_of k (chain_of l.pool l.chain);
+  refs : (k : ℕ) → times_among k clusters ≡ references_of k (chain_of l.pool l.chain);
   frees : free_clusters l.pool + length clusters ≡ free_clusters l.fn.pool;
   taken : AreFree l.fn.pool clusters;
   last : IsPlace (chain_of l.pool l.chain) l.last;

@@ -1,6 +1,6 @@
 use Rattle.std.proofs.Common.{◌≡◌, length, Some, None, refl, arith}
 use Rattle.chain_script.specs.Inside.Calls.{request_of}
-use Rattle.chain_script.specs.Steps.{answer_text}
+use Rattle.chain_script.specs.Steps.{chain_answer_text}
 use Rattle.chain_script.proofs.SlotLemmas.{take-written}
 use Rattle.chain_script.proofs.caller.put_answer.Goals as goal
 
@@ -9,7 +9,7 @@ returns-in-Some-clause-says c =
     let called = c.make_call.ensures.step in
     let len : length c.call_of.new.room ≡ c.args.buffers.now.bytes.len = omega arith in
     let same = take-written _ c.call_of.new.room c.args.buffers.now.bytes.items len in (
-      answer_text (Some called.0),
+      chain_answer_text (Some called.0),
       (
         Some called.0,
         (request_of c.in-Some.call c.call_of.new.room, c.in-Some.ensures.call, rw same at called.1),
@@ -19,4 +19,5 @@ returns-in-Some-clause-says c =
     )
 
 pub returns-in-None-clause-says : goal.returns-in-None-clause-says
-returns-in-None-clause-says c = (answer_text None, (None, (c.in-None.ensures.call, refl), refl), c.append.ensures.items)
+returns-in-None-clause-says c =
+    (chain_answer_text None, (None, (c.in-None.ensures.call, refl), refl), c.append.ensures.items)

@@ -2,7 +2,7 @@ use Rattle.std.proofs.Common.{ℤ, Some, subst}
 use mir.Syntax.{w32}
 use Rattle.std.proofs.lemmas.Int.{to_z-of_z}
 use Rattle.chain_script.specs.Lines.{Adjust}
-use Rattle.chain_script.specs.Steps.{Ready, Step}
+use Rattle.chain_script.specs.Steps.{Ready, ChainStep}
 use Rattle.chain_script.specs.Inside.Slots.{machine_of}
 use Rattle.chain_script.proofs.Stores.{adjust_done}
 use Rattle.chain_script.proofs.SlotLemmas.{slot_is, live_slot}
@@ -22,7 +22,7 @@ returns-clause-fits c =
 pub returns-clause-step : goal.returns-clause-step
 returns-clause-step c =
     let is = slot_is c.args.chains.now c.args.slot _ (Some c.in-Some.chain) c.requires.slot c.in-Some.is in
-    subst (λ (z : ℤ). Step (machine_of c.args.pool.now c.args.chains.now) (Adjust c.args.slot z) Ready
+    subst (λ (z : ℤ). ChainStep (machine_of c.args.pool.now c.args.chains.now) (Adjust c.args.slot z) Ready
     (machine_of c.m_adj.new.pool c.args.chains.now))
     (to_z-of_z w32 c.args.n c.ranges.n)
     (adjust_done c.args.pool.now _ c.args.chains.now c.args.slot c.in-Some.chain _ c.requires.fits c.requires.slot is

@@ -1,7 +1,7 @@
 use Rattle.std.proofs.Common.{Some, subst}
 use Rattle.mbuf_chain.specs.Chain.{chain_of}
 use Rattle.chain_ops.specs.declared.pullup.Refusal.{Refusal}
-use Rattle.chain_ops.specs.Pulls.{IsRefused}
+use Rattle.chain_ops.specs.Pulls.{IsPullRefused}
 use Rattle.chain_script.proofs.Joined.{pull_done, pull_lacks}
 use Rattle.chain_script.proofs.SlotLemmas.{slot_is, live_slot, same_slot, changed_fits}
 use Rattle.chain_script.proofs.Stores.{moves_changed}
@@ -33,7 +33,7 @@ pub returns-in-Err-NoBufs-clause-step : goal.returns-in-Err-NoBufs-clause-step
 returns-in-Err-NoBufs-clause-step c =
     let is = slot_is c.args.chains.now c.args.slot _ (Some c.in-Some.chain) c.requires.slot c.in-Some.is in
     let err =
-    subst (λ (r : Refusal). IsRefused c.args.pool.now (chain_of c.args.pool.now c.in-Some.chain) c.args.n r)
+    subst (λ (r : Refusal). IsPullRefused c.args.pool.now (chain_of c.args.pool.now c.in-Some.chain) c.args.n r)
     c.in-Err-NoBufs.field-0-is c.in-Err-NoBufs.ensures.err in
     rw (
       c.in-Err-NoBufs.ensures.same.0,

@@ -1,9 +1,9 @@
 use Rattle.std.proofs.Common.{◌≡◌, ℕ, ◌≤◌, List, [], take, drop, sym, ap, ◌∙◌, arith}
 use Rattle.flat_model.specs.Amounts.Weight.{Item}
 use Rattle.flat_model.specs.Machine.State.{State}
-use Rattle.flat_ether.specs.Hosts.{Drained, drained, with_output}
+use Rattle.flat_ether.specs.Hosts.{Drained, drained, with_output_left}
 use Rattle.net_stack.specs.Stack.{state_of}
-use Rattle.ether_host.specs.Inside.{seen}
+use Rattle.ether_host.specs.Inside.{link_seen}
 use Rattle.ether_host.proofs.Giving.{ended, same_rest, stayed, went}
 use Rattle.ether_host.proofs.packets.drain.Goals as goal
 
@@ -11,23 +11,23 @@ pub returns-in-Some-send-clause-frame : goal.returns-in-Some-send-clause-frame
 returns-in-Some-send-clause-frame c =
     sym (ap (λ (d : Drained). d.frame)
     (went _ (state_of c.loop-len.stack) (state_of c.take.new.stack) (take c.in-Some.len (drop 14 c.take.new.room))
-    (seen c.loop-len.layer) (seen c.send.new.self)
+    (link_seen c.loop-len.layer) (link_seen c.send.new.self)
     c.loop-len.invariant.same c.in-Some.ensures.step c.in-Some-send.ensures.link _ c.in-Some-send.ensures.frame))
 
 pub returns-in-Some-send-clause-link : goal.returns-in-Some-send-clause-link
 returns-in-Some-send-clause-link c =
     sym (ap (λ (d : Drained). d.link)
     (went _ (state_of c.loop-len.stack) (state_of c.take.new.stack) (take c.in-Some.len (drop 14 c.take.new.room))
-    (seen c.loop-len.layer) (seen c.send.new.self)
+    (link_seen c.loop-len.layer) (link_seen c.send.new.self)
     c.loop-len.invariant.same c.in-Some.ensures.step c.in-Some-send.ensures.link _ c.in-Some-send.ensures.frame))
 
 pub returns-in-Some-send-clause-stack : goal.returns-in-Some-send-clause-stack
 returns-in-Some-send-clause-stack c =
     let t : State = state_of c.take.new.stack in
     sym (
-    ap (λ (d : Drained). with_output (state_of c.args.stack.now) d.output)
-    (went _ (state_of c.loop-len.stack) t (take c.in-Some.len (drop 14 c.take.new.room)) (seen c.loop-len.layer)
-    (seen c.send.new.self)
+    ap (λ (d : Drained). with_output_left (state_of c.args.stack.now) d.output)
+    (went _ (state_of c.loop-len.stack) t (take c.in-Some.len (drop 14 c.take.new.room)) (link_seen c.loop-len.layer)
+    (link_seen c.send.new.self)
     c.loop-len.invariant.same c.in-Some.ensures.step c.in-Some-send.ensures.link _ c.in-Some-send.ensures.frame)
     ∙ c.loop-len.invariant.rest t.output
     ∙ same_rest (state_of c.loop-len.stack) t (take c.in-Some.len (drop 14 c.take.new.room)) c.in-Some.ensures.step
@@ -45,7 +45,8 @@ loop-len-preserved c =
     let room : 1514 ≤ _ = c.loop-len.invariant.room in
     record {
       same =
-          stayed _ s t p (seen c.loop-len.layer) (seen c.send.new.self) c.loop-len.invariant.same c.in-Some.ensures.step
+          stayed _ s t p (link_seen c.loop-len.layer) (link_seen c.send.new.self) c.loop-len.invariant.same
+          c.in-Some.ensures.step
           c.in_default-send.ensures.link c.in_default-send.ensures.frame;
       rest = λ items. c.loop-len.invariant.rest items ∙ same_rest s t p c.in-Some.ensures.step items;
       mtu = omega arith;
@@ -56,12 +57,12 @@ pub returns-clause-link : goal.returns-clause-link
 returns-clause-link c =
     let e = ended (state_of c.loop-len.stack) (state_of c.take.new.stack) c.in_default.ensures.step in
     sym (ap (λ (d : Drained). d.link)
-    (c.loop-len.invariant.same ∙ ap (λ (items : List Item). drained items (seen c.loop-len.layer)) e.1))
+    (c.loop-len.invariant.same ∙ ap (λ (items : List Item). drained items (link_seen c.loop-len.layer)) e.1))
 
 pub returns-clause-stack : goal.returns-clause-stack
 returns-clause-stack c =
     let s : State = state_of c.loop-len.stack in
     let e = ended s (state_of c.take.new.stack) c.in_default.ensures.step in
-    e.0 ∙ ap (with_output s) e.1 ∙ sym (c.loop-len.invariant.rest [])
-    ∙ sym (ap (λ (d : Drained). with_output (state_of c.args.stack.now) d.output)
-    (c.loop-len.invariant.same ∙ ap (λ (items : List Item). drained items (seen c.loop-len.layer)) e.1))
+    e.0 ∙ ap (with_output_left s) e.1 ∙ sym (c.loop-len.invariant.rest [])
+    ∙ sym (ap (λ (d : Drained). with_output_left (state_of c.args.stack.now) d.output)
+    (c.loop-len.invariant.same ∙ ap (λ (items : List Item). drained items (link_seen c.loop-len.layer)) e.1))

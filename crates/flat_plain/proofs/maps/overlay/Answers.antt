@@ -3,21 +3,21 @@ use Rattle.std.proofs.lemmas.Bool.{cases_lt}
 use Rattle.std.proofs.lemmas.List.{get_or_past}
 use Rattle.flat_model.specs.Fragments.Overlay as Overlay
 use Rattle.flat_plain.specs.declared.maps.Cell.{Cell}
-use Rattle.flat_plain.specs.Tables.{map_of, held_of}
+use Rattle.flat_plain.specs.Tables.{plain_map, held_of}
 use Rattle.flat_plain.proofs.Placing.{place_next}
 use Rattle.flat_plain.proofs.maps.overlay.Invariants.{IsLaid}
 use Rattle.flat_plain.proofs.maps.overlay.Goals as goal
 
 all_laid : (old new : List (Option Cell)) (f : Overlay.Fragment) (i k : ℕ) → IsLaid old new f i → length old ≤ i
     → length new ≡ length old → Overlay.fragment_end f ≤ length old
-    → map_of new k ≡ Overlay.overlay (map_of old) f k
+    → plain_map new k ≡ Overlay.overlay (plain_map old) f k
 all_laid old new f i k is past same inside = go (cases_lt k i)
   where
-    go : (k < i) ⊎ (i ≤ k) → map_of new k ≡ Overlay.overlay (map_of old) f k
+    go : (k < i) ⊎ (i ≤ k) → plain_map new k ≡ Overlay.overlay (plain_map old) f k
     go (inl lt) = is.below k lt
     go (inr le) =
         ap held_of (get_or_past new k None (omega arith))
-        ∙ sym (place_next (map_of old) f k (length old) (omega arith) inside
+        ∙ sym (place_next (plain_map old) f k (length old) (omega arith) inside
         (ap held_of (get_or_past old k None (omega arith))))
 
 pub returns : goal.returns

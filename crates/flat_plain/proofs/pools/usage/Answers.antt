@@ -2,7 +2,7 @@ use Rattle.std.proofs.Common.{◌≡◌, ℕ, ◌+◌, ◌≤◌, List, max, con
 use Rattle.std.specs.Prelude.{◌==◌}
 use Rattle.std.proofs.lemmas.Bool.{ne_eqb}
 use Rattle.flat_model.specs.Amounts.Weight.{times}
-use Rattle.flat_plain.specs.Weights.{weight_of}
+use Rattle.flat_plain.specs.Weights.{plain_weight}
 use Rattle.flat_plain.proofs.Weighing.{AreCounted, one_counted, usage_is}
 use Rattle.flat_plain.proofs.pools.usage.Goals as goal
 use Rattle.flat_plain.proofs.pools.usage.Goals.{then-count-eq0, else-count-eq0}
@@ -29,7 +29,7 @@ loop-c-preserved c =
 pub returns : goal.returns
 returns c = λ s m n same.
     let all : c.loop-c.c ≡ c.args.clusters = omega arith in
-    usage_is s (weight_of c.args.held.now) c.args.mbufs c.args.clusters c.loop-c.free_clusters c.loop-c.refs
+    usage_is s (plain_weight c.args.held.now) c.args.mbufs c.args.clusters c.loop-c.free_clusters c.loop-c.refs
     c.loop-c.most c.saturating_sub-free_mbufs.result m n same
     (subst (λ (k : ℕ). AreCounted c.args.held.now.bag.items k c.loop-c.free_clusters c.loop-c.refs c.loop-c.most) all
     (subst (λ (bag : List ℕ). AreCounted bag c.loop-c.c c.loop-c.free_clusters c.loop-c.refs c.loop-c.most)

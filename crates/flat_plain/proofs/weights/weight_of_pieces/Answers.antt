@@ -1,11 +1,11 @@
 use Rattle.std.proofs.Common.{sym, arith}
-use Rattle.flat_plain.specs.Tables.{map_of}
+use Rattle.flat_plain.specs.Tables.{plain_map}
 use Rattle.flat_plain.proofs.Weighing.{pieces_none, pieces_more, pieces_all}
 use Rattle.flat_plain.proofs.weights.weight_of_pieces.Goals as goal
 
 pub loop-k-init : goal.loop-k-init
 loop-k-init c =
-    record { weight = rw c.new.ensures.items (sym (pieces_none (map_of c.args.cells.now))); most = omega arith }
+    record { weight = rw c.new.ensures.items (sym (pieces_none (plain_map c.args.cells.now))); most = omega arith }
 
 pub loop-k-preserved : goal.loop-k-preserved
 loop-k-preserved c =

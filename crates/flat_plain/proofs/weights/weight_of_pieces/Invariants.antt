@@ -1,8 +1,8 @@
 use Rattle.std.proofs.Common.{◌≡◌, ℕ, ◌*◌, ◌^◌, ◌≤◌}
 use Rattle.flat_model.specs.Amounts.Weight as flat
 use Rattle.flat_model.specs.Fragments.Whole.{pieces_below}
-use Rattle.flat_plain.specs.Tables.{map_of}
-use Rattle.flat_plain.specs.Weights.{weight_of}
+use Rattle.flat_plain.specs.Tables.{plain_map}
+use Rattle.flat_plain.specs.Weights.{plain_weight}
 use Rattle.flat_plain.proofs.weights.weight_of_pieces.Given as goal
 
 -- the pieces that begin below k were added
@@ -12,4 +12,4 @@ pub record AreAdded (have pieces : flat.Weight) (k : ℕ) : Type 0 where
 
 abbrev pub invariant-loop-k : goal.invariant-loop-k
 invariant-loop-k l =
-    AreAdded (weight_of l.weight) (flat.all_of (λ piece. piece.weight) (pieces_below l.k (map_of l.cells))) l.k
+    AreAdded (plain_weight l.weight) (flat.all_of (λ piece. piece.weight) (pieces_below l.k (plain_map l.cells))) l.k

@@ -11,7 +11,7 @@ use Rattle.chain_ops.specs.Copies.{copied}
 use Rattle.chain_ops.specs.Cursors.{IsCursor}
 use Rattle.ip_out.specs.declared.head.IpHead.{IpHead}
 use Rattle.ledger.specs.Accounts.{item_of}
-use Rattle.ip_out.specs.Packets.{head_for, part_need}
+use Rattle.ip_out.specs.Packets.{part_head, part_need}
 use Rattle.ip_out.specs.Inside.{head_entry, parts_to}
 use Rattle.ip_out.proofs.Outputs.{later_is, need_copied, kept_moves, held_later, later_more, parts_more, need_among, part_some, offset_unit}
 use Rattle.ip_out.proofs.Counting.{mul_more}
@@ -78,7 +78,7 @@ parts-preserved c =
     omega (arith, c.advance-from.ensures.off, c.parts.invariant.after) in
     let head : head_entry c.head_of.result
     ∷ copied false (chain_of c.parts.pool c.args.chain.now).entries c.advance-from.result.off c.min-size.result
-    ≡ head_entry (head_for c.args.head p) ∷ copied false v.entries (20 + p.offset) p.size =
+    ≡ head_entry (part_head c.args.head p) ∷ copied false v.entries (20 + p.offset) p.size =
     (λ k. head_entry (c.head_of.ensures k) ∷ copied false ((kept.0 k).entries) (off k) (c.min-size.ensures k)) in
     let new : QueuedPacket =
     record { number = c.in-Ok.packet; entries = (chain_of c.fragment.new.pool c.in-Ok.packet).entries; tag = 0 } in

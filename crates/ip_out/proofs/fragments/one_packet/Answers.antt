@@ -1,7 +1,7 @@
 use Rattle.std.proofs.Common.{◌≡◌, ℕ, ◌+◌, ◌-◌, ◌≤◌, List, ◌∷◌, ◌++◌, length, arith, ap, sym, ◌∙◌, subst}
 use Rattle.flat_model.specs.Amounts.Weight.{Item}
 use Rattle.mbuf_chain.specs.Chain.{ChainView, chain_of, string}
-use Rattle.mbuf_chain.specs.Owners.{Moves, times}
+use Rattle.mbuf_chain.specs.Owners.{Moves, times_among}
 use Rattle.mbuf_chain.specs.Train.{TrainView, numbers}
 use Rattle.mbuf_chain.proofs.Laws.Trains.{held_none, none_left}
 use Rattle.ip_out.specs.Packets.{BeginPlain, packets_of}
@@ -15,7 +15,7 @@ add_whole-requires-clause-held c = held_none c.args.pool.now c.new-train.result 
 
 pub add_whole-requires-clause-apart : goal.add_whole-requires-clause-apart
 add_whole-requires-clause-apart c =
-    ap (times c.args.chain) (none_left c.args.pool.now c.new-train.result
+    ap (times_among c.args.chain) (none_left c.args.pool.now c.new-train.result
     (ap (λ (t : TrainView). t.len) c.new-train.ensures))
 
 packets_is : goal.returns-clause-packets

@@ -7,14 +7,14 @@ use Rattle.mbuf_chain.specs.Owners.{Moves}
 use Rattle.mbuf_chain.specs.Train.{TrainView, numbers}
 use Rattle.mbuf_chain.proofs.Laws.Owners.{moves_none}
 use Rattle.mbuf_chain.proofs.Laws.Trains.{none_left}
-use Rattle.ip_out.specs.Packets.{packets}
+use Rattle.ip_out.specs.Packets.{train_packets}
 use Rattle.ip_out.proofs.Queues.{none_wait, packets_len}
 use Rattle.ip_out.proofs.queue.take_over.Goals as goal
 
 pub returns-clause-packets : goal.returns-clause-packets
 returns-clause-packets c =
-    let ys : List Item = packets c.args.pool.now c.args.more in
-    ap (packets c.args.pool.now) c.replace.ensures.after
+    let ys : List Item = train_packets c.args.pool.now c.args.more in
+    ap (train_packets c.args.pool.now) c.replace.ensures.after
     ∙ sym (ap (λ (xs : List Item). take OUTPUT_QUEUE_PACKETS (xs ++ ys))
     (none_wait c.args.pool.now c.args.train.now c.requires.none)
     ∙ take_all OUTPUT_QUEUE_PACKETS ys
@@ -22,7 +22,7 @@ returns-clause-packets c =
 
 pub returns-clause-lost : goal.returns-clause-lost
 returns-clause-lost c =
-    let ys : List Item = packets c.args.pool.now c.args.more in
+    let ys : List Item = train_packets c.args.pool.now c.args.more in
     sym (le-ltb _ _ (omega (
       arith,
       ap (λ (xs : List Item). length (xs ++ ys))

@@ -5,7 +5,7 @@ use Rattle.params.specs.declared.TheConstants.{OUTPUT_QUEUE_PACKETS}
 use Rattle.flat_model.specs.Amounts.Weight.{Item}
 use Rattle.mbuf_chain.specs.Chain.{chain_of}
 use Rattle.mbuf_chain.proofs.Laws.Owners.{moves_trans, moves_without}
-use Rattle.ip_out.specs.Packets.{packets, packets_of, AreBegunPlain}
+use Rattle.ip_out.specs.Packets.{train_packets, packets_of, AreBegunPlain}
 use Rattle.ip_out.proofs.Sends.{aside, aside_gone, all_fit}
 use Rattle.ip_out.proofs.sending.output.Goals as goal
 
@@ -48,9 +48,10 @@ returns-then-push_all-clause-err c =
     aside c.args.chain c.args.queue.now c.in-Ok.ensures.moves c.requires.live c.requires.queue.held c.requires.apart
     in
     let all : List Item =
-    packets c.args.pool.now c.args.queue.now
+    train_packets c.args.pool.now c.args.queue.now
     ++ packets_of (chain_of c.args.pool.now c.args.chain) c.args.head c.args.mtu in
-    let same : packets c.fragments.new.pool c.args.queue.now ++ packets c.fragments.new.pool c.in-Ok.packets ≡ all =
+    let same : train_packets c.fragments.new.pool c.args.queue.now ++ train_packets c.fragments.new.pool c.in-Ok.packets
+    ≡ all =
     λ i. a.same_packets i ++ c.in-Ok.ensures.packets i in
     let over : nat_lt OUTPUT_QUEUE_PACKETS (length all) ≡ true =
     sym (ap (λ (xs : List Item). nat_lt OUTPUT_QUEUE_PACKETS (length xs)) same) ∙ sym c.push_all.ensures.lost
@@ -79,9 +80,10 @@ returns-clause-ok c =
     aside c.args.chain c.args.queue.now c.in-Ok.ensures.moves c.requires.live c.requires.queue.held c.requires.apart
     in
     let all : List Item =
-    packets c.args.pool.now c.args.queue.now
+    train_packets c.args.pool.now c.args.queue.now
     ++ packets_of (chain_of c.args.pool.now c.args.chain) c.args.head c.args.mtu in
-    let same : packets c.fragments.new.pool c.args.queue.now ++ packets c.fragments.new.pool c.in-Ok.packets ≡ all =
+    let same : train_packets c.fragments.new.pool c.args.queue.now ++ train_packets c.fragments.new.pool c.in-Ok.packets
+    ≡ all =
     λ i. a.same_packets i ++ c.in-Ok.ensures.packets i in
     let within : nat_lt OUTPUT_QUEUE_PACKETS (length all) ≡ false =
     sym (ap (λ (xs : List Item). nat_lt OUTPUT_QUEUE_PACKETS (length xs)) same) ∙ sym c.push_all.ensures.lost

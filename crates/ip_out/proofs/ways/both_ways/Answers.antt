@@ -5,7 +5,7 @@ use Rattle.mbuf_chain.proofs.Laws.Owners.{moves_trans}
 use Rattle.mbuf_chain.proofs.Laws.Steps.{live_without, base_new}
 use Rattle.mbuf_chain.proofs.Laws.Trains.{beside_without}
 use Rattle.chain_ops.specs.Rooms.{room_low}
-use Rattle.ip_out.specs.Packets.{AreBegunPlain, IsDatagram, later_need, packets_of}
+use Rattle.ip_out.specs.Packets.{AreBegunPlain, IsDatagramChain, later_need, packets_of}
 use Rattle.ip_out.proofs.Copies.{copied, length_copied, first_sent, second_sent, then_freed, gone_whole, is_cut}
 use Rattle.ip_out.proofs.ways.both_ways.Goals as goal
 
@@ -32,7 +32,7 @@ fragments-requires-clause-datagram c =
     copied c.args.chain c.in-Ok.copy (room_low (chain_of c.args.pool.now c.args.chain).front.header)
     (chain_of c.args.pool.now c.args.chain).front.header c.args.head c.args.mtu c.in-Ok.ensures.ok
     c.requires.datagram.headed c.requires.live c.requires.datagram in
-    subst IsDatagram (sym copy.same) c.requires.datagram
+    subst IsDatagramChain (sym copy.same) c.requires.datagram
 
 pub free_chain-requires-in_default-fragments : goal.free_chain-requires-in_default-fragments
 free_chain-requires-in_default-fragments c =
@@ -71,7 +71,7 @@ fragments-requires-2-clause-datagram c =
     let first =
     first_sent c.args.chain c.in-Ok.copy c.in-Ok-fragments.link c.in-Ok-fragments.ensures.moves copy.copy copy.apart
     c.in-Ok-fragments.ensures.held in
-    subst IsDatagram (sym first.same) copy.datagram
+    subst IsDatagramChain (sym first.same) copy.datagram
 
 pub free-requires : goal.free-requires
 free-requires c =

@@ -117,7 +117,8 @@ returns-clause-gone c =
       counted c,
       c.clear-gone.ensures.gone,
       ap (λ (cs : List QueuedPacket). bytes_held (map fragment_in cs))
-          (changed c.args.pool.now c.trim_front.new.pool c.args.train.now c.args.chain _ c.requires.live c.requires.apart
+          (changed c.args.pool.now c.trim_front.new.pool c.args.train.now c.args.chain _ c.requires.live
+          c.requires.apart
           c.requires.held c.trim_front.ensures).queued_packets_are,
       c.len.ensures,
       c.saturating_sub-skip.ensures,

@@ -1,5 +1,5 @@
 use Rattle.std.proofs.Common.{◌≡◌, ◌+◌, ℕ, drop, refl, sym, ◌∙◌, subst, arith}
-use Rattle.ip_reass.specs.Fragments.{fragments, end_of}
+use Rattle.ip_reass.specs.Fragments.{fragments, end_of_fragment}
 use Rattle.ip_reass.specs.Inside.Walks.{AllAbove, fragment_at}
 use Rattle.ip_reass.proofs.Steps.{begin_is, end_is}
 use Rattle.ip_reass.proofs.Walks.{Found, found_none, found_more, length-fragments, end_at, above_from}
@@ -24,7 +24,7 @@ returns-then-begin-offset-clause-above c =
 
 ended : (c : goal.After-len_at)
     → c.begins-begin.result + c.len_at.result
-    ≡ end_of (fragment_at (fragments c.args.pool.now c.args.train.now) c.in-Some.at.index)
+    ≡ end_of_fragment (fragment_at (fragments c.args.pool.now c.args.train.now) c.in-Some.at.index)
 ended c =
     end_is c.args.pool.now c.args.train.now c.in-Some.at.index c.begins-begin.result c.len_at.result c.requires.held
     c.in-Some.ensures.1.within c.begins-begin.ensures c.len_at.ensures
@@ -47,7 +47,8 @@ fragments-preserved c =
     record {
       place = c.in-Some.ensures.1;
       found =
-          found_more c.args.offset c.in-Some.at.index (c.in-Some.at.index + 1) c.begins-begin.result c.fragments.found.end
+          found_more c.args.offset c.in-Some.at.index (c.in-Some.at.index + 1) c.begins-begin.result
+          c.fragments.found.end
           (c.begins-begin.result + c.len_at.result) (fragments c.args.pool.now c.args.train.now)
           (subst (λ (n : ℕ). Found c.args.offset n c.fragments.found.end (fragments c.args.pool.now c.args.train.now))
           (sym c.in-Some.ensures.0) c.fragments.invariant.found) (omega arith)

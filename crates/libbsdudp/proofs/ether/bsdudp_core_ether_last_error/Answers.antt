@@ -1,5 +1,5 @@
 use Rattle.std.proofs.Common.{subst}
-use Rattle.ether_host.specs.Inside.{seen}
+use Rattle.ether_host.specs.Inside.{link_seen}
 use Rattle.libbsdudp.specs.Ether.{TellsError, both}
 use Rattle.libbsdudp.specs.Held.{Boxed}
 use Rattle.libbsdudp.specs.LinkHeld as link
@@ -12,9 +12,9 @@ returns c =
     (record { sfits = c.last_error-answer.type_inv })
     c.in-Some.ensures.taken c.in-Some-take.ensures.taken c.put-2.ensures c.put-3.ensures
     (subst (λ (x : Boxed). TellsError c.args.fd c.last_error-answer.result
-    (both x.stack (seen c.in-Some-take.layer.value.layer))
-    (both x.stack (seen c.last_error-answer.new.layer))) c.deref.ensures
-    (subst (λ (y : link.Boxed). TellsError c.args.fd c.last_error-answer.result
-    (both c.deref.result.now.stack (seen y.layer))
+    (both x.stack (link_seen c.in-Some-take.layer.value.layer))
+    (both x.stack (link_seen c.last_error-answer.new.layer))) c.deref.ensures
+    (subst (λ (y : link.LinkBoxed). TellsError c.args.fd c.last_error-answer.result
+    (both c.deref.result.now.stack (link_seen y.layer))
     (both c.deref.result.now.stack
-    (seen c.last_error-answer.new.layer))) c.deref_mut.ensures.value c.last_error-answer.ensures))
+    (link_seen c.last_error-answer.new.layer))) c.deref_mut.ensures.value c.last_error-answer.ensures))

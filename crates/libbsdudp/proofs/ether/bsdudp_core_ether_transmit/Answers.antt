@@ -1,5 +1,5 @@
 use Rattle.std.proofs.Common.{subst}
-use Rattle.ether_host.specs.Inside.{seen}
+use Rattle.ether_host.specs.Inside.{link_seen}
 use Rattle.libbsdudp.specs.Ether.{IsFramed, both}
 use Rattle.libbsdudp.specs.Held.{Boxed}
 use Rattle.libbsdudp.specs.LinkHeld as link
@@ -12,9 +12,9 @@ returns c =
     (record { sfits = c.transmit-answer.type_inv })
     c.in-Some.ensures.taken c.in-Some-take.ensures.taken c.put-2.ensures c.put-3.ensures
     (subst (λ (x : Boxed). IsFramed c.args.room.now c.transmit-answer.new.room c.transmit-answer.result
-    (both x.stack (seen c.in-Some-take.layer.value.layer))
-    (both c.transmit-answer.new.stack (seen c.transmit-answer.new.layer))) c.deref_mut.ensures.value
-    (subst (λ (y : link.Boxed). IsFramed c.args.room.now c.transmit-answer.new.room c.transmit-answer.result
-    (both c.deref_mut.result.now.stack (seen y.layer))
+    (both x.stack (link_seen c.in-Some-take.layer.value.layer))
+    (both c.transmit-answer.new.stack (link_seen c.transmit-answer.new.layer))) c.deref_mut.ensures.value
+    (subst (λ (y : link.LinkBoxed). IsFramed c.args.room.now c.transmit-answer.new.room c.transmit-answer.result
+    (both c.deref_mut.result.now.stack (link_seen y.layer))
     (both c.transmit-answer.new.stack
-    (seen c.transmit-answer.new.layer))) c.deref_mut-2.ensures.value c.transmit-answer.ensures))
+    (link_seen c.transmit-answer.new.layer))) c.deref_mut-2.ensures.value c.transmit-answer.ensures))

@@ -18,7 +18,8 @@ returns c =
     ∙ ap₂ with_rule (c.in_ok-arg-2.ensures.shape c.option-2.ensures.local
     ∙ ap₂ with_rule (c.in_ok-arg.ensures.shape c.option.ensures.local
     ∙ ap₂ with_rule bare_run c.option.ensures.rule)
-    c.option-2.ensures.rule) c.option-3.ensures.rule) c.option-4.ensures.rule) c.option-5.ensures.rule) c.option-6.ensures.rule in
+    c.option-2.ensures.rule) c.option-3.ensures.rule) c.option-4.ensures.rule) c.option-5.ensures.rule)
+    c.option-6.ensures.rule in
     let bare_chain : app_of c.disable_version_flag-2.result ≡ bare_app (codes "chain") =
     rw (c.disable_version_flag-2.ensures, c.disable_help_flag-2.ensures)
     (ap (λ (a : App). record a { top = record a.top { disable_help_flag = true; disable_version_flag = true } })

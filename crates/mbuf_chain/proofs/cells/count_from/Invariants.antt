@@ -1,10 +1,10 @@
 use Rattle.std.proofs.Common.{◌≡◌, ◌+◌, Some}
-use Rattle.mbuf_chain.specs.Inside.Cells.{IsWhole, cells_from, weigh, one}
+use Rattle.mbuf_chain.specs.Inside.Cells.{LeadsToEnd, cells_from, weigh, one}
 use Rattle.mbuf_chain.proofs.cells.count_from.Given as goal
 
 abbrev pub invariant-mbufs : goal.invariant-mbufs
 invariant-mbufs l = record {
-  whole : IsWhole l.store l.at;
+  whole : LeadsToEnd l.store l.at;
   sum : l.total + weigh one (cells_from l.store l.at) ≡ weigh one (cells_from l.store (Some l.fn.first));
 }
 

@@ -32,7 +32,7 @@ returns-clause-change c =
     c.resize.ensures.change
     ∙ ap (λ (h : Head). with_chain (pool_of s) c.args.first
     (with_entry (chain_of (pool_of s) c.args.first) at.index
-    (entry_from s at.cell (with_segment (Rattle.mbuf_pool.specs.Store.head_of s at.cell) (h.start + c.args.skip)
+    (entry_from s at.cell (with_segment (Rattle.mbuf_pool.specs.Store.mbuf_head s at.cell) (h.start + c.args.skip)
     c.args.keep)))) c.head-head.ensures.value
     ∙ ap (λ (e : Entry). with_chain (pool_of s) c.args.first
     (with_entry (chain_of (pool_of s) c.args.first) at.index e)) (narrowed_is s c.args.first c.args.skip c.args.keep

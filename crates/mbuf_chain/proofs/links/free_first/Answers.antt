@@ -1,6 +1,6 @@
 use Rattle.std.proofs.Common.{ℕ, Option, Some, sym, subst, ◌∙◌}
 use Rattle.std.specs.Option.{IsSome}
-use Rattle.mbuf_pool.specs.Store.{StoreView, head_of}
+use Rattle.mbuf_pool.specs.Store.{StoreView, mbuf_head}
 use Rattle.mbuf_chain.specs.Inside.Cells.{cells_from, Freed}
 use Rattle.mbuf_chain.proofs.Drops.{Dropped, dropped, first_ready, next_some}
 use Rattle.mbuf_chain.proofs.links.free_first.Goals as goal
@@ -22,7 +22,7 @@ left c =
     dropped c.args.store.now c.free_mbuf.new.store c.args.first c.unwrap.result c.requires.pool c.requires.live
     (sym c.free_mbuf.ensures.next ∙ c.unwrap.ensures)
     (subst (λ (t : StoreView). Freed c.args.store.now t (cells_from c.args.store.now (Some c.args.first))
-    (cells_from c.args.store.now (head_of c.args.store.now c.args.first).next)) (sym
+    (cells_from c.args.store.now (mbuf_head c.args.store.now c.args.first).next)) (sym
     c.free_mbuf.ensures.freed) (first_ready c.args.store.now c.args.first c.requires.pool c.requires.live).freed)
     c.free_mbuf.ensures.store
 

@@ -72,7 +72,8 @@ returns-in-Ok-take-clause-ok c = (
       c.args.start c.args.bytes.now c.requires.pool c.in-Ok.ensures.ok
       (was_unreferenced _ _ _ c.requires.pool c.in-Ok.ensures.ok)
       (subst (λ (h : Head). Taken c.get_cluster.new.self c.take.new.store c.in-Ok-take.cell h) c.head_for.ensures
-      c.in-Ok-take.ensures.ok) c.take.ensures.store c.requires.high).done c.write_in.new.store c.write_in.ensures.writes,
+      c.in-Ok-take.ensures.ok) c.take.ensures.store c.requires.high).done c.write_in.new.store
+      c.write_in.ensures.writes,
 )
 
 pub returns-in-Err-clause-err : goal.returns-in-Err-clause-err

@@ -51,7 +51,8 @@ pub returns-in-Ok-clause-ok : goal.returns-in-Ok-clause-ok
 returns-in-Ok-clause-ok c =
     (blank _ _ c.in-Ok.cell c.args.header c.args.start c.args.bytes.now c.requires.pool
     (subst (λ (h : Head). Taken c.args.store.now c.take.new.store c.in-Ok.cell h) c.head_for.ensures
-    c.in-Ok.ensures.ok) c.take.ensures.store c.requires.low c.requires.high).done c.write_in.new.store c.write_in.ensures.writes
+    c.in-Ok.ensures.ok) c.take.ensures.store c.requires.low c.requires.high).done c.write_in.new.store
+    c.write_in.ensures.writes
 
 pub returns-in-Ok-clause-free : goal.returns-in-Ok-clause-free
 returns-in-Ok-clause-free c = one_free _ _ _ _ c.requires.pool c.in-Ok.ensures.ok

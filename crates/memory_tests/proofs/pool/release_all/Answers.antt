@@ -1,6 +1,6 @@
 use Rattle.std.proofs.Common.{ℕ, ◌≢◌, ◌<◌, ◌∙◌, ap, sym, subst, arith, length}
 use Rattle.std.proofs.lemmas.List.{length-set}
-use Rattle.mbuf_pool.specs.Store.{StoreView, ClusterView, cluster_of, count_of, released}
+use Rattle.mbuf_pool.specs.Store.{StoreView, ClusterView, cluster_of, cluster_count, released}
 use Rattle.mbuf_pool.proofs.Laws.{all_counted, cluster_other}
 use Rattle.memory_tests.proofs.pool.release_all.Goals as goal
 
@@ -16,7 +16,7 @@ loop-cluster-preserved c =
       λ k low below.
           let ne : k ≢ i = omega arith in
           let same =
-          ap (λ (v : StoreView). count_of v k) c.release.ensures.change
+          ap (λ (v : StoreView). cluster_count v k) c.release.ensures.change
           ∙ ap (λ (v : ClusterView). v.count) (cluster_other s i k (released (cluster_of s i)) ne) in
           subst (λ (n : ℕ). 0 < n) (sym same) (c.loop-cluster.invariant.1 k (omega arith) below),
     )

@@ -28,9 +28,9 @@ pub returns-clause-sized : goal.returns-clause-sized
 returns-clause-sized c =
     let bytes = c.args.bytes.now in
     let at : c.first_u32-fraction.result.1.now ≡ drop 8 bytes =
-        c.first_u32-fraction.ensures.behind ∙ ap (drop 4) c.first_u32-seconds.ensures.behind ∙ drop-drop 4 4 bytes in
+    c.first_u32-fraction.ensures.behind ∙ ap (drop 4) c.first_u32-seconds.ensures.behind ∙ drop-drop 4 4 bytes in
     let is : c.first_u32-captured.result.0 ≡ number_of c.args.order w32 (drop 8 bytes) =
-        c.first_u32-captured.ensures.number ∙ ap (number_of c.args.order w32) at in
+    c.first_u32-captured.ensures.number ∙ ap (number_of c.args.order w32) at in
     let one = ap length c.first_u32-seconds.ensures.behind ∙ length-drop 4 bytes in
     let two = ap length c.first_u32-fraction.ensures.behind ∙ length-drop 4 c.first_u32-seconds.result.1.now in
     let three = ap length c.first_u32-captured.ensures.behind ∙ length-drop 4 c.first_u32-fraction.result.1.now in

@@ -1,14 +1,14 @@
 use Rattle.std.proofs.Common.{◌≡◌, ◌+◌, ◌++◌, length, drop, map, Ok}
 use Rattle.std.specs.List.{AllByRecursion}
 use Rattle.pcap.specs.File.{header_of}
-use Rattle.pcap.specs.Records.{Fits, records_bytes}
+use Rattle.pcap.specs.Records.{FitsFields, records_bytes}
 use Rattle.pcap.specs.Seen.{captured}
 use Rattle.pcap.proofs.reader.read_all.Given as goal
 
 abbrev pub invariant-loop-records : goal.invariant-loop-records
 invariant-loop-records l = record {
   read : header_of l.file ≡ Ok l.reader.header;
-  fit : AllByRecursion Fits (map captured l.records.items);
+  fit : AllByRecursion FitsFields (map captured l.records.items);
   bytes_are : drop 24 l.file ≡ records_bytes l.reader.header.order (map captured l.records.items) ++ l.reader.rest;
   offset_is : l.reader.offset ≡ 24 + length (records_bytes l.reader.header.order (map captured l.records.items));
 }

@@ -1,5 +1,5 @@
 use Rattle.std.proofs.Common.{List, ℕ, ◌++◌, ap, ap₂, ◌∙◌}
-use Rattle.play_pcap.specs.Told.{outcome_text}
+use Rattle.play_pcap.specs.Told.{capture_text}
 use Rattle.play_script.proofs.replay.tell_capture.Goals as goal
 
 pub returns-clause-plays : goal.returns-clause-plays
@@ -11,7 +11,7 @@ returns-clause-plays g c = (
   c.snapshot_of-before.ensures,
   c.snapshot_of-after.ensures,
   c.append.ensures.items ∙ ap₂ (λ (a b : List ℕ). a ++ b)
-      (c.put_outcome.ensures.items ∙ ap (λ (t : List ℕ). t ++ outcome_text c.play_in-outcome.result) c.clear.ensures)
+      (c.put_outcome.ensures.items ∙ ap (λ (t : List ℕ). t ++ capture_text c.play_in-outcome.result) c.clear.ensures)
       (c.bytes_of.ensures.is ∙ c.put_drops.ensures),
   c.put_below.ensures,
 )

@@ -1,13 +1,13 @@
 use Rattle.std.proofs.Common.{sym}
 use Rattle.play_script.proofs.RunLemmas.{Serves-started}
-use Rattle.stack_call.specs.Moves.{Moves}
+use Rattle.stack_call.specs.Moves.{StackSteps}
 use Rattle.net_stack.specs.Stack.{state_of}
 use Rattle.play_script.proofs.runs.play_machine.Goals as goal
 
 pub returns-clause-served : goal.returns-clause-served
 returns-clause-served g c =
     let printer = c.in-Ok.parts.printer in
-    Serves-started Moves g.F.Folder.may_have (state_of c.args.booted.0) c.args.booted.1.trace c.end-trace.result
+    Serves-started StackSteps g.F.Folder.may_have (state_of c.args.booted.0) c.args.booted.1.trace c.end-trace.result
     c.args.booted.1.config
     printer.number printer.sound printer.form c.args.style.form printer.name _ _ _ _ _ _ c.serve_script-outcome.result
     (sym c.requires)

@@ -1,6 +1,6 @@
 use Rattle.std.proofs.Common.{◌≡◌, ℕ, List, Option, ap, ◌∙◌}
 use Rattle.net_stack.specs.Stack.{state_of}
-use Rattle.request.specs.Replies.{packet_of, reply_of}
+use Rattle.request.specs.Replies.{packet_behind, reply_of}
 use Rattle.play_script.specs.Deeds.{below_text}
 use Rattle.play_script.proofs.CaptureLemmas.{Captures-deed}
 use Rattle.play_script.proofs.tell.tell_deed.Goals as goal
@@ -17,7 +17,7 @@ returns-clause-done g c =
       does = c.do_deed-reply.ensures.does;
       captured =
           Captures-deed c.args.capture.now.line c.args.capture.now.trace c.note.new.self.trace
-          c.args.deed reply (packet_of c.moved_by-moved.result) c.ticks_of.result c.moved_by-moved.ensures.packet
+          c.args.deed reply (packet_behind c.moved_by-moved.result) c.ticks_of.result c.moved_by-moved.ensures.packet
           c.ticks_of.ensures c.note.ensures.notes;
       was = c.snapshot_of-before.ensures;
       now = c.snapshot_of-after.ensures;

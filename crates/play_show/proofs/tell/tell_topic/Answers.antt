@@ -1,9 +1,9 @@
 use Rattle.std.proofs.Common.{List, ℕ, ◌++◌, codes, ap, ◌∙◌}
-use Rattle.stack_call.specs.Moves.{Moves}
+use Rattle.stack_call.specs.Moves.{StackSteps}
 use Rattle.play_show.proofs.tell.tell_topic.Goals as goal
 
 pub returns-in-Counters : goal.returns-in-Counters
-unfolding Moves
+unfolding StackSteps
 returns-in-Counters c = rw c.in-Counters.is (
   c.counters.result,
   c.counters.ensures,

@@ -1,7 +1,7 @@
 use Rattle.std.proofs.Common.{[], map, inl, inr, refl}
 use Rattle.segment.specs.Inside.{view}
 use Rattle.segment.specs.Law.{Calls}
-use Rattle.play_script.specs.Views.{plain_of}
+use Rattle.play_script.specs.Views.{plain_line}
 use Rattle.play_wire.specs.Inside.{came_of}
 use Rattle.play_wire.proofs.HostLemmas.{host_line}
 use Rattle.play_wire.proofs.host_line.answer_host.Goals as goal
@@ -10,7 +10,7 @@ pub returns-then-exchange : goal.returns-then-exchange
 returns-then-exchange c =
     let said = c.answer_stack-outcome.ensures in (
       map (Calls c.args.place) said.0,
-      inl (host_line c.args.place (plain_of c.args.line.now) (view c.args.segment.now) (view c.exchange.new.segment)
+      inl (host_line c.args.place (plain_line c.args.line.now) (view c.args.segment.now) (view c.exchange.new.segment)
           (view c.exchange-then-exchange.new.segment) c.args.spare.now.stack c.exchange.new.stack
           c.answer_stack-outcome.new.stack
           c.exchange-then-exchange.new.stack

@@ -5,23 +5,23 @@ use Rattle.flat_model.specs.Scripts.Texts.{reply_text}
 use Rattle.flat_model.specs.declared.counters.Counters.{Counters}
 use Rattle.request.specs.Replies.{reply_of}
 use Rattle.request.specs.Requests.{event_of}
-use Rattle.stack_call.specs.Moves.{Moves}
+use Rattle.stack_call.specs.Moves.{StackSteps}
 use Rattle.play_read.specs.Asks as asks
 use Rattle.play_read.specs.Asks.{AsksFor}
 use Rattle.play_read.specs.Views.{ask_of}
 use Rattle.play_read.specs.declared.ask.Ask.{Ask}
 use Rattle.play_script.specs.Outcomes.{drops_text, told}
-use Rattle.play_script.specs.Views.{plain_of}
-use Rattle.play_wire.specs.Acts.{Told, turn_of}
+use Rattle.play_script.specs.Views.{plain_line}
+use Rattle.play_wire.specs.Acts.{Told, call_turn}
 use Rattle.play_wire.proofs.HostLemmas.{answered_by_call, counted_is}
 use Rattle.play_wire.proofs.host_line.answer_stack.Goals as goal
 
 pub returns-in-Call : goal.returns-in-Call
-unfolding Moves
+unfolding StackSteps
 returns-in-Call c =
-    let asked : AsksFor (plain_of c.args.line.now) (Some (asks.Call (event_of c.in-Call.request))) =
-    subst (λ (a : Ask). AsksFor (plain_of c.args.line.now) (Some (ask_of a))) c.in-Call.is c.in-Some.ensures.asks in
-    answered_by_call (plain_of c.args.line.now) c.args.stack.now c.call-reply.new.stack c.tell_reply.new.self.told
+    let asked : AsksFor (plain_line c.args.line.now) (Some (asks.Call (event_of c.in-Call.request))) =
+    subst (λ (a : Ask). AsksFor (plain_line c.args.line.now) (Some (ask_of a))) c.in-Call.is c.in-Some.ensures.asks in
+    answered_by_call (plain_line c.args.line.now) c.args.stack.now c.call-reply.new.stack c.tell_reply.new.self.told
     c.tell_reply.new.self.below
     (event_of c.in-Call.request) (reply_of c.call-reply.result) asked c.call-reply.ensures.step
     (c.tell_reply.ensures.told
@@ -32,9 +32,9 @@ returns-in-Call c =
 pub returns-in-Ticks : goal.returns-in-Ticks
 returns-in-Ticks c =
     let n = c.in-Ticks.count in
-    let asked : AsksFor (plain_of c.args.line.now) (Some (asks.Ticks c.in-Ticks.count)) =
-    subst (λ (a : Ask). AsksFor (plain_of c.args.line.now) (Some (ask_of a))) c.in-Ticks.is c.in-Some.ensures.asks in (
-      replicate n (turn_of Tick Done),
+    let asked : AsksFor (plain_line c.args.line.now) (Some (asks.Ticks c.in-Ticks.count)) =
+    subst (λ (a : Ask). AsksFor (plain_line c.args.line.now) (Some (ask_of a))) c.in-Ticks.is c.in-Some.ensures.asks in (
+      replicate n (call_turn Tick Done),
       (
         Some (asks.Ticks n),
         asked,
@@ -44,10 +44,10 @@ returns-in-Ticks c =
     )
 
 pub returns-in-Show : goal.returns-in-Show
-unfolding Moves
+unfolding StackSteps
 returns-in-Show c =
-    let asked : AsksFor (plain_of c.args.line.now) (Some (asks.Show c.in-Show.topic)) =
-    subst (λ (a : Ask). AsksFor (plain_of c.args.line.now) (Some (ask_of a))) c.in-Show.is c.in-Some.ensures.asks in (
+    let asked : AsksFor (plain_line c.args.line.now) (Some (asks.Show c.in-Show.topic)) =
+    subst (λ (a : Ask). AsksFor (plain_line c.args.line.now) (Some (ask_of a))) c.in-Show.is c.in-Some.ensures.asks in (
       [],
       (
         Some (asks.Show c.in-Show.topic),
@@ -60,15 +60,17 @@ returns-in-Show c =
 pub returns-in-Capture : goal.returns-in-Capture
 returns-in-Capture c =
     let capture = c.in-Capture.field-0 in
-    let asked : AsksFor (plain_of c.args.line.now)
+    let asked : AsksFor (plain_line c.args.line.now)
     (Some (asks.Capture c.in-Capture.field-0.name.now c.in-Capture.field-0.details)) =
-    subst (λ (a : Ask). AsksFor (plain_of c.args.line.now) (Some (ask_of a))) c.in-Capture.is c.in-Some.ensures.asks in
+    subst (λ (a : Ask). AsksFor (plain_line c.args.line.now) (Some (ask_of a))) c.in-Capture.is c.in-Some.ensures.asks
+    in
     ([], (Some (asks.Capture capture.name.now capture.details), asked, refl, (refl, refl)))
 
 pub returns-in-Settings : goal.returns-in-Settings
 returns-in-Settings c =
-    let asked : AsksFor (plain_of c.args.line.now) (Some (asks.Settings (words c.in-Settings.field-0.now))) =
-    subst (λ (a : Ask). AsksFor (plain_of c.args.line.now) (Some (ask_of a))) c.in-Settings.is c.in-Some.ensures.asks in
+    let asked : AsksFor (plain_line c.args.line.now) (Some (asks.Settings (words c.in-Settings.field-0.now))) =
+    subst (λ (a : Ask). AsksFor (plain_line c.args.line.now) (Some (ask_of a))) c.in-Settings.is c.in-Some.ensures.asks
+    in
     ([], (Some (asks.Settings (words c.in-Settings.field-0.now)), asked, refl, (refl, refl)))
 
 pub returns-in_default : goal.returns-in_default

@@ -1,14 +1,14 @@
 use Rattle.std.proofs.Common.{refl}
 use Rattle.segment.specs.Inside.{view}
-use Rattle.play_script.specs.Views.{plain_of}
+use Rattle.play_script.specs.Views.{plain_line}
 use Rattle.play_wire.specs.Inside.{came_of}
 use Rattle.play_wire.proofs.PlayLemmas.{done_by_host, done_by_nobody, done_by_none, done_by_wire, tells_left}
 use Rattle.play_wire.proofs.player.answer_words.Goals as goal
 
 pub returns-in-Some : goal.returns-in-Some
 returns-in-Some g c play e f =
-    done_by_host play c.args.target.now.named c.args.target.now.host (plain_of c.args.line.now)
-    (plain_of c.args.line.now)
+    done_by_host play c.args.target.now.named c.args.target.now.host (plain_line c.args.line.now)
+    (plain_line c.args.line.now)
     (came_of c.answer_host.result c.answer_host.new.report.told c.answer_host.new.report.below)
     (view c.args.hosts.now.segment)
     (view c.answer_host.new.segment) c.args.hosts.now.names.items c.in-Some.place e f c.if-target.true c.in-Some.ensures
@@ -16,13 +16,13 @@ returns-in-Some g c play e f =
 
 pub returns-in-None : goal.returns-in-None
 returns-in-None g c play e f =
-    done_by_none play c.args.target.now.named c.args.target.now.host (plain_of c.args.line.now)
+    done_by_none play c.args.target.now.named c.args.target.now.host (plain_line c.args.line.now)
     (view c.args.hosts.now.segment)
     c.args.hosts.now.names.items e f c.if-target.true
 
 pub returns-then-line : goal.returns-then-line
 returns-then-line g c play e f =
-    done_by_nobody play c.args.target.now.named c.args.target.now.host (plain_of c.args.line.now)
+    done_by_nobody play c.args.target.now.named c.args.target.now.host (plain_line c.args.line.now)
     (view c.args.hosts.now.segment) c.args.hosts.now.names.items e f c.if-target.false
 
 pub returns-else-line : goal.returns-else-line

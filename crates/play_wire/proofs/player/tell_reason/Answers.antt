@@ -1,8 +1,8 @@
 use Rattle.std.proofs.Common.{◌≡◌, ℕ, List, Option, refl, sym, subst}
 use Rattle.play_forms.specs.Advice.{IsAdvised}
 use Rattle.play_forms.specs.declared.advice.Player.{Player}
-use Rattle.play_wire.specs.Faults.{IsReason, words_of}
-use Rattle.play_script.specs.Views.{plain_of}
+use Rattle.play_wire.specs.Faults.{IsReason, wire_fault_words}
+use Rattle.play_script.specs.Views.{plain_line}
 use Rattle.play_wire.specs.Inside.{named_by}
 use Rattle.play_wire.specs.declared.fault.Fault.{Fault}
 use Rattle.play_wire.specs.declared.fault.Fault.TheVariants.{Nothing, NoHost, NoName, NameTaken, Setting, TooManyHosts, AddressTaken, NoWire, Wired, NotAll, NoChance, NoPacket, NoCapture, NoSettings}
@@ -10,7 +10,7 @@ use Rattle.play_wire.proofs.player.tell_reason.Goals as goal
 
 -- the words of a line that asks for something
 reason_of : (host : Option (List ℕ)) (plain : List ℕ) (fault : Fault) (what : List ℕ) → (fault ≡ Nothing → ⊥)
-    → what ≡ words_of fault → IsReason host plain fault what
+    → what ≡ wire_fault_words fault → IsReason host plain fault what
 reason_of host plain Nothing what some is = absurd (some refl)
 reason_of host plain NoHost what some is = is
 reason_of host plain NoName what some is = is
@@ -29,13 +29,13 @@ reason_of host plain (Setting fault) what some is = is
 pub returns-in-Nothing-clause-reason : goal.returns-in-Nothing-clause-reason
 returns-in-Nothing-clause-reason c =
     subst
-    (λ (f : Fault). IsReason (named_by c.args.target.now) (plain_of c.args.line.now) f c.tell_advice.new.self.told)
+    (λ (f : Fault). IsReason (named_by c.args.target.now) (plain_line c.args.line.now) f c.tell_advice.new.self.told)
     (sym c.in-Nothing.is)
-    (subst (λ (p : Player). IsAdvised p (plain_of c.args.line.now) c.tell_advice.new.self.told) c.advised_by.ensures
+    (subst (λ (p : Player). IsAdvised p (plain_line c.args.line.now) c.tell_advice.new.self.told) c.advised_by.ensures
     c.tell_advice.ensures.advised)
 
 pub returns-in_default-clause-reason : goal.returns-in_default-clause-reason
 returns-in_default-clause-reason c =
-    reason_of (named_by c.args.target.now) (plain_of c.args.line.now) c.args.fault c.tell_words.new.report.told
+    reason_of (named_by c.args.target.now) (plain_line c.args.line.now) c.args.fault c.tell_words.new.report.told
     c.in_default.not-Nothing
     c.tell_words.ensures.told

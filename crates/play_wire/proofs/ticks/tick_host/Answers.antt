@@ -1,7 +1,7 @@
 use Rattle.std.proofs.Common.{replicate}
 use Rattle.flat_model.specs.Machine.Event.{Tick, Done}
 use Rattle.segment.specs.Inside.{view}
-use Rattle.play_wire.specs.Acts.{turn_of}
+use Rattle.play_wire.specs.Acts.{call_turn}
 use Rattle.play_wire.proofs.ActLemmas.{calls_move}
 use Rattle.play_wire.proofs.ticks.tick_host.Goals as goal
 
@@ -11,5 +11,5 @@ returns-then-exchange c =
     (view c.exchange-then-exchange.new.segment)
     c.args.spare.now c.exchange.new.stack c.tick_stack.new.stack c.exchange-then-exchange.new.stack
     c.exchange-then-exchange.result
-    (replicate c.args.count (turn_of Tick Done)) (c.exchange.ensures.yes c.if-exchange.true) c.tick_stack.ensures
+    (replicate c.args.count (call_turn Tick Done)) (c.exchange.ensures.yes c.if-exchange.true) c.tick_stack.ensures
     c.exchange-then-exchange.ensures

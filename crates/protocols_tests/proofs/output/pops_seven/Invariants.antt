@@ -1,5 +1,5 @@
-use Rattle.ip_out.specs.Queues.{IsQueue}
+use Rattle.ip_out.specs.Queues.{IsOutputQueue}
 use Rattle.protocols_tests.proofs.output.pops_seven.Given as goal
 
 abbrev pub invariant-packets : goal.invariant-packets
-invariant-packets g l = IsQueue l.pool l.queue
+invariant-packets g l = IsOutputQueue l.pool l.queue

@@ -1,7 +1,7 @@
 use Rattle.std.proofs.Common.{◌∙◌, ap, arith}
 use Rattle.std.specs.Prelude.{vec_capacity}
 use Rattle.net_stack.specs.Runs.{AreCalls}
-use Rattle.segment.specs.Flying.{gives, sent_by, waiting}
+use Rattle.segment.specs.Flying.{transmits_of, sent_by, waiting}
 use Rattle.segment.specs.Segment.{given_below}
 use Rattle.segment.specs.Inside.{under_way}
 use Rattle.segment.proofs.Entering.{entered_more}
@@ -16,7 +16,8 @@ loop-place-preserved c =
     let t = c.take_all.new.stack in
     record {
       walked =
-          walk_on (λ place x y. AreCalls x (gives (waiting x)) y) c.args.stacks.now.items c.loop-place.stacks.items
+          walk_on (λ place x y. AreCalls x (transmits_of (waiting x)) y) c.args.stacks.now.items
+          c.loop-place.stacks.items
           c.loop-place.place s t s inv.walked (omega arith) c.index_mut.ensures.value c.take_all.ensures.calls;
       entered =
           entered_more (vec_capacity c.args.flight.now.frames) (vec_capacity c.loop-place.flight.frames)
@@ -40,5 +41,5 @@ loop-place-preserved c =
 
 pub returns-clause-hosts : goal.returns-clause-hosts
 returns-clause-hosts c =
-    walk_ends (λ place x y. AreCalls x (gives (waiting x)) y) c.args.stacks.now.items c.loop-place.stacks.items
+    walk_ends (λ place x y. AreCalls x (transmits_of (waiting x)) y) c.args.stacks.now.items c.loop-place.stacks.items
     c.loop-place.place c.loop-place.invariant.walked (omega arith)

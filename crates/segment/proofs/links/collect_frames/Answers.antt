@@ -2,11 +2,11 @@ use Rattle.std.proofs.Common.{◌≡◌, ◌∙◌, ◌<◌, ◌≤◌, ℕ, len
 use Rattle.std.specs.Prelude.{vec_capacity}
 use Rattle.std.proofs.Math.ListN.{length-set}
 use Rattle.flat_ether.specs.Hosts.{Host}
-use Rattle.ether_host.specs.Inside.{seen}
+use Rattle.ether_host.specs.Inside.{link_seen}
 use Rattle.ether_host.specs.View.{halves}
 use Rattle.segment.specs.Flying.{sent_by}
 use Rattle.segment.specs.Frames.{frames_below, frames_given, hosts_of}
-use Rattle.segment.specs.Inside.{behind, random_after, tallies_after, under_way}
+use Rattle.segment.specs.Inside.{sent_behind, random_after, tallies_after, under_way}
 use Rattle.segment.specs.declared.links.TheConstants.{FRAMES}
 use Rattle.segment.proofs.Entering.{entered_more}
 use Rattle.segment.proofs.Framing.{below_by, below_past, hosts_length, walked_by, walked_past}
@@ -21,7 +21,7 @@ pub loop-place-preserved : goal.loop-place-preserved
 loop-place-preserved c =
     let inv = c.loop-place.invariant in
     let place = c.loop-place.place in
-    let old = hosts_of c.args.stacks.now.items (map seen c.args.links.now.items) in
+    let old = hosts_of c.args.stacks.now.items (map link_seen c.args.links.now.items) in
     let stacks = c.loop-place.stacks.items in
     let links = c.loop-place.links.items in
     let now = c.if-place-len in
@@ -44,7 +44,7 @@ loop-place-preserved c =
                 c.args.impairment.now.random c.loop-place.impairment.random now.impairment.random
                 c.args.impairment.now.tallies.items c.loop-place.impairment.tallies.items
                 now.impairment.tallies.items (frames_below old place)
-                (sent_by place (frames_given FRAMES (halves s (seen l))).0) _ inv.room
+                (sent_by place (frames_given FRAMES (halves s (link_seen l))).0) _ inv.room
                 (ap (λ v. v.items) inv.chances) inv.entered
                 (record {
                   tallies = ap (λ v. v.tallies.items) w.impairment-is ∙ w.take_frames.ensures.tallies;
@@ -69,7 +69,7 @@ loop-place-preserved c =
               tallies = ap (λ v. v.tallies.items) w.impairment-is ∙ inv.entered.tallies
                   ∙ ap (λ fs. tallies_after c.args.impairment.now fs) (sym none);
               taken = ap (λ v. under_way v) w.flight-is ∙ inv.entered.taken
-                  ∙ ap (λ fs. behind c.args.flight.now c.args.impairment.now fs) (sym none);
+                  ∙ ap (λ fs. sent_behind c.args.flight.now c.args.impairment.now fs) (sym none);
               random = ap (λ v. v.random) w.impairment-is ∙ inv.entered.random
                   ∙ ap (λ fs. random_after c.args.impairment.now fs) (sym none);
             };
@@ -85,19 +85,19 @@ all_walked c = omega (arith, c.loop-place.invariant.end)
 
 pub returns-clause-taken : goal.returns-clause-taken
 returns-clause-taken c =
-    let old = hosts_of c.args.stacks.now.items (map seen c.args.links.now.items) in
+    let old = hosts_of c.args.stacks.now.items (map link_seen c.args.links.now.items) in
     c.loop-place.invariant.entered.taken
-    ∙ ap (λ n. behind c.args.flight.now c.args.impairment.now (frames_below old n)) (all_walked c)
+    ∙ ap (λ n. sent_behind c.args.flight.now c.args.impairment.now (frames_below old n)) (all_walked c)
 
 pub returns-clause-random : goal.returns-clause-random
 returns-clause-random c =
-    let old = hosts_of c.args.stacks.now.items (map seen c.args.links.now.items) in
+    let old = hosts_of c.args.stacks.now.items (map link_seen c.args.links.now.items) in
     c.loop-place.invariant.entered.random
     ∙ ap (λ n. random_after c.args.impairment.now (frames_below old n)) (all_walked c)
 
 pub returns-clause-tallies : goal.returns-clause-tallies
 returns-clause-tallies c =
-    let old = hosts_of c.args.stacks.now.items (map seen c.args.links.now.items) in
+    let old = hosts_of c.args.stacks.now.items (map link_seen c.args.links.now.items) in
     c.loop-place.invariant.entered.tallies
     ∙ ap (λ n. tallies_after c.args.impairment.now (frames_below old n)) (all_walked c)
 
@@ -105,6 +105,7 @@ pub returns-clause-hosts : goal.returns-clause-hosts
 returns-clause-hosts c =
     let inv = c.loop-place.invariant in
     walk_ends (λ place h k. k ≡ (frames_given FRAMES h).1) (hosts_of c.args.stacks.now.items
-    (map seen c.args.links.now.items)) (hosts_of c.loop-place.stacks.items (map seen c.loop-place.links.items))
+    (map link_seen c.args.links.now.items)) (hosts_of c.loop-place.stacks.items
+    (map link_seen c.loop-place.links.items))
     c.loop-place.place inv.walked
     (omega (arith, inv.end, hosts_length c.args.stacks.now.items c.args.links.now.items))

@@ -1,6 +1,6 @@
 use Rattle.std.proofs.Common.{◌≡◌, length, map}
 use Rattle.std.specs.Prelude.{vec_capacity}
-use Rattle.ether_host.specs.Inside.{seen}
+use Rattle.ether_host.specs.Inside.{link_seen}
 use Rattle.segment.specs.Frames.{frames_below, frames_given, hosts_of}
 use Rattle.segment.specs.Inside.{under_way}
 use Rattle.segment.specs.declared.links.TheConstants.{FRAMES}
@@ -11,11 +11,12 @@ use Rattle.segment.proofs.links.collect_frames.Given as goal
 abbrev pub invariant-loop-place : goal.invariant-loop-place
 invariant-loop-place l = record {
   walked : IsWalked (λ place h k. k ≡ (frames_given FRAMES h).1)
-      (hosts_of l.fn.stacks.items (map seen l.fn.links.items)) (hosts_of l.stacks.items (map seen l.links.items))
+      (hosts_of l.fn.stacks.items (map link_seen l.fn.links.items))
+      (hosts_of l.stacks.items (map link_seen l.links.items))
       l.place;
   entered : Entered (vec_capacity l.fn.flight.frames) l.fn.impairment.chances.items (under_way l.fn.flight)
       (under_way l.flight) l.fn.impairment.random l.impairment.random l.fn.impairment.tallies.items
-      l.impairment.tallies.items (frames_below (hosts_of l.fn.stacks.items (map seen l.fn.links.items)) l.place);
+      l.impairment.tallies.items (frames_below (hosts_of l.fn.stacks.items (map link_seen l.fn.links.items)) l.place);
   chances : l.impairment.chances ≡ l.fn.impairment.chances;
   room : vec_capacity l.flight.frames ≡ vec_capacity l.fn.flight.frames;
   links : length l.links.items ≡ length l.fn.links.items;

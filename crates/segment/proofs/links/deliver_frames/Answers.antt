@@ -1,7 +1,7 @@
 use Rattle.std.proofs.Common.{◌∙◌, ℕ, List, length, map, ap, arith}
 use Rattle.std.proofs.Math.ListN.{length-set}
 use Rattle.flat_ether.specs.Hosts.{Host}
-use Rattle.ether_host.specs.Inside.{seen}
+use Rattle.ether_host.specs.Inside.{link_seen}
 use Rattle.segment.specs.Flying.{Flying}
 use Rattle.segment.specs.Frames.{HearEach, frames_to, hosts_of}
 use Rattle.segment.specs.Inside.{flying}
@@ -18,7 +18,7 @@ loop-place-preserved c =
     let inv = c.loop-place.invariant in
     let place = c.loop-place.place in
     let due = map flying c.args.due.now in
-    let old = hosts_of c.args.stacks.now.items (map seen c.args.links.now.items) in
+    let old = hosts_of c.args.stacks.now.items (map link_seen c.args.links.now.items) in
     let stacks = c.loop-place.stacks.items in
     let links = c.loop-place.links.items in
     let now = c.if-place-len in
@@ -51,6 +51,7 @@ returns-clause-hosts c =
     let inv = c.loop-place.invariant in
     walk_ends (λ place h k. HearEach (frames_to place h.link.link.mac (map flying c.args.due.now)) h k)
     (hosts_of c.args.stacks.now.items
-    (map seen c.args.links.now.items)) (hosts_of c.loop-place.stacks.items (map seen c.loop-place.links.items))
+    (map link_seen c.args.links.now.items)) (hosts_of c.loop-place.stacks.items
+    (map link_seen c.loop-place.links.items))
     c.loop-place.place inv.walked
     (omega (arith, inv.end, hosts_length c.args.stacks.now.items c.args.links.now.items))

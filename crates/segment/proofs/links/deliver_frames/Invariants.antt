@@ -1,5 +1,5 @@
 use Rattle.std.proofs.Common.{◌≡◌, length, map}
-use Rattle.ether_host.specs.Inside.{seen}
+use Rattle.ether_host.specs.Inside.{link_seen}
 use Rattle.segment.specs.Frames.{HearEach, frames_to, hosts_of}
 use Rattle.segment.specs.Inside.{flying}
 use Rattle.segment.proofs.Walking.{IsWalked}
@@ -8,7 +8,8 @@ use Rattle.segment.proofs.links.deliver_frames.Given as goal
 abbrev pub invariant-loop-place : goal.invariant-loop-place
 invariant-loop-place l = record {
   walked : IsWalked (λ place h k. HearEach (frames_to place h.link.link.mac (map flying l.due)) h k)
-      (hosts_of l.fn.stacks.items (map seen l.fn.links.items)) (hosts_of l.stacks.items (map seen l.links.items))
+      (hosts_of l.fn.stacks.items (map link_seen l.fn.links.items))
+      (hosts_of l.stacks.items (map link_seen l.links.items))
       l.place;
   links : length l.links.items ≡ length l.fn.links.items;
   end : l.place-end ≡ length l.fn.links.items;

@@ -3,7 +3,7 @@ use Rattle.flat_ether.specs.declared.link.Link.{Link}
 use Rattle.ether_host.specs.declared.layer.LinkLayer.{LinkLayer}
 use Rattle.net_stack.specs.Stack.{StackView}
 use Rattle.segment.specs.Frames.{frame_goes_to}
-use Rattle.ether_host.specs.Inside.{seen}
+use Rattle.ether_host.specs.Inside.{link_seen}
 use Rattle.ether_host.specs.View.{halves}
 use Rattle.segment.specs.Inside.{flying}
 use Rattle.segment.proofs.Framing.{more_heard, hear_goes, hear_not}
@@ -13,22 +13,23 @@ use Rattle.segment.proofs.links.hand_frames.Goals.{then-is_heard, else-is_heard}
 pub loop-at-preserved : goal.loop-at-preserved
 loop-at-preserved c =
     let frame = c.index-due-at.result in
-    let mac = (seen c.args.link.now).link.mac in
+    let mac = (link_seen c.args.link.now).link.mac in
     let is : frame_goes_to c.args.place mac (flying frame) ≡ c.is_heard.result =
     ap (λ (l : Link). frame_goes_to c.args.place l.mac (flying frame)) (sym c.link.ensures) ∙ sym c.is_heard.ensures in
-    let now = halves c.loop-at.stack (seen c.loop-at.link) in
-    more_heard c.args.place mac c.loop-at.at c.args.due.now frame (halves c.args.stack.now (seen c.args.link.now)) now
-    (halves c.if-is_heard.stack (seen c.if-is_heard.link))
+    let now = halves c.loop-at.stack (link_seen c.loop-at.link) in
+    more_heard c.args.place mac c.loop-at.at c.args.due.now frame (halves c.args.stack.now (link_seen c.args.link.now))
+    now
+    (halves c.if-is_heard.stack (link_seen c.if-is_heard.link))
     (omega arith) c.index-due-at.is c.loop-at.invariant
     (elim c.if-is_heard.branch [
       | then-is_heard w ↦ hear_goes c.args.place mac (flying frame) now
-          (halves w.hand_over.new.stack (seen w.hand_over.new.link))
-          (halves c.if-is_heard.stack (seen c.if-is_heard.link)) w.bytes.result.now
+          (halves w.hand_over.new.stack (link_seen w.hand_over.new.link))
+          (halves c.if-is_heard.stack (link_seen c.if-is_heard.link)) w.bytes.result.now
           (is ∙ w.if-is_heard.true) w.bytes.ensures.is
-          (ap (λ (s : StackView). halves s (seen c.if-is_heard.link)) w.stack-is
-          ∙ ap (λ (l : LinkLayer). halves w.hand_over.new.stack (seen l)) w.link-is) w.hand_over.ensures
+          (ap (λ (s : StackView). halves s (link_seen c.if-is_heard.link)) w.stack-is
+          ∙ ap (λ (l : LinkLayer). halves w.hand_over.new.stack (link_seen l)) w.link-is) w.hand_over.ensures
       | else-is_heard w ↦ hear_not c.args.place mac (flying frame) now
-          (halves c.if-is_heard.stack (seen c.if-is_heard.link)) (is ∙ w.if-is_heard.false)
-          (ap (λ (s : StackView). halves s (seen c.if-is_heard.link)) w.stack-is
-          ∙ ap (λ (l : LinkLayer). halves c.loop-at.stack (seen l)) w.link-is)
+          (halves c.if-is_heard.stack (link_seen c.if-is_heard.link)) (is ∙ w.if-is_heard.false)
+          (ap (λ (s : StackView). halves s (link_seen c.if-is_heard.link)) w.stack-is
+          ∙ ap (λ (l : LinkLayer). halves c.loop-at.stack (link_seen l)) w.link-is)
     ])

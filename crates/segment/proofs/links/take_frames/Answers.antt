@@ -2,11 +2,11 @@ use Rattle.std.proofs.Common.{◌≡◌, ◌∙◌, ◌-◌, ◌+◌, [], ◌∷
 use Rattle.std.specs.Prelude.{if◌then◌else◌, vec_capacity}
 use Rattle.std.proofs.lemmas.List.{length-map, take_all}
 use Rattle.flat_ether.specs.Hosts.{Host}
-use Rattle.ether_host.specs.Inside.{seen}
+use Rattle.ether_host.specs.Inside.{link_seen}
 use Rattle.ether_host.specs.View.{halves}
 use Rattle.segment.specs.Flying.{Flying, sent_by}
 use Rattle.segment.specs.Frames.{frames_given, gives_short}
-use Rattle.segment.specs.Inside.{behind, flying, random_after, tallies_after, under_way}
+use Rattle.segment.specs.Inside.{sent_behind, flying, random_after, tallies_after, under_way}
 use Rattle.segment.specs.declared.links.TheConstants.{FRAMES}
 use Rattle.segment.proofs.Entering.{entered_more, none_entered}
 use Rattle.segment.proofs.Framing.{given_end, given_none, sent_one, so_far_end, so_far_more}
@@ -17,7 +17,7 @@ less n = omega arith
 
 pub loop-init : goal.loop-init
 loop-init c =
-    let h = halves c.args.stack.now (seen c.args.link.now) in
+    let h = halves c.args.stack.now (link_seen c.args.link.now) in
     let flight = c.args.flight.now in
     record {
       given = [];
@@ -34,9 +34,9 @@ loop-init c =
 pub loop-preserved : goal.loop-preserved
 loop-preserved c =
     let inv = c.loop.invariant in
-    let first = halves c.args.stack.now (seen c.args.link.now) in
-    let h = halves c.loop.stack (seen c.loop.link) in
-    let k = halves c.give.new.stack (seen c.give.new.link) in
+    let first = halves c.args.stack.now (link_seen c.args.link.now) in
+    let h = halves c.loop.stack (link_seen c.loop.link) in
+    let k = halves c.give.new.stack (link_seen c.give.new.link) in
     let hand = c.give.new.self in
     let f = take hand.len hand.room in
     let step : (Some f, k) ≡ gives_short h =
@@ -70,20 +70,20 @@ loop-preserved c =
     }
 
 -- no frame is left
-ended : (c : goal.Then-not-give) → frames_given FRAMES (halves c.args.stack.now (seen c.args.link.now))
-    ≡ (c.loop.invariant.given, halves c.give.new.stack (seen c.give.new.link))
+ended : (c : goal.Then-not-give) → frames_given FRAMES (halves c.args.stack.now (link_seen c.args.link.now))
+    ≡ (c.loop.invariant.given, halves c.give.new.stack (link_seen c.give.new.link))
 ended c =
-    let h = halves c.loop.stack (seen c.loop.link) in
-    let k = halves c.give.new.stack (seen c.give.new.link) in
+    let h = halves c.loop.stack (link_seen c.loop.link) in
+    let k = halves c.give.new.stack (link_seen c.give.new.link) in
     let hand = c.give.new.self in
-    so_far_end FRAMES (halves c.args.stack.now (seen c.args.link.now)) (FRAMES - c.loop.counter) h k
+    so_far_end FRAMES (halves c.args.stack.now (link_seen c.args.link.now)) (FRAMES - c.loop.counter) h k
     c.loop.invariant.given c.loop.invariant.so_far
     (given_end (FRAMES - c.loop.counter) (FRAMES - (c.loop.counter + 1)) h k (omega arith)
     (ap (λ (b : Bool). (if b then Some (take hand.len hand.room) else None, k)) (sym c.if-not-give.true)
     ∙ c.give.ensures.step))
 
 given_then : (c : goal.Then-not-give)
-    → c.loop.invariant.given ≡ (frames_given FRAMES (halves c.args.stack.now (seen c.args.link.now))).0
+    → c.loop.invariant.given ≡ (frames_given FRAMES (halves c.args.stack.now (link_seen c.args.link.now))).0
 given_then c = ap (λ (r : List (List ℕ) × Host). r.0) (sym (ended c))
 
 pub returns-then-not-give-clause-host : goal.returns-then-not-give-clause-host
@@ -92,7 +92,7 @@ returns-then-not-give-clause-host c = ap (λ (r : List (List ℕ) × Host). r.1)
 pub returns-then-not-give-clause-taken : goal.returns-then-not-give-clause-taken
 returns-then-not-give-clause-taken c =
     c.loop.invariant.entered.taken
-    ∙ ap (λ fs. behind c.args.flight.now c.args.impairment.now (sent_by c.args.sender fs)) (given_then c)
+    ∙ ap (λ fs. sent_behind c.args.flight.now c.args.impairment.now (sent_by c.args.sender fs)) (given_then c)
 
 pub returns-then-not-give-clause-random : goal.returns-then-not-give-clause-random
 returns-then-not-give-clause-random c =
@@ -105,15 +105,15 @@ returns-then-not-give-clause-tallies c =
     ∙ ap (λ fs. tallies_after c.args.impairment.now (sent_by c.args.sender fs)) (given_then c)
 
 -- as many as there may be
-full : (c : goal.After-loop) → frames_given FRAMES (halves c.args.stack.now (seen c.args.link.now))
-    ≡ (c.loop.invariant.given, halves c.loop.stack (seen c.loop.link))
+full : (c : goal.After-loop) → frames_given FRAMES (halves c.args.stack.now (link_seen c.args.link.now))
+    ≡ (c.loop.invariant.given, halves c.loop.stack (link_seen c.loop.link))
 full c =
-    let h = halves c.loop.stack (seen c.loop.link) in
-    so_far_end FRAMES (halves c.args.stack.now (seen c.args.link.now)) (FRAMES - c.loop.counter) h h
+    let h = halves c.loop.stack (link_seen c.loop.link) in
+    so_far_end FRAMES (halves c.args.stack.now (link_seen c.args.link.now)) (FRAMES - c.loop.counter) h h
     c.loop.invariant.given c.loop.invariant.so_far (given_none (FRAMES - c.loop.counter) h (omega arith))
 
 given_all : (c : goal.After-loop)
-    → c.loop.invariant.given ≡ (frames_given FRAMES (halves c.args.stack.now (seen c.args.link.now))).0
+    → c.loop.invariant.given ≡ (frames_given FRAMES (halves c.args.stack.now (link_seen c.args.link.now))).0
 given_all c = ap (λ (r : List (List ℕ) × Host). r.0) (sym (full c))
 
 pub returns-clause-host : goal.returns-clause-host
@@ -122,7 +122,7 @@ returns-clause-host c = ap (λ (r : List (List ℕ) × Host). r.1) (sym (full c)
 pub returns-clause-taken : goal.returns-clause-taken
 returns-clause-taken c =
     c.loop.invariant.entered.taken
-    ∙ ap (λ fs. behind c.args.flight.now c.args.impairment.now (sent_by c.args.sender fs)) (given_all c)
+    ∙ ap (λ fs. sent_behind c.args.flight.now c.args.impairment.now (sent_by c.args.sender fs)) (given_all c)
 
 pub returns-clause-random : goal.returns-clause-random
 returns-clause-random c =

@@ -1,6 +1,6 @@
 use Rattle.std.proofs.Common.{◌≡◌, ◌-◌, List, ℕ}
 use Rattle.std.specs.Prelude.{vec_capacity}
-use Rattle.ether_host.specs.Inside.{seen}
+use Rattle.ether_host.specs.Inside.{link_seen}
 use Rattle.ether_host.specs.View.{halves}
 use Rattle.segment.specs.Flying.{sent_by}
 use Rattle.segment.specs.Inside.{under_way}
@@ -12,7 +12,8 @@ use Rattle.segment.proofs.links.take_frames.Given as goal
 abbrev pub invariant-loop : goal.invariant-loop
 invariant-loop l = record {
   given : List (List ℕ);
-  so_far : IsSoFar FRAMES (halves l.fn.stack (seen l.fn.link)) (FRAMES - l.counter) (halves l.stack (seen l.link))
+  so_far : IsSoFar FRAMES (halves l.fn.stack (link_seen l.fn.link)) (FRAMES - l.counter)
+      (halves l.stack (link_seen l.link))
       given;
   entered : Entered (vec_capacity l.fn.flight.frames) l.fn.impairment.chances.items (under_way l.fn.flight)
       (under_way l.flight) l.fn.impairment.random l.impairment.random l.fn.impairment.tallies.items

@@ -1,14 +1,14 @@
 use Rattle.std.proofs.Common.{◌≡◌, take, drop, length}
 use Rattle.std.specs.Prelude.{vec_capacity}
 use Rattle.net_stack.specs.Runs.{AreCalls}
-use Rattle.segment.specs.Flying.{gives, sent_by, waiting}
+use Rattle.segment.specs.Flying.{transmits_of, sent_by, waiting}
 use Rattle.segment.specs.Inside.{under_way}
 use Rattle.segment.proofs.Entering.{Entered}
 use Rattle.segment.proofs.ways.take_all.Given as goal
 
 abbrev pub invariant-loop : goal.invariant-loop
 invariant-loop l = record {
-  calls : AreCalls l.fn.stack (gives (take l.counter (waiting l.fn.stack))) l.stack;
+  calls : AreCalls l.fn.stack (transmits_of (take l.counter (waiting l.fn.stack))) l.stack;
   waits : waiting l.stack ≡ drop l.counter (waiting l.fn.stack);
   entered : Entered (vec_capacity l.fn.flight.frames) l.fn.impairment.chances.items (under_way l.fn.flight)
       (under_way l.flight) l.fn.impairment.random l.impairment.random l.fn.impairment.tallies.items

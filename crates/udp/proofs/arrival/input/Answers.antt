@@ -6,27 +6,28 @@ use Rattle.mbuf_chain.proofs.Laws.Owners.{moves_with, moves_without, shown_with}
 use Rattle.pcb_table.specs.Table.{packet_key}
 use Rattle.udp.specs.declared.arrival.Outcome.{Outcome}
 use Rattle.udp.specs.declared.header.Header.{Header}
-use Rattle.udp.specs.Datagrams.{AreHearers, chains_of, without_header}
+use Rattle.udp.specs.Datagrams.{AreHearers, outcome_chains, without_header}
 use Rattle.udp.specs.Inside.{header_in}
 use Rattle.udp.proofs.Cutting.{data_of}
 use Rattle.udp.proofs.arrival.input.Goals as goal
 
 pub returns-then-head-ne-PROTOCOL_UDP-clause-moves : goal.returns-then-head-ne-PROTOCOL_UDP-clause-moves
 returns-then-head-ne-PROTOCOL_UDP-clause-moves c =
-    subst (λ (o : Outcome). Moves c.args.pool.now (c.args.chain ∷ []) c.drop_for.new.pool (chains_of o))
+    subst (λ (o : Outcome). Moves c.args.pool.now (c.args.chain ∷ []) c.drop_for.new.pool (outcome_chains o))
     (sym c.drop_for.ensures.outcome)
     (moves_without c.args.pool.now c.drop_for.new.pool c.args.chain c.requires.live c.drop_for.ensures.freed)
 
 pub returns-in-Err-clause-moves : goal.returns-in-Err-clause-moves
 returns-in-Err-clause-moves c =
-    subst (λ (o : Outcome). Moves c.args.pool.now (c.args.chain ∷ []) c.drop_for-in-Err.new.pool (chains_of o))
+    subst (λ (o : Outcome). Moves c.args.pool.now (c.args.chain ∷ []) c.drop_for-in-Err.new.pool (outcome_chains o))
     (sym c.drop_for-in-Err.ensures.outcome)
     (moves_without c.args.pool.now c.drop_for-in-Err.new.pool c.args.chain c.requires.live
     c.drop_for-in-Err.ensures.freed)
 
 pub returns-then-is_empty-clause-moves : goal.returns-then-is_empty-clause-moves
 returns-then-is_empty-clause-moves c =
-    subst (λ (o : Outcome). Moves c.args.pool.now (c.args.chain ∷ []) c.drop_for-then-is_empty.new.pool (chains_of o))
+    subst (λ (o : Outcome). Moves c.args.pool.now (c.args.chain ∷ []) c.drop_for-then-is_empty.new.pool
+    (outcome_chains o))
     (sym c.drop_for-then-is_empty.ensures.outcome)
     (moves_without c.args.pool.now c.drop_for-then-is_empty.new.pool c.args.chain c.requires.live
     c.drop_for-then-is_empty.ensures.freed)

@@ -6,7 +6,7 @@ use Rattle.flat_model.specs.Packets.Header.{not_zero, pseudo_header, udp}
 use Rattle.mbuf_chain.specs.Chain.{ChainView, chain_of, entry_of, string, with_chain}
 use Rattle.mbuf_chain.specs.Steps.{overwritten, with_entry}
 use Rattle.mbuf_chain.proofs.Laws.Owners.{shown_with}
-use Rattle.udp.specs.Datagrams.{built}
+use Rattle.udp.specs.Datagrams.{with_udp_header}
 use Rattle.udp.specs.Inside.{header_bytes}
 use Rattle.udp.proofs.Building.{built_string, long_string, written}
 use Rattle.udp.proofs.departure.build.Goals as goal
@@ -51,5 +51,5 @@ pub returns-clause-string : goal.returns-clause-string
 returns-clause-string c =
     let v : ChainView = chain_of c.args.pool.now c.args.chain.now in
     ap string (shown_with c.args.pool.now c.overwrite.new.self c.args.chain.now
-    (built c.args.from.ip c.args.to.ip c.args.from.port c.args.to.port v) (chain_is c))
+    (with_udp_header c.args.from.ip c.args.to.ip c.args.from.port c.args.to.port v) (chain_is c))
     ∙ built_string c.args.from.ip c.args.to.ip c.args.from.port c.args.to.port v c.requires.headers

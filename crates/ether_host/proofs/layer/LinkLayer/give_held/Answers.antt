@@ -1,8 +1,8 @@
 use Rattle.std.proofs.Common.{◌≡◌, ℕ, ◌<◌, List, length, map, Some, refl, sym, ap, ◌∙◌, arith}
 use Rattle.flat_ether.specs.Frames.{frame}
-use Rattle.flat_ether.specs.Links.{Gives, Held, LinkState, first_ready}
+use Rattle.flat_ether.specs.Links.{Gives, WaitingPacket, LinkState, first_ready}
 use Rattle.flat_ether.specs.declared.neighbour.Neighbour.{Neighbour}
-use Rattle.ether_host.specs.Inside.{seen}
+use Rattle.ether_host.specs.Inside.{link_seen}
 use Rattle.ether_host.specs.Buffers.{held_in}
 use Rattle.ether_host.specs.declared.buffer.PacketBuffer.{PacketBuffer}
 use Rattle.ether_host.proofs.Tables.{held_remove}
@@ -11,7 +11,7 @@ use Rattle.ether_host.proofs.layer.LinkLayer.give_held.Goals as goal
 
 pub returns-clause-link : goal.returns-clause-link
 returns-clause-link c =
-    let s : LinkState = seen c.args.self.now in
+    let s : LinkState = link_seen c.args.self.now in
     let ps : List PacketBuffer = c.args.self.now.held.items in
     let found : first_ready s.neighbours s.held ≡ Some (c.in_ok-at.at, c.in_ok-at.mac) =
     ap (λ (ns : List Neighbour). first_ready ns (map held_in ps)) (sym c.as_slice.ensures.value)
@@ -21,13 +21,13 @@ returns-clause-link c =
     let within : c.in_ok-at.at < length ps = omega (arith, c.in_ok-at.ensures.within) in
     let left : map held_in c.drop_at.new.held.items ≡ _ =
     ap (map held_in) c.drop_at.ensures.items ∙ held_remove ps c.in_ok-at.at in
-    ap (λ (hs : List Held). record s { held = hs }) left
+    ap (λ (hs : List WaitingPacket). record s { held = hs }) left
     ∙ sym (ap (λ (g : Gives). g.1)
     (held_given s ps c.in_ok-at.at c.in_ok-at.mac c.index-buffer.result.now refl found within c.index-buffer.ensures))
 
 pub returns-clause-frame : goal.returns-clause-frame
 returns-clause-frame c =
-    let s : LinkState = seen c.args.self.now in
+    let s : LinkState = link_seen c.args.self.now in
     let ps : List PacketBuffer = c.args.self.now.held.items in
     let found : first_ready s.neighbours s.held ≡ Some (c.in_ok-at.at, c.in_ok-at.mac) =
     ap (λ (ns : List Neighbour). first_ready ns (map held_in ps)) (sym c.as_slice.ensures.value)

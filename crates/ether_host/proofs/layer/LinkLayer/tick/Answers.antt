@@ -5,9 +5,9 @@ use Rattle.flat_model.specs.Machine.Count.{more_by}
 use Rattle.flat_ether.specs.Claims.{claim_ticks}
 use Rattle.flat_ether.specs.declared.claim.Claim.{Claim}
 use Rattle.flat_ether.specs.declared.sizes.TheConstants.{UNREACHABLES}
-use Rattle.flat_ether.specs.Links.{Held, LinkState, aged, has_hope, stays}
+use Rattle.flat_ether.specs.Links.{WaitingPacket, LinkState, neighbour_aged, has_hope, neighbour_stays}
 use Rattle.flat_ether.specs.declared.neighbour.Neighbour.{Neighbour}
-use Rattle.ether_host.specs.Inside.{seen}
+use Rattle.ether_host.specs.Inside.{link_seen}
 use Rattle.ether_host.specs.Buffers.{has_hope_in, held_in}
 use Rattle.ether_host.specs.declared.buffer.PacketBuffer.{PacketBuffer}
 use Rattle.ether_host.proofs.Tables.{held_filter}
@@ -16,12 +16,13 @@ use Rattle.ether_host.proofs.layer.LinkLayer.tick.Goals as goal
 pub returns : goal.returns
 returns c =
     let s : LinkState =
-    record (seen c.args.self.now) { claim = claim_ticks c.args.self.now.claim; unreachables = UNREACHABLES } in
+    record (link_seen c.args.self.now) { claim = claim_ticks c.args.self.now.claim; unreachables = UNREACHABLES } in
     let ps : List PacketBuffer = c.args.self.now.held.items in
-    let ns : List Neighbour = filter stays (map aged s.neighbours) in
-    let later : List Held = filter (has_hope ns) s.held in
+    let ns : List Neighbour = filter neighbour_stays (map neighbour_aged s.neighbours) in
+    let later : List WaitingPacket = filter (has_hope ns) s.held in
     let known : c.age-self.result.items ≡ ns =
-    c.age-self.ensures ∙ ap (λ (xs : List Neighbour). filter stays (map aged xs)) c.as_slice.ensures.value in
+    c.age-self.ensures ∙ ap (λ (xs : List Neighbour). filter neighbour_stays (map neighbour_aged xs))
+    c.as_slice.ensures.value in
     let kept : map held_in c.keep.new.held.items ≡ later =
     ap (map held_in) c.keep.ensures.kept
     ∙ ap (λ (xs : List Neighbour). map held_in (filter (has_hope_in xs) ps)) (c.as_slice-2.ensures.value ∙ known)
@@ -46,6 +47,6 @@ returns c =
       held = map held_in c.keep.new.held.items;
       tallies = record s.tallies { unresolved = c.saturating_add-self.result };
     }) known
-    ∙ ap (λ (hs : List Held). record s
+    ∙ ap (λ (hs : List WaitingPacket). record s
     { neighbours = ns; held = hs; tallies = record s.tallies { unresolved = c.saturating_add-self.result } }) kept
     ∙ ap (λ (n : ℕ). record s { neighbours = ns; held = later; tallies = record s.tallies { unresolved = n } }) more

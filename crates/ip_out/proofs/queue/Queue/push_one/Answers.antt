@@ -3,7 +3,7 @@ use Rattle.std.specs.Prelude.{nat_lt}
 use Rattle.flat_model.specs.Fragments.Cuts.{Part}
 use Rattle.mbuf_chain.specs.Chain.{chain_of}
 use Rattle.mbuf_chain.specs.Train.{TrainView}
-use Rattle.ip_out.specs.Packets.{packets, packets_of}
+use Rattle.ip_out.specs.Packets.{train_packets, packets_of}
 use Rattle.ip_out.proofs.Sends.{one_packet, one_part, room}
 use Rattle.ip_out.proofs.queue.Queue.push_one.Goals as goal
 
@@ -14,7 +14,8 @@ returns-clause-packets c mtu fits =
     one_packet (chain_of c.args.pool.now c.args.chain) c.args.head c.args.len mtu c.requires.datagram c.requires.len
     fits in
     let added =
-    c.add_whole.ensures.packets mtu fits ∙ ap (λ (t : TrainView). packets c.args.pool.now t ++ some) c.self.view_is in
+    c.add_whole.ensures.packets mtu fits
+    ∙ ap (λ (t : TrainView). train_packets c.args.pool.now t ++ some) c.self.view_is in
     (room c.args.pool.now c.add_whole.new.pool c.args.self.now c.add_whole.new.train some c.requires.queue
     c.requires.room one added).items
 
@@ -25,7 +26,8 @@ returns-clause-lost c mtu fits =
     one_packet (chain_of c.args.pool.now c.args.chain) c.args.head c.args.len mtu c.requires.datagram c.requires.len
     fits in
     let added =
-    c.add_whole.ensures.packets mtu fits ∙ ap (λ (t : TrainView). packets c.args.pool.now t ++ some) c.self.view_is in
+    c.add_whole.ensures.packets mtu fits
+    ∙ ap (λ (t : TrainView). train_packets c.args.pool.now t ++ some) c.self.view_is in
     (room c.args.pool.now c.add_whole.new.pool c.args.self.now c.add_whole.new.train some c.requires.queue
     c.requires.room one added).is_lost
 

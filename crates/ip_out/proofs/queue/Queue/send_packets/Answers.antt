@@ -6,8 +6,8 @@ use Rattle.flat_model.specs.Fragments.Cuts.{Part}
 use Rattle.mbuf_chain.specs.Chain.{chain_of}
 use Rattle.mbuf_chain.proofs.Laws.Owners.{moves_without}
 use Rattle.ip_out.specs.declared.ways.Way.{Way}
-use Rattle.ip_out.specs.Packets.{packets, packets_of, part_need, AreBegunPlain}
-use Rattle.ip_out.specs.Ways.{to_link, way_need}
+use Rattle.ip_out.specs.Packets.{train_packets, packets_of, part_need, AreBegunPlain}
+use Rattle.ip_out.specs.Ways.{to_link_by, way_need}
 use Rattle.ip_out.proofs.Sends.{aside, aside_gone, link_owned, one_part, sent_out}
 use Rattle.ip_out.proofs.queue.Queue.send_packets.Goals as goal
 
@@ -57,10 +57,10 @@ returns-in_ok-link-in_default-clause-link c =
     let a =
     aside c.args.chain c.args.self.now c.in_ok-link-in_default.ensures.moves c.requires.live c.requires.queue.held
     c.requires.apart in
-    let same : packets c.make_packets.new.pool c.args.self.now
-    ++ packets c.make_packets.new.pool c.in_ok-link-in_default.field-0.link
-    ≡ packets c.args.pool.now c.args.self.now
-    ++ to_link c.args.way (packets_of (chain_of c.args.pool.now c.args.chain) c.args.head c.args.mtu) =
+    let same : train_packets c.make_packets.new.pool c.args.self.now
+    ++ train_packets c.make_packets.new.pool c.in_ok-link-in_default.field-0.link
+    ≡ train_packets c.args.pool.now c.args.self.now
+    ++ to_link_by c.args.way (packets_of (chain_of c.args.pool.now c.args.chain) c.args.head c.args.mtu) =
     λ i. a.same_packets i ++ c.in_ok-link-in_default.ensures.link i in
     c.push_all-is_lost.ensures.packets ∙ ap (take OUTPUT_QUEUE_PACKETS) same
 
@@ -69,10 +69,10 @@ returns-in_ok-link-in_default-clause-lost c =
     let a =
     aside c.args.chain c.args.self.now c.in_ok-link-in_default.ensures.moves c.requires.live c.requires.queue.held
     c.requires.apart in
-    let same : packets c.make_packets.new.pool c.args.self.now
-    ++ packets c.make_packets.new.pool c.in_ok-link-in_default.field-0.link
-    ≡ packets c.args.pool.now c.args.self.now
-    ++ to_link c.args.way (packets_of (chain_of c.args.pool.now c.args.chain) c.args.head c.args.mtu) =
+    let same : train_packets c.make_packets.new.pool c.args.self.now
+    ++ train_packets c.make_packets.new.pool c.in_ok-link-in_default.field-0.link
+    ≡ train_packets c.args.pool.now c.args.self.now
+    ++ to_link_by c.args.way (packets_of (chain_of c.args.pool.now c.args.chain) c.args.head c.args.mtu) =
     λ i. a.same_packets i ++ c.in_ok-link-in_default.ensures.link i in
     c.push_all-is_lost.ensures.lost ∙ ap (λ (xs : List Item). nat_lt OUTPUT_QUEUE_PACKETS (length xs)) same
 

@@ -9,7 +9,7 @@ use Rattle.mbuf_chain.specs.Owners.{Moves}
 use Rattle.mbuf_chain.proofs.Laws.Owners.{moves_none, moves_trans, owned_after}
 use Rattle.chain_ops.specs.Trims.{without_first}
 use Rattle.ledger.specs.Accounts.{weight_at, weight_owned}
-use Rattle.ip_reass.specs.Arrivals.{carried_entries, flat_head, in_hand, key_in, machine, IsPulled}
+use Rattle.ip_reass.specs.Arrivals.{carried_entries, flat_head, in_hand, key_in, machine_with, IsPulled}
 use Rattle.ip_reass.specs.Table.{TableView, held_all}
 use Rattle.ip_reass.specs.Same.{distinct_same}
 use Rattle.ip_reass.specs.Layouts.{fragment_carried, queues, under}
@@ -24,7 +24,7 @@ returns-then-is_bad-clause-step c = λ rest held new acc is.
     freed c.args.pool.now c.args.pool.now c.free_chain.new.self c.args.self.now.datagrams c.args.self.now.datagrams
     c.args.chain (stays c.args.pool.now c.args.pool.now c.args.self.now.datagrams c.args.self.now.datagrams
     c.args.chain c.requires.owned (moves_none _ _)) c.requires.ready.table c.free_chain.ensures in
-    arrives_bad held (machine c.args.pool.now c.args.self.now.datagrams c.args.counters.now rest) new c.args.head
+    arrives_bad held (machine_with c.args.pool.now c.args.self.now.datagrams c.args.counters.now rest) new c.args.head
     (chain_of c.args.pool.now c.args.chain)
     (ap (λ (n : ℕ). is_bad_fragment (flat_head c.args.head) (n - 20)) (sym c.requires.total ∙ sym c.len-len.ensures)
     ∙ (sym c.is_bad.ensures ∙ c.if-is_bad.true)) (is
@@ -104,7 +104,8 @@ lay_or_begin-requires-clause-ready c =
       fragments = c.pull_up.ensures.ready.fragments;
       room = omega (arith, c.pull_up.ensures.ready.room, t.moves.mbufs);
       distinct =
-          distinct_same c.pull_up.new.pool c.trim_front.new.pool c.pull_up.new.self.datagrams c.pull_up.new.self.datagrams
+          distinct_same c.pull_up.new.pool c.trim_front.new.pool c.pull_up.new.self.datagrams
+          c.pull_up.new.self.datagrams
           t.shows c.pull_up.ensures.ready.distinct;
     }
 

@@ -4,7 +4,7 @@ use Rattle.mbuf_chain.specs.Chain.{ChainView, PoolView, chain_of, string}
 use Rattle.mbuf_chain.specs.Owners.{Moves}
 use Rattle.mbuf_chain.proofs.Laws.Owners.{moves_trans}
 use Rattle.ledger.specs.Accounts.{weight_at}
-use Rattle.ip_reass.specs.Arrivals.{in_hand, key_in, machine}
+use Rattle.ip_reass.specs.Arrivals.{in_hand, key_in, machine_with}
 use Rattle.ip_reass.specs.Fragments.{fragment_of}
 use Rattle.ip_reass.specs.Inside.Index.{buckets_of}
 use Rattle.ip_reass.specs.Inside.Walks.{arrived}
@@ -24,7 +24,7 @@ use Rattle.ip_reass.proofs.table.Reass.begin_with.Goals as goal
 pub returns-then-not-reserve-clause-step : goal.returns-then-not-reserve-clause-step
 returns-then-not-reserve-clause-step c = λ rest held new acc is.
     let r =
-    c.reserve.ensures.reserves (machine c.args.pool.now c.args.self.now.datagrams c.args.counters.now rest)
+    c.reserve.ensures.reserves (machine_with c.args.pool.now c.args.self.now.datagrams c.args.counters.now rest)
     (held ⊕ weight_at c.args.pool.now c.args.chain) refl refl acc in
     let fr =
     freed c.args.pool.now c.reserve.new.pool c.free_chain.new.self c.args.self.now.datagrams
@@ -53,7 +53,8 @@ returns-then-not-reserve-clause-ready c = record {
       (freed c.args.pool.now c.reserve.new.pool c.free_chain.new.self c.args.self.now.datagrams
       c.reserve.new.waiting.datagrams c.args.chain
       (stays c.args.pool.now c.reserve.new.pool c.args.self.now.datagrams c.reserve.new.waiting.datagrams c.args.chain
-      c.requires.owned c.reserve.ensures.moves) c.reserve.ensures.ready.table c.free_chain.ensures).shows c.reserve.ensures.ready.distinct;
+      c.requires.owned c.reserve.ensures.moves) c.reserve.ensures.ready.table c.free_chain.ensures).shows
+      c.reserve.ensures.ready.distinct;
 }
 
 pub returns-then-not-reserve-clause-moves : goal.returns-then-not-reserve-clause-moves
@@ -193,7 +194,7 @@ invariant_of-self c =
 pub returns-clause-step : goal.returns-clause-step
 returns-clause-step c = λ rest held new acc goes.
     let r =
-    c.reserve.ensures.reserves (machine c.args.pool.now c.args.self.now.datagrams c.args.counters.now rest)
+    c.reserve.ensures.reserves (machine_with c.args.pool.now c.args.self.now.datagrams c.args.counters.now rest)
     (held ⊕ weight_at c.args.pool.now c.args.chain) refl refl acc in
     let st =
     stays c.args.pool.now c.reserve.new.pool c.args.self.now.datagrams c.reserve.new.waiting.datagrams c.args.chain

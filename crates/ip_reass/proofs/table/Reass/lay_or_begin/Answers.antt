@@ -1,6 +1,6 @@
 use Rattle.std.proofs.Common.{◌<◌, ◌∙◌, List, ℕ, length, sym, ap, subst, arith}
 use Rattle.std.specs.Prelude.{count_by}
-use Rattle.ip_reass.specs.Arrivals.{GoesOn, key_in, machine}
+use Rattle.ip_reass.specs.Arrivals.{GoesOn, key_in, machine_with}
 use Rattle.ip_reass.specs.Layouts.{HasLayout, LeavesAt, queues}
 use Rattle.ip_reass.specs.declared.arrival.Arrival.{Arrival}
 use Rattle.ip_reass.specs.declared.arrival.Arrival.TheVariants.{Kept}
@@ -142,7 +142,7 @@ returns-in-Kept-clause-step c = λ rest held new acc goes.
     c.in-Some.ensures.1 c.requires.ready.distinct
     (λ here most. c.lay_and_count-arrival.ensures.step rest held new here most
     (subst (λ (r : Arrival). GoesOn held c.lay_and_count-arrival.new.pool r
-    (machine c.lay_and_count-arrival.new.pool c.lay_and_count-arrival.new.table.items
+    (machine_with c.lay_and_count-arrival.new.pool c.lay_and_count-arrival.new.table.items
     c.lay_and_count-arrival.new.counters rest) new) (sym c.in-Kept.is) goes))
 
 pub returns-in-Kept-clause-ready : goal.returns-in-Kept-clause-ready

@@ -2,7 +2,7 @@ use Rattle.std.proofs.Common.{◌∙◌, refl, ap, arith}
 use Rattle.mbuf_chain.specs.Chain.{PoolView}
 use Rattle.flat_model.specs.Amounts.Weight.{◌⊕◌}
 use Rattle.ledger.specs.Accounts.{weight_at}
-use Rattle.ip_reass.specs.Arrivals.{machine}
+use Rattle.ip_reass.specs.Arrivals.{machine_with}
 use Rattle.ip_reass.specs.Same.{distinct_same}
 use Rattle.ip_reass.proofs.Queues.{wait_then, wait_reserved, none_reserved}
 use Rattle.ip_reass.proofs.Reserved.{stays, freed}
@@ -12,7 +12,7 @@ use Rattle.ip_reass.proofs.table.Reass.pull_up.Goals as goal
 pub returns-then-not-reserve-clause-tested : goal.returns-then-not-reserve-clause-tested
 returns-then-not-reserve-clause-tested c = λ cluster rest held acc.
     let r =
-    c.reserve.ensures.reserves (machine c.args.pool.now c.args.self.now.datagrams c.args.counters.now rest)
+    c.reserve.ensures.reserves (machine_with c.args.pool.now c.args.self.now.datagrams c.args.counters.now rest)
     (held ⊕ weight_at c.args.pool.now c.args.chain) refl refl acc in
     let fr =
     freed c.args.pool.now c.reserve.new.pool c.free_chain.new.self c.args.self.now.datagrams
@@ -39,7 +39,8 @@ returns-then-not-reserve-clause-ready c = record {
       (freed c.args.pool.now c.reserve.new.pool c.free_chain.new.self c.args.self.now.datagrams
       c.reserve.new.waiting.datagrams c.args.chain
       (stays c.args.pool.now c.reserve.new.pool c.args.self.now.datagrams c.reserve.new.waiting.datagrams c.args.chain
-      c.requires.owned c.reserve.ensures.moves) c.reserve.ensures.ready.table c.free_chain.ensures).shows c.reserve.ensures.ready.distinct;
+      c.requires.owned c.reserve.ensures.moves) c.reserve.ensures.ready.table c.free_chain.ensures).shows
+      c.reserve.ensures.ready.distinct;
 }
 
 pub returns-then-not-reserve-clause-moves : goal.returns-then-not-reserve-clause-moves
@@ -52,7 +53,7 @@ returns-then-not-reserve-clause-moves c =
 pub returns-clause-tested : goal.returns-clause-tested
 returns-clause-tested c = λ cluster rest held acc.
     let r =
-    c.reserve.ensures.reserves (machine c.args.pool.now c.args.self.now.datagrams c.args.counters.now rest)
+    c.reserve.ensures.reserves (machine_with c.args.pool.now c.args.self.now.datagrams c.args.counters.now rest)
     (held ⊕ weight_at c.args.pool.now c.args.chain) refl refl acc in
     let u =
     pulled c.args.pool.now c.reserve.new.pool c.m_pullup.new.pool c.args.self.now.datagrams

@@ -20,7 +20,7 @@ use Rattle.std_alloc.proofs.BoxSteps.Form.{D, B, word, box_typed}
 use Rattle.std_alloc.proofs.BoxSteps.Steps.{box_out, box_in}
 use Rattle.std_heap.specs.contracts.Global as heap
 use Rattle.std_heap.specs.contracts.GlobalAllocator.TheImpl.{ghosts}
-use Rattle.libbsdudp.specs.LinkHeld.{IsFull, Kept}
+use Rattle.libbsdudp.specs.LinkHeld.{IsLinkFull, LinkKept}
 use Rattle.libbsdudp.proofs.LinkBoxes.{link_box, has}
 use Rattle.libbsdudp.specs.contracts.link_owned.OwnedLink as owned
 use Rattle.libbsdudp.specs.contracts.parts.Parts as parts
@@ -42,11 +42,12 @@ into_parts_spec 𝓤 𝓛 𝓜 𝓡 wired =
     code.function (code.unfolded 𝓤 H 𝓜 𝓡 wired) (λ z are.
     let p = z.0.3.0 in let Out : Val → SProp 𝓤 = (walk_of 𝓛 f.ended stayed c).post z in
     let Run : List Val → SProp 𝓤 = λ us. WpFn 𝓤 H 𝓣.C 𝓣.Λ code.function us Out in
-    qed 𝓛 ((‵ ftrue ⊛ ‵ (fsep (held.the_row.own_val p z.0.4.0) ftrue)) ∷ raw (fact 𝓤 (IsFull p.kept)) ∷ []) ∵ move !
-    (1 ∷ []) $ heard ! (IsFull p.kept) (λ full. split ! $ drop ! $ fsplit ! $
+    qed 𝓛 ((‵ ftrue ⊛ ‵ (fsep (held.the_row.own_val p z.0.4.0) ftrue)) ∷ raw (fact 𝓤 (IsLinkFull p.kept)) ∷ []) ∵ move !
+    (1 ∷ []) $ heard ! (IsLinkFull p.kept) (λ full. split ! $ drop ! $ fsplit ! $
     let is = has p.kept full in let d : D E = record { ptr = p.at; alloc = p.alloc; value = is.0 } in
     let made : Into.Denot = record { at = p.at; alloc = p.alloc; value = is.0 } in
-    rewrite ! 0 (λ (k : Kept). ‵ (held.the_row.own_val (record { at = p.at; alloc = p.alloc; kept = k }) z.0.4.0)) is.1
+    rewrite ! 0 (λ (k : LinkKept). ‵ (held.the_row.own_val (record { at = p.at; alloc = p.alloc; kept = k }) z.0.4.0))
+    is.1
     refl $ use1 𝓛 (‵ ((B E).own_val d z.0.4.0)) (id⊢ 𝓤 _) $
     box_out E ! d z.0.4.0 (λ b o h at us fits. let w = word E h b o in let typed = box_typed E h b o fits in
     box_in E ! d b o d.value at refl $ use1 𝓛 (‵ (Into.own_val made (w ∷ []))) (id⊢ 𝓤 _) $ move ! (1 ∷ []) $ drop ! $

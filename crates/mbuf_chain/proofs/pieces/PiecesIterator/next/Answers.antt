@@ -1,5 +1,5 @@
 use Rattle.std.proofs.Common.{sym, ◌∙◌, ap}
-use Rattle.mbuf_pool.specs.Store.{read}
+use Rattle.mbuf_pool.specs.Store.{stored_part}
 use Rattle.mbuf_chain.proofs.Reading.{reads, next_piece, one_less}
 use Rattle.mbuf_chain.proofs.pieces.PiecesIterator.next.Goals as goal
 
@@ -10,7 +10,7 @@ pub returns-clause-steps : goal.returns-clause-steps
 returns-clause-steps c =
     sym c.self.view_is ∙ next_piece _ _ _ _ _
     (reads _ _ _ _ c.in_ok-cell.was c.self.invariant c.head-head.ensures.value)
-    (c.bytes.ensures.value ∙ ap (read c.self.inside.store.now) c.data_of.ensures)
+    (c.bytes.ensures.value ∙ ap (stored_part c.self.inside.store.now) c.data_of.ensures)
 
 pub returns-clause-goes : goal.returns-clause-goes
 returns-clause-goes c =
@@ -21,7 +21,7 @@ returns-clause-goes c =
         one_less _ _ _
             (sym c.self.view_is ∙ next_piece _ _ _ _ _
             (reads _ _ _ _ c.in_ok-cell.was c.self.invariant c.head-head.ensures.value)
-            (c.bytes.ensures.value ∙ ap (read c.self.inside.store.now) c.data_of.ensures)),
+            (c.bytes.ensures.value ∙ ap (stored_part c.self.inside.store.now) c.data_of.ensures)),
       );
       keeps = tt;
       rests = λ _. tt;

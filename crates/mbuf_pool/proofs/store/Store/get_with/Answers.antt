@@ -28,7 +28,8 @@ invariant_of-self c =
     let s = c.self.inside in let v = c.args.self.now in let i = c.in-Some.index in let t = c.set_head.new.self in (
       c.self.invariant.0 ∙ sym (head_count s.region t i c.args.given c.set_head.ensures.change),
       (get_left s v c.self.invariant c.self.view_is c.args.given i t c.new-self-inside.result
-          (sym c.get.ensures ∙ c.in-Some.is) (c.new-self-inside.ensures ∙ ap (λ (h : Head). h.next) c.head.ensures.value)
+          (sym c.get.ensures ∙ c.in-Some.is)
+          (c.new-self-inside.ensures ∙ ap (λ (h : Head). h.next) c.head.ensures.value)
           c.set_head.ensures.change).0.account,
     )
 

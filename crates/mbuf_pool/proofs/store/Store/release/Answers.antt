@@ -1,5 +1,5 @@
 use Rattle.std.proofs.Common.{ℕ, ◌-◌, Option, ◌∙◌, ap, sym, arith, length}
-use Rattle.raw_cells.specs.Cells.{Cells, write}
+use Rattle.raw_cells.specs.Cells.{Cells, cells_written}
 use Rattle.mbuf_pool.specs.Inside.Link.{link_part, link_bytes}
 use Rattle.mbuf_pool.proofs.Reading.{counted_index, count_read, cluster_index_is, few_clusters}
 use Rattle.mbuf_pool.proofs.Effects.{first_cluster_is, hold_less, give_back_as, leaves_store}
@@ -45,7 +45,7 @@ invariant_of-self c =
     c.index.ensures ∙ count_read s v c.self.invariant c.self.view_is c.args.cluster c.index.result.now c.requires in
     let linked =
     c.set_next_cluster.ensures ∙ ap
-    (λ (f : Option ℕ). write c.self.inside.region (link_part c.args.cluster) (link_bytes f)) c.get.ensures in (
+    (λ (f : Option ℕ). cells_written c.self.inside.region (link_part c.args.cluster) (link_bytes f)) c.get.ensures in (
       c.self.invariant.0 ∙ sym (ap (λ (x : Cells). length x.heads) c.set_next_cluster.ensures),
       (first_cluster_is c.new-self-inside.ensures
           (give_back_as s v c.self.invariant c.self.view_is c.args.cluster (c.index.result.now - 1)
@@ -59,7 +59,7 @@ returns-then-left-eq-FREE-clause-change c =
     c.index.ensures ∙ count_read s v c.self.invariant c.self.view_is c.args.cluster c.index.result.now c.requires in
     let linked =
     c.set_next_cluster.ensures ∙ ap
-    (λ (f : Option ℕ). write c.self.inside.region (link_part c.args.cluster) (link_bytes f)) c.get.ensures in
+    (λ (f : Option ℕ). cells_written c.self.inside.region (link_part c.args.cluster) (link_bytes f)) c.get.ensures in
     (first_cluster_is c.new-self-inside.ensures
     (give_back_as s v c.self.invariant c.self.view_is c.args.cluster (c.index.result.now - 1)
     c.set_next_cluster.new.region (omega (arith, is, c.requires)) (omega arith) linked)).seen
@@ -71,7 +71,7 @@ returns-then-left-eq-FREE-clause-store c =
     c.index.ensures ∙ count_read s v c.self.invariant c.self.view_is c.args.cluster c.index.result.now c.requires in
     let linked =
     c.set_next_cluster.ensures ∙ ap
-    (λ (f : Option ℕ). write c.self.inside.region (link_part c.args.cluster) (link_bytes f)) c.get.ensures in
+    (λ (f : Option ℕ). cells_written c.self.inside.region (link_part c.args.cluster) (link_bytes f)) c.get.ensures in
     leaves_store (first_cluster_is c.new-self-inside.ensures
     (give_back_as s v c.self.invariant c.self.view_is c.args.cluster (c.index.result.now - 1)
     c.set_next_cluster.new.region (omega (arith, is, c.requires)) (omega arith) linked))

@@ -1,11 +1,11 @@
 use Rattle.std.proofs.Common.{[], ap, sym, subst, ◌∙◌}
 use Rattle.mbuf_chain.specs.Owners.{Moves}
 use Rattle.mbuf_chain.specs.Train.{TrainView, numbers}
-use Rattle.ip_out.specs.Queues.{IsQueue}
+use Rattle.ip_out.specs.Queues.{IsOutputQueue}
 use Rattle.ip_reass.specs.Table.{IsTable, held_all}
 use Rattle.sock_calls.specs.Sockets.{AreEmpty}
 use Rattle.net_stack.specs.Boots.{free_pool}
-use Rattle.net_stack.specs.Inside.Fields.{Fields, IsInside}
+use Rattle.net_stack.specs.Inside.Fields.{Fields, IsStackInside}
 use Rattle.net_stack.specs.Stack.{StackView}
 use Rattle.net_stack.specs.declared.host.Host.{Host}
 use Rattle.net_stack.proofs.Called.{lent, lent_inside, lent_shows}
@@ -23,7 +23,7 @@ end_empty-requires c = subst (λ (h : Host). AreEmpty h.socks.queues) (sym c.int
 pub end-requires : goal.end-requires
 end-requires c =
     let f : Fields = lent c.self.inside c.as_mut-parts.result.now in
-    let is : IsInside f = lent_inside c.self.inside c.as_mut-parts.result.now c.as_mut-parts.ensures.value
+    let is : IsStackInside f = lent_inside c.self.inside c.as_mut-parts.result.now c.as_mut-parts.ensures.value
     c.self.invariant in
     subst (λ (h : Host). IsTable h.pool h.reass.datagrams) (sym c.into_inner-pool.ensures)
     (socks_gone f c.flush.new.pool is.stack c.flush.ensures.moves).reass.table.table
@@ -31,12 +31,12 @@ end-requires c =
 pub end-requires-2-clause-out : goal.end-requires-2-clause-out
 end-requires-2-clause-out c =
     let f : Fields = lent c.self.inside c.as_mut-parts.result.now in
-    let is : IsInside f = lent_inside c.self.inside c.as_mut-parts.result.now c.as_mut-parts.ensures.value
+    let is : IsStackInside f = lent_inside c.self.inside c.as_mut-parts.result.now c.as_mut-parts.ensures.value
     c.self.invariant in
     let gone : Moves c.flush.new.pool (held_all c.flush.new.pool f.host.reass.datagrams) c.end.new.pool [] =
     subst (λ (h : Host). Moves h.pool (held_all h.pool h.reass.datagrams) c.end.new.pool []) c.into_inner-pool.ensures
     c.end.ensures in
-    subst (λ (h : Host). IsQueue c.end.new.pool h.net.out) (sym c.into_inner-pool.ensures)
+    subst (λ (h : Host). IsOutputQueue c.end.new.pool h.net.out) (sym c.into_inner-pool.ensures)
     (reass_gone f c.flush.new.pool c.end.new.pool is.stack c.flush.ensures.moves gone).output.queue
 
 pub end-requires-2-clause-none : goal.end-requires-2-clause-none
@@ -47,7 +47,7 @@ end-requires-2-clause-none c =
 pub returns : goal.returns
 returns c =
     let f : Fields = lent c.self.inside c.as_mut-parts.result.now in
-    let is : IsInside f = lent_inside c.self.inside c.as_mut-parts.result.now c.as_mut-parts.ensures.value
+    let is : IsStackInside f = lent_inside c.self.inside c.as_mut-parts.result.now c.as_mut-parts.ensures.value
     c.self.invariant in
     let gone : Moves c.flush.new.pool (held_all c.flush.new.pool f.host.reass.datagrams) c.end.new.pool [] =
     subst (λ (h : Host). Moves h.pool (held_all h.pool h.reass.datagrams) c.end.new.pool []) c.into_inner-pool.ensures

@@ -1,6 +1,6 @@
 use Rattle.std.proofs.Common.{◌≡◌, ◌≤◌, length, take, subst, sym}
 use Rattle.std.specs.Prelude.{option_map}
-use Rattle.ip_out.specs.Packets.{packets}
+use Rattle.ip_out.specs.Packets.{train_packets}
 use Rattle.ip_out.specs.Questions.{nth_packet}
 use Rattle.net_stack.specs.Stack.{StackView, state_of}
 use Rattle.net_stack.proofs.Called.{are_within, lent, lent_inside, lent_shows}
@@ -14,7 +14,7 @@ packet-requires-clause-queue c = (lent_inside c.self.inside c.as_ref-host.result
 pub packet-requires-clause-fits : goal.packet-requires-clause-fits
 packet-requires-clause-fits c =
     nth_within c.args.i (length c.args.room.now)
-    (packets c.as_ref-host.result.now.pool c.as_ref-host.result.now.net.out)
+    (train_packets c.as_ref-host.result.now.pool c.as_ref-host.result.now.net.out)
     (are_within (lent c.self.inside c.as_ref-host.result.now) (length c.args.room.now)
     (lent_inside c.self.inside c.as_ref-host.result.now c.as_ref-host.ensures c.self.invariant)
     (subst (λ (s : StackView). s.config.mtu ≤ length c.args.room.now)

@@ -1,11 +1,11 @@
 use Rattle.flat_model.specs.Machine.Event.{Comes, Done}
-use Rattle.net_stack.specs.Inside.Fields.{seen}
+use Rattle.net_stack.specs.Inside.Fields.{stack_of}
 use Rattle.net_stack.proofs.Called.{Called, lent, lent_inside, lent_shows}
 use Rattle.net_stack.proofs.Exchanged.{are_bytes, come_owned, come_called}
 use Rattle.net_stack.proofs.stack.Stack.rx.Goals as goal
 
 pub come_in-requires-clause-owned : goal.come_in-requires-clause-owned
-come_in-requires-clause-owned c = come_owned (seen (lent c.self.inside c.deref_mut.result.now))
+come_in-requires-clause-owned c = come_owned (stack_of (lent c.self.inside c.deref_mut.result.now))
     (lent_inside c.self.inside c.deref_mut.result.now c.deref_mut.ensures.value c.self.invariant).stack
 
 all : (c : goal.After-self-1)

@@ -3,7 +3,7 @@ use Rattle.flat_model.specs.Machine.Event.{Done, Bind, Refused}
 use Rattle.flat_model.specs.Packets.Header.{first_fault}
 use Rattle.pcb_table.specs.declared.block.Block.{Block}
 use Rattle.pcb_table.specs.Table.{Table, IsCall, KeepsOpen}
-use Rattle.pcb_table.specs.Inside.Search.{GivesPort, block_bind_faults, config_of}
+use Rattle.pcb_table.specs.Inside.Search.{GivesPort, block_bind_faults, interface_config}
 use Rattle.pcb_table.specs.Apart.{AreApart}
 use Rattle.pcb_table.specs.Inside.Fields.{IsCached, IsInCircle, IsLocated}
 use Rattle.pcb_table.specs.Inside.Changed.{bound_block}
@@ -25,7 +25,7 @@ returns-in-Some-fault-clause-step c =
     let last = c.self.inside.last_port in
     let b = c.in-Some.at.block in
     let at : IsLocated c.args.fd bs c.in-Some.at.index b = c.in-Some.ensures in
-    let fault : first_fault (block_bind_faults (config_of i) bs b c.args.address) ≡ Some c.in-Some-fault.errno =
+    let fault : first_fault (block_bind_faults (interface_config i) bs b c.args.address) ≡ Some c.in-Some-fault.errno =
     sym c.bind_fault-fault.ensures ∙ c.in-Some-fault.is in
     subst (λ (t : Table). IsCall t (Bind c.args.fd c.args.address) (Refused c.in-Some-fault.errno) t) c.self.view_is
     (bind_refused i bs last c.args.fd c.in-Some.at.index b c.self.invariant.0 at c.args.address c.in-Some-fault.errno
@@ -39,9 +39,9 @@ invariant_of-self c =
     let b = c.in-Some.at.block in
     let at : IsLocated c.args.fd bs c.in-Some.at.index b = c.in-Some.ensures in
     let index = c.in-Some.at.index in
-    let fault : first_fault (block_bind_faults (config_of i) bs b c.args.address) ≡ None =
+    let fault : first_fault (block_bind_faults (interface_config i) bs b c.args.address) ≡ None =
     sym c.bind_fault-fault.ensures ∙ c.in_default-fault.is in
-    let unbound : b.port ≡ None = unbound_port (config_of i) bs b c.args.address fault in
+    let unbound : b.port ≡ None = unbound_port (interface_config i) bs b c.args.address fault in
     let written : c.set_block.new.self ≡ _ = c.set_block.ensures ∙ ap (set bs index) c.bound_to.ensures in
     let kept =
     bound_keeps bs c.args.fd index b c.self.invariant.0 at c.unless_zero-local.result c.port_for-chosen.result.port
@@ -60,7 +60,7 @@ returns-clause-step c =
     let later = c.port_for-chosen.result.last in
     let port = c.port_for-chosen.result.port in
     let new = c.set_block.new.self in
-    let fault : first_fault (block_bind_faults (config_of i) bs b a) ≡ None =
+    let fault : first_fault (block_bind_faults (interface_config i) bs b a) ≡ None =
     sym c.bind_fault-fault.ensures ∙ c.in_default-fault.is in
     let written : new ≡ set bs c.in-Some.at.index (bound_block (unless_zero a.ip) port b) =
     c.set_block.ensures ∙ ap (set bs c.in-Some.at.index)

@@ -2,7 +2,7 @@ use Rattle.std.proofs.Common.{◌≡◌, find, Some, None, Ok, Err, sym, subst, 
 use Rattle.flat_model.specs.Packets.Header.{first_fault}
 use Rattle.pcb_table.specs.Table.{Table, block_at}
 use Rattle.pcb_table.specs.Apart.{has_fd}
-use Rattle.pcb_table.specs.Inside.Search.{block_connect_faults, config_of}
+use Rattle.pcb_table.specs.Inside.Search.{block_connect_faults, interface_config}
 use Rattle.flat_model.specs.Machine.Calls.{read_addr}
 use Rattle.flat_model.specs.declared.errno.Errno.TheVariants.{IsConnected}
 use Rattle.pcb_table.specs.Found.{ChecksDestination}
@@ -28,9 +28,9 @@ returns-in-Some c =
     let b = c.args.block.now in
     let at : find (has_fd b.fd) bs ≡ Some b =
     subst (λ (t : Table). block_at b.fd t ≡ Some b) (sym c.self.view_is) c.requires in
-    let fault : first_fault (block_connect_faults (config_of i) bs b (read_addr (config_of i) c.args.to))
+    let fault : first_fault (block_connect_faults (interface_config i) bs b (read_addr (interface_config i) c.args.to))
     ≡ Some c.in-Some.errno =
-    (λ k. first_fault (block_connect_faults (config_of i) bs b (sym c.read-to.ensures k)))
+    (λ k. first_fault (block_connect_faults (interface_config i) bs b (sym c.read-to.ensures k)))
     ∙ sym c.destination_fault.ensures ∙ c.in-Some.is in
     subst (λ (t : Table). ChecksDestination t b.fd c.args.to (Err c.in-Some.errno)) c.self.view_is
     (checks_refused i bs last b.fd b at c.args.to c.in-Some.errno (sym c.is_some.ensures ∙ c.if-is_some.false) fault)
@@ -43,8 +43,9 @@ returns-in-None c =
     let b = c.args.block.now in
     let at : find (has_fd b.fd) bs ≡ Some b =
     subst (λ (t : Table). block_at b.fd t ≡ Some b) (sym c.self.view_is) c.requires in
-    let none : first_fault (block_connect_faults (config_of i) bs b (read_addr (config_of i) c.args.to)) ≡ None =
-    (λ k. first_fault (block_connect_faults (config_of i) bs b (sym c.read-to.ensures k)))
+    let none : first_fault (block_connect_faults (interface_config i) bs b (read_addr (interface_config i) c.args.to))
+    ≡ None =
+    (λ k. first_fault (block_connect_faults (interface_config i) bs b (sym c.read-to.ensures k)))
     ∙ sym c.destination_fault.ensures ∙ c.in-None.is in
     subst (λ (t : Table). ChecksDestination t b.fd c.args.to (Ok c.read-to.result)) c.self.view_is
     (checks_passed i bs last b.fd b at c.args.to c.read-to.result (sym c.is_some.ensures ∙ c.if-is_some.false)

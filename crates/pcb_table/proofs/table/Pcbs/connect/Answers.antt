@@ -4,7 +4,7 @@ use Rattle.flat_model.specs.Packets.Header.{first_fault}
 use Rattle.pcb_table.specs.declared.block.Block.{Block}
 use Rattle.pcb_table.specs.declared.block.Connection.{Connection}
 use Rattle.pcb_table.specs.Table.{Table, IsCall, KeepsOpen}
-use Rattle.pcb_table.specs.Inside.Search.{GivesPort, block_connect_faults, config_of, youngest_block}
+use Rattle.pcb_table.specs.Inside.Search.{GivesPort, block_connect_faults, interface_config, youngest_block}
 use Rattle.pcb_table.specs.Apart.{AreApart, plain}
 use Rattle.pcb_table.specs.Inside.Fields.{IsCached, IsInCircle, IsLocated}
 use Rattle.pcb_table.specs.Inside.Changed.{connected_block, disconnected_block, forgotten}
@@ -52,9 +52,9 @@ returns-in-Some-destination_fault-clause-step c =
     let gone = c.set_block.new.self in
     let at : IsLocated c.args.fd bs index b = c.in-Some.ensures in
     let g : gone ≡ set bs index me = c.set_block.ensures ∙ ap (set bs index) c.disconnected-block.ensures in
-    let fault : first_fault (block_connect_faults (config_of i) gone me (read_addr (config_of i) a))
+    let fault : first_fault (block_connect_faults (interface_config i) gone me (read_addr (interface_config i) a))
     ≡ Some c.in-Some-destination_fault.errno =
-    (λ k. first_fault (block_connect_faults (config_of i) gone (sym c.disconnected-block.ensures k)
+    (λ k. first_fault (block_connect_faults (interface_config i) gone (sym c.disconnected-block.ensures k)
     (sym c.read-to.ensures k))) ∙ sym c.destination_fault.ensures ∙ c.in-Some-destination_fault.is in
     subst (λ (t : Table). IsCall t (Connect c.args.fd a) (Refused c.in-Some-destination_fault.errno)
     (table_of i gone last)) c.self.view_is
@@ -77,19 +77,20 @@ invariant_of-self-2 c =
     let cached : IsCached gone c.without-self-inside.result =
     subst (λ (k : Option Connection). IsCached gone k) (sym c.without-self-inside.ensures)
     (subst (λ (cs : List Block). IsCached cs (forgotten c.args.fd c.self.inside.cache)) (sym g) kept.1) in
-    let fault : first_fault (block_connect_faults (config_of i) gone me (read_addr (config_of i) a)) ≡ None =
-    (λ k. first_fault (block_connect_faults (config_of i) gone (sym c.disconnected-block.ensures k)
+    let fault : first_fault (block_connect_faults (interface_config i) gone me (read_addr (interface_config i) a))
+    ≡ None =
+    (λ k. first_fault (block_connect_faults (interface_config i) gone (sym c.disconnected-block.ensures k)
     (sym c.read-to.ensures k))) ∙ sym c.destination_fault.ensures ∙ c.in_default-destination_fault.is in
     let there : IsLocated c.args.fd gone index me =
     subst (λ (cs : List Block). IsLocated c.args.fd cs index me) (sym g)
     (located_after bs c.args.fd index b c.self.invariant.0 at me (disconnected_fd b)) in
-    let to : Addr = read_addr (config_of i) a in
+    let to : Addr = read_addr (interface_config i) a in
     let source = c.source-source.result in
     let port = c.port_for-chosen.result.port in
     let later = c.port_for-chosen.result.last in
     let new = c.set_block-2.new.self in
-    let from : source ≡ source_for (config_of i) (plain me) to.ip =
-    c.source-source.ensures ∙ (λ k. source_for (config_of i) (plain (c.disconnected-block.ensures k))
+    let from : source ≡ source_for (interface_config i) (plain me) to.ip =
+    c.source-source.ensures ∙ (λ k. source_for (interface_config i) (plain (c.disconnected-block.ensures k))
     (c.read-to.ensures k).ip) in
     let given : GivesPort gone last me.local me.port port later =
     subst (λ (d : Block). GivesPort gone last d.local d.port port later) c.disconnected-block.ensures
@@ -100,7 +101,7 @@ invariant_of-self-2 c =
     (c.disconnected-block.ensures k))) in
     let unmet =
     subst (λ (k : ℕ). is_some (youngest_block 0 (record { local = Some k; port = me.port; peer = Some to }) gone)
-    ≡ false) (sym from) (unmet_four (config_of i) gone me to fault) in
+    ≡ false) (sym from) (unmet_four (interface_config i) gone me to fault) in
     let free = no_four gone last me.local me.port later _ source port to from unmet given in
     let done =
     connected_keeps gone c.args.fd index me apart there source port to c.without-self-inside.result
@@ -125,19 +126,20 @@ returns-clause-step c =
     let cached : IsCached gone c.without-self-inside.result =
     subst (λ (k : Option Connection). IsCached gone k) (sym c.without-self-inside.ensures)
     (subst (λ (cs : List Block). IsCached cs (forgotten c.args.fd c.self.inside.cache)) (sym g) kept.1) in
-    let fault : first_fault (block_connect_faults (config_of i) gone me (read_addr (config_of i) a)) ≡ None =
-    (λ k. first_fault (block_connect_faults (config_of i) gone (sym c.disconnected-block.ensures k)
+    let fault : first_fault (block_connect_faults (interface_config i) gone me (read_addr (interface_config i) a))
+    ≡ None =
+    (λ k. first_fault (block_connect_faults (interface_config i) gone (sym c.disconnected-block.ensures k)
     (sym c.read-to.ensures k))) ∙ sym c.destination_fault.ensures ∙ c.in_default-destination_fault.is in
     let there : IsLocated c.args.fd gone index me =
     subst (λ (cs : List Block). IsLocated c.args.fd cs index me) (sym g)
     (located_after bs c.args.fd index b c.self.invariant.0 at me (disconnected_fd b)) in
-    let to : Addr = read_addr (config_of i) a in
+    let to : Addr = read_addr (interface_config i) a in
     let source = c.source-source.result in
     let port = c.port_for-chosen.result.port in
     let later = c.port_for-chosen.result.last in
     let new = c.set_block-2.new.self in
-    let from : source ≡ source_for (config_of i) (plain me) to.ip =
-    c.source-source.ensures ∙ (λ k. source_for (config_of i) (plain (c.disconnected-block.ensures k))
+    let from : source ≡ source_for (interface_config i) (plain me) to.ip =
+    c.source-source.ensures ∙ (λ k. source_for (interface_config i) (plain (c.disconnected-block.ensures k))
     (c.read-to.ensures k).ip) in
     let given : GivesPort gone last me.local me.port port later =
     subst (λ (d : Block). GivesPort gone last d.local d.port port later) c.disconnected-block.ensures
@@ -183,19 +185,20 @@ returns-clause-descriptors c =
     let cached : IsCached gone c.without-self-inside.result =
     subst (λ (k : Option Connection). IsCached gone k) (sym c.without-self-inside.ensures)
     (subst (λ (cs : List Block). IsCached cs (forgotten c.args.fd c.self.inside.cache)) (sym g) kept.1) in
-    let fault : first_fault (block_connect_faults (config_of i) gone me (read_addr (config_of i) a)) ≡ None =
-    (λ k. first_fault (block_connect_faults (config_of i) gone (sym c.disconnected-block.ensures k)
+    let fault : first_fault (block_connect_faults (interface_config i) gone me (read_addr (interface_config i) a))
+    ≡ None =
+    (λ k. first_fault (block_connect_faults (interface_config i) gone (sym c.disconnected-block.ensures k)
     (sym c.read-to.ensures k))) ∙ sym c.destination_fault.ensures ∙ c.in_default-destination_fault.is in
     let there : IsLocated c.args.fd gone index me =
     subst (λ (cs : List Block). IsLocated c.args.fd cs index me) (sym g)
     (located_after bs c.args.fd index b c.self.invariant.0 at me (disconnected_fd b)) in
-    let to : Addr = read_addr (config_of i) a in
+    let to : Addr = read_addr (interface_config i) a in
     let source = c.source-source.result in
     let port = c.port_for-chosen.result.port in
     let later = c.port_for-chosen.result.last in
     let new = c.set_block-2.new.self in
-    let from : source ≡ source_for (config_of i) (plain me) to.ip =
-    c.source-source.ensures ∙ (λ k. source_for (config_of i) (plain (c.disconnected-block.ensures k))
+    let from : source ≡ source_for (interface_config i) (plain me) to.ip =
+    c.source-source.ensures ∙ (λ k. source_for (interface_config i) (plain (c.disconnected-block.ensures k))
     (c.read-to.ensures k).ip) in
     let given : GivesPort gone last me.local me.port port later =
     subst (λ (d : Block). GivesPort gone last d.local d.port port later) c.disconnected-block.ensures

@@ -3,7 +3,7 @@ use Rattle.flat_model.specs.Machine.Event.{Opened}
 use Rattle.pcb_table.specs.declared.block.Block.{Block}
 use Rattle.pcb_table.specs.Table.{Table, machine, Queues, OpensOnly}
 use Rattle.pcb_table.specs.Apart.{AreApart}
-use Rattle.pcb_table.specs.Inside.Fields.{IsCached, IsInCircle, IsLowestFree}
+use Rattle.pcb_table.specs.Inside.Fields.{IsCached, IsInCircle, IsLowestUnused}
 use Rattle.pcb_table.specs.Inside.Changed.{unbound_block}
 use Rattle.flat_model.specs.Machine.Calls.{Opens}
 use Rattle.flat_model.specs.Machine.State.{State}
@@ -17,7 +17,7 @@ pub invariant_of-self : goal.invariant_of-self
 invariant_of-self c =
     let bs = c.self.inside.blocks in
     let fd = c.lowest_free-fd.result in
-    let lowest : IsLowestFree bs fd = c.lowest_free-fd.ensures.free in
+    let lowest : IsLowestUnused bs fd = c.lowest_free-fd.ensures.free in
     let written : c.insert_first.new.self ≡ unbound_block fd ∷ bs =
     c.insert_first.ensures ∙ ap (λ b. b ∷ bs) c.unbound.ensures in
     subst (λ (cs : List Block). AreApart cs × IsCached cs c.self.inside.cache × IsInCircle c.self.inside.last_port)
@@ -34,7 +34,7 @@ returns-clause-step c =
     let last = c.self.inside.last_port in
     let fd = c.lowest_free-fd.result in
     let new = c.insert_first.new.self in
-    let lowest : IsLowestFree bs fd = c.lowest_free-fd.ensures.free in
+    let lowest : IsLowestUnused bs fd = c.lowest_free-fd.ensures.free in
     let written : new ≡ unbound_block fd ∷ bs = c.insert_first.ensures ∙ ap (λ b. b ∷ bs) c.unbound.ensures in
     subst (λ (t : Table). (rest : State) (queues : Queues) → queues fd ≡ []
     → Opens 64 (machine rest queues t) (Opened fd) (machine rest queues (table_of i new last))) c.self.view_is
@@ -47,7 +47,7 @@ returns-clause-opened c =
     let bs = c.self.inside.blocks in
     let last = c.self.inside.last_port in
     let fd = c.lowest_free-fd.result in
-    let lowest : IsLowestFree bs fd = c.lowest_free-fd.ensures.free in
+    let lowest : IsLowestUnused bs fd = c.lowest_free-fd.ensures.free in
     let written : c.insert_first.new.self ≡ unbound_block fd ∷ bs =
     c.insert_first.ensures ∙ ap (λ b. b ∷ bs) c.unbound.ensures in
     subst (λ (t : Table). OpensOnly t fd (table_of i c.insert_first.new.self last)) c.self.view_is

@@ -2,11 +2,11 @@ use Rattle.std.proofs.Common.{Some, refl, arith}
 use Rattle.flat_model.specs.Machine.Event.{Comes, Done}
 use Rattle.play_script.proofs.CaptureLemmas.{Captures-one}
 use Rattle.play_script.proofs.PlayLemmas.{are_bytes}
-use Rattle.stack_call.specs.Moves.{Moves}
+use Rattle.stack_call.specs.Moves.{StackSteps}
 use Rattle.play_script.proofs.captured.CapturedStackWire.rx.Goals as goal
 
 pub returns : goal.returns
-unfolding Moves
+unfolding StackSteps
 returns g c = (
   (are_bytes c.args.packet.now (λ k. omega (arith, c.type_inv.packet k)), c.requires),
   c.rx.ensures,

@@ -1,11 +1,11 @@
 use Rattle.std.proofs.Common.{None, refl}
 use Rattle.flat_model.specs.Machine.Event.{Done, Tick}
 use Rattle.play_script.proofs.CaptureLemmas.{Captures-one, Keeps-none, Notes-ticks}
-use Rattle.stack_call.specs.Moves.{Moves}
+use Rattle.stack_call.specs.Moves.{StackSteps}
 use Rattle.play_script.proofs.captured.CapturedStackWire.tick.Goals as goal
 
 pub returns : goal.returns
-unfolding Moves
+unfolding StackSteps
 returns g c =
     let line = c.args.self.now.capture.line in
     let old = c.args.self.now.capture.trace in (

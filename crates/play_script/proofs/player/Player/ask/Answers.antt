@@ -3,10 +3,10 @@ use Rattle.play_text.specs.Texts.{fault_text}
 use Rattle.play_script.specs.Inside.{play_of}
 use Rattle.play_script.specs.Plays.{captured_of}
 use Rattle.play_script.specs.Tells.{stays_head, told_text}
-use Rattle.play_script.specs.Views.{expected_on, plain_of}
+use Rattle.play_script.specs.Views.{expected_on, plain_line}
 use Rattle.play_script.specs.declared.printer.Printer.{Printer}
 use Rattle.play_script.proofs.AnswerLemmas.{Ask-tells, None-tells, Settings-tell, settings_words}
-use Rattle.stack_call.specs.Moves.{Moves}
+use Rattle.stack_call.specs.Moves.{StackSteps}
 use Rattle.net_stack.specs.Stack.{state_of}
 use Rattle.play_script.proofs.player.Player.ask.Goals as goal
 
@@ -21,9 +21,9 @@ returns-in-Done g c =
     c.both-self.ensures ∙ ap (λ (b : Bool). now.head && b) done.2.1 in
     let playing = λ (h : Bool) (p : Printer). play_of (state_of after.stack) after.capture.trace now.config h p in (
       told_text now.printer.form now.printer.name now.printer.number now.line.shown (expected_on now.line) text below,
-      Ask-tells Moves g.F.Folder.may_have
+      Ask-tells StackSteps g.F.Folder.may_have
           (play_of (state_of now.captured.stack) now.captured.capture.trace now.config now.head now.printer)
-          (playing c.both-self.result c.put_told.new.self) now.line.shown (plain_of now.line) (expected_on now.line)
+          (playing c.both-self.result c.put_told.new.self) now.line.shown (plain_line now.line) (expected_on now.line)
           done.0 text below
           (captured_of (state_of after.stack) after.capture.trace after.capture.line) c.is_quiet-self.result
           c.is_quiet-self.ensures done.1 done.2.0 (ap₂ playing head c.put_told.ensures.printer),
@@ -37,9 +37,9 @@ returns-in-Settings g c =
     let after = c.tell_line.new.captured in
     let set = c.set_up.ensures in (
       set.0,
-      Settings-tell Moves g.F.Folder.may_have
+      Settings-tell StackSteps g.F.Folder.may_have
           (play_of (state_of now.captured.stack) now.captured.capture.trace now.config now.head now.printer) _ _
-          now.line.shown (plain_of now.line) now.line.words set.0 (expected_on now.line) done.2.0.0 done.0
+          now.line.shown (plain_line now.line) now.line.words set.0 (expected_on now.line) done.2.0.0 done.0
           (captured_of (state_of after.stack) after.capture.trace after.capture.line)
           (settings_words now.line done.0 done.2.0.0 done.1 done.2.0.1) done.1
           done.2.0.1 done.2.1 refl set.1,
@@ -53,9 +53,9 @@ returns-in-Nothing g c =
     let after = c.tell_line.new.captured in
     let playing = λ (p : Printer). play_of (state_of after.stack) after.capture.trace now.config now.head p in (
       fault_text now.printer.form now.printer.name now.printer.number c.bytes_of.result.now,
-      None-tells Moves g.F.Folder.may_have
+      None-tells StackSteps g.F.Folder.may_have
           (play_of (state_of now.captured.stack) now.captured.capture.trace now.config now.head now.printer)
-          (playing c.put_fault.new.self) now.line.shown (plain_of now.line) (expected_on now.line)
+          (playing c.put_fault.new.self) now.line.shown (plain_line now.line) (expected_on now.line)
           (captured_of (state_of after.stack) after.capture.trace after.capture.line) c.bytes_of.result.now
           c.tell_advice.new.self.told done.0 c.tell_advice.ensures.advised c.bytes_of.ensures.is done.1
           (ap playing c.put_fault.ensures.printer),

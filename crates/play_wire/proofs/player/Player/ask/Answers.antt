@@ -2,7 +2,7 @@ use Rattle.std.proofs.Common.{◌≡◌, ◌++◌, ◌∙◌, Bool, List, ap, re
 use Rattle.play_text.specs.Texts.{fault_text}
 use Rattle.play_wire.specs.Faults.{IsReason}
 use Rattle.play_script.specs.Tells.{told_text}
-use Rattle.play_script.specs.Views.{expected_on, plain_of}
+use Rattle.play_script.specs.Views.{expected_on, plain_line}
 use Rattle.play_script.specs.declared.printer.Printer.{Printer}
 use Rattle.segment.specs.Inside.{view}
 use Rattle.play_wire.specs.Acts.{Told, Refused}
@@ -56,7 +56,8 @@ returns-in-Err g c =
         did.1,
         (
           c.bytes_of-in-Err.result.now,
-          subst (λ (t : List ℕ). IsReason host (plain_of now.line) c.in-Err.fault t) (sym c.bytes_of-in-Err.ensures.is)
+          subst (λ (t : List ℕ). IsReason host (plain_line now.line) c.in-Err.fault t)
+              (sym c.bytes_of-in-Err.ensures.is)
               c.tell_reason.ensures.reason,
           refl,
         ),

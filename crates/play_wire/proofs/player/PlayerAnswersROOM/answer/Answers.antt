@@ -2,11 +2,11 @@ use Rattle.std.proofs.Common.{[], ◌-◌, ◌++◌, ◌∙◌, List, ap, codes,
 use Rattle.play_line.specs.declared.fault.Slip.{Slip}
 use Rattle.play_text.specs.Texts.{fault_text, slip_text}
 use Rattle.play_script.specs.Lines.{Asks, Faulty, Nothing, TooLong}
-use Rattle.play_script.specs.Views.{expected_on, plain_of}
+use Rattle.play_script.specs.Views.{expected_on, plain_line}
 use Rattle.play_script.specs.declared.printer.Printer.{Printer}
 use Rattle.segment.specs.Inside.{view}
 use Rattle.play_wire.specs.Inside.{named_by, play_with}
-use Rattle.play_wire.specs.Tells.{Play, TellsPart, shifted}
+use Rattle.play_wire.specs.Tells.{WirePlay, TellsPart, shifted}
 use Rattle.play_wire.proofs.PlayLemmas.{nothing_more, told_part}
 use Rattle.play_wire.proofs.player.PlayerAnswersROOM.answer.Goals as goal
 
@@ -69,9 +69,10 @@ returns-in-Asks g c =
     let new = play_with (view after.hosts.segment) after.hosts.names.items after.printer in (
       did.1,
       told_part (playing now.printer) new c.args.line.now c.take-part.result.now host
-          (Asks line.shown (plain_of line) (expected_on line)) did.0 did.1
+          (Asks line.shown (plain_line line) (expected_on line)) did.0 did.1
           c.take-part.ensures.parted c.in-Asks.ensures
-          (subst (λ (p : Play). TellsPart p host 0 (Asks line.shown (plain_of line) (expected_on line)) did.0 did.1 new)
+          (subst (λ (p : WirePlay). TellsPart p host 0 (Asks line.shown (plain_line line) (expected_on line)) did.0
+          did.1 new)
           (ap playing c.next_line.ensures) did.2),
       did.3,
     )

@@ -1,5 +1,5 @@
 use Rattle.std.proofs.Common.{◌≡◌, [], ◌∙◌, arith}
-use Rattle.mbuf_chain.specs.Owners.{times}
+use Rattle.mbuf_chain.specs.Owners.{times_among}
 use Rattle.mbuf_chain.proofs.Laws.Owners.{live_first, owned_after}
 use Rattle.sockbuf.specs.SockBuf.{chains_of}
 use Rattle.sockbuf.proofs.Laws.{ready_made, apart_ready, ready_freed, refused}
@@ -19,6 +19,7 @@ append_addr-requires-clause-apart g c = apart_ready _ c.datagram-chain.ensures c
 pub returns-in-Err : goal.returns-in-Err
 returns-in-Err g c =
     let r = refused c.args.sender c.in-Err.refusal c.in-Err.ensures.appends in
-    let gone : times c.in-Err.chain (chains_of c.append_addr.new.pool c.append_addr.new.self) ≡ 0 =
-    (λ i. times (r.chain i) (chains_of (r.pool i) (r.queue i))) ∙ apart_ready _ c.datagram-chain.ensures c.requires in
+    let gone : times_among c.in-Err.chain (chains_of c.append_addr.new.pool c.append_addr.new.self) ≡ 0 =
+    (λ i. times_among (r.chain i) (chains_of (r.pool i) (r.queue i)))
+    ∙ apart_ready _ c.datagram-chain.ensures c.requires in
     ready_freed c.in-Err.chain _ c.append_addr.ensures.ready gone c.free_chain.ensures

@@ -1,7 +1,7 @@
 use Rattle.std.proofs.Common.{refl, sym, subst, ap, ◌∙◌, take, drop}
 use Rattle.raw_cells.specs.Over.{over}
-use Rattle.raw_cells.specs.Cells.{Cells, IsPart, write, read, IsSized}
-use Rattle.raw_cells.specs.Inside.Layout.{seen}
+use Rattle.raw_cells.specs.Cells.{Cells, IsCellPart, cells_written, read, IsSized}
+use Rattle.raw_cells.specs.Inside.Layout.{cells_of}
 use Rattle.raw_cells.proofs.Parts.{part_written, region_sized}
 use Rattle.raw_cells.proofs.region.Region.bytes_mut.Goals as goal
 
@@ -9,13 +9,13 @@ pub returns : goal.returns
 returns c =
     let r = c.self.inside in let p = c.args.part in
     let at = c.start-at.ensures.at in
-    let is = subst (λ (v : Cells). IsPart v p) (sym c.self.view_is) c.requires in (
+    let is = subst (λ (v : Cells). IsCellPart v p) (sym c.self.view_is) c.requires in (
       (
         refl,
         λ w.
-            (λ i. seen (record r { block = over r.block (at i) (take p.len w) }))
+            (λ i. cells_of (record r { block = over r.block (at i) (take p.len w) }))
             ∙ part_written r c.self.invariant p is w
-            ∙ ap (λ (v : Cells). write v p w) c.self.view_is,
+            ∙ ap (λ (v : Cells). cells_written v p w) c.self.view_is,
       ),
       record {
         writes_back = tt;

@@ -1,8 +1,8 @@
 use Rattle.std.proofs.Common.{ℕ, List, sym, subst, ap, ◌∙◌, ◌≡◌, ◌≤◌, ◌+◌, ◌-◌, ◌++◌, take, drop, arith, length, take_all, length-take-le, length-drop, append_assoc}
 use Rattle.std.specs.List.{copy_within}
 use Rattle.raw_cells.specs.Over.{over}
-use Rattle.raw_cells.specs.Cells.{Cells, IsPart, IsSized, write, place, read}
-use Rattle.raw_cells.specs.Inside.Layout.{seen}
+use Rattle.raw_cells.specs.Cells.{Cells, IsCellPart, IsSized, cells_written, place, read}
+use Rattle.raw_cells.specs.Inside.Layout.{cells_of}
 use Rattle.raw_cells.proofs.Over.{over_is, length_over, over_all}
 use Rattle.raw_cells.proofs.Parts.{part_written, part_within, region_sized}
 use Rattle.raw_cells.proofs.Laws.{sized_written}
@@ -28,15 +28,15 @@ copied bs a d n l e from to =
 pub returns-clause-change : goal.returns-clause-change
 returns-clause-change c =
     let r = c.self.inside in let from = c.args.from in let to = c.args.to in
-    let is_from = subst (λ (v : Cells). IsPart v from) (sym c.self.view_is) c.requires.from in
-    let is_to = subst (λ (v : Cells). IsPart v to) (sym c.self.view_is) c.requires.to in
-    let ws = take from.len (drop (place (seen r) from) r.block) in
+    let is_from = subst (λ (v : Cells). IsCellPart v from) (sym c.self.view_is) c.requires.from in
+    let is_to = subst (λ (v : Cells). IsCellPart v to) (sym c.self.view_is) c.requires.to in
+    let ws = take from.len (drop (place (cells_of r) from) r.block) in
     let done : over r.block 0 (take c.len-len.result c.copy_within.new.self)
-    ≡ over r.block (place (seen r) to) (take to.len ws) =
+    ≡ over r.block (place (cells_of r) to) (take to.len ws) =
     let at = c.start-at.result in let dest = c.start-dest.result in let n = from.len in
-    let at_is : at ≡ place (seen r) from =
+    let at_is : at ≡ place (cells_of r) from =
     c.start-at.ensures.at ∙ ap (λ (v : Cells). place v from) (sym c.self.view_is) in
-    let dest_is : dest ≡ place (seen r) to =
+    let dest_is : dest ≡ place (cells_of r) to =
     c.start-dest.ensures.at ∙ ap (λ (v : Cells). place v to) (sym c.self.view_is) in
     let n_to = c.requires.len in
     ap (λ l. over r.block 0 (take c.len-len.result l))
@@ -45,9 +45,9 @@ returns-clause-change c =
     (omega (arith, part_within r c.self.invariant from is_from, at_is))
     (omega (arith, part_within r c.self.invariant to is_to, dest_is, n_to))
     ∙ (λ t. over r.block (dest_is t) (take (n_to t) (take n (drop (at_is t) r.block)))) in
-    (λ t. seen (record r { block = done t }))
+    (λ t. cells_of (record r { block = done t }))
     ∙ part_written r c.self.invariant to is_to ws
-    ∙ ap (λ (v : Cells). write v to (read v from)) c.self.view_is
+    ∙ ap (λ (v : Cells). cells_written v to (read v from)) c.self.view_is
 
 pub returns-clause-sized : goal.returns-clause-sized
 returns-clause-sized c =

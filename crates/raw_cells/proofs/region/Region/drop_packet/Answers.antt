@@ -1,5 +1,5 @@
 use Rattle.std.proofs.Common.{◌∙◌, ℕ, ◌%◌, ◌+◌, ◌*◌, None, ap, arith}
-use Rattle.raw_cells.specs.Cells.{head_of}
+use Rattle.raw_cells.specs.Cells.{cell_head}
 use Rattle.raw_cells.specs.declared.head.Head.{Head}
 use Rattle.raw_cells.proofs.Patches.{packet_dropped, field_kept, field_room, field_set, field_sized, flags_read, low_field}
 use Rattle.raw_cells.proofs.region.Region.drop_packet.Goals as goal
@@ -20,7 +20,7 @@ returns-clause-change c =
     c.clear_packet.ensures.len
     (omega (
       arith,
-      low_field ((λ (h : Head). record h { packet = None }) (head_of c.args.self.now c.args.index)) 20
+      low_field ((λ (h : Head). record h { packet = None }) (cell_head c.args.self.now c.args.index)) 20
           (omega arith),
     ))
     (packet_dropped c.self.inside.block (128 * c.args.index) c.clear_packet.new.bytes

@@ -1,5 +1,5 @@
 use Rattle.std.proofs.Common.{◌*◌, arith}
-use Rattle.raw_cells.specs.Cells.{head_of}
+use Rattle.raw_cells.specs.Cells.{cell_head}
 use Rattle.raw_cells.specs.declared.head.Head.{Head}
 use Rattle.raw_cells.proofs.Patches.{data_set, field_kept, field_room, field_set, field_sized, low_field}
 use Rattle.raw_cells.proofs.region.Region.set_data.Goals as goal
@@ -21,7 +21,7 @@ returns-clause-change c =
     (omega (
       arith,
       low_field ((λ (h : Head). record h { len = c.args.len; start = c.args.start })
-          (head_of c.args.self.now c.args.index)) 16 (omega arith),
+          (cell_head c.args.self.now c.args.index)) 16 (omega arith),
     ))
     (data_set c.self.inside.block (128 * c.args.index) c.put_data.new.bytes
     (field_room c.self.inside c.self.invariant c.args.self.now c.self.view_is c.args.index c.requires) c.args.len

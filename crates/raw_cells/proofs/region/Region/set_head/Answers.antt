@@ -2,7 +2,7 @@ use Rattle.std.proofs.Common.{◌≡◌, ◌<◌, ◌≤◌, ◌∙◌, ap, sym,
 use Rattle.std.proofs.lemmas.List.{take-take}
 use Rattle.raw_cells.specs.Over.{over}
 use Rattle.raw_cells.specs.Cells.{Cells, IsSized, head_size, with_head}
-use Rattle.raw_cells.specs.Inside.Layout.{seen}
+use Rattle.raw_cells.specs.Inside.Layout.{cells_of}
 use Rattle.raw_cells.proofs.Heads.{length-heads, head_size_le, head_written}
 use Rattle.raw_cells.proofs.Parts.{region_sized}
 use Rattle.raw_cells.proofs.Laws.{sized_after_head}
@@ -46,7 +46,7 @@ returns-clause-change c =
     ∙ ap (λ k. take k enc) c.head_len-len.ensures in (
       b,
       length-take-le (head_size h) enc (omega (arith, head_size_le h)),
-      (λ t. seen (record r { block = over r.block (128 * i) (is t) }))
+      (λ t. cells_of (record r { block = over r.block (128 * i) (is t) }))
           ∙ (λ t. record {
             heads = head_written r.block enc r.mbufs i h here (omega (arith, c.self.invariant.0)) long
                 c.encode-bytes.ensures.decoded t;

@@ -1,5 +1,5 @@
 use Rattle.std.proofs.Common.{◌*◌, arith}
-use Rattle.raw_cells.specs.Cells.{head_of}
+use Rattle.raw_cells.specs.Cells.{cell_head}
 use Rattle.raw_cells.specs.declared.head.Head.{Head}
 use Rattle.raw_cells.proofs.Patches.{next_set, field_kept, field_room, field_set, field_sized, low_field}
 use Rattle.raw_cells.proofs.region.Region.set_next.Goals as goal
@@ -23,7 +23,7 @@ returns-clause-change c =
     (λ (h : Head). record h { next = c.args.next }) 0 4 _ c.put_link.new.bytes (omega arith) c.put_link.ensures.len
     (omega (
       arith,
-      low_field ((λ (h : Head). record h { next = c.args.next }) (head_of c.args.self.now c.args.index)) 4
+      low_field ((λ (h : Head). record h { next = c.args.next }) (cell_head c.args.self.now c.args.index)) 4
           (omega arith),
     ))
     (next_set c.self.inside.block (128 * c.args.index) c.put_link.new.bytes

@@ -1,5 +1,5 @@
 use Rattle.std.proofs.Common.{◌*◌, arith}
-use Rattle.raw_cells.specs.Cells.{head_of}
+use Rattle.raw_cells.specs.Cells.{cell_head}
 use Rattle.raw_cells.specs.declared.head.Head.{Head}
 use Rattle.raw_cells.proofs.Patches.{next_packet_set, field_kept, field_room, field_set, field_sized, low_field}
 use Rattle.raw_cells.proofs.region.Region.set_next_packet.Goals as goal
@@ -25,7 +25,7 @@ returns-clause-change c =
     (omega (
       arith,
       low_field ((λ (h : Head). record h { next_packet = c.args.next_packet })
-          (head_of c.args.self.now c.args.index)) 8 (omega arith),
+          (cell_head c.args.self.now c.args.index)) 8 (omega arith),
     ))
     (next_packet_set c.self.inside.block (128 * c.args.index) c.put_link.new.bytes
     (field_room c.self.inside c.self.invariant c.args.self.now c.self.view_is c.args.index c.requires.index)

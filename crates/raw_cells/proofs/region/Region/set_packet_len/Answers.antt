@@ -1,5 +1,5 @@
 use Rattle.std.proofs.Common.{◌*◌, arith}
-use Rattle.raw_cells.specs.Cells.{head_of, with_packet_len}
+use Rattle.raw_cells.specs.Cells.{cell_head, with_packet_len}
 use Rattle.raw_cells.specs.declared.head.Head.{Head}
 use Rattle.raw_cells.specs.declared.head.PacketHeader.{PacketHeader}
 use Rattle.raw_cells.proofs.Patches.{packet_len_set, field_kept, field_room, field_set, field_sized, packet_field}
@@ -24,7 +24,7 @@ returns-clause-change c =
     (λ (h : Head). with_packet_len h c.args.len) 20 4 _ c.put_u32.new.bytes (omega arith) c.put_u32.ensures.len
     (omega (
       arith,
-      packet_field (head_of c.args.self.now c.args.index)
+      packet_field (cell_head c.args.self.now c.args.index)
           (λ (p : PacketHeader). record p { len = c.args.len }) 24 (omega arith) c.requires.packet,
     ))
     (packet_len_set c.self.inside.block (128 * c.args.index) c.put_u32.new.bytes

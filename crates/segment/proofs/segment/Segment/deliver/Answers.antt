@@ -24,7 +24,8 @@ returns c =
       chances = ap (λ v. v.items) c.shuffle.ensures.chances;
       flight = c.leave.ensures.early;
       random =
-          c.shuffle.ensures.after ∙ ap (λ (fs : List Flying). (shuffled old.chances fs old.random).1) c.leave.ensures.due;
+          c.shuffle.ensures.after ∙ ap (λ (fs : List Flying). (shuffled old.chances fs old.random).1)
+          c.leave.ensures.due;
       tallies =
           subst (λ (ts : List Tally). AtEach
           (λ place t u. u ≡ hears (length (received_in place (slice_get old.configs place) (leaving old).0)) t) ts

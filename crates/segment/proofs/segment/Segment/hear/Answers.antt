@@ -1,7 +1,7 @@
 use Rattle.std.proofs.Common.{◌≡◌, List, true, false, ap, arith}
 use Rattle.std.specs.Prelude.{slice_set}
 use Rattle.flat_ether.specs.Links.{LinkState}
-use Rattle.ether_host.specs.Inside.{seen}
+use Rattle.ether_host.specs.Inside.{link_seen}
 use Rattle.segment.specs.Inside.{view}
 use Rattle.segment.proofs.Frames.{map_get, map_set}
 use Rattle.segment.proofs.Walking.{get_at}
@@ -18,14 +18,14 @@ returns c =
     record {
       yes = λ _. record {
         stack = stack;
-        link = seen link;
+        link = link_seen link;
         stack' = c.receive.new.stack;
-        link' = seen c.receive.new.self;
+        link' = link_seen c.receive.new.self;
         stack_is =
             get_at v.stacks c.args.place stack stack (omega (arith, c.len.ensures, c.if-place-len.false))
             c.index_mut-2.ensures.value;
         link_is =
-            map_get seen c.args.self.now.links.items c.args.place link
+            map_get link_seen c.args.self.now.links.items c.args.place link
             (omega (arith, c.len-else-place-len.ensures, c.if-place-len-2.false)) c.index_mut.ensures.value;
         goes = c.receive.ensures;
         is =
@@ -33,7 +33,7 @@ returns c =
               stacks = slice_set v.stacks c.args.place c.receive.new.stack;
               links = links;
             })
-            (map_set seen c.args.self.now.links.items c.args.place c.receive.new.self);
+            (map_set link_seen c.args.self.now.links.items c.args.place c.receive.new.self);
       };
       no = λ e. absurd (never e);
     }

@@ -2,7 +2,7 @@ use Rattle.std.proofs.Common.{◌∙◌, ◌∷◌, [], ◌++◌, List, map, ap,
 use Rattle.std.proofs.lemmas.List.{map-append}
 use Rattle.flat_model.specs.declared.config.Config.{Config}
 use Rattle.flat_ether.specs.Links.{LinkState}
-use Rattle.ether_host.specs.Inside.{seen}
+use Rattle.ether_host.specs.Inside.{link_seen}
 use Rattle.ether_host.specs.declared.layer.LinkLayer.{LinkLayer}
 use Rattle.net_stack.specs.Stack.{StackView}
 use Rattle.segment.specs.Chances.{no_chances}
@@ -27,10 +27,10 @@ returns-in-Ok-boot c =
           c.push_reserved-in-Ok-boot.ensures.items
           ∙ ap (λ (xs : List StackView). xs ++ c.in-Ok-boot.stack ∷ []) c.reserve-else-is_err.ensures.items;
       links =
-          ap (map seen) c.push_reserved-in-Ok-boot-2.ensures.items
-          ∙ map-append seen c.reserve-else-is_err-2.new.self.items (layer ∷ [])
-          ∙ ap (λ (xs : List LinkLayer). map seen xs ++ seen layer ∷ []) c.reserve-else-is_err-2.ensures.items
-          ∙ ap (λ (l : LinkState). map seen c.args.self.now.links.items ++ l ∷ []) c.in-Ok.ensures;
+          ap (map link_seen) c.push_reserved-in-Ok-boot-2.ensures.items
+          ∙ map-append link_seen c.reserve-else-is_err-2.new.self.items (layer ∷ [])
+          ∙ ap (λ (xs : List LinkLayer). map link_seen xs ++ link_seen layer ∷ []) c.reserve-else-is_err-2.ensures.items
+          ∙ ap (λ (l : LinkState). map link_seen c.args.self.now.links.items ++ l ∷ []) c.in-Ok.ensures;
       flight = refl;
       room = refl;
       chances =
@@ -47,8 +47,8 @@ returns-in-Err c =
     let v = view c.args.self.now in (
       unbooted c.in-Err.fault v c.args.config c.args.link c.in_ok-check_ether.ensures c.in-Err.ensures.booted,
       view_same v c.reserve.new.self.items c.reserve-else-is_err.new.self.items
-          (map seen c.reserve-else-is_err-2.new.self.items) c.reserve-else-is_err-3.new.self.items
+          (map link_seen c.reserve-else-is_err-2.new.self.items) c.reserve-else-is_err-3.new.self.items
           c.reserve-else-is_err-4.new.self.items c.reserve.ensures.items c.reserve-else-is_err.ensures.items
-          (ap (map seen) c.reserve-else-is_err-2.ensures.items) c.reserve-else-is_err-3.ensures.items
+          (ap (map link_seen) c.reserve-else-is_err-2.ensures.items) c.reserve-else-is_err-3.ensures.items
           c.reserve-else-is_err-4.ensures.items,
     )

@@ -1,7 +1,7 @@
 use Rattle.std.proofs.Common.{refl}
 use Rattle.mbuf_chain.proofs.Laws.Trains.{beside_adds, apart_adds}
 use Rattle.sock_calls.specs.declared.packets.Heading.{Heading}
-use Rattle.sock_calls.specs.Inside.Putting.{config_of, sent_as}
+use Rattle.sock_calls.specs.Inside.Putting.{send_config, sent_as}
 use Rattle.sock_calls.proofs.Made.{packets_fit, packets_made}
 use Rattle.sock_calls.proofs.Making.{ready}
 use Rattle.sock_calls.proofs.Queueing.{put_is}
@@ -28,7 +28,7 @@ unreachable-requires c =
       port = c.ensure_port_of.result;
       to = c.args.route.to;
     } in
-    packets_fit (config_of c.args.self.now.pcbs c.args.net.now.mtu) (sent_as h c.args.bytes.now) c.requires.routed
+    packets_fit (send_config c.args.self.now.pcbs c.args.net.now.mtu) (sent_as h c.args.bytes.now) c.requires.routed
     c.requires.uncut c.requires.free c.datagram-chain.ensures c.requires.way c.requires.longest c.in-Err.ensures.err
 
 pub returns-clause-put : goal.returns-clause-put
@@ -40,7 +40,7 @@ returns-clause-put c =
       to = c.args.route.to;
     } in
     put_is h refl refl c.source_of.ensures c.ensure_port_of.ensures.port c.ensure_port_of.ensures.descriptors
-    (packets_made (config_of c.args.self.now.pcbs c.args.net.now.mtu) (sent_as h c.args.bytes.now)
+    (packets_made (send_config c.args.self.now.pcbs c.args.net.now.mtu) (sent_as h c.args.bytes.now)
     c.datagram-chain.ensures c.requires.way c.requires.longest c.ip_head-head.ensures c.requires.queue.held
     c.in-Ok.ensures.link c.in-Ok.ensures.lost c.in-Ok.ensures.looped c.in-Ok.ensures.cut c.in-Ok.ensures.held
     c.in-Ok.ensures.plain c.in-Ok.ensures.queue c.in-Ok.ensures.moves)

@@ -7,7 +7,7 @@ use Rattle.ledger.specs.Reserve.{are_free}
 use Rattle.sock_calls.specs.Sockets.{from_three, queues_of}
 use Rattle.sockbuf.specs.SockBuf.{SockBufView}
 use Rattle.sock_calls.specs.Outgoing.{IsSent, sending, with_output}
-use Rattle.sock_calls.specs.Inside.Parts.{shown}
+use Rattle.sock_calls.specs.Inside.Parts.{socks_of}
 use Rattle.sock_calls.proofs.Going.{not_open, unchanged, refused_early, lacks_buffers, sent_or, sent_is}
 use Rattle.sock_calls.specs.Inside.Destination.{ChecksSend}
 use Rattle.sock_calls.specs.Inside.Putting.{IsPut}
@@ -17,7 +17,7 @@ use Rattle.sock_calls.proofs.parts.Parts.send_any.Goals as goal
 
 pub returns-in_default : goal.returns-in_default
 returns-in_default c =
-    unchanged (sending c.args.pool.now (shown c.args.self.now) c.args.net.now) c.requires (λ rest e a.
+    unchanged (sending c.args.pool.now (socks_of c.args.self.now) c.args.net.now) c.requires (λ rest e a.
     not_open c.args.fd c.args.to c.args.bytes.now c.args.self.now.pcbs
     (queues_of c.args.pool.now (from_three c.args.self.now.queues))
     (with_output c.args.pool.now c.args.net.now rest)
@@ -31,7 +31,7 @@ returns-in-Err c =
     let at : block_at c.args.fd c.args.self.now.pcbs ≡ Some b = sym c.block.ensures.value ∙ c.in-Some.is in
     let checked = subst (λ (k : ℕ). ChecksSend c.args.self.now.pcbs c.args.net.now.mtu k c.args.to
     (length c.args.bytes.now) (Err c.in-Err.errno)) named c.in-Err.ensures.target in
-    unchanged (sending c.args.pool.now (shown c.args.self.now) c.args.net.now) c.requires (λ rest e a.
+    unchanged (sending c.args.pool.now (socks_of c.args.self.now) c.args.net.now) c.requires (λ rest e a.
     refused_early c.args.to c.args.bytes.now c.args.self.now.pcbs
     (queues_of c.args.pool.now (from_three c.args.self.now.queues))
     (with_output c.args.pool.now c.args.net.now rest) b at e checked)
@@ -44,7 +44,7 @@ returns-then-not-are_free c =
     let at : block_at c.args.fd c.args.self.now.pcbs ≡ Some b = sym c.block.ensures.value ∙ c.in-Some.is in
     let checked = subst (λ (k : ℕ). ChecksSend c.args.self.now.pcbs c.args.net.now.mtu k c.args.to
     (length c.args.bytes.now) (Ok c.in-Ok.target)) named c.in-Ok.ensures.target in
-    unchanged (sending c.args.pool.now (shown c.args.self.now) c.args.net.now) c.requires (λ rest e a.
+    unchanged (sending c.args.pool.now (socks_of c.args.self.now) c.args.net.now) c.requires (λ rest e a.
     lacks_buffers c.args.to c.args.bytes.now c.args.self.now.pcbs
     (queues_of c.args.pool.now (from_three c.args.self.now.queues))
     (with_output c.args.pool.now c.args.net.now rest) b at e a checked
@@ -64,7 +64,7 @@ returns-then-is_lost c =
     c.args.net.now c.put-is_lost.result c.put-is_lost.new.pool c.put-is_lost.new.self.pcbs c.put-is_lost.new.net)
     named c.put-is_lost.ensures.put in
     subst (λ (qs : List SockBufView). IsSent c.args.fd c.args.to c.args.bytes.now
-    (sending c.args.pool.now (shown c.args.self.now) c.args.net.now)
+    (sending c.args.pool.now (socks_of c.args.self.now) c.args.net.now)
     (Err (NoBufs Queue)) (sending c.put-is_lost.new.pool
     (record { pcbs = c.put-is_lost.new.self.pcbs; queues = from_three qs }) c.put-is_lost.new.net))
     (sym c.put-is_lost.ensures.queues)
@@ -86,7 +86,7 @@ returns c =
     c.args.net.now c.put-is_lost.result c.put-is_lost.new.pool c.put-is_lost.new.self.pcbs c.put-is_lost.new.net)
     named c.put-is_lost.ensures.put in
     subst (λ (qs : List SockBufView). IsSent c.args.fd c.args.to c.args.bytes.now
-    (sending c.args.pool.now (shown c.args.self.now) c.args.net.now)
+    (sending c.args.pool.now (socks_of c.args.self.now) c.args.net.now)
     (Ok (length c.args.bytes.now)) (sending c.put-is_lost.new.pool
     (record { pcbs = c.put-is_lost.new.self.pcbs; queues = from_three qs }) c.put-is_lost.new.net))
     (sym c.put-is_lost.ensures.queues)

@@ -15,7 +15,7 @@ use Rattle.ip_out.specs.declared.sending.Sent.{Sent}
 use Rattle.ip_out.specs.declared.ways.Way.{Way}
 use Rattle.pcb_table.specs.Table.{block_at}
 use Rattle.sock_calls.specs.Inside.Destination.{ChecksSend}
-use Rattle.sock_calls.specs.Inside.Putting.{AreMade, IsPut, config_of, sent_as, way_of}
+use Rattle.sock_calls.specs.Inside.Putting.{AreMade, IsPut, send_config, sent_as, way_of}
 use Rattle.sock_calls.specs.declared.packets.Heading.{Heading}
 use Rattle.sock_calls.proofs.Going.{sent_is}
 use Rattle.sock_calls.proofs.Hearing.{named_at}
@@ -70,7 +70,7 @@ returns-clause-sent c = λ _.
     let len : ℕ = length c.args.bytes.now in
     let mtu : ℕ = n.mtu in
     let ip : ℕ = c.in-Some-link_target.target.ip in
-    let cfg : Config = config_of t n.mtu in
+    let cfg : Config = send_config t n.mtu in
     let h : Heading =
     record {
       id = n.next_id;

@@ -5,7 +5,7 @@ use Rattle.ledger.proofs.Laws.{enough_clusters, enough_mbufs}
 use Rattle.pcb_table.specs.Table.{Table}
 use Rattle.sockbuf.specs.SockBuf.{SockBufView}
 use Rattle.sockbuf.specs.Stored.{stored_datagram}
-use Rattle.sock_calls.specs.Inside.Parts.{shown}
+use Rattle.sock_calls.specs.Inside.Parts.{socks_of}
 use Rattle.sock_calls.specs.Sockets.{from_three, queues_of}
 use Rattle.sock_calls.specs.Whole.{ComesWhole}
 use Rattle.sock_calls.proofs.Whole.{comes_whole, IsStored}
@@ -44,5 +44,5 @@ returns-clause-came c = λ _.
       here = c.store_at.ensures.here.2 ∙ ap (λ (xs : List ℕ). queues_of p bs c.in-Some-hearer.fd
           ++ stored_datagram from xs c.store_at.ensures.here.0 ∷ []) carried;
     } in
-    subst (λ (u : Table). ComesWhole p (shown c.args.self.now) packet q (record { pcbs = u; queues = cs }))
+    subst (λ (u : Table). ComesWhole p (socks_of c.args.self.now) packet q (record { pcbs = u; queues = cs }))
     (sym c.hearer.ensures.blocks) (comes_whole stored)

@@ -1,7 +1,7 @@
 use Rattle.std.proofs.Common.{◌<◌, List, ◌∷◌, [], ◌++◌, suc, length, ap, sym, subst, ◌∙◌, arith}
 use Rattle.std.specs.Prelude.{slice_set}
 use Rattle.flat_model.specs.Sockets.Fits.{fits}
-use Rattle.mbuf_chain.specs.Owners.{times}
+use Rattle.mbuf_chain.specs.Owners.{times_among}
 use Rattle.mbuf_chain.proofs.Laws.Owners.{live_first, apart_first}
 use Rattle.sockbuf.specs.SockBuf.{SockBufView, IsSockBuf, chains_of, datagrams, datagram_from}
 use Rattle.sock_calls.specs.Sockets.{from_three, queue_at}
@@ -31,7 +31,7 @@ append_fitting-requires-clause-apart c =
       arith,
       c.requires.owned k,
       times_at p (from_three c.args.self.now) c.args.fd k,
-      ap (λ (v : SockBufView). times k (chains_of p v)) here,
+      ap (λ (v : SockBufView). times_among k (chains_of p v)) here,
     ))
 
 pub append_fitting-requires-clause-fits : goal.append_fitting-requires-clause-fits

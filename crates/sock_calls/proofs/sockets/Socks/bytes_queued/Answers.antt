@@ -3,7 +3,7 @@ use Rattle.std.specs.Prelude.{Ok, Err}
 use Rattle.flat_model.specs.Sockets.Fits as queue
 use Rattle.flat_model.specs.declared.errno.Errno.TheVariants.{BadDescriptor}
 use Rattle.sockbuf.specs.SockBuf.{SockBufView, IsSockBuf, datagrams}
-use Rattle.sock_calls.specs.Questions.{bytes_queued}
+use Rattle.sock_calls.specs.Questions.{bytes_queued_at}
 use Rattle.sock_calls.specs.Sockets.{SocksView, IsSocks, from_three, queue_at, queues_of, with_sockets}
 use Rattle.sock_calls.proofs.Asked.{bytes_found, bytes_refused}
 use Rattle.sock_calls.proofs.Frames.{each_from_three}
@@ -13,7 +13,7 @@ use Rattle.sock_calls.proofs.sockets.Socks.bytes_queued.Goals as goal
 pub returns-in-Some : goal.returns-in-Some
 returns-in-Some c = λ p rest is.
     let now = subst (IsSocks p) (sym c.self.view_is) is in
-    subst (λ (v : SocksView). Ok c.bytes_at.result ≡ bytes_queued c.args.fd (with_sockets p v rest)) c.self.view_is
+    subst (λ (v : SocksView). Ok c.bytes_at.result ≡ bytes_queued_at c.args.fd (with_sockets p v rest)) c.self.view_is
     (ap Ok (subst (λ (bs : List SockBufView). IsSockBuf p (queue_at bs c.place_of.result)
     → c.bytes_at.result ≡ queue.bytes_queued (queues_of p bs c.place_of.result)) c.as_slice.ensures.value
     (c.bytes_at.ensures p)
@@ -25,6 +25,6 @@ returns-in-Some c = λ p rest is.
 
 pub returns-in-None : goal.returns-in-None
 returns-in-None c = λ p rest is.
-    subst (λ (v : SocksView). Err BadDescriptor ≡ bytes_queued c.args.fd (with_sockets p v rest)) c.self.view_is
+    subst (λ (v : SocksView). Err BadDescriptor ≡ bytes_queued_at c.args.fd (with_sockets p v rest)) c.self.view_is
     (bytes_refused (queues_of p (from_three c.self.inside.parts.queues)) c.self.inside.parts.pcbs c.args.fd rest
     (sym c.block.ensures.value ∙ c.in-None.is))

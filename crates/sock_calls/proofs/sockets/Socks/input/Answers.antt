@@ -4,7 +4,7 @@ use Rattle.mbuf_chain.specs.Owners.{IsOwned}
 use Rattle.pcb_table.specs.Table.{Table, IsOpen}
 use Rattle.sock_calls.specs.Sockets.{SocksView, IsSocks, from_three, queued_chains}
 use Rattle.sock_calls.specs.Delivery.{seen, IsInput}
-use Rattle.sock_calls.specs.Inside.Parts.{shown}
+use Rattle.sock_calls.specs.Inside.Parts.{socks_of}
 use Rattle.sock_calls.proofs.Delivered.{freed}
 use Rattle.sock_calls.proofs.Arriving.{all_open, reached, delivered_to, dropped_to}
 use Rattle.sock_calls.proofs.sockets.Socks.input.Goals as goal
@@ -15,7 +15,7 @@ deliver_all-requires-clause-socks g c =
     let q = c.input.new.pool in
     let w = c.args.waiting.now in
     let xs = g.R.Reclaim.owned p w in
-    let s : SocksView = shown c.self.inside.parts in
+    let s : SocksView = socks_of c.self.inside.parts in
     let socks : IsSocks p s = subst (IsSocks p) (sym c.self.view_is) c.requires.ready in
     let owned : IsOwned p (c.args.chain ∷ (xs ++ queued_chains p s.queues)) =
     subst (λ (v : SocksView). IsOwned p (c.args.chain ∷ (xs ++ queued_chains p v.queues))) (sym c.self.view_is)
@@ -41,7 +41,7 @@ deliver_all-requires-clause-waits g c =
     let q = c.input.new.pool in
     let w = c.args.waiting.now in
     let xs = g.R.Reclaim.owned p w in
-    let s : SocksView = shown c.self.inside.parts in
+    let s : SocksView = socks_of c.self.inside.parts in
     let socks : IsSocks p s = subst (IsSocks p) (sym c.self.view_is) c.requires.ready in
     let owned : IsOwned p (c.args.chain ∷ (xs ++ queued_chains p s.queues)) =
     subst (λ (v : SocksView). IsOwned p (c.args.chain ∷ (xs ++ queued_chains p v.queues))) (sym c.self.view_is)
@@ -55,7 +55,7 @@ deliver_all-requires-clause-owned g c =
     let q = c.input.new.pool in
     let w = c.args.waiting.now in
     let xs = g.R.Reclaim.owned p w in
-    let s : SocksView = shown c.self.inside.parts in
+    let s : SocksView = socks_of c.self.inside.parts in
     let socks : IsSocks p s = subst (IsSocks p) (sym c.self.view_is) c.requires.ready in
     let owned : IsOwned p (c.args.chain ∷ (xs ++ queued_chains p s.queues)) =
     subst (λ (v : SocksView). IsOwned p (c.args.chain ∷ (xs ++ queued_chains p v.queues))) (sym c.self.view_is)
@@ -71,7 +71,7 @@ returns-in-Deliver-clause-input g c =
     let q = c.input.new.pool in
     let w = c.args.waiting.now in
     let xs = g.R.Reclaim.owned p w in
-    let s : SocksView = shown c.self.inside.parts in
+    let s : SocksView = socks_of c.self.inside.parts in
     let socks : IsSocks p s = subst (IsSocks p) (sym c.self.view_is) c.requires.ready in
     let owned : IsOwned p (c.args.chain ∷ (xs ++ queued_chains p s.queues)) =
     subst (λ (v : SocksView). IsOwned p (c.args.chain ∷ (xs ++ queued_chains p v.queues))) (sym c.self.view_is)
@@ -81,7 +81,7 @@ returns-in-Deliver-clause-input g c =
     subst (λ (v : SocksView). IsInput
     (seen p v (g.R.Waiting.unfinished p w) xs c.args.counters.now) c.args.chain c.args.head.src c.args.head.dst
     c.args.head.proto
-    (seen r (shown c.deliver_all.new.self) (g.R.Waiting.unfinished r c.deliver_all.new.waiting)
+    (seen r (socks_of c.deliver_all.new.self) (g.R.Waiting.unfinished r c.deliver_all.new.waiting)
     (g.R.Reclaim.owned r c.deliver_all.new.waiting) c.deliver_all.new.counters))
     c.self.view_is
     (delivered_to {h = c.args.head} socks owned c.in-Deliver.ensures.answer c.in-Deliver.ensures.moves
@@ -94,7 +94,7 @@ returns-in-Drop-clause-input g c =
     let q = c.input.new.pool in
     let w = c.args.waiting.now in
     let xs = g.R.Reclaim.owned p w in
-    let s : SocksView = shown c.self.inside.parts in
+    let s : SocksView = socks_of c.self.inside.parts in
     let socks : IsSocks p s = subst (IsSocks p) (sym c.self.view_is) c.requires.ready in
     let owned : IsOwned p (c.args.chain ∷ (xs ++ queued_chains p s.queues)) =
     subst (λ (v : SocksView). IsOwned p (c.args.chain ∷ (xs ++ queued_chains p v.queues))) (sym c.self.view_is)
@@ -115,7 +115,7 @@ returns-in-Drop-clause-waits g c =
     let q = c.input.new.pool in
     let w = c.args.waiting.now in
     let xs = g.R.Reclaim.owned p w in
-    let s : SocksView = shown c.self.inside.parts in
+    let s : SocksView = socks_of c.self.inside.parts in
     let socks : IsSocks p s = subst (IsSocks p) (sym c.self.view_is) c.requires.ready in
     let owned : IsOwned p (c.args.chain ∷ (xs ++ queued_chains p s.queues)) =
     subst (λ (v : SocksView). IsOwned p (c.args.chain ∷ (xs ++ queued_chains p v.queues))) (sym c.self.view_is)

@@ -1,6 +1,6 @@
 use Rattle.std.proofs.Common.{◌≡◌, ◌+◌, ℕ, List, ap, sym, subst, ◌∙◌, arith}
 use Rattle.std.specs.List.{insert}
-use Rattle.mbuf_chain.specs.Owners.{times}
+use Rattle.mbuf_chain.specs.Owners.{times_among}
 use Rattle.mbuf_chain.specs.Chain.{chain_of}
 use Rattle.mbuf_chain.specs.Train.{QueuedPacket, queued_packets}
 use Rattle.sockbuf.specs.SockBuf.{SockBufView, IsSockBuf, chains_of}
@@ -11,7 +11,7 @@ pub insert-requires-clause-held : goal.insert-requires-clause-held
 insert-requires-clause-held c =
     let ready = subst (IsSockBuf c.args.pool.now) (sym c.self.view_is) c.requires.ready in
     let apart =
-    subst (λ (v : SockBufView). times c.args.chain (chains_of c.args.pool.now v) ≡ 0) (sym c.self.view_is)
+    subst (λ (v : SockBufView). times_among c.args.chain (chains_of c.args.pool.now v) ≡ 0) (sym c.self.view_is)
     c.requires.apart in
     held_beside c.self.inside.train c.with_address-whole.ensures.moves apart ready.held
 
@@ -19,7 +19,7 @@ pub insert-requires-clause-apart : goal.insert-requires-clause-apart
 insert-requires-clause-apart c =
     let ready = subst (IsSockBuf c.args.pool.now) (sym c.self.view_is) c.requires.ready in
     let apart =
-    subst (λ (v : SockBufView). times c.args.chain (chains_of c.args.pool.now v) ≡ 0) (sym c.self.view_is)
+    subst (λ (v : SockBufView). times_among c.args.chain (chains_of c.args.pool.now v) ≡ 0) (sym c.self.view_is)
     c.requires.apart in
     apart_beside c.self.inside.train c.with_address-whole.ensures.moves c.requires.live apart ready.held
 
@@ -34,7 +34,7 @@ queued : (c : goal.After-self-2-1)
 queued c =
     let ready = subst (IsSockBuf c.args.pool.now) (sym c.self.view_is) c.requires.ready in
     let apart =
-    subst (λ (v : SockBufView). times c.args.chain (chains_of c.args.pool.now v) ≡ 0) (sym c.self.view_is)
+    subst (λ (v : SockBufView). times_among c.args.chain (chains_of c.args.pool.now v) ≡ 0) (sym c.self.view_is)
     c.requires.apart in
     let old : List QueuedPacket = queued_packets c.with_address-whole.new.pool c.self.inside.train in
     let new : QueuedPacket =

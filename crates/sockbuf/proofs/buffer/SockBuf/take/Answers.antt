@@ -2,7 +2,7 @@ use Rattle.std.proofs.Common.{◌≡◌, ◌<◌, ◌-◌, ℕ, length, ap, sym,
 use Rattle.std.proofs.lemmas.Bool.{eqb-true, eqb-false}
 use Rattle.mbuf_chain.specs.Chain.{chain_of, flat_bytes}
 use Rattle.mbuf_chain.proofs.Laws.Owners.{live_first, owned_after}
-use Rattle.ledger.specs.Accounts.{weight_of}
+use Rattle.ledger.specs.Accounts.{entries_weight}
 use Rattle.sockbuf.specs.SockBuf.{SockBufView, IsSockBuf, memory_of}
 use Rattle.sockbuf.proofs.Fronts.{stripped}
 use Rattle.sockbuf.proofs.Queues.{IsTakenOut, Taken, taken, oldest, address, last_one}
@@ -30,7 +30,8 @@ taken_out c = record {
 -- what it counted, which is all where nothing else is left
 counted : (c : goal.After-self-2-1)
     → (c.if-is_empty-2.len.0 ≡ length (flat_bytes (chain_of c.take-whole.new.pool c.take-whole.result.0).entries))
-    × (c.if-is_empty-2.len.1 ≡ memory_of (weight_of (chain_of c.take-whole.new.pool c.take-whole.result.0).entries))
+    × (c.if-is_empty-2.len.1 ≡ memory_of
+    (entries_weight (chain_of c.take-whole.new.pool c.take-whole.result.0).entries))
 counted c = elim c.if-is_empty-2.branch [
   | then-is_empty-2 w ↦
       let ready = subst (IsSockBuf c.args.pool.now) (sym c.self.view_is) c.requires.ready in
