@@ -247,6 +247,16 @@ fn joined(rt: &impl Abort, alloc: Global, front: &str, back: &str) -> Vec<u8> {
     text
 }
 
+/// Puts the plain line of a packet in the place of a text.
+fn put_named(text: &mut Buffer<LONGEST>, buffers: &mut LineBuffers, packet: &Buffer<PACKET>) {
+    text.clear();
+    text.append(b"rx ");
+    let (bytes, digits) = (packet.as_slice(), buffers.digits.as_mut_slice());
+    if bytes.len() <= 65_535 && 2 * bytes.len() <= digits.len() {
+        put_hex(text, digits, bytes);
+    }
+}
+
 /// A reader of lines, and room for a plain one and for a packet.
 #[derive(Drop)]
 struct Desk {
@@ -277,13 +287,7 @@ impl Desk {
             .reader
             .put_packet(line, self.words.as_slice(), &mut self.packet)?
         {
-            self.words.clear();
-            self.words.append(b"rx ");
-            put_hex(
-                &mut self.words,
-                &mut self.buffers.digits,
-                self.packet.as_slice(),
-            );
+            put_named(&mut self.words, &mut self.buffers, &self.packet);
         }
         Ok(())
     }
