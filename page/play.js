@@ -128,7 +128,11 @@ const counterNames = steps => [...new Set(steps.flatMap(it => it.changed).map(it
 // What the program says of a line: its reply with the lines below it, or what is wrong with it.
 const answerOf = it => (it.fault ? { says: it.fault, reply: it.fault, below: [], column: it.column, isOk: false }
   : { says: it.reply, below: linesOf(it.below).map(line => line.trim()), isOk: !it.reply.startsWith("error ") });
-const wantedOf = (it, text) => ({ expected: partsOf(text).wanted, isMet: it.met });
+// Of a hand-in a line that is still open expects `?`.
+function wantedOf(it, text) {
+  const { wanted } = partsOf(text);
+  return { expected: wanted === "?" ? null : wanted, isMet: it.met };
+}
 
 // A line without lines of `bsdudp run`.
 function otherOf({ line, isOk, column, reply }) {
