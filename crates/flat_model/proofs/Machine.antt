@@ -6,6 +6,7 @@ pub mod Counting
 pub mod Values
 pub mod Putting
 pub mod Laid
+pub mod KeptLists
 pub mod Kept
 pub mod KeptCalls
 pub mod KeptSteps

@@ -20,7 +20,8 @@ use Rattle.flat_model.specs.declared.address.Addr.{Addr}
 use Rattle.flat_model.specs.declared.config.Config.{Config}
 use Rattle.flat_model.proofs.Lists.Each.{by_choice, by_case, each-map, each-filter, each-find, none_passed}
 use Rattle.flat_model.proofs.Lists.Totals.{total, total_le, total_add, spike, total_spike_most, count_cons}
-use Rattle.flat_model.proofs.Machine.Kept.{Good, weight_of_socket, count-map, count-filter, none_found, mbufs-replaced, mbufs-filter, mbufs-map}
+use Rattle.flat_model.proofs.Machine.Kept.{Good, weight_of_socket}
+use Rattle.flat_model.proofs.Machine.KeptLists.{count-map, count-filter, none_found, mbufs-replaced, mbufs-filter, mbufs-map}
 
 -- ---- sixty-four sockets have the descriptors 3 to 66
 

@@ -35,7 +35,8 @@ use Rattle.flat_model.proofs.Packets.Sizes.{length-udp}
 use Rattle.flat_model.proofs.Fragments.Grid.{cuts_short}
 use Rattle.flat_model.proofs.Fragments.Overlaid.{pieces_bag}
 use Rattle.flat_model.proofs.Machine.Laid.{ItemFits, parts_fit, items_fit, items_mbufs, length-packet, laid_mbufs, laid_carries, wire_is, wire_some}
-use Rattle.flat_model.proofs.Machine.Kept.{Good, less_held, good_has_buffers, good_lacks, good_ends, good_arrives, good_all_arrive, weight_of_socket, weight_of_unfinished, weight_of_item, count-map, count-filter, mbufs-append, mbufs-filter, mbufs-map}
+use Rattle.flat_model.proofs.Machine.Kept.{Good, less_held, good_has_buffers, good_lacks, good_ends, good_arrives, good_all_arrive, weight_of_socket, weight_of_unfinished, weight_of_item}
+use Rattle.flat_model.proofs.Machine.KeptLists.{count-map, count-filter, mbufs-append, mbufs-filter, mbufs-map}
 use Rattle.flat_model.proofs.Machine.KeptCalls as KeptCalls
 use Rattle.flat_model.proofs.Machine.KeptCalls.{IsPort}
 
