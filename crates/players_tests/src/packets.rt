@@ -122,7 +122,7 @@ static FAULTY: [(&str, &str, u64); 28] = [
         8,
     ),
     (
-        "rx udp 10.0.02.2:7 > 10.0.0.1:7 -",
+        "rx udp 010.0.0.2:7 > 10.0.0.1:7 -",
         "an address with a port, as 10.0.0.2:7, is wanted",
         8,
     ),
