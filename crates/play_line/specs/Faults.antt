@@ -4,7 +4,7 @@ use Rattle.play_line.specs.declared.fault.Fault.{Fault}
 use Rattle.play_line.specs.declared.fault.Fault.TheVariants.{NotHex, OddDigits, NoBytes, NotJoined, EmptyText, UnendedText, UnknownEscape, NoCount, ZeroCount, TooManyBytes, TooLong, NoEnd, NoPort, NoArrow, NoId, NoTtl, NoOffset, NoMore, NoSize, UnknownWord, ToldTwice, PastEnd, TooLarge}
 
 abbrev pub misread_words : Fault → List ℕ
-misread_words NotHex = codes "not a hex digit"
+misread_words NotHex = codes "not a hex digit (a text stands in quotes: \"hi\")"
 misread_words OddDigits = codes "odd number of hex digits"
 misread_words NoBytes = codes "bytes are missing"
 misread_words NotJoined = codes "`+` or a blank is missing"

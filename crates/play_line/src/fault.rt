@@ -89,7 +89,7 @@ impl Fault {
         ensures short { length result.now ≤ 48 }
     {
         match self {
-            Fault::NotHex => "not a hex digit",
+            Fault::NotHex => "not a hex digit (a text stands in quotes: \"hi\")",
             Fault::OddDigits => "odd number of hex digits",
             Fault::NoBytes => "bytes are missing",
             Fault::NotJoined => "`+` or a blank is missing",
