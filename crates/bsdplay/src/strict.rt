@@ -14,7 +14,7 @@ pub(crate) fn tell_lacks(rt: &HostRuntime, script: &[u8], style: Style<'_>) -> i
     let mut left = script;
     for _ in 0..script.len().saturating_add(1) {
         let (line, more) = first_line(left);
-        printer.next_line();
+        printer.next_line(line);
         if marker.lacks(line) {
             text.clear();
             printer.put_fault(

@@ -7,7 +7,7 @@ use script_loop::Buffer;
 use std::alloc::{AllocError, Global};
 
 /// The text for a line 7 that has this reply.
-pub fn line_7(alloc: Global, line: &[u8; 6], reply: &[u8; 2]) -> Result<Buffer<256>, AllocError>
+pub fn line_7(alloc: Global, line: &[u8; 6], reply: &[u8; 2]) -> Result<Buffer<512>, AllocError>
     ensures { IfOk result (λ text. text ≡ outcome_object (codes "script.txt") 7 line.now None false reply.now []) }
 {
     let mut text = Buffer::new(alloc)?;
@@ -16,6 +16,7 @@ pub fn line_7(alloc: Global, line: &[u8; 6], reply: &[u8; 2]) -> Result<Buffer<2
         line: line.as_slice(),
         told: reply.as_slice(),
         below: b"",
+        texts: false,
         expects: false,
         wanted: b"",
         met: false,

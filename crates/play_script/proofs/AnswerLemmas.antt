@@ -31,7 +31,7 @@ pub Ask-tells : (step : State → Event → Reply → State → Type 0) (has : L
       head = now.head && stays_head ask;
       sound = now.sound && is_sound wanted text;
     }
-    → TellsAsked step has now shown plain wanted (told_text now.form now.name now.number shown wanted text below) new
+    → TellsAsked step has now shown plain wanted (told_text now.form now.texts now.name now.number shown wanted text below) new
 Ask-tells step has now new shown plain wanted ask text below after quiet loud asks tells is = (
   Some ask,
   asks,
@@ -113,9 +113,9 @@ Told-some step has quiet plain ask (told.Done stays) old new text below asks cam
 -- a line that asks for something, or expects something
 pub Asks-tells : (step : State → Event → Reply → State → Type 0) (has : List ℕ → List ℕ → Type 0) (old now new : Play)
     (line shown plain text : List ℕ)
-    (wanted : Option (List ℕ)) → now ≡ next_line old → reading line ≡ Asks shown plain wanted
+    (wanted : Option (List ℕ)) → now ≡ next_line line old → reading line ≡ Asks shown plain wanted
     → TellsAsked step has now shown plain wanted text new
     → Tells step has old line text new
 Asks-tells step has old now new line shown plain text wanted counted is said =
-    subst (λ (r : Reading). TellsReading step has (next_line old) r text new) (sym is)
+    subst (λ (r : Reading). TellsReading step has (next_line line old) r text new) (sym is)
     (subst (λ (p : Play). TellsAsked step has p shown plain wanted text new) counted said)

@@ -1,5 +1,5 @@
 -- A player before its first line, and a machine that isn't made.
-use Rattle.std.proofs.Common.{◌≡◌, ℕ, Bool, true, List, Option, None, Result, Err, refl, subst}
+use Rattle.std.proofs.Common.{◌≡◌, ℕ, Bool, true, false, List, Option, None, Result, Err, refl, subst}
 use Rattle.flat_model.specs.Machine.Event.{Event, Reply}
 use Rattle.flat_model.specs.Machine.State.{State, boot}
 use Rattle.flat_model.specs.declared.config.Config.{Config}
@@ -13,12 +13,12 @@ use Rattle.play_pcap.specs.Files.{no_folder}
 use Rattle.play_pcap.specs.Traces.{Traced, unwritten}
 use Rattle.play_script.specs.Tells.{Play, Tells, started}
 
-pub started-is : (machine : State) (traced : Traced) (config : Config) (number : ℕ) (sound : Bool) (form form' : Form)
-    (name name' : List ℕ)
-    → config ≡ machine.config → form ≡ form' → number ≡ 0 → name ≡ name' → sound ≡ true
-    → record (started machine traced form name) { config = config; number = number; sound = sound }
+pub started-is : (machine : State) (traced : Traced) (config : Config) (number : ℕ) (sound texts : Bool)
+    (form form' : Form) (name name' : List ℕ)
+    → config ≡ machine.config → form ≡ form' → number ≡ 0 → name ≡ name' → sound ≡ true → texts ≡ false
+    → record (started machine traced form name) { config = config; number = number; sound = sound; texts = texts }
     ≡ started machine traced form' name'
-started-is machine traced config number sound form form' name name' c e f h s = rw (c, e, f, h, s) refl
+started-is machine traced config number sound texts form form' name name' c e f h s q = rw (c, e, f, h, s, q) refl
 
 unserved : (step : State → Event → Reply → State → Type 0) (has : List ℕ → List ℕ → Type 0) (c : Config)
     (fault : RunFault) (begun : Play) (a w : Option (List ℕ))
@@ -91,18 +91,19 @@ Serves-none step machine form name a w =
 -- what a new player serves
 pub Serves-started : (step : State → Event → Reply → State → Type 0) (has : List ℕ → List ℕ → Type 0) (machine : State)
     (traced after : Traced)
-    (config : Config) (number : ℕ) (sound : Bool) (form form' : Form) (name name' : List ℕ) (new : Play)
+    (config : Config) (number : ℕ) (sound texts : Bool) (form form' : Form) (name name' : List ℕ) (new : Play)
     (a b w v : Option (List ℕ)) (r : Result Unit RunFault)
-    → config ≡ machine.config → form ≡ form' → number ≡ 0 → name ≡ name' → sound ≡ true → after ≡ new.traced
+    → config ≡ machine.config → form ≡ form' → number ≡ 0 → name ≡ name' → sound ≡ true → texts ≡ false
+    → after ≡ new.traced
     → Serves (Tells step has) (record (started machine traced form name)
-    { config = config; number = number; sound = sound }) new a b w v r
+    { config = config; number = number; sound = sound; texts = texts }) new a b w v r
     → (x : Play) × Serves (Tells step has) (started machine traced form' name') x a b w v r × (new.sound ≡ x.sound)
     × (after ≡ x.traced)
-Serves-started step has machine traced after config number sound form form' name name' new a b w v r c e f h s t
+Serves-started step has machine traced after config number sound texts form form' name name' new a b w v r c e f h s q t
     served = (
       new,
       subst (λ (p : Play). Serves (Tells step has) p new a b w v r)
-          (started-is machine traced config number sound form form' name name' c e f h s) served,
+          (started-is machine traced config number sound texts form form' name name' c e f h s q) served,
       refl,
       t,
     )

@@ -342,7 +342,7 @@ Prints-run join has old new [] printed (same, none) = record {
 }
 Prints-run join has old new (line ∷ lines) printed (mid, text, rest, tells, later, joined) =
     let after = Prints-run join has mid new lines rest later in
-    elim (Tells-line join has (next_line old) mid (reading line) text tells) [
-      | inl asked ↦ Asked-before join has (next_line old) old mid new line lines refl refl refl refl refl asked after
-      | inr settled ↦ Settled-before join has (next_line old) old mid new line lines refl refl refl refl settled after
+    elim (Tells-line join has (next_line line old) mid (reading line) text tells) [
+      | inl asked ↦ Asked-before join has (next_line line old) old mid new line lines refl refl refl refl refl asked after
+      | inr settled ↦ Settled-before join has (next_line line old) old mid new line lines refl refl refl refl settled after
     ]

@@ -39,6 +39,7 @@ play_of machine traced config head printer = record {
   head = head;
   number = printer.number;
   sound = printer.sound;
+  texts = printer.texts;
   form = printer.form;
   name = printer.name;
 }

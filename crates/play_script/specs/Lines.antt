@@ -1,5 +1,5 @@
 -- What a line of a commented script is made of (this project's own).
-use Rattle.std.specs.Prelude.{ℕ, ◌+◌, ◌-◌, ◌==◌, List, [], ◌∷◌, length, take, drop, get_or, position, if◌then◌else◌, nat_lt, Option, Some, None, Result, Ok, Err}
+use Rattle.std.specs.Prelude.{ℕ, ◌+◌, ◌-◌, ◌==◌, ◌||◌, Bool, false, List, [], ◌∷◌, length, take, drop, get_or, position, if◌then◌else◌, nat_lt, Option, Some, None, Result, Ok, Err}
 use Rattle.play_line.specs.Line.{expanded}
 use Rattle.play_line.specs.Shown.{shown}
 use Rattle.play_line.specs.declared.fault.Slip.{Slip}
@@ -12,6 +12,17 @@ untailed text = if get_or text (length text - 1) 0 == 32 then take (length text 
 
 abbrev pub unheaded : List ℕ → List ℕ
 unheaded text = if get_or text 0 0 == 32 then drop 1 text else text
+
+-- ---- texts
+
+-- a quote, in front of a comment
+abbrev pub quote_at : List ℕ → Option ℕ → Bool
+quote_at line (Some at) = get_or line at 0 == 34
+quote_at line None = false
+
+-- a text stands in the line
+abbrev pub has_text : List ℕ → Bool
+has_text line = quote_at line (position (λ byte. byte == 34 || byte == 35) line)
 
 -- ---- an expectation
 

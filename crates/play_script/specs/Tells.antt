@@ -1,5 +1,5 @@
 -- What a player of commented scripts may tell for a line, by a machine's steps (this project's own).
-use Rattle.std.specs.Prelude.{◌≡◌, ◌⊎◌, ℕ, ◌&&◌, Bool, true, false, List, [], ◌∷◌, replicate, codes, Option, Some, None, Result, Ok, Err}
+use Rattle.std.specs.Prelude.{◌≡◌, ◌⊎◌, ℕ, ◌&&◌, ◌||◌, Bool, true, false, List, [], ◌∷◌, replicate, codes, Option, Some, None, Result, Ok, Err}
 use Rattle.flat_model.specs.Machine.Count.{more_by}
 use Rattle.flat_model.specs.Machine.Event.{Event, Reply, Tick}
 use Rattle.flat_model.specs.Machine.State.{State, IsConfig, HasSizes, boot}
@@ -22,13 +22,14 @@ use Rattle.play_pcap.specs.Traces.{Traced}
 use Rattle.play_read.specs.Asks.{Ask, Call, Ticks, Show, Capture, Settings, AsksFor}
 use Rattle.play_script.specs.Deeds.{Does, below_text, moved_in, turns_with}
 use Rattle.play_script.specs.Captures.{Captures}
-use Rattle.play_script.specs.Lines.{Reading, Nothing, TooLong, Faulty, Asks, reading}
+use Rattle.play_script.specs.Lines.{Reading, Nothing, TooLong, Faulty, Asks, has_text, reading}
 use Rattle.play_script.specs.Outcomes.{told, drops_text, meets_reply}
 use Rattle.play_script.specs.Plays.{IsPlayed, CapturedView, captured_of}
 
 -- What a player has in hand: its machine, the capture of its packets, and the configuration that the machine was booted
 -- with; whether settings may still make another one; how many lines it has seen; whether all of them could be read and
--- all expectations held; and how it prints: in which form, and what is wrong with a line under the script's name.
+-- all expectations held; whether a text stood in one of them; and how it prints: in which form, and what is wrong with
+-- a line under the script's name.
 pub record Play : Type 0 where
   pub machine : State
   pub traced : Traced
@@ -36,6 +37,7 @@ pub record Play : Type 0 where
   pub head : Bool
   pub number : ℕ
   pub sound : Bool
+  pub texts : Bool
   pub form : Form
   pub name : List ℕ
 
@@ -48,6 +50,7 @@ started machine traced form name = record {
   head = true;
   number = 0;
   sound = true;
+  texts = false;
   form = form;
   name = name;
 }
@@ -60,9 +63,9 @@ is_sound None told = true
 is_sound (Some wanted) told = meets_reply wanted told
 
 -- what is told of a line, the lines below it, and what was expected, in the player's form
-abbrev pub told_text : Form → List ℕ → ℕ → List ℕ → Option (List ℕ) → List ℕ → List ℕ → List ℕ
-told_text form name number shown wanted told below =
-    outcome_text form name number shown wanted (is_sound wanted told) told below
+abbrev pub told_text : Form → Bool → List ℕ → ℕ → List ℕ → Option (List ℕ) → List ℕ → List ℕ → List ℕ
+told_text form texts name number shown wanted told below =
+    outcome_text form texts name number shown wanted (is_sound wanted told) told below
 
 -- ---- settings
 
@@ -97,7 +100,7 @@ IsSettled true old named (Err fault) =
 -- a line of settings is told as `ok`, and the machine is a new one; or it's told what is wrong
 abbrev pub TellsSettled : Play → List ℕ → Option (List ℕ) → Result Config SettingFault → List ℕ → Play → Type 0
 TellsSettled now shown wanted (Ok c) text new =
-    (text ≡ told_text now.form now.name now.number shown wanted (codes "ok") [])
+    (text ≡ told_text now.form now.texts now.name now.number shown wanted (codes "ok") [])
     × (new ≡ record now { machine = boot c; config = c; sound = now.sound && is_sound wanted (codes "ok") })
 TellsSettled now shown wanted (Err fault) text new =
     (text ≡ fault_text now.form now.name now.number (fault_words fault)) × (new ≡ record now { sound = false })
@@ -110,8 +113,8 @@ TellsSettings now shown named wanted text new =
 -- ---- steps
 
 -- the next line
-abbrev pub next_line : Play → Play
-next_line old = record old { number = more_by 1 old.number }
+abbrev pub next_line : List ℕ → Play → Play
+next_line line old = record old { number = more_by 1 old.number; texts = old.texts || has_text line }
 
 module _ (step : State → Event → Reply → State → Type 0) where
   -- What may be told of these events, with the lines below it: their reply and what was dropped, and below it what came
@@ -146,7 +149,7 @@ module _ (step : State → Event → Reply → State → Type 0) (has : List ℕ
   TellsDone ask now shown wanted text new =
       (after : CapturedView) × (said : List ℕ) × (below : List ℕ)
       × TellsAsk (is_quiet now.form) ask (captured_of now.machine now.traced now.number) said below after
-      × (text ≡ told_text now.form now.name now.number shown wanted said below)
+      × (text ≡ told_text now.form now.texts now.name now.number shown wanted said below)
       × (new ≡ record now {
         machine = after.machine;
         traced = after.traced;
@@ -179,7 +182,7 @@ module _ (step : State → Event → Reply → State → Type 0) (has : List ℕ
   TellsReading now (Asks shown plain wanted) text new = TellsAsked now shown plain wanted text new
 
   abbrev pub Tells : Play → List ℕ → List ℕ → Play → Type 0
-  Tells old line text new = TellsReading (next_line old) (reading line) text new
+  Tells old line text new = TellsReading (next_line line old) (reading line) text new
 
 -- ---- the status
 

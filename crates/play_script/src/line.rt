@@ -1,5 +1,6 @@
 //! What a line is made of: words, a comment, and what is expected.
-ghost use Rattle.std.specs.Prelude.{◌≡◌, ◌*◌, ◌≤◌, ◌==◌, ◌++◌, codes, length, position, IfSome, option_map};
+ghost use Rattle.std.specs.Prelude.{◌≡◌, ◌*◌, ◌<◌, ◌≤◌, ◌==◌, ◌++◌, ◌||◌, codes, length, position, IfSome, option_map};
+ghost use Rattle.play_script.specs.Lines as lines;
 ghost use Rattle.play_script.specs.Lines.{asked, expected, reading, unheaded, untailed};
 ghost use Rattle.flat_model.specs.Scripts.Texts.{hex_text};
 ghost use Rattle.params.specs.declared.TheConstants.{IP_MAX_PACKET};
@@ -123,6 +124,24 @@ fn place_of(text: &[u8], sought: u8) -> Option<usize>
     ensures { result ≡ position (λ byte. byte == sought) text.now }
 {
     text.iter().position(|byte| *byte == sought)
+}
+
+/// Where the first quote stands, or the first `#`.
+fn quote_or_comment(line: &[u8]) -> Option<usize>
+    ensures is { result ≡ position (λ byte. byte == 34 || byte == 35) line.now }
+    ensures most { IfSome result (λ at. at < length line.now) }
+{
+    line.iter().position(|byte| *byte == b'"' || *byte == b'#')
+}
+
+/// Whether a text stands in a line.
+pub(crate) fn has_text(line: &[u8]) -> bool
+    ensures { result ≡ lines.has_text line.now }
+{
+    match quote_or_comment(line) {
+        Some(at) => line[at] == b'"',
+        None => false,
+    }
 }
 
 /// Cuts a text at `=>`, which has to be its first `=`.

@@ -131,7 +131,7 @@ impl<T: Sink, F: Folder> Answers<ROOM> for Player<T, F> {
     ghost may_answer = { Tells StackSteps F.may_have };
 
     fn answer(&mut self, line: &[u8], text: &mut Buffer<ROOM>) {
-        self.printer.next_line();
+        self.printer.next_line(line);
         match read_line(line, &mut self.reader, &mut self.line) {
             Kind::Nothing => {}
             Kind::TooLong => self.printer.put_too_long(text),

@@ -1,13 +1,14 @@
 //! What prints a script.
-ghost use Rattle.std.specs.Prelude.{◌≡◌, ◌≤◌, ◌++◌, ◌&&◌, IfOk, codes, false, length, take, true};
+ghost use Rattle.std.specs.Prelude.{◌≡◌, ◌≤◌, ◌++◌, ◌&&◌, ◌||◌, IfOk, codes, false, length, take, true};
 ghost use Rattle.flat_model.specs.Machine.Count.{more_by};
 ghost use Rattle.play_forms.specs.declared.text.TheConstants.{ADVICE};
 ghost use Rattle.play_text.specs.Texts.{fault_text, slip_text};
+ghost use Rattle.play_script.specs.Lines as lines;
 ghost use Rattle.play_script.specs.Tells.{is_sound, told_text};
 ghost use Rattle.play_script.specs.Views.{expected_on};
 
 use crate::fits::meets;
-use crate::line::Line;
+use crate::line::{Line, has_text};
 use crate::print::{LABELLED, NAME, ROOM};
 use crate::report::{Report, bytes_of};
 use play_forms::ADVICE;
@@ -34,6 +35,8 @@ pub struct Printer {
     pub number: u64,
     /// Whether all of them could be read, and all expectations held.
     pub sound: bool,
+    /// Whether a text stood in one of them.
+    pub texts: bool,
 }
 
 /// The part of a name that is printed.
@@ -66,7 +69,8 @@ impl Printer {
     /// Before the first line of a script of this style. The name is copied.
     pub fn new(alloc: Global, style: Style<'_>) -> Result<Printer, AllocError>
         ensures { IfOk result (λ p. (p.form ≡ style.entry.form) × (p.number ≡ 0)
-            × (p.name ≡ take NAME style.entry.name.now) × (p.sound ≡ true)) }
+            × (p.name ≡ take NAME style.entry.name.now) × (p.sound ≡ true)
+            × (p.texts ≡ false)) }
     {
         let mut name = Buffer::new(alloc)?;
         name.append(front_of(style.name));
@@ -75,14 +79,17 @@ impl Printer {
             name,
             number: 0,
             sound: true,
+            texts: false,
         })
     }
 
-    /// Counts the next line.
-    pub fn next_line(&mut self)
-        ensures { self.new ≡ record self.old { number = more_by 1 self.old.number } }
+    /// Counts the next line, and notes whether a text stands in it.
+    pub fn next_line(&mut self, line: &[u8])
+        ensures { self.new ≡ record self.old {
+            number = more_by 1 self.old.number; texts = self.old.texts || lines.has_text line.now } }
     {
         self.number = self.number.saturating_add(1);
+        self.texts = self.texts || has_text(line);
     }
 
     /// Puts what is wrong with the line after the text.
@@ -126,8 +133,8 @@ impl Printer {
     )
         requires held { length text.old ≤ HELD }
         requires shown { length shown.now ≤ LABELLED }
-        ensures text { text.new ≡ text.old ++ told_text self.old.form self.old.name self.old.number shown.now
-            (expected_on line.now) report.now.told report.now.below }
+        ensures text { text.new ≡ text.old ++ told_text self.old.form self.old.texts self.old.name self.old.number
+            shown.now (expected_on line.now) report.now.told report.now.below }
         ensures printer { self.new
             ≡ record self.old { sound = self.old.sound && is_sound (expected_on line.now) report.now.told } }
     {
@@ -137,6 +144,7 @@ impl Printer {
             line: shown,
             told: bytes_of(&report.told),
             below: bytes_of(&report.below),
+            texts: self.texts,
             expects: line.expects,
             wanted: bytes_of(&line.wanted),
             met,
@@ -148,8 +156,8 @@ impl Printer {
     /// Puts the line, as it's written, and what is told of it after the text.
     pub fn put_told(&mut self, text: &mut Buffer<ROOM>, line: &Line, report: &Report)
         requires { length text.old ≤ HELD }
-        ensures text { text.new ≡ text.old ++ told_text self.old.form self.old.name self.old.number line.now.shown
-            (expected_on line.now) report.now.told report.now.below }
+        ensures text { text.new ≡ text.old ++ told_text self.old.form self.old.texts self.old.name self.old.number
+            line.now.shown (expected_on line.now) report.now.told report.now.below }
         ensures printer { self.new
             ≡ record self.old { sound = self.old.sound && is_sound (expected_on line.now) report.now.told } }
     {

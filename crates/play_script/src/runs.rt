@@ -1,5 +1,5 @@
 //! The scripts that callers have played.
-ghost use Rattle.std.specs.Prelude.{◌≡◌, ◌≤◌, IfOk, length, take, true, vec_len};
+ghost use Rattle.std.specs.Prelude.{◌≡◌, ◌≤◌, IfOk, false, length, take, true, vec_len};
 ghost use Rattle.params.specs.declared.TheConstants.{IP_MAX_PACKET};
 ghost use Rattle.play_pcap.specs.Traces.{Traced};
 ghost use Rattle.flat_model.specs.Machine.State.{boot};
@@ -67,7 +67,7 @@ struct Parts {
 /// Takes all memory for playing a script.
 fn parts_for(alloc: Global, style: Style<'_>) -> Result<Parts, AllocError>
     ensures { IfOk result (λ p. (p.printer.form ≡ style.entry.form) × (p.printer.number ≡ 0)
-        × (p.printer.name ≡ take NAME style.entry.name.now) × (p.printer.sound ≡ true)
+        × (p.printer.name ≡ take NAME style.entry.name.now) × (p.printer.sound ≡ true) × (p.printer.texts ≡ false)
         × (vec_len p.room ≡ IP_MAX_PACKET) × (vec_len p.bytes ≡ IP_MAX_PACKET)) }
 {
     Ok(Parts {

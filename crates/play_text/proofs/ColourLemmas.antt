@@ -1,7 +1,8 @@
 -- Where the causes of drops begin.
 use Rattle.std.proofs.Common.{◌≡◌, ℕ, suc, ◌+◌, ◌<◌, false, List, ◌∷◌, length, drop, get_or, codes, refl, sym, ap, ◌∙◌, arith}
 use Rattle.std.proofs.lemmas.List.{drop_more}
-use Rattle.play_text.specs.Forms.{begins_with, drops_at}
+use Rattle.play_text.specs.Bytes.{begins_with}
+use Rattle.play_text.specs.Forms.{drops_at}
 
 next : (byte : ℕ) (bytes : List ℕ) → begins_with (byte ∷ bytes) (codes "dropped ") ≡ false
     → drops_at (byte ∷ bytes) ≡ suc (drops_at bytes)

@@ -2,3 +2,4 @@ mod PieceLemmas
 mod PacketLemmas
 mod StringLemmas
 mod ColourLemmas
+mod ByteLemmas

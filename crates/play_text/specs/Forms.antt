@@ -1,5 +1,8 @@
 -- The forms in which a player prints, and the colours of one of them (this project's own).
-use Rattle.std.specs.Prelude.{ℕ, zero, suc, Bool, true, false, List, [], ◌∷◌, ◌++◌, take, drop, codes, if◌then◌else◌, bytes_eq, length}
+use Rattle.std.specs.Prelude.{ℕ, zero, suc, Bool, true, false, List, [], ◌∷◌, ◌++◌, take, drop, codes, if◌then◌else◌}
+use Rattle.play_text.specs.Bytes.{begins_with, seen}
+use Rattle.play_text.specs.declared.bytes.ByteForm.{ByteForm}
+use Rattle.play_text.specs.declared.bytes.ByteForm.TheVariants.{Digits, Cut, Texts}
 use Rattle.play_text.specs.declared.form.Form.{Form}
 use Rattle.play_text.specs.declared.form.Form.TheVariants.{Plain, Quiet, Coloured, QuietColoured, Json}
 
@@ -17,6 +20,15 @@ is_coloured _ = false
 abbrev pub is_json : Form → Bool
 is_json Json = true
 is_json _ = false
+
+-- How the bytes of replies are printed: with texts if the script has written one. The quiet forms and JSON, which
+-- programs compare, have all digits.
+abbrev pub byte_form : Form → Bool → ByteForm
+byte_form Plain texts = if texts then Texts else Cut
+byte_form Coloured texts = if texts then Texts else Cut
+byte_form Quiet texts = Digits
+byte_form QuietColoured texts = Digits
+byte_form Json texts = Digits
 
 -- ---- colours, by SGR (ECMA-48 section 8.3.117): ESC [ 3 COLOUR m, and ESC [ 0 m ends them
 
@@ -38,9 +50,6 @@ if_coloured form code = if is_coloured form then code else []
 
 -- ---- the colours of what is told
 
-abbrev pub begins_with : List ℕ → List ℕ → Bool
-begins_with text word = bytes_eq (take (length word) text) word
-
 -- where the first `dropped ` begins, or the end of the text
 abbrev pub drops_at : List ℕ → ℕ
 drops_at [] = zero
@@ -51,14 +60,15 @@ abbrev pub reply_colour : List ℕ → List ℕ
 reply_colour reply = if begins_with reply (codes "error ") then red else green
 
 -- nothing has no colour
-abbrev pub part_text : List ℕ → List ℕ → List ℕ
-part_text colour [] = []
-part_text colour (byte ∷ bytes) = colour ++ (byte ∷ bytes) ++ ended
+abbrev pub part_text : List ℕ → ByteForm → List ℕ → List ℕ
+part_text colour form [] = []
+part_text colour form (byte ∷ bytes) = colour ++ seen form (byte ∷ bytes) ++ ended
 
 -- the reply, and why packets were dropped
-abbrev pub parts_text : ℕ → List ℕ → List ℕ
-parts_text at told = part_text (reply_colour told) (take at told) ++ part_text yellow (drop at told)
+abbrev pub parts_text : ByteForm → ℕ → List ℕ → List ℕ
+parts_text form at told =
+    part_text (reply_colour told) form (take at told) ++ part_text yellow Digits (drop at told)
 
-abbrev pub told_reply : Bool → List ℕ → List ℕ
-told_reply true told = parts_text (drops_at told) told
-told_reply false told = told
+abbrev pub told_reply : Bool → ByteForm → List ℕ → List ℕ
+told_reply true form told = parts_text form (drops_at told) told
+told_reply false form told = seen form told

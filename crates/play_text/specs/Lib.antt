@@ -1,4 +1,5 @@
 pub mod Strings
+pub mod Bytes
 pub mod Pieces
 pub mod Packets
 pub mod Forms

@@ -3,9 +3,10 @@ use Rattle.std.specs.Prelude.{ℕ, ◌+◌, ◌-◌, ◌*◌, ◌==◌, Bool, Li
 use Rattle.params.specs.declared.TheConstants.{PROTOCOL_UDP}
 use Rattle.flat_model.specs.Scripts.Grammar.{address_text}
 use Rattle.flat_model.specs.declared.address.Addr.{Addr}
+use Rattle.play_text.specs.Bytes.{difference, seen}
 use Rattle.play_text.specs.Strings.{string_text}
 use Rattle.play_text.specs.declared.piece.Piece.{Piece}
-use Rattle.play_text.specs.declared.piece.Piece.TheVariants.{Text, Either, Number, Long, Maybe, Amount, Address, End, Way, Range, Quoted}
+use Rattle.play_text.specs.declared.piece.Piece.TheVariants.{Text, Either, Number, Long, Maybe, Amount, Address, End, Way, Range, Quoted, Reply, Apart}
 
 -- a number, or these bytes if there is none
 abbrev pub number_or : Option ℕ → List ℕ → List ℕ
@@ -46,6 +47,8 @@ piece_text (End end) = end_text end
 piece_text (Way protocol source destination) = way_text protocol source destination
 piece_text (Range offset n) = range_text offset n
 piece_text (Quoted bytes) = string_text bytes.now
+piece_text (Reply form reply) = seen form reply.now
+piece_text (Apart form wanted told) = difference form wanted.now told.now
 
 abbrev pub pieces_after : List ℕ → List Piece → List ℕ
 pieces_after text [] = text
@@ -69,6 +72,8 @@ piece_room (End end) = 26
 piece_room (Way protocol source destination) = 53
 piece_room (Range offset n) = 40
 piece_room (Quoted bytes) = 6 * length bytes.now + 2
+piece_room (Reply form reply) = length reply.now + 2
+piece_room (Apart form wanted told) = 48
 
 abbrev pub pieces_room : List Piece → ℕ
 pieces_room [] = 0

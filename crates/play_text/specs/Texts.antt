@@ -2,7 +2,8 @@
 use Rattle.std.specs.Prelude.{ℕ, Bool, true, false, List, [], ◌++◌, if◌then◌else◌, codes, decimal, Option, Some, None, is_some}
 use Rattle.play_line.specs.Faults.{misread_words}
 use Rattle.play_line.specs.declared.fault.Slip.{Slip}
-use Rattle.play_text.specs.Forms.{is_quiet, is_coloured, is_json, if_coloured, red, ended, told_reply}
+use Rattle.play_text.specs.Bytes.{difference, seen}
+use Rattle.play_text.specs.Forms.{byte_form, is_quiet, is_coloured, is_json, if_coloured, red, ended, told_reply}
 use Rattle.play_text.specs.Pieces.{number_or}
 use Rattle.play_text.specs.Strings.{string_text}
 use Rattle.play_text.specs.declared.form.Form.{Form}
@@ -19,24 +20,25 @@ abbrev pub head_text : Bool → ℕ → List ℕ → List ℕ
 head_text true number line = []
 head_text false number line = decimal number ++ codes "  " ++ line ++ codes " => "
 
--- the line and what is told of it
-abbrev pub line_text : Form → ℕ → List ℕ → List ℕ → List ℕ
-line_text form number line told =
-    head_text (is_quiet form) number line ++ told_reply (is_coloured form) told ++ codes "\n"
+-- The line and what is told of it. Bytes may stand as texts if `texts`.
+abbrev pub line_text : Form → Bool → ℕ → List ℕ → List ℕ → List ℕ
+line_text form texts number line told =
+    head_text (is_quiet form) number line ++ told_reply (is_coloured form) (byte_form form texts) told ++ codes "\n"
 
-abbrev pub differs_text : Form → List ℕ → ℕ → List ℕ → List ℕ → List ℕ
-differs_text form name number wanted told =
-    if_coloured form red ++ name ++ codes ":" ++ decimal number ++ codes ": expected " ++ wanted
-    ++ codes ", got " ++ told ++ if_coloured form ended ++ codes "\n"
+abbrev pub differs_text : Form → Bool → List ℕ → ℕ → List ℕ → List ℕ → List ℕ
+differs_text form texts name number wanted told =
+    if_coloured form red ++ name ++ codes ":" ++ decimal number ++ codes ": expected "
+    ++ seen (byte_form form texts) wanted ++ codes ", got " ++ seen (byte_form form texts) told
+    ++ difference (byte_form form texts) wanted told ++ if_coloured form ended ++ codes "\n"
 
 -- nothing, if that was expected or nothing was
-abbrev pub difference_text : Form → List ℕ → ℕ → Option (List ℕ) → Bool → List ℕ → List ℕ
-difference_text form name number (Some wanted) false told = differs_text form name number wanted told
-difference_text form name number _ met told = []
+abbrev pub difference_text : Form → Bool → List ℕ → ℕ → Option (List ℕ) → Bool → List ℕ → List ℕ
+difference_text form texts name number (Some wanted) false told = differs_text form texts name number wanted told
+difference_text form texts name number _ met told = []
 
-abbrev pub lines_text : Form → List ℕ → ℕ → List ℕ → Option (List ℕ) → Bool → List ℕ → List ℕ → List ℕ
-lines_text form name number line wanted met told below =
-    line_text form number line told ++ below ++ difference_text form name number wanted met told
+abbrev pub lines_text : Form → Bool → List ℕ → ℕ → List ℕ → Option (List ℕ) → Bool → List ℕ → List ℕ → List ℕ
+lines_text form texts name number line wanted met told below =
+    line_text form texts number line told ++ below ++ difference_text form texts name number wanted met told
 
 -- ---- texts for programs
 
@@ -75,7 +77,7 @@ abbrev pub slip_text : Form → List ℕ → ℕ → Slip → List ℕ
 slip_text form name number slip = spot_fault form name number (Some slip.column) (misread_words slip.fault)
 
 -- what is told of a line and the lines below it, and what was expected, if that isn't what is told
-abbrev pub outcome_text : Form → List ℕ → ℕ → List ℕ → Option (List ℕ) → Bool → List ℕ → List ℕ → List ℕ
-outcome_text form name number line wanted met told below =
+abbrev pub outcome_text : Form → Bool → List ℕ → ℕ → List ℕ → Option (List ℕ) → Bool → List ℕ → List ℕ → List ℕ
+outcome_text form texts name number line wanted met told below =
     if is_json form then outcome_object name number line wanted met told below
-    else lines_text form name number line wanted met told below
+    else lines_text form texts name number line wanted met told below

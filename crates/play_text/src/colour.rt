@@ -1,8 +1,10 @@
 //! Colours of what is told.
 ghost use Rattle.std.specs.Prelude.{◌≡◌, ◌+◌, ◌≤◌, ◌++◌, codes, length};
+ghost use Rattle.play_text.specs.Bytes.{begins_with};
 ghost use Rattle.play_text.specs.Forms as forms;
 
-use crate::piece::Piece::Text;
+use crate::bytes::{ByteForm, begins_with, put_reply};
+use crate::piece::Piece::{Reply, Text};
 use crate::piece::put;
 use script_loop::Buffer;
 
@@ -16,16 +18,9 @@ const YELLOW: &[u8] = b"\x1b[33m";
 /// The end of a colour.
 pub(crate) const ENDED: &[u8] = b"\x1b[0m";
 
-/// Whether a text begins with a word.
-fn begins_with(text: &[u8], word: &[u8]) -> bool
-    ensures { result ≡ forms.begins_with text.now word.now }
-{
-    text.len() >= word.len() && &text[..word.len()] == word
-}
-
 /// Whether a cause of a drop stands here.
 fn tells_drop(text: &[u8]) -> bool
-    ensures { result ≡ forms.begins_with text.now (codes "dropped ") }
+    ensures { result ≡ begins_with text.now (codes "dropped ") }
 {
     begins_with(text, b"dropped ")
 }
@@ -57,28 +52,38 @@ fn reply_colour(reply: &[u8]) -> &'static [u8]
 }
 
 /// Puts a part of what is told after the text, in its colour.
-fn put_part<'a, const N: usize>(text: &mut Buffer<N>, colour: &'a [u8], part: &'a [u8])
+fn put_part<'a, const N: usize>(
+    text: &mut Buffer<N>,
+    colour: &'a [u8],
+    form: ByteForm,
+    part: &'a [u8],
+)
     requires short { length colour.now ≡ 5 }
-    requires room { length text.old + (length part.now + 9) ≤ N }
-    ensures items { text.new ≡ text.old ++ forms.part_text colour.now part.now }
-    ensures len { length text.new ≤ length text.old + (length part.now + 9) }
+    requires room { length text.old + (length part.now + 11) ≤ N }
+    ensures items { text.new ≡ text.old ++ forms.part_text colour.now form part.now }
+    ensures len { length text.new ≤ length text.old + (length part.now + 11) }
 {
     if !part.is_empty() {
-        put(text, &[Text(colour), Text(part), Text(ENDED)]);
+        put(text, &[Text(colour), Reply(form, part), Text(ENDED)]);
     }
 }
 
 /// Puts what is told after the text, in its colours if there are colours.
-pub(crate) fn put_reply<const N: usize>(text: &mut Buffer<N>, colours: bool, told: &[u8])
-    requires { length text.old + (length told.now + 18) ≤ N }
-    ensures items { text.new ≡ text.old ++ forms.told_reply colours told.now }
-    ensures len { length text.new ≤ length text.old + (length told.now + 18) }
+pub(crate) fn put_told<const N: usize>(
+    text: &mut Buffer<N>,
+    colours: bool,
+    form: ByteForm,
+    told: &[u8],
+)
+    requires { length text.old + (length told.now + 22) ≤ N }
+    ensures items { text.new ≡ text.old ++ forms.told_reply colours form told.now }
+    ensures len { length text.new ≤ length text.old + (length told.now + 22) }
 {
     if colours {
         let at = drops_at(told);
-        put_part(text, reply_colour(told), &told[..at]);
-        put_part(text, YELLOW, &told[at..]);
+        put_part(text, reply_colour(told), form, &told[..at]);
+        put_part(text, YELLOW, ByteForm::Digits, &told[at..]);
     } else {
-        text.append(told);
+        put_reply(text, form, told);
     }
 }

@@ -2,12 +2,15 @@
 ghost use Rattle.std.specs.Prelude.{◌≡◌};
 ghost use Rattle.play_text.specs.Forms as forms;
 
+use crate::bytes::ByteForm;
+
 /// How a script is printed.
 #[derive(Clone, Copy)]
 pub enum Form {
-    /// Each line with its number and what is told of it.
+    /// Each line with its number and what is told of it. Many bytes are cut in the middle, and those that can stand in
+    /// a text are shown as one, once the script has written a text.
     Plain,
-    /// What is told alone, without the lines and what stands below them.
+    /// What is told alone, with all digits, without the lines and what stands below them.
     Quiet,
     /// As `Plain`: replies are green, refusals, faults and differences red, and drops yellow.
     Coloured,
@@ -30,6 +33,18 @@ impl Form {
         ensures { result ≡ forms.is_coloured self }
     {
         matches!(self, Form::Coloured | Form::QuietColoured)
+    }
+
+    /// How the bytes of replies are printed, whose script has written texts or not: the quiet forms and JSON, which
+    /// programs compare, have all digits.
+    pub(crate) fn byte_form(self, texts: bool) -> ByteForm
+        ensures { result ≡ forms.byte_form self texts }
+    {
+        match self {
+            Form::Plain | Form::Coloured if texts => ByteForm::Texts,
+            Form::Plain | Form::Coloured => ByteForm::Cut,
+            Form::Quiet | Form::QuietColoured | Form::Json => ByteForm::Digits,
+        }
     }
 
     /// Whether it's a form for programs.

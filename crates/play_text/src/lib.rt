@@ -2,6 +2,7 @@
 //! JSON for programs; and packets in words, as `udp 10.0.0.1:7 > 10.0.0.2:5000, 2 bytes, id 1`.
 #![tactic(auto)]
 
+mod bytes;
 mod colour;
 mod escape;
 mod fault;
@@ -11,6 +12,7 @@ mod line;
 mod packet;
 mod piece;
 
+pub use bytes::ByteForm;
 pub use fault::{put_fault, put_slip};
 pub use form::Form;
 pub use law::read_back_law;

@@ -2,9 +2,9 @@
 ghost use Rattle.std.specs.Prelude.{◌≡◌, ◌+◌, ◌*◌, ◌≤◌, ◌++◌, length};
 ghost use Rattle.play_text.specs.Texts.{expected_text, if_there, line_text, lines_text, outcome_object, outcome_text};
 
-use crate::colour::{ENDED, RED, put_reply};
+use crate::colour::{ENDED, RED, put_told};
 use crate::form::Form;
-use crate::piece::Piece::{Either, Long, Quoted, Text};
+use crate::piece::Piece::{Apart, Either, Long, Quoted, Reply, Text};
 use crate::piece::put;
 use script_loop::Buffer;
 
@@ -19,6 +19,8 @@ pub struct Outcome<'a> {
     pub told: &'a [u8],
     /// The lines below it.
     pub below: &'a [u8],
+    /// Whether the script has written a text, so that bytes of replies may stand as texts.
+    pub texts: bool,
     /// Whether something was expected, and what.
     pub expects: bool,
     pub wanted: &'a [u8],
@@ -27,18 +29,29 @@ pub struct Outcome<'a> {
 }
 
 /// Puts a line and what is told of it after the text.
-fn put_line<const N: usize>(text: &mut Buffer<N>, form: Form, number: u64, line: &[u8], told: &[u8])
-    requires { length text.old + (length line.now + length told.now + 45) ≤ N }
-    ensures items { text.new ≡ text.old ++ line_text form number line.now told.now }
-    ensures len { length text.new ≤ length text.old + (length line.now + length told.now + 45) }
+fn put_line<const N: usize>(text: &mut Buffer<N>, form: Form, outcome: &Outcome<'_>)
+    requires { length text.old + (length outcome.now.line.now + length outcome.now.told.now + 49) ≤ N }
+    ensures items { text.new ≡ text.old ++ line_text form outcome.now.texts outcome.now.number outcome.now.line.now
+        outcome.now.told.now }
+    ensures len { length text.new ≤ length text.old + (length outcome.now.line.now + length outcome.now.told.now + 49) }
 {
     if !form.is_quiet() {
         put(
             text,
-            &[Long(number), Text(b"  "), Text(line), Text(b" => ")],
+            &[
+                Long(outcome.number),
+                Text(b"  "),
+                Text(outcome.line),
+                Text(b" => "),
+            ],
         );
     }
-    put_reply(text, form.is_coloured(), told);
+    put_told(
+        text,
+        form.is_coloured(),
+        form.byte_form(outcome.texts),
+        outcome.told,
+    );
     text.append(b"\n");
 }
 
@@ -50,15 +63,16 @@ fn put_lines<'a, const N: usize>(
     outcome: &'a Outcome<'a>,
 )
     requires { length text.old + (length name.now + length outcome.now.line.now + length outcome.now.below.now
-        + length outcome.now.wanted.now + 2 * length outcome.now.told.now + 128) ≤ N }
-    ensures { text.new ≡ text.old ++ lines_text form name.now outcome.now.number outcome.now.line.now
+        + length outcome.now.wanted.now + 2 * length outcome.now.told.now + 256) ≤ N }
+    ensures { text.new ≡ text.old ++ lines_text form outcome.now.texts name.now outcome.now.number outcome.now.line.now
         (if_there outcome.now.expects outcome.now.wanted.now) outcome.now.met
         outcome.now.told.now outcome.now.below.now }
 {
-    put_line(text, form, outcome.number, outcome.line, outcome.told);
+    put_line(text, form, outcome);
     text.append(outcome.below);
     if outcome.expects && !outcome.met {
         let colours = form.is_coloured();
+        let bytes = form.byte_form(outcome.texts);
         put(
             text,
             &[
@@ -67,9 +81,10 @@ fn put_lines<'a, const N: usize>(
                 Text(b":"),
                 Long(outcome.number),
                 Text(b": expected "),
-                Text(outcome.wanted),
+                Reply(bytes, outcome.wanted),
                 Text(b", got "),
-                Text(outcome.told),
+                Reply(bytes, outcome.told),
+                Apart(bytes, outcome.wanted, outcome.told),
                 Either(colours, ENDED, b""),
                 Text(b"\n"),
             ],
@@ -128,7 +143,7 @@ fn put_object<'a, const N: usize>(text: &mut Buffer<N>, name: &'a [u8], outcome:
 /// Puts a line and what is told of it after the text, in this form. For people it's the line with its number and its
 /// reply, or the reply alone; the lines below it; and a difference under the script's name, if something was expected
 /// and didn't come. For programs it's an object of JSON. There must be room for six bytes for each byte of the texts,
-/// and for 128 more.
+/// and for 256 more.
 pub fn put_outcome<const N: usize>(
     text: &mut Buffer<N>,
     form: Form,
@@ -136,9 +151,9 @@ pub fn put_outcome<const N: usize>(
     outcome: &Outcome<'_>,
 )
     requires { length text.old + (6 * (length name.now + length outcome.now.line.now + length outcome.now.told.now
-        + length outcome.now.below.now + length outcome.now.wanted.now) + 128) ≤ N }
-    ensures { text.new ≡ text.old ++ outcome_text form name.now outcome.now.number outcome.now.line.now
-        (if_there outcome.now.expects outcome.now.wanted.now) outcome.now.met
+        + length outcome.now.below.now + length outcome.now.wanted.now) + 256) ≤ N }
+    ensures { text.new ≡ text.old ++ outcome_text form outcome.now.texts name.now outcome.now.number
+        outcome.now.line.now (if_there outcome.now.expects outcome.now.wanted.now) outcome.now.met
         outcome.now.told.now outcome.now.below.now }
 {
     if form.is_json() {

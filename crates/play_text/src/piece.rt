@@ -2,6 +2,7 @@
 ghost use Rattle.std.specs.Prelude.{◌≡◌, ◌+◌, ◌≤◌, ◌++◌, [], length, if◌then◌else◌};
 ghost use Rattle.play_text.specs.Pieces.{amount, end_text, number_or, piece_room, piece_text, protocol_text, range_text, pieces_room, text_of, way_text};
 
+use crate::bytes::{ByteForm, put_apart, put_reply};
 use crate::escape::put_string;
 use flat_model::Addr;
 use params::PROTOCOL_UDP;
@@ -33,6 +34,10 @@ pub enum Piece<'a> {
     Range(u32, u32),
     /// A string of JSON (RFC 8259 section 7), in ASCII alone.
     Quoted(&'a [u8]),
+    /// A reply, with its bytes in this form.
+    Reply(ByteForm, &'a [u8]),
+    /// Where the bytes of two replies differ first, if one of them is cut.
+    Apart(ByteForm, &'a [u8], &'a [u8]),
 }
 
 /// Puts a number after the text, or these bytes if there is none.
@@ -132,12 +137,14 @@ fn put_piece<const N: usize>(text: &mut Buffer<N>, piece: &Piece<'_>)
         Piece::Way(protocol, source, destination) => put_way(text, protocol, source, destination),
         Piece::Range(offset, n) => put_range(text, offset, n),
         Piece::Quoted(bytes) => put_string(text, bytes),
+        Piece::Reply(form, reply) => put_reply(text, form, reply),
+        Piece::Apart(form, wanted, told) => put_apart(text, form, wanted, told),
     }
 }
 
 /// Puts pieces after the text, one after another. There must be room for all of them: for each its bytes, 10 for a
 /// number and 20 for a long one, 12 more than its word for an amount, 15, 26 and 53 for an address, an end and a way,
-/// 40 for a range, and six for each byte of a string and two more.
+/// 40 for a range, six for each byte of a string and two more, two more for a reply, and 48 for a difference.
 pub fn put<const N: usize>(text: &mut Buffer<N>, pieces: &[Piece<'_>])
     requires { length text.old + pieces_room pieces.now ≤ N }
     ensures items { text.new ≡ text.old ++ text_of pieces.now }

@@ -75,7 +75,7 @@ done_by_nobody play named host plain v old e f is = (
 pub told_part : (old new : WirePlay) (line part : List ℕ) (host : Option (List ℕ)) (read : Reading) (acts : List Act)
     (text : List ℕ)
     → IsParted line host part → reading part ≡ read
-    → TellsPart (next_wire_line old) host (length line - length part) read acts text new
+    → TellsPart (next_wire_line line old) host (length line - length part) read acts text new
     → Tells old line text new
 told_part old new line part host read acts text parted is tells = (
   acts,
@@ -83,7 +83,7 @@ told_part old new line part host read acts text parted is tells = (
     host,
     part,
     parted,
-    subst (λ r. TellsPart (next_wire_line old) host (length line - length part) r acts text new)
+    subst (λ r. TellsPart (next_wire_line line old) host (length line - length part) r acts text new)
         (sym is) tells,
   ),
 )

@@ -53,7 +53,7 @@ told_by_acts old new (line ∷ lines) printed (mid, text, more, (first, tells), 
       first ++ rest.0,
       (mid, first, rest.0, text, more, tells, rest.1, refl, joined),
       acts_append old.segment mid.segment new.segment first rest.0
-          (part_acts (next_wire_line old) mid tells.0 _ (reading tells.1) first text tells.3) rest.2,
+          (part_acts (next_wire_line line old) mid tells.0 _ (reading tells.1) first text tells.3) rest.2,
     )
 
 pub played : (seed : ℕ) (form : Form) (name : List ℕ) (new : WirePlay) (lines : List (List ℕ)) (printed : List ℕ)

@@ -33,6 +33,7 @@ play_with segment names printer = record {
   names = names;
   number = printer.number;
   sound = printer.sound;
+  texts = printer.texts;
   form = printer.form;
   name = printer.name;
 }

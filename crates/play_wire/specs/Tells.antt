@@ -1,8 +1,8 @@
 -- What may be told of a line, and what it leads to (this project's own).
-use Rattle.std.specs.Prelude.{◌≡◌, ◌⊎◌, ℕ, ◌-◌, ◌&&◌, Bool, true, false, List, [], ◌∷◌, ◌++◌, length, codes, decimal, if◌then◌else◌, slice_get, Option, Some, None}
+use Rattle.std.specs.Prelude.{◌≡◌, ◌⊎◌, ℕ, ◌-◌, ◌&&◌, ◌||◌, Bool, true, false, List, [], ◌∷◌, ◌++◌, length, codes, decimal, if◌then◌else◌, slice_get, Option, Some, None}
 use Rattle.flat_model.specs.Machine.Count.{more_by}
 use Rattle.play_line.specs.declared.fault.Slip.{Slip}
-use Rattle.play_script.specs.Lines.{Reading, Nothing, TooLong, Faulty, Asks, reading}
+use Rattle.play_script.specs.Lines.{Reading, Nothing, TooLong, Faulty, Asks, has_text, reading}
 use Rattle.play_text.specs.Texts.{fault_text, slip_text}
 use Rattle.play_text.specs.declared.form.Form.{Form}
 use Rattle.play_script.specs.Tells.{is_sound, told_text}
@@ -16,12 +16,14 @@ use Rattle.play_wire.specs.declared.fault.Fault.TheVariants as fault
 use Rattle.play_wire.specs.declared.hosts.TheConstants.{PACKETS}
 
 -- What a player has in hand: its hosts and their wire, with the names of the hosts by their places; how many lines it
--- has seen; whether all of them could be read, and all expectations held; and how it prints.
+-- has seen; whether all of them could be read, and all expectations held; whether a text stood in one of them; and how
+-- it prints.
 pub record WirePlay : Type 0 where
   pub segment : SegmentView
   pub names : List (List ℕ)
   pub number : ℕ
   pub sound : Bool
+  pub texts : Bool
   pub form : Form
   pub name : List ℕ
 
@@ -33,13 +35,14 @@ wire_started seed form name =
       names = [];
       number = 0;
       sound = true;
+      texts = false;
       form = form;
       name = name;
     }
 
 -- the next line
-abbrev pub next_wire_line : WirePlay → WirePlay
-next_wire_line old = record old { number = more_by 1 old.number }
+abbrev pub next_wire_line : List ℕ → WirePlay → WirePlay
+next_wire_line line old = record old { number = more_by 1 old.number; texts = old.texts || has_text line }
 
 -- the line names this host in front of a colon, and then stands this part; or the part is all of it
 abbrev pub IsParted : List ℕ → Option (List ℕ) → List ℕ → Type 0
@@ -56,7 +59,7 @@ labelled None shown = shown
 -- what is told of a line
 abbrev pub IsText : WirePlay → Option (List ℕ) → List ℕ → List ℕ → Option (List ℕ) → Outcome → List ℕ → Type 0
 IsText now host shown plain wanted (Told told below) text =
-    text ≡ told_text now.form now.name now.number (labelled host shown) wanted told below
+    text ≡ told_text now.form now.texts now.name now.number (labelled host shown) wanted told below
 IsText now host shown plain wanted (Refused reason) text =
     (what : List ℕ) × IsReason host plain reason what × (text ≡ fault_text now.form now.name now.number what)
 
@@ -113,7 +116,7 @@ TellsPart now host before (Asks shown plain wanted) acts text new =
 abbrev pub TellsBy : WirePlay → List ℕ → List Act → List ℕ → WirePlay → Type 0
 TellsBy old line acts text new =
     (host : Option (List ℕ)) × (part : List ℕ) × IsParted line host part
-    × TellsPart (next_wire_line old) host (length line - length part) (reading part) acts text new
+    × TellsPart (next_wire_line line old) host (length line - length part) (reading part) acts text new
 
 abbrev pub Tells : WirePlay → List ℕ → List ℕ → WirePlay → Type 0
 Tells old line text new = (acts : List Act) × TellsBy old line acts text new

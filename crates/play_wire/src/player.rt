@@ -140,7 +140,7 @@ impl<T: Sink + Drop> Answers<ROOM> for Player<T> {
     ghost may_answer = { Tells };
 
     fn answer(&mut self, line: &[u8], text: &mut Buffer<ROOM>) {
-        self.printer.next_line();
+        self.printer.next_line(line);
         self.hosts.capture.line = self.printer.number;
         let part = self.target.take(line);
         match read_line(part, &mut self.reader, &mut self.line) {

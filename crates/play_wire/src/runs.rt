@@ -1,5 +1,5 @@
 //! The scripts that callers have played.
-ghost use Rattle.std.specs.Prelude.{◌≡◌, ℕ, List, [], take, true, IfOk, IfSome};
+ghost use Rattle.std.specs.Prelude.{◌≡◌, ℕ, List, [], take, true, false, IfOk, IfSome};
 ghost use Rattle.script_loop.specs.Printed.{Prints};
 ghost use Rattle.script_loop.specs.Streams.{MoreBy, reader_failures, writer_failures};
 ghost use Rattle.script_loop.specs.Serves.{Serves, IsServed};
@@ -36,7 +36,8 @@ struct Parts {
 /// most pieces last.
 fn parts_for(alloc: Global, style: Style<'_>) -> Result<Parts, AllocError>
     ensures { IfOk result (λ p. (p.printer.form ≡ style.entry.form) × (p.printer.number ≡ 0)
-        × (p.printer.name ≡ take NAME style.entry.name.now) × (p.printer.sound ≡ true)) }
+        × (p.printer.name ≡ take NAME style.entry.name.now) × (p.printer.sound ≡ true)
+        × (p.printer.texts ≡ false)) }
 {
     let printer = Printer::new(alloc, style)?;
     let target = Target::new(alloc)?;

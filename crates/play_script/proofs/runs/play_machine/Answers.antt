@@ -9,7 +9,8 @@ returns-clause-served g c =
     let printer = c.in-Ok.parts.printer in
     Serves-started StackSteps g.F.Folder.may_have (state_of c.args.booted.0) c.args.booted.1.trace c.end-trace.result
     c.args.booted.1.config
-    printer.number printer.sound printer.form c.args.style.form printer.name _ _ _ _ _ _ c.serve_script-outcome.result
+    printer.number printer.sound printer.texts printer.form c.args.style.form printer.name _ _ _ _ _ _ c.serve_script-outcome.result
     (sym c.requires)
-    c.in-Ok.ensures.0 c.in-Ok.ensures.1 c.in-Ok.ensures.2 c.in-Ok.ensures.3 c.end-trace.ensures
+    c.in-Ok.ensures.0 c.in-Ok.ensures.1 c.in-Ok.ensures.2 c.in-Ok.ensures.3
+    c.in-Ok.ensures.4 c.end-trace.ensures
     c.serve_script-outcome.ensures.served

@@ -1,6 +1,6 @@
 use Rattle.std.proofs.Common.{◌≡◌, ◌-◌, ◌≤◌, false, length, drop, codes, sym, ap, ◌∙◌, arith}
 use Rattle.std.proofs.lemmas.List.{length-drop, take_all}
-use Rattle.play_text.specs.Forms.{begins_with}
+use Rattle.play_text.specs.Bytes.{begins_with}
 use Rattle.play_text.proofs.ColourLemmas.{step}
 use Rattle.play_text.proofs.colour.drops_at.Goals as goal
 

@@ -20,7 +20,7 @@ returns-in-Done g c =
     let head : c.both-self.result ≡ (now.head && stays_head done.0) =
     c.both-self.ensures ∙ ap (λ (b : Bool). now.head && b) done.2.1 in
     let playing = λ (h : Bool) (p : Printer). play_of (state_of after.stack) after.capture.trace now.config h p in (
-      told_text now.printer.form now.printer.name now.printer.number now.line.shown (expected_on now.line) text below,
+      told_text now.printer.form now.printer.texts now.printer.name now.printer.number now.line.shown (expected_on now.line) text below,
       Ask-tells StackSteps g.F.Folder.may_have
           (play_of (state_of now.captured.stack) now.captured.capture.trace now.config now.head now.printer)
           (playing c.both-self.result c.put_told.new.self) now.line.shown (plain_line now.line) (expected_on now.line)

@@ -26,7 +26,7 @@ returns-in-Ok g c =
     c.bytes_of-in-Ok.ensures.is ∙ c.label.ensures.line
     ∙ ap (λ (t : List ℕ). labelled host t) c.bytes_of.ensures.is in (
       did.0,
-      told_text p.form p.name p.number (labelled host now.line.shown) wanted told below,
+      told_text p.form p.texts p.name p.number (labelled host now.line.shown) wanted told below,
       (
         Told told below,
         segment,
@@ -36,7 +36,7 @@ returns-in-Ok g c =
         ap (λ (q : Printer). play_with segment names q) c.put_labelled.ensures.printer,
       ),
       c.put_labelled.ensures.text ∙ ap
-          (λ (t : List ℕ). c.args.text.now ++ told_text p.form p.name p.number t wanted told below) shown,
+          (λ (t : List ℕ). c.args.text.now ++ told_text p.form p.texts p.name p.number t wanted told below) shown,
     )
 
 pub returns-in-Err : goal.returns-in-Err
