@@ -1,9 +1,9 @@
 -- The packet that the words of a line name: a datagram of this stack, cut and changed at named bytes (this project's
 -- own).
-use Rattle.std.specs.Prelude.{ℕ, ◌+◌, ◌-◌, ◌%◌, ◌==◌, Bool, List, [], ◌∷◌, ◌++◌, length, take, drop, slice_index, if◌then◌else◌, codes, nat_lt, Option, Some, None, Result, Ok, Err}
-use Rattle.params.specs.declared.TheConstants.{IP_DEFAULT_TTL, IP_MAX_DATA, PROTOCOL_UDP}
+use Rattle.std.specs.Prelude.{ℕ, ◌+◌, ◌-◌, ◌/◌, ◌%◌, ◌==◌, Bool, List, [], ◌∷◌, ◌++◌, length, take, drop, if◌then◌else◌, codes, nat_lt, Option, Some, None, unwrap_or, Result, Ok, Err}
+use Rattle.params.specs.declared.TheConstants.{FRAGMENT_UNIT, IP_DEFAULT_TTL, IP_HEADER, IP_MAX_DATA, PROTOCOL_UDP, UDP_HEADER}
 use Rattle.flat_model.specs.Packets.Checksum.{checksum}
-use Rattle.flat_model.specs.Packets.Header.{Head, packet, udp, two_bytes, u16_at, flag}
+use Rattle.flat_model.specs.Packets.Header.{Head, address_bytes, flag, not_zero, pseudo_header, two_bytes}
 use Rattle.flat_model.specs.Scripts.Texts.{hex_text}
 use Rattle.play_line.specs.Line.{column_of}
 use Rattle.play_line.specs.declared.fault.Fault.TheVariants.{NoBytes, PastEnd, TooLarge}
@@ -16,17 +16,9 @@ use Rattle.play_packet.specs.declared.form.Sum.{Sum}
 use Rattle.play_packet.specs.declared.form.Sum.TheVariants.{Right, Missing, Wrong}
 use Rattle.play_packet.specs.declared.form.Told.{Told}
 
--- some bytes with other ones from a place on
-abbrev pub changed : ℕ → List ℕ → List ℕ → List ℕ
-changed at new bytes = take at bytes ++ new ++ drop (at + length new) bytes
-
 -- one more than a checksum: never the same one, and never 0
 abbrev pub wrong : ℕ → ℕ
 wrong sum = sum % 65535 + 1
-
-abbrev pub told_or : ℕ → Option ℕ → ℕ
-told_or default None = default
-told_or default (Some n) = n
 
 abbrev pub value_or : ℕ → Option Told → ℕ
 value_or default None = default
@@ -34,49 +26,51 @@ value_or default (Some told) = told.value
 
 -- ---- the datagram
 
--- its checksum is in bytes 6 and 7
-abbrev pub with_checksum : Sum → List ℕ → List ℕ
-with_checksum Right datagram = datagram
-with_checksum Missing datagram = changed 6 (0 ∷ 0 ∷ []) datagram
-with_checksum Wrong datagram = changed 6 (two_bytes (wrong (u16_at 6 datagram))) datagram
+-- what stands in the place of a checksum
+abbrev pub written_sum : Sum → ℕ → ℕ
+written_sum Right sum = sum
+written_sum Missing sum = 0
+written_sum Wrong sum = wrong sum
 
--- of these bytes
-abbrev pub datagram_of : Form → List ℕ → List ℕ
-datagram_of f sent = with_checksum f.sum (udp f.source.ip f.destination.ip f.source.port f.destination.port sent)
+-- that carries these bytes (RFC 768)
+unfoldable pub datagram_of : Form → List ℕ → List ℕ
+datagram_of f s =
+    let n : ℕ = UDP_HEADER + length s in
+    let front : List ℕ = two_bytes f.source.port ++ two_bytes f.destination.port ++ two_bytes n in
+    let sum : ℕ = not_zero (checksum (pseudo_header f.source.ip f.destination.ip n ++ front ++ 0 ∷ 0 ∷ s)) in
+    front ++ two_bytes (written_sum f.sum sum) ++ s
 
 -- ---- the packet
 
+-- the ten bytes in front of the header's checksum, of a packet that carries n bytes (RFC 791, section 3.1)
+abbrev pub front_of_form : Form → ℕ → List ℕ
+front_of_form f n =
+    69 ∷ 0 ∷ two_bytes (IP_HEADER + n) ++ two_bytes (unwrap_or f.id 1)
+    ++ two_bytes (flag f.whole 16384 + flag f.more 8192 + value_or 0 f.offset / FRAGMENT_UNIT)
+    ++ unwrap_or f.ttl IP_DEFAULT_TTL ∷ PROTOCOL_UDP ∷ []
+
+-- the checksum of a header
+abbrev pub header_sum : Bool → ℕ → ℕ
+header_sum bad sum = if bad then wrong sum else sum
+
+-- that carries these bytes
+unfoldable pub packet_of : Form → List ℕ → List ℕ
+packet_of f carried =
+    let front : List ℕ = front_of_form f (length carried) in
+    let addresses : List ℕ = address_bytes f.source.ip f.destination.ip in
+    let sum : ℕ = checksum (front ++ 0 ∷ 0 ∷ addresses) in
+    front ++ two_bytes (header_sum f.bad_sum sum) ++ addresses ++ carried
+
+-- what this stack itself says of a packet, of the words that it has words for
 abbrev pub head_of_form : Form → Head
 head_of_form f = record {
-  id = told_or 1 f.id;
+  id = unwrap_or f.id 1;
   more = f.more;
   offset = value_or 0 f.offset;
   protocol = PROTOCOL_UDP;
   source = f.source.ip;
   destination = f.destination.ip;
 }
-
--- "don't fragment" is the second bit of byte 6
-abbrev pub with_whole : Bool → List ℕ → List ℕ
-with_whole whole bytes = changed 6 ((flag whole 64 + slice_index bytes 6 % 64) ∷ []) bytes
-
--- the time to live is byte 8
-abbrev pub with_ttl : ℕ → List ℕ → List ℕ
-with_ttl ttl bytes = changed 8 (ttl ∷ []) bytes
-
--- the checksum of a header
-abbrev pub header_sum : List ℕ → ℕ
-header_sum bytes = checksum (take 10 bytes ++ 0 ∷ 0 ∷ take 8 (drop 12 bytes))
-
--- it's in bytes 10 and 11
-abbrev pub with_header_sum : Bool → List ℕ → List ℕ
-with_header_sum bad bytes = changed 10 (two_bytes (if bad then wrong (header_sum bytes) else header_sum bytes)) bytes
-
--- that carries these bytes
-abbrev pub packet_of : Form → List ℕ → List ℕ
-packet_of f carried =
-    with_header_sum f.bad_sum (with_ttl (told_or IP_DEFAULT_TTL f.ttl)
-    (with_whole f.whole (packet (head_of_form f) carried)))
 
 -- ---- what can't be built
 

@@ -1,6 +1,9 @@
 //! Laws of packets by name. Each is a function that does nothing, and its contract is the law.
-ghost use Rattle.std.specs.Prelude.{◌≡◌, ℕ, ◌<◌, ◌≤◌, ◌%◌};
-ghost use Rattle.play_packet.specs.Builds.{wrong};
+ghost use Rattle.std.specs.Prelude.{◌≡◌, ℕ, ◌<◌, ◌≤◌, ◌%◌, List, None, false};
+ghost use Rattle.flat_model.specs.Packets.Header.{packet, udp};
+ghost use Rattle.play_packet.specs.Builds.{datagram_of, head_of_form, packet_of, wrong};
+ghost use Rattle.play_packet.specs.declared.form.Form.{Form};
+ghost use Rattle.play_packet.specs.declared.form.Sum.TheVariants.{Right};
 
 /// A checksum that was made wrong isn't the right one, also where 0 and 65,535 count as the same, as they do in a sum
 /// by ones' complement. It fits into 16 bits, and isn't 0, which would say that there is none.
@@ -8,4 +11,13 @@ pub fn wrong_sum_law()
     ensures apart { (sum : ℕ) → wrong sum % 65535 ≡ sum % 65535 → ⊥ }
     ensures there { (sum : ℕ) → 0 < wrong sum }
     ensures fits { (sum : ℕ) → wrong sum ≤ 65535 }
+{}
+
+/// A packet of which nothing is changed is the one that this stack itself would send: flat_model's `packet` of its
+/// `udp`.
+pub fn own_packet_law()
+    ensures datagram { (form : Form) (sent : List ℕ) → form.sum ≡ Right → datagram_of form sent
+        ≡ udp form.source.ip form.destination.ip form.source.port form.destination.port sent }
+    ensures packet { (form : Form) (carried : List ℕ) → form.whole ≡ false → form.ttl ≡ None → form.bad_sum ≡ false
+        → packet_of form carried ≡ packet (head_of_form form) carried }
 {}

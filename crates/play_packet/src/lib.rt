@@ -11,5 +11,5 @@ mod reader;
 mod words;
 
 pub use build::PACKET;
-pub use laws::wrong_sum_law;
+pub use laws::{own_packet_law, wrong_sum_law};
 pub use reader::LineReader;

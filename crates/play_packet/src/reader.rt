@@ -61,11 +61,8 @@ impl LineReader {
         if !is_named(words) {
             return Ok(false);
         }
-        match self.builder.build(words) {
-            Ok(()) => {
-                self.builder.put_built(packet);
-                Ok(true)
-            }
+        match self.builder.build(words, packet) {
+            Ok(()) => Ok(true),
             Err(misfit) => Err(Slip {
                 fault: misfit.fault,
                 column: self.reader.column_of(line, place_in(words, misfit.place)),

@@ -1,10 +1,10 @@
 use Rattle.std.proofs.Common.{refl}
-use Rattle.flat_model.specs.Packets.Header.{packet}
+use Rattle.play_packet.specs.Builds.{packet_of}
 use Rattle.play_packet.proofs.build.put_packet.Goals as goal
 
-pub returns-clause-is : goal.returns-clause-is
-unfolding packet
-returns-clause-is c =
+pub returns : goal.returns
+unfolding packet_of
+returns c =
     rw (
       c.append-7.ensures.items,
       c.append-6.ensures.items,
@@ -12,7 +12,8 @@ returns-clause-is c =
       c.append-4.ensures.items,
       c.clear-2.ensures,
       c.two_bytes.ensures,
-      c.checksum-sum.ensures,
+      c.header_sum-sum.ensures,
+      c.checksum-right.ensures,
       c.as_slice.ensures,
       c.append-3.ensures.items,
       c.append-2.ensures.items,

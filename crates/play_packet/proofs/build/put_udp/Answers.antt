@@ -1,9 +1,9 @@
 use Rattle.std.proofs.Common.{refl}
-use Rattle.flat_model.specs.Packets.Header.{udp}
+use Rattle.play_packet.specs.Builds.{datagram_of}
 use Rattle.play_packet.proofs.build.put_udp.Goals as goal
 
 pub returns-clause-is : goal.returns-clause-is
-unfolding udp
+unfolding datagram_of
 returns-clause-is c =
     rw (
       c.append-13.ensures.items,
@@ -13,7 +13,8 @@ returns-clause-is c =
       c.append-9.ensures.items,
       c.clear-2.ensures,
       c.two_bytes.ensures,
-      c.not_zero-sum.ensures,
+      c.written.ensures,
+      c.not_zero-right.ensures,
       c.checksum.ensures,
       c.as_slice.ensures,
       c.append-8.ensures.items,

@@ -1,4 +1,4 @@
-use Rattle.std.proofs.Common.{◌≡◌, ◌≤◌, length}
+use Rattle.std.proofs.Common.{◌≡◌, length}
 use Rattle.play_packet.specs.Forms.{marks_after}
 use Rattle.play_packet.proofs.form.Form.with_marks.Given as goal
 
