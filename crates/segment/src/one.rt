@@ -1,5 +1,5 @@
 //! One host on an Ethernet: how it joins, what comes to it from outside, and what is asked of it.
-ghost use Rattle.std.specs.Prelude.{◌≡◌, ◌+◌, ◌≤◌, ◌==◌, Result, Ok, Err, length, map, option_map, slice_get, MatchOption, MatchResult, None, Some};
+ghost use Rattle.std.specs.Prelude.{◌≡◌, ◌+◌, ◌≤◌, ◌==◌, ◌&&◌, Result, Ok, Err, length, map, nat_lt, is_some, option_map, slice_get, MatchOption, MatchResult, None, Some};
 ghost use Rattle.std.specs.List.{list_all};
 ghost use Rattle.flat_model.specs.Amounts.Choice.{Choice};
 ghost use Rattle.params.specs.declared.TheConstants.{IP_MAX_PACKET};
@@ -97,7 +97,9 @@ impl Segment {
     /// on an Ethernet.
     pub fn hear(&mut self, place: usize, frame: &[u8]) -> bool
         requires { length frame.now ≤ ETHER_HEADER + IP_MAX_PACKET }
-        ensures { Choice result (IsHeard place frame.now (view self.old) (view self.new))
+        ensures is { result
+            ≡ nat_lt place (length (view self.old).stacks) && nat_lt place (length (view self.old).links) }
+        ensures heard { Choice result (IsHeard place frame.now (view self.old) (view self.new))
             (view self.new ≡ view self.old) }
     {
         if place >= self.stacks.len() || place >= self.links.len() {
@@ -110,7 +112,9 @@ impl Segment {
     /// What others reported of the datagrams that a connected socket sent to its peer, as `EtherHost::last_error` has
     /// it. `None` if there is no such host on an Ethernet.
     pub fn last_error(&mut self, place: usize, fd: u32) -> Option<Result<Option<NetFault>, Errno>>
-        ensures { MatchOption result (view self.new ≡ view self.old)
+        ensures is { is_some result
+            ≡ nat_lt place (length (view self.old).stacks) && nat_lt place (length (view self.old).links) }
+        ensures asked { MatchOption result (view self.new ≡ view self.old)
             (λ fault. IsAskedError place fd fault (view self.old) (view self.new)) }
     {
         if place >= self.stacks.len() || place >= self.links.len() {

@@ -10,8 +10,8 @@ use Rattle.segment.proofs.segment.Segment.hear.Goals as goal
 never : true ≡ false → ⊥
 never e = cc
 
-pub returns : goal.returns
-returns c =
+pub returns-clause-heard : goal.returns-clause-heard
+returns-clause-heard c =
     let v = view c.args.self.now in
     let stack = c.index_mut-2.result.now in
     let link = c.index_mut.result.now in

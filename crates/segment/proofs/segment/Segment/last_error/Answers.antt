@@ -9,8 +9,8 @@ use Rattle.segment.proofs.Frames.{map_get, map_set}
 use Rattle.segment.proofs.Walking.{get_at}
 use Rattle.segment.proofs.segment.Segment.last_error.Goals as goal
 
-pub returns : goal.returns
-returns c =
+pub returns-clause-asked : goal.returns-clause-asked
+returns-clause-asked c =
     let v = view c.args.self.now in
     let stack = c.index.result.now in
     let link = c.index_mut.result.now in
