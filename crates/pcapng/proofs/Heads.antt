@@ -17,7 +17,7 @@ number_stays o (a ∷ b ∷ c ∷ []) ys le = absurd (omega (arith, le))
 number_stays Little (a ∷ b ∷ c ∷ d ∷ xs) ys le = refl
 number_stays Big (a ∷ b ∷ c ∷ d ∷ xs) ys le = refl
 
-number_stays_at : (o : Order) (n : ℕ) (xs ys : List ℕ) → n + 4 ≤ length xs
+pub number_stays_at : (o : Order) (n : ℕ) (xs ys : List ℕ) → n + 4 ≤ length xs
     → number_of o w32 (drop n (xs ++ ys)) ≡ number_of o w32 (drop n xs)
 number_stays_at o n xs ys le =
     let at = drop-append-le n xs ys (omega (arith, le)) in

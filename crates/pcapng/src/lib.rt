@@ -9,8 +9,6 @@ mod body;
 mod fault;
 mod laws;
 mod numbers;
-#[cfg(test)]
-mod tests;
 
 pub use block::{BYTE_ORDER_MAGIC, Block, Reader, SECTION_HEADER, block_head, first_block};
 pub use body::{EnhancedPacket, Interface, Section, SimplePacket};

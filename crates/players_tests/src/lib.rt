@@ -3,11 +3,15 @@
 #![tactic(auto)]
 
 #[cfg(test)]
+mod capture_files;
+#[cfg(test)]
 mod captures;
 #[cfg(test)]
 mod lines;
 #[cfg(test)]
 mod packets;
+#[cfg(test)]
+mod pcapng_blocks;
 #[cfg(test)]
 mod played_captures;
 #[cfg(test)]

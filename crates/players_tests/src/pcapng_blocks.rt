@@ -1,12 +1,12 @@
 //! Bytes from outside. mergecap 4.0.17 wrote `MERGED` of two classic files, and scapy 2.5.0 wrote `BIG`
 //! (`PcapNgWriter` with the attributes `endian` and `endian_magic` of a big-endian host). tshark 4.0.17 reads both,
 //! with the times, lengths and interfaces that stand below.
-use crate::{Block, Fault, LinkType, Order, Reader, SECTION_HEADER, Why, first_block};
+use pcapng::{Block, Fault, LinkType, Order, Reader, SECTION_HEADER, Why, first_block};
 use std::test::Fail;
 
 /// Little endian, two interfaces: Ethernet with microseconds, and Linux cooked with nanoseconds, whose packet of 46
 /// bytes is cut at 40.
-const MERGED: [u8; 336] = [
+pub(crate) const MERGED: [u8; 336] = [
     10, 13, 13, 10, 136, 0, 0, 0, 77, 60, 43, 26, 1, 0, 0, 0, 255, 255, 255, 255, 255, 255, 255,
     255, 3, 0, 21, 0, 76, 105, 110, 117, 120, 32, 54, 46, 49, 56, 46, 52, 52, 45, 102, 99, 45, 118,
     53, 57, 53, 0, 0, 0, 4, 0, 70, 0, 77, 101, 114, 103, 101, 99, 97, 112, 32, 40, 87, 105, 114,
@@ -24,7 +24,7 @@ const MERGED: [u8; 336] = [
 ];
 
 /// Big endian, one interface: Ethernet with microseconds.
-const BIG: [u8; 124] = [
+pub(crate) const BIG: [u8; 124] = [
     10, 13, 13, 10, 0, 0, 0, 28, 26, 43, 60, 77, 0, 1, 0, 0, 0, 0, 0, 0, 0, 0, 0, 0, 0, 0, 0, 28,
     0, 0, 0, 1, 0, 0, 0, 20, 0, 1, 0, 0, 0, 4, 0, 0, 0, 0, 0, 20, 0, 0, 0, 6, 0, 0, 0, 76, 0, 0, 0,
     0, 0, 6, 10, 36, 24, 32, 34, 64, 0, 0, 0, 44, 0, 0, 0, 44, 2, 0, 0, 0, 0, 1, 2, 0, 0, 0, 0, 2,

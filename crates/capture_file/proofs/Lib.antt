@@ -1,0 +1,6 @@
+mod Filling
+mod Opening
+mod Placed
+mod Loaded
+mod Sections
+mod Stepping

@@ -1,0 +1,5 @@
+pub mod Faults
+pub mod Feeds
+pub mod Packets
+pub mod Places
+pub mod Steps

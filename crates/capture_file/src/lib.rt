@@ -1,0 +1,17 @@
+//! Capture files of either format, classic pcap and pcapng, read record by record from a stream: the first bytes say
+//! which format it is. One buffer holds the record that was read last, so a file may be of any length.
+#![tactic(auto)]
+
+mod blocks;
+mod classic;
+mod fault;
+mod feed;
+mod records;
+mod section;
+mod time;
+
+pub use blocks::INTERFACES;
+pub use fault::{Fault, Why};
+pub use feed::ROOM;
+pub use pcap::LinkType;
+pub use records::{Record, Records};
