@@ -22,15 +22,15 @@ use Rattle.mbuf_chain.proofs.Laws.Owners.{moves_trans, moves_beside, moves_with,
 use Rattle.chain_ops.specs.Makes.{Makes}
 use Rattle.ip_reass.proofs.Reserved.{Stays}
 use Rattle.chain_ops.specs.Pulls as ops
-use Rattle.chain_ops.specs.Pulls.{moved, pulled_len}
 use Rattle.chain_ops.specs.Trims.{without_first}
 use Rattle.chain_ops.proofs.Laws.Strings.{without_first_bytes, pulled_up_bytes}
 use Rattle.ledger.specs.Accounts.{IsAccounted, Shifts, entries_weight, weight_at, weight_owned}
 use Rattle.ledger.proofs.Laws.{accounted_after}
 use Rattle.ip_out.specs.declared.head.IpHead.{IpHead}
 use Rattle.ip_reass.specs.Fragments.{fragment_of}
+use Rattle.ip_reass.specs.Inside.Place.{IsFirst}
 use Rattle.ip_reass.specs.Inside.Walks.{arrived}
-use Rattle.ip_reass.specs.Table.{has_key, held_all, AreDistinct, IsTable, unfinished, unfinished_of}
+use Rattle.ip_reass.specs.Table.{held_all, AreDistinct, IsTable, unfinished, unfinished_of}
 use Rattle.ip_reass.specs.Inside.Steps.{datagram_at}
 use Rattle.ip_reass.specs.Same.{held_all_same, table_same, unfinished_same, queues_same, table_weighs}
 use Rattle.ip_reass.specs.Layouts.{queues, fragment_carried, ChainArrives}
@@ -251,36 +251,17 @@ slice_at (d ∷ ds) zero l = refl
 slice_at (d ∷ ds) (suc i) l = slice_at ds i (omega arith)
 
 -- **its key was found at a place**
-pub joins_found : (rest : State) (held : Weight) (new : State) (k k' : Key) (f : Fragment) (p : PoolView)
-    (slice items ds : List Datagram) (c : Counters) (i : ℕ) → slice ≡ items → items ≡ ds → k' ≡ k → i < length slice
-    → find (has_key k') slice ≡ slice_get slice i
-    → AreDistinct p ds → (is_key k (unfinished_of p (datagram_at items i)) ≡ true
-    → count_by (is_key k) (unfinished p items) ≤ 1
-    → Lays exact_ledger held k f (unfinished_of p (datagram_at items i)) (machine_with p items c rest)
-    new) → Joins exact_ledger held k f (machine_with p ds c rest) new
-joins_found rest held new k k' f p slice items ds c i a b e l found distinct step =
-    let same : slice ≡ ds = a ∙ b in
-    let at : find (has_key k) ds ≡ slice_get ds i =
-    subst (λ (zs : List Datagram). find (has_key k) zs ≡ slice_get zs i) same
-    (subst (λ (j : Key). find (has_key j) slice ≡ slice_get slice i) e found) in
-    let within : i < length ds = omega (arith, ap (λ (zs : List Datagram). length zs) same) in
+pub joins_found : (rest : State) (held : Weight) (new : State) (k : Key) (f : Fragment) (p : PoolView)
+    (ds : List Datagram) (c : Counters) (i : ℕ) → IsFirst k ds i → AreDistinct p ds
+    → (is_key k (unfinished_of p (datagram_at ds i)) ≡ true → count_by (is_key k) (unfinished p ds) ≤ 1
+    → Lays exact_ledger held k f (unfinished_of p (datagram_at ds i)) (machine_with p ds c rest) new)
+    → Joins exact_ledger held k f (machine_with p ds c rest) new
+joins_found rest held new k f p ds c i first distinct step =
     let key : find (is_key k) (unfinished p ds) ≡ Some (unfinished_of p (datagram_at ds i)) =
-    some_by_key p k ds (datagram_at ds i) (at ∙ slice_at ds i within) in
+    some_by_key p k ds (datagram_at ds i) (first.here ∙ slice_at ds i first.within) in
     let here : is_key k (unfinished_of p (datagram_at ds i)) ≡ true =
     found_passes (is_key k) (unfinished p ds) (unfinished_of p (datagram_at ds i)) key in
-    let step' : is_key k (unfinished_of p (datagram_at ds i)) ≡ true → count_by (is_key k) (unfinished p ds) ≤ 1
-    → Lays exact_ledger held k f (unfinished_of p (datagram_at ds i)) (machine_with p ds c rest) new =
-    subst (λ (zs : List Datagram). is_key k (unfinished_of p (datagram_at zs i)) ≡ true
-    → count_by (is_key k) (unfinished p zs) ≤ 1
-    → Lays exact_ledger held k f (unfinished_of p (datagram_at zs i)) (machine_with p zs c rest) new) b step in
-    joins_some rest held new k f p ds c (datagram_at ds i) key (step' here (distinct k))
-
--- it is held under no datagram
-pub none_found_in : (p : PoolView) (k k' : Key) (slice ds : List Datagram) → slice ≡ ds → k' ≡ k
-    → find (has_key k') slice ≡ None → find (is_key k) (unfinished p ds) ≡ None
-none_found_in p k k' slice ds same e none =
-    none_by_key p k ds (subst (λ (zs : List Datagram). find (has_key k) zs ≡ None) same
-    (subst (λ (j : Key). find (has_key j) slice ≡ None) e none))
+    joins_some rest held new k f p ds c (datagram_at ds i) key (step here (distinct k))
 
 -- ---- the header's mbuf
 pub pulled_lacking : (rest : State) (held w : Weight) (p q r : PoolView) (ds es : List Datagram) (c mid d : Counters)

@@ -19,6 +19,7 @@ mod Fitting
 mod Reserved
 mod Arriving
 mod Queues
+mod Placed
 mod Came
 mod AtOnce
 mod Distinct

@@ -1,6 +1,5 @@
 -- The queues of the table's fragments, with their mbufs, at an arrival.
-use Rattle.std.proofs.Common.{◌≡◌, ℕ, zero, suc, ◌-◌, ◌<◌, Bool, true, false, List, [], ◌∷◌, ◌++◌, length, map, find, get_or, set, remove, take, drop, None, refl, sym, ap, ◌∙◌, subst, arith, inl, inr}
-use Rattle.std.specs.Prelude.{slice_get}
+use Rattle.std.proofs.Common.{◌≡◌, ℕ, zero, suc, ◌-◌, ◌*◌, ◌<◌, Bool, true, false, List, [], ◌∷◌, ◌++◌, length, map, find, get_or, set, remove, take, drop, None, refl, sym, ap, ◌∙◌, subst, arith, inl, inr}
 use Rattle.std.proofs.lemmas.Bool.{false≢true, cond-true, cond-false, cases_Bool}
 use Rattle.std.proofs.lemmas.List.{get_or-map, length-map, length-set, take-map}
 use Rattle.std.proofs.lemmas.Option.{none-some}
@@ -15,6 +14,7 @@ use Rattle.ip_out.specs.declared.head.IpHead.{IpHead}
 use Rattle.ledger.specs.Reserve.{are_free}
 use Rattle.ip_reass.specs.Arrivals.{carried_entries, flat_head, key_in}
 use Rattle.ip_reass.specs.Fragments.{QueuedFragment, laid_into, joined_fragments, fragment_of, fragments, map_of}
+use Rattle.ip_reass.specs.Inside.Place.{IsFirst}
 use Rattle.ip_reass.specs.Inside.Walks.{arrived}
 use Rattle.ip_reass.specs.Table.{TableView, has_key}
 use Rattle.ip_reass.specs.Inside.Steps.{datagram_at, no_datagram, LaysIn}
@@ -194,6 +194,14 @@ pub wait_reserved : (p q : PoolView) (r s : TableView) (c d : Counters) (b : Boo
 wait_reserved p q r s c d b kept none =
     wait_tested p q r.datagrams s.datagrams b (λ e. let a = kept e in λ j. queues (a.0 j) (a.1 j).datagrams) none
 
+-- and what there is room for stays that
+pub few_reserved : (p q : PoolView) (r s : TableView) (c d : Counters) (b : Bool)
+    → (b ≡ true → (q ≡ p) × (s ≡ r) × (d ≡ c)) → (b ≡ false → length s.datagrams ≡ 0) → q.mbufs ≡ p.mbufs
+    → 2 * length r.datagrams < p.mbufs → 2 * length s.datagrams < q.mbufs
+few_reserved p q r s c d true kept none size few =
+    omega (arith, size, few, ap (λ (t : TableView). length t.datagrams) (kept refl).1)
+few_reserved p q r s c d false kept none size few = omega (arith, size, few, none refl)
+
 -- **nothing waits where the pool had no mbuf**
 pub none_reserved : (p q : PoolView) (r s : TableView) (c d : Counters) (answer : Bool)
     → (are_free p 1 0 ≡ true → (q ≡ p) × (s ≡ r) × (d ≡ c)) → (are_free p 1 0 ≡ false → length s.datagrams ≡ 0)
@@ -248,56 +256,38 @@ begins_cause cause p q r t es hs ts k n i offset more result some chain rows i_i
     (new_place p r t hs (queues q es) (queues t ts) k n i offset more result chain rows
     (omega (arith, i_is, length-map es (queue_of q))) leaves)
 
--- the first datagram with the key stands at a place
+-- the queue of the first datagram with the key stands at the same place
 record Found (p : PoolView) (ds : List Datagram) (k : Key) (i : ℕ) : Type 0 where
   within : i < length (queues p ds)
   front : find (goes_by k) (take i (queues p ds)) ≡ None
   here : goes_by k (keyed_queue_at (queues p ds) i) ≡ true
 
-found : (p : PoolView) (slice items ds : List Datagram) (k k' : Key) (i : ℕ) → slice ≡ items → items ≡ ds → k' ≡ k
-    → i < length slice → find (has_key k') slice ≡ slice_get slice i → find (has_key k') (take i slice) ≡ None
-    → Found p ds k i
-found p slice items ds k k' i a b e l at_is none_is =
-    let same : slice ≡ ds = a ∙ b in
-    let at : find (has_key k) ds ≡ slice_get ds i =
-    subst (λ (zs : List Datagram). find (has_key k) zs ≡ slice_get zs i) same
-    (subst (λ (j : Key). find (has_key j) slice ≡ slice_get slice i) e at_is) in
-    let front : find (has_key k) (take i ds) ≡ None =
-    subst (λ (zs : List Datagram). find (has_key k) (take i zs) ≡ None) same
-    (subst (λ (j : Key). find (has_key j) (take i slice) ≡ None) e none_is) in
-    let within : i < length ds = omega (arith, ap (λ (zs : List Datagram). length zs) same) in
-    let passes : has_key k (datagram_at ds i) ≡ true =
-    found_passes (has_key k) ds (datagram_at ds i) (at ∙ slice_at ds i within) in
-    record {
-      within = omega (arith, within, length-map ds (queue_of p));
-      front = ap (find (goes_by k)) (take-map (queue_of p) i ds) ∙ none_in p k (take i ds) front;
-      here = ap (goes_by k) (get_or-map (queue_of p) ds i no_datagram no_queue within) ∙ passes;
-    }
+found : (p : PoolView) (ds : List Datagram) (k : Key) (i : ℕ) → IsFirst k ds i → Found p ds k i
+found p ds k i first = record {
+  within = omega (arith, first.within, length-map ds (queue_of p));
+  front = ap (find (goes_by k)) (take-map (queue_of p) i ds) ∙ none_in p k (take i ds) first.front;
+  here =
+      ap (goes_by k) (get_or-map (queue_of p) ds i no_datagram no_queue first.within)
+      ∙ found_passes (has_key k) ds (datagram_at ds i) (first.here ∙ slice_at ds i first.within);
+}
 
 -- **a fragment that joins the others of its datagram**
-pub found_layout : (p t : PoolView) (slice items ds ts : List Datagram) (k k' : Key) (f : QueuedFragment) (i : ℕ)
-    (result : Arrival) → slice ≡ items → items ≡ ds → k' ≡ k → i < length slice
-    → find (has_key k') slice ≡ slice_get slice i → find (has_key k') (take i slice) ≡ None
-    → LeavesAt i f (queues p items) t result (queues t ts) → HasLayout p ds k f result t ts
-found_layout p t slice items ds ts k k' f i result a b e l at_is none_is leaves =
-    let o = found p slice items ds k k' i a b e l at_is none_is in
+pub found_layout : (p t : PoolView) (ds ts : List Datagram) (k : Key) (f : QueuedFragment) (i : ℕ) (result : Arrival)
+    → IsFirst k ds i → LeavesAt i f (queues p ds) t result (queues t ts) → HasLayout p ds k f result t ts
+found_layout p t ds ts k f i result first leaves =
+    let o = found p ds k i first in
     record {
       waited = queues p ds;
       before = inl refl;
-      leaves =
-          leaves_here k f (queues p ds) i t result (queues t ts) o.within o.front o.here
-          (subst (λ (zs : List Datagram). LeavesAt i f (queues p zs) t result (queues t ts)) b leaves);
+      leaves = leaves_here k f (queues p ds) i t result (queues t ts) o.within o.front o.here leaves;
     }
 
-pub found_cause : (p t : PoolView) (slice items ds ts : List Datagram) (k k' : Key) (f : QueuedFragment) (i : ℕ)
-    (result : Arrival) → slice ≡ items → items ≡ ds → k' ≡ k → i < length slice
-    → find (has_key k') slice ≡ slice_get slice i → find (has_key k') (take i slice) ≡ None
-    → LeavesAt i f (queues p items) t result (queues t ts) → HasCause FragmentDropped result
+pub found_cause : (p t : PoolView) (ds ts : List Datagram) (k : Key) (f : QueuedFragment) (i : ℕ) (result : Arrival)
+    → IsFirst k ds i → LeavesAt i f (queues p ds) t result (queues t ts) → HasCause FragmentDropped result
     → HasCause (cause_among (under k (queues t ts)) f) result
-found_cause p t slice items ds ts k k' f i result a b e l at_is none_is leaves cause =
-    let o = found p slice items ds k k' i a b e l at_is none_is in
-    cause_here k f (queues p ds) i t result (queues t ts) o.within o.front o.here
-    (subst (λ (zs : List Datagram). LeavesAt i f (queues p zs) t result (queues t ts)) b leaves) cause
+found_cause p t ds ts k f i result first leaves cause =
+    let o = found p ds k i first in
+    cause_here k f (queues p ds) i t result (queues t ts) o.within o.front o.here leaves cause
 
 -- **the header was pulled up and cut off before**
 pub arrived_layout : (p q r t : PoolView) (ds es ts : List Datagram) (n n' : ℕ) (h : IpHead) (result : Arrival)

@@ -7,7 +7,7 @@ use Rattle.flat_model.specs.Fragments.Overlay.{Fragment}
 use Rattle.flat_model.specs.Machine.State.{State, Key, Unfinished, is_key, begun, begin_unfinished}
 use Rattle.flat_model.specs.Machine.Count.{counted}
 use Rattle.flat_model.specs.Machine.Ledger.{exact_ledger, HasBuffers, need_mbufs}
-use Rattle.flat_model.specs.Machine.Arrival.{Lays}
+use Rattle.flat_model.specs.Machine.Arrival.{Lays, Tests}
 use Rattle.flat_model.specs.declared.counters.Counters.{Counters}
 use Rattle.flat_model.specs.declared.counters.Why.TheVariants.{NoBufs}
 use Rattle.flat_model.proofs.Laws.{count-append}
@@ -23,11 +23,16 @@ use Rattle.ip_reass.specs.Table.{held, held_all, new_datagram, AllUnfinished, Ha
 use Rattle.ip_reass.specs.Same.{held_all_same, table_same, unfinished_same, queues_same}
 use Rattle.ip_reass.specs.Layouts.{queues}
 use Rattle.ip_reass.specs.Inside.Steps.{datagram_at, no_datagram}
-use Rattle.ip_reass.specs.Arrivals.{machine_with, BeginsAt}
+use Rattle.ip_reass.specs.Arrivals.{machine_with}
+use Rattle.ledger.specs.Accounts.{weight_at}
 use Rattle.ip_reass.specs.declared.datagram.Datagram.{Datagram}
-use Rattle.ip_reass.specs.declared.arrival.Arrival.{Arrival}
 use Rattle.ip_reass.proofs.Places.{none_found}
 use Rattle.ip_reass.proofs.Tables.{Begins, begins}
+
+-- a key that isn't held takes an mbuf, and then its datagram begins
+abbrev TestsForKey : Weight → Key → Fragment → State → State → Type 0
+TestsForKey held k f old new =
+    Tests exact_ledger old (held ⊕ f.weight) 1 new (λ mid. Lays exact_ledger held k f (begun k) (begin_unfinished k mid) new)
 
 -- ---- chain c is in hand while the table takes a step
 pub record Stays (p : PoolView) (ds : List Datagram) (c : ℕ) (q : PoolView) (es : List Datagram) : Type 0 where
@@ -73,32 +78,29 @@ freed p q r ds es c st is gone =
     }
 
 -- ---- the two ends of the test for a key's mbuf
-pub lacking : (rest : State) (held : Weight) (new : State) (k : Key) (f : Fragment) (w : Weight) (p q r : PoolView)
-    (ds es : List Datagram) (c mid d : Counters) (result : Arrival) (answer : Bool) → answer ≡ false
-    → HasBuffers exact_ledger (machine_with p ds c rest) (held ⊕ w) (need_mbufs 1) answer (machine_with q es mid rest)
-    → unfinished r es ≡ unfinished q es → d ≡ counted NoBufs mid → new ≡ machine_with r es d rest
-    → BeginsAt p ds c k f w result r es d rest held new
-lacking rest held new k f w p q r ds es c mid d result answer refused af shows counts is = record {
-  tests = record {
-    answer = answer;
-    mid = machine_with q es mid rest;
-    has_buffers = af;
-    goes_on = record {
-      yes = λ e. absurd (false≢true (sym refused ∙ e));
-      no = λ e. is ∙ (λ j. record rest { unfinished = shows j; counters = counts j });
-    };
+pub lacking : (rest : State) (held : Weight) (new : State) (k : Key) (f : Fragment) (p q r : PoolView)
+    (ds es : List Datagram) (c mid d : Counters)
+    → HasBuffers exact_ledger (machine_with p ds c rest) (held ⊕ f.weight) (need_mbufs 1) false
+    (machine_with q es mid rest) → unfinished r es ≡ unfinished q es → d ≡ counted NoBufs mid
+    → new ≡ machine_with r es d rest → TestsForKey held k f (machine_with p ds c rest) new
+lacking rest held new k f p q r ds es c mid d af shows counts is = record {
+  answer = false;
+  mid = machine_with q es mid rest;
+  has_buffers = af;
+  goes_on = record {
+    yes = λ e. absurd (false≢true e);
+    no = λ e. is ∙ (λ j. record rest { unfinished = shows j; counters = counts j });
   };
 }
 
 -- what is left of the datagrams after a test
-pub none_then : (rest : State) (w : Weight) (k : Key) (p q : PoolView) (ds es : List Datagram) (c mid : Counters)
-    (answer : Bool) → find (is_key k) (unfinished p ds) ≡ None
-    → HasBuffers exact_ledger (machine_with p ds c rest) w (need_mbufs 1) answer (machine_with q es mid rest)
+none_then : (rest : State) (w : Weight) (k : Key) (p q : PoolView) (ds es : List Datagram) (c mid : Counters)
+    → find (is_key k) (unfinished p ds) ≡ None
+    → HasBuffers exact_ledger (machine_with p ds c rest) w (need_mbufs 1) true (machine_with q es mid rest)
     → count_by (is_key k) (unfinished q es) ≡ 0
-none_then rest w k p q ds es c mid true none (inl a) =
+none_then rest w k p q ds es c mid none (inl a) =
     ap (λ (s : State). count_by (is_key k) s.unfinished) a.1 ∙ none_found (is_key k) (unfinished p ds) none
-none_then rest w k p q ds es c mid true none (inr a) = ap (λ (s : State). count_by (is_key k) s.unfinished) a.1
-none_then rest w k p q ds es c mid false none a = ap (λ (s : State). count_by (is_key k) s.unfinished) a.1
+none_then rest w k p q ds es c mid none (inr a) = ap (λ (s : State). count_by (is_key k) s.unfinished) a.1
 
 get_or-end : {X : Type 0} (xs : List X) (x d : X) → get_or (xs ++ x ∷ []) (length xs) d ≡ x
 get_or-end [] x d = refl
@@ -132,19 +134,18 @@ began p q ds es n h i k is owns adds e i_is =
       rows = b.rows k h e;
     }
 
-pub begins_here : (rest : State) (held : Weight) (new : State) (k : Key) (w : Weight) (p q r : PoolView)
-    (ds es hs : List Datagram) (c mid d : Counters) (n i offset : ℕ) (more : Bool) (result : Arrival) (t : PoolView)
-    (ts : List Datagram) (answer : Bool) → answer ≡ true
+pub begins_here : (rest : State) (held : Weight) (new : State) (k : Key) (p q r : PoolView)
+    (ds es hs : List Datagram) (c d : Counters) (n i offset : ℕ) (more : Bool)
     → find (is_key k) (unfinished p ds) ≡ None
-    → HasBuffers exact_ledger (machine_with p ds c rest) (held ⊕ w) (need_mbufs 1) answer (machine_with q es mid rest)
-    → chain_of r n ≡ chain_of p n → Began q es n k r hs i
+    → HasBuffers exact_ledger (machine_with p ds c rest) (held ⊕ weight_at p n) (need_mbufs 1) true
+    (machine_with q es d rest) → chain_of r n ≡ chain_of p n → Began q es n k r hs i
     → (is_key k (unfinished_of r (datagram_at hs i)) ≡ true → count_by (is_key k) (unfinished r hs) ≤ 1
     → Lays exact_ledger held k (fragment_of (arrived r n offset more)) (unfinished_of r (datagram_at hs i))
-    (machine_with r hs mid rest) new)
-    → BeginsAt p ds c k (fragment_of (arrived p n offset more)) w result t ts d rest held new
-begins_here rest held new k w p q r ds es hs c mid d n i offset more result t ts answer agrees none af chain b step =
+    (machine_with r hs d rest) new)
+    → TestsForKey held k (fragment_of (arrived p n offset more)) (machine_with p ds c rest) new
+begins_here rest held new k p q r ds es hs c d n i offset more none af chain b step =
     let zero_then : count_by (is_key k) (unfinished q es) ≡ 0 =
-    none_then rest (held ⊕ w) k p q ds es c mid answer none af in
+    none_then rest (held ⊕ weight_at p n) k p q ds es c d none af in
     let here : is_key k (unfinished_of r (datagram_at hs i)) ≡ true = ap (is_key k) b.at ∙ same_key k in
     let one : count_by (is_key k) (begun k ∷ []) ≤ 1 = count_by-le-length (is_key k) (begun k ∷ []) in
     let most : count_by (is_key k) (unfinished r hs) ≤ 1 =
@@ -157,28 +158,23 @@ begins_here rest held new k w p q r ds es hs c mid d n i offset more result t ts
     ) in
     let lays = step here most in
     let a : Lays exact_ledger held k (fragment_of (arrived p n offset more)) (unfinished_of r (datagram_at hs i))
-    (machine_with r hs mid rest) new =
+    (machine_with r hs d rest) new =
     subst (λ (v : ChainView). Lays exact_ledger held k
     (fragment_of (record { offset = offset; more = more; entries = v.entries })) (unfinished_of r (datagram_at hs i))
-    (machine_with r hs mid rest) new) chain lays in
-    let b' : Lays exact_ledger held k (fragment_of (arrived p n offset more)) (begun k) (machine_with r hs mid rest)
+    (machine_with r hs d rest) new) chain lays in
+    let b' : Lays exact_ledger held k (fragment_of (arrived p n offset more)) (begun k) (machine_with r hs d rest)
     new =
     subst (λ (u : Unfinished). Lays exact_ledger held k (fragment_of (arrived p n offset more)) u
-    (machine_with r hs mid rest) new) b.at a in
+    (machine_with r hs d rest) new) b.at a in
     let c' : Lays exact_ledger held k (fragment_of (arrived p n offset more)) (begun k)
-    (begin_unfinished k (machine_with q es mid rest)) new =
+    (begin_unfinished k (machine_with q es d rest)) new =
     subst (λ (us : List Unfinished). Lays exact_ledger held k (fragment_of (arrived p n offset more)) (begun k)
-    (record rest { unfinished = us; counters = mid }) new) b.shows b' in
+    (record rest { unfinished = us; counters = d }) new) b.shows b' in
     record {
-      tests = record {
-        answer = answer;
-        mid = machine_with q es mid rest;
-        has_buffers = af;
-        goes_on = record {
-          yes = λ e. c';
-          no = λ e. absurd (false≢true (sym e ∙ agrees));
-        };
-      };
+      answer = true;
+      mid = machine_with q es d rest;
+      has_buffers = af;
+      goes_on = record { yes = λ e. c'; no = λ e. absurd (false≢true (sym e)) };
     }
 
 -- there is room in the table: each datagram has an mbuf for its key and a fragment, and the chain in hand one more

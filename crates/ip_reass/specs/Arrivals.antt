@@ -4,11 +4,10 @@ use Rattle.std.specs.Prelude.{◌≡◌, ◌⊎◌, ℕ, ◌+◌, ◌<◌, ◌�
 use Rattle.params.specs.declared.TheConstants.{IP_HEADER, MINCLSIZE, MAX_PROTOCOL_HEADER}
 use Rattle.flat_model.specs.Amounts.Weight.{Weight, Item, ◌⊕◌}
 use Rattle.flat_model.specs.Packets.Header.{Head}
-use Rattle.flat_model.specs.Fragments.Overlay.{Fragment}
-use Rattle.flat_model.specs.Machine.State.{State, Key, begun, begin_unfinished}
+use Rattle.flat_model.specs.Machine.State.{State, Key}
 use Rattle.flat_model.specs.Machine.Count.{counted}
 use Rattle.flat_model.specs.Machine.Ledger.{exact_ledger, HasBuffers, need_mbufs}
-use Rattle.flat_model.specs.Machine.Arrival.{Origin, By_wire, Looped, Tests, Lays, WholeArrives}
+use Rattle.flat_model.specs.Machine.Arrival.{Origin, By_wire, Looped, WholeArrives}
 use Rattle.flat_model.specs.declared.counters.Counters.{Counters}
 use Rattle.flat_model.specs.declared.counters.Why.TheVariants.{NoBufs}
 use Rattle.mbuf_chain.specs.Chain.{ChainView, Entry, PoolView, alone, chain_of, entry_of, string}
@@ -75,14 +74,6 @@ abbrev pub GoesOn : Weight → PoolView → Arrival → State → State → Type
 GoesOn held q Kept now new = new ≡ now
 GoesOn held q (Whole c h) now new = WholeArrives exact_ledger held h.src h.dst h.proto (item_at q c) now new
 GoesOn held q (Dropped why) now new = new ≡ now
-
--- A fragment's datagram begins, where an mbuf is to be had for its key: from p, ds and counters c on to q, es and d,
--- chain n arrived as the fragment f, whose key isn't held yet.
-pub record BeginsAt (p : PoolView) (ds : List Datagram) (c : Counters) (k : Key) (f : Fragment) (w : Weight)
-    (result : Arrival) (q : PoolView) (es : List Datagram) (d : Counters) (rest : State) (held : Weight) (new : State)
-    : Type 0 where
-  pub tests : Tests exact_ledger (machine_with p ds c rest) (held ⊕ w) 1 new
-      (λ mid. Lays exact_ledger held k f (begun k) (begin_unfinished k mid) new)
 
 -- The header of chain v was pulled up: from p, ds and counters c on to q, es and d.
 pub record IsPulled (p : PoolView) (ds : List Datagram) (c : Counters) (w : Weight) (answer : Bool) (q : PoolView)

@@ -3,4 +3,5 @@ pub mod Walks
 pub mod Known
 pub mod Weighs
 pub mod Steps
+pub mod Place
 pub mod Index

@@ -1,5 +1,5 @@
 //! A fragment arrives: its header is pulled up, its key is looked for, and it joins the others of its datagram.
-ghost use Rattle.std.specs.Prelude.{◌≡◌, ℕ, ◌+◌, ◌<◌, ◌≤◌, [], ◌∷◌, ◌++◌, true, false, None, Some, IfSome, length, find, is_some, option_to_list};
+ghost use Rattle.std.specs.Prelude.{◌≡◌, ℕ, ◌+◌, ◌*◌, ◌<◌, ◌≤◌, [], ◌∷◌, ◌++◌, true, false, Some, IfSome, length, is_some, option_to_list};
 ghost use Rattle.flat_model.specs.Machine.State.{State};
 ghost use Rattle.flat_model.specs.Amounts.Weight.{Weight, ◌⊕◌};
 ghost use Rattle.flat_model.specs.Machine.Ledger.{exact_ledger};
@@ -7,10 +7,11 @@ ghost use Rattle.flat_model.specs.Machine.Arrival.{Joins, is_bad_fragment};
 ghost use Rattle.mbuf_chain.specs.Chain.{chain_of, entry_of, string};
 ghost use Rattle.mbuf_chain.specs.Owners.{IsOwned, Moves};
 ghost use Rattle.ledger.specs.Accounts.{IsAccounted, weight_at, weight_owned};
-ghost use Rattle.ip_reass.specs.Arrivals.{BeginsAt, GoesOn, HasWhole, IsPulled, flat_head, in_hand, key_in, machine_with, pulled_entries};
+ghost use Rattle.ip_reass.specs.Arrivals.{GoesOn, HasWhole, IsPulled, flat_head, in_hand, key_in, machine_with, pulled_entries};
 ghost use Rattle.ip_reass.specs.Fragments.{fragment_of};
 ghost use Rattle.ip_reass.specs.Layouts.{ChainArrives, HasCause, HasLayout, WaitOrNone, cause_among, cause_of, fragment_carried, queues, under};
-ghost use Rattle.ip_reass.specs.Table.{IsReady, has_key, held_all};
+ghost use Rattle.ip_reass.specs.Table.{IsReady, held_all};
+ghost use Rattle.ip_reass.specs.Inside.Place.{HasPlace};
 ghost use Rattle.ip_reass.specs.Inside.Walks.{arrived};
 
 use crate::arrival::Arrival;
@@ -47,62 +48,35 @@ pub(crate) fn is_bad(head: &IpHead, len: u32) -> bool
 }
 
 impl Reass {
-    /// Begins the datagram of a fragment, whose key isn't held yet, and lays the fragment.
+    /// The place of the datagram with a key. If there is none, it's begun after the others, which takes an mbuf for its
+    /// key; `None` comes where none is to be had.
     // Inlined: by a call, which takes the header through memory, each fragment took 18 instructions more.
     #[inline(always)]
-    fn begin_with(
+    fn place_of(
         &mut self,
         pool: &mut Pool,
         counters: &mut Counters,
-        chain: Chain,
-        head: IpHead,
-    ) -> Arrival
+        key: FragmentKey,
+    ) -> Option<usize>
         requires ready { IsReady pool.old self.old }
-        requires owned { IsOwned pool.old (chain ∷ held_all pool.old self.old.datagrams) }
-        requires headed { (chain_of pool.old chain).front.header ≡ true }
-        requires some { 0 < length (string (chain_of pool.old chain)) }
-        requires small { head.offset + length (string (chain_of pool.old chain)) ≤ IP_MAX_DATA }
-        requires fresh { find (has_key (key_in head)) self.old.datagrams ≡ None }
-        ensures step { (rest : State) (held : Weight) (new : State) →
-            IsAccounted pool.old (machine_with pool.old self.old.datagrams counters.old rest)
-            (held ⊕ weight_at pool.old chain) →
-            GoesOn held pool.new result (machine_with pool.new self.new.datagrams counters.new rest) new →
-            BeginsAt pool.old self.old.datagrams counters.old (key_in head)
-            (fragment_of (arrived pool.old chain head.offset head.more))
-            (weight_at pool.old chain) result pool.new self.new.datagrams counters.new rest held new }
-        ensures whole { HasWhole pool.new head result }
-        ensures layout { HasLayout pool.old self.old.datagrams (key_in head)
-            (arrived pool.old chain head.offset head.more) result pool.new self.new.datagrams }
-        ensures cause { HasCause (cause_among (under (key_in head) (queues pool.new self.new.datagrams))
-            (arrived pool.old chain head.offset head.more)) result }
-        ensures ready { IsReady pool.new self.new }
-        ensures moves { Moves pool.old (chain ∷ held_all pool.old self.old.datagrams) pool.new
-            (in_hand result ++ held_all pool.new self.new.datagrams) }
+        requires few { 2 * length self.old.datagrams < pool.old.mbufs }
+        ensures { HasPlace pool.old self.old counters.old key result pool.new self.new counters.new }
     {
+        if let Some(i) = find(self.datagrams.as_slice(), &self.index, key) {
+            return Some(i);
+        }
         if !reserve(pool, self, counters, 1, 0) {
-            pool.free_chain(chain);
-            counters.count_ended(Why::NoBufs);
-            return Arrival::Dropped(Why::NoBufs);
+            return None;
         }
         pool.laws();
         let Ok(holder) = pool.new_chain() else {
             unreachable!()
         };
         let i = self.datagrams.as_slice().len();
-        let key = key_of(&head);
         let bucket = self.index.bucket(&key);
         self.index.add(bucket);
         begin(&mut self.datagrams, key, holder);
-        let arrival = lay_and_count(
-            pool,
-            &mut self.datagrams,
-            counters,
-            i,
-            Fragment { chain, head },
-        );
-        let rest = self.datagrams.as_slice().len();
-        self.index.follow(rest, i);
-        arrival
+        Some(i)
     }
 
     /// Lets a fragment join the others of its datagram, or begin it.
@@ -136,24 +110,25 @@ impl Reass {
         ensures moves { Moves pool.old (chain ∷ held_all pool.old self.old.datagrams) pool.new
             (in_hand result ++ held_all pool.new self.new.datagrams) }
     {
-        match find(self.datagrams.as_slice(), &self.index, key_of(&head)) {
-            Some(i) => {
-                let arrival = lay_and_count(
-                    pool,
-                    &mut self.datagrams,
-                    counters,
-                    i,
-                    Fragment { chain, head },
-                );
-                if let Arrival::Kept = arrival {
-                    return Arrival::Kept;
-                }
-                let rest = self.datagrams.as_slice().len();
-                self.index.follow(rest, i);
-                arrival
-            }
-            None => self.begin_with(pool, counters, chain, head),
+        pool.laws();
+        let Some(i) = self.place_of(pool, counters, key_of(&head)) else {
+            pool.free_chain(chain);
+            counters.count_ended(Why::NoBufs);
+            return Arrival::Dropped(Why::NoBufs);
+        };
+        let arrival = lay_and_count(
+            pool,
+            &mut self.datagrams,
+            counters,
+            i,
+            Fragment { chain, head },
+        );
+        if let Arrival::Kept = arrival {
+            return Arrival::Kept;
         }
+        let rest = self.datagrams.as_slice().len();
+        self.index.follow(rest, i);
+        arrival
     }
 
     /// Brings the IP header of a fragment into a plain mbuf, where its first mbuf is a cluster; this takes an mbuf.

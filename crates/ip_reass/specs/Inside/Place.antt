@@ -1,0 +1,51 @@
+-- The place of a key's datagram in the table, where a fragment is laid (this project's own).
+use Rattle.std.specs.Prelude.{◌≡◌, ◌⊎◌, ℕ, ◌<◌, Bool, true, false, List, [], ◌∷◌, ◌++◌, take, find, length, slice_get, Option, None, Some}
+use Rattle.params.specs.declared.TheConstants.{PACKET_START}
+use Rattle.flat_model.specs.Amounts.Weight.{Weight}
+use Rattle.flat_model.specs.Machine.State.{State, Key}
+use Rattle.flat_model.specs.Machine.Ledger.{exact_ledger, HasBuffers, need_mbufs}
+use Rattle.flat_model.specs.declared.counters.Counters.{Counters}
+use Rattle.mbuf_chain.specs.Chain.{PoolView, Adds}
+use Rattle.mbuf_chain.specs.Owners.{Moves}
+use Rattle.mbuf_chain.specs.Steps.{one_mbuf, empty_entry}
+use Rattle.ledger.specs.Accounts.{IsAccounted}
+use Rattle.ip_reass.specs.Arrivals.{machine_with}
+use Rattle.ip_reass.specs.Layouts.{WaitOrNone, queues}
+use Rattle.ip_reass.specs.Table.{TableView, IsReady, has_key, held_all, new_datagram}
+use Rattle.ip_reass.specs.declared.datagram.Datagram.{Datagram}
+
+-- an mbuf was asked for, from p, r and counters c on to q, s and d: where none was free, nothing waits any more
+pub record AsksForMbuf (p : PoolView) (r : TableView) (c : Counters) (answer : Bool) (q : PoolView) (s : TableView)
+    (d : Counters) : Type 0 where
+  pub has_buffers : (rest : State) (held : Weight) → IsAccounted p (machine_with p r.datagrams c rest) held
+      → HasBuffers exact_ledger (machine_with p r.datagrams c rest) held (need_mbufs 1) answer
+      (machine_with q s.datagrams d rest)
+  pub waits : WaitOrNone (queues p r.datagrams) (queues q s.datagrams)
+  pub none : answer ≡ false → queues q s.datagrams ≡ []
+  pub ready : IsReady q s
+  pub moves : Moves p (held_all p r.datagrams) q (held_all q s.datagrams)
+
+-- the first datagram with the key stands at this place
+pub record IsFirst (k : Key) (ds : List Datagram) (i : ℕ) : Type 0 where
+  pub within : i < length ds
+  pub here : find (has_key k) ds ≡ slice_get ds i
+  pub front : find (has_key k) (take i ds) ≡ None
+
+-- a datagram with key k was begun at place i, after those that an mbuf for it left
+pub record HasBegun (p : PoolView) (r : TableView) (c : Counters) (k : Key) (i : ℕ) (q : PoolView) (s : TableView)
+    (d : Counters) : Type 0 where
+  pub mid : PoolView
+  pub left : TableView
+  pub holder : ℕ
+  pub asked : AsksForMbuf p r c true mid left d
+  pub adds : Adds mid q holder (one_mbuf true (empty_entry PACKET_START None) holder)
+  pub change : s.datagrams ≡ left.datagrams ++ new_datagram k holder ∷ []
+  pub room : s.room ≡ left.room
+  pub place : i ≡ length left.datagrams
+
+-- the place of a key's datagram, which stands there already, or is begun; none where no mbuf was to be had for it
+abbrev pub HasPlace : PoolView → TableView → Counters → Key → Option ℕ → PoolView → TableView → Counters → Type 0
+HasPlace p r c k None q s d = (find (has_key k) r.datagrams ≡ None) × AsksForMbuf p r c false q s d
+HasPlace p r c k (Some i) q s d =
+    (IsFirst k r.datagrams i × (q ≡ p) × (s ≡ r) × (d ≡ c))
+    ⊎ ((find (has_key k) r.datagrams ≡ None) × HasBegun p r c k i q s d)
