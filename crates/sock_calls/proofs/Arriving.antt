@@ -99,6 +99,14 @@ reached p q c d xs s o r m =
       moves = mv;
     }
 
+-- the same of what a view shows
+pub reached_in : (p q : PoolView) (c d : ℕ) (xs : List ℕ) (s v : SocksView) → s ≡ v
+    → IsOwned p (c ∷ (xs ++ queued_chains p v.queues)) → IsSocks p v → Moves p (c ∷ []) q (d ∷ [])
+    → Reached p c xs s q d
+reached_in p q c d xs s v e o r m =
+    reached p q c d xs s (subst (λ (t : SocksView). IsOwned p (c ∷ (xs ++ queued_chains p t.queues))) (sym e) o)
+    (subst (IsSocks p) (sym e) r) m
+
 -- ---- both ends
 same_accounts : {p q : PoolView} {s : State} (held : Weight) (c d : ℕ) → IsAccounted p s (held ⊕ weight_at p c)
     → IsOwned p (c ∷ []) → Moves p (c ∷ []) q (d ∷ []) → weight_at q d ≡ weight_at p c

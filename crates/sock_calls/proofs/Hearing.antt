@@ -184,12 +184,11 @@ pub record CopyReady (p q : PoolView) (t : Table) (bs : List SockBufView) (xs : 
   pub socks : IsSocks q (record { pcbs = t; queues = bs })
   pub owned : IsOwned q (copy ∷ (xs ++ queued_chains q bs))
 
-pub copy_ready : {p q r : PoolView} {t : Table} {bs : List SockBufView} {us vs : List Unfinished} {xs ys : List ℕ}
-    {c d : Counters} {chain n : ℕ} {answer : Bool} (copy : ℕ)
-    → IsTested p t bs us xs c chain n answer q vs ys d → Moves q [] r (copy ∷ []) → CopyReady q r t bs ys copy
-copy_ready {p} {q} {r} {t} {bs} {us} {vs} {xs} {ys} {c} {d} {chain} {n} copy i m =
-    let s : SocksView = record { pcbs = t; queues = bs } in
-    let x = tested p q chain xs ys s i.owned i.socks i.moves in
+pub copy_ready : (p q r : PoolView) (chain copy : ℕ) (xs ys : List ℕ) (s : SocksView) → IsSocks p s
+    → IsOwned p (chain ∷ (xs ++ queued_chains p s.queues)) → Moves p xs q ys → Moves q [] r (copy ∷ [])
+    → CopyReady q r s.pcbs s.queues ys copy
+copy_ready p q r chain copy xs ys s socks owned moves m =
+    let x = tested p q chain xs ys s owned socks moves in
     let k = copy_came q r chain copy ys s x.owned x.socks.ready m in
     record { same = k.same; socks = k.socks.ready; owned = λ j. omega (arith, k.owned j) }
 

@@ -4,6 +4,7 @@ use Rattle.mbuf_chain.specs.Owners.{IsOwned}
 use Rattle.mbuf_chain.proofs.Laws.Owners.{live_first}
 use Rattle.ledger.proofs.Laws.{enough_mbufs}
 use Rattle.sock_calls.specs.Sockets.{from_three, queued_chains}
+use Rattle.sock_calls.specs.Inside.Parts.{socks_of}
 use Rattle.sock_calls.proofs.Delivered.{IsTested, tested}
 use Rattle.sock_calls.proofs.Hearing.{lacking_offer, copy_ready, copy_offer}
 use Rattle.sock_calls.proofs.parts.Parts.deliver_copy.Goals as goal
@@ -45,62 +46,29 @@ copy_whole-requires-clause-free g c =
 
 pub deliver-requires-clause-socks : goal.deliver-requires-clause-socks
 deliver-requires-clause-socks g c =
-    let p = c.args.pool.now in
-    let q = c.reserve.new.pool in
-    let w = c.args.waiting.now in
-    let v = c.reserve.new.waiting in
-    let xs = g.R.Reclaim.owned p w in
-    let ys = g.R.Reclaim.owned q v in
-    let i : IsTested p c.args.self.now.pcbs (from_three c.args.self.now.queues) (g.R.Waiting.unfinished p w) xs
-    c.args.counters.now c.args.datagram.now.chain c.mbufs-mbufs.result true q (g.R.Waiting.unfinished q v) ys
-    c.reserve.new.counters = record {
-      socks = c.requires.socks;
-      owned = c.requires.owned;
-      moves = c.reserve.ensures.moves;
-      reserves = λ rest held a. c.if-not-reserve.ensures.reserves _ held refl refl a;
-    } in
-    let k = copy_ready c.copy_whole.result i c.copy_whole.ensures.moves in
-    k.socks
+    (copy_ready c.args.pool.now c.reserve.new.pool c.copy_whole.new.pool c.args.datagram.now.chain c.copy_whole.result
+    _ _ (socks_of c.args.self.now) c.requires.socks c.requires.owned c.reserve.ensures.moves
+    c.copy_whole.ensures.moves).socks
 
 pub deliver-requires-clause-waits : goal.deliver-requires-clause-waits
 deliver-requires-clause-waits g c =
-    let p = c.args.pool.now in
-    let q = c.reserve.new.pool in
-    let w = c.args.waiting.now in
-    let v = c.reserve.new.waiting in
-    let xs = g.R.Reclaim.owned p w in
-    let ys = g.R.Reclaim.owned q v in
-    let i : IsTested p c.args.self.now.pcbs (from_three c.args.self.now.queues) (g.R.Waiting.unfinished p w) xs
-    c.args.counters.now c.args.datagram.now.chain c.mbufs-mbufs.result true q (g.R.Waiting.unfinished q v) ys
-    c.reserve.new.counters = record {
-      socks = c.requires.socks;
-      owned = c.requires.owned;
-      moves = c.reserve.ensures.moves;
-      reserves = λ rest held a. c.if-not-reserve.ensures.reserves _ held refl refl a;
-    } in
-    let k = copy_ready c.copy_whole.result i c.copy_whole.ensures.moves in
-    g.met.R.Reclaim.ready_same q c.copy_whole.new.pool v k.same c.reserve.ensures.ready
+    let k =
+    copy_ready c.args.pool.now c.reserve.new.pool c.copy_whole.new.pool c.args.datagram.now.chain c.copy_whole.result
+    _ _ (socks_of c.args.self.now) c.requires.socks c.requires.owned c.reserve.ensures.moves
+    c.copy_whole.ensures.moves in
+    g.met.R.Reclaim.ready_same c.reserve.new.pool c.copy_whole.new.pool c.reserve.new.waiting k.same
+    c.reserve.ensures.ready
 
 pub deliver-requires-clause-owned : goal.deliver-requires-clause-owned
 deliver-requires-clause-owned g c =
-    let p = c.args.pool.now in
-    let q = c.reserve.new.pool in
-    let w = c.args.waiting.now in
-    let v = c.reserve.new.waiting in
-    let xs = g.R.Reclaim.owned p w in
-    let ys = g.R.Reclaim.owned q v in
-    let i : IsTested p c.args.self.now.pcbs (from_three c.args.self.now.queues) (g.R.Waiting.unfinished p w) xs
-    c.args.counters.now c.args.datagram.now.chain c.mbufs-mbufs.result true q (g.R.Waiting.unfinished q v) ys
-    c.reserve.new.counters = record {
-      socks = c.requires.socks;
-      owned = c.requires.owned;
-      moves = c.reserve.ensures.moves;
-      reserves = λ rest held a. c.if-not-reserve.ensures.reserves _ held refl refl a;
-    } in
-    let k = copy_ready c.copy_whole.result i c.copy_whole.ensures.moves in
-    subst (λ (zs : List ℕ). IsOwned c.copy_whole.new.pool
-    (c.copy_whole.result ∷ (zs ++ queued_chains c.copy_whole.new.pool (from_three c.args.self.now.queues))))
-    (sym (g.met.R.Reclaim.owned_same q c.copy_whole.new.pool v k.same)) k.owned
+    let r = c.copy_whole.new.pool in
+    let k =
+    copy_ready c.args.pool.now c.reserve.new.pool c.copy_whole.new.pool c.args.datagram.now.chain c.copy_whole.result
+    _ _ (socks_of c.args.self.now) c.requires.socks c.requires.owned c.reserve.ensures.moves
+    c.copy_whole.ensures.moves in
+    subst (λ (zs : List ℕ). IsOwned r
+    (c.copy_whole.result ∷ (zs ++ queued_chains r (from_three c.args.self.now.queues))))
+    (sym (g.met.R.Reclaim.owned_same c.reserve.new.pool r c.reserve.new.waiting k.same)) k.owned
 
 pub returns-clause-offered : goal.returns-clause-offered
 returns-clause-offered g c =
@@ -118,7 +86,10 @@ returns-clause-offered g c =
       moves = c.reserve.ensures.moves;
       reserves = λ rest held a. c.if-not-reserve.ensures.reserves _ held refl refl a;
     } in
-    let k = copy_ready c.copy_whole.result i c.copy_whole.ensures.moves in
+    let k =
+    copy_ready c.args.pool.now c.reserve.new.pool c.copy_whole.new.pool c.args.datagram.now.chain c.copy_whole.result
+    _ _ (socks_of c.args.self.now) c.requires.socks c.requires.owned c.reserve.ensures.moves
+    c.copy_whole.ensures.moves in
     copy_offer c.args.fd c.copy_whole.result c.args.datagram.now.sender i c.mbufs-mbufs.ensures
     c.copy_whole.ensures.moves c.copy_whole.ensures.item
     (g.met.R.Waiting.unfinished_same q c.copy_whole.new.pool v k.same)

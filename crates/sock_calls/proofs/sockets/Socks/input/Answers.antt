@@ -6,7 +6,7 @@ use Rattle.sock_calls.specs.Sockets.{SocksView, IsSocks, from_three, queued_chai
 use Rattle.sock_calls.specs.Delivery.{seen, IsInput}
 use Rattle.sock_calls.specs.Inside.Parts.{socks_of}
 use Rattle.sock_calls.proofs.Delivered.{freed}
-use Rattle.sock_calls.proofs.Arriving.{all_open, reached, delivered_to, dropped_to}
+use Rattle.sock_calls.proofs.Arriving.{all_open, reached, reached_in, delivered_to, dropped_to}
 use Rattle.sock_calls.proofs.sockets.Socks.input.Goals as goal
 
 pub deliver_all-requires-clause-socks : goal.deliver_all-requires-clause-socks
@@ -14,13 +14,8 @@ deliver_all-requires-clause-socks g c =
     let p = c.args.pool.now in
     let q = c.input.new.pool in
     let w = c.args.waiting.now in
-    let xs = g.R.Reclaim.owned p w in
-    let s : SocksView = socks_of c.self.inside.parts in
-    let socks : IsSocks p s = subst (IsSocks p) (sym c.self.view_is) c.requires.ready in
-    let owned : IsOwned p (c.args.chain ∷ (xs ++ queued_chains p s.queues)) =
-    subst (λ (v : SocksView). IsOwned p (c.args.chain ∷ (xs ++ queued_chains p v.queues))) (sym c.self.view_is)
-    c.requires.owned in
-    let x = reached p q c.args.chain c.in-Deliver.chain xs _ owned socks c.in-Deliver.ensures.moves in
+    let x = reached_in p q c.args.chain c.in-Deliver.chain (g.R.Reclaim.owned p w) (socks_of c.self.inside.parts) _
+    c.self.view_is c.requires.owned c.requires.ready c.in-Deliver.ensures.moves in
     subst (λ (t : Table). IsSocks q (record { pcbs = t; queues = from_three c.self.inside.parts.queues }))
     (sym c.input.ensures.blocks) x.socks.ready
 
@@ -40,13 +35,8 @@ deliver_all-requires-clause-waits g c =
     let p = c.args.pool.now in
     let q = c.input.new.pool in
     let w = c.args.waiting.now in
-    let xs = g.R.Reclaim.owned p w in
-    let s : SocksView = socks_of c.self.inside.parts in
-    let socks : IsSocks p s = subst (IsSocks p) (sym c.self.view_is) c.requires.ready in
-    let owned : IsOwned p (c.args.chain ∷ (xs ++ queued_chains p s.queues)) =
-    subst (λ (v : SocksView). IsOwned p (c.args.chain ∷ (xs ++ queued_chains p v.queues))) (sym c.self.view_is)
-    c.requires.owned in
-    let x = reached p q c.args.chain c.in-Deliver.chain xs _ owned socks c.in-Deliver.ensures.moves in
+    let x = reached_in p q c.args.chain c.in-Deliver.chain (g.R.Reclaim.owned p w) (socks_of c.self.inside.parts) _
+    c.self.view_is c.requires.owned c.requires.ready c.in-Deliver.ensures.moves in
     g.met.R.Reclaim.ready_same p q w x.same c.requires.waits
 
 pub deliver_all-requires-clause-owned : goal.deliver_all-requires-clause-owned
@@ -54,13 +44,8 @@ deliver_all-requires-clause-owned g c =
     let p = c.args.pool.now in
     let q = c.input.new.pool in
     let w = c.args.waiting.now in
-    let xs = g.R.Reclaim.owned p w in
-    let s : SocksView = socks_of c.self.inside.parts in
-    let socks : IsSocks p s = subst (IsSocks p) (sym c.self.view_is) c.requires.ready in
-    let owned : IsOwned p (c.args.chain ∷ (xs ++ queued_chains p s.queues)) =
-    subst (λ (v : SocksView). IsOwned p (c.args.chain ∷ (xs ++ queued_chains p v.queues))) (sym c.self.view_is)
-    c.requires.owned in
-    let x = reached p q c.args.chain c.in-Deliver.chain xs _ owned socks c.in-Deliver.ensures.moves in
+    let x = reached_in p q c.args.chain c.in-Deliver.chain (g.R.Reclaim.owned p w) (socks_of c.self.inside.parts) _
+    c.self.view_is c.requires.owned c.requires.ready c.in-Deliver.ensures.moves in
     subst (λ (zs : List ℕ). IsOwned q (c.in-Deliver.chain
     ∷ (zs ++ queued_chains q (from_three c.self.inside.parts.queues))))
     (sym (g.met.R.Reclaim.owned_same p q w x.same)) x.owned
