@@ -122,30 +122,10 @@ fn store_rooms(pool: &mut Pool, bytes: &[u8], large: u32, ends: bool) -> Result<
     Ok(chain)
 }
 
-/// A chain with packet header of these bytes, more than a first plain mbuf holds: see `store`.
-// Inlined: mostly they fill one cluster, and need no walk over rooms.
-#[inline(always)]
-fn store_more(pool: &mut Pool, bytes: &[u8], large: u32, ends: bool) -> Result<Chain, NoBufs>
-    requires large { large ≤ CLUSTER_LEADING_SPACE }
-    requires most { length bytes.now ≤ IP_MAX_PACKET }
-    ensures ok { IfOk result (λ d. (cs : List ℕ) × AreFree pool.old cs
-        × (length cs ≡ count_by is_cluster (rooms_for large (length bytes.now)))
-        × Makes pool.old pool.new d (alone true)
-        (stored_first large ends cs (rooms_for large (length bytes.now)) bytes.now)) }
-    ensures enough { OnOk result (Has pool.old (rooms_for large (length bytes.now))) }
-    ensures err { OnErr result (Lacks pool.old (rooms_for large (length bytes.now))) }
-    ensures same { OnErr result (pool.new ≡ pool.old) }
-{
-    let len = bytes.len() as u32;
-    if len < MINCLSIZE || len > MCLBYTES - large {
-        return store_rooms(pool, bytes, large, ends);
-    }
-    pool.new_cluster_with(true, large, bytes)
-}
-
 /// A chain with packet header of these bytes. In a first cluster they begin at `large`, and in a first plain
 /// mbuf at its end or at its front.
-// Inlined, since a caller knows where they begin. Few bytes need one plain mbuf, and no walk over rooms.
+// Inlined, since a caller knows where they begin. Mostly they fill one plain mbuf or one cluster, and need no walk over
+// rooms.
 #[inline(always)]
 fn store(pool: &mut Pool, bytes: &[u8], large: u32, ends: bool) -> Result<Chain, NoBufs>
     requires large { large ≤ CLUSTER_LEADING_SPACE }
@@ -160,10 +140,13 @@ fn store(pool: &mut Pool, bytes: &[u8], large: u32, ends: bool) -> Result<Chain,
 {
     if bytes.len() <= MHLEN as usize {
         let start = first_start(ends, bytes.len());
-        pool.new_plain_with(true, start, bytes)
-    } else {
-        store_more(pool, bytes, large, ends)
+        return pool.new_plain_with(true, start, bytes);
     }
+    let len = bytes.len() as u32;
+    if len < MINCLSIZE || len > MCLBYTES - large {
+        return store_rooms(pool, bytes, large, ends);
+    }
+    pool.new_cluster_with(true, large, bytes)
 }
 
 /// A chain with packet header of bytes to send, at most 65,535: clusters as long as 208 bytes or more are left,
