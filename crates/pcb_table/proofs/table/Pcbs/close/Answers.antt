@@ -18,7 +18,6 @@ returns-in_default-clause-step c = λ rest queues.
 
 pub invariant_of-self : goal.invariant_of-self
 invariant_of-self c =
-    let i = c.self.inside.interface in
     let bs = c.self.inside.blocks in
     let last = c.self.inside.last_port in
     let b = c.in-Some.at.block in

@@ -23,10 +23,7 @@ returns-in_default-clause-step c = λ rest queues.
 -- where the call is refused, the block is disconnected
 pub invariant_of-self : goal.invariant_of-self
 invariant_of-self c =
-    let i = c.self.inside.interface in
     let bs = c.self.inside.blocks in
-    let last = c.self.inside.last_port in
-    let a = c.args.address in
     let index = c.in-Some.at.index in
     let b = c.in-Some.at.block in
     let me : Block = disconnected_block b in
@@ -123,9 +120,6 @@ returns-clause-step c =
     let g : gone ≡ set bs index me = c.set_block.ensures ∙ ap (set bs index) c.disconnected-block.ensures in
     let kept = disconnected_keeps bs c.args.fd index b c.self.invariant.0 at c.self.inside.cache c.self.invariant.1 in
     let apart : AreApart gone = subst AreApart (sym g) kept.0 in
-    let cached : IsCached gone c.without-self-inside.result =
-    subst (λ (k : Option Connection). IsCached gone k) (sym c.without-self-inside.ensures)
-    (subst (λ (cs : List Block). IsCached cs (forgotten c.args.fd c.self.inside.cache)) (sym g) kept.1) in
     let fault : first_fault (block_connect_faults (interface_config i) gone me (read_addr (interface_config i) a))
     ≡ None =
     (λ k. first_fault (block_connect_faults (interface_config i) gone (sym c.disconnected-block.ensures k)
@@ -157,7 +151,6 @@ returns-in-Some-destination_fault-clause-descriptors c =
     let i = c.self.inside.interface in
     let bs = c.self.inside.blocks in
     let last = c.self.inside.last_port in
-    let a = c.args.address in
     let index = c.in-Some.at.index in
     let b = c.in-Some.at.block in
     let me : Block = disconnected_block b in
@@ -180,15 +173,6 @@ returns-clause-descriptors c =
     let gone = c.set_block.new.self in
     let at : IsLocated c.args.fd bs index b = c.in-Some.ensures in
     let g : gone ≡ set bs index me = c.set_block.ensures ∙ ap (set bs index) c.disconnected-block.ensures in
-    let kept = disconnected_keeps bs c.args.fd index b c.self.invariant.0 at c.self.inside.cache c.self.invariant.1 in
-    let apart : AreApart gone = subst AreApart (sym g) kept.0 in
-    let cached : IsCached gone c.without-self-inside.result =
-    subst (λ (k : Option Connection). IsCached gone k) (sym c.without-self-inside.ensures)
-    (subst (λ (cs : List Block). IsCached cs (forgotten c.args.fd c.self.inside.cache)) (sym g) kept.1) in
-    let fault : first_fault (block_connect_faults (interface_config i) gone me (read_addr (interface_config i) a))
-    ≡ None =
-    (λ k. first_fault (block_connect_faults (interface_config i) gone (sym c.disconnected-block.ensures k)
-    (sym c.read-to.ensures k))) ∙ sym c.destination_fault.ensures ∙ c.in_default-destination_fault.is in
     let there : IsLocated c.args.fd gone index me =
     subst (λ (cs : List Block). IsLocated c.args.fd cs index me) (sym g)
     (located_after bs c.args.fd index b c.self.invariant.0 at me (disconnected_fd b)) in
@@ -197,12 +181,6 @@ returns-clause-descriptors c =
     let port = c.port_for-chosen.result.port in
     let later = c.port_for-chosen.result.last in
     let new = c.set_block-2.new.self in
-    let from : source ≡ source_for (interface_config i) (plain me) to.ip =
-    c.source-source.ensures ∙ (λ k. source_for (interface_config i) (plain (c.disconnected-block.ensures k))
-    (c.read-to.ensures k).ip) in
-    let given : GivesPort gone last me.local me.port port later =
-    subst (λ (d : Block). GivesPort gone last d.local d.port port later) c.disconnected-block.ensures
-    (c.port_for-chosen.ensures.port) in
     let written : new ≡ set gone index (connected_block source port to me) =
     c.set_block-2.ensures ∙ ap (set gone index)
     (c.connected_to.ensures ∙ (λ k. connected_block source port (c.read-to.ensures k)

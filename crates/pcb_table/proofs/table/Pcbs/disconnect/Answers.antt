@@ -14,7 +14,6 @@ use Rattle.pcb_table.proofs.table.Pcbs.disconnect.Goals as goal
 
 pub invariant_of-self : goal.invariant_of-self
 invariant_of-self c =
-    let i = c.self.inside.interface in
     let bs = c.self.inside.blocks in
     let last = c.self.inside.last_port in
     let b = c.located-at.result.block in

@@ -7,9 +7,7 @@ use Rattle.pcb_table.proofs.table.Pcbs.ends.Goals as goal
 
 pub returns-clause-local : goal.returns-clause-local
 returns-clause-local c =
-    let i = c.self.inside.interface in
     let bs = c.self.inside.blocks in
-    let last = c.self.inside.last_port in
     let b = c.located.result.block in
     let at : IsLocated c.args.fd bs c.located.result.index b = c.located.ensures in
     let made : Addr = record { ip = c.unwrap_or.result; port = c.unwrap_or-2.result } in
@@ -20,9 +18,7 @@ returns-clause-local c =
 
 pub returns-clause-foreign : goal.returns-clause-foreign
 returns-clause-foreign c =
-    let i = c.self.inside.interface in
     let bs = c.self.inside.blocks in
-    let last = c.self.inside.last_port in
     let b = c.located.result.block in
     let at : IsLocated c.args.fd bs c.located.result.index b = c.located.ensures in
     subst (λ (t : Table). option_map peer_of (block_at c.args.fd t) ≡ Some c.unwrap_or-3.result) c.self.view_is

@@ -16,9 +16,7 @@ returns-in_default-clause-step c = λ rest queues.
 
 pub invariant_of-self : goal.invariant_of-self
 invariant_of-self c =
-    let i = c.self.inside.interface in
     let bs = c.self.inside.blocks in
-    let last = c.self.inside.last_port in
     let b = c.in-Some.at.block in
     let at : IsLocated c.args.fd bs c.in-Some.at.index b = c.in-Some.ensures in
     let written : c.set_block.new.self ≡ _ =
