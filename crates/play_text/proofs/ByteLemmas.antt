@@ -1,9 +1,9 @@
 -- How many bytes in front of two lists are the same.
 use Rattle.std.proofs.Common.{◌≡◌, ℕ, suc, ◌+◌, ◌<◌, ◌≤◌, false, true, List, [], ◌∷◌, length, drop, get_or, inl, inr, refl, sym, ap, ap₂, ◌∙◌, arith}
-use Rattle.std.specs.Prelude.{min}
+use Rattle.std.specs.Prelude.{◌/◌, ◌&&◌, ◌||◌, Bool, ◌++◌, codes, decimal, min, nat_lt}
 use Rattle.std.proofs.lemmas.Bool.{cases_lt, ne_eqb, eq-eqb}
 use Rattle.std.proofs.lemmas.List.{drop_all, drop_more}
-use Rattle.play_text.specs.Bytes.{alike}
+use Rattle.play_text.specs.Bytes.{alike, apart_text, is_long}
 
 same_front : (x y : ℕ) (xs ys : List ℕ) → x ≡ y → alike (x ∷ xs) (y ∷ ys) ≡ suc (alike xs ys)
 same_front x y xs ys e = rw (eq-eqb x y e) refl
@@ -37,3 +37,19 @@ alike_ends a b at h =
       | inl lt ↦
           ap (λ (t : List ℕ). alike (drop at a) t) (drop_all at b (omega (arith, h, lt))) ∙ none_left (drop at a)
     ]
+
+-- one list is cut, and none of them ends where they differ
+abbrev are_apart : List ℕ → List ℕ → ℕ → Bool
+are_apart a b same = (is_long a || is_long b) && nat_lt same (min (length a) (length b))
+
+abbrev from_text : ℕ → List ℕ
+from_text same = codes ", which differ from byte " ++ decimal (same / 2) ++ codes " on"
+
+apart_so : (a b : List ℕ) → are_apart a b (alike a b) ≡ true → apart_text a b ≡ from_text (alike a b)
+apart_so a b h = rw h refl
+
+pub apart_is : (a b : List ℕ) (same : ℕ) (so : Bool) (old new : List ℕ) → same ≡ alike a b → so ≡ are_apart a b same
+    → so ≡ true → new ≡ old ++ from_text same → new ≡ old ++ apart_text a b
+apart_is a b same so old new e f t is =
+    let h : are_apart a b (alike a b) ≡ true = ap (λ (n : ℕ). are_apart a b n) (sym e) ∙ sym f ∙ t in
+    is ∙ ap (λ (n : ℕ). old ++ from_text n) e ∙ ap (λ (text : List ℕ). old ++ text) (sym (apart_so a b h))

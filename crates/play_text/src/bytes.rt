@@ -309,6 +309,27 @@ fn are_apart(first: &[u8], second: &[u8], same: usize) -> bool
     (is_long(first) || is_long(second)) && same < len
 }
 
+/// Puts the number of the byte after the text that stands behind so many digits, and ` on`.
+fn put_byte_on<const N: usize>(text: &mut Buffer<N>, same: usize)
+    requires { length text.old + 23 ≤ N }
+    ensures items { text.new ≡ text.old ++ (decimal (same / 2) ++ codes " on") }
+    ensures len { length text.new ≤ length text.old + 23 }
+{
+    put_long(text, (same / 2) as u64);
+    text.append(b" on");
+}
+
+/// Puts after the text that bytes differ behind so many digits that are the same.
+fn put_from<const N: usize>(text: &mut Buffer<N>, same: usize)
+    requires { length text.old + 48 ≤ N }
+    ensures items { text.new ≡ text.old
+        ++ (codes ", which differ from byte " ++ decimal (same / 2) ++ codes " on") }
+    ensures len { length text.new ≤ length text.old + 48 }
+{
+    text.append(b", which differ from byte ");
+    put_byte_on(text, same);
+}
+
 /// Puts after the text where bytes of which one list is cut differ first.
 fn put_first_apart<const N: usize>(text: &mut Buffer<N>, first: &[u8], second: &[u8])
     requires { length text.old + 48 ≤ N }
@@ -317,10 +338,20 @@ fn put_first_apart<const N: usize>(text: &mut Buffer<N>, first: &[u8], second: &
 {
     let same = alike(first, second);
     if are_apart(first, second, same) {
-        text.append(b", which differ from byte ");
-        put_long(text, (same / 2) as u64);
-        text.append(b" on");
+        put_from(text, same);
     }
+}
+
+/// Puts after the text where the bytes of two replies differ first, if one of them is cut.
+fn put_replies_apart<const N: usize>(text: &mut Buffer<N>, wanted: &[u8], told: &[u8])
+    requires { length text.old + 48 ≤ N }
+    ensures items { text.new ≡ text.old
+        ++ bytes.apart_text (bytes.bytes_word wanted.now) (bytes.bytes_word told.now) }
+    ensures len { length text.new ≤ length text.old + 48 }
+{
+    let first = bytes_word(wanted);
+    let second = bytes_word(told);
+    put_first_apart(text, first, second);
 }
 
 /// Puts after the text where the bytes of two replies differ first, if one of them is cut. There must be room for 48.
@@ -336,7 +367,7 @@ pub(crate) fn put_apart<const N: usize>(
 {
     match form {
         ByteForm::Digits => {}
-        ByteForm::Cut => put_first_apart(text, bytes_word(wanted), bytes_word(told)),
-        ByteForm::Texts => put_first_apart(text, bytes_word(wanted), bytes_word(told)),
+        ByteForm::Cut => put_replies_apart(text, wanted, told),
+        ByteForm::Texts => put_replies_apart(text, wanted, told),
     }
 }
