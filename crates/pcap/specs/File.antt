@@ -3,7 +3,7 @@
 use Rattle.std.specs.Prelude.{◌≡◌, ℕ, ◌+◌, ◌*◌, ◌%◌, ◌^◌, ◌<◌, ◌≤◌, ◌⊎◌, List, [], ◌∷◌, ◌++◌, length, drop, Option, Some, None, Result, Ok, Err, nat_lt, ◌==◌, ◌&&◌, if◌then◌else◌}
 use Rattle.std.specs.Int.{Width, w16, w32, to_le_bytes, to_be_bytes, from_le_bytes, from_be_bytes}
 use Rattle.std.specs.List.{flat_map, AllByRecursion}
-use Rattle.pcap.specs.Types.{link_type_of}
+use Rattle.pcap.specs.Types.{link_number, link_type_of}
 use Rattle.pcap.specs.declared.link_type.LinkType.{LinkType}
 use Rattle.pcap.specs.declared.link_type.LinkType.TheVariants.{Ipv4}
 use Rattle.pcap.specs.declared.fault.Fault.{Fault}
@@ -92,14 +92,18 @@ pub record IsHeader (h : Header) : Type 0 where
   pub link_field : h.link_field < 2 ^ 32
   pub link : link_type_of (h.link_field % 2 ^ 16) ≡ Some h.link
 
--- the header of each file that is written
-abbrev pub our_header : Header
-our_header = record {
+-- the header of each file that is written with this link type
+abbrev pub header_for : LinkType → Header
+header_for link = record {
   order = Little;
   resolution = Microseconds;
   time_zone = 0;
   accuracy = 0;
   snap_len = 65_535;
-  link_field = 228;
-  link = Ipv4;
+  link_field = link_number link;
+  link = link;
 }
+
+-- that of a file of IPv4 packets
+abbrev pub our_header : Header
+our_header = header_for Ipv4

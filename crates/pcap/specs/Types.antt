@@ -15,3 +15,13 @@ link_type_of n =
     if n == 113 then Some LinuxCooked else
     if n == 228 then Some Ipv4 else
     if n == 276 then Some LinuxCooked2 else None
+
+-- the number that a link type is written as
+abbrev pub link_number : LinkType → ℕ
+link_number Null = 0
+link_number Ethernet = 1
+link_number Raw = 101
+link_number Loop = 108
+link_number LinuxCooked = 113
+link_number Ipv4 = 228
+link_number LinuxCooked2 = 276

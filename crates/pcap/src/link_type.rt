@@ -1,6 +1,6 @@
 //! The link types that the reader takes.
 ghost use Rattle.std.specs.Prelude.{◌≡◌};
-ghost use Rattle.pcap.specs.Types.{link_type_of};
+ghost use Rattle.pcap.specs.Types.{link_number, link_type_of};
 
 /// What the bytes of a record are (tcpdump.org/linktypes.html).
 #[derive(Clone, Copy, Debug, PartialEq, Eq)]
@@ -35,6 +35,21 @@ impl LinkType {
             228 => Some(LinkType::Ipv4),
             276 => Some(LinkType::LinuxCooked2),
             _ => None,
+        }
+    }
+
+    /// The number that it's written as: of `Raw` 101.
+    pub fn number(self) -> u16
+        ensures { result ≡ link_number self }
+    {
+        match self {
+            LinkType::Null => 0,
+            LinkType::Ethernet => 1,
+            LinkType::Raw => 101,
+            LinkType::Loop => 108,
+            LinkType::LinuxCooked => 113,
+            LinkType::Ipv4 => 228,
+            LinkType::LinuxCooked2 => 276,
         }
     }
 }

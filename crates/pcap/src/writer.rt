@@ -1,12 +1,13 @@
 //! The headers of files that are written: that of the file, and that of each packet.
 ghost use Rattle.std.specs.Prelude.{◌≡◌};
-ghost use Rattle.pcap.specs.File.{file_header_bytes, our_header};
+ghost use Rattle.pcap.specs.File.{file_header_bytes, header_for};
 ghost use Rattle.pcap.specs.Records.{record_header};
 ghost use Rattle.pcap.specs.declared.header.Order.TheVariants.{Little};
 
+use crate::link_type::LinkType;
 use byteorder::{ByteOrder, LittleEndian};
 
-/// The most bytes of a packet that is written: the file's snapshot length. An IPv4 packet has no more.
+/// The most bytes of a packet or frame that is written: the file's snapshot length. An IPv4 packet has no more.
 pub const LONGEST_PACKET: usize = 65_535;
 
 /// The magic number of a file with microseconds.
@@ -15,18 +16,16 @@ const MAGIC: u32 = 0xa1b2_c3d4;
 /// The version, 2.4.
 const VERSION: [u16; 2] = [2, 4];
 
-/// The link type of IPv4 packets.
-const LINK_IPV4: u32 = 228;
-
-/// The header of each file that is written: little endian, version 2.4, microseconds, time zone and accuracy 0,
-/// snapshot length 65,535, link type IPV4 (228).
-pub fn file_header() -> [u8; 24]
-    ensures { result ≡ file_header_bytes our_header }
+/// The header of a file that is written with this link type: little endian, version 2.4, microseconds, time zone and
+/// accuracy 0, snapshot length 65,535.
+pub fn file_header(link: LinkType) -> [u8; 24]
+    ensures { result ≡ file_header_bytes (header_for link) }
 {
     let mut header = [0; 24];
     LittleEndian::write_u32(&mut header, MAGIC);
     LittleEndian::write_u16_into(&VERSION, &mut header[4..8]);
-    LittleEndian::write_u32_into(&[0, 0, LONGEST_PACKET as u32, LINK_IPV4], &mut header[8..]);
+    let link = u32::from(link.number());
+    LittleEndian::write_u32_into(&[0, 0, LONGEST_PACKET as u32, link], &mut header[8..]);
     header
 }
 

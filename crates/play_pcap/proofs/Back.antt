@@ -4,15 +4,29 @@ use Rattle.std.specs.List.{AllByRecursion}
 use Rattle.std.specs.Int.{w16}
 use Rattle.std.proofs.lemmas.Bool.{le-ltb}
 use Rattle.flat_model.specs.Machine.Event.{Event, Comes}
-use Rattle.pcap.specs.File.{IsHeader, file_header_bytes, our_header, number_of}
+use Rattle.pcap.specs.File.{IsHeader, file_header_bytes, header_for, our_header, number_of}
 use Rattle.pcap.specs.Frames.{unpadded}
 use Rattle.pcap.specs.Records.{FitsFields, Reads, Whole, records_bytes}
 use Rattle.pcap.specs.declared.header.Order.TheVariants.{Big}
+use Rattle.pcap.specs.declared.link_type.LinkType.{LinkType}
+use Rattle.pcap.specs.declared.link_type.LinkType.TheVariants.{Null, Ethernet, Raw, Loop, LinuxCooked, Ipv4, LinuxCooked2}
 use Rattle.play_pcap.specs.Events.{record_events, played, taken}
 use Rattle.play_pcap.specs.Traces.{IsPass, Pass, file_of, passes_bytes, record_of}
 
-our_header_is : IsHeader our_header
-our_header_is =
+header_is : (link : LinkType) → IsHeader (header_for link)
+header_is Null =
+    record { time_zone = lit< tt; accuracy = lit< tt; snap_len = lit< tt; link_field = lit< tt; link = refl }
+header_is Ethernet =
+    record { time_zone = lit< tt; accuracy = lit< tt; snap_len = lit< tt; link_field = lit< tt; link = refl }
+header_is Raw =
+    record { time_zone = lit< tt; accuracy = lit< tt; snap_len = lit< tt; link_field = lit< tt; link = refl }
+header_is Loop =
+    record { time_zone = lit< tt; accuracy = lit< tt; snap_len = lit< tt; link_field = lit< tt; link = refl }
+header_is LinuxCooked =
+    record { time_zone = lit< tt; accuracy = lit< tt; snap_len = lit< tt; link_field = lit< tt; link = refl }
+header_is Ipv4 =
+    record { time_zone = lit< tt; accuracy = lit< tt; snap_len = lit< tt; link_field = lit< tt; link = refl }
+header_is LinuxCooked2 =
     record { time_zone = lit< tt; accuracy = lit< tt; snap_len = lit< tt; link_field = lit< tt; link = refl }
 
 all_fit : (ps : List Pass) → AllByRecursion IsPass ps → AllByRecursion FitsFields (map record_of ps)
@@ -26,9 +40,9 @@ all_fit (p ∷ ps) h =
 
 pub read_back : ((w : Whole) → IsHeader w.header → AllByRecursion FitsFields w.records
     → Reads (file_header_bytes w.header ++ records_bytes w.header.order w.records) (Ok w))
-    → (ps : List Pass) → AllByRecursion IsPass ps
-    → Reads (file_header_bytes our_header ++ passes_bytes ps) (Ok (file_of ps))
-read_back law ps h = law (file_of ps) our_header_is (all_fit ps h)
+    → (link : LinkType) (ps : List Pass) → AllByRecursion IsPass ps
+    → Reads (file_header_bytes (header_for link) ++ passes_bytes ps) (Ok (file_of link ps))
+read_back law link ps h = law (file_of link ps) (header_is link) (all_fit ps h)
 
 take_shorter : (n : ℕ) (bytes : List ℕ) → length (take n bytes) ≤ length bytes
 take_shorter zero bytes = omega arith
@@ -58,5 +72,5 @@ plays begin (p ∷ ps) h =
     rw (whole_packet p.packet h.0.short) (ap (λ (es : List Event). Comes (unpadded p.packet) ∷ es) (plays begin ps h.1))
 
 pub played_back : (ps : List Pass) → AllByRecursion IsPass ps
-    → played false our_header (file_of ps).records ≡ map (λ (p : Pass). Comes (unpadded p.packet)) ps
+    → played false our_header (file_of Ipv4 ps).records ≡ map (λ (p : Pass). Comes (unpadded p.packet)) ps
 played_back ps h = plays _ ps h

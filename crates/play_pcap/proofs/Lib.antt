@@ -6,3 +6,4 @@ mod Moving
 mod Asking
 mod Naming
 mod Playing
+mod WireTraces

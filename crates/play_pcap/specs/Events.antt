@@ -12,7 +12,7 @@ use Rattle.pcap.specs.declared.link_type.LinkType.{LinkType}
 use Rattle.play_pcap.specs.declared.ask.Details.{Details}
 use Rattle.play_pcap.specs.declared.ask.Range.{Range}
 use Rattle.play_pcap.specs.declared.fault.CaptureFault.{CaptureFault}
-use Rattle.play_pcap.specs.declared.fault.CaptureFault.TheVariants.{NotOpened, NotRead, TooLong, Memory, TooFew, Bad}
+use Rattle.play_pcap.specs.declared.fault.CaptureFault.TheVariants.{Memory, TooFew, Bad}
 use Rattle.play_pcap.specs.declared.moves.Course.{Course}
 use Rattle.play_pcap.specs.declared.moves.Move.{Move}
 use Rattle.play_pcap.specs.declared.moves.Moves.{Moves}

@@ -5,7 +5,7 @@ use Rattle.flat_model.specs.Scripts.Grammar.{IsHex}
 use Rattle.play_pcap.specs.Events.{PlaysFile}
 use Rattle.play_pcap.specs.declared.ask.Details.{Details}
 use Rattle.play_pcap.specs.declared.fault.CaptureFault.{CaptureFault}
-use Rattle.play_pcap.specs.declared.fault.CaptureFault.TheVariants.{NotOpened, NotRead, TooLong, Memory, TooFew, Bad}
+use Rattle.play_pcap.specs.declared.fault.CaptureFault.TheVariants.{TooFew, Bad}
 use Rattle.play_pcap.specs.declared.moves.Tally.{Tally}
 
 -- The name that a word of a plain line writes: the bytes whose digits it is, as those of a text, or else the word.

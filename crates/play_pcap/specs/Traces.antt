@@ -1,11 +1,12 @@
 -- The capture of a run: the packets that came and went (this project's own).
-use Rattle.std.specs.Prelude.{◌≡◌, ℕ, ◌+◌, ◌-◌, ◌*◌, ◌/◌, ◌%◌, ◌^◌, ◌<◌, ◌≤◌, Bool, true, false, List, [], ◌++◌, length, map, min, codes, Option}
+use Rattle.std.specs.Prelude.{◌≡◌, ℕ, ◌+◌, ◌-◌, ◌*◌, ◌/◌, ◌%◌, ◌^◌, ◌<◌, ◌≤◌, Bool, true, false, List, [], ◌++◌, length, map, min, codes, if◌then◌else◌, Option}
 use Rattle.std.specs.Io.KnownBytes.{Appends}
 use Rattle.flat_model.specs.Machine.Event.{Event, Comes, Tick}
 use Rattle.flat_model.specs.Scripts.Texts.{hex_text}
-use Rattle.pcap.specs.File.{our_header}
+use Rattle.pcap.specs.File.{file_header_bytes, header_for}
 use Rattle.pcap.specs.Records.{Captured, Whole, record_bytes, records_bytes}
 use Rattle.pcap.specs.declared.header.Order.TheVariants.{Little}
+use Rattle.pcap.specs.declared.link_type.LinkType.{LinkType}
 
 -- how many ticks have passed, whether each record so far was written whole, and what the writer holds, where it tells
 pub record Traced : Type 0 where
@@ -13,7 +14,7 @@ pub record Traced : Type 0 where
   pub whole : Bool
   pub wrote : Option (List ℕ)
 
--- A packet that passed: after so many ticks, by the line of this number.
+-- A packet or a frame that passed: after so many ticks, by the line of this number.
 pub record Pass : Type 0 where
   pub ticks : ℕ
   pub line : ℕ
@@ -42,9 +43,9 @@ pub record IsPass (p : Pass) : Type 0 where
   pub ticks : p.ticks < 2 ^ 32
   pub short : length p.packet ≤ 65_535
 
--- what is read in a file of these packets
-abbrev pub file_of : List Pass → Whole
-file_of ps = record { header = our_header; records = map record_of ps }
+-- what is read in a file of these packets or frames
+abbrev pub file_of : LinkType → List Pass → Whole
+file_of link ps = record { header = header_for link; records = map record_of ps }
 
 -- so many ticks, and one more
 abbrev pub later : ℕ → ℕ
@@ -68,6 +69,17 @@ Keeps old new bytes = SentAfter old.whole new.whole old.wrote new.wrote bytes
 -- before the header of the file
 abbrev pub unwritten : Option (List ℕ) → Traced
 unwritten wrote = record { ticks = 0; whole = true; wrote = wrote }
+
+-- ---- a capture whose link type may be chosen until something passes
+
+pub record WireTraced : Type 0 where
+  pub traced : Traced
+  pub link : LinkType
+  pub headed : Bool
+
+-- the header, where it's still to be written
+abbrev pub header_due : WireTraced → List ℕ
+header_due t = if t.headed then [] else file_header_bytes (header_for t.link)
 
 -- ---- a capture as a script
 

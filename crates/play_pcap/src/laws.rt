@@ -5,9 +5,11 @@ ghost use Rattle.flat_model.specs.Machine.Event.{Comes};
 ghost use Rattle.flat_model.specs.Scripts.Grammar.{IsLine};
 ghost use Rattle.flat_model.specs.Scripts.Texts.{hex_text};
 ghost use Rattle.hex.specs.Hex.{IsBytes};
-ghost use Rattle.pcap.specs.File.{file_header_bytes, our_header};
+ghost use Rattle.pcap.specs.File.{file_header_bytes, header_for, our_header};
 ghost use Rattle.pcap.specs.Frames.{unpadded};
 ghost use Rattle.pcap.specs.Records.{Reads};
+ghost use Rattle.pcap.specs.declared.link_type.LinkType.{LinkType};
+ghost use Rattle.pcap.specs.declared.link_type.LinkType.TheVariants.{Ipv4};
 ghost use Rattle.play_pcap.specs.Events.{played};
 ghost use Rattle.play_pcap.specs.Traces.{IsPass, Keeps, Pass, Traced, file_of, passes_bytes};
 
@@ -19,19 +21,20 @@ pub fn trace_law()
     ensures { (old mid new : Traced) (a b : List ℕ) → Keeps old mid a → Keeps mid new b → Keeps old new (a ++ b) }
 {}
 
-/// The file of these packets reads as these, each whole, in their order.
+/// The file of these packets or frames reads as these, each whole, in their order.
 pub fn read_back_law()
-    ensures { (ps : List Pass) → AllByRecursion IsPass ps
-        → Reads (file_header_bytes our_header ++ passes_bytes ps) (Ok (file_of ps)) }
+    ensures { (link : LinkType) (ps : List Pass) → AllByRecursion IsPass ps
+        → Reads (file_header_bytes (header_for link) ++ passes_bytes ps) (Ok (file_of link ps)) }
 {
     written_is_read();
 }
 
-/// Played in again, it does nothing else than let these packets come, each without what stands behind its total length.
+/// Played in again, that of packets does nothing else than let these packets come, each without what stands behind its
+/// total length.
 #[tactic(auto, using(crate::proofs::Back::played_back))]
 pub fn played_back_law()
     ensures { (ps : List Pass) → AllByRecursion IsPass ps
-        → played false our_header (file_of ps).records ≡ map (λ (p : Pass). Comes (unpadded p.packet)) ps }
+        → played false our_header (file_of Ipv4 ps).records ≡ map (λ (p : Pass). Comes (unpadded p.packet)) ps }
 {}
 
 /// The line that [`crate::Lines`] writes of a packet asks for this packet.

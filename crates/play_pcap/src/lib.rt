@@ -12,6 +12,7 @@ mod play;
 mod told;
 mod trace;
 mod wire;
+mod wire_trace;
 
 pub use ask::{Ask, Details, Range, ask_of, range_of};
 pub use fault::CaptureFault;
@@ -23,3 +24,4 @@ pub use play::play_file;
 pub use told::{OUTCOME, put_outcome};
 pub use trace::{Nowhere, RECORD, Trace};
 pub use wire::Wire;
+pub use wire_trace::WireTrace;

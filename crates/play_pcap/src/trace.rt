@@ -1,15 +1,15 @@
 //! The capture of a run, which is written as packets come and go.
 ghost use Rattle.std.specs.Prelude.{◌≡◌, ◌≤◌, ◌+◌, length};
 ghost use Rattle.params.specs.declared.TheConstants.{IP_MAX_PACKET};
-ghost use Rattle.pcap.specs.File.{file_header_bytes, our_header};
+ghost use Rattle.pcap.specs.File.{file_header_bytes, header_for, our_header};
 ghost use Rattle.play_pcap.specs.Traces.{Keeps, Sent, later, pass_at, pass_bytes, unwritten};
 
-use pcap::{file_header, record_header};
+use pcap::{LinkType, file_header, record_header};
 use script_loop::{Buffer, Sink};
 use std::io::{self, Write};
 use std::marker::Model;
 
-/// Room for the record of a packet.
+/// Room for the record of a packet or a frame.
 pub const RECORD: usize = 65_551;
 
 /// The most microseconds that a line counts.
@@ -60,18 +60,36 @@ fn put_record(out: &mut Buffer<RECORD>, ticks: u32, line: u64, packet: &[u8])
 }
 
 impl<W: Sink> Trace<W> {
-    /// Begins a capture: writes the header of its file.
-    pub fn begin(mut sink: W, room: Buffer<RECORD>) -> Trace<W>
-        ensures ticks { result.ticks ≡ 0 }
-        ensures kept { Keeps (unwritten (W.contents sink)) result (file_header_bytes our_header) }
+    /// Begins a capture, without a header so far.
+    pub(crate) fn unheaded(sink: W, room: Buffer<RECORD>) -> Trace<W>
+        ensures { result ≡ unwritten (W.contents sink) }
     {
-        let whole = send(&mut sink, &file_header());
         Trace {
             sink,
             room,
             ticks: 0,
-            whole,
+            whole: true,
         }
+    }
+
+    /// Writes the header of a file of this link type.
+    pub(crate) fn head(&mut self, link: LinkType)
+        ensures ticks { self.new.ticks ≡ self.old.ticks }
+        ensures kept { Keeps self.old self.new (file_header_bytes (header_for link)) }
+    {
+        if self.whole {
+            self.whole = send(&mut self.sink, &file_header(link));
+        }
+    }
+
+    /// Begins a capture of IPv4 packets: writes the header of its file.
+    pub fn begin(sink: W, room: Buffer<RECORD>) -> Trace<W>
+        ensures ticks { result.ticks ≡ 0 }
+        ensures kept { Keeps (unwritten (W.contents sink)) result (file_header_bytes our_header) }
+    {
+        let mut trace = Trace::unheaded(sink, room);
+        trace.head(LinkType::Ipv4);
+        trace
     }
 
     /// A packet passes, by the line of this number: its record is written. If that fails, nothing more is written.

@@ -2,4 +2,5 @@ mod PieceLemmas
 mod PacketLemmas
 mod StringLemmas
 mod ColourLemmas
+mod FrameLemmas
 mod ByteLemmas

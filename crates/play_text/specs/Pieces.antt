@@ -1,12 +1,15 @@
 -- Texts, piece by piece (this project's own).
-use Rattle.std.specs.Prelude.{ℕ, ◌+◌, ◌-◌, ◌*◌, ◌==◌, Bool, List, [], ◌∷◌, ◌++◌, length, codes, decimal, if◌then◌else◌, Option, Some, None}
+use Rattle.std.specs.Prelude.{ℕ, ◌+◌, ◌-◌, ◌*◌, ◌==◌, List, [], ◌∷◌, ◌++◌, length, codes, decimal, if◌then◌else◌, Option, Some, None}
+use Rattle.hex.specs.Hex.{encode_lower}
 use Rattle.params.specs.declared.TheConstants.{PROTOCOL_UDP}
+use Rattle.flat_ether.specs.Frames.{mac_bytes}
+use Rattle.flat_ether.specs.declared.mac.Mac.{Mac}
 use Rattle.flat_model.specs.Scripts.Grammar.{address_text}
 use Rattle.flat_model.specs.declared.address.Addr.{Addr}
 use Rattle.play_text.specs.Bytes.{difference, seen}
 use Rattle.play_text.specs.Strings.{string_text}
 use Rattle.play_text.specs.declared.piece.Piece.{Piece}
-use Rattle.play_text.specs.declared.piece.Piece.TheVariants.{Text, Either, Number, Long, Maybe, Amount, Address, End, Way, Range, Quoted, Reply, Apart}
+use Rattle.play_text.specs.declared.piece.Piece.TheVariants.{Text, Either, Number, Long, Maybe, Amount, Address, End, Hardware, Way, Range, Quoted, Reply, Apart}
 
 -- a number, or these bytes if there is none
 abbrev pub number_or : Option ℕ → List ℕ → List ℕ
@@ -20,6 +23,16 @@ amount n what = decimal n ++ codes " " ++ what ++ (if n == 1 then [] else codes 
 -- `10.0.0.1:7`
 abbrev pub end_text : Addr → List ℕ
 end_text a = address_text a.ip ++ codes ":" ++ decimal a.port
+
+-- bytes in two digits each, with colons between them
+abbrev pub octets_text : List ℕ → List ℕ
+octets_text [] = []
+octets_text (b ∷ []) = encode_lower (b ∷ [])
+octets_text (b ∷ c ∷ bs) = encode_lower (b ∷ []) ++ codes ":" ++ octets_text (c ∷ bs)
+
+-- `02:00:00:00:00:01`
+abbrev pub mac_text : Mac → List ℕ
+mac_text m = octets_text (mac_bytes m)
 
 abbrev pub protocol_text : ℕ → List ℕ
 protocol_text protocol = if protocol == PROTOCOL_UDP then codes "udp" else codes "protocol " ++ decimal protocol
@@ -44,6 +57,7 @@ piece_text (Maybe n none) = number_or n none.now
 piece_text (Amount n what) = amount n what.now
 piece_text (Address ip) = address_text ip
 piece_text (End end) = end_text end
+piece_text (Hardware mac) = mac_text mac
 piece_text (Way protocol source destination) = way_text protocol source destination
 piece_text (Range offset n) = range_text offset n
 piece_text (Quoted bytes) = string_text bytes.now
@@ -69,6 +83,7 @@ piece_room (Maybe n none) = length none.now + 20
 piece_room (Amount n what) = length what.now + 12
 piece_room (Address ip) = 15
 piece_room (End end) = 26
+piece_room (Hardware mac) = 17
 piece_room (Way protocol source destination) = 53
 piece_room (Range offset n) = 40
 piece_room (Quoted bytes) = 6 * length bytes.now + 2

@@ -1,9 +1,11 @@
 //! Texts, piece by piece.
-ghost use Rattle.std.specs.Prelude.{◌≡◌, ◌+◌, ◌≤◌, ◌++◌, [], length, if◌then◌else◌};
-ghost use Rattle.play_text.specs.Pieces.{amount, end_text, number_or, piece_room, piece_text, protocol_text, range_text, pieces_room, text_of, way_text};
+ghost use Rattle.std.specs.Prelude.{◌≡◌, ◌+◌, ◌≤◌, ◌++◌, [], ◌∷◌, codes, length, if◌then◌else◌};
+ghost use Rattle.hex.specs.Hex.{encode_lower};
+ghost use Rattle.play_text.specs.Pieces.{amount, end_text, mac_text, number_or, piece_room, piece_text, protocol_text, range_text, pieces_room, text_of, way_text};
 
 use crate::bytes::{ByteForm, put_apart, put_reply};
 use crate::escape::put_string;
+use flat_ether::Mac;
 use flat_model::Addr;
 use params::PROTOCOL_UDP;
 use request::{put_address, put_long};
@@ -28,6 +30,8 @@ pub enum Piece<'a> {
     Address(u32),
     /// An address and a port: `10.0.0.1:7`.
     End(Addr),
+    /// A hardware address: `02:00:00:00:00:01`.
+    Hardware(Mac),
     /// A protocol, an address that something comes from, and one that it goes to: `udp 10.0.0.1 > 10.0.0.2`.
     Way(u8, u32, u32),
     /// Which bytes of a datagram: so many from an offset on.
@@ -73,6 +77,42 @@ fn put_end<const N: usize>(text: &mut Buffer<N>, end: Addr)
     put_address(text, end.ip);
     text.append(b":");
     put_number(text, u32::from(end.port));
+}
+
+/// Puts a byte after the text, in two digits of lower case.
+fn put_octet<const N: usize>(text: &mut Buffer<N>, octet: u8)
+    requires { length text.old + 2 ≤ N }
+    ensures items { text.new ≡ text.old ++ encode_lower (octet ∷ []) }
+    ensures len { length text.new ≡ length text.old + 2 }
+{
+    let mut digits = [0; 2];
+    let _ = hex::encode_to_slice([octet], &mut digits);
+    text.append(&digits);
+}
+
+/// Puts a byte after the text, and a colon behind it.
+fn put_octet_of_more<const N: usize>(text: &mut Buffer<N>, octet: u8)
+    requires { length text.old + 3 ≤ N }
+    ensures items { text.new ≡ text.old ++ (encode_lower (octet ∷ []) ++ codes ":") }
+    ensures len { length text.new ≡ length text.old + 3 }
+{
+    put_octet(text, octet);
+    text.append(b":");
+}
+
+/// Puts a hardware address after the text.
+fn put_mac<const N: usize>(text: &mut Buffer<N>, mac: Mac)
+    requires { length text.old + 17 ≤ N }
+    ensures items { text.new ≡ text.old ++ mac_text mac }
+    ensures len { length text.new ≤ length text.old + 17 }
+{
+    let (upper, lower) = (mac.low / 65_536, mac.low % 65_536);
+    put_octet_of_more(text, (mac.high / 256) as u8);
+    put_octet_of_more(text, (mac.high % 256) as u8);
+    put_octet_of_more(text, (upper / 256) as u8);
+    put_octet_of_more(text, (upper % 256) as u8);
+    put_octet_of_more(text, (lower / 256) as u8);
+    put_octet(text, (lower % 256) as u8);
 }
 
 /// Puts a protocol after the text: its name if it's UDP, else its number.
@@ -134,6 +174,7 @@ fn put_piece<const N: usize>(text: &mut Buffer<N>, piece: &Piece<'_>)
         Piece::Amount(n, what) => put_amount(text, n, what),
         Piece::Address(ip) => put_address(text, ip),
         Piece::End(end) => put_end(text, end),
+        Piece::Hardware(mac) => put_mac(text, mac),
         Piece::Way(protocol, source, destination) => put_way(text, protocol, source, destination),
         Piece::Range(offset, n) => put_range(text, offset, n),
         Piece::Quoted(bytes) => put_string(text, bytes),
@@ -143,8 +184,9 @@ fn put_piece<const N: usize>(text: &mut Buffer<N>, piece: &Piece<'_>)
 }
 
 /// Puts pieces after the text, one after another. There must be room for all of them: for each its bytes, 10 for a
-/// number and 20 for a long one, 12 more than its word for an amount, 15, 26 and 53 for an address, an end and a way,
-/// 40 for a range, six for each byte of a string and two more, two more for a reply, and 48 for a difference.
+/// number and 20 for a long one, 12 more than its word for an amount, 15, 26, 17 and 53 for an address, an end, a
+/// hardware address and a way, 40 for a range, six for each byte of a string and two more, two more for a reply, and 48
+/// for a difference.
 pub fn put<const N: usize>(text: &mut Buffer<N>, pieces: &[Piece<'_>])
     requires { length text.old + pieces_room pieces.now ≤ N }
     ensures items { text.new ≡ text.old ++ text_of pieces.now }

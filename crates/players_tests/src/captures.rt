@@ -136,7 +136,7 @@ fn reads_the_other_order_and_nanoseconds(rt: HostRuntime) -> Result<(), Fail> {
 
 #[test]
 fn writes_as_scapy_and_tcpdump_do(rt: HostRuntime) -> Result<(), Fail> {
-    let mut file = file_header().to_vec(rt.alloc())?;
+    let mut file = file_header(LinkType::Ipv4).to_vec(rt.alloc())?;
     file.extend_from_slice(&record_header(1_700_000_000, 123_456, 30))?;
     file.extend_from_slice(packet())?;
     file.extend_from_slice(&record_header(0, 0, 0))?;

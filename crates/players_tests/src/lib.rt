@@ -7,6 +7,8 @@ mod capture_files;
 #[cfg(test)]
 mod captures;
 #[cfg(test)]
+mod frames;
+#[cfg(test)]
 mod lines;
 #[cfg(test)]
 mod packets;

@@ -1,7 +1,7 @@
 //! Lines that ask for a capture, and captures that are written, by the public calls alone. tshark 4.0 reads `WRITTEN`
 //! without a fault; its bytes are those of pcap-savefile(5), put together by hand.
-use pcap::{Fault, Why};
-use play_pcap::{CaptureFault, OUTCOME, Range, Tally, Trace, ask_of, put_outcome};
+use pcap::{Fault, LinkType, Why};
+use play_pcap::{CaptureFault, OUTCOME, Range, Tally, Trace, WireTrace, ask_of, put_outcome};
 use script_loop::{Buffer, Sink};
 use std::alloc::Global;
 use std::io::{self, Write};
@@ -145,6 +145,53 @@ fn writes_nothing_after_a_write_that_failed(rt: HostRuntime) {
         };
         let (whole, sink) = write_both(&rt, rt.alloc(), sink);
         let is_front = WRITTEN.as_slice().starts_with(sink.bytes.as_slice());
+        assert!(rt; !whole && is_front && sink.bytes.len() == *room, "{room}");
+    }
+}
+
+/// An ARP request, as scapy 2.5.0 makes it.
+static REQUEST: [u8; 42] = [
+    255, 255, 255, 255, 255, 255, 2, 0, 0, 0, 0, 1, 8, 6, 0, 1, 8, 0, 6, 4, 0, 1, 2, 0, 0, 0, 0, 1,
+    10, 0, 0, 1, 0, 0, 0, 0, 0, 0, 10, 0, 0, 2,
+];
+
+/// Little endian, microseconds, Ethernet: the request at 0.500003 seconds.
+static FRAMED: [u8; 82] = [
+    212, 195, 178, 161, 2, 0, 4, 0, 0, 0, 0, 0, 0, 0, 0, 0, 255, 255, 0, 0, 1, 0, 0, 0, 0, 0, 0, 0,
+    35, 161, 7, 0, 42, 0, 0, 0, 42, 0, 0, 0, 255, 255, 255, 255, 255, 255, 2, 0, 0, 0, 0, 1, 8, 6,
+    0, 1, 8, 0, 6, 4, 0, 1, 2, 0, 0, 0, 0, 1, 10, 0, 0, 1, 0, 0, 0, 0, 0, 0, 10, 0, 0, 2,
+];
+
+/// Writes so many frames of a wire on which link types were chosen: one after the other before the first frame, and one
+/// behind each. Answers whether all was written, and the writer.
+fn write_wire<W: Sink>(rt: &impl Abort, alloc: Global, sink: W, frames: u32) -> (bool, W) {
+    let room = Buffer::new(alloc).expect(rt, "memory");
+    let mut trace = WireTrace::begin(LinkType::Ipv4, sink, room);
+    trace.choose(LinkType::Raw);
+    trace.tick();
+    trace.choose(LinkType::Ethernet);
+    for _ in 0..frames {
+        trace.keep(3, &REQUEST);
+        trace.choose(LinkType::Ipv4);
+    }
+    let still_whole = trace.is_whole();
+    let (sink, whole) = trace.end();
+    (whole && still_whole, sink)
+}
+
+#[test]
+fn writes_frames_behind_a_header_of_their_link_type(rt: HostRuntime) {
+    let (whole, file) = write_wire(&rt, rt.alloc(), Vec::<u8>::new(rt.alloc()), 1);
+    assert!(rt; whole && file.as_slice() == FRAMED.as_slice());
+    let (whole, file) = write_wire(&rt, rt.alloc(), Vec::<u8>::new(rt.alloc()), 0);
+    assert!(rt; whole && file.as_slice() == &FRAMED[..24]);
+    for room in [0, 23, 24, 81].iter() {
+        let sink = Short {
+            left: *room,
+            bytes: Vec::new(rt.alloc()),
+        };
+        let (whole, sink) = write_wire(&rt, rt.alloc(), sink, 2);
+        let is_front = FRAMED.as_slice().starts_with(sink.bytes.as_slice());
         assert!(rt; !whole && is_front && sink.bytes.len() == *room, "{room}");
     }
 }

@@ -1,0 +1,215 @@
+//! A frame in words.
+ghost use Rattle.std.specs.Prelude.{◌≡◌, ◌+◌, ◌≤◌, ◌++◌, length};
+ghost use Rattle.params.specs.declared.TheConstants.{IP_MAX_PACKET};
+ghost use Rattle.flat_model.specs.Packets.Header as numbers;
+ghost use Rattle.flat_ether.specs.Frames as frames;
+ghost use Rattle.flat_ether.specs.declared.sizes.TheConstants.{ARP_BYTES, ETHER_HEADER};
+ghost use Rattle.play_text.specs.Frames as texts;
+
+use crate::packet::put_packet;
+use crate::piece::Piece::{Address, Amount, Hardware, Text};
+use crate::piece::put;
+use flat_ether::{
+    ARP_BYTES, ARP_REPLY, ARP_REQUEST, Arp, ETHER_HEADER, ETHER_TYPE_ARP, ETHER_TYPE_IP, Mac,
+};
+use flat_plain::u16_at;
+use script_loop::Buffer;
+
+/// Hardware type 1, Ethernet (RFC 826).
+const HARDWARE_ETHERNET: u16 = 1;
+
+/// The lengths of both kinds of address, 6 and 4 bytes.
+const LENGTHS: u16 = 0x0604;
+
+/// The number in the four bytes from a place on.
+fn u32_at(bytes: &[u8], at: usize) -> u32
+    requires { at + 4 ≤ length bytes.now }
+    ensures { result ≡ numbers.u32_at at bytes.now }
+{
+    65_536 * u32::from(u16_at(bytes, at)) + u32::from(u16_at(bytes, at + 2))
+}
+
+/// The hardware address in the six bytes from a place on.
+fn mac_at(bytes: &[u8], at: usize) -> Mac
+    requires { at + 6 ≤ length bytes.now }
+    ensures { result ≡ frames.mac_at at bytes.now }
+{
+    Mac {
+        high: u16_at(bytes, at),
+        low: u32_at(bytes, at + 2),
+    }
+}
+
+/// Whether an ARP packet is a request or a reply, of Ethernet and IPv4.
+fn is_arp(body: &[u8]) -> bool
+    ensures { result ≡ frames.is_arp body.now }
+{
+    if body.len() < ARP_BYTES as usize {
+        return false;
+    }
+    let op = u16_at(body, 6);
+    u16_at(body, 0) == HARDWARE_ETHERNET
+        && u16_at(body, 2) == ETHER_TYPE_IP
+        && u16_at(body, 4) == LENGTHS
+        && (op == ARP_REQUEST || op == ARP_REPLY)
+}
+
+/// What an ARP packet says.
+fn arp_of(body: &[u8]) -> Arp
+    requires { ARP_BYTES ≤ length body.now }
+    ensures { result ≡ frames.arp_of body.now }
+{
+    Arp {
+        op: u16_at(body, 6),
+        mac: mac_at(body, 8),
+        ip: u32_at(body, 14),
+        target: u32_at(body, 24),
+    }
+}
+
+/// Puts what a request or a reply says after the text.
+fn put_says<const N: usize>(text: &mut Buffer<N>, arp: Arp)
+    requires { length text.old + 174 ≤ N }
+    ensures items { text.new ≡ text.old ++ texts.arp_says arp }
+    ensures len { length text.new ≤ length text.old + 174 }
+{
+    if arp.op == ARP_REQUEST {
+        put(
+            text,
+            &[
+                Text(b"ARP who has "),
+                Address(arp.target),
+                Text(b", tell "),
+                Address(arp.ip),
+            ],
+        );
+    } else {
+        put(
+            text,
+            &[
+                Text(b"ARP "),
+                Address(arp.ip),
+                Text(b" is at "),
+                Hardware(arp.mac),
+            ],
+        );
+    }
+}
+
+/// Puts an ARP packet after the text.
+fn put_arp<const N: usize>(text: &mut Buffer<N>, body: &[u8])
+    requires frame { length body.now ≤ IP_MAX_PACKET }
+    requires room { length text.old + 174 ≤ N }
+    ensures items { text.new ≡ text.old ++ texts.arp_text body.now }
+    ensures len { length text.new ≤ length text.old + 174 }
+{
+    if is_arp(body) {
+        put_says(text, arp_of(body));
+    } else {
+        put(
+            text,
+            &[
+                Text(b"ARP of "),
+                Amount(body.len() as u32, b"byte"),
+                Text(b", no request or reply for IPv4"),
+            ],
+        );
+    }
+}
+
+/// Puts so many bytes of another type after the text.
+fn put_other_type<const N: usize>(text: &mut Buffer<N>, kind: u16, n: u32)
+    requires { length text.old + 174 ≤ N }
+    ensures items { text.new ≡ text.old ++ texts.other_type_text kind n }
+    ensures len { length text.new ≤ length text.old + 174 }
+{
+    let mut digits = [0; 4];
+    let _ = hex::encode_to_slice([(kind / 256) as u8, (kind % 256) as u8], &mut digits);
+    put(
+        text,
+        &[
+            Text(b"type 0x"),
+            Text(&digits),
+            Text(b", "),
+            Amount(n, b"byte"),
+        ],
+    );
+}
+
+/// Puts what a frame of this type carries after the text.
+fn put_body<const N: usize>(text: &mut Buffer<N>, kind: u16, body: &[u8])
+    requires frame { length body.now ≤ IP_MAX_PACKET }
+    requires room { length text.old + 174 ≤ N }
+    ensures items { text.new ≡ text.old ++ texts.body_text kind body.now }
+    ensures len { length text.new ≤ length text.old + 174 }
+{
+    if kind == ETHER_TYPE_IP {
+        put_packet(text, body);
+    } else if kind == ETHER_TYPE_ARP {
+        put_arp(text, body);
+    } else {
+        put_other_type(text, kind, body.len() as u32);
+    }
+}
+
+/// What stands behind the header of a frame.
+#[tactic(auto, using(crate::proofs::FrameLemmas::rest_is))]
+fn body_of(frame: &[u8]) -> &[u8]
+    requires { ETHER_HEADER ≤ length frame.now }
+    ensures { result.now ≡ frames.body_of frame.now }
+{
+    &frame[ETHER_HEADER as usize..]
+}
+
+/// Puts a source and a destination after the text.
+fn put_frame_way<const N: usize>(text: &mut Buffer<N>, source: Mac, destination: Mac)
+    requires { length text.old + 38 ≤ N }
+    ensures items { text.new ≡ text.old ++ texts.frame_way_text source destination }
+    ensures len { length text.new ≤ length text.old + 38 }
+{
+    put(
+        text,
+        &[
+            Hardware(source),
+            Text(b" > "),
+            Hardware(destination),
+            Text(b" "),
+        ],
+    );
+}
+
+/// Puts a frame that has a header after the text.
+fn put_headed<const N: usize>(text: &mut Buffer<N>, frame: &[u8])
+    requires header { ETHER_HEADER ≤ length frame.now }
+    requires frame { length frame.now ≤ IP_MAX_PACKET + ETHER_HEADER }
+    requires room { length text.old + 214 ≤ N }
+    ensures items { text.new ≡ text.old ++ texts.headed_frame_text frame.now }
+    ensures len { length text.new ≤ length text.old + 214 }
+{
+    put_frame_way(text, mac_at(frame, 6), mac_at(frame, 0));
+    put_body(text, u16_at(frame, 12), body_of(frame));
+}
+
+/// Puts after the text what a frame says (RFC 894): its source and its destination, as `02:00:00:00:00:01 >
+/// ff:ff:ff:ff:ff:ff`, and behind them its packet as [`put_packet`] has it; or of an ARP packet (RFC 826) that is a
+/// request `ARP who has 10.0.0.2, tell 10.0.0.1`, and of a reply `ARP 10.0.0.2 is at 02:00:00:00:00:02`; or another
+/// type and how many bytes stand behind the header. Of a frame of fewer than 14 bytes, how many it has is told. A frame
+/// has 65,549 bytes at most. There must be room for 214 bytes.
+pub fn put_frame<const N: usize>(text: &mut Buffer<N>, frame: &[u8])
+    requires frame { length frame.now ≤ IP_MAX_PACKET + ETHER_HEADER }
+    requires room { length text.old + 214 ≤ N }
+    ensures items { text.new ≡ text.old ++ texts.frame_text frame.now }
+    ensures len { length text.new ≤ length text.old + 214 }
+{
+    if frame.len() < ETHER_HEADER as usize {
+        put(
+            text,
+            &[
+                Amount(frame.len() as u32, b"byte"),
+                Text(b" without a header of 14"),
+            ],
+        );
+    } else {
+        put_headed(text, frame);
+    }
+}
