@@ -4,7 +4,7 @@ use Rattle.play_text.specs.Bytes.{begins_with, seen}
 use Rattle.play_text.specs.declared.bytes.ByteForm.{ByteForm}
 use Rattle.play_text.specs.declared.bytes.ByteForm.TheVariants.{Digits, Cut, Texts}
 use Rattle.play_text.specs.declared.form.Form.{Form}
-use Rattle.play_text.specs.declared.form.Form.TheVariants.{Quiet, Coloured, QuietColoured, Json}
+use Rattle.play_text.specs.declared.form.Form.TheVariants.{Plain, Quiet, Coloured, QuietColoured, Json}
 
 -- replies and differences alone
 abbrev pub is_quiet : Form → Bool
