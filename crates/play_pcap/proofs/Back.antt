@@ -3,6 +3,7 @@ use Rattle.std.proofs.Common.{◌≡◌, ℕ, zero, suc, ◌≤◌, ◌||◌, Bo
 use Rattle.std.specs.List.{AllByRecursion}
 use Rattle.std.specs.Int.{w16}
 use Rattle.std.proofs.lemmas.Bool.{le-ltb}
+use Rattle.flat_model.specs.Machine.Count.{more_by}
 use Rattle.flat_model.specs.Machine.Event.{Event, Comes}
 use Rattle.pcap.specs.File.{IsHeader, file_header_bytes, header_for, our_header, number_of}
 use Rattle.pcap.specs.Frames.{unpadded}
@@ -10,7 +11,8 @@ use Rattle.pcap.specs.Records.{FitsFields, Reads, Whole, records_bytes}
 use Rattle.pcap.specs.declared.header.Order.TheVariants.{Big}
 use Rattle.pcap.specs.declared.link_type.LinkType.{LinkType}
 use Rattle.pcap.specs.declared.link_type.LinkType.TheVariants.{Null, Ethernet, Raw, Loop, LinuxCooked, Ipv4, LinuxCooked2}
-use Rattle.play_pcap.specs.Events.{record_events, played, taken}
+use Rattle.play_pcap.specs.Acts.{act_event}
+use Rattle.play_pcap.specs.Events.{record_acts, played, taken}
 use Rattle.play_pcap.specs.Traces.{IsPass, Pass, file_of, passes_bytes, record_of}
 
 header_is : (link : LinkType) → IsHeader (header_for link)
@@ -63,14 +65,18 @@ whole_packet bytes short =
     let small : length (unpadded bytes) ≤ 65_535 = omega (arith, not_longer bytes) in
     let no : ltb 65_535 (length (unpadded bytes)) ≡ false = le-ltb _ _ small in rw no refl
 
-plays : (begin : ℕ) (ps : List Pass) → AllByRecursion IsPass ps
-    → record_events (record { header = our_header; ticks = false; begin = begin }) 0 (map record_of ps)
+plays : (begin origin number : ℕ) (ps : List Pass) → AllByRecursion IsPass ps
+    → map act_event
+    (record_acts (record { header = our_header; origin = origin; ticks = false; begin = begin }) number 0
+    (map record_of ps))
     ≡ map (λ (p : Pass). Comes (unpadded p.packet)) ps
-unfolding record_events
-plays begin [] h = refl
-plays begin (p ∷ ps) h =
-    rw (whole_packet p.packet h.0.short) (ap (λ (es : List Event). Comes (unpadded p.packet) ∷ es) (plays begin ps h.1))
+unfolding record_acts
+plays begin origin number [] h = refl
+plays begin origin number (p ∷ ps) h =
+    rw (whole_packet p.packet h.0.short)
+    (ap (λ (es : List Event). Comes (unpadded p.packet) ∷ es) (plays begin origin (more_by 1 number) ps h.1))
 
-pub played_back : (ps : List Pass) → AllByRecursion IsPass ps
-    → played false our_header (file_of Ipv4 ps).records ≡ map (λ (p : Pass). Comes (unpadded p.packet)) ps
-played_back ps h = plays _ ps h
+pub played_back : (origin number : ℕ) (ps : List Pass) → AllByRecursion IsPass ps
+    → map act_event (played false our_header origin number (file_of Ipv4 ps).records)
+    ≡ map (λ (p : Pass). Comes (unpadded p.packet)) ps
+played_back origin number ps h = plays _ origin number ps h

@@ -1,13 +1,13 @@
 -- A file that was read, and played.
-use Rattle.std.proofs.Common.{◌≡◌, ℕ, ◌-◌, List, length, take, drop, map, Option, Some, None, Ok, refl, sym, ap, ◌∙◌, subst, arith}
+use Rattle.std.proofs.Common.{◌≡◌, ℕ, ◌-◌, List, length, take, drop, map, Option, Some, None, Ok, refl, sym, ap, ap₂, ◌∙◌, subst, arith}
 use Rattle.std.proofs.lemmas.List.{length-map, drop-map}
 use Rattle.std.specs.List.{take-map}
-use Rattle.flat_model.specs.Machine.Event.{Event}
-use Rattle.pcap.specs.Records.{Captured, Reads}
+use Rattle.pcap.specs.Records.{Reads}
 use Rattle.pcap.specs.Seen.{captured}
 use Rattle.pcap.specs.declared.header.Header.{Header}
 use Rattle.pcap.specs.declared.reader.Record.{Record}
-use Rattle.play_pcap.specs.Events.{Goes, HasRange, PlaysFile, played, selected, tally_of}
+use Rattle.play_pcap.specs.Acts.{Act}
+use Rattle.play_pcap.specs.Events.{Goes, HasRange, PlaysFile, begin_of, capture_acts, first_of, record_acts, selected, tally_of}
 use Rattle.play_pcap.specs.declared.ask.Details.{Details}
 use Rattle.play_pcap.specs.declared.ask.Range.{Range}
 use Rattle.play_pcap.specs.declared.moves.Tally.{Tally}
@@ -31,22 +31,29 @@ selected_seen (Some r) rs =
     sym (ap (take (r.last - (r.first - 1))) (drop-map captured (r.first - 1) rs)
     ∙ take-map captured (r.last - (r.first - 1)) (drop (r.first - 1) rs))
 
-pub played_file : {S : Type 0} (go : S → Event → S → Type 0) (d : Details) (file : List ℕ) (h : Header)
-    (items slice part : List Record) (t : Tally) (a b : S)
+-- the acts of records, by the parts of their course
+abbrev pub acts_of : Details → Header → ℕ → ℕ → ℕ → List Record → List Act
+acts_of d h origin begin number part =
+    record_acts (record { header = h; origin = origin; ticks = d.ticks; begin = begin }) number 0 (map captured part)
+
+pub played_file : {S : Type 0} (go : S → Act → S → Type 0) (d : Details) (file : List ℕ) (h : Header)
+    (items slice part : List Record) (origin begin number : ℕ) (t : Tally) (a b : S)
     → Reads file (Ok (record { header = h; records = map captured items })) → slice ≡ items
-    → HasRange d.range (length slice)
-    → part ≡ selected d.range slice → Goes go (played d.ticks h (map captured part)) a b
-    → t ≡ tally_of (length part) (played d.ticks h (map captured part)) → PlaysFile go d file (Ok t) a b
-played_file go d file h items slice part t a b reads same range chosen goes tally =
+    → HasRange d.range (length slice) → part ≡ selected d.range slice
+    → origin ≡ begin_of h (map captured slice) → begin ≡ begin_of h (map captured part) → number ≡ first_of d.range
+    → Goes go (acts_of d h origin begin number part) a b
+    → t ≡ tally_of (length part) (acts_of d h origin begin number part) → PlaysFile go d file (Ok t) a b
+played_file go d file h items slice part origin begin number t a b reads same range chosen from starts first goes tally =
+    let all : map captured slice ≡ map captured items = ap (map captured) same in
     let is : map captured part ≡ selected d.range (map captured items) =
     ap (map captured) (chosen ∙ ap (selected d.range) same) ∙ selected_seen d.range items in
     let len : length part ≡ length (selected d.range (map captured items)) =
-    sym (length-map part captured) ∙ ap length is in (
+    sym (length-map part captured) ∙ ap length is in
+    let acts : acts_of d h origin begin number part ≡ capture_acts d (record { header = h; records = map captured items }) =
+    rw (first, from, starts, all, is) refl in (
       record { header = h; records = map captured items },
       reads,
       range_on d.range items slice same range,
-      subst (λ (cs : List Captured). Goes go (played d.ticks h cs) a b) is goes,
-      tally ∙ ap (λ (n : ℕ). tally_of n (played d.ticks h (map captured part))) len
-          ∙ ap (λ (cs : List Captured). tally_of (length (selected d.range (map captured items))) (played d.ticks h cs))
-          is,
+      subst (λ (done : List Act). Goes go done a b) acts goes,
+      tally ∙ ap₂ (λ (n : ℕ) (done : List Act). tally_of n done) len acts,
     )

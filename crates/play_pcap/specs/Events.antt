@@ -1,7 +1,7 @@
 -- What a capture does that is played in (this project's own).
 use Rattle.std.specs.Prelude.{◌≡◌, ℕ, ◌+◌, ◌-◌, ◌/◌, ◌<◌, ◌≤◌, suc, Bool, List, [], ◌∷◌, ◌++◌, length, take, drop, map, min, max, replicate, nat_lt, if◌then◌else◌, Option, Some, None, Result, Ok, Err}
 use Rattle.std.specs.Borrow.{Bor}
-use Rattle.flat_model.specs.Machine.Event.{Event, Comes, Tick}
+use Rattle.flat_model.specs.Machine.Count.{more_by}
 use Rattle.pcap.specs.Frames.{packet_in_frame}
 use Rattle.pcap.specs.Records.{Captured, Reads, Whole, nanoseconds}
 use Rattle.pcap.specs.Seen.{captured}
@@ -9,6 +9,7 @@ use Rattle.pcap.specs.declared.header.Header.{Header}
 use Rattle.pcap.specs.declared.link.NoPacket.{NoPacket}
 use Rattle.pcap.specs.declared.reader.Record.{Record}
 use Rattle.pcap.specs.declared.link_type.LinkType.{LinkType}
+use Rattle.play_pcap.specs.Acts.{Act, Arrives, Passes}
 use Rattle.play_pcap.specs.declared.ask.Details.{Details}
 use Rattle.play_pcap.specs.declared.ask.Range.{Range}
 use Rattle.play_pcap.specs.declared.fault.CaptureFault.{CaptureFault}
@@ -17,6 +18,7 @@ use Rattle.play_pcap.specs.declared.moves.Course.{Course}
 use Rattle.play_pcap.specs.declared.moves.Move.{Move}
 use Rattle.play_pcap.specs.declared.moves.Moves.{Moves}
 use Rattle.play_pcap.specs.declared.moves.Tally.{Tally}
+use Rattle.play_pcap.specs.declared.wire.RecordPlace.{RecordPlace}
 
 -- ---- a record
 
@@ -41,24 +43,33 @@ time_of h c = nanoseconds h.resolution c.seconds c.fraction
 abbrev pub due : Course → Captured → ℕ
 due k c = if k.ticks then min ((time_of k.header c - k.begin) / 500_000_000) 65_535 else 0
 
+-- the place of the record of this number: its time counts from the capture's first record
+abbrev pub record_place : Course → ℕ → Captured → RecordPlace
+record_place k number c = record { number = number; time = time_of k.header c - k.origin }
+
 -- ---- all records
 
 -- what a record's packet adds in front of what follows it, or of what follows a record without one
-abbrev pub put_before : Option (List ℕ) → ℕ → List Event → List Event → List Event
-put_before (Some packet) n after skipped = replicate n Tick ++ Comes packet ∷ after
-put_before None n after skipped = skipped
+abbrev pub put_before : Option (List ℕ) → RecordPlace → ℕ → List Act → List Act → List Act
+put_before (Some packet) place n after skipped = replicate n Passes ++ Arrives place packet ∷ after
+put_before None place n after skipped = skipped
 
--- what the records do after so many ticks
-unfoldable pub record_events : Course → ℕ → List Captured → List Event
-record_events k passed [] = []
-record_events k passed (c ∷ cs) =
-    put_before (packet_in_record k.header.link c.bytes) (due k c - passed) (record_events k (max passed (due k c)) cs)
-    (record_events k passed cs)
+-- what the records do from the one of this number on, after so many ticks
+unfoldable pub record_acts : Course → ℕ → ℕ → List Captured → List Act
+record_acts k number passed [] = []
+record_acts k number passed (c ∷ cs) =
+    put_before (packet_in_record k.header.link c.bytes) (record_place k number c) (due k c - passed)
+    (record_acts k (more_by 1 number) (max passed (due k c)) cs) (record_acts k (more_by 1 number) passed cs)
 
 -- the records that are asked for
 abbrev pub selected : {A : Type 0} → Option Range → List A → List A
 selected None xs = xs
 selected (Some r) xs = take (r.last - (r.first - 1)) (drop (r.first - 1) xs)
+
+-- the number of the first of them
+abbrev pub first_of : Option Range → ℕ
+first_of None = 1
+first_of (Some r) = r.first
 
 abbrev pub IsOrdered : Option Range → Type 0
 IsOrdered None = Unit {0}
@@ -73,16 +84,18 @@ abbrev pub begin_of : Header → List Captured → ℕ
 begin_of h [] = 0
 begin_of h (c ∷ cs) = time_of h c
 
-abbrev pub course_of : Bool → Header → List Captured → Course
-course_of ticks h cs = record { header = h; ticks = ticks; begin = begin_of h cs }
+-- of a capture whose first record has the time `origin`
+abbrev pub course_of : Bool → Header → ℕ → List Captured → Course
+course_of ticks h origin cs = record { header = h; ticks = ticks; origin = origin; begin = begin_of h cs }
 
--- what these records of a capture do
-abbrev pub played : Bool → Header → List Captured → List Event
-played ticks h cs = record_events (course_of ticks h cs) 0 cs
+-- what these records of a capture do, of which the first has this number
+abbrev pub played : Bool → Header → ℕ → ℕ → List Captured → List Act
+played ticks h origin number cs = record_acts (course_of ticks h origin cs) number 0 cs
 
--- what a capture does, one event after another: packets come, and ticks pass
-abbrev pub capture_events : Details → Whole → List Event
-capture_events d w = played d.ticks w.header (selected d.range w.records)
+-- what a capture does, one act after another: packets come, and ticks pass
+abbrev pub capture_acts : Details → Whole → List Act
+capture_acts d w =
+    played d.ticks w.header (begin_of w.header w.records) (first_of d.range) (selected d.range w.records)
 
 -- the records that were chosen out of all, or there are fewer
 abbrev pub Selects : Option Range → List Record → Option (Bor (List Record)) → Type 0
@@ -93,49 +106,50 @@ Selects range rs (Some part) = HasRange range (length rs) × (part.now ≡ selec
 
 pub record Going : Type 0 where
   pub course : Course
+  pub number : ℕ
   pub passed : ℕ
   pub rest : List Captured
 
 abbrev pub going : Moves → Going
-going m = record { course = m.course; passed = m.passed; rest = map captured m.rest.now }
+going m = record { course = m.course; number = m.number; passed = m.passed; rest = map captured m.rest.now }
 
-abbrev pub events_left : Going → List Event
-events_left g = record_events g.course g.passed g.rest
+abbrev pub acts_left : Going → List Act
+acts_left g = record_acts g.course g.number g.passed g.rest
 
 -- the next packet with its ticks, and what is left behind it
 abbrev pub Moves_on : Going → Option Move → Going → Type 0
-Moves_on old None new = (events_left old ≡ []) × (new.passed ≡ old.passed)
+Moves_on old None new = (acts_left old ≡ []) × (new.passed ≡ old.passed)
 Moves_on old (Some m) new =
-    (events_left old ≡ replicate m.ticks Tick ++ Comes m.packet.now ∷ events_left new) × (length m.packet.now ≤ 65_535)
-    × (new.passed ≡ old.passed + m.ticks) × (length new.rest < length old.rest)
+    (acts_left old ≡ replicate m.ticks Passes ++ Arrives m.place m.packet.now ∷ acts_left new)
+    × (length m.packet.now ≤ 65_535) × (new.passed ≡ old.passed + m.ticks) × (length new.rest < length old.rest)
 
 -- ---- what came of it
 
 -- how many packets came, and how many ticks passed
-abbrev pub came : List Event → ℕ
+abbrev pub came : List Act → ℕ
 came [] = 0
-came (Comes packet ∷ es) = suc (came es)
-came (e ∷ es) = came es
+came (Arrives place packet ∷ acts) = suc (came acts)
+came (Passes ∷ acts) = came acts
 
-abbrev pub ticks_in : List Event → ℕ
+abbrev pub ticks_in : List Act → ℕ
 ticks_in [] = 0
-ticks_in (Tick ∷ es) = suc (ticks_in es)
-ticks_in (e ∷ es) = ticks_in es
+ticks_in (Arrives place packet ∷ acts) = ticks_in acts
+ticks_in (Passes ∷ acts) = suc (ticks_in acts)
 
-abbrev pub tally_of : ℕ → List Event → Tally
-tally_of n es = record { packets = came es; others = n - came es; ticks = ticks_in es }
+abbrev pub tally_of : ℕ → List Act → Tally
+tally_of n acts = record { packets = came acts; others = n - came acts; ticks = ticks_in acts }
 
--- the events happen one after another
-abbrev pub Goes : {S : Type 0} → (S → Event → S → Type 0) → List Event → S → S → Type 0
+-- the acts happen one after another
+abbrev pub Goes : {S : Type 0} → (S → Act → S → Type 0) → List Act → S → S → Type 0
 Goes go [] old new = new ≡ old
-Goes {S = S} go (e ∷ es) old new = (mid : S) × go old e mid × Goes go es mid new
+Goes {S = S} go (act ∷ acts) old new = (mid : S) × go old act mid × Goes go acts mid new
 
 -- What playing a file in does: all that its records do, or nothing at all.
-abbrev pub PlaysFile : {S : Type 0} → (S → Event → S → Type 0) → Details → List ℕ → Result Tally CaptureFault → S → S
+abbrev pub PlaysFile : {S : Type 0} → (S → Act → S → Type 0) → Details → List ℕ → Result Tally CaptureFault → S → S
     → Type 0
 PlaysFile go d file (Ok tally) old new =
-    (w : Whole) × Reads file (Ok w) × HasRange d.range (length w.records) × Goes go (capture_events d w) old new
-    × (tally ≡ tally_of (length (selected d.range w.records)) (capture_events d w))
+    (w : Whole) × Reads file (Ok w) × HasRange d.range (length w.records) × Goes go (capture_acts d w) old new
+    × (tally ≡ tally_of (length (selected d.range w.records)) (capture_acts d w))
 PlaysFile go d file (Err (Bad fault)) old new = Reads file (Err fault) × (new ≡ old)
 PlaysFile go d file (Err TooFew) old new =
     (w : Whole) × Reads file (Ok w) × (HasRange d.range (length w.records) → ⊥) × (new ≡ old)

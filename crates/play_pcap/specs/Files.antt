@@ -1,7 +1,7 @@
 -- Captures by the names of their files (this project's own).
 use Rattle.std.specs.Prelude.{◌≡◌, ◌⊎◌, ℕ, List, Result, Err}
-use Rattle.flat_model.specs.Machine.Event.{Event}
 use Rattle.flat_model.specs.Scripts.Grammar.{IsHex}
+use Rattle.play_pcap.specs.Acts.{Act}
 use Rattle.play_pcap.specs.Events.{PlaysFile}
 use Rattle.play_pcap.specs.declared.ask.Details.{Details}
 use Rattle.play_pcap.specs.declared.fault.CaptureFault.{CaptureFault}
@@ -28,7 +28,7 @@ IsUnread _ = Unit {0}
 
 -- What a line does that asks for the capture in the file that a word names: what playing that file in does; or nothing
 -- at all, if it can't be read.
-abbrev pub PlaysNamed : {S : Type 0} → (List ℕ → List ℕ → Type 0) → (S → Event → S → Type 0) → Details → List ℕ
+abbrev pub PlaysNamed : {S : Type 0} → (List ℕ → List ℕ → Type 0) → (S → Act → S → Type 0) → Details → List ℕ
     → Result Tally CaptureFault → S → S → Type 0
 PlaysNamed has go d word outcome old new =
     ((file : List ℕ) × IsHad has word file × PlaysFile go d file outcome old new)

@@ -1,3 +1,4 @@
+pub mod Acts
 pub mod Asks
 pub mod Events
 pub mod Files

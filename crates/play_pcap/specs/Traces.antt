@@ -1,12 +1,14 @@
 -- The capture of a run: the packets that came and went (this project's own).
-use Rattle.std.specs.Prelude.{◌≡◌, ℕ, ◌+◌, ◌-◌, ◌*◌, ◌/◌, ◌%◌, ◌^◌, ◌<◌, ◌≤◌, Bool, true, false, List, [], ◌++◌, length, map, min, codes, if◌then◌else◌, Option}
+use Rattle.std.specs.Prelude.{◌≡◌, ℕ, ◌+◌, ◌-◌, ◌*◌, ◌/◌, ◌%◌, ◌^◌, ◌<◌, ◌≤◌, Bool, true, false, List, [], ◌++◌, length, map, min, codes, decimal, if◌then◌else◌, Option}
 use Rattle.std.specs.Io.KnownBytes.{Appends}
-use Rattle.flat_model.specs.Machine.Event.{Event, Comes, Tick}
 use Rattle.flat_model.specs.Scripts.Texts.{hex_text}
 use Rattle.pcap.specs.File.{file_header_bytes, header_for}
 use Rattle.pcap.specs.Records.{Captured, Whole, record_bytes, records_bytes}
 use Rattle.pcap.specs.declared.header.Order.TheVariants.{Little}
 use Rattle.pcap.specs.declared.link_type.LinkType.{LinkType}
+use Rattle.play_pcap.specs.Acts.{Act, Arrives, Passes}
+use Rattle.play_pcap.specs.declared.wire.RecordPlace.{RecordPlace}
+use Rattle.play_records.specs.Times.{time_text}
 
 -- how many ticks have passed, whether each record so far was written whole, and what the writer holds, where it tells
 pub record Traced : Type 0 where
@@ -83,8 +85,12 @@ header_due t = if t.headed then [] else file_header_bytes (header_for t.link)
 
 -- ---- a capture as a script
 
--- the line of a script that asks for this
-abbrev pub event_line : Event → List ℕ
-event_line (Comes packet) = codes "rx " ++ hex_text packet ++ codes "\n"
-event_line Tick = codes "tick\n"
-event_line _ = []
+-- a comment that says from which record the packet is that comes next
+abbrev pub place_line : RecordPlace → List ℕ
+place_line place =
+    codes "# record " ++ decimal place.number ++ codes ", " ++ time_text place.time ++ codes " s\n"
+
+-- the lines of a script that ask for this
+abbrev pub act_lines : Act → List ℕ
+act_lines (Arrives place packet) = place_line place ++ codes "rx " ++ hex_text packet ++ codes "\n"
+act_lines Passes = codes "tick\n"

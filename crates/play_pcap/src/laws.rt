@@ -10,6 +10,7 @@ ghost use Rattle.pcap.specs.Frames.{unpadded};
 ghost use Rattle.pcap.specs.Records.{Reads};
 ghost use Rattle.pcap.specs.declared.link_type.LinkType.{LinkType};
 ghost use Rattle.pcap.specs.declared.link_type.LinkType.TheVariants.{Ipv4};
+ghost use Rattle.play_pcap.specs.Acts.{act_event};
 ghost use Rattle.play_pcap.specs.Events.{played};
 ghost use Rattle.play_pcap.specs.Traces.{IsPass, Keeps, Pass, Traced, file_of, passes_bytes};
 
@@ -33,8 +34,9 @@ pub fn read_back_law()
 /// total length.
 #[tactic(auto, using(crate::proofs::Back::played_back))]
 pub fn played_back_law()
-    ensures { (ps : List Pass) → AllByRecursion IsPass ps
-        → played false our_header (file_of Ipv4 ps).records ≡ map (λ (p : Pass). Comes (unpadded p.packet)) ps }
+    ensures { (origin number : ℕ) (ps : List Pass) → AllByRecursion IsPass ps
+        → map act_event (played false our_header origin number (file_of Ipv4 ps).records)
+        ≡ map (λ (p : Pass). Comes (unpadded p.packet)) ps }
 {}
 
 /// The line that [`crate::Lines`] writes of a packet asks for this packet.

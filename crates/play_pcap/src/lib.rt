@@ -23,5 +23,5 @@ pub use moves::Tally;
 pub use play::play_file;
 pub use told::{OUTCOME, put_outcome};
 pub use trace::{Nowhere, RECORD, Trace};
-pub use wire::Wire;
+pub use wire::{RecordPlace, Wire};
 pub use wire_trace::WireTrace;

@@ -1,17 +1,20 @@
 //! A capture as a script.
-ghost use Rattle.std.specs.Prelude.{◌≡◌, Bool, true, List, ℕ, Option};
-ghost use Rattle.play_pcap.specs.Traces.{SentAfter, event_line};
+ghost use Rattle.std.specs.Prelude.{◌≡◌, ◌+◌, ◌≤◌, ◌++◌, Bool, true, List, ℕ, Option, length};
+ghost use Rattle.play_pcap.specs.Traces.{SentAfter, act_lines, place_line};
 
 use crate::trace::send;
-use crate::wire::Wire;
+use crate::wire::{RecordPlace, Wire};
+use play_records::put_time;
+use play_text::Piece::{Long, Text};
+use play_text::put;
 use script_loop::{Buffer, LineBuffers, Sink, put_hex};
 use std::marker::Model;
 
-/// Room for the longest line.
+/// Room for the longest line, with the comment in front of it.
 pub const LINE: usize = 131_200;
 
-/// Writes what happens as lines of a script: a packet that comes as `rx` with its bytes, and a tick as `tick`. It must
-/// be ended by `end`.
+/// Writes what happens as lines of a script: a packet that comes as `rx` with its bytes, and in front of it a comment
+/// with the number and the time of its record; and a tick as `tick`. It must be ended by `end`.
 pub struct Lines<W: Sink> {
     sink: W,
     text: Buffer<LINE>,
@@ -54,18 +57,30 @@ impl<W: Sink> Lines<W> {
     }
 }
 
+/// Puts a comment after the text that says which record a packet is from.
+fn put_place(text: &mut Buffer<LINE>, place: RecordPlace)
+    requires { length text.old + 64 ≤ LINE }
+    ensures items { text.new ≡ text.old ++ place_line place }
+    ensures len { length text.new ≤ length text.old + 64 }
+{
+    put(text, &[Text(b"# record "), Long(place.number), Text(b", ")]);
+    put_time(text, place.time);
+    text.append(b" s\n");
+}
+
 impl<W: Sink> Wire for Lines<W> {
     ghost State = { Bool × Option (List ℕ) };
 
     ghost state = { λ l. l };
 
-    ghost may_go = { λ old event new. SentAfter old.0 new.0 old.1 new.1 (event_line event) };
+    ghost may_go = { λ old act new. SentAfter old.0 new.0 old.1 new.1 (act_lines act) };
 
-    fn rx(&mut self, packet: &[u8]) {
+    fn rx(&mut self, place: RecordPlace, packet: &[u8]) {
         if !self.whole {
             return;
         }
         self.text.clear();
+        put_place(&mut self.text, place);
         self.text.append(b"rx ");
         put_hex(&mut self.text, self.buffers.digits.as_mut_slice(), packet);
         self.text.append(b"\n");

@@ -4,7 +4,7 @@ ghost use Rattle.pcap.specs.Seen.{captured};
 ghost use Rattle.pcap.specs.Records.{nanoseconds};
 ghost use Rattle.play_pcap.specs.Events as events;
 
-use crate::ask::{Details, Range};
+use crate::wire::RecordPlace;
 use pcap::{Header, LinkType, Record, ipv4_packet};
 
 /// The most bytes of a packet.
@@ -27,25 +27,29 @@ pub struct Tally {
     pub ticks: u32,
 }
 
-/// How records are played: the capture's header, and the time from which ticks are counted if they pass.
+/// How records are played: the capture's header, the time of its first record, and the time from which ticks are
+/// counted if they pass.
 #[derive(Clone, Copy)]
 pub(crate) struct Course {
     pub(crate) header: Header,
+    pub(crate) origin: u64,
     pub(crate) ticks: bool,
     pub(crate) begin: u64,
 }
 
-/// A packet, and how many ticks pass in front of it.
+/// A packet with its record, and how many ticks pass in front of it.
 #[derive(Clone, Copy)]
 pub(crate) struct Move<'a> {
     pub(crate) ticks: u32,
+    pub(crate) place: RecordPlace,
     pub(crate) packet: &'a [u8],
 }
 
-/// The records that are left to play, and how many ticks have passed.
+/// The records that are left to play, the number of the first of them, and how many ticks have passed.
 #[derive(Clone, Copy)]
 pub(crate) struct Moves<'a> {
     pub(crate) course: Course,
+    pub(crate) number: u64,
     pub(crate) passed: u32,
     pub(crate) rest: &'a [Record<'a>],
 }
@@ -73,6 +77,14 @@ impl Course {
         let ticks = self.header.nanoseconds(of).saturating_sub(self.begin) / TICK;
         ticks.min(MOST_TICKS) as u32
     }
+
+    /// The place of the record of this number.
+    fn place(&self, number: u64, of: &Record<'_>) -> RecordPlace
+        ensures { result ≡ events.record_place self.now number (captured of.now) }
+    {
+        let time = self.header.nanoseconds(of).saturating_sub(self.origin);
+        RecordPlace { number, time }
+    }
 }
 
 impl<'a> Moves<'a> {
@@ -87,14 +99,22 @@ impl<'a> Moves<'a> {
                 return None;
             };
             let record = *record;
+            let number = self.number;
+            let next = number.saturating_add(1);
             self.rest = rest;
+            self.number = next;
             match packet_in(self.course.header.link, record.bytes) {
                 None => {}
                 Some(packet) => {
                     let due = self.course.due(&record);
                     let ticks = due.saturating_sub(self.passed);
                     self.passed = self.passed.max(due);
-                    return Some(Move { ticks, packet });
+                    let place = self.course.place(number, &record);
+                    return Some(Move {
+                        ticks,
+                        place,
+                        packet,
+                    });
                 }
             }
         }

@@ -1,8 +1,9 @@
 //! Captures that are played in.
 ghost use Rattle.std.specs.Prelude.{◌≡◌, ◌≤◌, ◌+◌, length, map, replicate};
-ghost use Rattle.flat_model.specs.Machine.Event.{Tick};
 ghost use Rattle.pcap.specs.Seen.{captured};
-ghost use Rattle.play_pcap.specs.Events.{Goes, IsOrdered, PlaysFile, Selects, came, going, events_left, played, tally_of, ticks_in};
+ghost use Rattle.play_pcap.specs.Acts.{Passes};
+ghost use Rattle.play_pcap.specs.Events as events;
+ghost use Rattle.play_pcap.specs.Events.{Goes, IsOrdered, PlaysFile, Selects, acts_left, came, going, record_acts, tally_of, ticks_in};
 
 use crate::ask::{Details, Range};
 use crate::fault::CaptureFault;
@@ -13,7 +14,7 @@ use std::alloc::Global;
 
 /// Lets so many ticks pass.
 fn tick_all<X: Wire>(wire: &mut X, count: u32)
-    ensures { Goes X.may_go (replicate count Tick) (X.state wire.old) (X.state wire.new) }
+    ensures { Goes X.may_go (replicate count Passes) (X.state wire.old) (X.state wire.new) }
 {
     let mut left = count;
     while left > 0 {
@@ -25,15 +26,15 @@ fn tick_all<X: Wire>(wire: &mut X, count: u32)
 /// Lets all packets come that are left, with their ticks, and answers how many they were.
 fn go_all<X: Wire>(wire: &mut X, moves: &mut Moves<'_>) -> u64
     requires { moves.old.passed ≤ 65535 }
-    ensures goes { Goes X.may_go (events_left (going moves.old)) (X.state wire.old) (X.state wire.new) }
-    ensures packets { result ≡ came (events_left (going moves.old)) }
+    ensures goes { Goes X.may_go (acts_left (going moves.old)) (X.state wire.old) (X.state wire.new) }
+    ensures packets { result ≡ came (acts_left (going moves.old)) }
     ensures most { result ≤ length moves.old.rest.now }
-    ensures ticks { moves.new.passed ≡ moves.old.passed + ticks_in (events_left (going moves.old)) }
+    ensures ticks { moves.new.passed ≡ moves.old.passed + ticks_in (acts_left (going moves.old)) }
 {
     let mut packets: u64 = 0;
     while let Some(next) = moves.next_move() {
         tick_all(wire, next.ticks);
-        wire.rx(next.packet);
+        wire.rx(next.place, next.packet);
         packets += 1;
     }
     packets
@@ -54,22 +55,35 @@ fn select<'a>(range: Option<Range>, records: &'a [Record<'a>]) -> Option<&'a [Re
     Some(&records[front..end])
 }
 
-/// Plays records of a capture.
-fn play_records<X: Wire>(wire: &mut X, header: Header, records: &[Record<'_>], ticks: bool) -> Tally
-    ensures goes { Goes X.may_go (played ticks header (map captured records.now)) (X.state wire.old)
-        (X.state wire.new) }
-    ensures tally { result ≡ tally_of (length records.now) (played ticks header (map captured records.now)) }
+/// The number of the first record that is asked for.
+fn first_of(range: Option<Range>) -> u64
+    ensures { result ≡ events.first_of range }
 {
-    let begin = match records {
+    match range {
+        None => 1,
+        Some(range) => u64::from(range.first),
+    }
+}
+
+/// The time of the first of these records.
+fn begin_of(header: Header, records: &[Record<'_>]) -> u64
+    ensures { result ≡ events.begin_of header (map captured records.now) }
+{
+    match records {
         [] => 0,
         [first, ..] => header.nanoseconds(first),
-    };
+    }
+}
+
+/// Plays records of a capture, of which the first has this number.
+fn play_records<X: Wire>(wire: &mut X, course: Course, number: u64, records: &[Record<'_>]) -> Tally
+    ensures goes { Goes X.may_go (record_acts course number 0 (map captured records.now)) (X.state wire.old)
+        (X.state wire.new) }
+    ensures tally { result ≡ tally_of (length records.now) (record_acts course number 0 (map captured records.now)) }
+{
     let mut moves = Moves {
-        course: Course {
-            header,
-            ticks,
-            begin,
-        },
+        course,
+        number,
         passed: 0,
         rest: records,
     };
@@ -104,8 +118,19 @@ pub fn play_file<X: Wire>(
         Err(ReadError::Memory) => return Err(CaptureFault::Memory),
         Err(ReadError::Fault(fault)) => return Err(CaptureFault::Bad(fault)),
     };
-    let Some(records) = select(details.range, capture.records.as_slice()) else {
+    let header = capture.header;
+    let all = capture.records.as_slice();
+    let Some(records) = select(details.range, all) else {
         return Err(CaptureFault::TooFew);
     };
-    Ok(play_records(wire, capture.header, records, details.ticks))
+    let origin = begin_of(header, all);
+    let begin = begin_of(header, records);
+    let course = Course {
+        header,
+        origin,
+        ticks: details.ticks,
+        begin,
+    };
+    let first = first_of(details.range);
+    Ok(play_records(wire, course, first, records))
 }

@@ -1,6 +1,15 @@
 ghost use Rattle.std.specs.Prelude.{◌≡◌, ◌≤◌, length};
 ghost use Rattle.params.specs.declared.TheConstants.{IP_MAX_PACKET};
-ghost use Rattle.flat_model.specs.Machine.Event.{Event, Comes, Tick};
+ghost use Rattle.play_pcap.specs.Acts.{Act, Arrives, Passes};
+
+/// Which record of a capture a packet is from.
+#[derive(Clone, Copy, Debug, PartialEq, Eq)]
+pub struct RecordPlace {
+    /// The record's number, from 1, as in Wireshark.
+    pub number: u64,
+    /// Nanoseconds since the capture's first record; 0 if the record's time is before that.
+    pub time: u64,
+}
 
 /// What packets come to, one after another, and what the clock ticks for.
 pub trait Wire {
@@ -11,14 +20,14 @@ pub trait Wire {
     ghost state: { Self → Self.State };
 
     /// From a state, a packet that comes or a tick may lead to that state.
-    ghost may_go: { Self.State → Event → Self.State → Type 0 };
+    ghost may_go: { Self.State → Act → Self.State → Type 0 };
 
-    /// A packet comes.
-    fn rx(&mut self, packet: &[u8])
+    /// The packet of a record comes.
+    fn rx(&mut self, place: RecordPlace, packet: &[u8])
         requires { length packet.now ≤ IP_MAX_PACKET }
-        ensures { may_go (state self.old) (Comes packet.now) (state self.new) };
+        ensures { may_go (state self.old) (Arrives place packet.now) (state self.new) };
 
     /// Half a second passes.
     fn tick(&mut self)
-        ensures { may_go (state self.old) Tick (state self.new) };
+        ensures { may_go (state self.old) Passes (state self.new) };
 }

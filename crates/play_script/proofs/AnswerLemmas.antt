@@ -13,7 +13,7 @@ use Rattle.flat_model.specs.Scripts.Grammar.{words}
 use Rattle.play_script.specs.Inside.{IsTold, IsToldAs}
 use Rattle.play_script.specs.Lines.{Reading, Asks, reading}
 use Rattle.play_script.specs.Plays.{CapturedView, captured_of}
-use Rattle.play_script.specs.Tells.{Play, Tells, TellsAsk, TellsAsked, TellsReading, TellsSettings, is_sound, next_line, stays_head, told_text}
+use Rattle.play_script.specs.Tells.{Play, Tells, TellsAsk, TellsAsked, TellsReading, TellsSettings, is_done, is_sound, next_line, stays_head, told_text}
 use Rattle.play_script.specs.Views.{plain_line}
 use Rattle.play_script.specs.declared.line.Line.{Line}
 use Rattle.play_script.specs.declared.tell.Told.{Told}
@@ -22,25 +22,26 @@ use Rattle.play_script.specs.declared.tell.Told.TheVariants as told
 -- a line that asks for this
 pub Ask-tells : (step : State → Event → Reply → State → Type 0) (has : List ℕ → List ℕ → Type 0) (now new : Play)
     (shown plain : List ℕ)
-    (wanted : Option (List ℕ)) (ask : Ask) (text below : List ℕ) (after : CapturedView) (quiet : Bool)
+    (wanted : Option (List ℕ)) (ask : Ask) (text below : List ℕ) (after : CapturedView) (quiet failed : Bool)
     → quiet ≡ is_quiet now.form → AsksFor plain (Some ask)
-    → TellsAsk step has quiet ask (captured_of now.machine now.traced now.number) text below after
+    → TellsAsk step has quiet ask (captured_of now.machine now.traced now.number) failed text below after
     → new ≡ record now {
       machine = after.machine;
       traced = after.traced;
       head = now.head && stays_head ask;
-      sound = now.sound && is_sound wanted text;
+      sound = (now.sound && is_sound wanted text) && is_done wanted failed;
     }
     → TellsAsked step has now shown plain wanted (told_text now.form now.texts now.name now.number shown wanted text below) new
-Ask-tells step has now new shown plain wanted ask text below after quiet loud asks tells is = (
+Ask-tells step has now new shown plain wanted ask text below after quiet failed loud asks tells is = (
   Some ask,
   asks,
   inl (
     after,
+    failed,
     text,
     below,
-    subst (λ (q : Bool). TellsAsk step has q ask (captured_of now.machine now.traced now.number) text below after) loud
-        tells,
+    subst (λ (q : Bool). TellsAsk step has q ask (captured_of now.machine now.traced now.number) failed text below after)
+        loud tells,
     refl,
     is,
   ),
@@ -108,7 +109,7 @@ pub Told-some : (step : State → Event → Reply → State → Type 0) (has : L
     → IsTold step has quiet plain came old text below new
 Told-some step has quiet plain ask told.Nothing old new text below asks came = absurd came
 Told-some step has quiet plain ask told.Settings old new text below asks came = (ask, asks, came)
-Told-some step has quiet plain ask (told.Done stays) old new text below asks came = (ask, asks, came)
+Told-some step has quiet plain ask (told.Done stays failed) old new text below asks came = (ask, asks, came)
 
 -- a line that asks for something, or expects something
 pub Asks-tells : (step : State → Event → Reply → State → Type 0) (has : List ℕ → List ℕ → Type 0) (old now new : Play)

@@ -2,12 +2,13 @@
 use Rattle.std.proofs.Common.{◌≡◌, ℕ, suc, ◌<◌, true, List, [], ◌∷◌, length, get_or, map, codes, Option, Some, None, Result, Ok, Err, inl, inr, refl, sym, ap, ◌∙◌, arith, subst, append-nil}
 use Rattle.std.specs.List.{AllByRecursion as Each}
 use Rattle.std.proofs.lemmas.List.Elements.{All-from_recursion}
-use Rattle.flat_model.specs.Machine.Event.{Event, IsBytes}
+use Rattle.flat_model.specs.Machine.Event.{IsBytes}
 use Rattle.flat_model.specs.Machine.Ledger.{exact_ledger}
 use Rattle.flat_model.specs.Machine.Step.{Step}
 use Rattle.flat_model.specs.Runs.Run.{Turn, Leads}
+use Rattle.play_pcap.specs.Acts.{Act}
 use Rattle.play_pcap.specs.Asks.{IsAsked}
-use Rattle.play_pcap.specs.Events.{Goes, PlaysFile, capture_events}
+use Rattle.play_pcap.specs.Events.{Goes, PlaysFile, capture_acts}
 use Rattle.play_pcap.specs.Files.{IsHad, PlaysNamed}
 use Rattle.play_pcap.specs.Traces.{Keeps, Pass, Traced, passes_bytes}
 use Rattle.play_pcap.specs.declared.ask.Details.{Details}
@@ -18,7 +19,10 @@ use Rattle.play_read.proofs.Laws.{Capture-idle}
 use Rattle.play_script.proofs.CaptureLemmas.{Joins, Keeps-none, passes_bytes-append}
 use Rattle.play_script.specs.Captures.{Captures, moved_by, pass_if, passes, ticks_after, ticks_by}
 use Rattle.play_script.specs.Lines.{Asks}
-use Rattle.play_script.specs.Plays.{ComesTo, CapturedView, came_turn}
+use Rattle.play_records.specs.Tables.{no_drops}
+use Rattle.play_records.specs.declared.table.Table.{Table}
+use Rattle.play_script.specs.Plays.{ComesTo, CapturedView, ReplayView, came_turn, replay_of}
+use Rattle.stack_call.specs.Moves.{StackSteps}
 use Rattle.play_script.specs.Runs.{ArePlayedTurns}
 
 -- the bytes behind a reference are bytes
@@ -50,19 +54,20 @@ Captures-front join number old mid new turn turns first rest =
       rest.1 ∙ ap (λ (t : ℕ). ticks_after t turns) first.1,
     )
 
--- the events of a capture, one after another
-Goes-turns : Joins → (events : List Event) (old new : CapturedView) → Goes (ComesTo Step) events old new
-    → Leads exact_ledger old.machine (map came_turn events) new.machine
-    × Captures old.line old.traced (map came_turn events) new.traced
+-- the acts of a capture, one after another
+Goes-turns : Joins → (acts : List Act) (old new : ReplayView) → Goes (ComesTo Step) acts old new
+    → Leads exact_ledger old.seen.machine (map came_turn acts) new.seen.machine
+    × Captures old.seen.line old.seen.traced (map came_turn acts) new.seen.traced
 Goes-turns join [] old new same = (
-  ap (λ (s : CapturedView). s.machine) same,
-  Captures-same old.line old.traced new.traced (ap (λ (s : CapturedView). s.traced) same),
+  ap (λ (s : ReplayView). s.seen.machine) same,
+  Captures-same old.seen.line old.seen.traced new.seen.traced (ap (λ (s : ReplayView). s.seen.traced) same),
 )
-Goes-turns join (event ∷ events) old new (mid, went, rest) =
-    let later = Goes-turns join events mid new rest in (
-      (went.0, mid.machine, went.1, later.0),
-      Captures-front join old.line old.traced mid.traced new.traced (came_turn event) (map came_turn events) went.2
-          (subst (λ (n : ℕ). Captures n mid.traced (map came_turn events) new.traced) went.3 later.1),
+Goes-turns join (act ∷ acts) old new (mid, went, rest) =
+    let later = Goes-turns join acts mid new rest in (
+      (went.0, mid.seen.machine, went.1, later.0),
+      Captures-front join old.seen.line old.seen.traced mid.seen.traced new.seen.traced (came_turn act)
+          (map came_turn acts) went.2
+          (subst (λ (n : ℕ). Captures n mid.seen.traced (map came_turn acts) new.seen.traced) went.3 later.1),
     )
 
 -- ---- what it does
@@ -76,23 +81,23 @@ MakesTurns has shown plain wanted old new =
 
 -- nothing
 Turns-none : (has : List ℕ → List ℕ → Type 0) (shown plain word : List ℕ) (wanted : Option (List ℕ)) (d : Details)
-    (old new : CapturedView)
-    → IsAsked plain word d → new ≡ old → MakesTurns has shown plain wanted old new
+    (old new : ReplayView)
+    → IsAsked plain word d → new ≡ old → MakesTurns has shown plain wanted old.seen new.seen
 Turns-none has shown plain word wanted d old new asked same = (
   [],
   inr (inr (inr ((Capture-idle plain word d asked).0, (Capture-idle plain word d asked).1, refl))),
-  ap (λ (s : CapturedView). s.machine) same,
-  Captures-same old.line old.traced new.traced (ap (λ (s : CapturedView). s.traced) same),
+  ap (λ (s : ReplayView). s.seen.machine) same,
+  Captures-same old.seen.line old.seen.traced new.seen.traced (ap (λ (s : ReplayView). s.seen.traced) same),
 )
 
 -- what the file that was read does
 File-turns : Joins → (has : List ℕ → List ℕ → Type 0) (shown plain word file : List ℕ) (wanted : Option (List ℕ))
     (d : Details)
-    (outcome : Result Tally CaptureFault) (old new : CapturedView) → IsAsked plain word d → IsHad has word file
-    → PlaysFile (ComesTo Step) d file outcome old new → MakesTurns has shown plain wanted old new
+    (outcome : Result Tally CaptureFault) (old new : ReplayView) → IsAsked plain word d → IsHad has word file
+    → PlaysFile (ComesTo Step) d file outcome old new → MakesTurns has shown plain wanted old.seen new.seen
 File-turns join has shown plain word file wanted d (Ok tally) old new asked had (w, reads, range, goes, told) =
-    let made = Goes-turns join (capture_events d w) old new goes in (
-      map came_turn (capture_events d w),
+    let made = Goes-turns join (capture_acts d w) old new goes in (
+      map came_turn (capture_acts d w),
       inr (inr (inl (word, d, file, w, asked, had, reads, range, refl))),
       made.0,
       made.1,
@@ -109,9 +114,17 @@ File-turns join has shown plain word file wanted d (Err (Bad fault)) old new ask
 
 pub Named-turns : Joins → (has : List ℕ → List ℕ → Type 0) (shown plain word : List ℕ) (wanted : Option (List ℕ))
     (d : Details)
-    (outcome : Result Tally CaptureFault) (old new : CapturedView) → IsAsked plain word d
-    → PlaysNamed has (ComesTo Step) d word outcome old new → MakesTurns has shown plain wanted old new
+    (outcome : Result Tally CaptureFault) (old new : ReplayView) → IsAsked plain word d
+    → PlaysNamed has (ComesTo Step) d word outcome old new → MakesTurns has shown plain wanted old.seen new.seen
 Named-turns join has shown plain word wanted d outcome old new asked (inl (file, had, plays)) =
     File-turns join has shown plain word file wanted d outcome old new asked had plays
 Named-turns join has shown plain word wanted d outcome old new asked (inr (fault, unread, is, same)) =
     Turns-none has shown plain word wanted d old new asked same
+
+-- no packet was dropped before
+pub Played-begun : (has : List ℕ → List ℕ → Type 0) (d : Details) (word : List ℕ) (outcome : Result Tally CaptureFault)
+    (old : CapturedView) (new : ReplayView) (causes : Table) → causes ≡ no_drops
+    → PlaysNamed has (ComesTo StackSteps) d word outcome (replay_of old causes) new
+    → PlaysNamed has (ComesTo StackSteps) d word outcome (replay_of old no_drops) new
+Played-begun has d word outcome old new causes none plays =
+    subst (λ (t : Table). PlaysNamed has (ComesTo StackSteps) d word outcome (replay_of old t) new) none plays

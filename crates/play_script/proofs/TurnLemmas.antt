@@ -24,7 +24,8 @@ use Rattle.play_script.proofs.PlayLemmas.{Captures-same, Named-turns}
 use Rattle.play_script.specs.Deeds.{Does, turns_with}
 use Rattle.play_script.specs.Captures.{Captures, all_passes, turn_of}
 use Rattle.play_script.specs.Lines.{Reading, Nothing, TooLong, Faulty, Asks, reading}
-use Rattle.play_script.specs.Plays.{CapturedView, captured_of}
+use Rattle.play_records.specs.Tables.{no_drops}
+use Rattle.play_script.specs.Plays.{CapturedView, captured_of, replay_of}
 use Rattle.play_script.specs.Runs.{ArePlayedTurns, IsRunOf, all_turns, MaySet, MaySetAll}
 use Rattle.play_script.specs.Tells.{Play, Tells, TellsAsk, TellsReading, TellsAsked, TellsSettled, IsSettled, next_line, stays_head}
 
@@ -104,22 +105,22 @@ not_late c e = cc
 
 -- what is told of what a line asks for, by its turns
 Told-turns : Joins → (has : List ℕ → List ℕ → Type 0) (ask : Ask) (old new : CapturedView) (shown plain : List ℕ)
-    (wanted : Option (List ℕ)) (text below : List ℕ) (quiet : Bool)
-    → Writes plain ask → TellsAsk Step has quiet ask old text below new
+    (wanted : Option (List ℕ)) (text below : List ℕ) (quiet failed : Bool)
+    → Writes plain ask → TellsAsk Step has quiet ask old failed text below new
     → (turns : List Turn) × ArePlayedTurns has (Asks shown plain wanted) turns
     × Leads exact_ledger old.machine turns new.machine
     × Captures old.line old.traced turns new.traced × (stays_head ask ≡ true → turns ≡ [])
-Told-turns join has (Call event) old new shown plain wanted text below quiet asks done =
+Told-turns join has (Call event) old new shown plain wanted text below quiet failed asks (done, fine) =
     let made =
     Makes-one has old.line old.machine new.machine old.traced new.traced shown plain wanted event done.reply asks
     done.does done.captured in
     (made.0, made.1, made.2, made.3, λ stays. absurd (false≢true stays))
-Told-turns join has (Ticks n) old new shown plain wanted text below quiet ticks done =
+Told-turns join has (Ticks n) old new shown plain wanted text below quiet failed ticks (done, fine) =
     let made =
     Makes-ticks has old.line old.machine new.machine old.traced new.traced shown plain wanted n done.reply ticks
     done.does done.captured in
     (made.0, made.1, made.2, made.3, λ stays. absurd (false≢true stays))
-Told-turns join has (Show topic) old new shown plain wanted text below quiet is (shows, same, traced) =
+Told-turns join has (Show topic) old new shown plain wanted text below quiet failed is (shows, same, traced, fine) =
     let idle = Show-idle plain topic is in (
       [],
       inr (inr (inr (idle.0, idle.1, refl))),
@@ -127,11 +128,12 @@ Told-turns join has (Show topic) old new shown plain wanted text below quiet is 
       Captures-same old.line old.traced new.traced traced,
       λ stays. refl,
     )
-Told-turns join has (Capture name d) old new shown plain wanted text below quiet asked
-    (outcome, before, after, plays, was, now, tells, lines) =
-    let made = Named-turns join has shown plain name wanted d outcome old new asked plays in
+Told-turns join has (Capture name d) old new shown plain wanted text below quiet failed asked
+    (outcome, before, after, causes, plays, was, now, tells, lines, fails) =
+    let made =
+    Named-turns join has shown plain name wanted d outcome (replay_of old no_drops) (replay_of new causes) asked plays in
     (made.0, made.1, made.2, made.3, λ stays. absurd (false≢true stays))
-Told-turns join has (Settings named) old new shown plain wanted text below quiet asks told = absurd told
+Told-turns join has (Settings named) old new shown plain wanted text below quiet failed asks told = absurd told
 
 and_first : (a b : Bool) → (a && b) ≡ true → a ≡ true
 and_first true b h = refl
@@ -194,10 +196,10 @@ Asked-line join has now new shown plain text wanted (None, none, (what, advised,
 Asked-line join has now new shown plain text wanted (Some ask, asks, inr (named, is, (outcome, settled, told))) =
     Settings-line has now new shown plain text wanted named now.head refl (subst (λ (a : Ask). Writes plain a) is asks)
     outcome settled told
-Asked-line join has now new shown plain text wanted (Some ask, asks, inl (after, said, below, answered, tells, same)) =
+Asked-line join has now new shown plain text wanted (Some ask, asks, inl (after, failed, said, below, answered, tells, same)) =
     let made =
     Told-turns join has ask (captured_of now.machine now.traced now.number) after shown plain wanted said below
-    (is_quiet now.form) asks answered in
+    (is_quiet now.form) failed asks answered in
     let stayed : new.head ≡ (now.head && stays_head ask) = ap (λ (p : Play). p.head) same in
     inl (record {
       turns = made.0;

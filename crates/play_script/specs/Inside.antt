@@ -49,13 +49,13 @@ module _ (step : State → Event → Reply → State → Type 0) (has : List ℕ
   abbrev pub IsToldAs : Bool → Ask → Told → CapturedView → List ℕ → List ℕ → CapturedView → Type 0
   IsToldAs quiet ask told.Nothing old text below new = ⊥
   IsToldAs quiet ask told.Settings old text below new = ((named : List (List ℕ)) × (ask ≡ Settings named)) × (new ≡ old)
-  IsToldAs quiet ask (told.Done stays) old text below new =
-      TellsAsk step has quiet ask old text below new × (stays ≡ stays_head ask)
+  IsToldAs quiet ask (told.Done stays failed) old text below new =
+      TellsAsk step has quiet ask old failed text below new × (stays ≡ stays_head ask)
 
   -- what came of a plain line; nothing changes if it asks for nothing
   abbrev pub IsTold : Bool → List ℕ → Told → CapturedView → List ℕ → List ℕ → CapturedView → Type 0
   IsTold quiet plain told.Nothing old text below new = AsksFor plain None × (new ≡ old)
   IsTold quiet plain told.Settings old text below new =
       (ask : Ask) × AsksFor plain (Some ask) × IsToldAs quiet ask told.Settings old text below new
-  IsTold quiet plain (told.Done stays) old text below new =
-      (ask : Ask) × AsksFor plain (Some ask) × IsToldAs quiet ask (told.Done stays) old text below new
+  IsTold quiet plain (told.Done stays failed) old text below new =
+      (ask : Ask) × AsksFor plain (Some ask) × IsToldAs quiet ask (told.Done stays failed) old text below new

@@ -1,64 +1,19 @@
 -- What is told of a line: its reply, and why packets were dropped (this project's own).
-use Rattle.std.specs.Prelude.{ℕ, ◌&&◌, ◌||◌, Bool, true, false, List, [], ◌∷◌, ◌++◌, drop, flat_map, if◌then◌else◌, codes, bytes_eq, nat_lt, Option, Some, None}
-use Rattle.flat_model.specs.Machine.Count.{value_of, counter_of}
+use Rattle.std.specs.Prelude.{ℕ, ◌&&◌, ◌||◌, Bool, true, false, List, [], ◌∷◌, ◌++◌, drop, flat_map, if◌then◌else◌, codes, bytes_eq, Option, Some, None}
+use Rattle.flat_model.specs.Machine.Count.{counter_of}
 use Rattle.flat_model.specs.Machine.Event.{Reply}
 use Rattle.flat_model.specs.Scripts.Grammar.{words}
 use Rattle.flat_model.specs.Scripts.Texts.{reply_text}
 use Rattle.flat_model.specs.declared.counters.Counters.{Counters}
 use Rattle.flat_model.specs.declared.counters.Why.{Why}
-use Rattle.flat_model.specs.declared.counters.Why.TheVariants.{TooSmall, BadVersion, BadHeaderLength, Options, BadSum, BadLength, TooShort, CantForward, BadFragment, FragmentDropped, NoProtocol, UdpHeaderDrops, UdpBadLength, UdpBadSum, UdpNoPort, UdpNoPortBroadcast, UdpFullSocket, NoBufs}
+use Rattle.play_records.specs.Words.{all_causes, cause_words, rose}
 
 -- ---- why packets were dropped
-
-abbrev pub words_of : Why → List ℕ
-words_of TooSmall = codes "packet shorter than a header"
-words_of BadVersion = codes "wrong version"
-words_of BadHeaderLength = codes "header length too small"
-words_of Options = codes "options are not taken"
-words_of BadSum = codes "wrong header checksum"
-words_of BadLength = codes "total length too small"
-words_of TooShort = codes "packet shorter than its total length"
-words_of CantForward = codes "not addressed to this machine"
-words_of BadFragment = codes "malformed fragment"
-words_of FragmentDropped = codes "fragment held already"
-words_of NoProtocol = codes "unknown protocol"
-words_of UdpHeaderDrops = codes "datagram shorter than a header"
-words_of UdpBadLength = codes "wrong datagram length"
-words_of UdpBadSum = codes "wrong datagram checksum"
-words_of UdpNoPort = codes "no socket has the port"
-words_of UdpNoPortBroadcast = codes "no socket has the port of the broadcast"
-words_of UdpFullSocket = codes "receive queue full"
-words_of NoBufs = codes "no buffer space available"
-
--- in the order in which they're told
-abbrev pub all_causes : List Why
-all_causes =
-    TooSmall
-    ∷ BadVersion
-    ∷ BadHeaderLength
-    ∷ Options
-    ∷ BadSum
-    ∷ BadLength
-    ∷ TooShort
-    ∷ CantForward
-    ∷ BadFragment
-    ∷ FragmentDropped
-    ∷ NoProtocol
-    ∷ UdpHeaderDrops
-    ∷ UdpBadLength
-    ∷ UdpBadSum
-    ∷ UdpNoPort
-    ∷ UdpNoPortBroadcast
-    ∷ UdpFullSocket
-    ∷ NoBufs
-    ∷ []
 
 -- a cause is told if its counter went up
 abbrev pub cause_text : Counters → Counters → Why → List ℕ
 cause_text before after why =
-    if nat_lt (value_of (counter_of why) before) (value_of (counter_of why) after)
-    then codes " dropped " ++ words_of why
-    else []
+    if rose (counter_of why) before after then codes " dropped " ++ cause_words why else []
 
 abbrev pub drops_text : Counters → Counters → List ℕ
 drops_text before after = flat_map (cause_text before after) all_causes

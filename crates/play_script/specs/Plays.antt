@@ -1,17 +1,21 @@
 -- Captures that are played in: the machine's steps, and what is told of them (this project's own).
-use Rattle.std.specs.Prelude.{◌≡◌, ℕ, Bool, List, [], ◌∷◌, ◌++◌, map, length, None, Result, Ok}
+use Rattle.std.specs.Prelude.{◌≡◌, ℕ, Bool, true, false, List, [], ◌∷◌, ◌++◌, map, length, None, Result, Ok, Err}
 use Rattle.flat_model.specs.Machine.Event.{Event, Reply, IsEvent, Done}
 use Rattle.flat_model.specs.Machine.State.{State}
 use Rattle.flat_model.specs.Runs.Run.{Turn}
+use Rattle.flat_model.specs.declared.counters.Counters.{Counters}
 use Rattle.pcap.specs.Records.{Whole, Reads}
+use Rattle.play_pcap.specs.Acts.{Act, Arrives, Passes, act_event}
 use Rattle.play_pcap.specs.Asks.{IsAsked}
-use Rattle.play_pcap.specs.Events.{HasRange, capture_events}
+use Rattle.play_pcap.specs.Events.{HasRange, capture_acts}
 use Rattle.play_pcap.specs.Files.{IsHad, PlaysNamed}
 use Rattle.play_pcap.specs.Told.{capture_text}
 use Rattle.play_pcap.specs.Traces.{Traced}
 use Rattle.play_pcap.specs.declared.ask.Details.{Details}
 use Rattle.play_pcap.specs.declared.fault.CaptureFault.{CaptureFault}
 use Rattle.play_pcap.specs.declared.moves.Tally.{Tally}
+use Rattle.play_records.specs.Tables.{no_drops, drops_noted, table_text}
+use Rattle.play_records.specs.declared.table.Table.{Table}
 use Rattle.play_show.specs.Changes.{IsSnapshot}
 use Rattle.play_show.specs.declared.snapshot.Snapshot.{Snapshot}
 use Rattle.play_script.specs.Deeds.{below_text}
@@ -27,11 +31,19 @@ pub record CapturedView : Type 0 where
 abbrev pub captured_of : State → Traced → ℕ → CapturedView
 captured_of machine traced line = record { machine = machine; traced = traced; line = line }
 
+-- The same while a capture is played in, and for which causes its packets were dropped.
+pub record ReplayView : Type 0 where
+  pub seen : CapturedView
+  pub causes : Table
+
+abbrev pub replay_of : CapturedView → Table → ReplayView
+replay_of seen causes = record { seen = seen; causes = causes }
+
 -- ---- the turns of a line
 
 -- a packet that comes, or a tick
-abbrev pub came_turn : Event → Turn
-came_turn event = turn_of event Done
+abbrev pub came_turn : Act → Turn
+came_turn act = turn_of (act_event act) Done
 
 -- The plain line asks for a capture in a file that is there, which reads as a capture with all records that are asked
 -- for. The turns are all that these do: their packets come one after another, with the ticks between them.
@@ -39,24 +51,43 @@ abbrev pub PlaysIn : (List ℕ → List ℕ → Type 0) → List ℕ → List Tu
 PlaysIn has plain turns =
     (word : List ℕ) × (d : Details) × (file : List ℕ) × (w : Whole)
     × IsAsked plain word d × IsHad has word file × Reads file (Ok w) × HasRange d.range (length w.records)
-    × (turns ≡ map came_turn (capture_events d w))
+    × (turns ≡ map came_turn (capture_acts d w))
 
 -- ---- what is told
 
+-- a packet counts for each cause whose counter went up by it
+abbrev pub noted_by : Act → Counters → Counters → Table → Table
+noted_by (Arrives place packet) before after causes = drops_noted place.number before after causes
+noted_by Passes before after causes = causes
+
+-- a line for each cause for which packets were dropped; nothing if the form is quiet
+abbrev pub causes_below : Bool → Table → List ℕ
+causes_below true causes = []
+causes_below false causes = table_text causes
+
+-- whether a capture wasn't played in
+abbrev pub has_failed : Result Tally CaptureFault → Bool
+has_failed (Ok tally) = false
+has_failed (Err fault) = true
+
 module _ (step : State → Event → Reply → State → Type 0) where
-  -- a packet comes or a tick passes, and the capture of the machine's packets has it
-  abbrev pub ComesTo : CapturedView → Event → CapturedView → Type 0
-  ComesTo old event new =
-      IsEvent event × step old.machine event Done new.machine
-      × Captures old.line old.traced (came_turn event ∷ []) new.traced × (new.line ≡ old.line)
+  -- A packet comes or a tick passes, and the capture of the machine's packets has it. The causes for which the packet
+  -- was dropped are noted, with the number of its record.
+  abbrev pub ComesTo : ReplayView → Act → ReplayView → Type 0
+  ComesTo old act new =
+      IsEvent (act_event act) × step old.seen.machine (act_event act) Done new.seen.machine
+      × Captures old.seen.line old.seen.traced (came_turn act ∷ []) new.seen.traced × (new.seen.line ≡ old.seen.line)
+      × (new.causes ≡ noted_by act old.seen.machine.counters new.seen.machine.counters old.causes)
 
   -- What may be told of the capture in the file that a word names, with the lines below it: how many packets came, or
-  -- what is wrong with the file; why packets were dropped; and below it what came of them.
-  abbrev pub IsPlayed : (List ℕ → List ℕ → Type 0) → Bool → Details → List ℕ → CapturedView → List ℕ → List ℕ
+  -- what is wrong with the file; why packets were dropped; and below it what came of them, and for each cause how many
+  -- were dropped, and the first record. It has failed if the file couldn't be played.
+  abbrev pub IsPlayed : (List ℕ → List ℕ → Type 0) → Bool → Details → List ℕ → CapturedView → Bool → List ℕ → List ℕ
       → CapturedView → Type 0
-  IsPlayed has quiet d word old told below new =
-      (outcome : Result Tally CaptureFault) × (before after : Snapshot)
-      × PlaysNamed has ComesTo d word outcome old new
+  IsPlayed has quiet d word old failed told below new =
+      (outcome : Result Tally CaptureFault) × (before after : Snapshot) × (causes : Table)
+      × PlaysNamed has ComesTo d word outcome (replay_of old no_drops) (replay_of new causes)
       × IsSnapshot step old.machine before × IsSnapshot step new.machine after
       × (told ≡ capture_text outcome ++ drops_text before.counters after.counters)
-      × (below ≡ below_text quiet None before after new.machine.output)
+      × (below ≡ below_text quiet None before after new.machine.output ++ causes_below quiet causes)
+      × (failed ≡ has_failed outcome)

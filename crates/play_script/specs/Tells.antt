@@ -1,5 +1,5 @@
 -- What a player of commented scripts may tell for a line, by a machine's steps (this project's own).
-use Rattle.std.specs.Prelude.{◌≡◌, ◌⊎◌, ℕ, ◌&&◌, ◌||◌, Bool, true, false, List, [], ◌∷◌, replicate, codes, Option, Some, None, Result, Ok, Err}
+use Rattle.std.specs.Prelude.{◌≡◌, ◌⊎◌, ℕ, ◌&&◌, ◌||◌, Bool, true, false, not, List, [], ◌∷◌, replicate, codes, Option, Some, None, Result, Ok, Err}
 use Rattle.flat_model.specs.Machine.Count.{more_by}
 use Rattle.flat_model.specs.Machine.Event.{Event, Reply, Tick}
 use Rattle.flat_model.specs.Machine.State.{State, IsConfig, HasSizes, boot}
@@ -61,6 +61,11 @@ started machine traced form name = record {
 abbrev pub is_sound : Option (List ℕ) → List ℕ → Bool
 is_sound None told = true
 is_sound (Some wanted) told = meets_reply wanted told
+
+-- what was asked for was done, or something was expected, and so perhaps that it can't be
+abbrev pub is_done : Option (List ℕ) → Bool → Bool
+is_done None failed = not failed
+is_done (Some wanted) failed = true
 
 -- what is told of a line, the lines below it, and what was expected, in the player's form
 abbrev pub told_text : Form → Bool → List ℕ → ℕ → List ℕ → Option (List ℕ) → List ℕ → List ℕ → List ℕ
@@ -133,28 +138,32 @@ module _ (step : State → Event → Reply → State → Type 0) where
 
 -- the same, where `has` says which bytes the file of a name may have
 module _ (step : State → Event → Reply → State → Type 0) (has : List ℕ → List ℕ → Type 0) where
-  -- What may be told of what a line asks for, with the lines below it.
-  abbrev pub TellsAsk : Bool → Ask → CapturedView → List ℕ → List ℕ → CapturedView → Type 0
-  TellsAsk quiet (Call event) old text below new = IsDone step quiet old (event ∷ []) text below new
-  TellsAsk quiet (Ticks n) old text below new = IsDone step quiet old (replicate n Tick) text below new
+  -- What may be told of what a line asks for, with the lines below it, and whether it has failed: only a capture can.
+  abbrev pub TellsAsk : Bool → Ask → CapturedView → Bool → List ℕ → List ℕ → CapturedView → Type 0
+  TellsAsk quiet (Call event) old failed text below new =
+      IsDone step quiet old (event ∷ []) text below new × (failed ≡ false)
+  TellsAsk quiet (Ticks n) old failed text below new =
+      IsDone step quiet old (replicate n Tick) text below new × (failed ≡ false)
   -- nothing changes
-  TellsAsk quiet (Show topic) old text below new =
+  TellsAsk quiet (Show topic) old failed text below new =
       Shows step old.machine topic text below × (new.machine ≡ old.machine) × (new.traced ≡ old.traced)
-  TellsAsk quiet (Capture name details) old text below new = IsPlayed step has quiet details name old text below new
+      × (failed ≡ false)
+  TellsAsk quiet (Capture name details) old failed text below new =
+      IsPlayed step has quiet details name old failed text below new
   -- that isn't told so: see TellsSettings
-  TellsAsk quiet (Settings named) old text below new = ⊥
+  TellsAsk quiet (Settings named) old failed text below new = ⊥
 
   -- what a line may have as its text that asks for this, and for no settings
   abbrev pub TellsDone : Ask → Play → List ℕ → Option (List ℕ) → List ℕ → Play → Type 0
   TellsDone ask now shown wanted text new =
-      (after : CapturedView) × (said : List ℕ) × (below : List ℕ)
-      × TellsAsk (is_quiet now.form) ask (captured_of now.machine now.traced now.number) said below after
+      (after : CapturedView) × (failed : Bool) × (said : List ℕ) × (below : List ℕ)
+      × TellsAsk (is_quiet now.form) ask (captured_of now.machine now.traced now.number) failed said below after
       × (text ≡ told_text now.form now.texts now.name now.number shown wanted said below)
       × (new ≡ record now {
         machine = after.machine;
         traced = after.traced;
         head = now.head && stays_head ask;
-        sound = now.sound && is_sound wanted said;
+        sound = (now.sound && is_sound wanted said) && is_done wanted failed;
       })
 
   -- what a line may have as its text that asks for this, or for nothing: then what it could have been
@@ -194,7 +203,8 @@ play_fault_status Read = 4
 play_fault_status Write = 4
 play_fault_status TooManyLines = 4
 
--- 0 exactly if all lines were served, all of them asked for something, and all expectations held
+-- 0 exactly if all lines were served, all of them asked for something, each capture was played in that wasn't expected
+-- to fail, and all expectations held
 abbrev pub play_status : Result Unit RunFault → Bool → ℕ
 play_status (Ok done) true = 0
 play_status (Ok done) false = 1

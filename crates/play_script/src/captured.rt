@@ -1,19 +1,24 @@
-//! A stack with the capture of its packets. The packets of another capture come to both.
+//! A stack with the capture of its packets. The packets of another capture come to both, and it's noted why some were
+//! dropped.
 ghost use Rattle.std.specs.Prelude.{◌≡◌, vec_len};
 ghost use Rattle.params.specs.declared.TheConstants.{IP_MAX_PACKET};
-ghost use Rattle.play_script.specs.Plays.{CapturedView, ComesTo, captured_of};
+ghost use Rattle.play_script.specs.Plays.{ComesTo, ReplayView, captured_of, replay_of};
 ghost use Rattle.net_stack.specs.Stack.{state_of};
 ghost use Rattle.stack_call.specs.Moves.{StackSteps};
 
 use crate::capture::Capture;
+use flat_model::Counters;
 use net_stack::Stack;
-use play_pcap::{Trace, Wire};
+use play_pcap::{RecordPlace, Trace, Wire};
+use play_records::Table;
 use script_loop::Sink;
 
 /// A stack, and the capture to which the packets are added that come and go.
 pub(crate) struct CapturedStack<T: Sink> {
     pub(crate) stack: Stack,
     pub(crate) capture: Capture<T>,
+    /// For which causes the packets of a capture were dropped that was played in last.
+    pub(crate) causes: Table,
     /// Room for the bytes of a reply, or for those of a file that's read.
     pub(crate) room: Vec<u8>,
     ghost room_len: { vec_len room ≡ IP_MAX_PACKET },
@@ -27,6 +32,7 @@ impl<T: Sink> CapturedStack<T> {
         let CapturedStack {
             stack,
             capture,
+            causes: _causes,
             room: _room,
         } = self;
         let _ = stack.end();
@@ -35,17 +41,28 @@ impl<T: Sink> CapturedStack<T> {
     }
 }
 
+/// What a stack has counted.
+#[tactic(auto, unfolding(stack_call::specs::Moves::StackSteps))]
+fn counted(stack: &Stack) -> Counters
+    ensures { result ≡ (state_of stack.now).counters }
+{
+    stack.counters()
+}
+
 #[tactic(auto, unfolding(stack_call::specs::Moves::StackSteps))]
 impl<T: Sink> Wire for CapturedStack<T> {
-    ghost State = { CapturedView };
+    ghost State = { ReplayView };
 
-    ghost state = { λ s. captured_of (state_of s.stack) s.capture.trace s.capture.line };
+    ghost state = { λ s. replay_of (captured_of (state_of s.stack) s.capture.trace s.capture.line) s.causes };
 
     ghost may_go = { ComesTo StackSteps };
 
-    fn rx(&mut self, packet: &[u8]) {
+    fn rx(&mut self, place: RecordPlace, packet: &[u8]) {
+        let before = counted(&self.stack);
         self.stack.rx(packet);
         self.capture.keep(packet);
+        let after = counted(&self.stack);
+        self.causes.note(place.number, &before, &after);
     }
 
     fn tick(&mut self) {

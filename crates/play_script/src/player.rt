@@ -4,7 +4,7 @@ ghost use Rattle.flat_model.specs.Scripts.Grammar.{words};
 ghost use Rattle.net_stack.specs.Stack.{state_of};
 ghost use Rattle.params.specs.declared.TheConstants.{IP_MAX_PACKET};
 ghost use Rattle.play_script.specs.Inside.{play_of};
-ghost use Rattle.play_script.specs.Tells.{Play, Tells, TellsAsked, TellsSettings};
+ghost use Rattle.play_script.specs.Tells.{Play, Tells, TellsAsked, TellsSettings, is_done};
 ghost use Rattle.play_script.specs.Views.{expected_on, plain_line};
 ghost use Rattle.stack_call.specs.Moves.{StackSteps};
 
@@ -39,6 +39,13 @@ pub(crate) struct Player<T: Sink, F> {
     pub(crate) report: Report,
     pub(crate) printer: Printer,
     ghost bytes_len: { vec_len bytes ≡ IP_MAX_PACKET },
+}
+
+/// Whether what a line asks for was done, or something was expected of it.
+fn is_done(line: &Line, failed: bool) -> bool
+    ensures { result ≡ is_done (expected_on line.now) failed }
+{
+    line.expects || !failed
 }
 
 impl<T: Sink, F: Folder> Player<T, F> {
@@ -115,9 +122,13 @@ impl<T: Sink, F: Folder> Player<T, F> {
                 self.printer.put_fault(text, bytes_of(&self.report.told));
             }
             Told::Settings => self.set_up(text),
-            Told::Done(stays) => {
+            Told::Done { stays, failed } => {
                 self.printer.put_told(text, &self.line, &self.report);
-                self.head = both(self.head, stays);
+                let done = is_done(&self.line, failed);
+                let sound = both(self.printer.sound, done);
+                self.printer.sound = sound;
+                let head = both(self.head, stays);
+                self.head = head;
             }
         }
     }

@@ -1,8 +1,9 @@
 //! Captures that are played in.
-ghost use Rattle.std.specs.Prelude.{◌≡◌};
+ghost use Rattle.std.specs.Prelude.{◌≡◌, ◌+◌, ◌≤◌, ◌++◌, length};
 ghost use Rattle.play_pcap.specs.Events.{IsOrdered};
 ghost use Rattle.play_pcap.specs.Files.{PlaysNamed};
-ghost use Rattle.play_script.specs.Plays.{ComesTo, IsPlayed, captured_of};
+ghost use Rattle.play_records.specs.declared.table.TheConstants.{TABLE};
+ghost use Rattle.play_script.specs.Plays.{ComesTo, IsPlayed, captured_of, causes_below, has_failed, replay_of};
 ghost use Rattle.net_stack.specs.Stack.{state_of};
 ghost use Rattle.stack_call.specs.Moves.{StackSteps};
 
@@ -11,8 +12,9 @@ use crate::outcome::put_drops;
 use crate::report::{Report, bytes_of};
 use crate::tell::put_below;
 use play_pcap::{Ask, CaptureFault, Folder, Tally, load_named, play_file, put_outcome};
-use play_show::snapshot_of;
-use script_loop::Sink;
+use play_records::{TABLE, Table};
+use play_show::{SHOWN, snapshot_of};
+use script_loop::{Buffer, Sink};
 use std::alloc::Global;
 
 /// The files that a script may name, and the memory that one of them is read into.
@@ -30,8 +32,10 @@ fn play_in<T: Sink, F: Folder>(
 ) -> Result<Tally, CaptureFault>
     requires { IsOrdered ask.details.range }
     ensures { PlaysNamed F.may_have (ComesTo StackSteps) ask.entry.details ask.entry.name.now result
-        (captured_of (state_of captured.old.stack) captured.old.capture.trace captured.old.capture.line)
-        (captured_of (state_of captured.new.stack) captured.new.capture.trace captured.new.capture.line) }
+        (replay_of (captured_of (state_of captured.old.stack) captured.old.capture.trace captured.old.capture.line)
+        captured.old.causes)
+        (replay_of (captured_of (state_of captured.new.stack) captured.new.capture.trace captured.new.capture.line)
+        captured.new.causes) }
 {
     let room = captured.room.as_mut_slice();
     match load_named(files.alloc, &files.folder, ask.name, room) {
@@ -40,21 +44,42 @@ fn play_in<T: Sink, F: Folder>(
     }
 }
 
-/// Plays in the capture that a line asks for, and reports what is told of it.
+/// Whether a capture wasn't played in.
+fn has_failed(outcome: &Result<Tally, CaptureFault>) -> bool
+    ensures { result ≡ has_failed outcome.now }
+{
+    match *outcome {
+        Ok(_) => false,
+        Err(_) => true,
+    }
+}
+
+/// Puts a line after the text for each cause for which packets were dropped, or nothing.
+fn put_causes(quiet: bool, causes: &Table, below: &mut Buffer<SHOWN>)
+    requires { length below.old + TABLE ≤ SHOWN }
+    ensures { below.new ≡ below.old ++ causes_below quiet causes.now }
+{
+    if !quiet {
+        causes.put(below);
+    }
+}
+
+/// Plays in the capture that a line asks for, and reports what is told of it. Answers whether that failed.
 pub(crate) fn tell_capture<T: Sink, F: Folder>(
     captured: &mut CapturedStack<T>,
     files: &Files<F>,
     ask: Ask<'_>,
     report: &mut Report,
-)
+) -> bool
     requires { IsOrdered ask.details.range }
     ensures plays { IsPlayed StackSteps F.may_have report.old.quiet ask.entry.details ask.entry.name.now
-        (captured_of (state_of captured.old.stack) captured.old.capture.trace captured.old.capture.line)
+        (captured_of (state_of captured.old.stack) captured.old.capture.trace captured.old.capture.line) result
         report.new.told report.new.below
         (captured_of (state_of captured.new.stack) captured.new.capture.trace captured.new.capture.line) }
     ensures quiet { report.new.quiet ≡ report.old.quiet }
 {
     let before = snapshot_of(&captured.stack);
+    captured.causes = Table::new();
     let outcome = play_in(captured, files, ask);
     let after = snapshot_of(&captured.stack);
     put_drops(&mut report.drops, &before.counters, &after.counters);
@@ -68,4 +93,6 @@ pub(crate) fn tell_capture<T: Sink, F: Folder>(
         (None, &before, &after),
         &mut report.below,
     );
+    put_causes(report.quiet, &captured.causes, &mut report.below);
+    has_failed(&outcome)
 }

@@ -26,6 +26,7 @@ use link_script::booted;
 use net_stack::Stack;
 use play_packet::{LineReader, PACKET};
 use play_pcap::{Folder, NoFolder, Nowhere, Trace};
+use play_records::Table;
 use script_loop::{Buffer, RunFault, Sink, Source, serve_script};
 use std::alloc::{AllocError, Global};
 
@@ -34,13 +35,15 @@ use std::alloc::{AllocError, Global};
 pub struct Played {
     /// How it ended.
     pub outcome: Result<(), RunFault>,
-    /// Whether all lines asked for something, and all expectations held.
+    /// Whether all lines asked for something, each capture was played in that wasn't expected to fail, and all
+    /// expectations held.
     pub sound: bool,
 }
 
 impl Played {
-    /// The status that the program ends with: 0 if all lines asked for something and all expectations held, 1 if not; 3
-    /// if there is no machine, 4 if reading or writing failed or the script has too many lines (this project's own).
+    /// The status that the program ends with: 0 if all lines asked for something, each capture was played in that
+    /// wasn't expected to fail, and all expectations held, 1 if not; 3 if there is no machine, 4 if reading or writing
+    /// failed or the script has too many lines (this project's own).
     pub fn status(&self) -> u8
         ensures { result ≡ play_status self.now.outcome self.now.sound }
     {
@@ -144,6 +147,7 @@ fn play_machine<R: Source, W: Sink, T: Sink, F: Folder>(
         captured: CapturedStack {
             stack,
             capture: Capture { trace, line: 0 },
+            causes: Table::new(),
             room,
         },
         config,
@@ -204,7 +208,8 @@ fn play_untraced<R: Source, W: Sink>(
 /// the causes for which packets were dropped, and by the difference if something else was expected. The stack is spent
 /// then.
 ///
-/// `sound` tells whether all lines that were read asked for something, and all that was expected came.
+/// `sound` tells whether all lines that were read asked for something, and all that was expected came. A capture that
+/// can't be played in has to be expected to fail.
 ///
 /// # Errors
 ///

@@ -3,6 +3,7 @@ ghost use Rattle.std.specs.Prelude.{◌≡◌, ◌≤◌, length, IfSome};
 ghost use Rattle.net_stack.specs.Stack.{state_of};
 ghost use Rattle.params.specs.declared.TheConstants.{IP_MAX_PACKET, MAX_MTU};
 ghost use Rattle.play_read.specs.Views.{IsSoundAsk, ask_of};
+ghost use Rattle.play_show.specs.declared.changes.TheConstants.{CHANGES};
 ghost use Rattle.play_script.specs.Deeds.{below_text};
 ghost use Rattle.play_script.specs.Inside.{IsTold, IsToldAs, events_of, most_of};
 ghost use Rattle.play_script.specs.Plays.{captured_of};
@@ -21,7 +22,7 @@ use net_stack::Stack;
 use params::{IP_MAX_PACKET, MAX_MTU};
 use play_pcap::Folder;
 use play_read::Ask;
-use play_show::{SHOWN, Snapshot, put_changes, snapshot_of};
+use play_show::{CHANGES, SHOWN, Snapshot, put_changes, snapshot_of};
 use script_loop::{Buffer, Sink};
 
 /// Puts what came of a line into a buffer, or nothing. The packets that are told are copied into the room.
@@ -34,8 +35,9 @@ pub(crate) fn put_below(
 )
     requires moved { IfSome moved.0 (λ p. length p.now ≤ IP_MAX_PACKET) }
     requires room { MAX_MTU ≤ length room.old }
-    ensures { below.new ≡ below_text quiet (packet_behind moved.entry.0) moved.entry.1.now moved.entry.2.now
+    ensures items { below.new ≡ below_text quiet (packet_behind moved.entry.0) moved.entry.1.now moved.entry.2.now
         (state_of stack.now).output }
+    ensures len { length below.new ≤ CHANGES }
 {
     if quiet {
         below.clear();
@@ -53,8 +55,8 @@ pub(crate) enum Told {
     Nothing,
     /// It has settings, for which another machine has to be made.
     Settings,
-    /// What it asks for was done, and is told. Whether settings may still come after it.
-    Done(bool),
+    /// What it asks for was done, and is told. Whether settings may still come after it, and whether it failed.
+    Done { stays: bool, failed: bool },
 }
 
 /// Does one call or several ticks, and reports what is told of them. The capture has what they add. The bytes of the
@@ -111,7 +113,10 @@ fn tell_ask<T: Sink, F: Folder>(
                 Deed::Call(request),
                 report,
             );
-            Told::Done(false)
+            Told::Done {
+                stays: false,
+                failed: false,
+            }
         }
         Ask::Ticks(count) => {
             tell_deed(
@@ -121,15 +126,24 @@ fn tell_ask<T: Sink, F: Folder>(
                 Deed::Ticks(count),
                 report,
             );
-            Told::Done(false)
+            Told::Done {
+                stays: false,
+                failed: false,
+            }
         }
         Ask::Show(topic) => {
             report.tell_topic(&captured.stack, topic);
-            Told::Done(true)
+            Told::Done {
+                stays: true,
+                failed: false,
+            }
         }
         Ask::Capture(capture) => {
-            tell_capture(captured, files, capture, report);
-            Told::Done(false)
+            let failed = tell_capture(captured, files, capture, report);
+            Told::Done {
+                stays: false,
+                failed,
+            }
         }
         Ask::Settings(_) => Told::Settings,
     }

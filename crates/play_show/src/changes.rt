@@ -18,6 +18,9 @@ use script_loop::Buffer;
 /// So many packets of a send are told; of more than these, how many more there are.
 const MOST_SENT: u32 = 16;
 
+/// How many bytes the lines of what changed have at most.
+pub const CHANGES: usize = 6_200;
+
 /// Whether a counter went up.
 fn rose(counter: Counter, before: &Snapshot, after: &Snapshot) -> bool
     ensures { result ≡ texts.rose counter before.now after.now }
@@ -223,7 +226,7 @@ fn put_pool_changes(text: &mut Buffer<SHOWN>, before: &Mbstat, after: &Mbstat)
 /// delivered; as how many packets something was sent, and what the headers of the first 16 say, which are asked of the
 /// machine; how many unfinished datagrams were dropped; and how many mbufs and clusters were taken or given back. What
 /// doesn't change isn't told, and what the buffer held before is lost. The packets are copied into the room, one after
-/// another; it has 4,352 bytes.
+/// another; it has 4,352 bytes. The lines have [`CHANGES`] bytes at most.
 pub fn put_changes(
     text: &mut Buffer<SHOWN>,
     packet: Option<&[u8]>,
@@ -233,8 +236,9 @@ pub fn put_changes(
 )
     requires packet { IfSome packet (λ p. length p.now ≤ IP_MAX_PACKET) }
     requires room { length room.old ≡ MAX_MTU }
-    ensures { text.new ≡ texts.changes_text (option_map (λ p. p.now) packet.entry) looks.entry.0.now looks.entry.1.now
-        (state_of machine.now).output }
+    ensures items { text.new ≡ texts.changes_text (option_map (λ p. p.now) packet.entry) looks.entry.0.now
+        looks.entry.1.now (state_of machine.now).output }
+    ensures len { length text.new ≤ CHANGES }
 {
     let (before, after) = looks;
     put_moved(text, packet, before, after);

@@ -11,7 +11,7 @@ mod tell;
 mod topic;
 mod unfinished;
 
-pub use changes::put_changes;
+pub use changes::{CHANGES, put_changes};
 pub use shown_law::{looks_law, shows_law};
 pub use snapshot::{Snapshot, snapshot_of};
 pub use tell::tell_topic;

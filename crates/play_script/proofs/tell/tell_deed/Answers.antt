@@ -23,7 +23,7 @@ returns-clause-done g c =
       now = c.snapshot_of-after.ensures;
       tells = c.tell_reply.ensures.told;
       shows =
-          c.tell_reply.ensures.below ∙ c.put_below.ensures
+          c.tell_reply.ensures.below ∙ c.put_below.ensures.items
           ∙ ap (λ (m : Option (List ℕ)). below_text c.args.report.now.quiet m before after output)
           c.moved_by-moved.ensures.packet;
     }

@@ -6,7 +6,7 @@ use Rattle.play_pcap.proofs.moves.Moves.next_move.Goals as goal
 
 pub returns-in_default-clause-is : goal.returns-in_default-clause-is
 returns-in_default-clause-is c = (
-  sym c.records.invariant.same ∙ none_left c.records.self.course c.records.self.passed c.records.self.rest.now
+  sym c.records.invariant.same ∙ none_left c.records.self.course c.records.self.number c.records.self.passed c.records.self.rest.now
       (omega (arith, c.in_default.len_below)),
   c.records.invariant.passed,
 )
@@ -17,7 +17,8 @@ records-preserved c =
     let less = fewer c.records.self.rest.now some in
     let most = c.records.invariant.len in record {
       same =
-          skipped c.records.self.course c.records.self.passed c.records.self.rest.now _ some (sym c.in-None.ensures.is)
+          skipped c.records.self.course c.records.self.number c.saturating_add-next.result c.records.self.passed
+          c.records.self.rest.now _ some (sym c.in-None.ensures.is) c.saturating_add-next.ensures
           ∙ c.records.invariant.same;
       course = c.records.invariant.course;
       passed = c.records.invariant.passed;
@@ -34,10 +35,10 @@ returns-in-Some-clause-is c =
     let ticks = c.saturating_sub-ticks.ensures in
     let new = c.max-self.ensures in (
       sym c.records.invariant.same
-          ∙ moved c.records.self.course c.records.self.passed c.records.self.rest.now _ c.in-Some.packet.now
-          c.due-due.result
-          c.saturating_sub-ticks.result c.max-self.result some (sym c.in-Some.ensures.is) c.due-due.ensures.is ticks
-          new,
+          ∙ moved c.records.self.course c.records.self.number c.saturating_add-next.result c.records.self.passed
+          c.records.self.rest.now _ c.place-place.result c.in-Some.packet.now c.due-due.result
+          c.saturating_sub-ticks.result c.max-self.result some (sym c.in-Some.ensures.is) c.saturating_add-next.ensures
+          c.place-place.ensures c.due-due.ensures.is ticks new,
       c.in-Some.ensures.short,
       omega (arith, passed, ticks, new),
       rw (old, length-map _ captured) (omega (arith, less, most)),

@@ -1,10 +1,10 @@
 use Rattle.std.proofs.Common.{◌≡◌, ◌≤◌, length}
-use Rattle.play_pcap.specs.Events.{going, events_left}
+use Rattle.play_pcap.specs.Events.{going, acts_left}
 use Rattle.play_pcap.proofs.moves.Moves.next_move.Given as goal
 
 abbrev pub invariant-records : goal.invariant-records
 invariant-records l = record {
-  same : events_left (going l.self) ≡ events_left (going l.fn.self);
+  same : acts_left (going l.self) ≡ acts_left (going l.fn.self);
   course : l.self.course ≡ l.fn.self.course;
   passed : l.self.passed ≡ l.fn.self.passed;
   len : length l.self.rest.now ≤ length l.fn.self.rest.now;

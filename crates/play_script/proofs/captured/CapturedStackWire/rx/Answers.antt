@@ -1,5 +1,7 @@
-use Rattle.std.proofs.Common.{Some, refl, arith}
+use Rattle.std.proofs.Common.{Some, refl, ap₂, ◌∙◌, arith}
 use Rattle.flat_model.specs.Machine.Event.{Comes, Done}
+use Rattle.flat_model.specs.declared.counters.Counters.{Counters}
+use Rattle.play_records.specs.Tables.{drops_noted}
 use Rattle.play_script.proofs.CaptureLemmas.{Captures-one}
 use Rattle.play_script.proofs.PlayLemmas.{are_bytes}
 use Rattle.stack_call.specs.Moves.{StackSteps}
@@ -13,4 +15,7 @@ returns g c = (
   Captures-one c.args.self.now.capture.line c.args.self.now.capture.trace c.keep.new.self.trace
       (Comes c.args.packet.now) Done (Some c.args.packet.now) 0 refl refl c.keep.ensures.notes,
   c.keep.ensures.line,
+  c.note.ensures
+      ∙ ap₂ (λ (a b : Counters). drops_noted c.args.place.number a b c.args.self.now.causes) c.counted-before.ensures
+      c.counted-after.ensures,
 )

@@ -14,4 +14,5 @@ returns g c =
       Captures-one line old c.tick-2.new.self.trace Tick Done None 1 refl refl
           (Notes-ticks line 1 old old c.tick-2.new.self.trace None (Keeps-none old, refl) c.tick-2.ensures.trace),
       c.tick-2.ensures.line,
+      refl,
     )

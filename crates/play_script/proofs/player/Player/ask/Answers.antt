@@ -2,7 +2,7 @@ use Rattle.std.proofs.Common.{◌≡◌, Bool, ◌&&◌, refl, ap, ap₂, ◌∙
 use Rattle.play_text.specs.Texts.{fault_text}
 use Rattle.play_script.specs.Inside.{play_of}
 use Rattle.play_script.specs.Plays.{captured_of}
-use Rattle.play_script.specs.Tells.{stays_head, told_text}
+use Rattle.play_script.specs.Tells.{is_done, is_sound, stays_head, told_text}
 use Rattle.play_script.specs.Views.{expected_on, plain_line}
 use Rattle.play_script.specs.declared.printer.Printer.{Printer}
 use Rattle.play_script.proofs.AnswerLemmas.{Ask-tells, None-tells, Settings-tell, settings_words}
@@ -17,16 +17,23 @@ returns-in-Done g c =
     let text = c.tell_line.new.report.told in
     let below = c.tell_line.new.report.below in
     let after = c.tell_line.new.captured in
-    let head : c.both-self.result ≡ (now.head && stays_head done.0) =
-    c.both-self.ensures ∙ ap (λ (b : Bool). now.head && b) done.2.1 in
-    let playing = λ (h : Bool) (p : Printer). play_of (state_of after.stack) after.capture.trace now.config h p in (
-      told_text now.printer.form now.printer.texts now.printer.name now.printer.number now.line.shown (expected_on now.line) text below,
+    let wanted = expected_on now.line in
+    let head : c.both-head.result ≡ (now.head && stays_head done.0) =
+    c.both-head.ensures ∙ ap (λ (b : Bool). now.head && b) done.2.1 in
+    let sound : c.both-sound.result ≡ ((now.printer.sound && is_sound wanted text) && is_done wanted c.in-Done.failed) =
+    c.both-sound.ensures
+    ∙ ap₂ (λ (a b : Bool). a && b) (ap (λ (p : Printer). p.sound) c.put_told.ensures.printer) c.is_done-done.ensures in
+    let playing = λ (h : Bool) (p : Printer) (s : Bool). play_of (state_of after.stack) after.capture.trace now.config h
+    (record p { sound = s }) in (
+      told_text now.printer.form now.printer.texts now.printer.name now.printer.number now.line.shown wanted text below,
       Ask-tells StackSteps g.F.Folder.may_have
           (play_of (state_of now.captured.stack) now.captured.capture.trace now.config now.head now.printer)
-          (playing c.both-self.result c.put_told.new.self) now.line.shown (plain_line now.line) (expected_on now.line)
+          (playing c.both-head.result c.put_told.new.self c.both-sound.result) now.line.shown (plain_line now.line) wanted
           done.0 text below
           (captured_of (state_of after.stack) after.capture.trace after.capture.line) c.is_quiet-self.result
-          c.is_quiet-self.ensures done.1 done.2.0 (ap₂ playing head c.put_told.ensures.printer),
+          c.in-Done.failed c.is_quiet-self.ensures done.1 done.2.0
+          (ap₂ (λ (h : Bool) (p : Printer). playing h p c.both-sound.result) head c.put_told.ensures.printer
+          ∙ ap (λ (s : Bool). playing (now.head && stays_head done.0) now.printer s) sound),
       c.put_told.ensures.text,
     )
 
