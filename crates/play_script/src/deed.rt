@@ -79,6 +79,16 @@ pub(crate) fn moved_by<'a>(deed: &Deed<'a>, reply: &Reply<'a>) -> Option<&'a [u8
     }
 }
 
+/// The packet that comes or goes by a call and by its reply.
+pub fn moved_by_call<'a>(request: &Request<'a>, reply: &Reply<'a>) -> Option<&'a [u8]>
+    requires call { room_of request.now ≤ IP_MAX_PACKET }
+    requires reply { len_of reply.now ≤ IP_MAX_PACKET }
+    ensures packet { packet_behind result ≡ captures.moved_by (event_of request.now) (reply_of reply.now) }
+    ensures fits { IfSome result (λ p. length p.now ≤ IP_MAX_PACKET) }
+{
+    moved_by(&Deed::Call(*request), reply)
+}
+
 /// How many ticks pass by what was done.
 pub(crate) fn ticks_of(deed: &Deed<'_>) -> u32
     ensures { result ≡ inside.ticks_of deed.now }

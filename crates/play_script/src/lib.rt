@@ -19,6 +19,7 @@ mod settle;
 mod tell;
 
 pub use capture::Capture;
+pub use deed::moved_by_call;
 pub use fits::meets;
 pub use flat_model::Config;
 pub use laws::runs_law;

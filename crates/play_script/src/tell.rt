@@ -48,6 +48,32 @@ pub(crate) fn put_below(
     }
 }
 
+impl Report {
+    /// Tells below a reply what came of a line at a stack, by which this packet came or went; nothing if the report is
+    /// quiet. Of the two looks at the stack the first was before the line, and the second after it.
+    pub fn tell_below(
+        &mut self,
+        stack: &Stack,
+        moved: Option<&[u8]>,
+        looks: (&Snapshot, &Snapshot),
+    )
+        requires { IfSome moved (λ p. length p.now ≤ IP_MAX_PACKET) }
+        ensures below { self.new.below ≡ below_text self.old.quiet (packet_behind moved.entry) looks.entry.0.now
+            looks.entry.1.now (state_of stack.now).output }
+        ensures told { self.new.told ≡ self.old.told }
+        ensures quiet { self.new.quiet ≡ self.old.quiet }
+    {
+        let (before, after) = looks;
+        put_below(
+            self.quiet,
+            stack,
+            self.digits.as_mut_slice(),
+            (moved, before, after),
+            &mut self.below,
+        );
+    }
+}
+
 /// What came of a plain line.
 #[derive(Clone, Copy)]
 pub(crate) enum Told {

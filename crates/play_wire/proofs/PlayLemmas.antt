@@ -1,6 +1,7 @@
 -- A line, and what it does.
 use Rattle.std.proofs.Common.{◌≡◌, ◌⊎◌, inl, inr, ℕ, ◌-◌, ◌&&◌, Bool, true, false, List, [], ◌∷◌, ◌++◌, length, Option, Some, refl, sym, ap, ◌∙◌, subst, append-nil}
 use Rattle.std.specs.Prelude.{codes, slice_get, Result, Ok, Err, IfOk}
+use Rattle.play_text.specs.Forms.{is_quiet}
 use Rattle.play_text.specs.Texts.{if_there}
 use Rattle.play_script.specs.Lines.{Reading, reading}
 use Rattle.segment.specs.Law.{Act, AreActs}
@@ -37,14 +38,18 @@ tells_left (Err fault) plain words' told below w same tells = tt
 
 pub done_by_host : (play : WirePlay) (named : Bool) (host words plain : List ℕ) (came : Outcome) (v w : SegmentView)
     (old : List (List ℕ)) (place : ℕ)
-    → play.segment ≡ v → play.names ≡ old → named ≡ true → slice_get old place ≡ Some host → words ≡ plain
-    → (acts : List Act) × (IsHostLine place words v acts came w ⊎ IsMissing place v acts came w)
+    → (quiet : Bool)
+    → play.segment ≡ v → play.names ≡ old → is_quiet play.form ≡ quiet → named ≡ true
+    → slice_get old place ≡ Some host → words ≡ plain
+    → (acts : List Act) × (IsHostLine quiet place words v acts came w ⊎ IsMissing place v acts came w)
     → (acts : List Act) × IsDone play (if_there named host) plain acts came w old
-done_by_host play named host words plain came v w old place e f is there same (acts, did) =
-    let read : IsHostLine place plain v acts came w ⊎ IsMissing place v acts came w =
-    subst (λ (ws : List ℕ). IsHostLine place ws v acts came w ⊎ IsMissing place v acts came w) same did in
-    let mine : IsHostLine place plain play.segment acts came w ⊎ IsMissing place play.segment acts came w =
-    subst (λ (x : SegmentView). IsHostLine place plain x acts came w ⊎ IsMissing place x acts came w) (sym e) read in
+done_by_host play named host words plain came v w old place quiet e f loud is there same (acts, did) =
+    let line = λ (q : Bool) (ws : List ℕ) (x : SegmentView).
+    IsHostLine q place ws x acts came w ⊎ IsMissing place x acts came w in
+    let read : line quiet plain v = subst (λ (ws : List ℕ). line quiet ws v) same did in
+    let here : line quiet plain play.segment = subst (λ (x : SegmentView). line quiet plain x) (sym e) read in
+    let mine : line (is_quiet play.form) plain play.segment =
+    subst (λ (q : Bool). line q plain play.segment) (sym loud) here in
     let named_so : slice_get play.names place ≡ Some host =
     subst (λ (xs : List (List ℕ)). slice_get xs place ≡ Some host) (sym f) there in (
       acts,

@@ -1,11 +1,12 @@
 -- Whole scripts.
-use Rattle.std.proofs.Common.{◌≡◌, inl, inr, ℕ, List, [], ◌∷◌, ◌++◌, map, Option, Some, None, refl, sym, ap, subst}
+use Rattle.std.proofs.Common.{◌≡◌, inl, inr, ℕ, Bool, List, [], ◌∷◌, ◌++◌, map, Option, Some, None, refl, sym, ap, subst}
 use Rattle.play_script.specs.Lines.{Reading, Nothing, TooLong, Faulty, Asks, reading}
 use Rattle.script_loop.specs.Printed.{Prints}
 use Rattle.segment.specs.Law.{Act, Calls, Seeds, AreActs}
 use Rattle.segment.specs.Segment.{SegmentView}
 use Rattle.play_wire.specs.Acts.{Outcome, IsHostLine}
 use Rattle.play_wire.specs.Runs.{AreToldBy, IsLawful, IsPlayed}
+use Rattle.play_text.specs.Forms.{is_quiet}
 use Rattle.play_text.specs.declared.form.Form.{Form}
 use Rattle.play_wire.specs.Tells.{WirePlay, Tells, TellsPart, IsDone, next_wire_line, wire_started}
 use Rattle.play_wire.proofs.ActLemmas.{acts_append, calls_are_acts}
@@ -13,9 +14,9 @@ use Rattle.play_wire.proofs.ActLemmas.{acts_append, calls_are_acts}
 none_are : (v w : SegmentView) (acts : List Act) → acts ≡ [] → w ≡ v → AreActs v acts w
 none_are v w acts none same = subst (λ (xs : List Act). AreActs v xs w) (sym none) same
 
-host_acts : (place : ℕ) (plain : List ℕ) (v w : SegmentView) (acts : List Act) (came : Outcome)
-    → IsHostLine place plain v acts came w → AreActs v acts w
-host_acts place plain v w acts came is =
+host_acts : (quiet : Bool) (place : ℕ) (plain : List ℕ) (v w : SegmentView) (acts : List Act) (came : Outcome)
+    → IsHostLine quiet place plain v acts came w → AreActs v acts w
+host_acts quiet place plain v w acts came is =
     subst (λ (xs : List Act). AreActs v xs w) (sym is.acts_are)
     (subst (λ (x : SegmentView). AreActs v (map (Calls place) is.turns) x) (sym is.leads)
     (calls_are_acts place v is.turns is.before is.after is.here is.answered.2))
@@ -25,7 +26,7 @@ done_acts : (now : WirePlay) (host : Option (List ℕ)) (plain : List ℕ) (acts
     → IsDone now host plain acts came segment names → AreActs now.segment acts segment
 done_acts now None plain acts came segment names done = done.0
 done_acts now (Some host) plain acts came segment names (same, inl (place, named, inl is)) =
-    host_acts place plain now.segment segment acts came is
+    host_acts (is_quiet now.form) place plain now.segment segment acts came is
 done_acts now (Some host) plain acts came segment names (same, inl (place, named, inr missing)) =
     none_are now.segment segment acts missing.1 missing.3
 done_acts now (Some host) plain acts came segment names (same, inr (none, kept, refused)) =

@@ -1,13 +1,17 @@
 -- What a line does to the hosts and the wire (this project's own).
-use Rattle.std.specs.Prelude.{◌≡◌, ℕ, List, [], ◌∷◌, codes, map, replicate, slice_get, slice_set, Option, Some, None}
+use Rattle.std.specs.Prelude.{◌≡◌, ℕ, Bool, List, [], ◌∷◌, codes, map, replicate, slice_get, slice_set, Option, Some, None}
 use Rattle.flat_model.specs.Machine.Event.{Event, Reply, Tick, Done}
 use Rattle.flat_model.specs.Machine.Step.{Step}
 use Rattle.flat_model.specs.Runs.Run.{Turn}
 use Rattle.flat_model.specs.Scripts.Texts.{reply_text}
 use Rattle.net_stack.specs.Runs.{AreCalls}
 use Rattle.net_stack.specs.Stack.{StackView, state_of}
+use Rattle.play_show.specs.Changes.{IsSnapshot}
 use Rattle.play_show.specs.Tells.{Shows}
+use Rattle.play_show.specs.declared.snapshot.Snapshot.{Snapshot}
 use Rattle.play_read.specs.Asks.{Ask, Call, Ticks, Show, Capture, Settings, AsksFor}
+use Rattle.play_script.specs.Captures.{moved_by}
+use Rattle.play_script.specs.Deeds.{below_text}
 use Rattle.play_script.specs.Outcomes.{told, drops_text}
 use Rattle.segment.specs.Law.{Act, Calls, AreActs}
 use Rattle.segment.specs.Segment.{SegmentView}
@@ -31,34 +35,42 @@ AreLedTo old new = (acts : List Act) × AreActs old acts new
 abbrev pub with_stack_at : ℕ → StackView → SegmentView → SegmentView
 with_stack_at place s v = record v { stacks = slice_set v.stacks place s }
 
--- What a line asks for, or nothing, is these calls, which lead a stack from s to t, and comes out so.
-abbrev pub Does : Option Ask → StackView → List Turn → Outcome → StackView → Type 0
--- the reply is told, and the causes for which packets were dropped
-Does (Some (Call event)) s turns outcome t =
-    (reply : Reply) × (turns ≡ call_turn event reply ∷ [])
-    × (outcome ≡ Told (told (reply_text reply) (drops_text (state_of s).counters (state_of t).counters)) [])
-Does (Some (Ticks n)) s turns outcome t = (turns ≡ replicate n (call_turn Tick Done)) × (outcome ≡ Told (codes "ok") [])
-Does (Some (Show topic)) s turns outcome t =
+-- two looks at a stack, before a line and after it
+abbrev pub AreLooks : StackView → StackView → Snapshot → Snapshot → Type 0
+AreLooks s t before after = IsSnapshot Step (state_of s) before × IsSnapshot Step (state_of t) after
+
+-- What a line asks for, or nothing, is these calls, which lead a stack from s to t, and comes out so. Nothing is told
+-- below a reply if `quiet`.
+abbrev pub Does : Bool → Option Ask → StackView → List Turn → Outcome → StackView → Type 0
+-- The reply is told, and the causes for which packets were dropped; and below it, as on one machine, what came of it.
+Does quiet (Some (Call event)) s turns outcome t =
+    (reply : Reply) × (before after : Snapshot) × (turns ≡ call_turn event reply ∷ []) × AreLooks s t before after
+    × (outcome ≡ Told (told (reply_text reply) (drops_text before.counters after.counters))
+    (below_text quiet (moved_by event reply) before after (state_of t).output))
+Does quiet (Some (Ticks n)) s turns outcome t =
+    (before after : Snapshot) × (turns ≡ replicate n (call_turn Tick Done)) × AreLooks s t before after
+    × (outcome ≡ Told (codes "ok") (below_text quiet None before after (state_of t).output))
+Does quiet (Some (Show topic)) s turns outcome t =
     (text below : List ℕ) × Shows Step (state_of s) topic text below × (turns ≡ []) × (outcome ≡ Told text below)
 -- no capture is played in
-Does (Some (Capture name details)) s turns outcome t = (turns ≡ []) × (outcome ≡ Refused fault.NoCapture)
+Does quiet (Some (Capture name details)) s turns outcome t = (turns ≡ []) × (outcome ≡ Refused fault.NoCapture)
 -- a host has the settings of its line `host`
-Does (Some (Settings named)) s turns outcome t = (turns ≡ []) × (outcome ≡ Refused fault.NoSettings)
-Does None s turns outcome t = (turns ≡ []) × (outcome ≡ Refused fault.Nothing)
+Does quiet (Some (Settings named)) s turns outcome t = (turns ≡ []) × (outcome ≡ Refused fault.NoSettings)
+Does quiet None s turns outcome t = (turns ≡ []) × (outcome ≡ Refused fault.Nothing)
 
 -- a line leads a stack from s to t, and comes out so
-abbrev pub IsLineAnswered : List ℕ → StackView → List Turn → Outcome → StackView → Type 0
-IsLineAnswered plain s turns outcome t =
-    (ask : Option Ask) × AsksFor plain ask × AreCalls s turns t × Does ask s turns outcome t
+abbrev pub IsLineAnswered : Bool → List ℕ → StackView → List Turn → Outcome → StackView → Type 0
+IsLineAnswered quiet plain s turns outcome t =
+    (ask : Option Ask) × AsksFor plain ask × AreCalls s turns t × Does quiet ask s turns outcome t
 
 -- a line of the host at a place leads from v to w by these acts, and comes out so
-pub record IsHostLine (place : ℕ) (plain : List ℕ) (v : SegmentView) (acts : List Act) (outcome : Outcome)
-    (w : SegmentView) : Type 0 where
+pub record IsHostLine (quiet : Bool) (place : ℕ) (plain : List ℕ) (v : SegmentView) (acts : List Act)
+    (outcome : Outcome) (w : SegmentView) : Type 0 where
   pub turns : List Turn
   pub before : StackView
   pub after : StackView
   pub here : slice_get v.stacks place ≡ Some before
-  pub answered : IsLineAnswered plain before turns outcome after
+  pub answered : IsLineAnswered quiet plain before turns outcome after
   pub acts_are : acts ≡ map (Calls place) turns
   pub leads : w ≡ with_stack_at place after v
 

@@ -4,6 +4,7 @@ use Rattle.flat_model.specs.Machine.Count.{more_by}
 use Rattle.play_line.specs.declared.fault.Slip.{Slip}
 use Rattle.play_script.specs.Lines.{Reading, Nothing, TooLong, Faulty, Asks, has_text, reading}
 use Rattle.play_text.specs.Texts.{fault_text, slip_text}
+use Rattle.play_text.specs.Forms.{is_quiet}
 use Rattle.play_text.specs.declared.form.Form.{Form}
 use Rattle.play_script.specs.Tells.{is_sound, told_text}
 use Rattle.segment.specs.Law.{Act, AreActs}
@@ -91,7 +92,8 @@ abbrev pub IsDone : WirePlay → Option (List ℕ) → List ℕ → List Act →
 IsDone now (Some host) plain acts outcome segment names =
     (names ≡ now.names)
     × (((place : ℕ) × (slice_get now.names place ≡ Some host)
-    × (IsHostLine place plain now.segment acts outcome segment ⊎ IsMissing place now.segment acts outcome segment))
+    × (IsHostLine (is_quiet now.form) place plain now.segment acts outcome segment
+    ⊎ IsMissing place now.segment acts outcome segment))
     ⊎ ((acts ≡ []) × (segment ≡ now.segment) × (outcome ≡ Refused fault.NoHost)))
 IsDone now None plain acts outcome segment names =
     AreActs now.segment acts segment × TellsLeft plain outcome segment

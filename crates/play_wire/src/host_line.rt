@@ -1,5 +1,5 @@
 //! The lines of one host.
-ghost use Rattle.std.specs.Prelude.{◌≡◌, ◌⊎◌, List, length};
+ghost use Rattle.std.specs.Prelude.{◌≡◌, ◌⊎◌, List, codes, length};
 ghost use Rattle.params.specs.declared.TheConstants.{IP_MAX_PACKET};
 ghost use Rattle.flat_model.specs.Runs.Run.{Turn};
 ghost use Rattle.segment.specs.Inside.{view};
@@ -13,9 +13,19 @@ use crate::spare::Spare;
 use crate::ticks::{exchange, tick_stack};
 use net_stack::Stack;
 use play_read::Ask;
-use play_script::{Line, Report};
+use play_script::{Line, Report, moved_by_call};
+use play_show::snapshot_of;
 use segment::Segment;
 use stack_call::call;
+
+/// Reports `ok`, and leaves what stands below it.
+fn tell_done(report: &mut Report)
+    ensures told { report.new.told ≡ codes "ok" }
+    ensures below { report.new.below ≡ report.old.below }
+{
+    report.told.clear();
+    report.told.append(b"ok");
+}
 
 /// Does what a line asks of a stack, and reports what is told of it. No capture is played in here, and no settings make
 /// another stack. The bytes that the line names stand in `bytes` then, and those of the reply in `room`.
@@ -29,7 +39,7 @@ fn answer_stack(
 ) -> Result<(), Fault>
     requires bytes { length bytes.old ≡ IP_MAX_PACKET }
     requires room { length room.old ≡ IP_MAX_PACKET }
-    ensures { (turns : List Turn) × IsLineAnswered (plain_line line.now) stack.old turns
+    ensures { (turns : List Turn) × IsLineAnswered report.old.quiet (plain_line line.now) stack.old turns
         (came_of result report.new.told report.new.below) stack.new }
 {
     let Some(ask) = line.ask(bytes) else {
@@ -37,16 +47,20 @@ fn answer_stack(
     };
     match ask {
         Ask::Call(request) => {
-            let before = stack.counters();
+            let before = snapshot_of(stack);
             let reply = call(stack, request, room);
-            let after = stack.counters();
-            report.below.clear();
-            report.tell_reply(&before, &after, &reply);
+            let after = snapshot_of(stack);
+            let moved = moved_by_call(&request, &reply);
+            report.tell_below(stack, moved, (&before, &after));
+            report.tell_reply(&before.counters, &after.counters, &reply);
             Ok(())
         }
         Ask::Ticks(count) => {
+            let before = snapshot_of(stack);
             tick_stack(stack, count);
-            report.tell_ok();
+            let after = snapshot_of(stack);
+            report.tell_below(stack, None, (&before, &after));
+            tell_done(report);
             Ok(())
         }
         Ask::Show(topic) => {
@@ -68,7 +82,7 @@ pub(crate) fn answer_host(
     report: &mut Report,
 ) -> Result<(), Fault>
     ensures { (acts : List Act)
-        × (IsHostLine place (plain_line line.now) (view segment.old) acts
+        × (IsHostLine report.old.quiet place (plain_line line.now) (view segment.old) acts
         (came_of result report.new.told report.new.below) (view segment.new)
         ⊎ IsMissing place (view segment.old) acts (came_of result report.new.told report.new.below)
         (view segment.new)) }

@@ -2,6 +2,7 @@
 ghost use Rattle.std.specs.Prelude.{◌≡◌, ◌≤◌, ◌++◌, IfSome, List, Some, false, length, slice_get, ℕ};
 ghost use Rattle.segment.specs.Inside.{view};
 ghost use Rattle.segment.specs.Law.{Act};
+ghost use Rattle.play_text.specs.Forms.{is_quiet};
 ghost use Rattle.play_script.specs.Views.{expected_on, plain_line};
 ghost use Rattle.play_script.specs.Lines.{Asks};
 ghost use Rattle.play_forms.specs.declared.text.TheConstants.{ADVICE};
@@ -44,7 +45,7 @@ fn answer_words<T: Sink + Drop>(
     report: &mut Report,
 ) -> Result<(), Fault>
     ensures { (play : WirePlay) → play.segment ≡ view hosts.old.segment → play.names ≡ hosts.old.names.items
-        → (acts : List Act) × IsDone play (named_by target.now) (plain_line line.now) acts
+        → is_quiet play.form ≡ report.old.quiet → (acts : List Act) × IsDone play (named_by target.now) (plain_line line.now) acts
         (came_of result report.new.told report.new.below) (view hosts.new.segment) hosts.new.names.items }
 {
     if target.named {
@@ -101,6 +102,7 @@ impl<T: Sink + Drop> Player<T> {
             (play_with (view self.new.hosts.segment) self.new.hosts.names.items self.new.printer)
             × (text.new ≡ text.old ++ added) }
     {
+        self.report.quiet = self.printer.form.is_quiet();
         match answer_words(&mut self.hosts, &self.target, &self.line, &mut self.report) {
             Ok(()) => {
                 self.target.label(bytes_of(&self.line.shown));

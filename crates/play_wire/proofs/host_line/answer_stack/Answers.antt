@@ -1,8 +1,6 @@
-use Rattle.std.proofs.Common.{None, Some, [], ap₂, refl, replicate, subst, ◌∙◌}
+use Rattle.std.proofs.Common.{None, Some, [], List, Option, ℕ, ap, ap₂, refl, replicate, subst, ◌∙◌}
 use Rattle.flat_model.specs.Machine.Event.{Tick, Done}
 use Rattle.flat_model.specs.Scripts.Grammar.{words}
-use Rattle.flat_model.specs.Scripts.Texts.{reply_text}
-use Rattle.flat_model.specs.declared.counters.Counters.{Counters}
 use Rattle.request.specs.Replies.{reply_of}
 use Rattle.request.specs.Requests.{event_of}
 use Rattle.stack_call.specs.Moves.{StackSteps}
@@ -10,10 +8,11 @@ use Rattle.play_read.specs.Asks as asks
 use Rattle.play_read.specs.Asks.{AsksFor}
 use Rattle.play_read.specs.Views.{ask_of}
 use Rattle.play_read.specs.declared.ask.Ask.{Ask}
-use Rattle.play_script.specs.Outcomes.{drops_text, told}
+use Rattle.net_stack.specs.Stack.{state_of}
+use Rattle.play_script.specs.Deeds.{below_text}
 use Rattle.play_script.specs.Views.{plain_line}
 use Rattle.play_wire.specs.Acts.{Told, call_turn}
-use Rattle.play_wire.proofs.HostLemmas.{answered_by_call, counted_is}
+use Rattle.play_wire.proofs.HostLemmas.{answered_by_call}
 use Rattle.play_wire.proofs.host_line.answer_stack.Goals as goal
 
 pub returns-in-Call : goal.returns-in-Call
@@ -21,15 +20,19 @@ unfolding StackSteps
 returns-in-Call c =
     let asked : AsksFor (plain_line c.args.line.now) (Some (asks.Call (event_of c.in-Call.request))) =
     subst (λ (a : Ask). AsksFor (plain_line c.args.line.now) (Some (ask_of a))) c.in-Call.is c.in-Some.ensures.asks in
-    answered_by_call (plain_line c.args.line.now) c.args.stack.now c.call-reply.new.stack c.tell_reply.new.self.told
-    c.tell_reply.new.self.below
-    (event_of c.in-Call.request) (reply_of c.call-reply.result) asked c.call-reply.ensures.step
-    (c.tell_reply.ensures.told
-    ∙ ap₂ (λ (a b : Counters). told (reply_text (reply_of c.call-reply.result)) (drops_text a b))
-    (counted_is _ _ c.counters-before.ensures.0)
-    (counted_is _ _ c.counters-after.ensures.0)) (c.tell_reply.ensures.below ∙ c.clear.ensures)
+    let before = c.snapshot_of-before.result in
+    let after = c.snapshot_of-after.result in
+    let output = (state_of c.call-reply.new.stack).output in
+    answered_by_call c.args.report.now.quiet (plain_line c.args.line.now) c.args.stack.now c.call-reply.new.stack
+    c.tell_reply.new.self.told c.tell_reply.new.self.below
+    (event_of c.in-Call.request) (reply_of c.call-reply.result) before after asked c.call-reply.ensures.step
+    (c.snapshot_of-before.ensures, c.snapshot_of-after.ensures) c.tell_reply.ensures.told
+    (c.tell_reply.ensures.below ∙ c.tell_below.ensures.below
+    ∙ ap (λ (m : Option (List ℕ)). below_text c.args.report.now.quiet m before after output)
+    c.moved_by_call-moved.ensures.packet)
 
 pub returns-in-Ticks : goal.returns-in-Ticks
+unfolding StackSteps
 returns-in-Ticks c =
     let n = c.in-Ticks.count in
     let asked : AsksFor (plain_line c.args.line.now) (Some (asks.Ticks c.in-Ticks.count)) =
@@ -39,7 +42,13 @@ returns-in-Ticks c =
         Some (asks.Ticks n),
         asked,
         c.tick_stack.ensures,
-        (refl, ap₂ Told c.tell_ok.ensures.told c.tell_ok.ensures.below),
+        (
+          c.snapshot_of-before-in-Ticks.result,
+          c.snapshot_of-after-in-Ticks.result,
+          refl,
+          (c.snapshot_of-before-in-Ticks.ensures, c.snapshot_of-after-in-Ticks.ensures),
+          ap₂ Told c.tell_done.ensures.told (c.tell_done.ensures.below ∙ c.tell_below-in-Ticks.ensures.below),
+        ),
       ),
     )
 

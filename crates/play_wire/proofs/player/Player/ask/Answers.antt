@@ -15,7 +15,7 @@ pub returns-in-Ok : goal.returns-in-Ok
 returns-in-Ok g c =
     let now = c.args.self.now in
     let p = play_with (view now.hosts.segment) now.hosts.names.items now.printer in
-    let did = c.in-Ok.ensures p refl refl in
+    let did = c.in-Ok.ensures p refl refl (sym c.is_quiet-self.ensures) in
     let segment = view c.answer_words.new.hosts.segment in
     let names = c.answer_words.new.hosts.names.items in
     let told = c.answer_words.new.report.told in
@@ -43,7 +43,7 @@ pub returns-in-Err : goal.returns-in-Err
 returns-in-Err g c =
     let now = c.args.self.now in
     let p = play_with (view now.hosts.segment) now.hosts.names.items now.printer in
-    let did = c.in-Err.ensures p refl refl in
+    let did = c.in-Err.ensures p refl refl (sym c.is_quiet-self.ensures) in
     let segment = view c.answer_words.new.hosts.segment in
     let names = c.answer_words.new.hosts.names.items in
     let host = named_by now.target in (
