@@ -5,7 +5,7 @@ pub(crate) const LINES: &str = "Status: 0 if all is well; 1 if a line is wrong, 
 capture can't be played in; 2 for a wrong command line; 3 without memory; 4 if a
 file can't be read, or writing fails.
 
-Lines, of which docs/play.md or man bsdplay has more:
+Lines, also with a time in front (+0.5s tx); docs/play.md or man bsdplay has more:
   socket
   bind FD ADDR PORT
   connect FD ADDR PORT

@@ -1,23 +1,40 @@
 //! A line that was read, with the plain line that it stands for.
-ghost use Rattle.std.specs.Prelude.{◌≡◌, ◌*◌, vec_len};
+ghost use Rattle.std.specs.Prelude.{◌≡◌, ◌*◌, ◌++◌, ◌≤◌, length, vec_len};
 ghost use Rattle.params.specs.declared.TheConstants.{IP_MAX_PACKET};
+ghost use Rattle.play_grade.specs.Asked.{ticks_front};
 ghost use Rattle.play_script.specs.Views.{plain_line};
 
 use play_line::LONGEST;
 use play_packet::PACKET;
 use play_script::{Line, bytes_of, room_for};
-use script_loop::{Buffer, put_hex};
+use script_loop::{Buffer, put_hex, put_number};
 use std::alloc::{AllocError, Global};
+
+/// Room for a plain line, with the ticks that pass before it.
+const ASKED: usize = LONGEST + 12;
 
 /// A line that was read, and the memory for it.
 #[derive(Drop)]
 pub(crate) struct Asked {
     pub(crate) line: Line,
-    /// The plain line that it stands for, also if its words name a packet.
-    pub(crate) plain: Buffer<LONGEST>,
+    /// The plain line that it stands for, also if its words name a packet, behind the ticks that pass first.
+    pub(crate) plain: Buffer<ASKED>,
     /// Room for the digits of a packet.
     digits: Vec<u8>,
     ghost digits_len: { vec_len digits ≡ 2 * IP_MAX_PACKET },
+}
+
+/// Puts the ticks that pass before a line into a buffer, with a space after them, if there are any.
+fn put_front(plain: &mut Buffer<ASKED>, ticks: u32)
+    ensures items { plain.new ≡ ticks_front ticks }
+    ensures len { length plain.new ≤ 12 }
+{
+    plain.clear();
+    if ticks != 0 {
+        plain.append(b"+");
+        put_number(plain, ticks);
+        plain.append(b" ");
+    }
 }
 
 impl Asked {
@@ -30,12 +47,12 @@ impl Asked {
         })
     }
 
-    /// Puts the plain line that the line stands for in its place.
-    pub(crate) fn put_plain(&mut self)
-        ensures plain { self.new.plain ≡ plain_line self.old.line }
+    /// Puts the plain line that the line stands for in its place, and in front of it the ticks that pass first.
+    pub(crate) fn put_plain(&mut self, ticks: u32)
+        ensures plain { self.new.plain ≡ ticks_front ticks ++ plain_line self.old.line }
         ensures line { self.new.line ≡ self.old.line }
     {
-        self.plain.clear();
+        put_front(&mut self.plain, ticks);
         if self.line.named {
             self.plain.append(b"rx ");
             put_hex(

@@ -1,11 +1,12 @@
 //! What a line asks.
-ghost use Rattle.std.specs.Prelude.{◌≡◌};
+ghost use Rattle.std.specs.Prelude.{◌≡◌, ◌≤◌, Ok, length};
 ghost use Rattle.play_grade.specs.Asked as asked;
 ghost use Rattle.play_grade.specs.Inside.{is_asked};
 
 use crate::asked::Asked;
+use play_line::{Timed, read_time};
 use play_packet::LineReader;
-use play_script::{Kind, read_line};
+use play_script::{Kind, read_part};
 
 /// Whether a line is a question to people, which is a comment that begins with `#?`.
 pub(crate) fn is_question(line: &[u8]) -> bool
@@ -26,9 +27,22 @@ impl Asked {
     pub(crate) fn read(&mut self, text: &[u8], reader: &mut LineReader) -> Kind
         ensures { asked.asked_on text.now ≡ is_asked result self.new }
     {
-        match read_line(unmarked(text), reader, &mut self.line) {
+        let line = unmarked(text);
+        match read_time(line) {
+            Ok(timed) => self.read_timed(line, timed, reader),
+            Err(slip) => Kind::Faulty(slip),
+        }
+    }
+
+    /// Reads a line with its time.
+    fn read_timed(&mut self, line: &[u8], timed: Timed<'_>, reader: &mut LineReader) -> Kind
+        requires { length timed.part.now ≤ length line.now }
+        ensures { asked.timed_on line.now (Ok (record { ticks = timed.entry.ticks; part = timed.entry.part.now }))
+            ≡ is_asked result self.new }
+    {
+        match read_part(line, timed.part, reader, &mut self.line) {
             Kind::Asks => {
-                self.put_plain();
+                self.put_plain(timed.ticks);
                 Kind::Asks
             }
             Kind::Nothing => Kind::Nothing,

@@ -1,7 +1,7 @@
 -- What is wrong with a line, in words (this project's own).
 use Rattle.std.specs.Prelude.{ℕ, List, codes}
 use Rattle.play_line.specs.declared.fault.Fault.{Fault}
-use Rattle.play_line.specs.declared.fault.Fault.TheVariants.{NotHex, OddDigits, NoBytes, NotJoined, EmptyText, UnendedText, UnknownEscape, NoCount, ZeroCount, TooManyBytes, TooLong, NoEnd, NoPort, NoArrow, NoId, NoTtl, NoOffset, NoMore, NoSize, UnknownWord, ToldTwice, PastEnd, TooLarge}
+use Rattle.play_line.specs.declared.fault.Fault.TheVariants.{NotHex, OddDigits, NoBytes, NotJoined, EmptyText, UnendedText, UnknownEscape, NoCount, ZeroCount, TooManyBytes, TooLong, NoEnd, NoPort, NoArrow, NoId, NoTtl, NoOffset, NoMore, NoSize, UnknownWord, ToldTwice, PastEnd, TooLarge, NoTime}
 
 abbrev pub misread_words : Fault → List ℕ
 misread_words NotHex = codes "not a hex digit (a text stands in quotes: \"hi\")"
@@ -27,3 +27,4 @@ misread_words UnknownWord = codes "unknown word"
 misread_words ToldTwice = codes "this was told already"
 misread_words PastEnd = codes "the datagram has no such bytes"
 misread_words TooLarge = codes "more bytes than a packet has room for"
+misread_words NoTime = codes "a time is +0.5s or +2s, and a line follows it"

@@ -134,7 +134,7 @@ pub(crate) fn read_text<'a>(
 }
 
 /// The number that decimal digits write, or 65,536 if it's more than that.
-fn value_of(word: &[u8]) -> u32
+pub(crate) fn value_of(word: &[u8]) -> u32
     ensures is { result ≡ bytes.digits_value word.now }
     ensures most { result ≤ 65536 }
 {

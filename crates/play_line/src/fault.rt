@@ -51,6 +51,8 @@ pub enum Fault {
     PastEnd,
     /// The datagram or the packet would be longer than one can be.
     TooLarge,
+    /// What stands in front of a line isn't a time of half seconds, or no line stands after it.
+    NoTime,
 }
 
 /// What is wrong with a line, and where.
@@ -112,6 +114,7 @@ impl Fault {
             Fault::ToldTwice => "this was told already",
             Fault::PastEnd => "the datagram has no such bytes",
             Fault::TooLarge => "more bytes than a packet has room for",
+            Fault::NoTime => "a time is +0.5s or +2s, and a line follows it",
         }
     }
 }

@@ -7,7 +7,9 @@ mod fault;
 mod line;
 mod part;
 mod shown;
+mod time;
 
 pub use fault::{Fault, Slip};
 pub use line::{LONGEST, Reader};
 pub use shown::put_shown;
+pub use time::{Timed, read_time};

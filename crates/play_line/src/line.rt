@@ -77,7 +77,7 @@ fn begin_after(apart: bool, len: usize) -> usize
 }
 
 /// Whether the line ends here, or its comment begins.
-fn is_end(left: &[u8]) -> bool
+pub(crate) fn is_end(left: &[u8]) -> bool
     ensures { result ≡ line_specs.is_end left.now }
 {
     match left.first() {
@@ -87,7 +87,7 @@ fn is_end(left: &[u8]) -> bool
 }
 
 /// The column of the first byte that is left.
-fn column_at(line: &[u8], left: usize) -> u64
+pub(crate) fn column_at(line: &[u8], left: usize) -> u64
     ensures { result ≡ line_specs.column_at line.now left }
 {
     1 + line.len().saturating_sub(left) as u64

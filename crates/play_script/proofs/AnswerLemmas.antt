@@ -1,7 +1,9 @@
 -- What is told of a plain line, by what it asks for.
-use Rattle.std.proofs.Common.{◌≡◌, ℕ, ◌&&◌, Bool, true, false, List, ◌++◌, codes, if◌then◌else◌, Option, Some, None, inl, inr, refl, sym, ap, ◌∙◌, subst}
+use Rattle.std.proofs.Common.{◌≡◌, ℕ, ◌&&◌, Bool, true, false, List, ◌++◌, codes, if◌then◌else◌, Option, Some, None, Result, inl, inr, refl, sym, ap, ◌∙◌, subst}
 use Rattle.flat_model.specs.Machine.Event.{Event, Reply}
 use Rattle.flat_model.specs.Machine.State.{State}
+use Rattle.play_line.specs.Time.{TimedView, timed}
+use Rattle.play_line.specs.declared.fault.Slip.{Slip}
 use Rattle.play_text.specs.Forms.{is_quiet}
 use Rattle.play_text.specs.Texts.{fault_text}
 use Rattle.std.proofs.lemmas.Bool.{false≢true}
@@ -11,9 +13,9 @@ use Rattle.play_forms.specs.declared.advice.Player.TheVariants.{Machine}
 use Rattle.play_read.specs.Asks.{Ask, AsksFor, Settings, Writes}
 use Rattle.flat_model.specs.Scripts.Grammar.{words}
 use Rattle.play_script.specs.Inside.{IsTold, IsToldAs}
-use Rattle.play_script.specs.Lines.{Reading, Asks, reading}
+use Rattle.play_script.specs.Lines.{Reading}
 use Rattle.play_script.specs.Plays.{CapturedView, captured_of}
-use Rattle.play_script.specs.Tells.{Play, Tells, TellsAsk, TellsAsked, TellsReading, TellsSettings, is_done, is_sound, next_line, stays_head, told_text}
+use Rattle.play_script.specs.Tells.{Play, Tells, TellsAsk, TellsAsked, TellsReading, TellsSettings, TellsTimed, is_done, is_sound, next_line, stays_head, told_text}
 use Rattle.play_script.specs.Views.{plain_line}
 use Rattle.play_script.specs.declared.line.Line.{Line}
 use Rattle.play_script.specs.declared.tell.Told.{Told}
@@ -111,12 +113,17 @@ Told-some step has quiet plain ask told.Nothing old new text below asks came = a
 Told-some step has quiet plain ask told.Settings old new text below asks came = (ask, asks, came)
 Told-some step has quiet plain ask (told.Done stays failed) old new text below asks came = (ask, asks, came)
 
--- a line that asks for something, or expects something
-pub Asks-tells : (step : State → Event → Reply → State → Type 0) (has : List ℕ → List ℕ → Type 0) (old now new : Play)
-    (line shown plain text : List ℕ)
-    (wanted : Option (List ℕ)) → now ≡ next_line line old → reading line ≡ Asks shown plain wanted
-    → TellsAsked step has now shown plain wanted text new
-    → Tells step has old line text new
-Asks-tells step has old now new line shown plain text wanted counted is said =
-    subst (λ (r : Reading). TellsReading step has (next_line line old) r text new) (sym is)
-    (subst (λ (p : Play). TellsAsked step has p shown plain wanted text new) counted said)
+-- a line that was read so
+pub Reading-tells : (step : State → Event → Reply → State → Type 0) (has : List ℕ → List ℕ → Type 0) (now new : Play)
+    (ticks before : ℕ) (read is : Reading) (text : List ℕ) → read ≡ is
+    → TellsReading step has now ticks before is text new → TellsReading step has now ticks before read text new
+Reading-tells step has now new ticks before read is text same said =
+    subst (λ (r : Reading). TellsReading step has now ticks before r text new) (sym same) said
+
+-- a line whose time was read so
+pub Timed-tells : (step : State → Event → Reply → State → Type 0) (has : List ℕ → List ℕ → Type 0) (old now new : Play)
+    (line text : List ℕ) (t : Result TimedView Slip) → now ≡ next_line line old → t ≡ timed line
+    → TellsTimed step has now line t text new → Tells step has old line text new
+Timed-tells step has old now new line text t counted is said =
+    subst (λ (r : Result TimedView Slip). TellsTimed step has (next_line line old) line r text new) is
+    (subst (λ (p : Play). TellsTimed step has p line t text new) counted said)

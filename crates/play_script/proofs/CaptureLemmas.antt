@@ -1,5 +1,5 @@
 -- What turns add to a capture.
-use Rattle.std.proofs.Common.{◌≡◌, ℕ, zero, suc, ◌+◌, ◌*◌, ◌-◌, ◌<◌, ◌≤◌, Bool, true, false, List, [], ◌∷◌, ◌++◌, length, flat_map, get_or, map, replicate, codes, Option, Some, None, refl, sym, ap, ◌∙◌, arith, subst, append-nil}
+use Rattle.std.proofs.Common.{◌≡◌, ℕ, zero, suc, ◌+◌, ◌*◌, ◌-◌, ◌<◌, ◌≤◌, Bool, true, false, List, [], ◌∷◌, ◌++◌, length, flat_map, get_or, map, replicate, codes, Option, Some, None, refl, sym, ap, ◌∙◌, arith, subst, append-nil, append_assoc}
 use Rattle.std.proofs.KnownBytes.{Appends-nil}
 use Rattle.std.proofs.lemmas.List.{map-append}
 use Rattle.std.proofs.lemmas.List.Concat.{flat_map-append}
@@ -10,7 +10,7 @@ use Rattle.pcap.specs.declared.header.Order.TheVariants.{Little}
 use Rattle.play_pcap.specs.Traces.{Keeps, Pass, SentAfter, Traced, later, pass_at, pass_bytes, passes_bytes, record_of}
 use Rattle.play_script.proofs.DeedLemmas.{ticks_move}
 use Rattle.play_script.specs.Deeds.{moved_in, turns_with}
-use Rattle.play_script.specs.Captures.{Captures, Notes, after_ticks, all_passes, later_by, moved_by, pass_if, passes, tick_in, ticks_after, turn_of}
+use Rattle.play_script.specs.Captures.{Captures, Notes, after_ticks, all_passes, later_by, moved_by, pass_if, passes, tick_in, ticks_after, ticks_by, turn_of}
 use Rattle.play_script.specs.Inside.{events_of, ticks_of}
 use Rattle.play_script.specs.declared.deed.Deed.{Deed}
 use Rattle.play_script.specs.declared.deed.Deed.TheVariants.{Call, Ticks}
@@ -92,6 +92,35 @@ Captures-deed number old new (Ticks count) reply moved n is ticks h = (
 
 abbrev pub Joins : Type 0
 Joins = (old mid new : Traced) (a b : List ℕ) → Keeps old mid a → Keeps mid new b → Keeps old new (a ++ b)
+
+-- ---- turns one after another
+
+passes-append : (number t : ℕ) (first rest : List Turn)
+    → passes number t (first ++ rest) ≡ passes number t first ++ passes number (ticks_after t first) rest
+passes-append number t [] rest = refl
+passes-append number t (turn ∷ first) rest =
+    let now : List Pass = pass_if t number (moved_by turn.event turn.reply) in
+    let later : ℕ = ticks_by turn.event t in
+    ap (λ (ps : List Pass). now ++ ps) (passes-append number later first rest)
+    ∙ sym (append_assoc now (passes number later first) (passes number (ticks_after later first) rest))
+
+ticks_after-append : (t : ℕ) (first rest : List Turn)
+    → ticks_after t (first ++ rest) ≡ ticks_after (ticks_after t first) rest
+ticks_after-append t [] rest = refl
+ticks_after-append t (turn ∷ first) rest = ticks_after-append (ticks_by turn.event t) first rest
+
+pub Captures-more : Joins → (number : ℕ) (old mid new : Traced) (first rest : List Turn)
+    → Captures number old first mid → Captures number mid rest new → Captures number old (first ++ rest) new
+Captures-more join number old mid new first rest before after =
+    let front : List Pass = passes number old.ticks first in
+    let back : List Pass = passes number (ticks_after old.ticks first) rest in
+    let later : Keeps mid new (passes_bytes back) =
+    subst (λ (t : ℕ). Keeps mid new (passes_bytes (passes number t rest))) before.1 after.0 in (
+      subst (λ (ps : List Pass). Keeps old new (passes_bytes ps)) (sym (passes-append number old.ticks first rest))
+          (subst (λ (bytes : List ℕ). Keeps old new bytes) (sym (passes_bytes-append front back))
+          (join old mid new (passes_bytes front) (passes_bytes back) before.0 later)),
+      after.1 ∙ ap (λ (t : ℕ). ticks_after t rest) before.1 ∙ sym (ticks_after-append old.ticks first rest),
+    )
 
 -- a line in front of others
 pub Captures-join : Joins → (number m : ℕ) (old mid new : Traced) (first : List Turn) (rest : List (List Turn))

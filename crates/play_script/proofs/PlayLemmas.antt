@@ -18,12 +18,11 @@ use Rattle.play_pcap.specs.declared.moves.Tally.{Tally}
 use Rattle.play_read.proofs.Laws.{Capture-idle}
 use Rattle.play_script.proofs.CaptureLemmas.{Joins, Keeps-none, passes_bytes-append}
 use Rattle.play_script.specs.Captures.{Captures, moved_by, pass_if, passes, ticks_after, ticks_by}
-use Rattle.play_script.specs.Lines.{Asks}
 use Rattle.play_records.specs.Tables.{no_drops}
 use Rattle.play_records.specs.declared.table.Table.{Table}
 use Rattle.play_script.specs.Plays.{ComesTo, CapturedView, ReplayView, came_turn, replay_of}
 use Rattle.stack_call.specs.Moves.{StackSteps}
-use Rattle.play_script.specs.Runs.{ArePlayedTurns}
+use Rattle.play_script.specs.Runs.{AreAskedTurns}
 
 -- the bytes behind a reference are bytes
 pub are_bytes : (xs : List ℕ) → ((k : ℕ) → get_or xs k 0 < 256) → IsBytes xs
@@ -75,7 +74,7 @@ Goes-turns join (act ∷ acts) old new (mid, went, rest) =
 abbrev pub MakesTurns : (List ℕ → List ℕ → Type 0) → List ℕ → List ℕ → Option (List ℕ) → CapturedView → CapturedView
     → Type 0
 MakesTurns has shown plain wanted old new =
-    (turns : List Turn) × ArePlayedTurns has (Asks shown plain wanted) turns
+    (turns : List Turn) × AreAskedTurns has plain turns
     × Leads exact_ledger old.machine turns new.machine
     × Captures old.line old.traced turns new.traced
 

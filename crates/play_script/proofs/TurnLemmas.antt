@@ -1,6 +1,8 @@
 -- The turns that lines make.
-use Rattle.std.proofs.Common.{◌≡◌, ◌⊎◌, ℕ, zero, suc, ◌<◌, ◌&&◌, Bool, true, false, List, [], ◌∷◌, ◌++◌, get_or, replicate, codes, Option, Some, None, Result, Ok, Err, inl, inr, refl, sym, ap, ◌∙◌, arith, subst}
-use Rattle.std.proofs.lemmas.Bool.{false≢true}
+use Rattle.std.proofs.Common.{◌≡◌, ◌⊎◌, ℕ, zero, suc, ◌-◌, ◌<◌, ◌==◌, ◌&&◌, Bool, true, false, List, [], ◌∷◌, ◌++◌, get_or, length, replicate, codes, Option, Some, None, Result, Ok, Err, inl, inr, refl, sym, ap, ◌∙◌, arith, subst}
+use Rattle.std.proofs.lemmas.Bool.{eqb-true, false≢true}
+use Rattle.play_line.specs.Time.{TimedView, timed}
+use Rattle.play_line.specs.declared.fault.Slip.{Slip}
 use Rattle.flat_model.specs.Machine.Count.{more_by}
 use Rattle.flat_model.specs.Machine.Event.{Event, Reply, Tick, Done}
 use Rattle.flat_model.specs.Machine.Ledger.{exact_ledger}
@@ -19,15 +21,15 @@ use Rattle.play_text.specs.Forms.{is_quiet}
 use Rattle.play_pcap.specs.Traces.{Traced, Keeps, passes_bytes}
 use Rattle.play_read.specs.Asks.{Ask, Call, Ticks, Show, Capture, Settings, IsTicks, Writes}
 use Rattle.play_read.proofs.Laws.{Settings-idle, Show-idle}
-use Rattle.play_script.proofs.CaptureLemmas.{Joins, Keeps-none, Captures-join}
+use Rattle.play_script.proofs.CaptureLemmas.{Joins, Keeps-none, Captures-join, Captures-more}
 use Rattle.play_script.proofs.PlayLemmas.{Captures-same, Named-turns}
 use Rattle.play_script.specs.Deeds.{Does, turns_with}
 use Rattle.play_script.specs.Captures.{Captures, all_passes, turn_of}
-use Rattle.play_script.specs.Lines.{Reading, Nothing, TooLong, Faulty, Asks, reading}
+use Rattle.play_script.specs.Lines.{Reading, Nothing, TooLong, Faulty, Asks, reading_part}
 use Rattle.play_records.specs.Tables.{no_drops}
 use Rattle.play_script.specs.Plays.{CapturedView, captured_of, replay_of}
-use Rattle.play_script.specs.Runs.{ArePlayedTurns, IsRunOf, all_turns, MaySet, MaySetAll}
-use Rattle.play_script.specs.Tells.{Play, Tells, TellsAsk, TellsReading, TellsAsked, TellsSettled, IsSettled, next_line, stays_head}
+use Rattle.play_script.specs.Runs.{AreAskedTurns, ArePlayedTurns, AreTimedTurns, IsRunOf, all_turns, MaySet, MaySetAll, MayTimedSet}
+use Rattle.play_script.specs.Tells.{Play, Tells, TellsAsk, TellsReading, TellsAsked, TellsSettled, TellsTimed, IsSettled, IsWaited, next_line, stays_head}
 
 -- ticks one after another are turns
 Ticks-lead : (n : ℕ) (old new : State) (reply : Reply) → Does Step old (replicate n Tick) reply new
@@ -53,15 +55,15 @@ Leads-append old mid new (turn ∷ first) rest (range, next, step, leads) later 
     (range, next, step, Leads-append next mid new first rest leads later)
 
 -- the turns of a line, and what they do and add to a capture
-abbrev Makes : (List ℕ → List ℕ → Type 0) → Reading → ℕ → State → State → Traced → Traced → Type 0
-Makes has line number old new t u =
-    (turns : List Turn) × ArePlayedTurns has line turns × Leads exact_ledger old turns new × Captures number t turns u
+abbrev Makes : (List ℕ → List ℕ → Type 0) → List ℕ → ℕ → State → State → Traced → Traced → Type 0
+Makes has plain number old new t u =
+    (turns : List Turn) × AreAskedTurns has plain turns × Leads exact_ledger old turns new × Captures number t turns u
 
 Makes-one : (has : List ℕ → List ℕ → Type 0) (number : ℕ) (old new : State) (t u : Traced) (shown plain : List ℕ)
     (wanted : Option (List ℕ)) (event : Event) (reply : Reply)
     → script.Asks all_events plain event → Does Step old (event ∷ []) reply new
     → Captures number t (turns_with (event ∷ []) reply) u
-    → Makes has (Asks shown plain wanted) number old new t u
+    → Makes has plain number old new t u
 Makes-one has number old new t u shown plain wanted event reply asks (mid, step, same) captured = (
   turn_of event reply ∷ [],
   inl (event, reply, asks, refl),
@@ -73,7 +75,7 @@ Makes-ticks : (has : List ℕ → List ℕ → Type 0) (number : ℕ) (old new :
     (wanted : Option (List ℕ)) (n : ℕ) (reply : Reply)
     → IsTicks plain n → Does Step old (replicate n Tick) reply new
     → Captures number t (turns_with (replicate n Tick) reply) u
-    → Makes has (Asks shown plain wanted) number old new t u
+    → Makes has plain number old new t u
 Makes-ticks has number old new t u shown plain wanted n reply is does captured =
     let done : turns_with (replicate n Tick) reply ≡ replicate n (turn_of Tick Done) =
     ap (λ (r : Reply). turns_with (replicate n Tick) r) (Ticks-done n old new reply is.3 does) ∙ ticks_turns n in
@@ -82,9 +84,9 @@ Makes-ticks has number old new t u shown plain wanted n reply is does captured =
 -- ---- a line
 
 -- A line that isn't of settings: its turns, none of them if settings may still come.
-record Asked (has : List ℕ → List ℕ → Type 0) (now : Play) (line : Reading) (new : Play) : Type 0 where
+record Asked (Are : List Turn → Type 0) (now new : Play) : Type 0 where
   turns : List Turn
-  are : ArePlayedTurns has line turns
+  are : Are turns
   leads : Leads exact_ledger now.machine turns new.machine
   captured : Captures now.number now.traced turns new.traced
   number : new.number ≡ now.number
@@ -92,13 +94,13 @@ record Asked (has : List ℕ → List ℕ → Type 0) (now : Play) (line : Readi
   head : new.head ≡ true → (now.head ≡ true) × (turns ≡ [])
 
 -- a line whose settings made a new machine
-record Settled (has : List ℕ → List ℕ → Type 0) (now : Play) (line : Reading) (new : Play) : Type 0 where
-  are : ArePlayedTurns has line []
+record Settled (Are : List Turn → Type 0) (May : Config → Config → Type 0) (now new : Play) : Type 0 where
+  are : Are []
   captured : Captures now.number now.traced [] new.traced
   number : new.number ≡ now.number
   was : now.head ≡ true
   machine : new.machine ≡ boot new.config
-  set : MaySet line now.config new.config
+  set : May now.config new.config
 
 not_late : (c : Config) → Ok c ≡ Err Late → ⊥
 not_late c e = cc
@@ -107,7 +109,7 @@ not_late c e = cc
 Told-turns : Joins → (has : List ℕ → List ℕ → Type 0) (ask : Ask) (old new : CapturedView) (shown plain : List ℕ)
     (wanted : Option (List ℕ)) (text below : List ℕ) (quiet failed : Bool)
     → Writes plain ask → TellsAsk Step has quiet ask old failed text below new
-    → (turns : List Turn) × ArePlayedTurns has (Asks shown plain wanted) turns
+    → (turns : List Turn) × AreAskedTurns has plain turns
     × Leads exact_ledger old.machine turns new.machine
     × Captures old.line old.traced turns new.traced × (stays_head ask ≡ true → turns ≡ [])
 Told-turns join has (Call event) old new shown plain wanted text below quiet failed asks (done, fine) =
@@ -143,10 +145,10 @@ and_second : (a b : Bool) → (a && b) ≡ true → b ≡ true
 and_second true b h = h
 and_second false b h = absurd (false≢true h)
 
-Idle : (has : List ℕ → List ℕ → Type 0) (now new : Play) (line : Reading) → ArePlayedTurns has line []
+Idle : (Are : List Turn → Type 0) (now new : Play) → Are []
     → new.machine ≡ now.machine → new.traced ≡ now.traced → new.number ≡ now.number
-    → new.config ≡ now.config → new.head ≡ now.head → Asked has now line new
-Idle has now new line are machine traced number config head = record {
+    → new.config ≡ now.config → new.head ≡ now.head → Asked Are now new
+Idle Are now new are machine traced number config head = record {
   turns = [];
   are = are;
   leads = machine;
@@ -160,9 +162,10 @@ Settings-line : (has : List ℕ → List ℕ → Type 0) (now new : Play) (shown
     (named : List (List ℕ)) (head : Bool) → now.head ≡ head
     → Writes plain (Settings named) → (outcome : Result Config SettingFault) → IsSettled head now.config named outcome
     → TellsSettled now shown wanted outcome text new
-    → Asked has now (Asks shown plain wanted) new ⊎ Settled has now (Asks shown plain wanted) new
+    → Asked (AreAskedTurns has plain) now new
+    ⊎ Settled (AreAskedTurns has plain) (MaySet (Asks shown plain wanted)) now new
 Settings-line has now new shown plain text wanted named head was is (Err fault) settled (told, same) =
-    inl (Idle has now new (Asks shown plain wanted)
+    inl (Idle (AreAskedTurns has plain) now new
     (inr (inr (inr ((Settings-idle plain is.0).0, (Settings-idle plain is.0).1, refl))))
     (ap (λ (p : Play). p.machine) same) (ap (λ (p : Play). p.traced) same)
     (ap (λ (p : Play). p.number) same) (ap (λ (p : Play). p.config) same) (ap (λ (p : Play). p.head) same))
@@ -187,9 +190,10 @@ Settings-line has now new shown plain text wanted named false was is (Ok c) sett
 Asked-line : Joins → (has : List ℕ → List ℕ → Type 0) (now new : Play) (shown plain text : List ℕ)
     (wanted : Option (List ℕ))
     → TellsAsked Step has now shown plain wanted text new
-    → Asked has now (Asks shown plain wanted) new ⊎ Settled has now (Asks shown plain wanted) new
+    → Asked (AreAskedTurns has plain) now new
+    ⊎ Settled (AreAskedTurns has plain) (MaySet (Asks shown plain wanted)) now new
 Asked-line join has now new shown plain text wanted (None, none, (what, advised, tells, same)) =
-    inl (Idle has now new (Asks shown plain wanted)
+    inl (Idle (AreAskedTurns has plain) now new
     (inr (inr (inr (λ event. none (Call event), λ n. none (Ticks n), refl))))
     (ap (λ (p : Play). p.machine) same) (ap (λ (p : Play). p.traced) same)
     (ap (λ (p : Play). p.number) same) (ap (λ (p : Play). p.config) same) (ap (λ (p : Play). p.head) same))
@@ -216,20 +220,88 @@ Asked-line join has now new shown plain text wanted (Some ask, asks, inl (after,
       );
     })
 
-Tells-line : Joins → (has : List ℕ → List ℕ → Type 0) (now new : Play) (line : Reading) (text : List ℕ)
-    → TellsReading Step has now line text new
-    → Asked has now line new ⊎ Settled has now line new
-Tells-line join has now new Nothing text (is, same) =
-    inl (Idle has now new Nothing refl (ap (λ (p : Play). p.machine) same) (ap (λ (p : Play). p.traced) same)
+eq_zero : (n : ℕ) → (n == 0) ≡ true → n ≡ 0
+eq_zero n h = eqb-true n 0 h
+
+-- what stays if no tick passes before a line
+no_ticks : (n : ℕ) (rest : List Turn) → n ≡ 0 → rest ≡ [] → replicate n (turn_of Tick Done) ++ rest ≡ []
+no_ticks n rest none same = ap (λ (k : ℕ). replicate k (turn_of Tick Done) ++ rest) none ∙ same
+
+-- a line before which so many ticks pass
+Waited-line : Joins → (has : List ℕ → List ℕ → Type 0) (n : ℕ) (now mid new : Play) (shown plain : List ℕ)
+    (wanted : Option (List ℕ)) → IsWaited Step n now mid
+    → Asked (AreAskedTurns has plain) mid new
+    ⊎ Settled (AreAskedTurns has plain) (MaySet (Asks shown plain wanted)) mid new
+    → Asked (ArePlayedTurns has n (Asks shown plain wanted)) now new
+    ⊎ Settled (ArePlayedTurns has n (Asks shown plain wanted)) (MaySet (Asks shown plain wanted)) now new
+Waited-line join has n now mid new shown plain wanted waited line =
+    let ticks : List Turn = replicate n (turn_of Tick Done) in
+    let passed : Leads exact_ledger now.machine ticks mid.machine =
+    subst (λ (ts : List Turn). Leads exact_ledger now.machine ts mid.machine) (ticks_turns n)
+    (Ticks-lead n now.machine mid.machine Done waited.does) in
+    let kept : Captures now.number now.traced ticks mid.traced =
+    subst (λ (ts : List Turn). Captures now.number now.traced ts mid.traced) (ticks_turns n) waited.captured in
+    let number : mid.number ≡ now.number = ap (λ (p : Play). p.number) waited.is in
+    let config : mid.config ≡ now.config = ap (λ (p : Play). p.config) waited.is in
+    let head : mid.head ≡ (now.head && n == 0) = ap (λ (p : Play). p.head) waited.is in
+    elim line [
+      | inl asked ↦ inl (record {
+        turns = ticks ++ asked.turns;
+        are = (asked.turns, refl, asked.are);
+        leads = Leads-append now.machine mid.machine new.machine ticks asked.turns passed asked.leads;
+        captured =
+            Captures-more join now.number now.traced mid.traced new.traced ticks asked.turns kept
+            (subst (λ (k : ℕ). Captures k mid.traced asked.turns new.traced) number asked.captured);
+        number = asked.number ∙ number;
+        config = asked.config ∙ config;
+        head = λ h. (
+          and_first now.head (n == 0) (sym head ∙ (asked.head h).0),
+          no_ticks n asked.turns (eq_zero n (and_second now.head (n == 0) (sym head ∙ (asked.head h).0)))
+              (asked.head h).1,
+        );
+      })
+      | inr settled ↦
+          let none : n ≡ 0 = eq_zero n (and_second now.head (n == 0) (sym head ∙ settled.was)) in
+          let empty : ticks ++ [] ≡ [] = no_ticks n [] none refl in
+          let both : Captures now.number now.traced (ticks ++ []) new.traced =
+          Captures-more join now.number now.traced mid.traced new.traced ticks [] kept
+          (subst (λ (k : ℕ). Captures k mid.traced [] new.traced) number settled.captured) in
+          inr (record {
+            are = ([], sym empty, settled.are);
+            captured = subst (λ (ts : List Turn). Captures now.number now.traced ts new.traced) empty both;
+            number = settled.number ∙ number;
+            was = and_first now.head (n == 0) (sym head ∙ settled.was);
+            machine = settled.machine;
+            set =
+                subst (λ (c : Config). MaySet (Asks shown plain wanted) c new.config) config settled.set;
+          })
+    ]
+
+Tells-line : Joins → (has : List ℕ → List ℕ → Type 0) (now new : Play) (n before : ℕ) (line : Reading)
+    (text : List ℕ) → TellsReading Step has now n before line text new
+    → Asked (ArePlayedTurns has n line) now new ⊎ Settled (ArePlayedTurns has n line) (MaySet line) now new
+Tells-line join has now new n before Nothing text (is, same) =
+    inl (Idle (ArePlayedTurns has n Nothing) now new refl (ap (λ (p : Play). p.machine) same) (ap (λ (p : Play). p.traced) same)
     (ap (λ (p : Play). p.number) same) (ap (λ (p : Play). p.config) same) (ap (λ (p : Play). p.head) same))
-Tells-line join has now new TooLong text (is, same) =
-    inl (Idle has now new TooLong refl (ap (λ (p : Play). p.machine) same) (ap (λ (p : Play). p.traced) same)
+Tells-line join has now new n before TooLong text (is, same) =
+    inl (Idle (ArePlayedTurns has n TooLong) now new refl (ap (λ (p : Play). p.machine) same) (ap (λ (p : Play). p.traced) same)
     (ap (λ (p : Play). p.number) same) (ap (λ (p : Play). p.config) same) (ap (λ (p : Play). p.head) same))
-Tells-line join has now new (Faulty slip) text (is, same) =
-    inl (Idle has now new (Faulty slip) refl (ap (λ (p : Play). p.machine) same) (ap (λ (p : Play). p.traced) same)
+Tells-line join has now new n before (Faulty slip) text (is, same) =
+    inl (Idle (ArePlayedTurns has n (Faulty slip)) now new refl (ap (λ (p : Play). p.machine) same) (ap (λ (p : Play). p.traced) same)
     (ap (λ (p : Play). p.number) same) (ap (λ (p : Play). p.config) same) (ap (λ (p : Play). p.head) same))
-Tells-line join has now new (Asks shown plain wanted) text told =
-    Asked-line join has now new shown plain text wanted told
+Tells-line join has now new n before (Asks shown plain wanted) text (mid, waited, told) =
+    Waited-line join has n now mid new shown plain wanted waited
+    (Asked-line join has mid new shown plain text wanted told)
+
+Timed-line : Joins → (has : List ℕ → List ℕ → Type 0) (now new : Play) (line text : List ℕ)
+    (t : Result TimedView Slip) → TellsTimed Step has now line t text new
+    → Asked (AreTimedTurns has line t) now new ⊎ Settled (AreTimedTurns has line t) (MayTimedSet line t) now new
+Timed-line join has now new line text (Err slip) (is, same) =
+    inl (Idle (AreTimedTurns has line (Err slip)) now new refl
+    (ap (λ (p : Play). p.machine) same) (ap (λ (p : Play). p.traced) same)
+    (ap (λ (p : Play). p.number) same) (ap (λ (p : Play). p.config) same) (ap (λ (p : Play). p.head) same))
+Timed-line join has now new line text (Ok t) told =
+    Tells-line join has now new t.ticks (length line - length t.part) (reading_part line t.part) text told
 
 -- ---- all lines
 
@@ -239,9 +311,13 @@ MaySet-same TooLong c = refl
 MaySet-same (Faulty slip) c = refl
 MaySet-same (Asks shown plain wanted) c = inl refl
 
+MayTimedSet-same : (line : List ℕ) (t : Result TimedView Slip) (c : Config) → MayTimedSet line t c c
+MayTimedSet-same line (Err slip) c = refl
+MayTimedSet-same line (Ok t) c = MaySet-same (reading_part line t.part) c
+
 MaySetAll-same : (lines : List (List ℕ)) (c : Config) → MaySetAll lines c c
 MaySetAll-same [] c = refl
-MaySetAll-same (line ∷ lines) c = (c, MaySet-same (reading line) c, MaySetAll-same lines c)
+MaySetAll-same (line ∷ lines) c = (c, MayTimedSet-same line (timed line) c, MaySetAll-same lines c)
 
 -- what a line adds to a capture, in front of what others add
 Kept-before : Joins → (has : List ℕ → List ℕ → Type 0) (now old mid new : Play) (lines : List (List ℕ))
@@ -259,7 +335,7 @@ Kept-before join has now old mid new lines first rest t n m captured =
 Asked-before : Joins → (has : List ℕ → List ℕ → Type 0) (now old mid new : Play) (line : List ℕ) (lines : List (List ℕ))
     → now.machine ≡ old.machine → now.traced ≡ old.traced
     → now.number ≡ more_by 1 old.number → now.config ≡ old.config → now.head ≡ old.head
-    → Asked has now (reading line) mid → IsRunOf has mid lines new → IsRunOf has old (line ∷ lines) new
+    → Asked (AreTimedTurns has line (timed line)) now mid → IsRunOf has mid lines new → IsRunOf has old (line ∷ lines) new
 Asked-before join has now old mid new line lines m t n c h first rest =
     elim rest.begins [
       | inl same ↦ record {
@@ -280,7 +356,7 @@ Asked-before join has now old mid new line lines m t n c h first rest =
             d,
             (
               old.config,
-              MaySet-same (reading line) old.config,
+              MayTimedSet-same line (timed line) old.config,
               subst (λ (e : Config). MaySetAll lines e d) (first.config ∙ c) set,
             ),
             is,
@@ -288,7 +364,7 @@ Asked-before join has now old mid new line lines m t n c h first rest =
         );
         turns = [] ∷ rest.turns;
         are =
-            (subst (λ (ts : List Turn). ArePlayedTurns has (reading line) ts) (first.head stays).1 first.are, rest.are);
+            (subst (λ (ts : List Turn). AreTimedTurns has line (timed line) ts) (first.head stays).1 first.are, rest.are);
         leads = rest.leads;
         kept = Kept-before join has now old mid new lines [] rest t n first.number
             (subst (λ (ts : List Turn). Captures now.number now.traced ts mid.traced) (first.head stays).1
@@ -299,10 +375,10 @@ Asked-before join has now old mid new line lines m t n c h first rest =
 Settled-before : Joins → (has : List ℕ → List ℕ → Type 0) (now old mid new : Play) (line : List ℕ)
     (lines : List (List ℕ)) → now.traced ≡ old.traced
     → now.number ≡ more_by 1 old.number → now.config ≡ old.config → now.head ≡ old.head
-    → Settled has now (reading line) mid → IsRunOf has mid lines new → IsRunOf has old (line ∷ lines) new
+    → Settled (AreTimedTurns has line (timed line)) (MayTimedSet line (timed line)) now mid → IsRunOf has mid lines new → IsRunOf has old (line ∷ lines) new
 Settled-before join has now old mid new line lines t n c h first rest =
-    let set : MaySet (reading line) old.config mid.config =
-    subst (λ (e : Config). MaySet (reading line) e mid.config) c first.set in
+    let set : MayTimedSet line (timed line) old.config mid.config =
+    subst (λ (e : Config). MayTimedSet line (timed line) e mid.config) c first.set in
     let kept = Kept-before join has now old mid new lines [] rest t n first.number first.captured in
     elim rest.begins [
       | inl same ↦ record {
@@ -344,7 +420,7 @@ Prints-run join has old new [] printed (same, none) = record {
 }
 Prints-run join has old new (line ∷ lines) printed (mid, text, rest, tells, later, joined) =
     let after = Prints-run join has mid new lines rest later in
-    elim (Tells-line join has (next_line line old) mid (reading line) text tells) [
+    elim (Timed-line join has (next_line line old) mid line text (timed line) tells) [
       | inl asked ↦ Asked-before join has (next_line line old) old mid new line lines refl refl refl refl refl asked after
       | inr settled ↦ Settled-before join has (next_line line old) old mid new line lines refl refl refl refl settled after
     ]

@@ -1,5 +1,6 @@
 -- What a line of a commented script is made of (this project's own).
 use Rattle.std.specs.Prelude.{ℕ, ◌+◌, ◌-◌, ◌==◌, ◌||◌, Bool, false, List, [], ◌∷◌, length, take, drop, get_or, position, if◌then◌else◌, nat_lt, Option, Some, None, Result, Ok, Err}
+use Rattle.flat_model.specs.Machine.Count.{more_by}
 use Rattle.play_line.specs.Line.{expanded}
 use Rattle.play_line.specs.Shown.{shown}
 use Rattle.play_line.specs.declared.fault.Slip.{Slip}
@@ -67,13 +68,18 @@ abbrev pub reading_words : List ℕ → Result (List ℕ) Slip → Option (List 
 reading_words shown (Ok words) wanted = reading_of shown words wanted
 reading_words shown (Err slip) wanted = Faulty slip
 
--- a line and its plain line
-abbrev pub reading_plain : List ℕ → Result (List ℕ) Slip → Reading
-reading_plain line (Ok text) =
-    reading_words (shown line) (named line (untailed (asked text))) (unheaded_option (expected text))
-reading_plain line (Err slip) = Faulty slip
+-- a line as it's written, and the plain line of a part of it
+abbrev pub reading_plain : List ℕ → List ℕ → Result (List ℕ) Slip → Reading
+reading_plain line part (Ok text) =
+    reading_words (shown line) (named part (untailed (asked text))) (unheaded_option (expected text))
+reading_plain line part (Err slip) = Faulty slip
 
-abbrev pub reading : List ℕ → Reading
-reading line =
+-- a line whose front, a time or the name of a host, was read before: this part is read, and the line is shown whole
+abbrev pub reading_part : List ℕ → List ℕ → Reading
+reading_part line part =
     if nat_lt LONGEST (length line) then TooLong
-    else reading_plain line (expanded line)
+    else reading_plain line part (expanded part)
+
+-- what is wrong with a part of a line, in front of which so many bytes stand
+abbrev pub shifted : ℕ → Slip → Slip
+shifted before slip = record slip { column = more_by before slip.column }

@@ -1,5 +1,5 @@
 -- The run that a script makes (this project's own).
-use Rattle.std.specs.Prelude.{◌≡◌, ◌⊎◌, ℕ, true, List, [], ◌∷◌, ◌++◌, replicate, Ok}
+use Rattle.std.specs.Prelude.{◌≡◌, ◌⊎◌, ℕ, true, List, [], ◌∷◌, ◌++◌, replicate, Result, Ok, Err}
 use Rattle.flat_model.specs.Machine.Event.{Event, Reply, Tick, Done}
 use Rattle.flat_model.specs.Machine.Ledger.{exact_ledger}
 use Rattle.flat_model.specs.Machine.State.{State, boot}
@@ -7,11 +7,13 @@ use Rattle.flat_model.specs.Runs.Run.{Turn, Leads}
 use Rattle.flat_model.specs.Scripts.Script.{all_events}
 use Rattle.flat_model.specs.Scripts.Script as script
 use Rattle.flat_model.specs.declared.config.Config.{Config}
+use Rattle.play_line.specs.Time.{TimedView, timed}
+use Rattle.play_line.specs.declared.fault.Slip.{Slip}
 use Rattle.play_read.specs.Settings.{IsSet}
 use Rattle.play_pcap.specs.Traces.{Keeps, passes_bytes}
 use Rattle.play_script.specs.Captures.{all_passes, turn_of}
 use Rattle.play_read.specs.Asks.{IsTicks, Settings, Writes}
-use Rattle.play_script.specs.Lines.{Reading, Nothing, TooLong, Faulty, Asks, reading}
+use Rattle.play_script.specs.Lines.{Reading, Nothing, TooLong, Faulty, Asks, reading_part}
 use Rattle.play_script.specs.Plays.{PlaysIn}
 use Rattle.play_script.specs.Tells.{Play}
 
@@ -19,21 +21,32 @@ use Rattle.play_script.specs.Tells.{Play}
 -- for, so many ticks, or those of the capture that it plays in; none if it asks for nothing, or for a capture that
 -- isn't
 -- played in.
-abbrev pub ArePlayedTurns : (List ℕ → List ℕ → Type 0) → Reading → List Turn → Type 0
-ArePlayedTurns has Nothing turns = turns ≡ []
-ArePlayedTurns has TooLong turns = turns ≡ []
-ArePlayedTurns has (Faulty slip) turns = turns ≡ []
-ArePlayedTurns has (Asks shown plain wanted) turns =
+abbrev pub AreAskedTurns : (List ℕ → List ℕ → Type 0) → List ℕ → List Turn → Type 0
+AreAskedTurns has plain turns =
     ((event : Event) × (reply : Reply) × script.Asks all_events plain event × (turns ≡ turn_of event reply ∷ []))
     ⊎ ((n : ℕ) × IsTicks plain n × (turns ≡ replicate n (turn_of Tick Done)))
     ⊎ PlaysIn has plain turns
     ⊎ (((event : Event) → ¬ script.Asks all_events plain event) × ((n : ℕ) → ¬ IsTicks plain n) × (turns ≡ []))
 
+-- the same of a line before which so many ticks pass
+abbrev pub ArePlayedTurns : (List ℕ → List ℕ → Type 0) → ℕ → Reading → List Turn → Type 0
+ArePlayedTurns has ticks Nothing turns = turns ≡ []
+ArePlayedTurns has ticks TooLong turns = turns ≡ []
+ArePlayedTurns has ticks (Faulty slip) turns = turns ≡ []
+ArePlayedTurns has ticks (Asks shown plain wanted) turns =
+    (rest : List Turn) × (turns ≡ replicate ticks (turn_of Tick Done) ++ rest) × AreAskedTurns has plain rest
+
+-- of a line with its time
+abbrev pub AreTimedTurns : (List ℕ → List ℕ → Type 0) → List ℕ → Result TimedView Slip → List Turn → Type 0
+AreTimedTurns has line (Err slip) turns = turns ≡ []
+AreTimedTurns has line (Ok t) turns = ArePlayedTurns has t.ticks (reading_part line t.part) turns
+
 -- the turns that these lines make, a list of them for each line
 abbrev pub AreAllTurns : (List ℕ → List ℕ → Type 0) → List (List ℕ) → List (List Turn) → Type 0
 AreAllTurns has [] turns = turns ≡ []
 AreAllTurns has (line ∷ lines) [] = ⊥
-AreAllTurns has (line ∷ lines) (first ∷ rest) = ArePlayedTurns has (reading line) first × AreAllTurns has lines rest
+AreAllTurns has (line ∷ lines) (first ∷ rest) =
+    AreTimedTurns has line (timed line) first × AreAllTurns has lines rest
 
 -- one after another
 abbrev pub all_turns : List (List Turn) → List Turn
@@ -50,10 +63,14 @@ MaySet (Faulty slip) old new = new ≡ old
 MaySet (Asks shown plain wanted) old new =
     (new ≡ old) ⊎ ((named : List (List ℕ)) × Writes plain (Settings named) × IsSet old named (Ok new))
 
+abbrev pub MayTimedSet : List ℕ → Result TimedView Slip → Config → Config → Type 0
+MayTimedSet line (Err slip) old new = new ≡ old
+MayTimedSet line (Ok t) old new = MaySet (reading_part line t.part) old new
+
 -- after several lines
 abbrev pub MaySetAll : List (List ℕ) → Config → Config → Type 0
 MaySetAll [] old new = new ≡ old
-MaySetAll (line ∷ lines) old new = (mid : Config) × MaySet (reading line) old mid × MaySetAll lines mid new
+MaySetAll (line ∷ lines) old new = (mid : Config) × MayTimedSet line (timed line) old mid × MaySetAll lines mid new
 
 -- The machine that the turns begin with: the one in hand, or in the head one that settings have made.
 abbrev pub Begins : Play → List (List ℕ) → State → Type 0

@@ -1,12 +1,14 @@
 -- What a player of commented scripts may tell for a line, by a machine's steps (this project's own).
-use Rattle.std.specs.Prelude.{◌≡◌, ◌⊎◌, ℕ, ◌&&◌, ◌||◌, Bool, true, false, not, List, [], ◌∷◌, replicate, codes, Option, Some, None, Result, Ok, Err}
+use Rattle.std.specs.Prelude.{◌≡◌, ◌⊎◌, ℕ, ◌-◌, ◌==◌, ◌&&◌, ◌||◌, Bool, true, false, not, List, [], ◌∷◌, length, replicate, codes, Option, Some, None, Result, Ok, Err}
 use Rattle.flat_model.specs.Machine.Count.{more_by}
-use Rattle.flat_model.specs.Machine.Event.{Event, Reply, Tick}
+use Rattle.flat_model.specs.Machine.Event.{Event, Reply, Tick, Done}
 use Rattle.flat_model.specs.Machine.State.{State, IsConfig, HasSizes, boot}
 use Rattle.flat_model.specs.Scripts.Texts.{reply_text}
 use Rattle.flat_model.specs.declared.config.Config.{Config}
 use Rattle.script_loop.specs.declared.fault.RunFault.{RunFault}
 use Rattle.script_loop.specs.declared.fault.RunFault.TheVariants.{Read, Write, Memory, TooManyLines, BadSizes, BadConfig}
+use Rattle.play_line.specs.Time.{TimedView, timed}
+use Rattle.play_line.specs.declared.fault.Slip.{Slip}
 use Rattle.play_text.specs.Forms.{is_quiet}
 use Rattle.play_text.specs.Texts.{fault_text, slip_text, outcome_text}
 use Rattle.play_text.specs.declared.form.Form.{Form}
@@ -22,7 +24,7 @@ use Rattle.play_pcap.specs.Traces.{Traced}
 use Rattle.play_read.specs.Asks.{Ask, Call, Ticks, Show, Capture, Settings, AsksFor}
 use Rattle.play_script.specs.Deeds.{Does, below_text, moved_in, turns_with}
 use Rattle.play_script.specs.Captures.{Captures}
-use Rattle.play_script.specs.Lines.{Reading, Nothing, TooLong, Faulty, Asks, has_text, reading}
+use Rattle.play_script.specs.Lines.{Reading, Nothing, TooLong, Faulty, Asks, has_text, reading_part, shifted}
 use Rattle.play_script.specs.Outcomes.{told, drops_text, meets_reply}
 use Rattle.play_script.specs.Plays.{IsPlayed, CapturedView, captured_of}
 
@@ -136,6 +138,12 @@ module _ (step : State → Event → Reply → State → Type 0) where
     pub tells : text ≡ told (reply_text reply) (drops_text before.counters after.counters)
     pub shows : below ≡ below_text quiet (moved_in events reply) before after new.machine.output
 
+  -- So many ticks pass, of which nothing is told. If some do, no settings may come any more.
+  pub record IsWaited (ticks : ℕ) (now mid : Play) : Type 0 where
+    pub does : Does step now.machine (replicate ticks Tick) Done mid.machine
+    pub captured : Captures now.number now.traced (turns_with (replicate ticks Tick) Done) mid.traced
+    pub is : mid ≡ record now { machine = mid.machine; traced = mid.traced; head = now.head && ticks == 0 }
+
 -- the same, where `has` says which bytes the file of a name may have
 module _ (step : State → Event → Reply → State → Type 0) (has : List ℕ → List ℕ → Type 0) where
   -- What may be told of what a line asks for, with the lines below it, and whether it has failed: only a capture can.
@@ -180,18 +188,27 @@ module _ (step : State → Event → Reply → State → Type 0) (has : List ℕ
   TellsAsked now shown plain wanted text new =
       (ask : Option Ask) × AsksFor plain ask × TellsLine ask now shown plain wanted text new
 
-  -- what a line of some kind may have as its text, where `now` has its number
-  abbrev pub TellsReading : Play → Reading → List ℕ → Play → Type 0
-  TellsReading now Nothing text new = (text ≡ []) × (new ≡ now)
-  TellsReading now TooLong text new =
+  -- What a line of some kind may have as its text, where `now` has its number. So many ticks pass first if it asks for
+  -- something, and its part that was read has so many bytes of the line before it.
+  abbrev pub TellsReading : Play → ℕ → ℕ → Reading → List ℕ → Play → Type 0
+  TellsReading now ticks before Nothing text new = (text ≡ []) × (new ≡ now)
+  TellsReading now ticks before TooLong text new =
       (text ≡ fault_text now.form now.name now.number (codes "the line is too long"))
       × (new ≡ record now { sound = false })
-  TellsReading now (Faulty slip) text new =
+  TellsReading now ticks before (Faulty slip) text new =
+      (text ≡ slip_text now.form now.name now.number (shifted before slip)) × (new ≡ record now { sound = false })
+  TellsReading now ticks before (Asks shown plain wanted) text new =
+      (mid : Play) × IsWaited step ticks now mid × TellsAsked mid shown plain wanted text new
+
+  -- a line with its time, or what is wrong with that
+  abbrev pub TellsTimed : Play → List ℕ → Result TimedView Slip → List ℕ → Play → Type 0
+  TellsTimed now line (Err slip) text new =
       (text ≡ slip_text now.form now.name now.number slip) × (new ≡ record now { sound = false })
-  TellsReading now (Asks shown plain wanted) text new = TellsAsked now shown plain wanted text new
+  TellsTimed now line (Ok t) text new =
+      TellsReading now t.ticks (length line - length t.part) (reading_part line t.part) text new
 
   abbrev pub Tells : Play → List ℕ → List ℕ → Play → Type 0
-  Tells old line text new = TellsReading (next_line line old) (reading line) text new
+  Tells old line text new = TellsTimed (next_line line old) line (timed line) text new
 
 -- ---- the status
 

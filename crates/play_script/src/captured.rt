@@ -1,12 +1,16 @@
 //! A stack with the capture of its packets. The packets of another capture come to both, and it's noted why some were
 //! dropped.
-ghost use Rattle.std.specs.Prelude.{◌≡◌, vec_len};
+ghost use Rattle.std.specs.Prelude.{◌≡◌, replicate, vec_len};
+ghost use Rattle.flat_model.specs.Machine.Event.{Done, Tick};
 ghost use Rattle.params.specs.declared.TheConstants.{IP_MAX_PACKET};
+ghost use Rattle.play_script.specs.Captures.{Captures};
+ghost use Rattle.play_script.specs.Deeds.{Does, turns_with};
 ghost use Rattle.play_script.specs.Plays.{ComesTo, ReplayView, captured_of, replay_of};
 ghost use Rattle.net_stack.specs.Stack.{state_of};
 ghost use Rattle.stack_call.specs.Moves.{StackSteps};
 
 use crate::capture::Capture;
+use crate::deed::tick_all;
 use flat_model::Counters;
 use net_stack::Stack;
 use play_pcap::{RecordPlace, Trace, Wire};
@@ -25,6 +29,17 @@ pub(crate) struct CapturedStack<T: Sink> {
 }
 
 impl<T: Sink> CapturedStack<T> {
+    /// Lets so many ticks pass before this line.
+    pub(crate) fn wait(&mut self, line: u64, ticks: u32)
+        ensures does { Does StackSteps (state_of self.old.stack) (replicate ticks Tick) Done (state_of self.new.stack) }
+        ensures captured { Captures line self.old.capture.trace (turns_with (replicate ticks Tick) Done)
+            self.new.capture.trace }
+    {
+        tick_all(&mut self.stack, ticks);
+        self.capture.line = line;
+        self.capture.note(None, ticks);
+    }
+
     /// Spends the stack, and gives the capture back.
     pub(crate) fn end(self) -> Trace<T>
         ensures { result ≡ self.capture.trace }

@@ -26,7 +26,7 @@ pub(crate) enum Deed<'a> {
 
 /// Lets so many ticks pass.
 #[tactic(auto, unfolding(stack_call::specs::Moves::StackSteps))]
-fn tick_all(stack: &mut Stack, count: u32)
+pub(crate) fn tick_all(stack: &mut Stack, count: u32)
     ensures { Does StackSteps (state_of stack.old) (replicate count Tick) Done (state_of stack.new) }
 {
     let mut left = count;

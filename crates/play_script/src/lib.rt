@@ -23,7 +23,7 @@ pub use deed::moved_by_call;
 pub use fits::meets;
 pub use flat_model::Config;
 pub use laws::runs_law;
-pub use line::{Kind, Line, read_line};
+pub use line::{Kind, Line, read_part, shift};
 pub use link_script::DEFAULTS;
 pub use outcome::{DROPS, TOLD, put_drops};
 pub use play_pcap::{CaptureFault, Folder, NoFolder, RECORD, Trace};

@@ -1,7 +1,7 @@
 //! What a line is made of: words, a comment, and what is expected.
 ghost use Rattle.std.specs.Prelude.{◌≡◌, ◌*◌, ◌<◌, ◌≤◌, ◌==◌, ◌++◌, ◌||◌, codes, length, position, IfSome, option_map};
 ghost use Rattle.play_script.specs.Lines as lines;
-ghost use Rattle.play_script.specs.Lines.{asked, expected, reading, unheaded, untailed};
+ghost use Rattle.play_script.specs.Lines.{asked, expected, reading_part, unheaded, untailed};
 ghost use Rattle.flat_model.specs.Scripts.Texts.{hex_text};
 ghost use Rattle.params.specs.declared.TheConstants.{IP_MAX_PACKET};
 ghost use Rattle.play_read.specs.Asks.{AsksFor, Writes};
@@ -163,15 +163,26 @@ fn cut(text: &[u8]) -> (&[u8], Option<&[u8]>)
     }
 }
 
-/// Reads a line: as it's written, the words of the plain line that it stands for or the packet that they name, and the
-/// words that are expected.
-pub fn read_line(text: &[u8], reader: &mut LineReader, line: &mut Line) -> Kind
-    ensures { reading text.now ≡ is_reading result line.new }
+/// What is wrong with a part of a line, in front of which so many bytes stand.
+pub fn shift(slip: Slip, before: u64) -> Slip
+    ensures { result ≡ lines.shifted before slip }
 {
-    if text.len() > LONGEST {
+    Slip {
+        fault: slip.fault,
+        column: slip.column.saturating_add(before),
+    }
+}
+
+/// Reads the part of a line that stands behind its time and the name of its host: the whole line as it's written, the
+/// words of the plain line that the part stands for or the packet that they name, and the words that are expected.
+pub fn read_part(whole: &[u8], text: &[u8], reader: &mut LineReader, line: &mut Line) -> Kind
+    requires { length text.now ≤ length whole.now }
+    ensures { reading_part whole.now text.now ≡ is_reading result line.new }
+{
+    if whole.len() > LONGEST {
         return Kind::TooLong;
     }
-    put_shown(text, &mut line.shown);
+    put_shown(whole, &mut line.shown);
     let plain = match reader.plain_line(text) {
         Ok(plain) => plain,
         Err(slip) => return Kind::Faulty(slip),

@@ -1,15 +1,16 @@
 //! What plays a script line by line.
-ghost use Rattle.std.specs.Prelude.{◌≡◌, ◌≤◌, ◌++◌, List, length, vec_len, ℕ};
+ghost use Rattle.std.specs.Prelude.{◌≡◌, ◌-◌, ◌≤◌, ◌++◌, List, length, vec_len, ℕ};
 ghost use Rattle.flat_model.specs.Scripts.Grammar.{words};
 ghost use Rattle.net_stack.specs.Stack.{state_of};
 ghost use Rattle.params.specs.declared.TheConstants.{IP_MAX_PACKET};
 ghost use Rattle.play_script.specs.Inside.{play_of};
-ghost use Rattle.play_script.specs.Tells.{Play, Tells, TellsAsked, TellsSettings, is_done};
+ghost use Rattle.play_script.specs.Lines.{reading_part};
+ghost use Rattle.play_script.specs.Tells.{IsWaited, Play, Tells, TellsAsked, TellsReading, TellsSettings, is_done};
 ghost use Rattle.play_script.specs.Views.{expected_on, plain_line};
 ghost use Rattle.stack_call.specs.Moves.{StackSteps};
 
 use crate::captured::CapturedStack;
-use crate::line::{Kind, Line, read_line};
+use crate::line::{Kind, Line, read_part, shift};
 use crate::print::ROOM;
 use crate::printer::{Printer, both};
 use crate::replay::Files;
@@ -18,6 +19,7 @@ use crate::settle::settled;
 use crate::tell::{Told, tell_line};
 use flat_model::Config;
 use play_forms::Player as Advised;
+use play_line::{Timed, read_time};
 use play_packet::LineReader;
 use play_pcap::{Folder, Trace};
 use script_loop::{Answers, Buffer, HELD, Sink};
@@ -65,6 +67,19 @@ impl<T: Sink, F: Folder> Player<T, F> {
             printer: _printer,
         } = self;
         captured.end()
+    }
+
+    /// Lets so many ticks pass before the line. If some do, no settings may come any more.
+    fn wait(&mut self, ticks: u32)
+        ensures waited { IsWaited StackSteps ticks
+            (play_of (state_of self.old.captured.stack) self.old.captured.capture.trace self.old.config self.old.head
+            self.old.printer)
+            (play_of (state_of self.new.captured.stack) self.new.captured.capture.trace self.new.config self.new.head
+            self.new.printer) }
+        ensures line { self.new.line ≡ self.old.line }
+    {
+        self.captured.wait(self.printer.number, ticks);
+        self.head = both(self.head, ticks == 0);
     }
 
     /// Makes a new machine as the settings of the line say, and prints `ok` or what is wrong with them.
@@ -134,6 +149,36 @@ impl<T: Sink, F: Folder> Player<T, F> {
     }
 }
 
+impl<T: Sink, F: Folder> Player<T, F> {
+    /// Answers a line with its time.
+    fn answer_timed(&mut self, line: &[u8], timed: Timed<'_>, text: &mut Buffer<ROOM>)
+        requires held { length text.old ≤ HELD }
+        requires part { length timed.part.now ≤ length line.now }
+        ensures { (added : List ℕ)
+            × TellsReading StackSteps F.may_have
+            (play_of (state_of self.old.captured.stack) self.old.captured.capture.trace self.old.config self.old.head
+            self.old.printer)
+            timed.entry.ticks (length line.now - length timed.entry.part.now)
+            (reading_part line.now timed.entry.part.now) added
+            (play_of (state_of self.new.captured.stack) self.new.captured.capture.trace self.new.config self.new.head
+            self.new.printer)
+            × (text.new ≡ text.old ++ added) }
+    {
+        match read_part(line, timed.part, &mut self.reader, &mut self.line) {
+            Kind::Nothing => {}
+            Kind::TooLong => self.printer.put_too_long(text),
+            Kind::Faulty(slip) => {
+                let before = (line.len() - timed.part.len()) as u64;
+                self.printer.put_slip(text, shift(slip, before));
+            }
+            Kind::Asks => {
+                self.wait(timed.ticks);
+                self.ask(text);
+            }
+        }
+    }
+}
+
 impl<T: Sink, F: Folder> Answers<ROOM> for Player<T, F> {
     ghost State = { Play };
 
@@ -143,11 +188,9 @@ impl<T: Sink, F: Folder> Answers<ROOM> for Player<T, F> {
 
     fn answer(&mut self, line: &[u8], text: &mut Buffer<ROOM>) {
         self.printer.next_line(line);
-        match read_line(line, &mut self.reader, &mut self.line) {
-            Kind::Nothing => {}
-            Kind::TooLong => self.printer.put_too_long(text),
-            Kind::Faulty(slip) => self.printer.put_slip(text, slip),
-            Kind::Asks => self.ask(text),
+        match read_time(line) {
+            Ok(timed) => self.answer_timed(line, timed, text),
+            Err(slip) => self.printer.put_slip(text, slip),
         }
     }
 }

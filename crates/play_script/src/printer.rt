@@ -86,7 +86,9 @@ impl Printer {
     /// Counts the next line, and notes whether a text stands in it.
     pub fn next_line(&mut self, line: &[u8])
         ensures { self.new ≡ record self.old {
-            number = more_by 1 self.old.number; texts = self.old.texts || lines.has_text line.now } }
+          number = more_by 1 self.old.number;
+          texts = self.old.texts || lines.has_text line.now;
+        } }
     {
         self.number = self.number.saturating_add(1);
         self.texts = self.texts || has_text(line);

@@ -51,12 +51,7 @@ pub(crate) fn put_below(
 impl Report {
     /// Tells below a reply what came of a line at a stack, by which this packet came or went; nothing if the report is
     /// quiet. Of the two looks at the stack the first was before the line, and the second after it.
-    pub fn tell_below(
-        &mut self,
-        stack: &Stack,
-        moved: Option<&[u8]>,
-        looks: (&Snapshot, &Snapshot),
-    )
+    pub fn tell_below(&mut self, stack: &Stack, moved: Option<&[u8]>, looks: (&Snapshot, &Snapshot))
         requires { IfSome moved (λ p. length p.now ≤ IP_MAX_PACKET) }
         ensures below { self.new.below ≡ below_text self.old.quiet (packet_behind moved.entry) looks.entry.0.now
             looks.entry.1.now (state_of stack.now).output }

@@ -1,13 +1,15 @@
 -- A line, and what it does.
-use Rattle.std.proofs.Common.{◌≡◌, ◌⊎◌, inl, inr, ℕ, ◌-◌, ◌&&◌, Bool, true, false, List, [], ◌∷◌, ◌++◌, length, Option, Some, refl, sym, ap, ◌∙◌, subst, append-nil}
+use Rattle.std.proofs.Common.{◌≡◌, ◌⊎◌, inl, inr, ℕ, zero, suc, ◌&&◌, Bool, true, false, List, [], ◌∷◌, ◌++◌, arith, Option, Some, refl, sym, ap, ◌∙◌, subst, append-nil}
 use Rattle.std.specs.Prelude.{codes, slice_get, Result, Ok, Err, IfOk}
 use Rattle.play_text.specs.Forms.{is_quiet}
 use Rattle.play_text.specs.Texts.{if_there}
-use Rattle.play_script.specs.Lines.{Reading, reading}
+use Rattle.play_line.specs.Time.{TimedView, timed}
+use Rattle.play_line.specs.declared.fault.Slip.{Slip}
+use Rattle.play_script.specs.Lines.{Reading}
 use Rattle.segment.specs.Law.{Act, AreActs}
 use Rattle.segment.specs.Segment.{SegmentView}
 use Rattle.play_wire.specs.Acts.{Outcome, Refused, AreLedTo, IsHostLine, IsMissing}
-use Rattle.play_wire.specs.Tells.{WirePlay, IsDone, IsParted, Tells, TellsLeft, TellsPart, left_text, next_wire_line}
+use Rattle.play_wire.specs.Tells.{WirePlay, IsDone, IsWaited, Tells, TellsLeft, TellsPart, TellsTimed, left_text, next_wire_line}
 use Rattle.flat_model.specs.Scripts.Grammar.{words}
 use Rattle.play_wire.specs.Inside.{came_of}
 use Rattle.play_wire.specs.declared.fault.Fault.{Fault}
@@ -76,22 +78,31 @@ done_by_nobody play named host plain v old e f is = (
       (sym e, tt, [], sym f ∙ sym (append-nil play.names)),
 )
 
--- a line that is read so
-pub told_part : (old new : WirePlay) (line part : List ℕ) (host : Option (List ℕ)) (read : Reading) (acts : List Act)
-    (text : List ℕ)
-    → IsParted line host part → reading part ≡ read
-    → TellsPart (next_wire_line line old) host (length line - length part) read acts text new
-    → Tells old line text new
-told_part old new line part host read acts text parted is tells = (
+-- a part of a line that is read so
+pub told_part : (now new : WirePlay) (host : Option (List ℕ)) (ticks before : ℕ) (read is : Reading) (acts : List Act)
+    (text : List ℕ) → read ≡ is → TellsPart now host ticks before is acts text new
+    → TellsPart now host ticks before read acts text new
+told_part now new host ticks before read is acts text same tells =
+    subst (λ (r : Reading). TellsPart now host ticks before r acts text new) (sym same) tells
+
+-- a line whose time was read so
+pub told_timed : (old now new : WirePlay) (line : List ℕ) (t : Result TimedView Slip) (acts : List Act) (text : List ℕ)
+    → now ≡ next_wire_line line old → t ≡ timed line → TellsTimed now line t acts text new → Tells old line text new
+told_timed old now new line t acts text counted is tells = (
   acts,
-  (
-    host,
-    part,
-    parted,
-    subst (λ r. TellsPart (next_wire_line line old) host (length line - length part) r acts text new)
-        (sym is) tells,
-  ),
+  subst (λ (r : Result TimedView Slip). TellsTimed (next_wire_line line old) line r acts text new) is
+      (subst (λ (p : WirePlay). TellsTimed p line t acts text new) counted tells),
 )
+
+-- ticks that pass before a line
+pub waited_none : (n : ℕ) (v : SegmentView) → n ≡ 0 → (acts : List Act) × IsWaited n v acts v
+waited_none zero v none = ([], (refl, refl))
+waited_none (suc n) v none = absurd (omega (arith, none))
+
+pub waited_some : (n : ℕ) (v w : SegmentView) → (n ≡ 0 → ⊥) → AreLedTo v w
+    → (acts : List Act) × IsWaited n v acts w
+waited_some zero v w some led = absurd (some refl)
+waited_some (suc n) v w some led = led
 
 pub nothing_more : (old : List ℕ) → old ≡ old ++ []
 nothing_more [] = refl

@@ -1,6 +1,8 @@
 -- Whole scripts.
-use Rattle.std.proofs.Common.{◌≡◌, inl, inr, ℕ, Bool, List, [], ◌∷◌, ◌++◌, map, Option, Some, None, refl, sym, ap, subst}
-use Rattle.play_script.specs.Lines.{Reading, Nothing, TooLong, Faulty, Asks, reading}
+use Rattle.std.proofs.Common.{◌≡◌, inl, inr, ℕ, zero, suc, Bool, List, [], ◌∷◌, ◌++◌, map, Option, Some, None, Result, Ok, Err, refl, sym, ap, subst}
+use Rattle.play_line.specs.Time.{TimedView, timed}
+use Rattle.play_line.specs.declared.fault.Slip.{Slip}
+use Rattle.play_script.specs.Lines.{Reading, Nothing, TooLong, Faulty, Asks, reading_part}
 use Rattle.script_loop.specs.Printed.{Prints}
 use Rattle.segment.specs.Law.{Act, Calls, Seeds, AreActs}
 use Rattle.segment.specs.Segment.{SegmentView}
@@ -8,7 +10,7 @@ use Rattle.play_wire.specs.Acts.{Outcome, IsHostLine}
 use Rattle.play_wire.specs.Runs.{AreToldBy, IsLawful, IsPlayed}
 use Rattle.play_text.specs.Forms.{is_quiet}
 use Rattle.play_text.specs.declared.form.Form.{Form}
-use Rattle.play_wire.specs.Tells.{WirePlay, Tells, TellsPart, IsDone, next_wire_line, wire_started}
+use Rattle.play_wire.specs.Tells.{WirePlay, Tells, TellsPart, TellsTimed, IsDone, IsWaited, next_wire_line, wire_started}
 use Rattle.play_wire.proofs.ActLemmas.{acts_append, calls_are_acts}
 
 none_are : (v w : SegmentView) (acts : List Act) → acts ≡ [] → w ≡ v → AreActs v acts w
@@ -32,18 +34,32 @@ done_acts now (Some host) plain acts came segment names (same, inl (place, named
 done_acts now (Some host) plain acts came segment names (same, inr (none, kept, refused)) =
     none_are now.segment segment acts none kept
 
-part_acts : (now new : WirePlay) (host : Option (List ℕ)) (before : ℕ) (line : Reading) (acts : List Act)
+waited_acts : (n : ℕ) (v w : SegmentView) (acts : List Act) → IsWaited n v acts w → AreActs v acts w
+waited_acts zero v w acts (none, same) = none_are v w acts none same
+waited_acts (suc n) v w acts are = are
+
+part_acts : (now new : WirePlay) (host : Option (List ℕ)) (ticks before : ℕ) (line : Reading) (acts : List Act)
     (text : List ℕ)
-    → TellsPart now host before line acts text new → AreActs now.segment acts new.segment
-part_acts now new host before Nothing acts text (none, is, same) =
+    → TellsPart now host ticks before line acts text new → AreActs now.segment acts new.segment
+part_acts now new host ticks before Nothing acts text (none, is, same) =
     none_are now.segment new.segment acts none (ap (λ (p : WirePlay). p.segment) same)
-part_acts now new host before TooLong acts text (none, is, same) =
+part_acts now new host ticks before TooLong acts text (none, is, same) =
     none_are now.segment new.segment acts none (ap (λ (p : WirePlay). p.segment) same)
-part_acts now new host before (Faulty slip) acts text (none, is, same) =
+part_acts now new host ticks before (Faulty slip) acts text (none, is, same) =
     none_are now.segment new.segment acts none (ap (λ (p : WirePlay). p.segment) same)
-part_acts now new host before (Asks shown plain wanted) acts text (came, segment, names, done, is, same) =
+part_acts now new host ticks before (Asks shown plain wanted) acts text
+    (first, rest, mid, joined, waited, (came, segment, names, done, is, same)) =
     subst (λ (v : SegmentView). AreActs now.segment acts v) (sym (ap (λ (p : WirePlay). p.segment) same))
-    (done_acts now host plain acts came segment names done)
+    (subst (λ (xs : List Act). AreActs now.segment xs segment) (sym joined)
+    (acts_append now.segment mid segment first rest (waited_acts ticks now.segment mid first waited)
+    (done_acts (record now { segment = mid }) host plain rest came segment names done)))
+
+timed_acts : (now new : WirePlay) (line : List ℕ) (t : Result TimedView Slip) (acts : List Act) (text : List ℕ)
+    → TellsTimed now line t acts text new → AreActs now.segment acts new.segment
+timed_acts now new line (Err slip) acts text (none, is, same) =
+    none_are now.segment new.segment acts none (ap (λ (p : WirePlay). p.segment) same)
+timed_acts now new line (Ok t) acts text (host, part, parted, tells) =
+    part_acts now new host t.ticks _ (reading_part line part) acts text tells
 
 -- what is printed for lines, with the acts that made it
 pub told_by_acts : (old new : WirePlay) (lines : List (List ℕ)) (printed : List ℕ) → Prints Tells old lines printed new
@@ -54,7 +70,7 @@ told_by_acts old new (line ∷ lines) printed (mid, text, more, (first, tells), 
       first ++ rest.0,
       (mid, first, rest.0, text, more, tells, rest.1, refl, joined),
       acts_append old.segment mid.segment new.segment first rest.0
-          (part_acts (next_wire_line line old) mid tells.0 _ (reading tells.1) first text tells.3) rest.2,
+          (timed_acts (next_wire_line line old) mid line (timed line) first text tells) rest.2,
     )
 
 pub played : (seed : ℕ) (form : Form) (name : List ℕ) (new : WirePlay) (lines : List (List ℕ)) (printed : List ℕ)

@@ -1,8 +1,9 @@
 -- What may be told of a line, and what it leads to (this project's own).
-use Rattle.std.specs.Prelude.{◌≡◌, ◌⊎◌, ℕ, ◌-◌, ◌&&◌, ◌||◌, Bool, true, false, List, [], ◌∷◌, ◌++◌, length, codes, decimal, if◌then◌else◌, slice_get, Option, Some, None}
+use Rattle.std.specs.Prelude.{◌≡◌, ◌⊎◌, ℕ, ◌-◌, ◌&&◌, ◌||◌, zero, suc, Bool, true, false, List, [], ◌∷◌, ◌++◌, length, codes, decimal, if◌then◌else◌, slice_get, Option, Some, None, Result, Ok, Err}
 use Rattle.flat_model.specs.Machine.Count.{more_by}
+use Rattle.play_line.specs.Time.{TimedView, timed}
 use Rattle.play_line.specs.declared.fault.Slip.{Slip}
-use Rattle.play_script.specs.Lines.{Reading, Nothing, TooLong, Faulty, Asks, has_text, reading}
+use Rattle.play_script.specs.Lines.{Reading, Nothing, TooLong, Faulty, Asks, has_text, reading_part, shifted}
 use Rattle.play_text.specs.Texts.{fault_text, slip_text}
 use Rattle.play_text.specs.Forms.{is_quiet}
 use Rattle.play_text.specs.declared.form.Form.{Form}
@@ -52,15 +53,10 @@ IsParted line None part = part ≡ line
 
 -- ---- texts
 
--- a line with its host
-abbrev pub labelled : Option (List ℕ) → List ℕ → List ℕ
-labelled (Some host) shown = host ++ codes ": " ++ shown
-labelled None shown = shown
-
 -- what is told of a line
 abbrev pub IsText : WirePlay → Option (List ℕ) → List ℕ → List ℕ → Option (List ℕ) → Outcome → List ℕ → Type 0
 IsText now host shown plain wanted (Told told below) text =
-    text ≡ told_text now.form now.texts now.name now.number (labelled host shown) wanted told below
+    text ≡ told_text now.form now.texts now.name now.number shown wanted told below
 IsText now host shown plain wanted (Refused reason) text =
     (what : List ℕ) × IsReason host plain reason what × (text ≡ fault_text now.form now.name now.number what)
 
@@ -68,10 +64,6 @@ IsText now host shown plain wanted (Refused reason) text =
 abbrev pub sound_of : Option (List ℕ) → Outcome → Bool
 sound_of wanted (Told told below) = is_sound wanted told
 sound_of wanted (Refused reason) = false
-
--- what is wrong with a part of a line, in front of which so many bytes stand
-abbrev pub shifted : ℕ → Slip → Slip
-shifted before slip = record slip { column = more_by before slip.column }
 
 -- ---- steps
 
@@ -99,26 +91,45 @@ IsDone now None plain acts outcome segment names =
     AreActs now.segment acts segment × TellsLeft plain outcome segment
     × (more : List (List ℕ)) × (names ≡ now.names ++ more)
 
--- what the part of a line that is read so does, where `now` has its number
-abbrev pub TellsPart : WirePlay → Option (List ℕ) → ℕ → Reading → List Act → List ℕ → WirePlay → Type 0
-TellsPart now host before Nothing acts text new = (acts ≡ []) × (text ≡ []) × (new ≡ now)
-TellsPart now host before TooLong acts text new =
-    (acts ≡ []) × (text ≡ fault_text now.form now.name now.number (codes "the line is too long"))
-    × (new ≡ record now { sound = false })
-TellsPart now host before (Faulty slip) acts text new =
-    (acts ≡ []) × (text ≡ slip_text now.form now.name now.number (shifted before slip))
-    × (new ≡ record now { sound = false })
-TellsPart now host before (Asks shown plain wanted) acts text new =
+-- what a line does that asks for something
+abbrev pub TellsAsked : WirePlay → Option (List ℕ) → List ℕ → List ℕ → Option (List ℕ) → List Act → List ℕ → WirePlay
+    → Type 0
+TellsAsked now host shown plain wanted acts text new =
     (outcome : Outcome) × (segment : SegmentView) × (names : List (List ℕ))
     × IsDone now host plain acts outcome segment names
     × IsText now host shown plain wanted outcome text
     × (new ≡ record now { segment = segment; names = names; sound = now.sound && sound_of wanted outcome })
 
+-- so many ticks of each host pass before a line, of which nothing is told
+abbrev pub IsWaited : ℕ → SegmentView → List Act → SegmentView → Type 0
+IsWaited zero v acts w = (acts ≡ []) × (w ≡ v)
+IsWaited (suc n) v acts w = AreActs v acts w
+
+-- What the part of a line that is read so does, where `now` has its number. So many ticks pass first if it asks for
+-- something, and the part has so many bytes of the line before it.
+abbrev pub TellsPart : WirePlay → Option (List ℕ) → ℕ → ℕ → Reading → List Act → List ℕ → WirePlay → Type 0
+TellsPart now host ticks before Nothing acts text new = (acts ≡ []) × (text ≡ []) × (new ≡ now)
+TellsPart now host ticks before TooLong acts text new =
+    (acts ≡ []) × (text ≡ fault_text now.form now.name now.number (codes "the line is too long"))
+    × (new ≡ record now { sound = false })
+TellsPart now host ticks before (Faulty slip) acts text new =
+    (acts ≡ []) × (text ≡ slip_text now.form now.name now.number (shifted before slip))
+    × (new ≡ record now { sound = false })
+TellsPart now host ticks before (Asks shown plain wanted) acts text new =
+    (first rest : List Act) × (mid : SegmentView) × (acts ≡ first ++ rest) × IsWaited ticks now.segment first mid
+    × TellsAsked (record now { segment = mid }) host shown plain wanted rest text new
+
+-- a line with its time, or what is wrong with that
+abbrev pub TellsTimed : WirePlay → List ℕ → Result TimedView Slip → List Act → List ℕ → WirePlay → Type 0
+TellsTimed now line (Err slip) acts text new =
+    (acts ≡ []) × (text ≡ slip_text now.form now.name now.number slip) × (new ≡ record now { sound = false })
+TellsTimed now line (Ok t) acts text new =
+    (host : Option (List ℕ)) × (part : List ℕ) × IsParted t.part host part
+    × TellsPart now host t.ticks (length line - length part) (reading_part line part) acts text new
+
 -- a line may have this text, by these acts
 abbrev pub TellsBy : WirePlay → List ℕ → List Act → List ℕ → WirePlay → Type 0
-TellsBy old line acts text new =
-    (host : Option (List ℕ)) × (part : List ℕ) × IsParted line host part
-    × TellsPart (next_wire_line line old) host (length line - length part) (reading part) acts text new
+TellsBy old line acts text new = TellsTimed (next_wire_line line old) line (timed line) acts text new
 
 abbrev pub Tells : WirePlay → List ℕ → List ℕ → WirePlay → Type 0
 Tells old line text new = (acts : List Act) × TellsBy old line acts text new

@@ -1,23 +1,24 @@
 //! What plays a script of many machines line by line.
-ghost use Rattle.std.specs.Prelude.{◌≡◌, ◌≤◌, ◌++◌, IfSome, List, Some, false, length, slice_get, ℕ};
+ghost use Rattle.std.specs.Prelude.{◌≡◌, ◌-◌, ◌≤◌, ◌++◌, IfSome, List, Option, Some, false, length, slice_get, ℕ};
 ghost use Rattle.segment.specs.Inside.{view};
 ghost use Rattle.segment.specs.Law.{Act};
 ghost use Rattle.play_text.specs.Forms.{is_quiet};
 ghost use Rattle.play_script.specs.Views.{expected_on, plain_line};
-ghost use Rattle.play_script.specs.Lines.{Asks};
+ghost use Rattle.play_script.specs.Lines.{reading_part};
 ghost use Rattle.play_forms.specs.declared.text.TheConstants.{ADVICE};
 ghost use Rattle.play_wire.specs.Faults.{IsReason, player_of, wire_fault_words};
 ghost use Rattle.play_wire.specs.Inside.{came_of, named_by, play_with};
-ghost use Rattle.play_wire.specs.Tells.{WirePlay, IsDone, Tells, TellsPart};
+ghost use Rattle.play_wire.specs.Tells.{WirePlay, IsDone, IsParted, Tells, TellsAsked, TellsPart};
 
 use crate::fault::Fault;
 use crate::host_line::answer_host;
 use crate::hosts::Hosts;
 use crate::names::place_of;
-use crate::target::{Target, shift};
+use crate::target::Target;
 use play_forms::Player as Advised;
+use play_line::{Timed, read_time};
 use play_packet::LineReader;
-use play_script::{Kind, Line, Printer, ROOM, Report, bytes_of, read_line};
+use play_script::{Kind, Line, Printer, ROOM, Report, bytes_of, read_part, shift};
 use script_loop::{Answers, Buffer, HELD, Sink};
 
 /// What plays a script.
@@ -45,7 +46,8 @@ fn answer_words<T: Sink + Drop>(
     report: &mut Report,
 ) -> Result<(), Fault>
     ensures { (play : WirePlay) → play.segment ≡ view hosts.old.segment → play.names ≡ hosts.old.names.items
-        → is_quiet play.form ≡ report.old.quiet → (acts : List Act) × IsDone play (named_by target.now) (plain_line line.now) acts
+        → is_quiet play.form ≡ report.old.quiet
+        → (acts : List Act) × IsDone play (named_by target.now) (plain_line line.now) acts
         (came_of result report.new.told report.new.below) (view hosts.new.segment) hosts.new.names.items }
 {
     if target.named {
@@ -96,26 +98,44 @@ impl<T: Sink + Drop> Player<T> {
     fn ask(&mut self, text: &mut Buffer<ROOM>)
         requires { length text.old ≤ HELD }
         ensures { (acts : List Act) × (added : List ℕ)
-            × TellsPart (play_with (view self.old.hosts.segment) self.old.hosts.names.items self.old.printer)
-            (named_by self.old.target) 0
-            (Asks self.old.line.shown (plain_line self.old.line) (expected_on self.old.line)) acts added
+            × TellsAsked (play_with (view self.old.hosts.segment) self.old.hosts.names.items self.old.printer)
+            (named_by self.old.target) self.old.line.shown (plain_line self.old.line) (expected_on self.old.line) acts
+            added
             (play_with (view self.new.hosts.segment) self.new.hosts.names.items self.new.printer)
             × (text.new ≡ text.old ++ added) }
     {
         self.report.quiet = self.printer.form.is_quiet();
         match answer_words(&mut self.hosts, &self.target, &self.line, &mut self.report) {
-            Ok(()) => {
-                self.target.label(bytes_of(&self.line.shown));
-                self.printer.put_labelled(
-                    text,
-                    bytes_of(&self.target.line),
-                    &self.line,
-                    &self.report,
-                );
-            }
+            Ok(()) => self.printer.put_told(text, &self.line, &self.report),
             Err(fault) => {
                 tell_reason(&mut self.report, &self.target, &mut self.line, fault);
                 self.printer.put_fault(text, bytes_of(&self.report.told));
+            }
+        }
+    }
+
+    /// Answers a line with its time.
+    fn answer_timed(&mut self, line: &[u8], timed: Timed<'_>, text: &mut Buffer<ROOM>)
+        requires held { length text.old ≤ HELD }
+        requires part { length timed.part.now ≤ length line.now }
+        ensures { (acts : List Act) × (added : List ℕ) × (host : Option (List ℕ)) × (part : List ℕ)
+            × IsParted timed.entry.part.now host part
+            × TellsPart (play_with (view self.old.hosts.segment) self.old.hosts.names.items self.old.printer) host
+            timed.entry.ticks (length line.now - length part) (reading_part line.now part) acts added
+            (play_with (view self.new.hosts.segment) self.new.hosts.names.items self.new.printer)
+            × (text.new ≡ text.old ++ added) }
+    {
+        let part = self.target.take(timed.part);
+        match read_part(line, part, &mut self.reader, &mut self.line) {
+            Kind::Nothing => {}
+            Kind::TooLong => self.printer.put_too_long(text),
+            Kind::Faulty(slip) => {
+                let before = (line.len() - part.len()) as u64;
+                self.printer.put_slip(text, shift(slip, before));
+            }
+            Kind::Asks => {
+                self.hosts.wait(timed.ticks);
+                self.ask(text);
             }
         }
     }
@@ -144,15 +164,9 @@ impl<T: Sink + Drop> Answers<ROOM> for Player<T> {
     fn answer(&mut self, line: &[u8], text: &mut Buffer<ROOM>) {
         self.printer.next_line(line);
         self.hosts.capture.line = self.printer.number;
-        let part = self.target.take(line);
-        match read_line(part, &mut self.reader, &mut self.line) {
-            Kind::Nothing => {}
-            Kind::TooLong => self.printer.put_too_long(text),
-            Kind::Faulty(slip) => {
-                let before = (line.len() - part.len()) as u64;
-                self.printer.put_slip(text, shift(slip, before));
-            }
-            Kind::Asks => self.ask(text),
+        match read_time(line) {
+            Ok(timed) => self.answer_timed(line, timed, text),
+            Err(slip) => self.printer.put_slip(text, slip),
         }
     }
 }

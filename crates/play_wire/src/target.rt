@@ -2,11 +2,9 @@
 ghost use Rattle.std.specs.Prelude.{◌≡◌, ◌≤◌, length};
 ghost use Rattle.play_text.specs.Texts.{if_there};
 ghost use Rattle.play_wire.specs.Inside.{named_by};
-ghost use Rattle.play_wire.specs.Tells.{IsParted, labelled, shifted};
+ghost use Rattle.play_wire.specs.Tells.{IsParted};
 
 use crate::names::{NAME, named};
-use play_line::{LONGEST, Slip};
-use play_script::{LABELLED, bytes_of};
 use script_loop::Buffer;
 use std::alloc::{AllocError, Global};
 
@@ -16,8 +14,6 @@ pub(crate) struct Target {
     /// Whether it names one.
     pub(crate) named: bool,
     pub(crate) host: Buffer<NAME>,
-    /// Room for the line with the host.
-    pub(crate) line: Buffer<LABELLED>,
 }
 
 impl Target {
@@ -26,7 +22,6 @@ impl Target {
         Ok(Target {
             named: false,
             host: Buffer::new(alloc)?,
-            line: Buffer::new(alloc)?,
         })
     }
 
@@ -48,28 +43,5 @@ impl Target {
                 line
             }
         }
-    }
-
-    /// Puts a line with the host in front into the room.
-    pub(crate) fn label(&mut self, shown: &[u8])
-        requires { length shown.now ≤ LONGEST }
-        ensures line { self.new.line ≡ labelled (named_by self.old) shown.now }
-    {
-        self.line.clear();
-        if self.named {
-            self.line.append(bytes_of(&self.host));
-            self.line.append(b": ");
-        }
-        self.line.append(shown);
-    }
-}
-
-/// A slip of a part of a line, in front of which so many bytes stand.
-pub(crate) fn shift(slip: Slip, before: u64) -> Slip
-    ensures { result ≡ shifted before slip }
-{
-    Slip {
-        fault: slip.fault,
-        column: slip.column.saturating_add(before),
     }
 }

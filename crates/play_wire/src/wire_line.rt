@@ -3,7 +3,8 @@ ghost use Rattle.std.specs.Prelude.{◌≡◌, ◌++◌, ◌∷◌, ℕ, List, I
 ghost use Rattle.segment.specs.Inside.{view};
 ghost use Rattle.flat_model.specs.Scripts.Grammar as line;
 ghost use Rattle.play_wire.specs.Acts.{AreLedTo};
-ghost use Rattle.play_wire.specs.Tells.{left_text};
+ghost use Rattle.segment.specs.Law.{Act};
+ghost use Rattle.play_wire.specs.Tells.{IsWaited, left_text};
 
 use crate::by_hand::{by_hand_in, do_by_hand};
 use crate::capture::collect;
@@ -81,6 +82,18 @@ fn verb_of(word: &[u8]) -> Option<Verb> {
 }
 
 impl<T: Sink + Drop> Hosts<T> {
+    /// Lets so many ticks pass at each host before a line.
+    pub(crate) fn wait(&mut self, ticks: u32)
+        ensures waited { (acts : List Act) × IsWaited ticks (view self.old.segment) acts (view self.new.segment) }
+        ensures names { self.new.names ≡ self.old.names }
+    {
+        if ticks == 0 {
+            return;
+        }
+        tick_all(&mut self.segment, &mut self.spare.stack, ticks);
+        self.capture.tick(ticks);
+    }
+
     /// Carries so often, and reports which packets went, how many were lost, repeated and received, and why some were
     /// dropped. Nothing of it is reported if the report is quiet.
     fn pass(&mut self, bound: Bound, report: &mut Report)

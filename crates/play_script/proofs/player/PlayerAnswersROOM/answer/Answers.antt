@@ -1,22 +1,37 @@
-use Rattle.std.proofs.Common.{◌≡◌, ap}
+use Rattle.std.proofs.Common.{Ok, Err, refl, ap}
+use Rattle.play_line.specs.Time.{TimedView}
+use Rattle.play_text.specs.Texts.{slip_text}
 use Rattle.play_script.specs.Inside.{play_of}
-use Rattle.play_script.specs.Views.{expected_on, plain_line}
 use Rattle.play_script.specs.declared.printer.Printer.{Printer}
-use Rattle.play_script.proofs.AnswerLemmas.{Asks-tells}
+use Rattle.play_script.proofs.AnswerLemmas.{Timed-tells}
 use Rattle.stack_call.specs.Moves.{StackSteps}
 use Rattle.net_stack.specs.Stack.{state_of}
 use Rattle.play_script.proofs.player.PlayerAnswersROOM.answer.Goals as goal
 
-pub returns-in-Asks : goal.returns-in-Asks
-returns-in-Asks g c =
+pub returns-in-Ok : goal.returns-in-Ok
+returns-in-Ok g c =
     let now = c.args.self.now in
-    let told = c.ask.ensures in
-    let line = c.read_line.new.line in
+    let told = c.answer_timed.ensures in
+    let t = c.in-Ok.timed in
+    let view : TimedView = record { ticks = t.ticks; part = t.part.now } in
     let playing =
     λ (p : Printer). play_of (state_of now.captured.stack) now.captured.capture.trace now.config now.head p in (
       told.0,
-      Asks-tells StackSteps g.F.Folder.may_have (playing now.printer) (playing c.next_line.new.self) _ c.args.line.now
-          line.shown (plain_line line) told.0
-          (expected_on line) (ap playing c.next_line.ensures) c.in-Asks.ensures told.1,
+      Timed-tells StackSteps g.F.Folder.may_have (playing now.printer) (playing c.next_line.new.self) _ c.args.line.now
+          told.0 (Ok view) (ap playing c.next_line.ensures) c.in-Ok.ensures.is told.1,
       told.2,
+    )
+
+pub returns-in-Err : goal.returns-in-Err
+returns-in-Err g c =
+    let now = c.args.self.now in
+    let q = c.next_line.new.self in
+    let text = slip_text q.form q.name q.number c.in-Err.slip in
+    let playing =
+    λ (p : Printer). play_of (state_of now.captured.stack) now.captured.capture.trace now.config now.head p in (
+      text,
+      Timed-tells StackSteps g.F.Folder.may_have (playing now.printer) (playing q) (playing c.put_slip.new.self)
+          c.args.line.now text (Err c.in-Err.slip) (ap playing c.next_line.ensures) c.in-Err.ensures.is
+          (refl, ap playing c.put_slip.ensures.printer),
+      c.put_slip.ensures.text,
     )

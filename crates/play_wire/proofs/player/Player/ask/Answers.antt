@@ -7,7 +7,6 @@ use Rattle.play_script.specs.declared.printer.Printer.{Printer}
 use Rattle.segment.specs.Inside.{view}
 use Rattle.play_wire.specs.Acts.{Told, Refused}
 use Rattle.play_wire.specs.Inside.{named_by, play_with}
-use Rattle.play_wire.specs.Tells.{IsDone, labelled}
 use Rattle.play_wire.proofs.PlayLemmas.{and_false}
 use Rattle.play_wire.proofs.player.Player.ask.Goals as goal
 
@@ -20,23 +19,18 @@ returns-in-Ok g c =
     let names = c.answer_words.new.hosts.names.items in
     let told = c.answer_words.new.report.told in
     let below = c.answer_words.new.report.below in
-    let wanted = expected_on now.line in
-    let host = named_by now.target in
-    let shown =
-    c.bytes_of-in-Ok.ensures.is ∙ c.label.ensures.line
-    ∙ ap (λ (t : List ℕ). labelled host t) c.bytes_of.ensures.is in (
+    let wanted = expected_on now.line in (
       did.0,
-      told_text p.form p.texts p.name p.number (labelled host now.line.shown) wanted told below,
+      told_text p.form p.texts p.name p.number now.line.shown wanted told below,
       (
         Told told below,
         segment,
         names,
         did.1,
         refl,
-        ap (λ (q : Printer). play_with segment names q) c.put_labelled.ensures.printer,
+        ap (λ (q : Printer). play_with segment names q) c.put_told.ensures.printer,
       ),
-      c.put_labelled.ensures.text ∙ ap
-          (λ (t : List ℕ). c.args.text.now ++ told_text p.form p.texts p.name p.number t wanted told below) shown,
+      c.put_told.ensures.text,
     )
 
 pub returns-in-Err : goal.returns-in-Err
@@ -48,16 +42,16 @@ returns-in-Err g c =
     let names = c.answer_words.new.hosts.names.items in
     let host = named_by now.target in (
       did.0,
-      fault_text p.form p.name p.number c.bytes_of-in-Err.result.now,
+      fault_text p.form p.name p.number c.bytes_of.result.now,
       (
         Refused c.in-Err.fault,
         segment,
         names,
         did.1,
         (
-          c.bytes_of-in-Err.result.now,
+          c.bytes_of.result.now,
           subst (λ (t : List ℕ). IsReason host (plain_line now.line) c.in-Err.fault t)
-              (sym c.bytes_of-in-Err.ensures.is)
+              (sym c.bytes_of.ensures.is)
               c.tell_reason.ensures.reason,
           refl,
         ),
