@@ -204,11 +204,11 @@ fn tell_packet<W: Write>(
         others.elsewhere = others.elsewhere.saturating_add(1);
         return Ok(());
     }
-    let Ok(told) = judge.tell(arrival) else {
+    if judge.tell(arrival).is_err() {
         return Err(End::Memory);
-    };
+    }
     if is_wanted(choice.range, arrival.number) {
-        put(out, told)?;
+        put(out, judge.text())?;
     }
     Ok(())
 }

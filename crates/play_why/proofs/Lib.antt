@@ -1,1 +1,3 @@
 mod FateLemmas
+mod Steps
+mod Laying

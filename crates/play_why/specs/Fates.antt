@@ -1,8 +1,8 @@
 -- What became of the packet of a record, in words (this project's own). `a` and `b` are what was counted before it and
 -- after it, and `s` is the state after it, in which only what it brought waits.
-use Rattle.std.specs.Prelude.{◌≤◌, ℕ, zero, suc, ◌+◌, ◌/◌, ◌%◌, ◌==◌, ◌&&◌, Bool, not, nat_le, nat_lt, List, [], ◌∷◌, ◌++◌, length, drop, slice_index, flat_map, codes, decimal, if◌then◌else◌, Option, Some, None, Result, Ok, Err}
+use Rattle.std.specs.Prelude.{◌≤◌, ℕ, zero, suc, ◌+◌, ◌==◌, ◌&&◌, Bool, not, nat_le, nat_lt, List, [], ◌∷◌, ◌++◌, length, drop, slice_index, flat_map, codes, decimal, if◌then◌else◌, Option, Some, None, Result, Ok, Err}
 use Rattle.params.specs.declared.TheConstants.{FIRST_DESCRIPTOR, IP_HEADER, MAX_SOCKETS}
-use Rattle.flat_model.specs.Machine.Count.{counter_of, value_of}
+use Rattle.flat_model.specs.Machine.Count.{counter_of}
 use Rattle.flat_model.specs.Machine.State.{State}
 use Rattle.flat_model.specs.Packets.Header.{u16_at, u32_at}
 use Rattle.flat_model.specs.Scripts.Grammar.{address_text}
@@ -10,7 +10,7 @@ use Rattle.flat_model.specs.declared.counter.Counter.{Counter}
 use Rattle.flat_model.specs.declared.counter.Counter.TheVariants.{IpFragments, IpFragdropped, IpReassembled, Nobufs}
 use Rattle.flat_model.specs.declared.counters.Counters.{Counters}
 use Rattle.flat_model.specs.declared.counters.Why.{Why}
-use Rattle.flat_model.specs.declared.counters.Why.TheVariants.{TooSmall, BadVersion, BadHeaderLength, Options, BadSum, BadLength, TooShort, CantForward, BadFragment, FragmentDropped, NoProtocol, UdpHeaderDrops, UdpBadLength, UdpBadSum, UdpNoPort, UdpNoPortBroadcast, UdpFullSocket, NoBufs}
+use Rattle.flat_model.specs.declared.counters.Why.TheVariants.{TooSmall, TooShort, UdpBadSum}
 use Rattle.flat_model.specs.declared.errno.Errno.{Errno}
 use Rattle.sock_calls.specs.Questions.{next_datagram, socket_name}
 use Rattle.sock_calls.specs.declared.questions.NextDatagram.{NextDatagram}
@@ -19,7 +19,9 @@ use Rattle.play_text.specs.Packets.{packet_text}
 use Rattle.play_text.specs.Pieces.{amount}
 use Rattle.play_text.specs.Strings.{string_text}
 use Rattle.play_why.specs.Values.{datagram_of, pseudo_sum, values_text}
-use Rattle.play_why.specs.Words.{cause_words, rule_words}
+use Rattle.play_records.specs.Times.{time_text}
+use Rattle.play_records.specs.Words.{all_causes, cause_words, rose}
+use Rattle.play_why.specs.Words.{rule_words}
 use Rattle.play_why.specs.declared.blame.Blame.{Blame}
 use Rattle.play_why.specs.declared.blame.Blame.TheVariants.{Packet, Capture, Card}
 use Rattle.play_why.specs.declared.causes.Part.{Part}
@@ -35,16 +37,6 @@ pub record IsSeen (r : Seen) : Type 0 where
   pub packet : length r.packet.now ≤ 65_535
   pub whole : length r.whole.now ≤ 65_535
   pub earlier : length r.earlier.now ≤ 64
-
--- the six digits of a number below 1,000,000
-unfoldable pub six_digits : ℕ → List ℕ
-six_digits n =
-    (48 + n / 100000 % 10) ∷ (48 + n / 10000 % 10) ∷ (48 + n / 1000 % 10) ∷ (48 + n / 100 % 10)
-    ∷ (48 + n / 10 % 10) ∷ (48 + n % 10) ∷ []
-
--- seconds with six digits behind the point, of nanoseconds
-unfoldable pub time_text : ℕ → List ℕ
-time_text t = decimal (t / 1_000_000_000) ++ codes "." ++ six_digits (t / 1_000 % 1_000_000)
 
 -- a header of 20 bytes or more, which isn't one of version 4 with 5 words
 abbrev pub is_odd : List ℕ → Bool
@@ -62,9 +54,6 @@ unfoldable pub head_text : Seen → List ℕ
 head_text r = decimal r.number ++ codes "  " ++ time_text r.time ++ codes "  " ++ ends_text r.packet.now
 
 -- ---- fragments
-
-abbrev pub rose : Counter → Counters → Counters → Bool
-rose counter a b = nat_lt (value_of counter a) (value_of counter b)
 
 -- a fragment passed its test, and neither made its datagram whole nor was dropped
 abbrev pub is_kept : Counters → Counters → Bool
@@ -127,29 +116,6 @@ delivered_below zero s = []
 delivered_below (suc n) s = delivered_below n s ++ delivered_at (FIRST_DESCRIPTOR + n) s
 
 -- ---- causes
-
--- in the order of the tests
-abbrev pub all_causes : List Why
-all_causes =
-    TooSmall
-    ∷ BadVersion
-    ∷ BadHeaderLength
-    ∷ Options
-    ∷ BadSum
-    ∷ BadLength
-    ∷ TooShort
-    ∷ CantForward
-    ∷ BadFragment
-    ∷ FragmentDropped
-    ∷ NoProtocol
-    ∷ UdpHeaderDrops
-    ∷ UdpBadLength
-    ∷ UdpBadSum
-    ∷ UdpNoPort
-    ∷ UdpNoPortBroadcast
-    ∷ UdpFullSocket
-    ∷ NoBufs
-    ∷ []
 
 -- Whom a cause is to be laid to: a capture that kept a part of the record, a sender's card that was to put the checksum
 -- in, or the packet as it was on the wire.

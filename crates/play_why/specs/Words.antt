@@ -1,28 +1,7 @@
--- Why a packet was dropped, and the rule that it broke, in words (this project's own).
+-- The rule that a packet broke that was dropped, in words (this project's own).
 use Rattle.std.specs.Prelude.{ℕ, List, codes}
 use Rattle.flat_model.specs.declared.counters.Why.{Why}
 use Rattle.flat_model.specs.declared.counters.Why.TheVariants.{TooSmall, BadVersion, BadHeaderLength, Options, BadSum, BadLength, TooShort, CantForward, BadFragment, FragmentDropped, NoProtocol, UdpHeaderDrops, UdpBadLength, UdpBadSum, UdpNoPort, UdpNoPortBroadcast, UdpFullSocket, NoBufs}
-
--- the cause
-abbrev pub cause_words : Why → List ℕ
-cause_words TooSmall = codes "packet shorter than a header"
-cause_words BadVersion = codes "wrong version"
-cause_words BadHeaderLength = codes "header length too small"
-cause_words Options = codes "options are not taken"
-cause_words BadSum = codes "wrong header checksum"
-cause_words BadLength = codes "total length too small"
-cause_words TooShort = codes "packet shorter than its total length"
-cause_words CantForward = codes "not addressed to this machine"
-cause_words BadFragment = codes "malformed fragment"
-cause_words FragmentDropped = codes "fragment held already"
-cause_words NoProtocol = codes "unknown protocol"
-cause_words UdpHeaderDrops = codes "datagram shorter than a header"
-cause_words UdpBadLength = codes "wrong datagram length"
-cause_words UdpBadSum = codes "wrong datagram checksum"
-cause_words UdpNoPort = codes "no socket has the port"
-cause_words UdpNoPortBroadcast = codes "no socket has the port of the broadcast"
-cause_words UdpFullSocket = codes "receive queue full"
-cause_words NoBufs = codes "no buffer space available"
 
 -- the rule
 abbrev pub rule_words : Why → List ℕ

@@ -5,12 +5,11 @@ ghost use Rattle.play_why.specs.Fates.{IsSeen};
 
 use crate::FATE;
 use crate::blame::{Blame, blame_of, datagram_of, put_reason};
-use crate::fate::rose;
 use crate::seen::Seen;
 use crate::sums::COVERED;
 use crate::values::put_values;
-use crate::words::words_for;
 use flat_model::{Counters, Why};
+use play_records::{causes, rose, words_for};
 use script_loop::Buffer;
 
 /// What's told of a cause.
@@ -34,32 +33,6 @@ pub(crate) struct Around<'a> {
     pub(crate) before: &'a Counters,
     pub(crate) after: &'a Counters,
     pub(crate) ours: u32,
-}
-
-/// All causes, in the order of the tests.
-pub(crate) fn causes() -> [Why; 18]
-    ensures { result ≡ texts.all_causes }
-{
-    [
-        Why::TooSmall,
-        Why::BadVersion,
-        Why::BadHeaderLength,
-        Why::Options,
-        Why::BadSum,
-        Why::BadLength,
-        Why::TooShort,
-        Why::CantForward,
-        Why::BadFragment,
-        Why::FragmentDropped,
-        Why::NoProtocol,
-        Why::UdpHeaderDrops,
-        Why::UdpBadLength,
-        Why::UdpBadSum,
-        Why::UdpNoPort,
-        Why::UdpNoPortBroadcast,
-        Why::UdpFullSocket,
-        Why::NoBufs,
-    ]
 }
 
 /// What a cause is laid to, in a word.

@@ -14,46 +14,13 @@ use flat_model::{Counter, Counters, Errno};
 use flat_plain::u16_at;
 use net_stack::{NextDatagram, SocketName, Stack};
 use params::{FIRST_DESCRIPTOR, IP_HEADER, MAX_SOCKETS};
+use play_records::{put_time, rose};
 use play_text::Piece::{Address, Amount, Long, Number, Quoted, Text};
 use play_text::{put, put_if, put_packet};
 use script_loop::Buffer;
 
 /// The most records of other fragments that are named.
 pub const MOST_RECORDS: usize = 64;
-
-/// The six digits of a number below 1,000,000.
-#[tactic(auto, unfolding(crate::specs::Fates::six_digits))]
-fn six_digits(n: u32) -> [u8; 6]
-    requires { n < 1000000 }
-    ensures { result ≡ texts.six_digits n }
-{
-    [
-        48 + (n / 100_000 % 10) as u8,
-        48 + (n / 10_000 % 10) as u8,
-        48 + (n / 1_000 % 10) as u8,
-        48 + (n / 100 % 10) as u8,
-        48 + (n / 10 % 10) as u8,
-        48 + (n % 10) as u8,
-    ]
-}
-
-/// Puts a time after the text, in seconds.
-#[tactic(auto, unfolding(crate::specs::Fates::time_text))]
-fn put_time(text: &mut Buffer<FATE>, time: u64)
-    requires { length text.old + 30 ≤ FATE }
-    ensures items { text.new ≡ text.old ++ texts.time_text time }
-    ensures len { length text.new ≤ length text.old + 30 }
-{
-    let microseconds = (time / 1_000 % 1_000_000) as u32;
-    put(
-        text,
-        &[
-            Long(time / 1_000_000_000),
-            Text(b"."),
-            Text(&six_digits(microseconds)),
-        ],
-    );
-}
 
 /// Whether a header isn't one of version 4 with 5 words.
 fn is_odd(packet: &[u8]) -> bool
@@ -98,13 +65,6 @@ fn put_head(text: &mut Buffer<FATE>, seen: &Seen<'_>)
     put_time(text, seen.time);
     text.append(b"  ");
     put_ends(text, seen.packet);
-}
-
-/// Whether a counter went up.
-pub(crate) fn rose(counter: Counter, before: &Counters, after: &Counters) -> bool
-    ensures { result ≡ texts.rose counter before.now after.now }
-{
-    before.value(counter) < after.value(counter)
 }
 
 /// Whether a fragment is kept.

@@ -1,22 +1,28 @@
 //! What judges the records of a capture, one after another.
-ghost use Rattle.std.specs.Prelude.{◌≤◌, length};
+ghost use Rattle.std.specs.Prelude.{◌≡◌, ◌+◌, ◌≤◌, ◌++◌, IfOk, length, replicate};
 ghost use Rattle.params.specs.declared.TheConstants.{IP_MAX_PACKET};
+ghost use Rattle.flat_model.specs.Machine.Event.{Tick};
+ghost use Rattle.flat_model.specs.Machine.State.{boot};
+ghost use Rattle.net_stack.specs.Stack.{state_of};
+ghost use Rattle.play_why.specs.Fates.{IsSeen};
+ghost use Rattle.play_why.specs.Judged as judged;
+ghost use Rattle.play_why.specs.Judged.{IsJudged, IsOf, IsTick, Led};
+ghost use Rattle.play_why.specs.Verdicts.{none_dropped, verdicts_text};
 
 use crate::FATE;
 use crate::arrive::{counted, tell_record};
-use crate::blame::blame_of;
-use crate::causes::causes;
-use crate::fate::{Layout, is_kept, rose};
+use crate::fate::{Layout, is_kept};
 use crate::lacks::put_lacks;
 use crate::parts::Parts;
 use crate::ports::Ports;
 use crate::rooms::Rooms;
 use crate::seen::Seen;
 use crate::sums::u32_at;
-use crate::table::Table;
+use crate::table::Verdicts;
 use flat_model::{Config, Counter, Counters};
 use net_stack::{BootFault, Stack};
 use params::{IP_HEADER, LIMITED_BROADCAST, LOOPBACK, MAX_CLUSTERS, MAX_MBUFS};
+use play_records::rose;
 use play_text::Piece::{Address, Long, Text};
 use play_text::put;
 use script_loop::Buffer;
@@ -61,20 +67,24 @@ pub struct Judge {
     parts: Parts,
     rooms: Rooms,
     text: Buffer<FATE>,
-    table: Table,
+    verdicts: Verdicts,
     totals: Totals,
     /// How many ticks have passed.
     ticks: u64,
 }
 
 /// The broadcast address of a network of 256 addresses.
-fn broadcast_of(ours: u32) -> u32 {
-    let last = ours | 255;
+fn broadcast_of(ours: u32) -> u32
+    ensures { result ≡ judged.broadcast_of ours }
+{
+    let last = ours / 256 * 256 + 255;
     if last == ours { ours - 1 } else { last }
 }
 
 /// What the machine of an address is booted with. One of the loopback network has another address beside it.
-fn config_of(ours: u32, broadcast: u32) -> Config {
+fn config_of(ours: u32, broadcast: u32) -> Config
+    ensures { result ≡ judged.machine_for ours broadcast }
+{
     let is_loopback = ours == LOOPBACK;
     Config {
         addr: if is_loopback { 0x0a00_0001 } else { ours },
@@ -86,6 +96,95 @@ fn config_of(ours: u32, broadcast: u32) -> Config {
     }
 }
 
+/// Lets so many ticks pass.
+#[tactic(auto, unfolding(stack_call::specs::Moves::StackSteps))]
+fn tick_all(machine: &mut Stack, count: u64)
+    ensures { Led IsTick (replicate count Tick) (state_of machine.old) (state_of machine.new) }
+{
+    let mut left = count;
+    while left > 0 {
+        machine.tick();
+        left -= 1;
+    }
+}
+
+/// What is known of a record with this packet.
+fn seen_by<'a>(parts: &'a Parts, arrival: &Arrival<'_>, packet: &'a [u8]) -> Seen<'a>
+    requires same { packet.now ≡ arrival.now.packet.now }
+    requires short { length packet.now ≤ IP_MAX_PACKET }
+    ensures is { IsOf arrival.now result }
+    ensures sizes { IsSeen result }
+{
+    Seen {
+        number: arrival.number,
+        time: arrival.time,
+        original: arrival.original,
+        captured: arrival.captured,
+        packet,
+        whole: parts.bytes(),
+        earlier: parts.numbers(),
+        more: parts.more(),
+    }
+}
+
+/// Keeps what is known of a packet's fragment, or forgets what is known of those of its datagram, if that is whole.
+fn remember(
+    parts: &mut Parts,
+    number: u64,
+    packet: &[u8],
+    before: &Counters,
+    after: &Counters,
+) -> Result<(), AllocError> {
+    if rose(Counter::IpReassembled, before, after) {
+        parts.forget(packet);
+    } else if is_kept(before, after) {
+        parts.keep(number, packet)?;
+    }
+    Ok(())
+}
+
+impl Totals {
+    /// After one packet more. `here` is the machine after it.
+    fn after(self, here: &Stack, before: &Counters, after: &Counters) -> Totals
+        ensures { result ≡ judged.totals_after (state_of here.now) before.now after.now self }
+    {
+        let mut totals = self;
+        totals.packets = self.packets.saturating_add(1);
+        if here.readable() != 0 {
+            totals.delivered = self.delivered.saturating_add(1);
+        } else if is_kept(before, after) {
+            totals.kept = self.kept.saturating_add(1);
+        } else {
+            totals.dropped = self.dropped.saturating_add(1);
+        }
+        totals
+    }
+
+    /// Puts the line of all packets after the text.
+    fn put(&self, ours: u32, text: &mut Buffer<FATE>)
+        requires { length text.old ≤ 100 }
+        ensures items { text.new ≡ text.old ++ judged.totals_text ours self.now }
+        ensures len { length text.new ≤ length text.old + 300 }
+    {
+        put(
+            text,
+            &[
+                Text(b"\nTo "),
+                Address(ours),
+                Text(b": "),
+                Long(self.packets),
+                Text(b" packets. Delivered: "),
+                Long(self.delivered),
+                Text(b". Kept as fragments: "),
+                Long(self.kept),
+                Text(b". Dropped: "),
+                Long(self.dropped),
+                Text(b".\n"),
+            ],
+        );
+    }
+}
+
 impl Judge {
     /// A machine with this address, to which no packet came yet. Each port is bound when a datagram comes for it, or
     /// this one alone. Refused with `BadConfig` if the address isn't that of a host, and with `Memory`.
@@ -94,7 +193,10 @@ impl Judge {
         layout: Layout,
         ours: u32,
         port: Option<u16>,
-    ) -> Result<Judge, BootFault> {
+    ) -> Result<Judge, BootFault>
+        ensures { IfOk result (λ j. (state_of j.machine ≡ boot (judged.machine_for ours (judged.broadcast_of ours)))
+            × (j.layout ≡ layout) × (j.ours ≡ ours) × (j.verdicts ≡ none_dropped) × (j.ticks ≡ 0)) }
+    {
         let broadcast = broadcast_of(ours);
         let (Ok(parts), Ok(rooms), Ok(text)) = (
             Parts::new(alloc),
@@ -113,7 +215,7 @@ impl Judge {
             parts,
             rooms,
             text,
-            table: Table::new(),
+            verdicts: Verdicts::new(),
             totals: Totals {
                 packets: 0,
                 delivered: 0,
@@ -135,7 +237,7 @@ impl Judge {
             parts: _parts,
             rooms: _rooms,
             text: _text,
-            table: _table,
+            verdicts: _verdicts,
             totals: _totals,
             ticks: _ticks,
         } = self;
@@ -154,49 +256,21 @@ impl Judge {
             || destination == LIMITED_BROADCAST
     }
 
-    /// Lets the ticks pass up to a time.
-    fn tick_to(&mut self, time: u64) {
-        let due = time / TICK;
-        let count = due.saturating_sub(self.ticks).min(MOST_TICKS);
-        for _ in 0..count {
-            self.machine.tick();
-        }
-        self.ticks = self.ticks.max(due);
-    }
-
-    /// Counts what came of a packet.
-    fn count(&mut self, before: &Counters, after: &Counters) {
-        let delivered = self.machine.readable() != 0;
-        let totals = &mut self.totals;
-        totals.packets = totals.packets.saturating_add(1);
-        if delivered {
-            totals.delivered = totals.delivered.saturating_add(1);
-        } else if is_kept(before, after) {
-            totals.kept = totals.kept.saturating_add(1);
-        } else {
-            totals.dropped = totals.dropped.saturating_add(1);
-        }
-    }
-
-    /// Lets a record's packet come at its time, and answers what's told of it, as [`tell_record`] puts it. Refused if
-    /// the host has no memory for a fragment; it has come then.
-    pub fn tell(&mut self, arrival: &Arrival<'_>) -> Result<&[u8], AllocError>
+    /// Lets a record's packet come at its time. What's told of it is then answered by `text`. Refused if the host has
+    /// no memory for a fragment; it has come then.
+    pub fn tell(&mut self, arrival: &Arrival<'_>) -> Result<(), AllocError>
         requires { length arrival.now.packet.now ≤ IP_MAX_PACKET }
+        ensures { IfOk result (λ done. IsJudged self.old arrival.now self.new) }
     {
         let packet = arrival.packet;
-        self.tick_to(arrival.time);
+        let due = arrival.time / TICK;
+        let count = due.saturating_sub(self.ticks).min(MOST_TICKS);
+        let passed = self.ticks.max(due);
+        tick_all(&mut self.machine, count);
+        self.ticks = passed;
         self.parts.gather(&self.machine, packet);
         self.ports.open_for(&mut self.machine, packet)?;
-        let seen = Seen {
-            number: arrival.number,
-            time: arrival.time,
-            original: arrival.original,
-            captured: arrival.captured,
-            packet,
-            whole: self.parts.bytes(),
-            earlier: self.parts.numbers(),
-            more: self.parts.more(),
-        };
+        let seen = seen_by(&self.parts, arrival, packet);
         let before = counted(&self.machine);
         tell_record(
             &mut self.machine,
@@ -207,53 +281,31 @@ impl Judge {
             &mut self.text,
         );
         let after = counted(&self.machine);
-        for why in causes() {
-            if rose(why.counter(), &before, &after) {
-                self.table.add(why, blame_of(&seen, why), arrival.number);
-            }
-        }
-        self.count(&before, &after);
+        self.verdicts.note(&seen, &before, &after);
+        let totals = self.totals.after(&self.machine, &before, &after);
+        self.totals = totals;
         self.ports
             .drain(&mut self.machine, self.rooms.packet.as_mut_slice());
-        if rose(Counter::IpReassembled, &before, &after) {
-            self.parts.forget(packet);
-        } else if is_kept(&before, &after) {
-            self.parts.keep(arrival.number, packet)?;
-        }
-        Ok(self.text.as_slice())
+        remember(&mut self.parts, arrival.number, packet, &before, &after)?;
+        Ok(())
+    }
+
+    /// What's told of the last record, as [`tell_record`] puts it.
+    pub fn text(&self) -> &[u8]
+        ensures { result.now ≡ self.now.text }
+    {
+        self.text.as_slice()
     }
 
     /// The lines of all packets: how many came, what became of them, and for each cause how many were dropped for it
     /// and the first record.
-    pub fn totals(&mut self) -> &[u8] {
-        self.text.clear();
-        self.put_totals();
-        self.table.put(&mut self.text);
-        self.text.as_slice()
-    }
-
-    /// Puts the line of all packets after the text.
-    fn put_totals(&mut self)
-        requires { length self.old.text ≤ 100 }
-        ensures { length self.new.text ≤ 400 }
+    pub fn totals(&mut self) -> &[u8]
+        ensures { result.now ≡ judged.totals_text self.old.ours self.old.totals ++ verdicts_text self.old.verdicts }
     {
-        let totals = self.totals;
-        put(
-            &mut self.text,
-            &[
-                Text(b"\nTo "),
-                Address(self.ours),
-                Text(b": "),
-                Long(totals.packets),
-                Text(b" packets. Delivered: "),
-                Long(totals.delivered),
-                Text(b". Kept as fragments: "),
-                Long(totals.kept),
-                Text(b". Dropped: "),
-                Long(totals.dropped),
-                Text(b".\n"),
-            ],
-        );
+        self.text.clear();
+        self.totals.put(self.ours, &mut self.text);
+        self.verdicts.put(&mut self.text);
+        self.text.as_slice()
     }
 
     /// The line of the unfinished datagram at a place, with the bytes that lack, if there is one.

@@ -1,5 +1,8 @@
 //! The sockets of the machine: one for each port to which datagrams of a capture go.
-use flat_model::Addr;
+ghost use Rattle.net_stack.specs.Stack.{state_of};
+ghost use Rattle.play_why.specs.Judged.{IsOpening, IsTaking, LedBy};
+
+use flat_model::{Addr, Errno};
 use flat_plain::u16_at;
 use net_stack::Stack;
 use params::{IP_UDP_HEADERS, PROTOCOL_UDP};
@@ -36,15 +39,49 @@ fn port_in(packet: &[u8]) -> Option<u16> {
     Some(u16_at(packet, 22))
 }
 
+/// A new socket.
+#[tactic(auto, unfolding(stack_call::specs::Moves::StackSteps))]
+fn open(machine: &mut Stack) -> Result<u32, Errno>
+    ensures { LedBy IsOpening (state_of machine.old) (state_of machine.new) }
+{
+    machine.socket()
+}
+
+/// Binds a socket to a port.
+#[tactic(auto, unfolding(stack_call::specs::Moves::StackSteps))]
+fn bind(machine: &mut Stack, fd: u32, port: u16) -> Result<(), Errno>
+    ensures { LedBy IsOpening (state_of machine.old) (state_of machine.new) }
+{
+    machine.bind(fd, Addr { ip: 0, port })
+}
+
+/// Closes a socket.
+#[tactic(auto, unfolding(stack_call::specs::Moves::StackSteps))]
+fn close(machine: &mut Stack, fd: u32)
+    ensures { LedBy IsOpening (state_of machine.old) (state_of machine.new) }
+{
+    let _closed = machine.close(fd);
+}
+
+/// Reads the next datagram of a socket.
+#[tactic(auto, unfolding(stack_call::specs::Moves::StackSteps))]
+fn take(machine: &mut Stack, fd: u32, room: &mut [u8])
+    ensures { LedBy IsTaking (state_of machine.old) (state_of machine.new) }
+{
+    let _taken = machine.recvfrom(fd, room);
+}
+
 /// A socket that is bound to a port. `None` if there can't be one.
-fn bound_to(machine: &mut Stack, port: u16) -> Option<Bound> {
-    let Ok(fd) = machine.socket() else {
+fn bound_to(machine: &mut Stack, port: u16) -> Option<Bound>
+    ensures { LedBy IsOpening (state_of machine.old) (state_of machine.new) }
+{
+    let Ok(fd) = open(machine) else {
         return None;
     };
-    match machine.bind(fd, Addr { ip: 0, port }) {
+    match bind(machine, fd, port) {
         Ok(()) => Some(Bound { fd, port }),
         Err(_) => {
-            let _ = machine.close(fd);
+            close(machine, fd);
             None
         }
     }
@@ -70,25 +107,31 @@ impl Ports {
         false
     }
 
+    /// Closes the socket at a place.
+    fn close_at(&self, machine: &mut Stack, place: usize)
+        ensures { LedBy IsOpening (state_of machine.old) (state_of machine.new) }
+    {
+        match self.bound.get(place) {
+            Some(oldest) => close(machine, oldest.fd),
+            None => {}
+        }
+    }
+
     /// Closes the socket that was bound first, if there are 60, and answers its place.
-    fn make_room(&mut self, machine: &mut Stack) -> Option<usize> {
+    fn make_room(&mut self, machine: &mut Stack) -> Option<usize>
+        ensures { LedBy IsOpening (state_of machine.old) (state_of machine.new) }
+    {
         if self.bound.len() < MOST_PORTS {
             return None;
         }
         let place = self.next % MOST_PORTS;
         self.next = place + 1;
-        if let Some(oldest) = self.bound.get(place) {
-            let _ = machine.close(oldest.fd);
-        }
+        self.close_at(machine, place);
         Some(place)
     }
 
-    /// Binds a socket to a port.
-    fn bind(&mut self, machine: &mut Stack, port: u16) -> Result<(), AllocError> {
-        let place = self.make_room(machine);
-        let Some(bound) = bound_to(machine, port) else {
-            return Ok(());
-        };
+    /// Keeps a socket, at this place or behind the others.
+    fn put(&mut self, place: Option<usize>, bound: Bound) -> Result<(), AllocError> {
         match place {
             None => self.bound.push(bound)?,
             Some(place) => {
@@ -100,29 +143,42 @@ impl Ports {
         Ok(())
     }
 
-    /// Binds a socket to the port that a packet goes to, unless there is one or another port alone is to be bound.
-    pub(crate) fn open_for(
-        &mut self,
-        machine: &mut Stack,
-        packet: &[u8],
-    ) -> Result<(), AllocError> {
-        let Some(port) = port_in(packet) else {
-            return Ok(());
-        };
-        let is_wanted = match self.only {
+    /// Binds a socket to a port.
+    fn bind(&mut self, machine: &mut Stack, port: u16) -> Result<(), AllocError>
+        ensures { LedBy IsOpening (state_of machine.old) (state_of machine.new) }
+    {
+        let place = self.make_room(machine);
+        match bound_to(machine, port) {
+            Some(bound) => self.put(place, bound),
+            None => Ok(()),
+        }
+    }
+
+    /// Whether a port is to be bound: none is yet, and no other port alone is.
+    fn is_wanted(&self, port: u16) -> bool {
+        let may_be = match self.only {
             Some(only) => only == port,
             None => port != 0,
         };
-        if is_wanted && !self.has(port) {
-            self.bind(machine, port)?;
+        may_be && !self.has(port)
+    }
+
+    /// Binds a socket to the port that a packet goes to, unless there is one or another port alone is to be bound.
+    pub(crate) fn open_for(&mut self, machine: &mut Stack, packet: &[u8]) -> Result<(), AllocError>
+        ensures { LedBy IsOpening (state_of machine.old) (state_of machine.new) }
+    {
+        match port_in(packet) {
+            Some(port) if self.is_wanted(port) => self.bind(machine, port),
+            _ => Ok(()),
         }
-        Ok(())
     }
 
     /// Takes what waits out of all sockets.
-    pub(crate) fn drain(&self, machine: &mut Stack, room: &mut [u8]) {
+    pub(crate) fn drain(&self, machine: &mut Stack, room: &mut [u8])
+        ensures { LedBy IsTaking (state_of machine.old) (state_of machine.new) }
+    {
         for bound in &self.bound {
-            let _ = machine.recvfrom(bound.fd, room);
+            take(machine, bound.fd, room);
         }
     }
 }

@@ -1,96 +1,119 @@
 //! How many packets were dropped for which cause, and the first record of each.
-ghost use Rattle.std.specs.Prelude.{◌≡◌, ◌+◌, ◌≤◌, ◌++◌, length};
+ghost use Rattle.std.specs.Prelude.{◌≡◌, ◌+◌, ◌≤◌, ◌++◌, if◌then◌else◌, length};
+ghost use Rattle.play_records.specs.Tables.{once_more};
+ghost use Rattle.play_why.specs.Fates.{IsSeen};
+ghost use Rattle.play_why.specs.Verdicts as verdicts;
 
 use crate::FATE;
-use crate::blame::Blame;
-use crate::causes::causes;
-use crate::words::words_for;
-use flat_model::Why;
-use play_text::Piece::{Long, Text};
-use play_text::put;
+use crate::blame::{Blame, blame_of};
+use crate::seen::Seen;
+use flat_model::{Counters, Why};
+use play_records::{CAUSES, Count, Row, Table, causes, put_count, rose};
 use script_loop::Buffer;
 
-/// How many causes there are.
-const CAUSES: usize = 18;
-
-/// How often something came, and in which record first.
+/// For which causes packets were dropped.
 #[derive(Clone, Copy)]
-pub(crate) struct Count {
-    pub(crate) count: u64,
-    pub(crate) first: u64,
+pub struct Verdicts {
+    /// By causes, the packets that were wrong on the wire.
+    pub causes: Table,
+    /// The packets of which the capture kept a part, and that were dropped for it.
+    pub cut: Count,
+    /// The packets whose checksum was left to the sender's card.
+    pub card: Count,
 }
 
-/// What came of all records so far.
-#[derive(Clone, Copy)]
-pub(crate) struct Table {
-    /// By the places of the causes in the type `Why`: packets that were wrong on the wire.
-    causes: [Count; CAUSES],
-    /// Packets of which the capture kept a part, and that were dropped for it.
-    cut: Count,
-    /// Packets whose checksum was left to the sender's card.
-    card: Count,
-}
-
-/// Nothing came.
-const NONE: Count = Count { count: 0, first: 0 };
-
-impl Count {
-    /// One more came, in a record of this number.
-    pub(crate) fn add(&mut self, number: u64) {
-        if self.count == 0 {
-            self.first = number;
-        }
-        self.count = self.count.saturating_add(1);
-    }
-}
-
-/// Puts a line of the table after the text, if something was counted.
-fn put_count(text: &mut Buffer<FATE>, count: Count, what: &[u8])
-    requires { length text.old + length what.now + 80 ≤ FATE }
-    ensures { length text.new ≤ length text.old + (length what.now + 80) }
+/// Whether a packet was dropped for a cause that is laid to this.
+fn is_laid(blame: Blame, seen: &Seen<'_>, before: &Counters, after: &Counters, why: Why) -> bool
+    requires { IsSeen seen.now }
+    ensures { result ≡ verdicts.is_laid blame seen.now before.now after.now why }
 {
-    if count.count != 0 {
-        put(
-            text,
-            &[
-                Text(b"    "),
-                Long(count.count),
-                Text(b" dropped: "),
-                Text(what),
-                Text(b" (first: record "),
-                Long(count.first),
-                Text(b")\n"),
-            ],
-        );
+    rose(why.counter(), before, after)
+        && match (blame, blame_of(seen, why)) {
+            (Blame::Packet, Blame::Packet) => true,
+            (Blame::Capture, Blame::Capture) => true,
+            (Blame::Card, Blame::Card) => true,
+            _ => false,
+        }
+}
+
+/// A count with one more if so, in the record of this number.
+fn counted_if(count: Count, so: bool, number: u64) -> Count
+    ensures { result ≡ (if so then once_more number count else count) }
+{
+    if so { count.once_more(number) } else { count }
+}
+
+/// A count after a record, whose packet counts once for each cause that is laid to this.
+#[tactic(auto, unfolding(crate::specs::Verdicts::laid_to))]
+fn laid(blame: Blame, seen: &Seen<'_>, before: &Counters, after: &Counters, count: Count) -> Count
+    requires { IsSeen seen.now }
+    ensures { result ≡ verdicts.laid_to blame seen.now before.now after.now count }
+{
+    let mut now = count;
+    for why in causes() {
+        let so = is_laid(blame, seen, before, after, why);
+        now = counted_if(now, so, seen.number);
+    }
+    now
+}
+
+/// A row after a record.
+fn row_judged(row: Row, seen: &Seen<'_>, before: &Counters, after: &Counters) -> Row
+    requires { IsSeen seen.now }
+    ensures { result ≡ verdicts.row_judged seen.now before.now after.now row }
+{
+    if is_laid(Blame::Packet, seen, before, after, row.why) {
+        Row {
+            why: row.why,
+            count: row.count.once_more(seen.number),
+        }
+    } else {
+        row
     }
 }
 
-impl Table {
-    /// Nothing came yet.
-    pub(crate) fn new() -> Table {
-        Table {
-            causes: [NONE; CAUSES],
-            cut: NONE,
-            card: NONE,
+/// All rows after a record.
+#[tactic(auto, unfolding(crate::specs::Verdicts::causes_judged))]
+fn causes_judged(table: Table, seen: &Seen<'_>, before: &Counters, after: &Counters) -> Table
+    requires { IsSeen seen.now }
+    ensures { result ≡ verdicts.causes_judged seen.now before.now after.now table }
+{
+    let mut rows = table.rows;
+    'places: for place in 0..CAUSES {
+        rows[place] = row_judged(rows[place], seen, before, after);
+    }
+    Table { rows }
+}
+
+impl Verdicts {
+    /// No packet was dropped.
+    pub(crate) fn new() -> Verdicts
+        ensures { result ≡ verdicts.none_dropped }
+    {
+        Verdicts {
+            causes: Table::new(),
+            cut: Count::never(),
+            card: Count::never(),
         }
     }
 
-    /// One more packet was dropped for this cause.
-    pub(crate) fn add(&mut self, why: Why, blame: Blame, number: u64) {
-        match blame {
-            Blame::Packet => self.causes[why as usize].add(number),
-            Blame::Capture => self.cut.add(number),
-            Blame::Card => self.card.add(number),
-        }
+    /// The packet of a record came: it counts once for each cause for which it was dropped, where that is laid to.
+    pub(crate) fn note(&mut self, seen: &Seen<'_>, before: &Counters, after: &Counters)
+        requires { IsSeen seen.now }
+        ensures { self.new ≡ verdicts.judged seen.now before.now after.now self.old }
+    {
+        self.causes = causes_judged(self.causes, seen, before, after);
+        self.cut = laid(Blame::Capture, seen, before, after, self.cut);
+        self.card = laid(Blame::Card, seen, before, after, self.card);
     }
 
     /// Puts a line after the text for each cause for which a packet was dropped.
     pub(crate) fn put(&self, text: &mut Buffer<FATE>)
         requires { length text.old ≤ 400 }
+        ensures items { text.new ≡ text.old ++ verdicts.verdicts_text self.now }
+        ensures len { length text.new ≤ length text.old + 2500 }
     {
-        'causes: for why in causes() {
-            put_count(text, self.causes[why as usize], words_for(why).as_bytes());
-        }
+        self.causes.put(text);
         put_count(
             text,
             self.cut,

@@ -1,35 +1,8 @@
-//! Causes and rules in words.
+//! Rules in words.
 ghost use Rattle.std.specs.Prelude.{◌≡◌, ◌≤◌, length};
-ghost use Rattle.play_why.specs.Words.{cause_words, rule_words};
+ghost use Rattle.play_why.specs.Words.{rule_words};
 
 use flat_model::Why;
-
-/// A cause in words, those of its `Display`.
-pub(crate) fn words_for(why: Why) -> &'static str
-    ensures is { result.now ≡ cause_words why }
-    ensures short { length result.now ≤ 40 }
-{
-    match why {
-        Why::TooSmall => "packet shorter than a header",
-        Why::BadVersion => "wrong version",
-        Why::BadHeaderLength => "header length too small",
-        Why::Options => "options are not taken",
-        Why::BadSum => "wrong header checksum",
-        Why::BadLength => "total length too small",
-        Why::TooShort => "packet shorter than its total length",
-        Why::CantForward => "not addressed to this machine",
-        Why::BadFragment => "malformed fragment",
-        Why::FragmentDropped => "fragment held already",
-        Why::NoProtocol => "unknown protocol",
-        Why::UdpHeaderDrops => "datagram shorter than a header",
-        Why::UdpBadLength => "wrong datagram length",
-        Why::UdpBadSum => "wrong datagram checksum",
-        Why::UdpNoPort => "no socket has the port",
-        Why::UdpNoPortBroadcast => "no socket has the port of the broadcast",
-        Why::UdpFullSocket => "receive queue full",
-        Why::NoBufs => "no buffer space available",
-    }
-}
 
 /// The rule that a packet broke, with its source.
 pub(crate) fn rule_for(why: Why) -> &'static str

@@ -1,0 +1,66 @@
+-- For which causes packets were dropped, and what that is laid to (this project's own). `a` and `b` are what was
+-- counted before and after the packet of a record.
+use Rattle.std.specs.Prelude.{ℕ, ◌&&◌, Bool, true, false, List, [], ◌∷◌, ◌++◌, codes, if◌then◌else◌, map}
+use Rattle.flat_model.specs.Machine.Count.{counter_of}
+use Rattle.flat_model.specs.declared.counters.Counters.{Counters}
+use Rattle.flat_model.specs.declared.counters.Why.{Why}
+use Rattle.play_records.specs.Tables.{drops_line, never, no_drops, once_more, table_text}
+use Rattle.play_records.specs.Words.{all_causes, rose}
+use Rattle.play_records.specs.declared.count.Count.{Count}
+use Rattle.play_records.specs.declared.table.Row.{Row}
+use Rattle.play_records.specs.declared.table.Table.{Table}
+use Rattle.play_why.specs.Fates.{blame_of}
+use Rattle.play_why.specs.declared.blame.Blame.{Blame}
+use Rattle.play_why.specs.declared.blame.Blame.TheVariants.{Packet, Capture, Card}
+use Rattle.play_why.specs.declared.seen.Seen.{Seen}
+use Rattle.play_why.specs.declared.table.Verdicts.{Verdicts}
+
+abbrev pub same_blame : Blame → Blame → Bool
+same_blame Packet Packet = true
+same_blame Packet Capture = false
+same_blame Packet Card = false
+same_blame Capture Packet = false
+same_blame Capture Capture = true
+same_blame Capture Card = false
+same_blame Card Packet = false
+same_blame Card Capture = false
+same_blame Card Card = true
+
+-- the packet was dropped for this cause, and that is laid to this
+abbrev pub is_laid : Blame → Seen → Counters → Counters → Why → Bool
+is_laid blame r a b why = rose (counter_of why) a b && same_blame blame (blame_of r why)
+
+-- once more for each of these causes that is laid to this
+abbrev pub laid_by : Blame → Seen → Counters → Counters → List Why → Count → Count
+laid_by blame r a b [] c = c
+laid_by blame r a b (why ∷ whys) c =
+    laid_by blame r a b whys (if is_laid blame r a b why then once_more r.number c else c)
+
+unfoldable pub laid_to : Blame → Seen → Counters → Counters → Count → Count
+laid_to blame r a b c = laid_by blame r a b all_causes c
+
+abbrev pub row_judged : Seen → Counters → Counters → Row → Row
+row_judged r a b row =
+    if is_laid Packet r a b row.why then record row { count = once_more r.number row.count } else row
+
+unfoldable pub causes_judged : Seen → Counters → Counters → Table → Table
+causes_judged r a b t = record { rows = map (row_judged r a b) t.rows }
+
+-- ---- all of it
+
+-- no packet was dropped
+abbrev pub none_dropped : Verdicts
+none_dropped = record { causes = no_drops; cut = never; card = never }
+
+-- after a record
+abbrev pub judged : Seen → Counters → Counters → Verdicts → Verdicts
+judged r a b v = record {
+  causes = causes_judged r a b v.causes;
+  cut = laid_to Capture r a b v.cut;
+  card = laid_to Card r a b v.card;
+}
+
+abbrev pub verdicts_text : Verdicts → List ℕ
+verdicts_text v =
+    table_text v.causes ++ drops_line v.cut (codes "cut by the capture's snap length: no fault of the packet")
+    ++ drops_line v.card (codes "checksum left to the sender's card: no fault on the wire")
