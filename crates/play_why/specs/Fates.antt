@@ -155,16 +155,16 @@ values_of r ours why = values_text why r.packet.now (datagram_of r.packet.now r.
 unfoldable pub drop_text : Seen → ℕ → Why → List ℕ
 drop_text r ours why = codes " => dropped: " ++ cause_words why ++ codes ": " ++ values_of r ours why
 
-abbrev pub part_text : Part → Seen → ℕ → Why → List ℕ
-part_text Drop r ours why = drop_text r ours why
-part_text Reason r ours why = reason_text r why (blame_of r why)
-part_text Cause r ours why = cause_words why
-part_text Values r ours why = values_of r ours why
-part_text Fault r ours why = blame_words (blame_of r why)
+abbrev pub cause_part : Part → Seen → ℕ → Why → List ℕ
+cause_part Drop r ours why = drop_text r ours why
+cause_part Reason r ours why = reason_text r why (blame_of r why)
+cause_part Cause r ours why = cause_words why
+cause_part Values r ours why = values_of r ours why
+cause_part Fault r ours why = blame_words (blame_of r why)
 
 -- a cause is told if its counter went up
 abbrev pub part_if : Part → Seen → Counters → Counters → ℕ → Why → List ℕ
-part_if part r a b ours why = if rose (counter_of why) a b then part_text part r ours why else []
+part_if part r a b ours why = if rose (counter_of why) a b then cause_part part r ours why else []
 
 unfoldable pub parts_text : Part → Seen → Counters → Counters → ℕ → List ℕ
 parts_text part r a b ours = flat_map (part_if part r a b ours) all_causes
@@ -177,8 +177,8 @@ became_text r a b s ours =
     fragment_part r a b ++ delivered_below MAX_SOCKETS s ++ parts_text Drop r a b ours
 
 -- the line of a record, and below it a rule for each cause
-unfoldable pub lines_text : Seen → Counters → Counters → State → ℕ → List ℕ
-lines_text r a b s ours =
+unfoldable pub record_lines : Seen → Counters → Counters → State → ℕ → List ℕ
+record_lines r a b s ours =
     head_text r ++ became_text r a b s ours ++ codes "\n" ++ parts_text Reason r a b ours
 
 -- ---- the same as an object of JSON (RFC 8259)
@@ -200,5 +200,5 @@ object_text r a b s ours =
     ++ member (codes ",\"values\":") Values r a b ours ++ member (codes ",\"fault\":") Fault r a b ours ++ codes "}\n"
 
 abbrev pub record_text : Layout → Seen → Counters → Counters → State → ℕ → List ℕ
-record_text Lines r a b s ours = lines_text r a b s ours
+record_text Lines r a b s ours = record_lines r a b s ours
 record_text Objects r a b s ours = object_text r a b s ours

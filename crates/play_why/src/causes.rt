@@ -94,7 +94,7 @@ fn put_part(
 )
     requires seen { IsSeen seen.now }
     requires room { length text.old + 200 ≤ FATE }
-    ensures items { text.new ≡ text.old ++ texts.part_text part seen.now ours why }
+    ensures items { text.new ≡ text.old ++ texts.cause_part part seen.now ours why }
     ensures len { length text.new ≤ length text.old + 200 }
 {
     match part {

@@ -282,7 +282,7 @@ fn put_became(
 }
 
 /// Puts the line of a record into a buffer, and below it a rule for each cause for which its packet was dropped.
-#[tactic(auto, unfolding(crate::specs::Fates::lines_text))]
+#[tactic(auto, unfolding(crate::specs::Fates::record_lines))]
 fn put_lines(
     text: &mut Buffer<FATE>,
     seen: &Seen<'_>,
@@ -291,7 +291,7 @@ fn put_lines(
     covered: &mut Buffer<COVERED>,
 )
     requires { IsSeen seen.now }
-    ensures { text.new ≡ texts.lines_text seen.now around.entry.before.now around.entry.after.now
+    ensures { text.new ≡ texts.record_lines seen.now around.entry.before.now around.entry.after.now
         (state_of machine.now) around.entry.ours }
 {
     put_head(text, seen);
