@@ -14,7 +14,7 @@ use Rattle.flat_model.specs.declared.errno.Errno.{Errno}
 use Rattle.flat_ether.specs.Claims.{claim_due, is_claimed}
 use Rattle.flat_ether.specs.Errors.{error_at, error_in}
 use Rattle.flat_ether.specs.Frames.{arp_of, body_of, is_heard, is_martian, kind_of, packet_kind}
-use Rattle.flat_ether.specs.Hosts.{HostAct, AreHostActs, Asks_error, Calls, Clock, Comes_in, Drained, Goes_out, HearsKind, Host, IsHostAct, drained, error_of_socket, gives, gives_claimed, gives_drained, gives_probe, host_up, is_to_us, or_drains}
+use Rattle.flat_ether.specs.Hosts.{HostAct, AreHostActs, Asks_error, Ages, Calls, Clock, Comes_in, Drained, Goes_out, HearsKind, Host, IsHostAct, drained, error_of_socket, gives, gives_claimed, gives_drained, gives_probe, host_up, is_to_us, or_drains}
 use Rattle.flat_ether.specs.Icmp.{answer_to, counted_more}
 use Rattle.flat_ether.specs.Laws.{martian_if, martian_in, martians_in, packet_if, packets_in}
 use Rattle.flat_ether.specs.Links.{Gives, WaitingPacket, LinkState, answers_with, asks, asks_at, by_route, claim_frame, drops_first, finds_conflict, first_ready, gives_answer, gives_claim, gives_held, gives_own, gives_reply, gives_request, hears_arp, holds_packet, is_asked, is_conflict, is_request_due, is_learned, is_sound_arp, learns, mac_of, notes, notes_error, or_then, owes, neighbour_place, replies_to, route_of, sends, sends_answer, sends_at, sends_held, takes_at, takes_error, to_hop}
@@ -238,6 +238,7 @@ module _ (c : Config) (l : Link) where
   act_counts k old new (Asks_error fd fault) is h =
       same_counts k old new is (subst (λ (x : Result (Option NetFault) Errno × Host). tally x.1.link ≡ tally old.link)
       (sym h) (asked_same (socket_at fd old.machine) old))
+  act_counts k old new Ages is h = same_counts k old new is (ap (λ (x : Host). tally x.link) h)
 
   acts_count : (k : ℕ) (old new : Host) (acts : List HostAct) → Counts k old → AreHostActs old acts new
       → Counts (k + martians_in c l.mac acts) new

@@ -14,13 +14,13 @@ use Rattle.flat_model.proofs.Laws.{each-weaker}
 use Rattle.flat_wire.specs.Wire.{packet_in, packet_out}
 use Rattle.flat_ether.specs.Claims.{is_claimed}
 use Rattle.flat_ether.specs.Frames.{body_of, kind_of}
-use Rattle.flat_ether.specs.Hosts.{HostAct, AreHostActs, Comes_in, Drained, Goes_out, Clock, Calls, CallsMachine, Asks_error, Host, HearsKind, IsHostAct, drained, error_of_socket, gives, gives_after, gives_claimed, gives_drained, gives_probe, host_up, is_to_us, or_drains, with_output_left}
+use Rattle.flat_ether.specs.Hosts.{HostAct, AreHostActs, Comes_in, Drained, Goes_out, Clock, Calls, CallsMachine, Asks_error, Ages, Host, HearsKind, IsHostAct, drained, error_of_socket, gives, gives_after, gives_claimed, gives_drained, gives_probe, host_up, is_to_us, or_drains, with_output_left}
 use Rattle.flat_ether.specs.Icmp.{answer_to, counted_more}
 use Rattle.flat_ether.specs.declared.error.NetFault.{NetFault}
 use Rattle.flat_model.specs.declared.counter.Counter.TheVariants.{IpNoproto}
 use Rattle.flat_model.specs.declared.errno.Errno.{Errno}
 use Rattle.flat_ether.specs.Laws.{AreSent, IsFrameSent, MakesTurns, arp_if, frame_out, frames_then, packet_if, packets_in, packets_to}
-use Rattle.flat_ether.specs.Links.{Gives, LinkState, answers_with, gives_claim, gives_own, notes, sends}
+use Rattle.flat_ether.specs.Links.{Gives, LinkState, answers_with, gives_claim, gives_own, notes, sends, ticks}
 use Rattle.flat_ether.specs.declared.link.Link.{Link}
 use Rattle.flat_ether.specs.declared.link.FrameKind.{FrameKind}
 use Rattle.flat_ether.specs.declared.link.FrameKind.TheVariants.{Packet, Martian, Arp, Other}
@@ -276,6 +276,9 @@ module _ (c : Config) (l : Link) where
           (error_of_socket me old).1.link [] []
       go None = quiet F G old.machine old.machine old.link refl good
       go (Some me) = quiet F G old.machine old.machine _ refl (Sent.takes_good c l F G me.port me.peer old.link good)
+  act_makes F G old new Ages good is =
+      subst (λ (h : Host). Makes F G F old.machine h.machine h.link [] []) (sym is)
+      (quiet F G old.machine old.machine (ticks old.link) refl (Sent.ticks_good c l F G old.link good))
 
   -- ---- all of them
 

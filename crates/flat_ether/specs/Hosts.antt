@@ -121,13 +121,15 @@ pub record Ticks (old new : Host) : Type 0 where
 -- ---- whole runs
 
 -- what is done with a host: a frame comes, the link takes the next one, the clock ticks, a call is made on its stack,
--- or an error is asked for
+-- an error is asked for, or the link alone is a tick older, where a caller keeps both halves and lets the stack tick by
+-- a call
 pub data HostAct : Type 0 where
   Comes_in : (frame : List ℕ) → HostAct
   Goes_out : (frame : Option (List ℕ)) → HostAct
   Clock : HostAct
   Calls : (turn : Turn) → HostAct
   Asks_error : (fd : ℕ) → (fault : Result (Option NetFault) Errno) → HostAct
+  Ages : HostAct
 
 pub record CallsMachine (turn : Turn) (old new : Host) : Type 0 where
   pub event : IsEvent turn.event
@@ -140,6 +142,7 @@ IsHostAct old (Goes_out f) new = (f, new) ≡ gives old
 IsHostAct old Clock new = Ticks old new
 IsHostAct old (Calls turn) new = CallsMachine turn old new
 IsHostAct old (Asks_error fd fault) new = (fault, new) ≡ last_error fd old
+IsHostAct old Ages new = new ≡ record old { link = ticks old.link }
 
 abbrev pub AreHostActs : Host → List HostAct → Host → Type 0
 AreHostActs old [] new = new ≡ old

@@ -1,5 +1,6 @@
 -- What holds of whole runs of a host (this project's own).
-use Rattle.std.specs.Prelude.{◌≡◌, ◌≢◌, ◌⊎◌, ℕ, ◌<◌, ◌+◌, ◌^◌, List, [], ◌∷◌, ◌++◌, filter_map, option_to_list, All, Contains, Option, Some, None, Bool, ◌==◌, ◌&&◌, if◌then◌else◌}
+use Rattle.std.specs.Prelude.{◌≡◌, ◌≢◌, ◌⊎◌, ℕ, ◌<◌, ◌+◌, ◌^◌, List, [], ◌∷◌, ◌++◌, slice_index, filter_map, option_to_list, All, Contains, Option, Some, None, Bool, true, ◌==◌, ◌&&◌, if◌then◌else◌}
+use Rattle.params.specs.declared.TheConstants.{PROTOCOL_UDP}
 use Rattle.flat_model.specs.Machine.Ledger.{exact_ledger}
 use Rattle.flat_model.specs.Machine.Count.{value_of}
 use Rattle.flat_model.specs.Packets.Header.{u16_at}
@@ -7,10 +8,11 @@ use Rattle.flat_model.specs.declared.address.Addr.{Addr}
 use Rattle.flat_model.specs.declared.counter.Counter.TheVariants.{IpLocalout}
 use Rattle.flat_model.specs.Machine.State.{IsConfig, Socket, Datagram, boot}
 use Rattle.flat_model.specs.Runs.Run.{Turn, Leads}
-use Rattle.flat_wire.specs.Wire.{ComesFrom, IsAnswered, WasSent, packet_in, packet_out}
+use Rattle.flat_model.specs.Machine.Calls.{is_ours}
+use Rattle.flat_wire.specs.Wire.{ComesFrom, IsAnswered, WasSent, ip_source, packet_in, packet_out}
 use Rattle.flat_ether.specs.Frames.{arp_bytes, arp_of, body_of, ether_broadcast, frame, kind_of}
 use Rattle.flat_ether.specs.Icmp.{echo_reply, port_unreachable}
-use Rattle.flat_ether.specs.Hosts.{HostAct, AreHostActs, Host, host_up, Comes_in, Goes_out, Clock, Calls, Asks_error}
+use Rattle.flat_ether.specs.Hosts.{HostAct, AreHostActs, Host, host_up, Comes_in, Goes_out, Clock, Calls, Asks_error, Ages}
 use Rattle.flat_ether.specs.Links.{is_sound_arp, route_to}
 use Rattle.flat_model.specs.declared.config.Config.{Config}
 use Rattle.flat_ether.specs.declared.link.Link.{Link}
@@ -36,6 +38,7 @@ packets_in c mac (Goes_out f) = []
 packets_in c mac Clock = []
 packets_in c mac (Calls turn) = filter_map packet_in (turn ∷ [])
 packets_in c mac (Asks_error fd fault) = []
+packets_in c mac Ages = []
 
 abbrev pub packets_to : Config → Mac → List HostAct → List (List ℕ)
 packets_to c mac [] = []
@@ -54,6 +57,7 @@ martian_in c mac (Goes_out f) = 0
 martian_in c mac Clock = 0
 martian_in c mac (Calls turn) = 0
 martian_in c mac (Asks_error fd fault) = 0
+martian_in c mac Ages = 0
 
 -- how many such packets came in these acts
 abbrev pub martians_in : Config → Mac → List HostAct → ℕ
@@ -68,6 +72,7 @@ frame_in (Goes_out f) = []
 frame_in Clock = []
 frame_in (Calls turn) = []
 frame_in (Asks_error fd fault) = []
+frame_in Ages = []
 
 abbrev pub frame_out : HostAct → List (List ℕ)
 frame_out (Comes_in f) = []
@@ -75,6 +80,7 @@ frame_out (Goes_out f) = option_to_list f
 frame_out Clock = []
 frame_out (Calls turn) = []
 frame_out (Asks_error fd fault) = []
+frame_out Ages = []
 
 -- the frames that went
 abbrev pub frames_out : List HostAct → List (List ℕ)
@@ -154,6 +160,16 @@ pub record MakesTurns (c : Config) (l : Link) (acts : List HostAct) (new : Host)
   pub came : filter_map packet_in turns ≡ packets_to c l.mac acts
   pub went : AreSent c l (filter_map packet_out turns) [] acts
 
+-- ---- in whose name a host sends
+
+-- the packet's source is one of the host's addresses
+abbrev pub IsOwn : Config → List ℕ → Type 0
+IsOwn c packet = is_ours c (ip_source packet) ≡ true
+
+-- the frame has a packet of UDP
+abbrev pub IsUdpFrame : List ℕ → Type 0
+IsUdpFrame f = (u16_at 12 f ≡ ETHER_TYPE_IP) × (slice_index (body_of f) 9 ≡ PROTOCOL_UDP)
+
 -- ---- two hosts
 
 -- one of these frames has the packet
@@ -191,3 +207,56 @@ pub record WasSentOnEthernet (c d : Config) (l : Link) (sent : List HostAct) (s 
   pub answered : IsAnswered exact_ledger c makes.turns s.machine datagram.sender.port to datagram.item.bytes
   pub port : socket.port ≡ Some to.port
   pub here : (to.ip ≡ d.addr) ⊎ (to.ip ≡ d.bcast)
+
+-- ---- any number of hosts
+
+-- the frames that came in these acts, and the packets that the program handed to `rx` itself
+abbrev pub frames_in : List HostAct → List (List ℕ)
+frames_in [] = []
+frames_in (act ∷ acts) = frame_in act ++ frames_in acts
+
+abbrev pub handed_in : HostAct → List (List ℕ)
+handed_in (Comes_in f) = []
+handed_in (Goes_out f) = []
+handed_in Clock = []
+handed_in (Calls turn) = filter_map packet_in (turn ∷ [])
+handed_in (Asks_error fd fault) = []
+handed_in Ages = []
+
+abbrev pub packets_handed : List HostAct → List (List ℕ)
+packets_handed [] = []
+packets_handed (act ∷ acts) = handed_in act ++ packets_handed acts
+
+-- another host, and all that was done with it
+pub record OtherHost : Type 0 where
+  pub config : Config
+  pub link : Link
+  pub acts : List HostAct
+  pub last : Host
+
+-- it ran from its start, and has another address than this
+pub record IsOther (address : ℕ) (o : OtherHost) : Type 0 where
+  pub boots : IsConfig o.config
+  pub done : AreHostActs (host_up o.config o.link) o.acts o.last
+  pub not_addr : address ≢ o.config.addr
+  pub not_bcast : address ≢ o.config.bcast
+
+-- the first host gave the frame, or another one, or it has no packet of UDP with this address, which is the first's
+abbrev pub IsUnforged : ℕ → List HostAct → List ℕ → Type 0
+IsUnforged address sent f =
+    Contains (frames_out sent) f ⊎ ((o : OtherHost) × IsOther address o × Contains (frames_out o.acts) f)
+    ⊎ ¬ ComesFrom address (body_of f)
+
+-- Two hosts of any number on one Ethernet. Each frame that came to the second is one that a host gave, in any order and
+-- any number of times, or has no packet of UDP with the first's address; and the program itself handed the second no
+-- such packet. The first sent fewer than 65,536 times, and no other host has its address.
+pub record AreAmongHosts (c d : Config) (l m : Link) (sent came : List HostAct) (s t : Host) : Type 0 where
+  pub first_boots : IsConfig c
+  pub second_boots : IsConfig d
+  pub first_acts : AreHostActs (host_up c l) sent s
+  pub second_acts : AreHostActs (host_up d m) came t
+  pub not_addr : c.addr ≢ d.addr
+  pub not_bcast : c.addr ≢ d.bcast
+  pub few : value_of IpLocalout s.machine.counters < 2 ^ 16
+  pub frames : All (IsUnforged c.addr sent) (frames_in came)
+  pub handed : All (λ packet. ¬ ComesFrom c.addr packet) (packets_handed came)

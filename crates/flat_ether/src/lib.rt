@@ -17,7 +17,9 @@ pub use answer::Answer;
 pub use arp::Arp;
 pub use claim::{AddressState, Claim, ClaimFrame};
 pub use error::{NetFault, SocketError};
-pub use laws::{hosts_make_turns, hosts_on_an_ethernet};
+pub use laws::{
+    any_hosts_on_an_ethernet, hosts_make_turns, hosts_on_an_ethernet, hosts_send_as_themselves,
+};
 pub use link::{FrameKind, Link, Route};
 pub use mac::{ETHER_BROADCAST, Mac, NO_MAC};
 pub use neighbour::{Neighbour, PendingReply};
