@@ -16,12 +16,13 @@ Lines, also with a time in front (+0.5s tx); docs/play.md or man bsdplay has mor
   setsockopt FD OPT ON
   rx BYTES
   rx pcap FILE [N-M] [ticks]
+  rx udp ADDR:PORT > ADDR:PORT BYTES [FIELDS]
+  rx raw ADDR > ADDR BYTES [FIELDS]
   tx
   tick [N]
   stat
   mbstat
   show WHAT
-  rx udp ADDR:PORT > ADDR:PORT BYTES ..
 Lines of many machines, where NAME: stands in front of those above:
   host NAME [--SETTING VALUE ..]
   wire NAME ..

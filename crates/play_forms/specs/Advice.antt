@@ -1,5 +1,5 @@
 -- What a line that asks for nothing could have been (this project's own).
-use Rattle.std.specs.Prelude.{◌≡◌, ◌⊎◌, ℕ, ◌&&◌, Bool, true, false, List, [], ◌∷◌, ◌++◌, length, take, codes, bytes_eq, nat_le, if◌then◌else◌, Option, Some, None}
+use Rattle.std.specs.Prelude.{◌≡◌, ◌⊎◌, ℕ, Bool, true, false, List, [], ◌∷◌, ◌++◌, length, take, codes, bytes_eq, nat_le, if◌then◌else◌, Option, Some, None}
 use Rattle.std.specs.List.{find}
 use Rattle.flat_model.specs.Scripts.Grammar.{words}
 use Rattle.play_forms.specs.Near.{has_name, nearest}
@@ -35,7 +35,7 @@ abbrev pub unknown : Player → List ℕ → Advice
 unknown Machine word = Unknown word (nearest word host_commands)
 unknown Wire word = of_host (find (has_name word) host_commands) (Unknown word (nearest word wire_commands))
 
--- `rx pcap` has a form of its own
+-- `rx pcap`, `rx udp` and `rx raw` have forms of their own
 abbrev pub is_rx : Command → Bool
 is_rx command.Rx = true
 is_rx _ = false
@@ -44,8 +44,15 @@ abbrev pub begins_so : List ℕ → List (List ℕ) → Bool
 begins_so word [] = false
 begins_so word (first ∷ rest) = bytes_eq first word
 
+abbrev pub arrival_form : List (List ℕ) → Command
+arrival_form rest =
+    if begins_so (codes "pcap") rest then command.RxPcap
+    else if begins_so (codes "udp") rest then command.RxUdp
+    else if begins_so (codes "raw") rest then command.RxRaw
+    else command.Rx
+
 abbrev pub narrowed : Command → List (List ℕ) → Command
-narrowed asked rest = if is_rx asked && begins_so (codes "pcap") rest then command.RxPcap else asked
+narrowed asked rest = if is_rx asked then arrival_form rest else asked
 
 -- The words after the command, by its arguments: the first one that isn't what stands there, is missing or is too much.
 abbrev pub AdvisesAfter : Command → List Argument → List (List ℕ) → Advice → Type 0

@@ -114,18 +114,27 @@ fn begins_so(word: &[u8], rest: Option<&[u8]>) -> bool
     }
 }
 
-/// The command, or `rx pcap`, which has a form of its own.
+/// The command of a line `rx`: `rx pcap`, `rx udp` and `rx raw` have forms of their own.
+fn arrival_form(rest: Option<&[u8]>) -> Command
+    ensures { result ≡ advice.arrival_form (left rest.entry) }
+{
+    if begins_so(b"pcap", rest) {
+        Command::RxPcap
+    } else if begins_so(b"udp", rest) {
+        Command::RxUdp
+    } else if begins_so(b"raw", rest) {
+        Command::RxRaw
+    } else {
+        Command::Rx
+    }
+}
+
+/// The command, or the one with a form of its own.
 fn narrowed(asked: Command, rest: Option<&[u8]>) -> Command
     ensures { result ≡ advice.narrowed asked (left rest.entry) }
 {
     match asked {
-        Command::Rx => {
-            if begins_so(b"pcap", rest) {
-                Command::RxPcap
-            } else {
-                asked
-            }
-        }
+        Command::Rx => arrival_form(rest),
         _ => asked,
     }
 }

@@ -1,7 +1,7 @@
 -- What is wrong with a line, in words (this project's own).
 use Rattle.std.specs.Prelude.{ℕ, List, codes}
 use Rattle.play_line.specs.declared.fault.Fault.{Fault}
-use Rattle.play_line.specs.declared.fault.Fault.TheVariants.{NotHex, OddDigits, NoBytes, NotJoined, EmptyText, UnendedText, UnknownEscape, NoCount, ZeroCount, TooManyBytes, TooLong, NoEnd, NoPort, NoArrow, NoId, NoTtl, NoOffset, NoMore, NoSize, UnknownWord, ToldTwice, PastEnd, TooLarge, NoTime}
+use Rattle.play_line.specs.declared.fault.Fault.TheVariants.{NotHex, OddDigits, NoBytes, NotJoined, EmptyText, UnendedText, UnknownEscape, NoCount, ZeroCount, TooManyBytes, TooLong, NoEnd, NoAddress, NoPort, NoArrow, NoId, NoTtl, NoOffset, NoMore, NoSize, NotUpTo15, NotUpTo255, NotUpTo65535, UnknownWord, ToldTwice, PastEnd, TooLarge, NoTime}
 
 abbrev pub misread_words : Fault → List ℕ
 misread_words NotHex = codes "not a hex digit (a text stands in quotes: \"hi\")"
@@ -16,6 +16,7 @@ misread_words ZeroCount = codes "the number is 0"
 misread_words TooManyBytes = codes "more than 65535 bytes"
 misread_words TooLong = codes "the line is too long"
 misread_words NoEnd = codes "an address with a port, as 10.0.0.2:7, is wanted"
+misread_words NoAddress = codes "an address, as 10.0.0.2, is wanted"
 misread_words NoPort = codes "not a port of 0 to 65535"
 misread_words NoArrow = codes "`>` is wanted"
 misread_words NoId = codes "not an identification of 0 to 65535"
@@ -23,6 +24,9 @@ misread_words NoTtl = codes "not a time to live of 0 to 255"
 misread_words NoOffset = codes "not a multiple of 8 of 0 to 65528"
 misread_words NoMore = codes "`more` or `last` is wanted"
 misread_words NoSize = codes "not a size of 0 to 65515"
+misread_words NotUpTo15 = codes "not a number of 0 to 15"
+misread_words NotUpTo255 = codes "not a number of 0 to 255"
+misread_words NotUpTo65535 = codes "not a number of 0 to 65535"
 misread_words UnknownWord = codes "unknown word"
 misread_words ToldTwice = codes "this was told already"
 misread_words PastEnd = codes "the datagram has no such bytes"

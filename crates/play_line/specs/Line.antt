@@ -32,18 +32,22 @@ places word =
     if bytes_eq word (codes "send") then 2 else
     if bytes_eq word (codes "sendto") then 4 else 0
 
--- the same after one more word: in `rx udp` both ends with `>` between them stand in front of the bytes
+-- what a packet by name begins with after `rx`
+abbrev pub begins_packet : List ℕ → Bool
+begins_packet word = bytes_eq word (codes "udp") || bytes_eq word (codes "raw")
+
+-- the same after one more word: in a packet by name both ends with `>` between them stand in front of the bytes
 abbrev pub next_awaits : List ℕ → ℕ → List ℕ → ℕ
 next_awaits plain awaits word =
     if is_next 61 word then 0
     else if length plain == 0 then places word
-    else if bytes_eq plain (codes "rx") && bytes_eq word (codes "udp") then 4
+    else if bytes_eq plain (codes "rx") && begins_packet word then 4
     else awaits - 1
 
--- `-` is no bytes, `udp` a packet by name, and `pcap` a capture
+-- `-` is no bytes, `pcap` a capture
 abbrev pub needs_no_digits : List ℕ → List ℕ → Bool
 needs_no_digits plain word = bytes_eq word (codes "-")
-    || (bytes_eq plain (codes "rx") && (bytes_eq word (codes "udp") || bytes_eq word (codes "pcap")))
+    || (bytes_eq plain (codes "rx") && (begins_packet word || bytes_eq word (codes "pcap")))
 
 -- it stands in the place of the bytes, or `*` or `+` comes after it
 abbrev pub has_digits : List ℕ → ℕ → List ℕ → List ℕ → Bool

@@ -29,6 +29,8 @@ pub enum Fault {
     TooLong,
     /// No address with a port stands where one has to.
     NoEnd,
+    /// No address stands where one has to.
+    NoAddress,
     /// What stands after the colon of an address isn't a port.
     NoPort,
     /// No `>` stands between the two ends of a datagram.
@@ -43,6 +45,12 @@ pub enum Fault {
     NoMore,
     /// What stands after `size` isn't a number of bytes.
     NoSize,
+    /// What stands after the name of a field of 4 bits doesn't fit into it.
+    NotUpTo15,
+    /// The same of a field of 8 bits.
+    NotUpTo255,
+    /// The same of a field of 16 bits.
+    NotUpTo65535,
     /// A word about a packet that has no meaning.
     UnknownWord,
     /// A word says once more what another one has said.
@@ -103,6 +111,7 @@ impl Fault {
             Fault::TooManyBytes => "more than 65535 bytes",
             Fault::TooLong => "the line is too long",
             Fault::NoEnd => "an address with a port, as 10.0.0.2:7, is wanted",
+            Fault::NoAddress => "an address, as 10.0.0.2, is wanted",
             Fault::NoPort => "not a port of 0 to 65535",
             Fault::NoArrow => "`>` is wanted",
             Fault::NoId => "not an identification of 0 to 65535",
@@ -110,6 +119,9 @@ impl Fault {
             Fault::NoOffset => "not a multiple of 8 of 0 to 65528",
             Fault::NoMore => "`more` or `last` is wanted",
             Fault::NoSize => "not a size of 0 to 65515",
+            Fault::NotUpTo15 => "not a number of 0 to 15",
+            Fault::NotUpTo255 => "not a number of 0 to 255",
+            Fault::NotUpTo65535 => "not a number of 0 to 65535",
             Fault::UnknownWord => "unknown word",
             Fault::ToldTwice => "this was told already",
             Fault::PastEnd => "the datagram has no such bytes",

@@ -56,6 +56,13 @@ fn places(word: &[u8]) -> usize
     }
 }
 
+/// Whether a packet by name begins with this word after `rx`.
+fn begins_packet(word: &[u8]) -> bool
+    ensures { result ≡ line_specs.begins_packet word.now }
+{
+    word == b"udp".as_slice() || word == b"raw".as_slice()
+}
+
 /// How many bytes the word in front has, if it's neither a text nor a pattern.
 fn word_len(at: &[u8]) -> usize
     ensures is { result ≡ line_specs.word_len at.now }
@@ -120,7 +127,7 @@ impl Reader {
             0
         } else if self.plain.is_empty() {
             places(word)
-        } else if self.plain.as_slice() == b"rx".as_slice() && word == b"udp".as_slice() {
+        } else if self.plain.as_slice() == b"rx".as_slice() && begins_packet(word) {
             4
         } else {
             self.awaits.saturating_sub(1)
@@ -133,7 +140,7 @@ impl Reader {
     {
         word == b"-".as_slice()
             || (self.plain.as_slice() == b"rx".as_slice()
-                && (word == b"udp".as_slice() || word == b"pcap".as_slice()))
+                && (begins_packet(word) || word == b"pcap".as_slice()))
     }
 
     /// Whether a word has to be digits, by its place or by what comes after it.

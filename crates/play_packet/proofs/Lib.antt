@@ -1,1 +1,3 @@
 mod ByteLemmas
+mod MarkLemmas
+mod NumberLemmas

@@ -1,21 +1,26 @@
 -- What the words of a line say of a packet (this project's own).
 --
 -- A word is known by the place of its first byte in the plain line.
-use Rattle.std.specs.Prelude.{ℕ, ◌+◌, ◌%◌, ◌==◌, ◌&&◌, Bool, true, false, List, [], ◌∷◌, zero, suc, length, take, drop, position, if◌then◌else◌, codes, bytes_eq, nat_lt, Option, Some, None, is_some, Result, Ok, Err}
+use Rattle.std.specs.Prelude.{ℕ, ◌+◌, ◌%◌, ◌==◌, ◌||◌, Bool, true, false, List, [], ◌∷◌, zero, suc, length, take, drop, position, if◌then◌else◌, codes, bytes_eq, nat_lt, Option, Some, None, is_some, Result, Ok, Err}
 use Rattle.flat_model.specs.declared.address.Addr.{Addr}
 use Rattle.play_line.specs.Bytes.{place_or_end}
 use Rattle.play_line.specs.declared.fault.Fault.{Fault}
-use Rattle.play_line.specs.declared.fault.Fault.TheVariants.{NoEnd, NoArrow, NoBytes, NoCount, NoId, NoTtl, NoOffset, NoMore, NoSize, UnknownWord, ToldTwice}
-use Rattle.play_packet.specs.Ends.{end_in}
+use Rattle.play_line.specs.declared.fault.Fault.TheVariants.{NoArrow, NoBytes, NoCount, NoOffset, NoMore, NoSize, UnknownWord, ToldTwice}
+use Rattle.play_packet.specs.Ends.{end_as, missing_end}
+use Rattle.play_packet.specs.Marks.{mark_named, most_number, number_fault}
 use Rattle.play_packet.specs.Numbers.{number_in}
 use Rattle.play_packet.specs.declared.form.Form.{Form}
-use Rattle.play_packet.specs.declared.form.Mark.{Mark}
-use Rattle.play_packet.specs.declared.form.Mark.TheVariants as mark
-use Rattle.play_packet.specs.declared.form.Misfit.{Misfit}
-use Rattle.play_packet.specs.declared.form.Span.{Span}
 use Rattle.play_packet.specs.declared.form.Sum.{Sum}
-use Rattle.play_packet.specs.declared.form.Sum.TheVariants.{Right, Missing, Wrong}
-use Rattle.play_packet.specs.declared.form.Told.{Told}
+use Rattle.play_packet.specs.declared.form.Sum.TheVariants.{Right, Wrong, Given}
+use Rattle.play_packet.specs.declared.mark.Field.{Field}
+use Rattle.play_packet.specs.declared.mark.Field.TheVariants as field
+use Rattle.play_packet.specs.declared.mark.Mark.{Mark}
+use Rattle.play_packet.specs.declared.mark.Mark.TheVariants as mark
+use Rattle.play_packet.specs.declared.mark.Payload.{Payload}
+use Rattle.play_packet.specs.declared.mark.Payload.TheVariants.{Udp, Raw}
+use Rattle.play_packet.specs.declared.places.Misfit.{Misfit}
+use Rattle.play_packet.specs.declared.places.Span.{Span}
+use Rattle.play_packet.specs.declared.places.Told.{Told}
 
 abbrev pub misfit : {A : Type 0} → Fault → ℕ → Result A Misfit
 misfit fault place = Err (record { fault = fault; place = place })
@@ -60,20 +65,29 @@ abbrev pub is_word : List ℕ → Option (List ℕ) → Bool
 is_word sought None = false
 is_word sought (Some word) = bytes_eq word sought
 
+-- what the packet carries that the word after `rx` names
+abbrev pub payload_in : Option (List ℕ) → Option Payload
+payload_in word =
+    if is_word (codes "udp") word then Some Udp else if is_word (codes "raw") word then Some Raw else None
+
+-- what the packet carries that a line names, if it names one
+abbrev pub payload_of : List ℕ → Option Payload
+payload_of text = if is_word (codes "rx") (word_at text 0) then payload_in (word_at text 3) else None
+
 abbrev pub or_misfit : {A : Type 0} → Result A Fault → ℕ → ℕ → Result (A × ℕ) Misfit
 or_misfit (Ok a) at after = Ok (a, after)
 or_misfit (Err fault) at after = misfit fault at
 
-abbrev pub end_read : List ℕ → ℕ → Result (Addr × ℕ) Misfit
-end_read text at = needs NoEnd text at (λ word after. or_misfit (end_in word) at after)
+abbrev pub end_read : Payload → List ℕ → ℕ → Result (Addr × ℕ) Misfit
+end_read payload text at = needs (missing_end payload) text at (λ word after. or_misfit (end_as payload word) at after)
 
 abbrev pub arrow_at : List ℕ → ℕ → Result ℕ Misfit
 arrow_at text at = needs NoArrow text at (λ word after.
     if bytes_eq word (codes ">") then Ok after else misfit NoArrow at)
 
 -- where the word with the bytes begins, and how long it is
-abbrev pub bytes_at : List ℕ → ℕ → Result (Span × ℕ) Misfit
-bytes_at text at = needs NoBytes text at (λ word after. Ok (record { place = at; len = length word }, after))
+abbrev pub span_at : List ℕ → ℕ → Result (Span × ℕ) Misfit
+span_at text at = needs NoBytes text at (λ word after. Ok (record { place = at; len = length word }, after))
 
 abbrev pub told_or_misfit : Option ℕ → Fault → ℕ → ℕ → Result (Told × ℕ) Misfit
 told_or_misfit (Some value) fault at after = Ok (record { value = value; place = at }, after)
@@ -81,6 +95,11 @@ told_or_misfit None fault at after = misfit fault at
 
 abbrev pub number_at : Fault → ℕ → List ℕ → ℕ → Result (Told × ℕ) Misfit
 number_at fault most text at = needs NoCount text at (λ word after. told_or_misfit (number_in most word) fault at after)
+
+-- where a fragment begins, a multiple of 8
+abbrev pub offset_at : List ℕ → ℕ → Result (Told × ℕ) Misfit
+offset_at text at = and_then (number_at NoOffset 65528 text at) (λ t.
+    if t.0.value % 8 == 0 then Ok (t.0, t.1) else misfit NoOffset t.0.place)
 
 -- whether more fragments come after it
 abbrev pub more_at : List ℕ → ℕ → Result (Bool × ℕ) Misfit
@@ -91,73 +110,105 @@ more_at text at = needs NoMore text at (λ word after.
 -- ---- what more the words may say, each of it once
 
 -- before the first of them
-abbrev pub fresh : Addr → Addr → Form
-fresh source destination = record {
+abbrev pub fresh : Payload → Addr → Addr → Form
+fresh payload source destination = record {
+  payload = payload;
   source = source;
   destination = destination;
+  version = None;
+  ihl = None;
+  tos = None;
+  len = None;
   id = None;
-  ttl = None;
-  offset = None;
-  size = None;
-  more = false;
+  reserved = false;
   whole = false;
-  bad_sum = false;
+  more = false;
+  offset = None;
+  ttl = None;
+  protocol = None;
   sum = Right;
+  start = None;
+  size = None;
+  udp_len = None;
+  udp_sum = Right;
 }
 
-abbrev pub is_changed : Sum → Bool
-is_changed Right = false
-is_changed Missing = true
-is_changed Wrong = true
+abbrev pub is_said : Sum → Bool
+is_said Right = false
+is_said Wrong = true
+is_said (Given sum) = true
 
-abbrev pub mark_named : List ℕ → Option Mark
-mark_named word =
-    if bytes_eq word (codes "id") then Some mark.Id else
-    if bytes_eq word (codes "ttl") then Some mark.Ttl else
-    if bytes_eq word (codes "at") then Some mark.Offset else
-    if bytes_eq word (codes "size") then Some mark.Size else
-    if bytes_eq word (codes "df") then Some mark.Whole else
-    if bytes_eq word (codes "badsum") then Some mark.BadSum else
-    if bytes_eq word (codes "badudp") then Some mark.BadUdp else
-    if bytes_eq word (codes "nosum") then Some mark.NoSum else None
+-- a word said something of this field already
+abbrev pub has_number : Form → Field → Bool
+has_number f field.Version = is_some f.version
+has_number f field.Ihl = is_some f.ihl
+has_number f field.Tos = is_some f.tos
+has_number f field.Len = is_some f.len
+has_number f field.Id = is_some f.id
+has_number f field.Ttl = is_some f.ttl
+has_number f field.Protocol = is_some f.protocol
+has_number f field.Sum = is_said f.sum
+has_number f field.UdpLen = is_some f.udp_len
+has_number f field.UdpSum = is_said f.udp_sum
 
--- this was said already
+-- this was said already; `at` says what `off` and `mf` say, too
 abbrev pub has : Form → Mark → Bool
-has f mark.Id = is_some f.id
-has f mark.Ttl = is_some f.ttl
+has f (mark.Number which) = has_number f which
 has f mark.Offset = is_some f.offset
+has f mark.Start = is_some f.offset || f.more
 has f mark.Size = is_some f.size
+has f mark.Reserved = f.reserved
 has f mark.Whole = f.whole
-has f mark.BadSum = f.bad_sum
-has f mark.BadUdp = is_changed f.sum
-has f mark.NoSum = is_changed f.sum
+has f mark.More = f.more || is_some f.start
+has f mark.BadSum = is_said f.sum
+has f mark.BadUdp = is_said f.udp_sum
+has f mark.NoSum = is_said f.udp_sum
 
-abbrev pub with_id : Form → List ℕ → ℕ → Result (Form × ℕ) Misfit
-with_id f text at = and_then (number_at NoId 65535 text at) (λ t. Ok (record f { id = Some t.0.value }, t.1))
+-- with this number in a field
+abbrev pub holding : Form → Field → ℕ → Form
+holding f field.Version n = record f { version = Some n }
+holding f field.Ihl n = record f { ihl = Some n }
+holding f field.Tos n = record f { tos = Some n }
+holding f field.Len n = record f { len = Some n }
+holding f field.Id n = record f { id = Some n }
+holding f field.Ttl n = record f { ttl = Some n }
+holding f field.Protocol n = record f { protocol = Some n }
+holding f field.Sum n = record f { sum = Given n }
+holding f field.UdpLen n = record f { udp_len = Some n }
+holding f field.UdpSum n = record f { udp_sum = Given n }
 
-abbrev pub ttl_read : Form → List ℕ → ℕ → Result (Form × ℕ) Misfit
-ttl_read f text at = and_then (number_at NoTtl 255 text at) (λ t. Ok (record f { ttl = Some t.0.value }, t.1))
+abbrev pub with_field : Form → Field → List ℕ → ℕ → Result (Form × ℕ) Misfit
+with_field f which text at = and_then (number_at (number_fault which) (most_number which) text at) (λ t.
+    Ok (holding f which t.0.value, t.1))
+
+abbrev pub with_offset : Form → List ℕ → ℕ → Result (Form × ℕ) Misfit
+with_offset f text at = and_then (offset_at text at) (λ t. Ok (record f { offset = Some t.0.value }, t.1))
+
+-- where in the datagram what the packet carries begins; its header says so
+abbrev pub with_start : Form → List ℕ → ℕ → Result (Form × ℕ) Misfit
+with_start f text at = and_then (offset_at text at) (λ t. and_then (more_at text t.1) (λ m.
+    Ok (record f { offset = Some t.0.value; start = Some t.0; more = m.0 }, m.1)))
 
 abbrev pub with_size : Form → List ℕ → ℕ → Result (Form × ℕ) Misfit
 with_size f text at = and_then (number_at NoSize 65515 text at) (λ t. Ok (record f { size = Some t.0 }, t.1))
 
--- where a fragment begins, a multiple of 8
-abbrev pub with_offset : Form → List ℕ → ℕ → Result (Form × ℕ) Misfit
-with_offset f text at = and_then (number_at NoOffset 65528 text at) (λ t.
-    if t.0.value % 8 == 0
-    then and_then (more_at text t.1) (λ m. Ok (record f { offset = Some t.0; more = m.0 }, m.1))
-    else misfit NoOffset t.0.place)
+-- with a flag, or with a checksum that has no number after it
+abbrev pub flagged : Form → Mark → Form
+flagged f mark.Reserved = record f { reserved = true }
+flagged f mark.Whole = record f { whole = true }
+flagged f mark.More = record f { more = true }
+flagged f mark.BadSum = record f { sum = Wrong }
+flagged f mark.BadUdp = record f { udp_sum = Wrong }
+flagged f mark.NoSum = record f { udp_sum = Given 0 }
+flagged f _ = f
 
 -- after a word that says this, where what belongs to it begins at a place
 abbrev pub with_mark : Form → Mark → List ℕ → ℕ → Result (Form × ℕ) Misfit
-with_mark f mark.Id text at = with_id f text at
-with_mark f mark.Ttl text at = ttl_read f text at
+with_mark f (mark.Number which) text at = with_field f which text at
 with_mark f mark.Offset text at = with_offset f text at
+with_mark f mark.Start text at = with_start f text at
 with_mark f mark.Size text at = with_size f text at
-with_mark f mark.Whole text at = Ok (record f { whole = true }, at)
-with_mark f mark.BadSum text at = Ok (record f { bad_sum = true }, at)
-with_mark f mark.BadUdp text at = Ok (record f { sum = Wrong }, at)
-with_mark f mark.NoSum text at = Ok (record f { sum = Missing }, at)
+with_mark f flag text at = Ok (flagged f flag, at)
 
 abbrev pub marked : Form → Option Mark → List ℕ → ℕ → ℕ → Result (Form × ℕ) Misfit
 marked f None text at after = misfit UnknownWord at
@@ -165,7 +216,7 @@ marked f (Some m) text at after = if has f m then misfit ToldTwice at else with_
 
 -- after this word at this place, and what belongs to it
 unfoldable pub with_word_at : Form → List ℕ → List ℕ → ℕ → Result (Form × ℕ) Misfit
-with_word_at f word text at = marked f (mark_named word) text at (at + length word + 1)
+with_word_at f word text at = marked f (mark_named f.payload word) text at (at + length word + 1)
 
 -- ---- all words
 
@@ -175,17 +226,14 @@ if_word None other more = other
 if_word (Some word) other more = more word
 
 -- the words from a place on; there are n at most
-abbrev pub marks_after : ℕ → List ℕ → Form → ℕ → Result Form Misfit
-marks_after zero text f at = Ok f
-marks_after (suc n) text f at = if_word (word_at text at) (Ok f) (λ word.
-    and_then (with_word_at f word text at) (λ t. marks_after n text t.0 t.1))
+abbrev pub form_after : ℕ → List ℕ → Form → ℕ → Result Form Misfit
+form_after zero text f at = Ok f
+form_after (suc n) text f at = if_word (word_at text at) (Ok f) (λ word.
+    and_then (with_word_at f word text at) (λ t. form_after n text t.0 t.1))
 
--- what stands after `rx udp`, and the word of the bytes
-abbrev pub form_of : List ℕ → Result (Form × Span) Misfit
-form_of text = and_then (end_read text 7) (λ s. and_then (arrow_at text s.1) (λ a. and_then (end_read text a) (λ d.
-    and_then (bytes_at text d.1) (λ b. and_then (marks_after (length text) text (fresh s.0 d.0) b.1)
-    (λ f. Ok (f, b.0))))))
-
--- the line names a packet
-abbrev pub names_packet : List ℕ → Bool
-names_packet text = is_word (codes "rx") (word_at text 0) && is_word (codes "udp") (word_at text 3)
+-- what stands after `rx udp` or `rx raw`, and the word of the bytes
+abbrev pub form_of : Payload → List ℕ → Result (Form × Span) Misfit
+form_of payload text =
+    and_then (end_read payload text 7) (λ s. and_then (arrow_at text s.1) (λ a.
+    and_then (end_read payload text a) (λ d. and_then (span_at text d.1) (λ b.
+    and_then (form_after (length text) text (fresh payload s.0 d.0) b.1) (λ f. Ok (f, b.0))))))

@@ -1,4 +1,5 @@
 pub mod Numbers
+pub mod Marks
 pub mod Ends
 pub mod Forms
 pub mod Builds

@@ -1,22 +1,14 @@
 -- The numbers and bytes that words write (this project's own).
-use Rattle.std.specs.Prelude.{ℕ, ◌+◌, ◌-◌, ◌*◌, ◌==◌, ◌&&◌, ◌||◌, not, List, [], ◌∷◌, length, take, slice_index, if◌then◌else◌, codes, bytes_eq, nat_lt, Option, Some, None, Result, Ok, Err}
+use Rattle.std.specs.Prelude.{ℕ, ◌==◌, ◌||◌, List, [], length, take, if◌then◌else◌, codes, bytes_eq, decimal, nat_le, nat_lt, Option, Some, None, Result, Ok, Err}
+use Rattle.std.specs.Str.Parse.{digits_value}
 use Rattle.hex.specs.Hex.{decode_of}
 use Rattle.hex.specs.declared.error.FromHexError.{FromHexError}
-use Rattle.play_line.specs.Bytes.{is_decimal}
 
--- the number that digits make after those of n, if it's `most` at most
-abbrev pub number_after : ℕ → ℕ → List ℕ → Option ℕ
-number_after most n [] = Some n
-number_after most n (byte ∷ bytes) =
-    if not (is_decimal byte) then None
-    else if nat_lt most (10 * n + (byte - 48)) then None
-    else number_after most (10 * n + (byte - 48)) bytes
-
--- the number of at most `most` that a word writes, without a zero in front
+-- the number of at most `most` that a word writes just as it's printed
 abbrev pub number_in : ℕ → List ℕ → Option ℕ
 number_in most word =
-    if length word == 0 || (nat_lt 1 (length word) && slice_index word 0 == 48) then None
-    else number_after most 0 word
+    let n : ℕ = digits_value 10 word in
+    if bytes_eq word (decimal n) then (if nat_le n most then Some n else None) else None
 
 abbrev pub some_bytes : Result (List ℕ) FromHexError → Option (List ℕ)
 some_bytes (Ok bytes) = if length bytes == 0 || nat_lt 65535 (length bytes) then None else Some bytes

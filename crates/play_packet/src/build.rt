@@ -1,14 +1,16 @@
 //! The packet that the words of a line name.
-ghost use Rattle.std.specs.Prelude.{◌≡◌, ◌≤◌, ◌<◌, ◌+◌, ◌++◌, length, take, drop, Some, IfSome};
-ghost use Rattle.params.specs.declared.TheConstants.{IP_MAX_DATA};
+ghost use Rattle.std.specs.Prelude.{◌≡◌, ◌≤◌, ◌<◌, ◌+◌, ◌-◌, ◌++◌, length, take, drop, Some, IfSome};
+ghost use Rattle.params.specs.declared.TheConstants.{IP_MAX_DATA, UDP_HEADER};
 ghost use Rattle.flat_model.specs.Packets.Checksum.{checksum as checksum_of};
 ghost use Rattle.flat_model.specs.Packets.Header as header;
 ghost use Rattle.play_packet.specs.Builds as builds;
 ghost use Rattle.play_packet.specs.Numbers.{word_bytes as bytes_of_word};
 ghost use Rattle.play_packet.specs.Reads.{put_or};
 
-use crate::form::{Form, Misfit, Sum, Told, refuse};
+use crate::form::{Form, Sum};
+use crate::mark::Payload;
 use crate::numbers::bytes_in;
+use crate::places::{Misfit, Told, refuse};
 use byteorder::{BigEndian, ByteOrder};
 use flat_model::fold;
 use params::{IP_DEFAULT_TTL, IP_HEADER, IP_MAX_DATA, IP_MAX_PACKET, PROTOCOL_UDP, UDP_HEADER};
@@ -22,7 +24,12 @@ const ROOM: usize = 65_600;
 /// The bytes of the longest packet.
 pub const PACKET: usize = IP_MAX_PACKET as usize;
 
-/// The identification of a packet of which none is told.
+/// The version and the header's length in words of 4 bytes, if the line says nothing of them.
+const DEFAULT_VERSION: u8 = 4;
+
+const DEFAULT_IHL: u8 = 5;
+
+/// The identification, if the line says nothing of it.
 const DEFAULT_ID: u16 = 1;
 
 /// Memory for building packets.
@@ -32,6 +39,7 @@ pub(crate) struct Builder {
     buffers: LineBuffers,
     /// What a checksum covers.
     covered: Buffer<ROOM>,
+    /// The datagram, before it's cut.
     datagram: Buffer<ROOM>,
 }
 
@@ -98,17 +106,10 @@ impl Sum {
     {
         match self {
             Sum::Right => right,
-            Sum::Missing => 0,
             Sum::Wrong => wrong(right),
+            Sum::Given(sum) => sum,
         }
     }
-}
-
-/// The checksum of a header of which this is the right one.
-fn header_sum(bad: bool, right: u16) -> u16
-    ensures { result ≡ builds.header_sum bad right }
-{
-    if bad { wrong(right) } else { right }
 }
 
 /// A flag's share of the field that it stands in.
@@ -119,16 +120,34 @@ fn flag(set: bool, worth: u16) -> u16
     if set { worth } else { 0 }
 }
 
+/// What the UDP header says of the length of a datagram that carries n bytes.
+fn udp_len_of(form: &Form, n: usize) -> u16
+    requires { n ≤ 65527 }
+    ensures { result ≡ builds.udp_len_of form.now n }
+{
+    form.udp_len.unwrap_or(UDP_HEADER as u16 + n as u16)
+}
+
+/// The bytes that a checksum covers, of those that were sent.
+fn covered_by(len: u16, sent: &[u8]) -> &[u8]
+    ensures is { result.now ≡ take (len - UDP_HEADER) sent.now }
+    ensures most { length result.now ≤ length sent.now }
+{
+    let n = (len as usize).saturating_sub(UDP_HEADER as usize);
+    if n < sent.len() { &sent[..n] } else { sent }
+}
+
 /// Puts a datagram into a buffer.
 fn put_udp(form: &Form, sent: &[u8], covered: &mut Buffer<ROOM>, out: &mut Buffer<ROOM>)
     requires { length sent.now ≤ 65527 }
-    ensures is { out.new ≡ builds.datagram_of form.now sent.now }
+    ensures is { out.new ≡ builds.datagram_of_form form.now sent.now }
     ensures len { length out.new ≡ 8 + length sent.now }
 {
-    let n = UDP_HEADER as u16 + sent.len() as u16;
+    let n = udp_len_of(form, sent.len());
     let source_port = two_bytes(form.source.port);
     let destination_port = two_bytes(form.destination.port);
     let len = two_bytes(n);
+    let summed = covered_by(n, sent);
     covered.clear();
     covered.append(&address_bytes(form));
     covered.append(&[0, PROTOCOL_UDP]);
@@ -137,13 +156,13 @@ fn put_udp(form: &Form, sent: &[u8], covered: &mut Buffer<ROOM>, out: &mut Buffe
     covered.append(&destination_port);
     covered.append(&len);
     covered.append(&[0, 0]);
-    covered.append(sent);
+    covered.append(summed);
     let right = not_zero(checksum(covered.as_slice()));
     out.clear();
     out.append(&source_port);
     out.append(&destination_port);
     out.append(&len);
-    out.append(&two_bytes(form.sum.written(right)));
+    out.append(&two_bytes(form.udp_sum.written(right)));
     out.append(sent);
 }
 
@@ -168,43 +187,68 @@ fn place_of(told: Option<Told>) -> usize
 }
 
 /// The ten bytes in front of the header's checksum, of a packet that carries n bytes.
-fn front_bytes(form: &Form, offset: usize, n: usize) -> [u8; 10]
-    requires offset { offset ≡ builds.value_or 0 form.now.offset }
-    requires most { offset ≤ 65535 }
-    requires carried { n ≤ IP_MAX_DATA }
+fn front_bytes(form: &Form, n: usize) -> [u8; 10]
+    requires { n ≤ IP_MAX_DATA }
     ensures { result ≡ builds.front_of_form form.now n }
 {
-    let flags = flag(form.whole, 16_384) + flag(form.more, 8192) + (offset / 8) as u16;
+    let version = form.version.unwrap_or(DEFAULT_VERSION) % 16;
+    let ihl = form.ihl.unwrap_or(DEFAULT_IHL) % 16;
+    let flags = flag(form.reserved, 32_768) + flag(form.whole, 16_384) + flag(form.more, 8192);
     let mut bytes = [0; 10];
-    bytes[0] = 69;
-    put_u16(&mut bytes, 2, IP_HEADER as u16 + n as u16);
+    bytes[0] = 16 * version + ihl;
+    bytes[1] = form.tos.unwrap_or(0);
+    put_u16(
+        &mut bytes,
+        2,
+        form.len.unwrap_or(IP_HEADER as u16 + n as u16),
+    );
     put_u16(&mut bytes, 4, form.id.unwrap_or(DEFAULT_ID));
-    put_u16(&mut bytes, 6, flags);
+    put_u16(&mut bytes, 6, flags + form.offset.unwrap_or(0) / 8);
     bytes[8] = form.ttl.unwrap_or(IP_DEFAULT_TTL);
-    bytes[9] = PROTOCOL_UDP;
+    bytes[9] = form.protocol.unwrap_or(PROTOCOL_UDP);
     bytes
 }
 
 /// Puts a packet into a buffer that carries some bytes.
-fn put_packet(form: &Form, offset: usize, carried: &[u8], out: &mut Buffer<PACKET>)
-    requires offset { offset ≡ builds.value_or 0 form.now.offset }
-    requires most { offset ≤ 65535 }
-    requires carried { length carried.now ≤ IP_MAX_DATA }
+fn put_packet(form: &Form, carried: &[u8], out: &mut Buffer<PACKET>)
+    requires { length carried.now ≤ IP_MAX_DATA }
     ensures { out.new ≡ builds.packet_of form.now carried.now }
 {
-    let front = front_bytes(form, offset, carried.len());
+    let front = front_bytes(form, carried.len());
     let addresses = address_bytes(form);
     out.clear();
     out.append(&front);
     out.append(&[0, 0]);
     out.append(&addresses);
     let right = checksum(out.as_slice());
-    let sum = header_sum(form.bad_sum, right);
+    let sum = form.sum.written(right);
     out.clear();
     out.append(&front);
     out.append(&two_bytes(sum));
     out.append(&addresses);
     out.append(carried);
+}
+
+/// Puts the packet that carries what the line says of these bytes, a datagram's or those of the line, which stand there
+/// at a place.
+fn cut(form: &Form, place: usize, whole: &[u8], packet: &mut Buffer<PACKET>) -> Result<(), Misfit>
+    requires { length whole.now ≤ 65535 }
+    ensures { put_or result packet.new ≡ builds.cut_of form.now place whole.now }
+{
+    let start = value_or(0, form.start);
+    let left = whole.len().saturating_sub(start);
+    let size = value_or(left, form.size);
+    if left == 0 && 0 < start {
+        refuse(Fault::PastEnd, place_of(form.start))
+    } else if left < size {
+        refuse(Fault::PastEnd, place_of(form.size))
+    } else if (IP_MAX_DATA as usize) < size {
+        refuse(Fault::TooLarge, place)
+    } else {
+        let (_, rest) = whole.split_at(start);
+        put_packet(form, &rest[..size], packet);
+        Ok(())
+    }
 }
 
 impl Builder {
@@ -215,27 +259,6 @@ impl Builder {
             covered: Buffer::new(alloc)?,
             datagram: Buffer::new(alloc)?,
         })
-    }
-
-    /// Puts the packet that carries what the line says of the datagram. The bytes stand at a place.
-    fn cut(&self, form: &Form, place: usize, packet: &mut Buffer<PACKET>) -> Result<(), Misfit>
-        requires { length self.now.datagram ≤ 65535 }
-        ensures { put_or result packet.new ≡ builds.cut_of form.now place self.now.datagram }
-    {
-        let offset = value_or(0, form.offset);
-        let left = self.datagram.len().saturating_sub(offset);
-        let size = value_or(left, form.size);
-        if left == 0 {
-            refuse(Fault::PastEnd, place_of(form.offset))
-        } else if left < size {
-            refuse(Fault::PastEnd, place_of(form.size))
-        } else if (IP_MAX_DATA as usize) < size {
-            refuse(Fault::TooLarge, place)
-        } else {
-            let (_, rest) = self.datagram.as_slice().split_at(offset);
-            put_packet(form, offset, &rest[..size], packet);
-            Ok(())
-        }
     }
 
     /// Builds the packet of a form. The digits of its bytes stand at a place.
@@ -255,20 +278,26 @@ impl Builder {
             return refuse(Fault::TooLarge, place);
         }
         let buffers = &self.buffers;
-        put_udp(
-            form,
-            &buffers.bytes[..sent],
-            &mut self.covered,
-            &mut self.datagram,
-        );
-        self.cut(form, place, packet)
+        let sent = &buffers.bytes[..sent];
+        match form.payload {
+            Payload::Udp => {
+                put_udp(form, sent, &mut self.covered, &mut self.datagram);
+                cut(form, place, self.datagram.as_slice(), packet)
+            }
+            Payload::Raw => cut(form, place, sent, packet),
+        }
     }
 
-    /// Puts the packet that the words after `rx udp` name into a buffer.
-    pub(crate) fn build(&mut self, text: &[u8], packet: &mut Buffer<PACKET>) -> Result<(), Misfit>
-        ensures { put_or result packet.new ≡ builds.packet_named text.now }
+    /// Puts the packet that the words after `rx udp` or `rx raw` name into a buffer.
+    pub(crate) fn build(
+        &mut self,
+        payload: Payload,
+        text: &[u8],
+        packet: &mut Buffer<PACKET>,
+    ) -> Result<(), Misfit>
+        ensures { put_or result packet.new ≡ builds.packet_named payload text.now }
     {
-        let (form, span) = Form::read(text)?;
+        let (form, span) = Form::read(payload, text)?;
         let (_, rest) = text.split_at(span.place);
         self.build_form(&form, span.place, &rest[..span.len], packet)
     }

@@ -1,7 +1,8 @@
-//! The two ends of a datagram, as words write them.
+//! The two ends of a packet, as words write them.
 ghost use Rattle.std.specs.Prelude.{◌≡◌, ◌<◌, ◌≤◌, length, IfSome};
 ghost use Rattle.play_packet.specs.Ends as ends;
 
+use crate::mark::Payload;
 use crate::numbers::number_in;
 use flat_model::Addr;
 use play_line::Fault;
@@ -36,7 +37,7 @@ fn address_in(text: &[u8]) -> Option<u32>
 }
 
 /// The address and the port that a word writes, with a colon between them.
-pub(crate) fn end_in(word: &[u8]) -> Result<Addr, Fault>
+fn end_in(word: &[u8]) -> Result<Addr, Fault>
     ensures { result ≡ ends.end_in word.now }
 {
     let Some(at) = place_of(b':', word) else {
@@ -51,5 +52,28 @@ pub(crate) fn end_in(word: &[u8]) -> Result<Addr, Fault>
             port: port as u16,
         }),
         None => Err(Fault::NoPort),
+    }
+}
+
+/// An end of a packet that carries this: a datagram's with its port, else an address alone.
+pub(crate) fn end_as(payload: Payload, word: &[u8]) -> Result<Addr, Fault>
+    ensures { result ≡ ends.end_as payload word.now }
+{
+    match payload {
+        Payload::Udp => end_in(word),
+        Payload::Raw => match address_in(word) {
+            Some(ip) => Ok(Addr { ip, port: 0 }),
+            None => Err(Fault::NoAddress),
+        },
+    }
+}
+
+/// What is wrong if it's missing.
+pub(crate) fn missing_end(payload: Payload) -> Fault
+    ensures { result ≡ ends.missing_end payload }
+{
+    match payload {
+        Payload::Udp => Fault::NoEnd,
+        Payload::Raw => Fault::NoAddress,
     }
 }

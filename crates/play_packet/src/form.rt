@@ -1,225 +1,110 @@
 //! What the words of a line say of a packet.
-ghost use Rattle.std.specs.Prelude.{◌≡◌, ◌≤◌, ◌+◌, length, IfOk, option_map};
+ghost use Rattle.std.specs.Prelude.{◌≡◌, ◌≤◌, ◌+◌, length, IfOk};
 ghost use Rattle.play_packet.specs.Forms as forms;
+ghost use Rattle.play_packet.specs.Marks.{most_number};
 
-use crate::ends::end_in;
-use crate::numbers::number_in;
-use crate::words::{is_word, word_at};
+use crate::mark::{Field, Mark, Payload, mark_of};
+use crate::places::{
+    Misfit, Span, Told, arrow_at, bytes_at, end_at, more_at, number_at, offset_at, refuse,
+};
+use crate::words::word_at;
 use flat_model::Addr;
 use play_line::Fault;
 
-/// The checksum of a datagram.
+/// A checksum.
 #[derive(Clone, Copy)]
 pub(crate) enum Sum {
     /// The right one.
     Right,
-    /// None: 0 stands there.
-    Missing,
     /// Another one than the right one.
     Wrong,
+    /// This one, right or wrong.
+    Given(u16),
 }
 
-/// What a word after the bytes says of the packet.
-#[derive(Clone, Copy)]
-enum Mark {
-    Id,
-    Ttl,
-    Offset,
-    Size,
-    Whole,
-    BadSum,
-    BadUdp,
-    NoSum,
-}
-
-/// A number that was told, and the place where its word begins.
-#[derive(Clone, Copy)]
-pub(crate) struct Told {
-    pub(crate) value: u32,
-    pub(crate) place: usize,
-}
-
-/// A word: the place where it begins, and how many bytes it has.
-#[derive(Clone, Copy)]
-pub(crate) struct Span {
-    pub(crate) place: usize,
-    pub(crate) len: usize,
-}
-
-/// What is wrong, and the place of the word that is.
-#[derive(Clone, Copy)]
-pub(crate) struct Misfit {
-    pub(crate) fault: Fault,
-    pub(crate) place: usize,
-}
-
-/// What the words say.
+/// What the words say. A field of which none says anything is `None`.
 #[derive(Clone, Copy)]
 pub(crate) struct Form {
-    /// Where the datagram comes from, and where it goes to.
+    pub(crate) payload: Payload,
+    /// Where the packet comes from, and where it goes to. Without a datagram both ports are 0.
     pub(crate) source: Addr,
     pub(crate) destination: Addr,
-    /// The identification.
+    pub(crate) version: Option<u8>,
+    pub(crate) ihl: Option<u8>,
+    pub(crate) tos: Option<u8>,
+    pub(crate) len: Option<u16>,
     pub(crate) id: Option<u16>,
-    /// The time to live.
-    pub(crate) ttl: Option<u8>,
-    /// Where in the datagram what the packet carries begins, and how long it is.
-    pub(crate) offset: Option<Told>,
-    pub(crate) size: Option<Told>,
-    /// Whether more fragments come after it.
-    pub(crate) more: bool,
-    /// Whether it's not to be cut into fragments.
+    /// The three flags: the reserved one, "don't fragment" and "more fragments".
+    pub(crate) reserved: bool,
     pub(crate) whole: bool,
-    /// Whether the header's checksum is wrong.
-    pub(crate) bad_sum: bool,
-    /// The datagram's checksum.
+    pub(crate) more: bool,
+    /// The fragment's offset, in bytes.
+    pub(crate) offset: Option<u16>,
+    pub(crate) ttl: Option<u8>,
+    pub(crate) protocol: Option<u8>,
     pub(crate) sum: Sum,
-}
-
-/// That something is wrong with the word at a place.
-pub(crate) fn refuse<T>(fault: Fault, place: usize) -> Result<T, Misfit>
-    ensures { result ≡ forms.misfit fault place }
-{
-    Err(Misfit { fault, place })
-}
-
-/// Whether a line names a packet.
-pub(crate) fn is_named(text: &[u8]) -> bool
-    ensures { result ≡ forms.names_packet text.now }
-{
-    is_word(b"rx".as_slice(), word_at(text, 0)) && is_word(b"udp".as_slice(), word_at(text, 3))
-}
-
-/// An end of the datagram, and the place after it.
-fn end_at(text: &[u8], at: usize) -> Result<(Addr, usize), Misfit>
-    ensures { result ≡ forms.end_read text.now at }
-{
-    let Some(word) = word_at(text, at) else {
-        return refuse(Fault::NoEnd, at);
-    };
-    match end_in(word) {
-        Ok(end) => Ok((end, at + word.len() + 1)),
-        Err(fault) => refuse(fault, at),
-    }
-}
-
-/// The place after the arrow between both ends.
-fn arrow_at(text: &[u8], at: usize) -> Result<usize, Misfit>
-    ensures { result ≡ forms.arrow_at text.now at }
-{
-    match word_at(text, at) {
-        Some(word) if word == b">".as_slice() => Ok(at + word.len() + 1),
-        _ => refuse(Fault::NoArrow, at),
-    }
-}
-
-/// The word of the bytes, and the place after it.
-fn bytes_at(text: &[u8], at: usize) -> Result<(Span, usize), Misfit>
-    ensures is { result ≡ forms.bytes_at text.now at }
-    ensures inside { IfOk result (λ t. t.0.place + t.0.len ≤ length text.now) }
-{
-    match word_at(text, at) {
-        Some(word) => Ok((
-            Span {
-                place: at,
-                len: word.len(),
-            },
-            at + word.len() + 1,
-        )),
-        None => refuse(Fault::NoBytes, at),
-    }
-}
-
-/// A number of at most `most`, and the place after it.
-fn number_at(fault: Fault, most: u32, text: &[u8], at: usize) -> Result<(Told, usize), Misfit>
-    requires { most ≤ 65535 }
-    ensures is { result ≡ forms.number_at fault most text.now at }
-    ensures most { IfOk result (λ t. t.0.value ≤ most) }
-{
-    let Some(word) = word_at(text, at) else {
-        return refuse(Fault::NoCount, at);
-    };
-    match number_in(word, most) {
-        Some(value) => Ok((Told { value, place: at }, at + word.len() + 1)),
-        None => refuse(fault, at),
-    }
-}
-
-/// Whether more fragments come after it, and the place after that word.
-fn more_at(text: &[u8], at: usize) -> Result<(bool, usize), Misfit>
-    ensures { result ≡ forms.more_at text.now at }
-{
-    let Some(word) = word_at(text, at) else {
-        return refuse(Fault::NoMore, at);
-    };
-    if word == b"more".as_slice() {
-        Ok((true, at + word.len() + 1))
-    } else if word == b"last".as_slice() {
-        Ok((false, at + word.len() + 1))
-    } else {
-        refuse(Fault::NoMore, at)
-    }
-}
-
-/// What a word says.
-fn mark_of(word: &[u8]) -> Option<Mark>
-    ensures { result ≡ forms.mark_named word.now }
-{
-    if word == b"id".as_slice() {
-        return Some(Mark::Id);
-    }
-    if word == b"ttl".as_slice() {
-        return Some(Mark::Ttl);
-    }
-    if word == b"at".as_slice() {
-        return Some(Mark::Offset);
-    }
-    if word == b"size".as_slice() {
-        return Some(Mark::Size);
-    }
-    if word == b"df".as_slice() {
-        return Some(Mark::Whole);
-    }
-    if word == b"badsum".as_slice() {
-        return Some(Mark::BadSum);
-    }
-    if word == b"badudp".as_slice() {
-        return Some(Mark::BadUdp);
-    }
-    if word == b"nosum".as_slice() {
-        return Some(Mark::NoSum);
-    }
-    None
+    /// Where in the datagram what the packet carries begins, and how long it is.
+    pub(crate) start: Option<Told>,
+    pub(crate) size: Option<Told>,
+    pub(crate) udp_len: Option<u16>,
+    pub(crate) udp_sum: Sum,
 }
 
 impl Sum {
-    /// Whether it isn't the right one.
-    fn is_changed(self) -> bool
-        ensures { result ≡ forms.is_changed self }
+    /// Whether a word said something of it.
+    fn is_said(self) -> bool
+        ensures { result ≡ forms.is_said self }
     {
         match self {
             Sum::Right => false,
-            Sum::Missing | Sum::Wrong => true,
+            Sum::Wrong | Sum::Given(_) => true,
         }
     }
 }
 
 impl Form {
     /// Before the words after the bytes.
-    fn fresh(source: Addr, destination: Addr) -> Form
-        ensures { result ≡ forms.fresh source destination }
+    fn fresh(payload: Payload, source: Addr, destination: Addr) -> Form
+        ensures { result ≡ forms.fresh payload source destination }
     {
         Form {
+            payload,
             source,
             destination,
+            version: None,
+            ihl: None,
+            tos: None,
+            len: None,
             id: None,
-            ttl: None,
-            offset: None,
-            size: None,
-            more: false,
+            reserved: false,
             whole: false,
-            bad_sum: false,
+            more: false,
+            offset: None,
+            ttl: None,
+            protocol: None,
             sum: Sum::Right,
+            start: None,
+            size: None,
+            udp_len: None,
+            udp_sum: Sum::Right,
+        }
+    }
+
+    /// Whether a word said something of this field already.
+    fn has_number(self, field: Field) -> bool
+        ensures { result ≡ forms.has_number self field }
+    {
+        match field {
+            Field::Version => self.version.is_some(),
+            Field::Ihl => self.ihl.is_some(),
+            Field::Tos => self.tos.is_some(),
+            Field::Len => self.len.is_some(),
+            Field::Id => self.id.is_some(),
+            Field::Ttl => self.ttl.is_some(),
+            Field::Protocol => self.protocol.is_some(),
+            Field::Sum => self.sum.is_said(),
+            Field::UdpLen => self.udp_len.is_some(),
+            Field::UdpSum => self.udp_sum.is_said(),
         }
     }
 
@@ -228,32 +113,101 @@ impl Form {
         ensures { result ≡ forms.has self mark }
     {
         match mark {
-            Mark::Id => self.id.is_some(),
-            Mark::Ttl => self.ttl.is_some(),
+            Mark::Number(field) => self.has_number(field),
             Mark::Offset => self.offset.is_some(),
+            Mark::Start => self.offset.is_some() || self.more,
             Mark::Size => self.size.is_some(),
+            Mark::Reserved => self.reserved,
             Mark::Whole => self.whole,
-            Mark::BadSum => self.bad_sum,
-            Mark::BadUdp | Mark::NoSum => self.sum.is_changed(),
+            Mark::More => self.more || self.start.is_some(),
+            Mark::BadSum => self.sum.is_said(),
+            Mark::BadUdp | Mark::NoSum => self.udp_sum.is_said(),
         }
     }
 
-    /// The number after `id`.
-    fn with_id(self, text: &[u8], at: usize) -> Result<(Form, usize), Misfit>
-        ensures { result ≡ forms.with_id self text.now at }
+    /// With this number in a field.
+    fn holding(self, field: Field, value: u32) -> Form
+        requires { value ≤ most_number field }
+        ensures { result ≡ forms.holding self field value }
     {
-        let (id, after) = number_at(Fault::NoId, 65_535, text, at)?;
-        let id = Some(id.value as u16);
-        Ok((Form { id, ..self }, after))
+        match field {
+            Field::Version => Form {
+                version: Some(value as u8),
+                ..self
+            },
+            Field::Ihl => Form {
+                ihl: Some(value as u8),
+                ..self
+            },
+            Field::Tos => Form {
+                tos: Some(value as u8),
+                ..self
+            },
+            Field::Len => Form {
+                len: Some(value as u16),
+                ..self
+            },
+            Field::Id => Form {
+                id: Some(value as u16),
+                ..self
+            },
+            Field::Ttl => Form {
+                ttl: Some(value as u8),
+                ..self
+            },
+            Field::Protocol => Form {
+                protocol: Some(value as u8),
+                ..self
+            },
+            Field::Sum => Form {
+                sum: Sum::Given(value as u16),
+                ..self
+            },
+            Field::UdpLen => Form {
+                udp_len: Some(value as u16),
+                ..self
+            },
+            Field::UdpSum => Form {
+                udp_sum: Sum::Given(value as u16),
+                ..self
+            },
+        }
     }
 
-    /// The number after `ttl`.
-    fn with_ttl(self, text: &[u8], at: usize) -> Result<(Form, usize), Misfit>
-        ensures { result ≡ forms.ttl_read self text.now at }
+    /// The number of a field.
+    fn with_field(self, field: Field, text: &[u8], at: usize) -> Result<(Form, usize), Misfit>
+        ensures { result ≡ forms.with_field self field text.now at }
     {
-        let (ttl, after) = number_at(Fault::NoTtl, 255, text, at)?;
-        let ttl = Some(ttl.value as u8);
-        Ok((Form { ttl, ..self }, after))
+        let (number, after) = number_at(field.fault(), field.most(), text, at)?;
+        Ok((self.holding(field, number.value), after))
+    }
+
+    /// The number after `off`.
+    fn with_offset(self, text: &[u8], at: usize) -> Result<(Form, usize), Misfit>
+        ensures { result ≡ forms.with_offset self text.now at }
+    {
+        let (offset, after) = offset_at(text, at)?;
+        let offset = Some(offset.value as u16);
+        Ok((Form { offset, ..self }, after))
+    }
+
+    /// The number after `at`, and whether more fragments come.
+    fn with_start(self, text: &[u8], at: usize) -> Result<(Form, usize), Misfit>
+        ensures { result ≡ forms.with_start self text.now at }
+    {
+        let (start, after) = offset_at(text, at)?;
+        let (more, after) = more_at(text, after)?;
+        let offset = Some(start.value as u16);
+        let start = Some(start);
+        Ok((
+            Form {
+                offset,
+                start,
+                more,
+                ..self
+            },
+            after,
+        ))
     }
 
     /// The number after `size`.
@@ -265,24 +219,34 @@ impl Form {
         Ok((Form { size, ..self }, after))
     }
 
-    /// The number after `at`, and whether more fragments come.
-    fn with_offset(self, text: &[u8], at: usize) -> Result<(Form, usize), Misfit>
-        ensures { result ≡ forms.with_offset self text.now at }
+    /// With a flag, or with a checksum that has no number after it; otherwise as it was.
+    fn flagged(self, mark: Mark) -> Form
+        ensures { result ≡ forms.flagged self mark }
     {
-        let (offset, after) = number_at(Fault::NoOffset, 65_528, text, at)?;
-        if offset.value % 8 != 0 {
-            return refuse(Fault::NoOffset, offset.place);
-        }
-        let (more, after) = more_at(text, after)?;
-        let offset = Some(offset);
-        Ok((
-            Form {
-                offset,
-                more,
+        match mark {
+            Mark::Reserved => Form {
+                reserved: true,
                 ..self
             },
-            after,
-        ))
+            Mark::Whole => Form {
+                whole: true,
+                ..self
+            },
+            Mark::More => Form { more: true, ..self },
+            Mark::BadSum => Form {
+                sum: Sum::Wrong,
+                ..self
+            },
+            Mark::BadUdp => Form {
+                udp_sum: Sum::Wrong,
+                ..self
+            },
+            Mark::NoSum => Form {
+                udp_sum: Sum::Given(0),
+                ..self
+            },
+            Mark::Number(_) | Mark::Offset | Mark::Start | Mark::Size => self,
+        }
     }
 
     /// After a word that says this. What belongs to it begins at a place.
@@ -290,38 +254,12 @@ impl Form {
         ensures { result ≡ forms.with_mark self mark text.now at }
     {
         match mark {
-            Mark::Id => self.with_id(text, at),
-            Mark::Ttl => self.with_ttl(text, at),
+            Mark::Number(field) => self.with_field(field, text, at),
             Mark::Offset => self.with_offset(text, at),
+            Mark::Start => self.with_start(text, at),
             Mark::Size => self.with_size(text, at),
-            Mark::Whole => Ok((
-                Form {
-                    whole: true,
-                    ..self
-                },
-                at,
-            )),
-            Mark::BadSum => Ok((
-                Form {
-                    bad_sum: true,
-                    ..self
-                },
-                at,
-            )),
-            Mark::BadUdp => Ok((
-                Form {
-                    sum: Sum::Wrong,
-                    ..self
-                },
-                at,
-            )),
-            Mark::NoSum => Ok((
-                Form {
-                    sum: Sum::Missing,
-                    ..self
-                },
-                at,
-            )),
+            Mark::Reserved | Mark::Whole | Mark::More | Mark::BadSum | Mark::BadUdp | Mark::NoSum =>
+                Ok((self.flagged(mark), at)),
         }
     }
 
@@ -331,7 +269,7 @@ impl Form {
         requires { at + length word.now ≤ length text.now }
         ensures { result ≡ forms.with_word_at self word.now text.now at }
     {
-        let Some(mark) = mark_of(word) else {
+        let Some(mark) = mark_of(self.payload, word) else {
             return refuse(Fault::UnknownWord, at);
         };
         if self.has(mark) {
@@ -341,8 +279,9 @@ impl Form {
     }
 
     /// After the words from a place on.
+    #[tactic(auto, using(crate::proofs::MarkLemmas::marks_next))]
     fn with_marks(self, text: &[u8], at: usize) -> Result<Form, Misfit>
-        ensures { result ≡ forms.marks_after (length text.now) text.now self at }
+        ensures { result ≡ forms.form_after (length text.now) text.now self at }
     {
         let mut form = self;
         let mut place = at;
@@ -363,16 +302,16 @@ impl Form {
         Ok(form)
     }
 
-    /// What stands after `rx udp`, and the word of the bytes.
-    pub(crate) fn read(text: &[u8]) -> Result<(Form, Span), Misfit>
-        ensures is { result ≡ forms.form_of text.now }
+    /// What stands after `rx udp` or `rx raw`, and the word of the bytes.
+    pub(crate) fn read(payload: Payload, text: &[u8]) -> Result<(Form, Span), Misfit>
+        ensures is { result ≡ forms.form_of payload text.now }
         ensures inside { IfOk result (λ t. t.1.place + t.1.len ≤ length text.now) }
     {
-        let (source, at) = end_at(text, 7)?;
+        let (source, at) = end_at(payload, text, 7)?;
         let at = arrow_at(text, at)?;
-        let (destination, at) = end_at(text, at)?;
+        let (destination, at) = end_at(payload, text, at)?;
         let (bytes, at) = bytes_at(text, at)?;
-        let form = Form::fresh(source, destination).with_marks(text, at)?;
+        let form = Form::fresh(payload, source, destination).with_marks(text, at)?;
         Ok((form, bytes))
     }
 }

@@ -1,7 +1,7 @@
 //! Laws of packets by name. Each is a function that does nothing, and its contract is the law.
-ghost use Rattle.std.specs.Prelude.{◌≡◌, ℕ, ◌<◌, ◌≤◌, ◌%◌, List, None, false};
+ghost use Rattle.std.specs.Prelude.{◌≡◌, ℕ, ◌<◌, ◌≤◌, ◌%◌, List, None};
 ghost use Rattle.flat_model.specs.Packets.Header.{packet, udp};
-ghost use Rattle.play_packet.specs.Builds.{datagram_of, head_of_form, packet_of, wrong};
+ghost use Rattle.play_packet.specs.Builds.{IsOwn, datagram_of_form, head_of_form, packet_of, wrong};
 ghost use Rattle.play_packet.specs.declared.form.Form.{Form};
 ghost use Rattle.play_packet.specs.declared.form.Sum.TheVariants.{Right};
 
@@ -13,11 +13,12 @@ pub fn wrong_sum_law()
     ensures fits { (sum : ℕ) → wrong sum ≤ 65535 }
 {}
 
-/// A packet of which nothing is changed is the one that this stack itself would send: flat_model's `packet` of its
-/// `udp`.
+/// A packet of which nothing is said that this stack has no word for is the one that it would send itself: flat_model's
+/// `packet` of its `udp`.
 pub fn own_packet_law()
-    ensures datagram { (form : Form) (sent : List ℕ) → form.sum ≡ Right → datagram_of form sent
+    ensures datagram { (form : Form) (sent : List ℕ) → form.udp_len ≡ None → form.udp_sum ≡ Right
+        → datagram_of_form form sent
         ≡ udp form.source.ip form.destination.ip form.source.port form.destination.port sent }
-    ensures packet { (form : Form) (carried : List ℕ) → form.whole ≡ false → form.ttl ≡ None → form.bad_sum ≡ false
+    ensures packet { (form : Form) (carried : List ℕ) → IsOwn form
         → packet_of form carried ≡ packet (head_of_form form) carried }
 {}

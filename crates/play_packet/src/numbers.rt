@@ -1,38 +1,17 @@
 //! Numbers and bytes that words write.
 ghost use Rattle.std.specs.Prelude.{◌≡◌, ◌≤◌, length, take, IfSome};
 ghost use Rattle.params.specs.declared.TheConstants.{IP_MAX_PACKET};
-ghost use Rattle.play_line.specs.Bytes as bytes_of_line;
 ghost use Rattle.play_packet.specs.Numbers as numbers;
 
-use script_loop::bytes;
+use script_loop::{bytes, number};
 
-/// Whether a byte is a decimal digit.
-fn is_decimal(byte: u8) -> bool
-    ensures { result ≡ bytes_of_line.is_decimal byte }
-{
-    byte >= b'0' && byte <= b'9'
-}
-
-/// The number of at most `most` that the word writes, without a zero in front.
+/// The number of at most `most` that the word writes just as it's printed.
 pub(crate) fn number_in(word: &[u8], most: u32) -> Option<u32>
     requires { most ≤ 65535 }
     ensures is { result ≡ numbers.number_in most word.now }
     ensures most { IfSome result (λ n. n ≤ most) }
 {
-    if word.is_empty() || (1 < word.len() && word[0] == b'0') {
-        return None;
-    }
-    let mut value = 0u32;
-    for byte in word {
-        if !is_decimal(*byte) {
-            return None;
-        }
-        value = 10 * value + u32::from(*byte - b'0');
-        if most < value {
-            return None;
-        }
-    }
-    Some(value)
+    number(word, most)
 }
 
 /// Puts the bytes that a word writes into the room, and answers how many they are.

@@ -5,7 +5,7 @@ ghost use Rattle.play_packet.specs.Builds.{named};
 ghost use Rattle.play_packet.specs.Reads.{plain_or};
 
 use crate::build::{Builder, PACKET};
-use crate::form::is_named;
+use crate::places::payload_of;
 use crate::words::place_in;
 use play_line::{Reader, Slip};
 use script_loop::Buffer;
@@ -58,10 +58,10 @@ impl LineReader {
     ) -> Result<bool, Slip>
         ensures { plain_or words.now result packet.new ≡ named line.now words.now }
     {
-        if !is_named(words) {
+        let Some(payload) = payload_of(words) else {
             return Ok(false);
-        }
-        match self.builder.build(words, packet) {
+        };
+        match self.builder.build(payload, words, packet) {
             Ok(()) => Ok(true),
             Err(misfit) => Err(Slip {
                 fault: misfit.fault,

@@ -8,9 +8,9 @@ use std::process::Abort;
 /// What stands in front of the words of each line below.
 const FRONT: &str = "rx udp 10.0.0.2:5000 > 10.0.0.1:7 ";
 
-/// What more a line says, and its packet. The first eleven packets were made by scapy, and the others from these by
-/// hand.
-static PACKETS: [(&str, &str); 20] = [
+/// What more a line says, and its packet. The first eleven packets and the last three were made by scapy, and the
+/// others from these by hand.
+static PACKETS: [(&str, &str); 23] = [
     (
         "\"hi\"",
         "4500001e00010000401166cc0a0000020a00000113880007000a6fdf6869",
@@ -88,13 +88,58 @@ static PACKETS: [(&str, &str); 20] = [
         "6869 ttl 0",
         "4500001e000100000011a6cc0a0000020a00000113880007000a6fdf6869",
     ),
+    (
+        "6869 tos 16 off 8 udpsum 0",
+        "4510001e00010001401166bb0a0000020a00000113880007000a00006869",
+    ),
+    (
+        "6869 udplen 11 udpsum 28639",
+        "4500001e00010000401166cc0a0000020a00000113880007000b6fdf6869",
+    ),
+    (
+        "6869 proto 6 len 29",
+        "4500001d00010000400666d80a0000020a00000113880007000a6fdf6869",
+    ),
 ];
 
-/// Lines that name packets between other ends, and lines that name none: they stay as they are.
-static LINES: [(&str, &str); 7] = [
+/// Lines that name packets between other ends, packets without a datagram, which scapy made, and lines that name none:
+/// they stay as they are.
+static LINES: [(&str, &str); 15] = [
     (
         "rx udp 192.168.1.200:65535 > 255.255.255.255:0 00",
         "rx 4500001d000100004011b85fc0a801c8ffffffffffff000000093d6c00",
+    ),
+    (
+        "rx raw 10.0.0.2 > 10.0.0.1 \"h\" + 69",
+        "rx 4500001600010000401166d40a0000020a0000016869",
+    ),
+    (
+        "rx raw 10.0.0.2 > 10.0.0.1 6869 version 6 ihl 15 tos 255",
+        "rx 6fff00160001000040113bd50a0000020a0000016869",
+    ),
+    (
+        "rx raw 10.0.0.2 > 10.0.0.1 6869 len 65535 id 0",
+        "rx 4500ffff00000000401166eb0a0000020a0000016869",
+    ),
+    (
+        "rx raw 10.0.0.2 > 10.0.0.1 6869 off 65528 mf df rf",
+        "rx 450000160001ffff401166d40a0000020a0000016869",
+    ),
+    (
+        "rx raw 10.0.0.2 > 10.0.0.1 6869 ttl 0 proto 1 sum 4660",
+        "rx 4500001600010000000112340a0000020a0000016869",
+    ),
+    (
+        "rx raw 10.0.0.2 > 10.0.0.1 - version 0 ihl 0 sum 0",
+        "rx 0000001400010000401100000a0000020a000001",
+    ),
+    (
+        "rx raw 10.0.0.2 > 10.0.0.1 @12 at 8 last size 3",
+        "rx 4500001700010001401166d20a0000020a00000108090a",
+    ),
+    (
+        "rx raw 10.0.0.2 > 10.0.0.1 13880007000a6fdf6869",
+        "rx 4500001e00010000401166cc0a0000020a00000113880007000a6fdf6869",
     ),
     ("rx 756470", "rx 756470"),
     ("rx \"udp\"", "rx 756470"),
@@ -105,7 +150,7 @@ static LINES: [(&str, &str); 7] = [
 ];
 
 /// Lines that name no packet, with what is wrong with them, and in which column.
-static FAULTY: [(&str, &str, u64); 28] = [
+static FAULTY: [(&str, &str, u64); 40] = [
     (
         "rx udp",
         "an address with a port, as 10.0.0.2:7, is wanted",
@@ -237,6 +282,58 @@ static FAULTY: [(&str, &str, u64); 28] = [
         "rx udp 10.0.0.2:5000 > 10.0.0.1:7 @65528 at 0 more size 8",
         "more bytes than a packet has room for",
         35,
+    ),
+    ("rx raw", "an address, as 10.0.0.2, is wanted", 4),
+    (
+        "rx raw 10.0.0.2:5000 > 10.0.0.1 00",
+        "an address, as 10.0.0.2, is wanted",
+        8,
+    ),
+    (
+        "rx raw 10.0.0.2 > 10.0.0.1 00 ihl 16",
+        "not a number of 0 to 15",
+        35,
+    ),
+    (
+        "rx raw 10.0.0.2 > 10.0.0.1 00 proto 256",
+        "not a number of 0 to 255",
+        37,
+    ),
+    (
+        "rx raw 10.0.0.2 > 10.0.0.1 00 sum 65536",
+        "not a number of 0 to 65535",
+        35,
+    ),
+    (
+        "rx raw 10.0.0.2 > 10.0.0.1 00 off 4",
+        "not a multiple of 8 of 0 to 65528",
+        35,
+    ),
+    ("rx raw 10.0.0.2 > 10.0.0.1 00 nosum", "unknown word", 31),
+    (
+        "rx raw 10.0.0.2 > 10.0.0.1 00 mf at 0 last",
+        "this was told already",
+        34,
+    ),
+    (
+        "rx raw 10.0.0.2 > 10.0.0.1 00 at 0 last mf",
+        "this was told already",
+        41,
+    ),
+    (
+        "rx raw 10.0.0.2 > 10.0.0.1 00 sum 0 badsum",
+        "this was told already",
+        37,
+    ),
+    (
+        "rx raw 10.0.0.2 > 10.0.0.1 - at 8 last",
+        "the datagram has no such bytes",
+        33,
+    ),
+    (
+        "rx udp 10.0.0.2:5000 > 10.0.0.1:7 00 udpsum 1 nosum",
+        "this was told already",
+        47,
     ),
 ];
 

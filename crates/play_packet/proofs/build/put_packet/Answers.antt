@@ -12,7 +12,7 @@ returns c =
       c.append-4.ensures.items,
       c.clear-2.ensures,
       c.two_bytes.ensures,
-      c.header_sum-sum.ensures,
+      c.written-sum.ensures,
       c.checksum-right.ensures,
       c.as_slice.ensures,
       c.append-3.ensures.items,

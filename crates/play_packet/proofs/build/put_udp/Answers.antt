@@ -1,9 +1,9 @@
 use Rattle.std.proofs.Common.{refl}
-use Rattle.play_packet.specs.Builds.{datagram_of}
+use Rattle.play_packet.specs.Builds.{datagram_of_form}
 use Rattle.play_packet.proofs.build.put_udp.Goals as goal
 
 pub returns-clause-is : goal.returns-clause-is
-unfolding datagram_of
+unfolding datagram_of_form
 returns-clause-is c =
     rw (
       c.append-13.ensures.items,
@@ -30,4 +30,6 @@ returns-clause-is c =
       c.two_bytes-source_port.ensures,
       c.two_bytes-destination_port.ensures,
       c.two_bytes-len.ensures,
+      c.covered_by-summed.ensures.is,
+      c.udp_len_of-n.ensures,
     ) refl
