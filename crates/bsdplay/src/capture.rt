@@ -1,17 +1,17 @@
 //! Captures that are printed as scripts.
 ghost use Rattle.play_pcap.specs.Events.{IsOrdered};
 
+use crate::formats::{Unread, load_capture};
 use crate::{UNREAD, USAGE};
+use capture_file::{Fault, Why};
 use clap::ArgMatches;
-use play_pcap::{
-    CaptureFault, Details, Lines, OUTCOME, Tally, play_file, put_outcome, range_of, read_whole,
-};
+use play_pcap::{CaptureFault, Details, Lines, OUTCOME, Tally, play_file, put_outcome, range_of};
 use play_script::Silent;
 use script_loop::{Buffer, LineBuffers};
-use std::{fs, io, str};
+use std::{io, str};
 
 /// The status if a capture isn't one, or has fewer records than are asked for.
-const BAD: u8 = 1;
+pub(crate) const BAD: u8 = 1;
 
 /// Says what came of a capture, and answers the status.
 pub(crate) fn report(
@@ -31,16 +31,27 @@ pub(crate) fn report(
     }
 }
 
+/// Says what is wrong with a pcapng file, or one that gzip compressed, and answers the status.
+fn report_fault(rt: &HostRuntime, name: &str, fault: Fault) -> io::Result<u8> {
+    if fault.why == Why::Gzip {
+        eprintln!(rt;
+            "bsdplay: {name}: error {}: zcat FILE | bsdplay --from-pcap - reads it",
+            fault.why
+        )?;
+    } else {
+        eprintln!(rt; "bsdplay: {name}: error {fault}")?;
+    }
+    Ok(BAD)
+}
+
 /// Prints a capture as a script, on standard output.
 fn print_file(rt: &HostRuntime, name: &str, details: Details) -> io::Result<u8>
     requires { IsOrdered details.range }
 {
-    let Ok(file) = fs::open(rt, name) else {
-        return report(rt, name, Err(CaptureFault::NotOpened));
-    };
-    let file = match read_whole(rt.alloc(), &mut Silent(file)) {
+    let file = match load_capture(rt, name) {
         Ok(file) => file,
-        Err(fault) => return report(rt, name, Err(fault)),
+        Err(Unread::Whole(fault)) => return report(rt, name, Err(fault)),
+        Err(Unread::Bad(fault)) => return report_fault(rt, name, fault),
     };
     let (line, buffers) = (Buffer::new(rt.alloc())?, LineBuffers::new(rt.alloc())?);
     let mut lines = Lines::begin(Silent(rt.stdout()), line, buffers);

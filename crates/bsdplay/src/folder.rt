@@ -1,8 +1,10 @@
 //! The files that a script names.
-use play_pcap::read_whole;
-use play_script::{CaptureFault, Folder, Silent};
+ghost use Rattle.play_pcap.specs.Files.{IsUnread};
+
+use crate::formats::{Unread, load_file};
+use play_script::{CaptureFault, Folder};
 use std::alloc::Global;
-use std::{fs, str};
+use std::str;
 
 /// The folder of a script. A name that begins with `/` is that of any file of the host.
 #[derive(Drop)]
@@ -41,6 +43,18 @@ fn is_absolute(name: &[u8]) -> bool {
     }
 }
 
+/// Why a file couldn't be read: a fault that says no more of it.
+fn unread(fault: CaptureFault) -> CaptureFault
+    ensures { IsUnread result }
+{
+    match fault {
+        CaptureFault::NotOpened => CaptureFault::NotOpened,
+        CaptureFault::TooLong => CaptureFault::TooLong,
+        CaptureFault::Memory => CaptureFault::Memory,
+        _ => CaptureFault::NotRead,
+    }
+}
+
 impl Folder for HostFolder<'_> {
     ghost may_have = { λ name file. Unit {0} };
 
@@ -55,12 +69,13 @@ impl Folder for HostFolder<'_> {
         let Ok(path) = str::from_utf8(path.as_slice()) else {
             return Err(CaptureFault::NotOpened);
         };
-        let Ok(file) = fs::open(self.rt, path) else {
-            return Err(CaptureFault::NotOpened);
-        };
-        match read_whole(alloc, &mut Silent(file)) {
+        match load_file(self.rt, alloc, path) {
             Ok(file) => Ok(file),
-            Err(fault) => Err(fault),
+            Err(Unread::Whole(fault)) => Err(unread(fault)),
+            Err(Unread::Bad(fault)) => {
+                let _told = eprintln!(self.rt; "bsdplay: {path}: {fault}");
+                Err(CaptureFault::NotRead)
+            }
         }
     }
 }

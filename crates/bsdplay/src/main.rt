@@ -6,6 +6,7 @@ mod capture;
 mod choice;
 mod folder;
 mod form;
+mod formats;
 mod grade;
 mod hand_in;
 mod help;
@@ -84,7 +85,9 @@ fn with_captures<'a>(alloc: Global, command: Command<'a>) -> Result<Command<'a>,
         .arg(
             Arg::new(alloc, "CAPTURE")
                 .long("from-pcap")
-                .help("Print the IPv4 packets of this capture as a script, and play nothing")
+                .help(
+                    "Print the IPv4 packets of this capture as a script, and play nothing; '-': standard input",
+                )
                 .action(ArgAction::Set),
         )?
         .arg(

@@ -1,20 +1,19 @@
 //! Why the packets of a capture were dropped.
 ghost use Rattle.std.specs.Prelude.{◌≤◌, length, IfSome};
 
-use crate::capture::report;
+use crate::capture::{BAD, report};
 use crate::{UNREAD, USAGE};
+use capture_file::{Fault, Record, Records, Why};
 use clap::{Arg, ArgAction, ArgMatches, Command};
-use pcap::{Fault, Reader, Record, ipv4_packet};
+use pcap::ipv4_packet;
 use play_pcap::{CaptureFault, Range, range_of, read_whole};
 use play_script::Silent;
 use play_why::{Addresses, Arrival, Busiest, Judge, Layout};
+use script_loop::{Buffer, Source};
 use std::alloc::{AllocError, Global};
 use std::fs;
 use std::io::{self, Write};
 use std::net::Ipv4Addr;
-
-/// The status if a capture isn't one.
-const BAD: u8 = 1;
 
 /// The most bytes of a packet.
 const MOST_BYTES: usize = 65_535;
@@ -24,7 +23,7 @@ fn with_machine<'a>(alloc: Global, command: Command<'a>) -> Result<Command<'a>, 
     command
         .arg(
             Arg::new(alloc, "CAPTURE")
-                .help("A capture that tcpdump or Wireshark wrote; '-': standard input")
+                .help("A capture, pcap or pcapng, of any length; '-': standard input")
                 .action(ArgAction::Set),
         )?
         .arg(
@@ -130,31 +129,35 @@ fn choice_of(found: &ArgMatches<'_>) -> Result<Choice, &'static str> {
     })
 }
 
-/// The packet in a record, if it has one that a machine takes.
-fn packet_in<'a>(reader: &Reader<'_>, record: &Record<'a>) -> Option<&'a [u8]>
+/// The packet in a record of these bytes, if it has one that a machine takes.
+fn packet_in(record: Record, bytes: &[u8]) -> Option<&[u8]>
     ensures { IfSome result (λ p. length p.now ≤ 65535) }
 {
-    match ipv4_packet(reader.header().link, record.bytes) {
+    match ipv4_packet(record.link?, bytes) {
         Ok(packet) if packet.len() <= MOST_BYTES => Some(packet),
         _ => None,
     }
 }
 
-/// The address to which most datagrams of a capture go.
-fn busiest_of(alloc: Global, file: &[u8]) -> Result<Option<Busiest>, Fault> {
-    let mut reader = Reader::open(file)?;
+/// The address to which most datagrams of a capture go, and the fault by which the capture ended.
+fn busiest_of<S: Source>(
+    alloc: Global,
+    records: &mut Records<S>,
+) -> (Option<Busiest>, Option<Fault>) {
     let mut addresses = Addresses::new(alloc);
     for _ in 0..u64::MAX {
-        let Some(record) = reader.next_record()? else {
-            break;
+        let record = match records.next_record() {
+            Ok(Some(record)) => record,
+            Ok(None) => break,
+            Err(fault) => return (addresses.busiest(), Some(fault)),
         };
-        if let Some(packet) = packet_in(&reader, &record) {
+        if let Some(packet) = packet_in(record, records.bytes()) {
             if addresses.note(packet).is_err() {
                 break;
             }
         }
     }
-    Ok(addresses.busiest())
+    (addresses.busiest(), None)
 }
 
 /// How many records weren't for the machine.
@@ -213,39 +216,59 @@ fn tell_packet<W: Write>(
     Ok(())
 }
 
+/// When records came, from the first one on. A record without a time came with the one before it.
+#[derive(Clone, Copy)]
+struct Clock {
+    first: Option<u64>,
+    last: u64,
+}
+
+impl Clock {
+    /// How many nanoseconds after the first record this one came.
+    fn time_of(&mut self, record: Record) -> u64 {
+        let now = record.time.unwrap_or(self.last);
+        self.last = now;
+        match self.first {
+            Some(first) => now.saturating_sub(first),
+            None => {
+                self.first = Some(now);
+                0
+            }
+        }
+    }
+}
+
 /// Lets the packets of all records come, and prints what became of each.
-fn tell_records<W: Write>(
-    file: &[u8],
+fn tell_records<S: Source, W: Write>(
+    records: &mut Records<S>,
     choice: Choice,
     judge: &mut Judge,
     out: &mut W,
 ) -> Result<Others, End> {
-    let mut reader = match Reader::open(file) {
-        Ok(reader) => reader,
-        Err(fault) => return Err(End::Fault(fault)),
-    };
     let mut others = Others {
         elsewhere: 0,
         without: 0,
     };
-    let mut begin = None;
-    for number in 1..u64::MAX {
-        let record = match reader.next_record() {
+    let mut clock = Clock {
+        first: None,
+        last: 0,
+    };
+    for _ in 0..u64::MAX {
+        let record = match records.next_record() {
             Ok(Some(record)) => record,
             Ok(None) => break,
             Err(fault) => return Err(End::Fault(fault)),
         };
-        let now = reader.header().nanoseconds(&record);
-        let first = begin.unwrap_or(now);
-        begin = Some(first);
-        match packet_in(&reader, &record) {
+        let time = clock.time_of(record);
+        let bytes = records.bytes();
+        match packet_in(record, bytes) {
             None => others.without = others.without.saturating_add(1),
             Some(packet) => {
                 let arrival = Arrival {
-                    number,
-                    time: now.saturating_sub(first),
+                    number: record.number,
+                    time,
                     original: record.original_len,
-                    captured: record.bytes.len().min(u32::MAX as usize) as u32,
+                    captured: bytes.len().min(u32::MAX as usize) as u32,
                     packet,
                 };
                 tell_packet(choice, judge, &arrival, &mut others, out)?;
@@ -267,14 +290,24 @@ fn tell_totals<W: Write>(judge: &mut Judge, out: &mut W) -> Result<(), End> {
     Ok(())
 }
 
-/// All bytes of a capture.
-fn load(rt: &HostRuntime, name: &str) -> Result<Vec<u8>, CaptureFault> {
-    if name == "-" {
-        return read_whole(rt.alloc(), &mut Silent(rt.stdin()));
-    }
-    match fs::open(rt, name) {
-        Ok(file) => read_whole(rt.alloc(), &mut Silent(file)),
-        Err(_) => Err(CaptureFault::NotOpened),
+/// Prints what is wrong with a capture, and answers the status.
+fn print_fault(rt: &HostRuntime, name: &str, fault: Fault) -> io::Result<u8> {
+    match fault.why {
+        Why::Gzip => {
+            eprintln!(rt;
+                "bsdplay: {name}: {}: zcat FILE | bsdplay why - reads it",
+                fault.why
+            )?;
+            Ok(BAD)
+        }
+        Why::NotRead => {
+            eprintln!(rt; "bsdplay: {name}: {fault}")?;
+            Ok(UNREAD)
+        }
+        _ => {
+            eprintln!(rt; "bsdplay: {name}: {fault}")?;
+            Ok(BAD)
+        }
     }
 }
 
@@ -290,10 +323,10 @@ fn print_others(rt: &HostRuntime, others: Others) -> io::Result<()> {
 }
 
 /// Has a machine of this address judge the records, and answers the status.
-fn judge_file(
+fn judge_records<S: Source>(
     rt: &HostRuntime,
     name: &str,
-    file: &[u8],
+    records: &mut Records<S>,
     choice: Choice,
     ours: u32,
 ) -> io::Result<u8> {
@@ -306,7 +339,7 @@ fn judge_file(
         }
     };
     let mut out = rt.stdout();
-    let told = tell_records(file, choice, &mut judge, &mut out);
+    let told = tell_records(records, choice, &mut judge, &mut out);
     let done = match choice.layout {
         Layout::Lines => tell_totals(&mut judge, &mut out),
         Layout::Objects => Ok(()),
@@ -322,10 +355,7 @@ fn judge_file(
             }
             Ok(0)
         }
-        Err(End::Fault(fault)) => {
-            eprintln!(rt; "bsdplay: {name}: {fault}")?;
-            Ok(BAD)
-        }
+        Err(End::Fault(fault)) => print_fault(rt, name, fault),
         Err(End::Memory) => {
             eprintln!(rt; "bsdplay: {name}: no memory")?;
             Ok(UNREAD)
@@ -334,23 +364,100 @@ fn judge_file(
     }
 }
 
-/// The machine's address, if it was given or datagrams go to one; says which it is if it was chosen.
-fn address_for(rt: &HostRuntime, file: &[u8], choice: Choice) -> io::Result<Option<u32>> {
-    if choice.address.is_some() {
-        return Ok(choice.address);
-    }
-    match busiest_of(rt.alloc(), file) {
-        Ok(Some(busiest)) => {
-            let address = Ipv4Addr::from_bits(busiest.address);
-            if matches!(choice.layout, Layout::Lines) {
-                println!(rt;
-                    "The machine is {address}, to which {} of {} datagrams go; --addr takes another.\n",
-                    busiest.count, busiest.all
-                )?;
-            }
-            Ok(Some(busiest.address))
+/// Chooses the address that most datagrams of a capture go to, and says which it is; or answers the status.
+fn choose_address<S: Source>(
+    rt: &HostRuntime,
+    name: &str,
+    records: &mut Records<S>,
+    layout: Layout,
+) -> io::Result<Result<u32, u8>> {
+    let busiest = match busiest_of(rt.alloc(), records) {
+        (Some(busiest), _) => busiest,
+        (None, Some(fault)) => return Ok(Err(print_fault(rt, name, fault)?)),
+        (None, None) => {
+            eprintln!(rt;
+                "bsdplay: {name}: no UDP datagram goes to a host; --addr says for whom packets are judged"
+            )?;
+            return Ok(Err(USAGE));
         }
-        _ => Ok(None),
+    };
+    let address = Ipv4Addr::from_bits(busiest.address);
+    if matches!(layout, Layout::Lines) {
+        println!(rt;
+            "The machine is {address}, to which {} of {} datagrams go; --addr takes another.\n",
+            busiest.count, busiest.all
+        )?;
+    }
+    Ok(Ok(busiest.address))
+}
+
+/// Judges what a source gives, which is read once.
+fn judge_source<S: Source + Drop>(
+    rt: &HostRuntime,
+    name: &str,
+    source: S,
+    choice: Choice,
+    ours: u32,
+) -> io::Result<u8> {
+    let mut records = Records::new(source, Buffer::new(rt.alloc())?);
+    let status = judge_records(rt, name, &mut records, choice, ours);
+    let (_source, _room) = records.end();
+    status
+}
+
+/// Chooses the address by what a source gives; or answers the status.
+fn choose_by_source<S: Source + Drop>(
+    rt: &HostRuntime,
+    name: &str,
+    source: S,
+    layout: Layout,
+) -> io::Result<Result<u32, u8>> {
+    let mut records = Records::new(source, Buffer::new(rt.alloc())?);
+    let found = choose_address(rt, name, &mut records, layout);
+    let (_source, _room) = records.end();
+    found
+}
+
+/// Judges a file: one of any length, which is read twice if its address is to be chosen.
+fn judge_file(rt: &HostRuntime, name: &str, choice: Choice) -> io::Result<u8> {
+    let not_opened = Err(CaptureFault::NotOpened);
+    let ours = match choice.address {
+        Some(ours) => ours,
+        None => {
+            let Ok(file) = fs::open(rt, name) else {
+                return report(rt, name, not_opened);
+            };
+            match choose_by_source(rt, name, Silent(file), choice.layout)? {
+                Ok(ours) => ours,
+                Err(status) => return Ok(status),
+            }
+        }
+    };
+    let Ok(file) = fs::open(rt, name) else {
+        return report(rt, name, not_opened);
+    };
+    judge_source(rt, name, Silent(file), choice, ours)
+}
+
+/// Judges standard input: by an address that was given as it comes, and otherwise once all of it was read.
+fn judge_input(rt: &HostRuntime, choice: Choice) -> io::Result<u8> {
+    let name = "-";
+    if let Some(ours) = choice.address {
+        return judge_source(rt, name, Silent(rt.stdin()), choice, ours);
+    }
+    let file = match read_whole(rt.alloc(), &mut Silent(rt.stdin())) {
+        Ok(file) => file,
+        Err(CaptureFault::TooLong) => {
+            eprintln!(rt;
+                "bsdplay: -: longer than 16777216 bytes: --addr says for whom packets are judged as they come"
+            )?;
+            return Ok(USAGE);
+        }
+        Err(fault) => return report(rt, name, Err(fault)),
+    };
+    match choose_by_source(rt, name, file.as_slice(), choice.layout)? {
+        Ok(ours) => judge_source(rt, name, file.as_slice(), choice, ours),
+        Err(status) => Ok(status),
     }
 }
 
@@ -367,18 +474,9 @@ pub(crate) fn print_why(rt: &HostRuntime, found: &ArgMatches<'_>) -> io::Result<
         eprintln!(rt; "bsdplay: why takes a capture")?;
         return Ok(USAGE);
     };
-    let file = match load(rt, name) {
-        Ok(file) => file,
-        Err(fault) => return report(rt, name, Err(fault)),
-    };
-    if let Err(fault) = Reader::open(file.as_slice()) {
-        return report(rt, name, Err(CaptureFault::Bad(fault)));
+    if name == "-" {
+        judge_input(rt, choice)
+    } else {
+        judge_file(rt, name, choice)
     }
-    let Some(ours) = address_for(rt, file.as_slice(), choice)? else {
-        eprintln!(rt;
-            "bsdplay: {name}: no UDP datagram goes to a host; --addr says for whom packets are judged"
-        )?;
-        return Ok(USAGE);
-    };
-    judge_file(rt, name, file.as_slice(), choice, ours)
 }
