@@ -18,12 +18,14 @@ use Rattle.segment.specs.Flying.{comes, transmits_of, waiting}
 use Rattle.segment.specs.Segment.{SegmentView, AreBoth, AtEach, IsJoined, are_apart, leaving, no_hosts, received_in, waiting_in}
 use Rattle.segment.specs.Law.{Act, Ether, Joins, Calls, Collects, Delivers, Impairs, Seeds, Loses, Repeats, Swaps, IsAct, IsHostCalled, AreActs}
 use Rattle.segment.proofs.BareActs.{AreBare, IsBare}
-use Rattle.segment.proofs.Sources.{IsOwn, IsSourced, boot_sourced, calls_sourced}
+use Rattle.flat_ether.specs.Laws.{IsOwn}
+use Rattle.flat_ether.proofs.Lemmas.{IsSourced}
+use Rattle.segment.proofs.Sources.{boot_sourced, calls_sourced}
 use Rattle.segment.proofs.Walking.{get_set_same, get_set_other}
 use Rattle.segment.proofs.History.{AtEach-length, get_front, get_within, length-last}
 
 -- an element of a list with one more is one of the list, or the new one
-get_last_or : {X : Type 0} (xs : List X) (x y : X) (k : ℕ) → slice_get (xs ++ x ∷ []) k ≡ Some y
+pub get_last_or : {X : Type 0} (xs : List X) (x y : X) (k : ℕ) → slice_get (xs ++ x ∷ []) k ≡ Some y
     → (slice_get xs k ≡ Some y) ⊎ ((k ≡ length xs) × (x ≡ y))
 get_last_or [] x y zero e = inr (refl, same_Some x y e)
 get_last_or [] x y (suc k) e = absurd (none-some _ e)
@@ -41,7 +43,7 @@ get_none (x ∷ xs) zero e = absurd (none-some _ (sym e))
 get_none (x ∷ xs) (suc k) e = omega (arith, get_none xs k e)
 
 -- a test that all elements pass
-all_pass : {X : Type 0} (p : X → Bool) (xs : List X) (k : ℕ) (x : X) → list_all p xs ≡ true → slice_get xs k ≡ Some x
+pub all_pass : {X : Type 0} (p : X → Bool) (xs : List X) (k : ℕ) (x : X) → list_all p xs ≡ true → slice_get xs k ≡ Some x
     → p x ≡ true
 all_pass p [] k x all e = absurd (none-some _ e)
 all_pass p (y ∷ xs) zero x all e = subst (λ z. p z ≡ true) (same_Some y x e) (and_parts _ _ all).0
@@ -63,7 +65,7 @@ not_same a b t e = go (eqb_tells a b)
     go (inl h) = never (sym (ap not h.0) ∙ t)
     go (inr h) = h.1 e
 
-told_apart : (c d : Config) → are_apart c d ≡ true → AreApart c d
+pub told_apart : (c d : Config) → are_apart c d ≡ true → AreApart c d
 told_apart c d t =
     let first = and_parts _ _ t in
     let second = and_parts _ _ first.1 in
@@ -73,7 +75,7 @@ told_apart c d t =
       back = not_same d.addr c.bcast second.1;
     }
 
-turned : (c d : Config) → AreApart c d → AreApart d c
+pub turned : (c d : Config) → AreApart c d → AreApart d c
 turned c d a = record { addr = λ e. a.addr (sym e); bcast = a.back; back = a.bcast }
 
 -- Every host has a stack whose packets bear its address, and can be told apart from the others.

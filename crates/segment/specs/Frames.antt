@@ -1,5 +1,5 @@
 -- Hosts on an Ethernet: what their links give to a segment, and take from it (this project's own).
-use Rattle.std.specs.Prelude.{◌≡◌, ℕ, zero, suc, Bool, true, false, nat_le, ◌==◌, ◌&&◌, not, if◌then◌else◌, List, [], ◌∷◌, ◌++◌, length, filter, filter_map, map, take, slice_get, slice_set, Option, Some, None, Result}
+use Rattle.std.specs.Prelude.{◌≡◌, ◌+◌, ◌≤◌, ℕ, zero, suc, Bool, true, false, nat_le, ◌==◌, ◌&&◌, not, if◌then◌else◌, List, [], ◌∷◌, ◌++◌, length, filter, filter_map, map, take, slice_get, slice_set, Option, Some, None, Result}
 use Rattle.std.specs.List.{list_all}
 use Rattle.flat_model.specs.Machine.State.{IsConfig, boot}
 use Rattle.flat_model.specs.declared.config.Config.{Config}
@@ -11,7 +11,9 @@ use Rattle.flat_ether.specs.Routes.{is_link}
 use Rattle.flat_ether.specs.declared.error.NetFault.{NetFault}
 use Rattle.flat_ether.specs.declared.link.Link.{Link}
 use Rattle.flat_ether.specs.declared.mac.Mac.{Mac}
-use Rattle.flat_ether.specs.declared.sizes.TheConstants.{ETHER_MTU}
+use Rattle.flat_ether.specs.declared.sizes.TheConstants.{ETHER_HEADER, ETHER_MTU}
+use Rattle.params.specs.declared.TheConstants.{IP_MAX_PACKET}
+use Rattle.flat_model.specs.Machine.Event.{IsBytes}
 use Rattle.ether_host.specs.View.{halves}
 use Rattle.net_stack.specs.Boots.{IsUnbooted}
 use Rattle.net_stack.specs.Stack.{StackView, state_of}
@@ -87,10 +89,14 @@ abbrev pub frames_in : ℕ → Option LinkState → List Flying → List (List �
 frames_in place None flight = []
 frames_in place (Some l) flight = frames_to place l.link.mac flight
 
--- these frames come to a host, one after another
+-- a frame comes to a host
+abbrev pub FrameComes : List ℕ → Host → Host → Type 0
+FrameComes f old new = IsBytes f × (length f ≤ ETHER_HEADER + IP_MAX_PACKET) × Hears f old new
+
+-- these frames come, one after another
 abbrev pub HearEach : List (List ℕ) → Host → Host → Type 0
 HearEach [] old new = new ≡ old
-HearEach (f ∷ later) old new = (mid : Host) × Hears f old mid × HearEach later mid new
+HearEach (f ∷ later) old new = (mid : Host) × FrameComes f old mid × HearEach later mid new
 
 -- What was due came, and the rest is a carry older.
 pub record AreFramesDelivered (old new : SegmentView) : Type 0 where
@@ -123,7 +129,7 @@ pub record IsHostStep (place : ℕ) (R : Host → Host → Type 0) (old new : Se
 
 -- a frame came to it from outside
 abbrev pub IsHeard : ℕ → List ℕ → SegmentView → SegmentView → Type 0
-IsHeard place f old new = IsHostStep place (Hears f) old new
+IsHeard place f old new = IsHostStep place (FrameComes f) old new
 
 -- it was asked for an error of a socket
 abbrev pub IsAskedError : ℕ → ℕ → Result (Option NetFault) Errno → SegmentView → SegmentView → Type 0

@@ -4,6 +4,7 @@ use Rattle.flat_ether.specs.Links.{LinkState}
 use Rattle.ether_host.specs.Inside.{link_seen}
 use Rattle.segment.specs.Inside.{view}
 use Rattle.segment.proofs.Frames.{map_get, map_set}
+use Rattle.segment.proofs.Taking.{are_bytes}
 use Rattle.segment.proofs.Walking.{get_at}
 use Rattle.segment.proofs.segment.Segment.hear.Goals as goal
 
@@ -27,7 +28,8 @@ returns-clause-heard c =
         link_is =
             map_get link_seen c.args.self.now.links.items c.args.place link
             (omega (arith, c.len-else-place-len.ensures, c.if-place-len-2.false)) c.index_mut.ensures.value;
-        goes = c.receive.ensures;
+        goes =
+            (are_bytes c.args.frame.now (λ k. omega (arith, c.type_inv.frame k)), omega arith, c.receive.ensures);
         is =
             ap (λ (links : List LinkState). record v {
               stacks = slice_set v.stacks c.args.place c.receive.new.stack;
