@@ -18,5 +18,6 @@ pub use header::{Header, Order, Resolution};
 pub use laws::{frames_hold_packets, headers_are_read, one_reading, written_is_read};
 pub use link::{NoPacket, ipv4_packet};
 pub use link_type::LinkType;
+pub use numbers::{first_u32, u16_at, u32_at};
 pub use reader::{Capture, Reader, Record, captured_len, first_record, read};
 pub use writer::{LONGEST_PACKET, file_header, record_header};

@@ -6,8 +6,8 @@ ghost use Rattle.pcap.specs.File.{number, number_of};
 use crate::header::Order;
 use byteorder::{BigEndian, ByteOrder, LittleEndian};
 
-/// The number of 16 bits at a place.
-pub(crate) fn u16_at(order: Order, bytes: &[u8], at: usize) -> u16
+/// The number of 16 bits at a place, of which two bytes are there.
+pub fn u16_at(order: Order, bytes: &[u8], at: usize) -> u16
     requires { at + 2 ≤ length bytes.now }
     ensures { result ≡ number_of order w16 (drop at bytes.now) }
 {
@@ -17,8 +17,8 @@ pub(crate) fn u16_at(order: Order, bytes: &[u8], at: usize) -> u16
     }
 }
 
-/// The number of 32 bits at a place.
-pub(crate) fn u32_at(order: Order, bytes: &[u8], at: usize) -> u32
+/// The number of 32 bits at a place, of which four bytes are there.
+pub fn u32_at(order: Order, bytes: &[u8], at: usize) -> u32
     requires { at + 4 ≤ length bytes.now }
     ensures { result ≡ number_of order w32 (drop at bytes.now) }
 {
@@ -28,8 +28,8 @@ pub(crate) fn u32_at(order: Order, bytes: &[u8], at: usize) -> u32
     }
 }
 
-/// The number of 32 bits in front, and the bytes behind it.
-pub(crate) fn first_u32(order: Order, bytes: &[u8]) -> (u32, &[u8])
+/// The number of 32 bits in front, of which four bytes are there, and the bytes behind it.
+pub fn first_u32(order: Order, bytes: &[u8]) -> (u32, &[u8])
     requires { 4 ≤ length bytes.now }
     ensures front { bytes.now ≡ number order w32 result.0 ++ result.1.now }
     ensures number { result.0 ≡ number_of order w32 bytes.now }

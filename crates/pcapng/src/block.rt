@@ -5,8 +5,7 @@ ghost use Rattle.pcapng.specs.Blocks.{Reading, Steps, block_bytes, head_of, next
 ghost use Rattle.pcapng.specs.Seen.{part, stepped};
 
 use crate::fault::{Fault, Why};
-use crate::numbers::{first_u32, u32_at};
-use pcap::Order;
+use pcap::{Order, first_u32, u32_at};
 use std::marker::Model;
 
 /// The type of a section's header (section 4.1). It's the same in both orders of bytes.

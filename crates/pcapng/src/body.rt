@@ -6,8 +6,7 @@ ghost use Rattle.pcapng.specs.Seen.{enhanced, plain};
 
 use crate::block::Block;
 use crate::fault::BodyFault;
-use crate::numbers::{u16_at, u32_at};
-use pcap::{LinkType, Order};
+use pcap::{LinkType, Order, u16_at, u32_at};
 
 /// The code of the option if_tsresol.
 const IF_TSRESOL: u16 = 9;

@@ -8,7 +8,6 @@ mod block;
 mod body;
 mod fault;
 mod laws;
-mod numbers;
 
 pub use block::{BYTE_ORDER_MAGIC, Block, Reader, SECTION_HEADER, block_head, first_block};
 pub use body::{EnhancedPacket, Interface, Section, SimplePacket};
