@@ -4,6 +4,8 @@
 const LINKS = { 1: 14, 101: 0, 228: 0, 12: 0, 0: 4, 108: 4, 113: 16, 276: 20 };
 const MOST_RECORDS = 300, MOST_PORTS = 60;
 
+const word16 = (bytes, at) => ((bytes[at] || 0) << 8) | (bytes[at + 1] || 0);
+
 // The IPv4 packet in a frame, or null.
 function ipIn(link, frame) {
   let at = LINKS[link];
@@ -86,13 +88,6 @@ function commonest(all) {
   return [...counts].sort((a, b) => b[1] - a[1]).map(([it]) => it)[0];
 }
 
-// Whether a packet has the sum of the pseudo header alone in the place of its checksum, which the card was to fill in.
-function isLeftToCard(packet) {
-  if (packet.sourcePort === undefined || packet.isFragment) return false;
-  const sum = foldedSum(new Uint8Array(0), pseudoSum(packet.source, packet.destination, packet.total - packet.header));
-  return word16(packet.bytes, packet.header + 6) === sum;
-}
-
 // A script in which the packets of a capture arrive at the machine that most of its datagrams are for. Its ports are
 // bound, and what is delivered is read at once. `counts` says how many records were taken, and of how many.
 function captureScript(engine, records) {
@@ -128,7 +123,7 @@ function takenLines(engine, config, head, taken, ports) {
     const when = time === null ? "" : `, ${(time - first.time).toFixed(6)} s`;
     const cut = whole > bytes.length
       ? ` The capture has ${bytes.length} of its ${whole} bytes: it was cut by the snap length.` : "";
-    const left = isLeftToCard(packet)
+    const left = packet.isLeftToCard
       ? " Its checksum is that of the pseudo header alone: the sender's card was to fill it in." : "";
     const read = reads.filter((_, k) => (replies[own + 1 + k] || "").startsWith("from "))
       .flatMap(line => ["# The datagram is read, so that its buffers are free again.", line]);

@@ -13,6 +13,11 @@ const FAULTS = [
   "write failed: there is no memory for the replies",
 ];
 
+// The numbers of `struct page_header`, in their order (crates/page).
+const HEADER = ["parts", "version", "words", "service", "total", "id", "flags", "offset", "ttl", "protocol", "sum",
+  "rightSum", "source", "destination", "sourcePort", "destinationPort", "udpLength", "udpSum", "rightUdpSum",
+  "pseudoSum"];
+
 class Engine {
   constructor(module) {
     this.module = module;
@@ -22,6 +27,7 @@ class Engine {
 
   static async load(bytes) {
     const engine = new Engine(await WebAssembly.compile(bytes));
+    PROGRAM.engine = engine;
     askMeanings(engine);
     return engine;
   }
@@ -97,6 +103,31 @@ class Engine {
   // The capture of the packets that come and go by a script of one machine, as `bytes`.
   capture(config, script) {
     return this.serve(this.calls.bsdudp_page_capture, machineOf(config), script);
+  }
+
+  // What the answers of a hand-in are worth beside those of a key, as `bsdplay --grade` counts them.
+  marks(key, hand) {
+    const [wanted, given] = [key, hand].map(text => new TextEncoder().encode(text));
+    return this.lend(wanted, from =>
+      this.lend(given, of =>
+        this.lend(new Uint8Array(32), to => {
+          const code = this.calls.bsdudp_page_marks(from, BigInt(wanted.length), of, BigInt(given.length), to);
+          if (code) throw new Error(FAULTS[code]);
+          const view = new DataView(this.calls.memory.buffer, Number(to), 32);
+          const [right, wrong, missing, first] = [0, 8, 16, 24].map(at => Number(view.getBigUint64(at, true)));
+          return { right, wrong, missing, first };
+        })));
+  }
+
+  // What the headers of a packet say, by the names of HEADER.
+  header(packet) {
+    return this.lend(packet, from =>
+      this.lend(new Uint8Array(4 * HEADER.length), to => {
+        const code = this.calls.bsdudp_page_header(from, BigInt(packet.length), to);
+        if (code) throw new Error(FAULTS[code]);
+        const view = new DataView(this.calls.memory.buffer, Number(to), 4 * HEADER.length);
+        return Object.fromEntries(HEADER.map((name, i) => [name, view.getUint32(4 * i, true)]));
+      }));
   }
 
   // The outcome and the replies of a script of `bsdudp chain`.

@@ -148,6 +148,86 @@ function expectHere(i, guess) {
   byId("forth").focus();
 }
 
+// ---- the questions of an exercise
+
+// What is asked at its end, and the key's line of the same question.
+function asksOf() {
+  if (!isExercise()) return [];
+  const wanted = new Map(readNotes(page.known.text).asks.map(it => [it.text, it.line]));
+  return page.notes.asks.filter(it => wanted.has(it.text)).map(it => ({ ...it, key: wanted.get(it.text) }));
+}
+
+// A question, with a field for its answer. The program compares that with the key's.
+function askView({ place, line, key, text, answer }, k) {
+  const { right, wrong } = page.engine.marks(key, line);
+  const input = h("input", { id: `ask-${k}`, value: right || wrong ? answer : "", autocomplete: "off",
+    spellcheck: "false" });
+  const form = h("form", { class: "predict", onsubmit(event) {
+    event.preventDefault();
+    answerAsk(place, text, input.value, k);
+  } }, h("label", {}, h("span", {}, /[?.]$/.test(text) ? text : `${text}?`), input),
+  h("button", { type: "submit" }, "Check"));
+  const said = right ? verdict("yes", "✓ Right.") : wrong ? verdict("no", "✗ Not so. Change the lines and see.") : null;
+  const head = k === 0 && h("p", { class: "row-note" }, h("b", {}, "Questions. "),
+    "Answer by a number, or by one word as it's spelt here or in replies.");
+  return h("li", { class: "ask" }, head, form, said);
+}
+
+// Writes an answer behind its question, so that it's in the file that is handed in. The keyboard goes to the next one.
+function answerAsk(place, text, answer, k) {
+  const line = `#? ${text} => ${answer.trim() || "?"}`;
+  byId("script").value = page.notes.all.map((it, i) => (i === place ? line : it)).join("\n") + "\n";
+  replay(page.at);
+  keepText();
+  const mark = byId(`ask-${k}`).closest(".ask").querySelector(".verdict"), next = byId(`ask-${k + 1}`);
+  byId("said").textContent = mark ? mark.textContent : "No answer.";
+  (mark && mark.matches(".yes") && next ? next : byId(`ask-${k}`)).focus();
+}
+
+// What `bsdplay --grade` says of an exercise beside its key.
+function gradeOf() {
+  const { right, wrong, missing } = page.engine.marks(page.known.text, page.text);
+  const isSound = page.steps.every(step => step.kind !== "bad" && (step.expected === null || step.isMet));
+  return `By its key, with the questions: ${right} right, ${wrong} wrong, ${missing} missing`
+    + `${right && !wrong && !missing && isSound ? ": it passes." : "."}`;
+}
+
+// ---- the forms of lines
+
+// How all lines are written, as `bsdplay --help` prints it, and what stands in the place of each word.
+function showForms() {
+  const list = all => h("ul", {}, all.map(it => h("li", {}, h("code", {}, it))));
+  byId("forms-of").replaceChildren(h("h3", {}, "One machine"), list(FORMS.machine),
+    h("h3", {}, "Many machines: ", h("code", {}, "NAME:"), " stands in front of those above"), list(FORMS.wire),
+    h("h3", {}, "Words"), list(FORMS.words));
+}
+
+function seeForms() {
+  showStart(false);
+  showLeft("edit");
+  byId("forms").open = true;
+  byId("forms").querySelector("summary").focus();
+}
+
+// Of a line that did nothing: the command that the program takes it for, and the forms of all lines.
+function mendView({ number, why }) {
+  if (page.mode === "chain") return null;
+  const [, word, meant] = /^`([^`]+)` is no command \(`(\w+)`\?\)$/.exec(why) || [];
+  const mend = () => {
+    const place = page.notes.places[number - 1];
+    byId("script").value = page.notes.all.map((it, i) => (i === place ? it.replace(word, () => meant) : it)).join("\n")
+      + "\n";
+    page.known = isExercise() ? page.known : null;
+    showTitle();
+    replay(page.at);
+    keepText();
+    byId("forth").focus();
+  };
+  return h("p", { class: "answers mend" },
+    meant && h("button", { type: "button", class: "main", onclick: mend }, "Write ", h("code", {}, meant)),
+    h("button", { type: "button", onclick: seeForms }, "How lines are written"));
+}
+
 // How many replies were predicted, and how many of them came.
 function showScore() {
   const all = page.steps.filter(step => step.expected);
@@ -157,7 +237,7 @@ function showScore() {
   if (!isShown) return;
   const said = `${right.length} of ${all.length} expected replies came; `
     + `${page.steps.filter(isUnsolved).length} lines have none.`;
-  byId("score").replaceChildren(said, " ", isExercise() && page.text !== unsolved(page.known.text)
+  byId("score").replaceChildren(said, " ", isExercise() ? `${gradeOf()} ` : "", isExercise() && page.text !== unsolved(page.known.text)
     ? h("button", { type: "button", onclick: anew }, "Begin again") : "");
 }
 
@@ -172,7 +252,7 @@ async function openFile(file) {
   const bytes = new Uint8Array(await file.arrayBuffer());
   const isText = /\.txt$/i.test(file.name) || (file.type === "text/plain" && !/cap/i.test(file.name));
   if (isText) {
-    open(page.mode, { text: new TextDecoder().decode(bytes).replace(/^\ufeff/, ""), options: page.options });
+    openText(file.name.replace(/\.txt$/i, ""), new TextDecoder().decode(bytes).replace(/^\ufeff/, ""));
     return;
   }
   const { fault, records } = readCapture(bytes), script = records && captureScript(page.engine, records);
@@ -184,6 +264,14 @@ async function openFile(file) {
   const { taken, all, ip } = script.counts;
   const head = `# ${file.name}: ${taken} of its ${all} records are for ${script.options.addr}; ${ip} have IPv4.\n`;
   open("run", { text: head + script.text, place: script.place });
+}
+
+// A script; an exercise that was saved is opened as that exercise.
+function openText(name, text) {
+  const exercise = LISTS.exercises.find(it => it.name === name);
+  if (!exercise) return open(page.mode, { text, options: page.options });
+  keep(`text.${name}`, text);
+  return openNamed(exercise);
 }
 
 function listenForFiles() {

@@ -92,8 +92,9 @@ function verdictsOf(step, before, now) {
     all.push(verdict("wait", step.packet.isFragment ? "It waits: the datagram isn't whole yet." : "It was taken."));
   }
   for (const it of step.drops) {
-    all.push(verdict("no", h("b", {}, it.by > 1 ? `${it.by} dropped` : "Dropped"), `: ${causeIn(step, it.name)} (`,
-      h("code", {}, it.name), `)${bothSums(step, it.name)}.`));
+    const cause = causeIn(step, it.name), rule = RULES[cause];
+    all.push(verdict("no", h("b", {}, it.by > 1 ? `${it.by} dropped` : "Dropped"), `: ${cause} (`, h("code", {}, it.name),
+      `)${bothSums(step, it.name)}.`, rule && h("span", { class: "rule" }, `The rule: ${rule}.`)));
   }
   if (step.data) all.push(verdict("yes", "Read: ",
     h("code", {}, step.data.length ? readable(step.data, 60) : "no bytes")));
@@ -103,9 +104,12 @@ function verdictsOf(step, before, now) {
 // Why something was dropped: the program's cause, or else what the counter counts.
 const causeIn = ({ causes }, name) => (causes && causes.get(name)) || COUNTERS[name];
 
-// What is wrong with a line that did nothing.
-const faultVerdict = step => verdict("no", h("b", {}, "It does nothing: "),
-  step.column ? `column ${step.column}, ` : "", `${step.why}.`);
+// What is wrong with a line that did nothing, and the command that was meant.
+const faultVerdict = step => [verdict("no", h("b", {}, "It does nothing: "),
+  step.column ? `column ${step.column}, ` : "", worded(step.why), "."), mendView(step)];
+
+// The program's words, with what stands between backticks as it's written in a script.
+const worded = text => text.split("`").map((part, i) => (i % 2 ? h("code", {}, part) : part));
 
 // Of a wrong checksum: what came, and what would be right.
 function bothSums({ packet, wrongSum }, name) {

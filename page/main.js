@@ -92,8 +92,8 @@ function rowOf(step, i) {
   const told = [note && h("span", { class: "row-note" }, note),
     h("code", {}, step.kind === "bad" ? cut(step.line, 24) || "an empty line" : step.verb), " ", step.tells,
     h("span", { class: "after" },
-      h("code", { class: step.isOk ? "answer" : "answer no" },
-        cut(step.says || step.reply, step.kind === "ask" ? 60 : 44)),
+      h("code", { class: step.isOk ? "answer" : "answer no" }, step.kind === "bad" ? step.says || step.reply
+        : cut(step.says || step.reply, step.kind === "ask" ? 60 : 44)),
       badgesOf(step), markOf(step), h("span", { class: "delta" }, delta))];
   const alone = [isExercise() && note && h("span", { class: "row-note" }, note), askedLine(step),
     h("span", { class: "after" }, h("span", { class: "answer" }, isAsked ? "guess first" : ".."))];
@@ -109,7 +109,7 @@ const askedLine = step => (step.kind === "in" && step.line.length > 60
 
 function refreshRows() {
   findQuestion();
-  byId("rows").replaceChildren(...page.steps.map(rowOf));
+  byId("rows").replaceChildren(...page.steps.map(rowOf), ...asksOf().map(askView));
 }
 
 // What a screen reader says of a line: its place in the script, what became of it, and its note.
@@ -140,6 +140,14 @@ function select(i) {
     ? `line ${page.notes.places[page.at] + 1}: ${cut(step.line, 80)}. A question: ${question.text}` : spoken(step);
   for (const mark of byId("gutter").querySelectorAll(".here")) mark.classList.remove("here");
   byId("gutter").children[page.notes.places[page.at]].classList.add("here");
+}
+
+// Looks at the next line. Behind the last one of an exercise are its questions: whether the keyboard went there.
+function goOn() {
+  const fields = page.at === page.steps.length - 1 ? [...byId("rows").querySelectorAll(".ask input")] : [];
+  if (!fields.length) return select(page.at + 1);
+  (fields.find(it => !it.value) || fields[0]).focus();
+  return true;
 }
 
 // Marks the row of the line that is looked at, and brings it into view.
@@ -404,10 +412,11 @@ function listen() {
     showStart(false);
     openOwn();
   });
+  on("see-forms", "click", seeForms);
   on("capture", "click", () => byId("load").click());
   on("first", "click", () => select(0));
   on("back", "click", () => select(page.at - 1));
-  on("forth", "click", () => select(page.at + 1));
+  on("forth", "click", goOn);
   on("last", "click", () => select(page.steps.length - 1));
   on("make", "click", () => byId("maker").showModal());
   on("packet", "submit", event => { event.preventDefault(); putPacket(); });
@@ -432,7 +441,7 @@ function stepByKey(event) {
   const by = { ArrowDown: 1, ArrowRight: 1, ArrowUp: -1, ArrowLeft: -1 }[event.key];
   if (!by) return;
   event.preventDefault();
-  select(page.at + by);
+  if (by > 0 ? goOn() : select(page.at - 1)) return;
   if (event.target.closest("#rows")) byId("rows").children[page.at].firstChild.focus();
 }
 
@@ -445,6 +454,7 @@ async function begin() {
     return;
   }
   showScripts();
+  showForms();
   listen();
   openLink();
   document.body.dataset.ready = "yes";

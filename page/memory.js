@@ -112,11 +112,12 @@ function number(all, before = []) {
   }
 }
 
-// Of a datagram whose UDP checksum is wrong: what came, and what would be right.
-function datagramSums(bytes, { source, destination }) {
-  const length = word16(bytes, 4), pseudo = pseudoSum(source, destination, length);
-  const right = rightSum(bytes.subarray(0, length), 6, pseudo) || 65535;
-  return sumsSaid(hex16(word16(bytes, 6)), hex16(right));
+// What the headers of a whole datagram say, whose last packet is this one.
+function datagramHeader(packet, bytes) {
+  const whole = new Uint8Array(IP_HEADER + bytes.length);
+  whole.set(packet.bytes.subarray(0, IP_HEADER));
+  whole.set(bytes, IP_HEADER);
+  return headerOf(whole);
 }
 
 // The queues of a stack, line by line.
@@ -230,11 +231,12 @@ class Memory {
   // A datagram without its IP header: its own header goes, and what stands behind its length.
   toUdp({ work, slot, olds = [] }, packet, step, isBroadcast) {
     const { source } = packet, bytes = joined(work.mbufs(slot)), receivers = this.receiversOf(step, isBroadcast);
-    if (has(step, "udp.badsum")) step.wrongSum = datagramSums(bytes, packet);
+    const { sourcePort, udpLength, udpSum, rightUdpSum } = datagramHeader(packet, bytes);
+    if (has(step, "udp.badsum")) step.wrongSum = sumsSaid(hex16(udpSum), hex16(rightUdpSum));
     if (!receivers.length) return;
-    work.cutBack(slot, bytes.length - word16(bytes, 4));
+    work.cutBack(slot, bytes.length - udpLength);
     work.cutFront(slot, UDP_HEADER);
-    this.deliver(work, slot, { ip: source, port: word16(bytes, 0) }, receivers, olds);
+    this.deliver(work, slot, { ip: source, port: sourcePort }, receivers, olds);
   }
 
   // The sockets that got a datagram by this line. Only the program knows, if there are more than one.

@@ -1,6 +1,6 @@
 "use strict";
-// Packets as people read them: IP (RFC 791) and UDP (RFC 768). This is the page's own reading, and no part of the
-// proof.
+// Packets as people read them: IP (RFC 791) and UDP (RFC 768). What the headers say, and which checksums would be right,
+// the program reads (crates/page); here is how the fields are drawn.
 
 const hexOf = bytes => Array.from(bytes, byte => byte.toString(16).padStart(2, "0")).join("");
 const bytesOf = hex => new Uint8Array((hex === "-" ? [] : hex.match(/../g) || []).map(digits => parseInt(digits, 16)));
@@ -18,28 +18,9 @@ function addressIn(text) {
 // The same where what is none counts as 0.0.0.0, as it does for the program.
 const undotted = text => addressIn(text) || 0;
 
-// Bytes that aren't there count as 0, as they do in a checksum.
-const word16 = (bytes, at) => ((bytes[at] || 0) << 8) | (bytes[at + 1] || 0);
-const word32 = (bytes, at) => (word16(bytes, at) * 65536 + word16(bytes, at + 2)) >>> 0;
-
-// The folded sum over all words (RFC 1071): 65,535 where a checksum is right.
-function foldedSum(bytes, start = 0) {
-  let sum = start;
-  for (let at = 0; at < bytes.length; at += 2) sum += word16(bytes, at);
-  while (sum > 65535) sum = (sum & 65535) + (sum >>> 16);
-  return sum;
-}
-
-// The checksum that a field of two bytes has to have, so that all of these sum up to 65,535.
-function rightSum(bytes, at, start = 0) {
-  const blank = Uint8Array.from(bytes);
-  blank.fill(0, at, at + 2);
-  return 65535 - foldedSum(blank, start);
-}
-
-// What UDP's checksum covers beside the datagram.
-const pseudoSum = (source, destination, length) =>
-  (source >>> 16) + (source & 65535) + (destination >>> 16) + (destination & 65535) + 17 + length;
+// What the headers of a packet say, by the program; its module is there once the page has begun.
+const PROGRAM = {};
+const headerOf = bytes => PROGRAM.engine.header(bytes);
 
 // What is said of a wrong checksum.
 const sumsSaid = (came, right) => `${came} came, and ${right} would be right`;
@@ -62,6 +43,7 @@ class Packet {
       this.add("no whole header", 0, bytes.length, "data", "", 32);
       return;
     }
+    this.says = headerOf(bytes);
     this.readHead();
     this.addHead();
     this.readData();
@@ -78,33 +60,28 @@ class Packet {
   }
 
   readHead() {
-    const bytes = this.bytes, flags = bytes[6] >> 5;
-    this.header = (bytes[0] & 15) * 4;
-    this.total = word16(bytes, 2);
-    this.id = word16(bytes, 4);
+    const { words, total, id, flags, offset, protocol, source, destination } = this.says;
+    Object.assign(this, { total, id, offset, protocol, source, destination });
+    this.header = words * 4;
     this.flags = [["reserved", 4], ["DF", 2], ["MF", 1]].filter(([, bit]) => flags & bit).map(([name]) => name);
     this.hasMore = this.flags.includes("MF");
-    this.offset = (word16(bytes, 6) & 0x1fff) * 8;
-    this.isFragment = this.hasMore || this.offset > 0;
-    this.protocol = bytes[9];
-    this.source = word32(bytes, 12);
-    this.destination = word32(bytes, 16);
+    this.isFragment = this.hasMore || offset > 0;
   }
 
+  // A header of more than 5 words is refused before its checksum is looked at.
   addHead() {
-    const bytes = this.bytes, version = bytes[0] >> 4, words = bytes[0] & 15;
-    const head = bytes.subarray(0, Math.max(this.header, 20)), isRight = foldedSum(head) === 65535;
+    const { version, words, service, ttl, sum, rightSum } = this.says, isTested = words === 5;
+    const isRight = isTested && (sum === rightSum || (sum === 65535 && rightSum === 0));
     this.add("version", 0, 1, "size", version, 4, version !== 4);
     this.add("IHL", 0, 1, "size", words, 4, words !== 5);
-    this.add("type of service", 1, 1, "other", bytes[1], 8);
+    this.add("type of service", 1, 1, "other", service, 8);
     this.add("total length", 2, 2, "size", this.total, 16, this.total < 20 || this.total > this.length);
     this.add("identification", 4, 2, "fragment", this.id, 16);
     this.add("flags", 6, 2, "fragment", this.flags.join(" ") || "–", 3);
     this.add("fragment offset", 6, 2, "fragment", this.offset ? `${this.offset} (${this.offset / 8} × 8)` : 0, 13);
-    this.add("time to live", 8, 1, "other", bytes[8], 8);
+    this.add("time to live", 8, 1, "other", ttl, 8);
     this.add("protocol", 9, 1, "other", this.protocol === 17 ? "17 UDP" : this.protocol, 8, this.protocol !== 17);
-    this.add("header checksum", 10, 2, "sum", hex16(word16(bytes, 10)), 16, !isRight, isRight,
-      hex16(rightSum(head, 10)));
+    this.add("header checksum", 10, 2, "sum", hex16(sum), 16, isTested && !isRight, isRight, hex16(rightSum));
     this.add("source address", 12, 4, "source", dotted(this.source), 32);
     this.add("destination address", 16, 4, "destination", dotted(this.destination), 32);
   }
@@ -117,7 +94,7 @@ class Packet {
       at = this.header;
     }
     this.carried = this.bytes.subarray(at, end);
-    const isUdp = this.protocol === 17 && this.offset === 0 && this.carried.length >= 8;
+    const isUdp = this.protocol === 17 && this.offset === 0 && at === 20 && this.carried.length >= 8;
     const to = isUdp ? this.readUdp(at, end) : end;
     this.data = this.bytes.subarray(isUdp ? at + 8 : at, to);
     if (isUdp) at += 8;
@@ -128,14 +105,10 @@ class Packet {
 
   // Adds the UDP header, and answers where the data end.
   readUdp(at, end) {
-    const bytes = this.bytes, length = word16(bytes, at + 4), sum = word16(bytes, at + 6);
-    const fits = length >= 8 && length <= end - at;
-    this.sourcePort = word16(bytes, at);
-    this.destinationPort = word16(bytes, at + 2);
-    const isTested = fits && !this.isFragment && sum !== 0;
-    const pseudo = pseudoSum(this.source, this.destination, length);
-    const datagram = bytes.subarray(at, at + length), isRight = isTested && foldedSum(datagram, pseudo) === 65535;
-    const right = isTested && !isRight ? hex16(rightSum(datagram, 6, pseudo) || 65535) : null;
+    const { sourcePort, destinationPort, udpLength: length, udpSum: sum, rightUdpSum, pseudoSum } = this.says;
+    const fits = length >= 8 && length <= end - at, isTested = fits && !this.isFragment && sum !== 0;
+    const isRight = isTested && sum === rightUdpSum, right = isTested && !isRight ? hex16(rightUdpSum) : null;
+    Object.assign(this, { sourcePort, destinationPort, isLeftToCard: !this.isFragment && sum === pseudoSum });
     this.add("source port", at, 2, "source", this.sourcePort, 16);
     this.add("destination port", at + 2, 2, "destination", this.destinationPort, 16);
     this.add("UDP length", at + 4, 2, "size", length, 16, !this.isFragment && !fits);
@@ -176,6 +149,6 @@ function packetLine(engine, { source, sourcePort, destination, destinationPort, 
   const bytes = packetsIn(engine, DEFAULT_CONFIG, line + "\n").get(1);
   if (fault === "version") bytes[0] = 0x65;
   if (fault === "protocol") bytes[9] = 6;
-  put16(bytes, 10, rightSum(bytes.subarray(0, 20), 10));
+  put16(bytes, 10, headerOf(bytes).rightSum);
   return `rx ${hexOf(fault === "short" ? bytes.subarray(0, -1) : bytes)}`;
 }

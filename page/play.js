@@ -8,13 +8,14 @@ const DEFAULT_CONFIG = configOf(DEFAULTS);
 // ---- what a script says beside its lines
 
 // A comment in front of a line is a note on it, or else the one behind it. "#?" begins a question on the next line, to
-// be answered before its reply is shown; "#-" a wrong answer, and "#+" the right one.
+// be answered before its reply is shown; "#-" a wrong answer, and "#+" the right one. `asks` are the questions without
+// such answers, as exercises have them: theirs stands behind "=>".
 function readNotes(text) {
-  const all = linesOf(text), lines = [], places = [], notes = [], questions = [];
+  const all = linesOf(text), lines = [], places = [], notes = [], questions = [], asked = [];
   let note = [], question = null;
   all.forEach((line, place) => {
     const bare = line.trim(), said = bare.slice(2).trim();
-    if (bare.startsWith("#?")) question = { text: said, answers: [] };
+    if (bare.startsWith("#?")) asked.push(question = { text: said, answers: [], place, line });
     else if (question && /^#[-+]/.test(bare)) question.answers.push({ text: said, isRight: bare[1] === "+" });
     else if (bare.startsWith("#")) note.push(bare.replace(/^#+/, "").trim());
     else if (bare) {
@@ -25,7 +26,14 @@ function readNotes(text) {
       [note, question] = [[], null];
     }
   });
-  return { all, lines, places, notes, questions };
+  const asks = asked.filter(it => !it.answers.length && it.line.startsWith("#?")).map(askIn);
+  return { all, lines, places, notes, questions, asks };
+}
+
+// A question of an exercise: where it stands, what it asks, and what is answered, which the program reads as a line.
+function askIn({ place, line }) {
+  const { asked, wanted } = partsOf(line.slice(2));
+  return { place, line, text: asked, answer: wanted };
 }
 
 // What stands outside texts, up to one of these characters.

@@ -199,12 +199,15 @@ BESIDE = {
     "question": "showStart(false); open('run', { name: '01_a_datagram', place: 2 })",
     "edit": "showLeft('edit')",
     "exercise": "open('run', { name: 'exercise_02_why_dropped', place: 3 }); expectHere(2, 'ok'); select(2)",
+    "questions": "anew(); select(page.steps.length - 1); askedFor(0, '0'); goOn(); byId('rows').scrollTop = 9999",
+    "forms": "anew(); open('run', { text: 'sokcet\\nbind 3 localhost 7\\n' }); seeForms()",
+    "wrong": "showLeft('read'); select(0)",
     "all": "open('run', { name: '09_broadcast_to_two', place: 6 }); page.drawsAll = true; revealAll()",
 }
 
 
 def look_beside(browser, shots):
-    """The card at the beginning, a question, the editor, an exercise, and all queues."""
+    """The card at the beginning, a question, the editor, an exercise with its questions, the forms, and all queues."""
     for name, code in BESIDE.items():
         browser.run(code)
         yield from unnamed(browser, name)

@@ -264,7 +264,8 @@ function faultsOfKeys() {
   byId("make").click();
   putPacket();
   if (page.steps[3].verb !== "rx" || page.at !== 3) faults.push("a packet that was made isn't put in");
-  return [...faults, ...faultsOfMaking(), ...faultsOfWire(), ...faultsOfGuide(), ...faultsOfExercises()];
+  return [...faults, ...faultsOfMaking(), ...faultsOfWire(), ...faultsOfGuide(), ...faultsOfForms(),
+    ...faultsOfExercises()];
 }
 
 // What is no address or no port is refused with the reason, and nothing is put in.
@@ -336,6 +337,35 @@ function faultsOfQuestions({ mode, name, title }) {
     ...(isTold ? [] : [`${title}: a wrong guess isn't told`])];
 }
 
+// Writes an answer into the field of a question, and presses its button. Answers what is said of it.
+function askedFor(k, answer) {
+  const form = byId(`ask-${k}`).form;
+  byId(`ask-${k}`).value = answer;
+  form.querySelector("button").click();
+  const said = byId(`ask-${k}`).closest(".ask").querySelector(".verdict");
+  return said ? said.textContent : "";
+}
+
+// Each question of an exercise is asked once, a wrong answer is told, and the right one taken, to be handed in. With
+// all of them the exercise passes.
+function faultsOfAsks({ title, text }) {
+  const wanted = readNotes(text).asks, faults = [], say = what => faults.push(`exercise ${title}: ${what}`);
+  const fields = byId("rows").querySelectorAll(".ask input");
+  if (!wanted.length || fields.length !== wanted.length) say(`${fields.length} of ${wanted.length} questions are asked`);
+  if ([...fields].some(it => it.value)) say("a question has its answer in it");
+  if (/it passes/.test(byId("score").textContent)) say("it passes without answers to its questions");
+  wanted.forEach(({ text: asked, answer }, k) => {
+    if (!askedFor(k, `${answer}0`).startsWith("✗") || !/ 1 wrong/.test(byId("score").textContent)) {
+      say(`another answer is taken to: ${asked}`);
+    }
+    if (!byId("said").textContent.startsWith("✗")) say("a screen reader doesn't hear of a wrong answer");
+    if (!askedFor(k, ` ${answer} `).startsWith("✓")) say(`the answer isn't taken to: ${asked}`);
+    if (!byId("script").value.includes(`#? ${asked} => ${answer}\n`)) say("an answer isn't in the text");
+  });
+  if (!/it passes/.test(byId("score").textContent)) say(`it doesn't pass: ${byId("score").textContent}`);
+  return faults;
+}
+
 // An exercise has no reply until it's predicted; the right ones are found right, and a wrong one is told.
 function faultsOfExercises() {
   const faults = [];
@@ -345,6 +375,7 @@ function faultsOfExercises() {
     if (/=>/.test(byId("script").value)) faults.push(`exercise ${title} has replies in it`);
     const wanted = readNotes(text).lines.map(line => partsOf(line).wanted);
     wanted.forEach((reply, i) => reply !== null && expectHere(i, reply));
+    faults.push(...faultsOfAsks({ title, text }));
     const count = wanted.filter(reply => reply !== null).length;
     if (!byId("score").textContent.startsWith(`${count} of ${count} `)) {
       faults.push(`exercise ${title} isn't found right: ${byId("score").textContent}`);
@@ -359,6 +390,29 @@ function faultsOfExercises() {
     if (!/^0 of 1 /.test(byId("score").textContent)) faults.push(`exercise ${title}: a wrong reply is taken`);
     anew();
   }
+  return faults;
+}
+
+// The forms are those of the help, and can be reached from the card and from a wrong line; of that it's said what was
+// meant, and a press of a button mends it.
+function faultsOfForms() {
+  const faults = [], forms = [...byId("forms-of").querySelectorAll("li")].map(it => it.textContent);
+  if (!forms.includes("bind FD ADDR PORT") || !forms.includes("carry [all] [N]") || forms.length < 35) {
+    faults.push(`the forms of lines are ${forms.join("; ")}`);
+  }
+  open("run", { text: "sokcet\nbind 3 localhost 7\n" });
+  const row = byId("rows").children[1].textContent, advice = "localhost is no ADDR (as 10.0.0.2): bind FD ADDR PORT";
+  select(1);
+  const says = byId("look").textContent;
+  if (!row.replaceAll("`", "").includes(advice) || !says.includes(advice)) faults.push(`of a wrong line it's said: ${row}`);
+  select(0);
+  byId("look").querySelector(".mend .main").click();
+  if (page.steps[0].says !== "ok 3" || page.at !== 0) faults.push("a command that was meant isn't written");
+  select(1);
+  byId("look").querySelector(".mend button").click();
+  const isOpen = byId("forms").open && document.activeElement === byId("forms").querySelector("summary");
+  if (!isOpen || !isSeen(byId("forms-of"))) faults.push("the forms of lines aren't opened by a wrong line");
+  showLeft("read");
   return faults;
 }
 

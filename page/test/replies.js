@@ -108,6 +108,83 @@ function tryOwn(script, { steps, own, ends }) {
 // Scripts that name a file, and those that have wrong lines.
 const OTHERS = ["played_in.txt", "borders.txt", "bytes.txt", "other_line_ends.txt"];
 
+// The marks of a key beside itself, and of the exercise that is handed out: counted by hand in their texts. Those of
+// hand-ins in which lines are changed, lost and added are those of `bsdplay --grade`.
+function tryMarks(engine, script) {
+  const key = fs.readFileSync(script, "utf8"), all = page.linesOf(key), isAnswered = line => /^[^#].*=>|^#\?.*=>/.test(line);
+  const total = all.filter(isAnswered).length, first = all.findIndex(isAnswered) + 1;
+  const blank = fs.readFileSync(path.join(examples, "exercises", path.basename(script)), "utf8");
+  const said = hand => Object.values(engine.marks(key, hand)).join();
+  if (said(key) !== `${total},0,0,0`) fault(script, `beside itself its marks are ${said(key)}`);
+  if (said(blank) !== `0,0,${total},${first}`) fault(script, `its exercise has the marks ${said(blank)}`);
+  if (said("") !== `0,0,${total},${first}`) fault(script, `an empty hand-in has the marks ${said("")}`);
+  const changes = [line => `${line} more`, () => "", line => `${line}\n${line}`, line => line.replace(/=>.*/, "=> _")];
+  const below = numbers(total);
+  const changed = () => all.map(line => (isAnswered(line) && below(4) === 0 ? changes[below(4)](line) : line)).join("\n");
+  for (let i = 0; player && i < 4; i++) tryGraded(script, changed(), said);
+}
+
+// One hand-in, graded by the native program.
+function tryGraded(script, hand, said) {
+  const home = fs.mkdtempSync(path.join(os.tmpdir(), "bsdudp-"));
+  try {
+    fs.writeFileSync(path.join(home, "hand.txt"), hand);
+    const words = ["--grade", "--csv", "--key", script, path.join(home, "hand.txt")];
+    const { stdout } = child.spawnSync(player, words, { maxBuffer: 1 << 28 });
+    const [, , right, wrong, missing, first] = stdout.toString().split("\n")[1].split(",");
+    const marks = [right, wrong, missing, first || 0].join();
+    if (said(hand) !== marks) fault(script, `the marks of a hand-in are ${said(hand)}, and by bsdplay ${marks}`);
+  } finally {
+    fs.rmSync(home, { recursive: true });
+  }
+}
+
+// ---- headers
+
+// The checksum of words (RFC 1071) as what is missing to a multiple of 65,535. A sum of nothing is 0.
+function sumOver(bytes) {
+  const all = bytes.length % 2 ? [...bytes, 0] : [...bytes];
+  const total = all.reduce((n, byte, i) => n + (i % 2 ? byte : 256 * byte), 0);
+  return total ? (65535 - (total % 65535)) % 65535 : 65535;
+}
+
+// What the headers of a packet say, worked out anew.
+function headerBy(bytes) {
+  const at = i => bytes[i], word = i => 256 * at(i) + at(i + 1), long = i => 65536 * word(i) + word(i + 2);
+  const names = ["parts", "version", "words", "service", "total", "id", "flags", "offset", "ttl", "protocol", "sum",
+    "rightSum", "source", "destination", "sourcePort", "destinationPort", "udpLength", "udpSum", "rightUdpSum",
+    "pseudoSum"];
+  const all = [0];
+  if (bytes.length >= 20) {
+    const head = sumOver([...bytes.slice(0, 10), 0, 0, ...bytes.slice(12, 20)]);
+    all.splice(0, 1, 1, at(0) >> 4, at(0) & 15, at(1), word(2), word(4), at(6) >> 5, (word(6) & 8191) * 8, at(8), at(9),
+      word(10), head, long(12), long(16));
+  }
+  if (bytes.length >= 28) {
+    const length = word(24), pseudo = [...bytes.slice(12, 20), 0, 17, at(24), at(25)];
+    const data = bytes.slice(28, Math.max(28, 20 + length));
+    const right = sumOver([...pseudo, ...bytes.slice(20, 26), 0, 0, ...data]);
+    all[0] = 2;
+    all.push(word(20), word(22), length, word(26), right || 65535, 65535 - sumOver(pseudo));
+  }
+  return Object.fromEntries(names.map((name, i) => [name, all[i] || 0]));
+}
+
+// The headers of packets of all lengths up to 80 bytes, some of them with sums that borrow to the end.
+function tryHeaders(engine) {
+  const below = numbers(7), packets = [];
+  for (let n = 0; n <= 80; n++) for (const limit of [256, 256, 2, 1]) {
+    const bytes = Array.from({ length: n }, () => (limit === 1 ? 255 : below(limit)));
+    if (n > 25 && limit > 1) bytes.splice(24, 2, 0, below(80));
+    packets.push(bytes);
+  }
+  for (const bytes of packets) {
+    const [got, wanted] = [engine.header(Uint8Array.from(bytes)), headerBy(bytes)].map(it => JSON.stringify(it));
+    if (got !== wanted) return fault(`the headers of ${page.hexOf(bytes)}`, `${wanted} is right, and ${got} is told`);
+  }
+  return null;
+}
+
 // Each exercise, with all that is expected in it, comes as it's expected; and each other reply is found out.
 function tryExercise(engine, script) {
   const { steps } = tryScript(engine, "run", script), all = page.linesOf(fs.readFileSync(script, "utf8"));
@@ -461,6 +538,8 @@ async function main() {
   }
   const exercises = scriptsOf(path.join(examples, "play")).filter(it => /exercise_/.test(it));
   for (const script of exercises) tryExercise(engine, script);
+  for (const script of exercises) tryMarks(engine, script);
+  tryHeaders(engine);
   for (const script of [...scriptsOf(path.join(examples, "play")), ...scriptsOf(path.join(examples, "play", "wire"))]) {
     if (!exercises.includes(script) && !OTHERS.includes(path.basename(script))) tryScript(engine, "run", script);
   }

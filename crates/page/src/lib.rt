@@ -15,12 +15,16 @@ ghost use Rattle.chain_script.specs.Boots as chain_sizes;
 ghost use Rattle.page.specs.Told.{Drawn, Told, machine_config, sizes_of};
 
 mod handed;
+mod headers;
+mod marks;
 mod play;
 mod settings;
 
 use chain_script::{draw_slot, run_chains};
 use handed::{hand_over, number_of};
+pub use headers::{PageHeader, bsdudp_page_header};
 use link_script::{RunFault, run};
+pub use marks::{PageMarks, bsdudp_page_marks};
 pub use play::{bsdudp_page_capture, bsdudp_page_hosts, bsdudp_page_play};
 pub use settings::{PageMachine, PagePool};
 use std::alloc::Global;

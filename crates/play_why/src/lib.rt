@@ -27,6 +27,7 @@ pub use judge::{Arrival, Judge};
 pub use ports::MOST_PORTS;
 pub use rooms::Rooms;
 pub use seen::Seen;
+pub use sums::{COVERED, pseudo_sum, right_header_sum, right_udp_sum, u32_at};
 
 /// Room for what is told of a record.
 pub const FATE: usize = 131_072;

@@ -35,9 +35,10 @@ pub(crate) fn word_digits(n: u16) -> [u8; 4]
     ]
 }
 
-/// The checksum that a header of 20 bytes would have.
+/// The checksum that the first 20 bytes of a packet would have as its header (RFC 791, section 3.1). `covered` is room
+/// to work in.
 #[tactic(auto, unfolding(crate::specs::Values::right_header_sum))]
-pub(crate) fn right_header_sum(packet: &[u8], covered: &mut Buffer<COVERED>) -> u16
+pub fn right_header_sum(packet: &[u8], covered: &mut Buffer<COVERED>) -> u16
     requires { IP_HEADER ≤ length packet.now }
     ensures { result ≡ texts.right_header_sum packet.now }
 {
@@ -76,8 +77,8 @@ fn pseudo_header(source: u32, destination: u32, n: u16) -> [u8; 12]
     bytes
 }
 
-/// The number in the four bytes from a place on.
-pub(crate) fn u32_at(bytes: &[u8], at: usize) -> u32
+/// The number in the four bytes from a place on, the high byte first.
+pub fn u32_at(bytes: &[u8], at: usize) -> u32
     requires { at + 4 ≤ length bytes.now }
     ensures { result ≡ header.u32_at at bytes.now }
 {
@@ -112,9 +113,10 @@ fn sent_by(datagram: &[u8]) -> &[u8]
     &rest[..end.saturating_sub(8)]
 }
 
-/// The checksum that a datagram of 8 bytes or more would have.
+/// The checksum that a datagram of 8 bytes or more would have, by its UDP length, under the addresses of a packet (RFC
+/// 768). `covered` is room to work in.
 #[tactic(auto, unfolding(crate::specs::Values::right_udp_sum))]
-pub(crate) fn right_udp_sum(packet: &[u8], datagram: &[u8], covered: &mut Buffer<COVERED>) -> u16
+pub fn right_udp_sum(packet: &[u8], datagram: &[u8], covered: &mut Buffer<COVERED>) -> u16
     requires packet { IP_HEADER ≤ length packet.now }
     requires datagram { UDP_HEADER ≤ length datagram.now }
     ensures { result ≡ texts.right_udp_sum packet.now datagram.now }
@@ -127,9 +129,9 @@ pub(crate) fn right_udp_sum(packet: &[u8], datagram: &[u8], covered: &mut Buffer
     not_zero(checksum(covered.as_slice()))
 }
 
-/// The sum of the pseudo header alone.
+/// The sum of the pseudo header alone, which stands for the checksum if the sender's card was to fill it in.
 #[tactic(auto, unfolding(crate::specs::Values::pseudo_sum))]
-pub(crate) fn pseudo_sum(packet: &[u8], datagram: &[u8]) -> u16
+pub fn pseudo_sum(packet: &[u8], datagram: &[u8]) -> u16
     requires packet { IP_HEADER ≤ length packet.now }
     requires datagram { UDP_HEADER ≤ length datagram.now }
     ensures { result ≡ texts.pseudo_sum packet.now datagram.now }
