@@ -87,15 +87,17 @@ function poolBar(name, total, owners) {
 }
 
 // The curve of mbufs in use, line by line, with the line that is looked at.
-function curve(steps, here, choose) {
-  const width = 300, height = 34, most = Math.max(1, ...steps.map(step => step.pool.used));
+function curve(steps, here, choose, known) {
+  const seen = steps.slice(0, known), width = 300, height = 34;
+  const most = Math.max(1, ...seen.map(step => step.pool.used));
   const x = i => (i * width) / Math.max(1, steps.length - 1),
     y = step => height - 2 - ((height - 5) * step.pool.used) / most;
-  const line = steps.map((step, i) => `L${x(i).toFixed(1)} ${y(step).toFixed(1)}`).join("");
-  const label = `mbufs in use after each line: at most ${most}, now ${steps[here].pool.used}`;
+  const line = seen.map((step, i) => `L${x(i).toFixed(1)} ${y(step).toFixed(1)}`).join("");
+  const now = here < known ? `, now ${steps[here].pool.used}` : "";
+  const label = `mbufs in use after each line: at most ${most}${now}`;
   const picture = svg("svg",
     { viewBox: `0 0 ${width} ${height}`, preserveAspectRatio: "none", role: "img", "aria-label": label },
-    svg("path", { d: `M0 ${height}${line}L${width} ${height}z`, class: "area" }),
+    svg("path", { d: `M0 ${height}${line}L${x(known - 1).toFixed(1)} ${height}z`, class: "area" }),
       svg("path", { d: `M${x(here)} 0V${height}`, class: "here" }));
   picture.addEventListener("click", event => {
     const box = picture.getBoundingClientRect();

@@ -128,7 +128,7 @@ function select(i) {
   page.at = Math.max(0, Math.min(page.steps.length - 1, i));
   const step = page.steps[page.at], question = questionOf(page.at);
   showRow();
-  byId("curve").replaceChildren(...curve(page.steps, page.at, select));
+  byId("curve").replaceChildren(...curve(page.steps, page.at, select, page.firstQuestion ?? page.steps.length));
   const views = question ? [questionView(step, page.at, question)] : PLAYS[page.mode].view(page, step).filter(Boolean);
   const guess = !question && guessView(page.at);
   if (guess) views[0].append(guess);

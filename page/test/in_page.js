@@ -328,7 +328,8 @@ function faultsOfQuestions({ mode, name, title }) {
   if (i === null) return [`${title} asks nothing`];
   select(i);
   const row = byId("rows").children[i], isHidden = !row.textContent.includes(page.steps[i].reply)
-    && !document.querySelector("#look .mbuf-figure, #look .reply") && document.querySelector("#look .predict");
+    && !document.querySelector("#look .mbuf-figure, #look .reply") && document.querySelector("#look .predict")
+    && !/ now /.test(byId("curve").querySelector("svg").getAttribute("aria-label"));
   const wrong = page.notes.questions[i].answers.findIndex(it => !it.isRight);
   document.querySelectorAll(".predict input")[wrong].click();
   document.querySelector(".predict .main").click();
