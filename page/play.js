@@ -70,20 +70,29 @@ function digitsOf(engine, texts) {
   return engine.play(DEFAULT_CONFIG, script).objects.map(it => it.expected);
 }
 
+// A line without the time in front of it, and how many ticks that is.
+function timedOf(line) {
+  const [, seconds, plain] = /^\+(\d+(?:\.5)?)s (.*)$/.exec(line) || [];
+  return plain === undefined ? { ticks: 0, plain: line } : { ticks: 2 * seconds, plain };
+}
+
+const whenOf = ticks => (ticks ? `, after ${ticks / 2} s` : "");
+
 const SEND = /^(sendto \S+ \S+ \S+|send \S+) (.+)$/;
 
 // The lines of `bsdudp run` that each line of a machine stands for: none of one that is shown, or that isn't played.
 function runLines(engine, config, script, objects) {
-  const packets = packetsIn(engine, config, script);
-  const sends = objects.map(it => (it.fault ? null : SEND.exec(it.line))).filter(Boolean);
+  const packets = packetsIn(engine, config, script), all = objects.map(it => timedOf(it.fault ? "" : it.line));
+  const sends = all.map(it => SEND.exec(it.plain)).filter(Boolean);
   const digits = digitsOf(engine, sends.map(it => it[2]));
-  return objects.map(it => {
-    if (it.fault || /^(show |--|rx pcap )/.test(it.line)) return [];
-    const [, ticks] = /^tick (\d+)$/.exec(it.line) || [], send = SEND.exec(it.line);
+  const own = (it, line) => {
+    if (it.fault || /^(show |--|rx pcap )/.test(line)) return [];
+    const [, ticks] = /^tick (\d+)$/.exec(line) || [], send = SEND.exec(line);
     if (ticks) return Array(+ticks).fill("tick");
     if (send) return [`${send[1]} ${digits.shift()}`];
-    return [it.line.startsWith("rx ") ? `rx ${hexOf(packets.get(it.number)) || "-"}` : it.line];
-  });
+    return [line.startsWith("rx ") ? `rx ${hexOf(packets.get(it.number)) || "-"}` : line];
+  };
+  return objects.map((it, i) => [...Array(all[i].ticks).fill("tick"), ...own(it, all[i].plain)]);
 }
 
 // ---- the steps of a script of one machine
@@ -115,14 +124,18 @@ function tracePlay(engine, text) {
 // What is shown of a line: what the program answered, beside what its lines of `bsdudp run` did.
 function stepOf(it, text, ran, last, config) {
   const said = { line: it.line || partsOf(text).asked, ...answerOf(it), ...wantedOf(it, text) };
-  if (ran.length === 1) return { ...last, ...said, causes: causesOf(said.says, last.drops) };
+  const { ticks, plain } = timedOf(said.line);
+  if (ran.length === 1 && !ticks) return { ...last, ...said, causes: causesOf(said.says, last.drops) };
   const pool = last ? last.pool : emptyPool(config), counters = last ? last.counters : {};
   const step = { drops: [], changed: [], before: pool, pool, counters, ...said };
   if (!ran.length) return { ...step, ...otherOf(said) };
   const by = name => sumOf(ran.flatMap(one => one.changed).filter(one => one.name === name), "by");
   const changed = counterNames(ran).map(name => ({ name, by: by(name) })).filter(one => one.by !== 0);
-  return { ...last, ...said, before: ran[0].before, changed, drops: changed.filter(({ name }) => DROPS.has(name)),
-    tells: `${ran.length} half seconds pass` };
+  const all = { before: ran[0].before, changed, drops: changed.filter(({ name }) => DROPS.has(name)) };
+  if (!ticks) return { ...last, ...said, ...all, tells: `${ran.length} half seconds pass` };
+  const own = ran.length > ticks ? { ...last, causes: causesOf(said.says, last.drops) }
+    : { ...step, ...otherOf({ ...said, line: plain }) };
+  return { ...own, ...said, ...all, tells: own.tells + whenOf(ticks) };
 }
 
 // The program's words for what was dropped, each with its counter.

@@ -41,8 +41,8 @@ function lookInto(engine, objects) {
   const lines = [], places = [], names = [];
   let isJoined = false;
   for (const it of objects) {
-    const isDone = !it.fault, [verb, name] = isDone ? it.line.split(" ") : [];
-    const asked = isDone ? halvesOf(it.line) : [];
+    const isDone = !it.fault, { ticks, plain } = timedOf(isDone ? it.line : ""), [verb, name] = plain.split(" ");
+    const asked = isDone ? [...(ticks ? [`tick ${ticks}`] : []), ...halvesOf(plain)] : [];
     if (verb === "host") names.push(name);
     if (verb === "wire") isJoined = true;
     const from = lines.length;
@@ -88,9 +88,10 @@ class WirePlay {
     const was = this.counts();
     this.moved = [];
     this.flights = [...views.flights];
-    const [, name, plain] = HOST_LINE.exec(it.line || "") || [];
+    const { ticks, plain: line } = timedOf(it.line || ""), [, name, plain] = HOST_LINE.exec(line) || [];
+    if (ticks) this.act(`tick ${ticks}`);
     if (!it.fault && name) this.hosts.get(name).lines.push(...this.runs[i]);
-    if (!it.fault && !name) this.act(it.line);
+    if (!it.fault && !name) this.act(line);
     const wire = { joined: this.joined, flight: this.flight, chances: this.chances };
     return { host: it.fault ? null : name || null, plain, moved: this.moved, wire, was, now: this.counts(),
       states: views.states };
@@ -171,12 +172,13 @@ class WirePlay {
 
 // The objects as if each line of a host stood alone.
 function aloneOf(objects) {
-  return objects.map(it => ({ ...it, line: it.fault ? "" : (HOST_LINE.exec(it.line) || ["", "", "show "])[2] }));
+  const plainOf = it => (HOST_LINE.exec(timedOf(it.line).plain) || ["", "", "show "])[2];
+  return objects.map(it => ({ ...it, line: it.fault ? "" : plainOf(it) }));
 }
 
 // The lines of the machines in a script without names in front, for the packets in it.
 const aloneText = text => linesOf(text).map(line => {
-  const [, plain] = /^\s*\w+:\s*(rx .*)$/.exec(line) || [];
+  const [, plain] = /^\s*(?:\+\S+\s+)?\w+:\s*(rx .*)$/.exec(line) || [];
   return (plain || "") + "\n";
 }).join("");
 
@@ -206,17 +208,21 @@ function hostStep(it, i, text, played, hosts) {
   const changed = changesOf(step, played[i - 1], hosts), drops = changed.filter(({ name }) => DROPS.has(name));
   const used = at => ({ used: at ? sumOf([...at.states.values()].map(one => one.pool), "used") : 0 });
   const common = { changed, drops, before: used(played[i - 1]), pool: used(step) };
-  const [verb, ...words] = (step.plain || step.line).split(" "), bad = step.column !== undefined;
+  const { ticks, plain } = timedOf(step.line), bad = step.column !== undefined;
+  const [verb, ...words] = (step.plain || plain).split(" ");
   if (bad) return { ...step, ...common, ...otherOf(step) };
   if (!step.host) {
     const lost = step.moved.filter(one => one.fate !== "delivered").length;
     const marks = lost ? [{ host: null, name: "lost on the wire", by: lost, isLost: true }] : [];
     const [kind, tells] = WIRE_TELLS[verb] ? WIRE_TELLS[verb](words) : ["call", words.join(" ")];
-    return { ...step, ...common, changed: [...changed, ...marks], kind, verb, tells, reply: it.reply };
+    const all = [...changed, ...marks], told = tells + whenOf(ticks);
+    return { ...step, ...common, changed: all, kind, verb, tells: told, reply: it.reply };
   }
-  const n = step.now.get(step.host), of = n > step.was.get(step.host) ? hosts.get(step.host).steps[n - 1] : null;
+  const n = step.now.get(step.host), isRun = n > step.was.get(step.host) + ticks;
+  const of = isRun ? hosts.get(step.host).steps[n - 1] : null;
   const alone = of || { ...otherOf({ line: step.plain, isOk: step.isOk, reply: it.reply }), drops: [], changed: [] };
-  return { ...alone, reply: it.reply, ...step, ...common, of, verb: `${step.host}: ${alone.verb}` };
+  return { ...alone, reply: it.reply, ...step, ...common, of, verb: `${step.host}: ${alone.verb}`,
+    tells: alone.tells + whenOf(ticks) };
 }
 
 // What changed at the machines by a step, each counter with its machine.
