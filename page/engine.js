@@ -55,9 +55,10 @@ class Engine {
     return answer;
   }
 
-  // Calls the export with a script, and a second time with more room where what it hands over didn't fit.
+  // Calls the export with a script, or with a file, and a second time with more room where what it hands over didn't
+  // fit.
   serve(call, settings, script) {
-    const text = new TextEncoder().encode(script);
+    const text = typeof script === "string" ? new TextEncoder().encode(script) : script;
     try {
       for (;;) {
         const answer = this.try(call, settings, text);
@@ -80,7 +81,7 @@ class Engine {
             const code = call(about, from, BigInt(text.length), to, BigInt(room.length), length);
             const bytes = Number(new DataView(this.calls.memory.buffer).getBigUint64(Number(length), true));
             if (bytes > room.length) return { length: bytes };
-            return { code, bytes: this.bytes(to, bytes).slice() };
+            return { code, bytes: this.bytes(to, bytes).slice(), about: this.bytes(about, settings.length).slice() };
           }))));
   }
 
@@ -117,6 +118,14 @@ class Engine {
           const [right, wrong, missing, first] = [0, 8, 16, 24].map(at => Number(view.getBigUint64(at, true)));
           return { right, wrong, missing, first };
         })));
+  }
+
+  // The records of a capture, and what is wrong with the file: no text if nothing is.
+  records(file) {
+    const call = (about, ...more) => this.calls.bsdudp_page_records(...more, about);
+    const { code, bytes, about } = this.serve(call, new Uint8Array(16), file);
+    if (code) throw new Error(FAULTS[code]);
+    return recordsIn(bytes, Number(new DataView(about.buffer).getBigUint64(8, true)));
   }
 
   // What the headers of a packet say, by the names of HEADER.

@@ -215,8 +215,8 @@ function mendView({ number, why }) {
   const [, word, meant] = /^`([^`]+)` is no command \(`(\w+)`\?\)$/.exec(why) || [];
   const mend = () => {
     const place = page.notes.places[number - 1];
-    byId("script").value = page.notes.all.map((it, i) => (i === place ? it.replace(word, () => meant) : it)).join("\n")
-      + "\n";
+    const lines = page.notes.all.map((it, i) => (i === place ? it.replace(word, () => meant) : it));
+    byId("script").value = lines.join("\n") + "\n";
     page.known = isExercise() ? page.known : null;
     showTitle();
     replay(page.at);
@@ -237,7 +237,8 @@ function showScore() {
   if (!isShown) return;
   const said = `${right.length} of ${all.length} expected replies came; `
     + `${page.steps.filter(isUnsolved).length} lines have none.`;
-  byId("score").replaceChildren(said, " ", isExercise() ? `${gradeOf()} ` : "", isExercise() && page.text !== unsolved(page.known.text)
+  const graded = isExercise() ? `${gradeOf()} ` : "";
+  byId("score").replaceChildren(said, " ", graded, isExercise() && page.text !== unsolved(page.known.text)
     ? h("button", { type: "button", onclick: anew }, "Begin again") : "");
 }
 
@@ -249,21 +250,23 @@ function anew() {
 // ---- captures
 
 async function openFile(file) {
-  const bytes = new Uint8Array(await file.arrayBuffer());
+  const bytes = await unpacked(file);
   const isText = /\.txt$/i.test(file.name) || (file.type === "text/plain" && !/cap/i.test(file.name));
   if (isText) {
     openText(file.name.replace(/\.txt$/i, ""), new TextDecoder().decode(bytes).replace(/^\ufeff/, ""));
     return;
   }
-  const { fault, records } = readCapture(bytes), script = records && captureScript(page.engine, records);
-  const wrong = fault || script.fault;
-  if (wrong) {
-    byId("trouble").textContent = `${file.name}: ${wrong}`;
+  const { fault, records } = page.engine.records(bytes), script = captureScript(page.engine, records);
+  const told = `${file.name}: ${records.length ? script.fault || fault : fault || script.fault}`;
+  if (script.fault) {
+    byId("trouble").textContent = told;
     return;
   }
-  const { taken, all, ip } = script.counts;
-  const head = `# ${file.name}: ${taken} of its ${all} records are for ${script.options.addr}; ${ip} have IPv4.\n`;
+  const { taken, all, ip } = script.counts, ended = fault && ` Reading ended: ${fault}.`;
+  const head = `# ${file.name}: ${taken} of its ${all} records are for ${script.options.addr}; ${ip} have IPv4.`
+    + `${ended}\n`;
   open("run", { text: head + script.text, place: script.place });
+  if (fault) byId("trouble").textContent = `${told}. The records in front of that are here.`;
 }
 
 // A script; an exercise that was saved is opened as that exercise.

@@ -93,8 +93,9 @@ function verdictsOf(step, before, now) {
   }
   for (const it of step.drops) {
     const cause = causeIn(step, it.name), rule = RULES[cause];
-    all.push(verdict("no", h("b", {}, it.by > 1 ? `${it.by} dropped` : "Dropped"), `: ${cause} (`, h("code", {}, it.name),
-      `)${bothSums(step, it.name)}.`, rule && h("span", { class: "rule" }, `The rule: ${rule}.`)));
+    const many = it.by > 1 ? `${it.by} dropped` : "Dropped";
+    all.push(verdict("no", h("b", {}, many), `: ${cause} (`, h("code", {}, it.name), `)${bothSums(step, it.name)}.`,
+      rule && h("span", { class: "rule" }, `The rule: ${rule}.`)));
   }
   if (step.data) all.push(verdict("yes", "Read: ",
     h("code", {}, step.data.length ? readable(step.data, 60) : "no bytes")));

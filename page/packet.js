@@ -1,6 +1,6 @@
 "use strict";
-// Packets as people read them: IP (RFC 791) and UDP (RFC 768). What the headers say, and which checksums would be right,
-// the program reads (crates/page); here is how the fields are drawn.
+// Packets as people read them: IP (RFC 791) and UDP (RFC 768). What the headers say, and which checksums would be
+// right, the program reads (crates/page); here is how the fields are drawn.
 
 const hexOf = bytes => Array.from(bytes, byte => byte.toString(16).padStart(2, "0")).join("");
 const bytesOf = hex => new Uint8Array((hex === "-" ? [] : hex.match(/../g) || []).map(digits => parseInt(digits, 16)));

@@ -1,6 +1,7 @@
 // The heap of a module that has no C library: rattle_alloc, rattle_realloc and rattle_dealloc, which the proved code
-// calls, and `room` and `give_back`, by which a page gets memory for what it hands over. It isn't proved, as malloc
-// isn't.
+// calls, and `room` and `give_back`, by which a page gets memory for what it hands over. At the end stand the three
+// functions on numbers of 128 bits that clang calls where a processor has no instruction for them: times of captures are
+// worked out in such numbers. It isn't proved, as malloc isn't.
 //
 // The free blocks are a list in the order of their addresses. The first one that is large enough is taken, and split if
 // it's much larger; what is freed is merged with its neighbours. Memory grows by pages of 65,536 bytes, and never
@@ -118,4 +119,51 @@ __attribute__((export_name("room"))) u64 room(u64 n) {
 // Gives it back.
 __attribute__((export_name("give_back"))) void give_back(u8 *at) {
     rattle_dealloc(at);
+}
+
+// A number of 128 bits, and its halves.
+typedef union {
+    unsigned __int128 all;
+    struct {
+        u64 low, high;
+    };
+} Wide;
+
+// The product, without what goes beyond 128 bits: of the low halves by parts of 32 bits, as it's done by hand.
+unsigned __int128 __multi3(unsigned __int128 a, unsigned __int128 b) {
+    const u64 half = 0xffffffff;
+    Wide x = {.all = a}, y = {.all = b}, product;
+    u64 least = (x.low & half) * (y.low & half);
+    u64 one = (x.low >> 32) * (y.low & half), other = (x.low & half) * (y.low >> 32);
+    u64 middle = (least >> 32) + (one & half) + (other & half);
+    product.low = (middle << 32) | (least & half);
+    product.high = (x.low >> 32) * (y.low >> 32) + (one >> 32) + (other >> 32) + (middle >> 32);
+    product.high += x.high * y.low + x.low * y.high;
+    return product.all;
+}
+
+// Shifted by 0 to 127 bits to the left.
+unsigned __int128 __ashlti3(unsigned __int128 a, int n) {
+    Wide from = {.all = a}, to = from;
+    if (n >= 64) {
+        to.high = from.low << (n - 64);
+        to.low = 0;
+    } else if (n > 0) {
+        to.high = (from.high << n) | (from.low >> (64 - n));
+        to.low = from.low << n;
+    }
+    return to.all;
+}
+
+// Shifted by 0 to 127 bits to the right, zeros coming in.
+unsigned __int128 __lshrti3(unsigned __int128 a, int n) {
+    Wide from = {.all = a}, to = from;
+    if (n >= 64) {
+        to.low = from.high >> (n - 64);
+        to.high = 0;
+    } else if (n > 0) {
+        to.low = (from.low >> n) | (from.high << (64 - n));
+        to.high = from.high >> n;
+    }
+    return to.all;
 }

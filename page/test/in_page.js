@@ -352,7 +352,8 @@ function askedFor(k, answer) {
 function faultsOfAsks({ title, text }) {
   const wanted = readNotes(text).asks, faults = [], say = what => faults.push(`exercise ${title}: ${what}`);
   const fields = byId("rows").querySelectorAll(".ask input");
-  if (!wanted.length || fields.length !== wanted.length) say(`${fields.length} of ${wanted.length} questions are asked`);
+  const isAsked = wanted.length > 0 && fields.length === wanted.length;
+  if (!isAsked) say(`${fields.length} of ${wanted.length} questions are asked`);
   if ([...fields].some(it => it.value)) say("a question has its answer in it");
   if (/it passes/.test(byId("score").textContent)) say("it passes without answers to its questions");
   wanted.forEach(({ text: asked, answer }, k) => {
@@ -405,7 +406,8 @@ function faultsOfForms() {
   const row = byId("rows").children[1].textContent, advice = "localhost is no ADDR (as 10.0.0.2): bind FD ADDR PORT";
   select(1);
   const says = byId("look").textContent;
-  if (!row.replaceAll("`", "").includes(advice) || !says.includes(advice)) faults.push(`of a wrong line it's said: ${row}`);
+  const isSaid = row.replaceAll("`", "").includes(advice) && says.includes(advice);
+  if (!isSaid) faults.push(`of a wrong line it's said: ${row}`);
   select(0);
   byId("look").querySelector(".mend .main").click();
   if (page.steps[0].says !== "ok 3" || page.at !== 0) faults.push("a command that was meant isn't written");
@@ -434,9 +436,19 @@ async function faultsOfCapture(hex) {
   if (page.mode !== "run" || !byId("drop").hidden) faults.push("a capture that's dropped isn't opened");
   const before = byId("script").value;
   await openFile(file(new Uint8Array(99), "b.pcap"));
-  if (byId("script").value !== before || !byId("trouble").textContent.startsWith("b.pcap: ")) {
-    faults.push("what is no capture isn't refused");
+  if (byId("script").value !== before || byId("trouble").textContent !== "b.pcap: bad magic number at byte 0") {
+    faults.push(`what is no capture isn't refused: ${byId("trouble").textContent}`);
   }
+  await openFile(file(bytesOf(hex + hex.slice(48, 90)), "c.pcap"));
+  const isCut = /^c.pcap: record cut short at byte \d+\. /.test(byId("trouble").textContent);
+  if (!isCut || byId("script").value.split("\nrx ").length !== 2) {
+    faults.push(`of a capture that is cut it's said: ${byId("trouble").textContent}`);
+  }
+  const packed = new Blob([bytesOf(hex)]).stream().pipeThrough(new CompressionStream("gzip"));
+  await openFile(file(await new Response(packed).arrayBuffer(), "d.pcap.gz"));
+  if (!byId("script").value.startsWith("# d.pcap.gz: 1 of its 1 records")) faults.push("a gzip isn't unpacked");
+  await openFile(file(bytesOf("1f8b0800"), "e.gz"));
+  if (!/^e.gz: compressed by gzip/.test(byId("trouble").textContent)) faults.push("a bad gzip isn't named");
   return faults;
 }
 

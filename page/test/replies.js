@@ -14,7 +14,7 @@ const sources = ["engine", "packet", "play", "stack", "chains", "memory", "wire"
 const names = "Engine, configOf, optionsOf, readNotes, partsOf, linesOf, hexOf, hasHosts, DEFAULTS, DEFAULT_CONFIG";
 const ofChains = "usageIn, slotsIn, drawnChains, clustersIn, playChains", ofWire = "traceHosts, isFollowed";
 const ofPlay = "tracePlay", ofMemory = "traceStack, Held, Memory, MOST_LINES";
-const ofCaptures = "readCapture, captureScript, word16";
+const ofCaptures = "captureScript";
 const code = sources.map(text => text.replace('"use strict";', "")).join("\n")
   + `\n({ ${names}, ${ofChains}, ${ofWire}, ${ofPlay}, ${ofMemory}, ${ofCaptures} })`;
 const page = vm.runInNewContext(code, { WebAssembly, TextEncoder, TextDecoder });
@@ -111,7 +111,8 @@ const OTHERS = ["played_in.txt", "borders.txt", "bytes.txt", "other_line_ends.tx
 // The marks of a key beside itself, and of the exercise that is handed out: counted by hand in their texts. Those of
 // hand-ins in which lines are changed, lost and added are those of `bsdplay --grade`.
 function tryMarks(engine, script) {
-  const key = fs.readFileSync(script, "utf8"), all = page.linesOf(key), isAnswered = line => /^[^#].*=>|^#\?.*=>/.test(line);
+  const key = fs.readFileSync(script, "utf8"), all = page.linesOf(key);
+  const isAnswered = line => /^[^#].*=>|^#\?.*=>/.test(line);
   const total = all.filter(isAnswered).length, first = all.findIndex(isAnswered) + 1;
   const blank = fs.readFileSync(path.join(examples, "exercises", path.basename(script)), "utf8");
   const said = hand => Object.values(engine.marks(key, hand)).join();
@@ -120,7 +121,8 @@ function tryMarks(engine, script) {
   if (said("") !== `0,0,${total},${first}`) fault(script, `an empty hand-in has the marks ${said("")}`);
   const changes = [line => `${line} more`, () => "", line => `${line}\n${line}`, line => line.replace(/=>.*/, "=> _")];
   const below = numbers(total);
-  const changed = () => all.map(line => (isAnswered(line) && below(4) === 0 ? changes[below(4)](line) : line)).join("\n");
+  const changed = () => all.map(line => (isAnswered(line) && below(4) === 0 ? changes[below(4)](line) : line))
+    .join("\n");
   for (let i = 0; player && i < 4; i++) tryGraded(script, changed(), said);
 }
 
@@ -302,22 +304,33 @@ function tryCaptures(engine, folder) {
       + block(6, w(0) + w(0) + w(7500000) + w(length) + w(length) + frame + pad)
       + block(6, w(0) + w(0) + w(8000000) + w(40) + w(length) + frame.slice(0, 80));
     for (const [kind, hex] of [["pcap", classic], ["pcapng", next]]) {
-      const { records, fault: wrong } = page.readCapture(Uint8Array.from(Buffer.from(hex, "hex")));
-      const told = records && records.map(it => [it.number, it.time, it.packet && page.hexOf(it.packet), it.whole]);
-      const wanted = JSON.stringify([[1, 7.5, ip, length], [2, 8, ip.slice(0, 52), length]]);
-      const isRight = !wrong && JSON.stringify(told) === wanted;
-      if (!isRight) fault(`a ${kind}`, wrong || `its records are read as ${JSON.stringify(told)}`);
+      const wanted = [[1, "7500000000", ip, length, length], [2, "8000000000", ip.slice(0, 52), length, 40]];
+      tryRecords(engine, `a ${kind}`, hex, wanted, "");
+      tryRecords(engine, `a ${kind} that is cut`, hex.slice(0, -4), wanted.slice(0, 1), /cut.* at byte \d+$/);
     }
   }
   const real = path.join(folder, "by_tcpdump.pcap");
-  const { records } = page.readCapture(new Uint8Array(fs.readFileSync(real)));
+  const { records } = engine.records(new Uint8Array(fs.readFileSync(real)));
   const script = page.captureScript(engine, records), { steps } = page.tracePlay(engine, script.text);
   if (steps.filter(step => step.verb === "rx").length !== script.counts.taken) fault(real, "not each record arrives");
-  if (page.readCapture(new Uint8Array(40)).records) fault("40 zeros", "they're read as a capture");
+  tryRecords(engine, "40 zeros", "00".repeat(40), [], "bad magic number at byte 0");
+  tryRecords(engine, "no bytes", "", [], "file header cut short at byte 0");
+  tryRecords(engine, "a gzip", "1f8b08", [], /^compressed by gzip.* at byte 0$/);
+}
+
+// The records of a file, and what is wrong with it.
+function tryRecords(engine, name, digits, wanted, wrong) {
+  const { records, fault: said } = engine.records(Uint8Array.from(Buffer.from(digits, "hex")));
+  const hex = it => it.packet && page.hexOf(it.packet);
+  const told = records.map(it => [it.number, String(it.time), hex(it), it.whole, it.captured]);
+  const isSaid = typeof wrong === "string" ? said === wrong : wrong.test(said);
+  if (JSON.stringify(told) !== JSON.stringify(wanted) || !isSaid) {
+    fault(name, `its records are read as ${JSON.stringify(told)}, and of it it's said: ${said}`);
+  }
 }
 
 // A capture of tcpdump's, in three forms that Wireshark's editcap writes, is read as tshark reads it.
-function tryTshark(real) {
+function tryTshark(engine, real) {
   const run = (tool, ...words) => child.spawnSync(tool, words, { encoding: "utf8" });
   if (run("tshark", "-v").status !== 0 || run("editcap", "-v").status !== 0) {
     console.error("the page: tshark or editcap isn't installed, so captures aren't compared with it");
@@ -330,8 +343,8 @@ function tryTshark(real) {
       run("editcap", "-F", kind, ...words, real, file);
       const told = run("tshark", "-r", file, "-T", "fields", ...fields.flatMap(it => ["-e", `frame.${it}`])).stdout;
       const wanted = told.trim().split("\n").map(line => line.split("\t").map(Number));
-      const got = page.readCapture(new Uint8Array(fs.readFileSync(file))).records
-        .map(it => [it.number, it.time, it.bytes.length, it.whole]);
+      const got = engine.records(new Uint8Array(fs.readFileSync(file))).records
+        .map(it => [it.number, Number(it.time) / 1e9, it.captured, it.whole]);
       const isSame = got.length === wanted.length && got.every((it, i) =>
         it.every((n, k) => Math.abs(n - wanted[i][k]) < 1e-5));
       if (!isSame) fault(`${real} as ${kind}`, "it's read otherwise than by tshark");
@@ -546,7 +559,7 @@ async function main() {
   tryLaid(engine);
   tryAllMemory(engine);
   tryCaptures(engine, path.join(examples, "play"));
-  tryTshark(path.join(examples, "play", "by_tcpdump.pcap"));
+  tryTshark(engine, path.join(examples, "play", "by_tcpdump.pcap"));
   tryRandomWires(engine);
   tryDrawn(engine);
   for (const script of [...scriptsOf(path.join(examples, "chain")), ...scriptsOf(path.join(lessons, "chain"))]) {

@@ -18,6 +18,7 @@ mod handed;
 mod headers;
 mod marks;
 mod play;
+mod records;
 mod settings;
 
 use chain_script::{draw_slot, run_chains};
@@ -26,6 +27,7 @@ pub use headers::{PageHeader, bsdudp_page_header};
 use link_script::{RunFault, run};
 pub use marks::{PageMarks, bsdudp_page_marks};
 pub use play::{bsdudp_page_capture, bsdudp_page_hosts, bsdudp_page_play};
+pub use records::{PageCapture, bsdudp_page_records};
 pub use settings::{PageMachine, PagePool};
 use std::alloc::Global;
 

@@ -1,0 +1,53 @@
+-- Records of a capture, one more each time.
+use Rattle.std.proofs.Common.{◌≡◌, ℕ, ◌+◌, ◌++◌, List, [], ◌∷◌, length, Some, None, Ok, Err, refl, sym, ap, subst, ◌∙◌, append_assoc, append-nil, arith}
+use Rattle.std.proofs.lemmas.List.{length-append}
+use Rattle.capture_file.specs.Places.{Reading, Steps}
+use Rattle.capture_file.specs.declared.records.Record.{Record}
+use Rattle.capture_file.specs.declared.fault.Fault.{Fault}
+use Rattle.page.specs.Recorded.{CapturedRecord, ReadsRecords, ReadsAll, SoFar, record_told, records_told}
+
+pub none : (old : Reading) (text : List ℕ) → SoFar old text old text 0
+none old text = ([], refl, sym (append-nil text), refl)
+
+-- one record more
+reads_more : (old : Reading) (es : List CapturedRecord) (mid new : Reading) (e : CapturedRecord)
+    → ReadsRecords old es mid → Steps mid new (Ok (Some e.at)) → e.frame ≡ new.bytes
+    → ReadsRecords old (es ++ e ∷ []) new
+reads_more old [] mid new e read step frame =
+    (new, subst (λ (r : Reading). Steps r new (Ok (Some e.at))) read step, frame, refl)
+reads_more old (x ∷ xs) mid new e read step frame =
+    (read.0, read.1, read.2, reads_more read.0 xs mid new e read.3 step frame)
+
+told_more : (es : List CapturedRecord) (e : CapturedRecord)
+    → records_told (es ++ e ∷ []) ≡ records_told es ++ record_told e.at e.frame
+told_more [] e = append-nil (record_told e.at e.frame)
+told_more (x ∷ xs) e =
+    ap (λ (ys : List ℕ). record_told x.at x.frame ++ ys) (told_more xs e)
+    ∙ sym (append_assoc (record_told x.at x.frame) (records_told xs) (record_told e.at e.frame))
+
+-- of a record that was read its bytes were put after the text
+pub more_of : (old : Reading) (before : List ℕ) (mid new : Reading) (text after frame : List ℕ) (n : ℕ)
+    (r : Record) → SoFar old before mid text n → Steps mid new (Ok (Some r)) → frame ≡ new.bytes
+    → after ≡ text ++ record_told r frame → SoFar old before new after (n + 1)
+more_of old before mid new text after frame n r so step is more =
+    let e : CapturedRecord = record { at = r; frame = frame } in
+    let es = so.0 in
+    let texts = so.2 in
+    let count = so.3 in
+    let long = length-append es (e ∷ []) in (
+      es ++ e ∷ [],
+      reads_more old es mid new e so.1 step is,
+      more
+          ∙ ap (λ (t : List ℕ). t ++ record_told r frame) texts
+          ∙ append_assoc before (records_told es) (record_told r frame)
+          ∙ ap (λ (t : List ℕ). before ++ t) (sym (told_more es e)),
+      omega (arith, count, long),
+    )
+
+pub ended : (old : Reading) (before : List ℕ) (mid new : Reading) (after : List ℕ) (n : ℕ)
+    → SoFar old before mid after n → Steps mid new (Ok None) → ReadsAll old before after n None
+ended old before mid new after n so step = (mid, so, (new, step))
+
+pub failed : (old : Reading) (before : List ℕ) (mid new : Reading) (after : List ℕ) (n : ℕ) (fault : Fault)
+    → SoFar old before mid after n → Steps mid new (Err fault) → ReadsAll old before after n (Some fault)
+failed old before mid new after n fault so step = (mid, so, (new, step))

@@ -1,0 +1,189 @@
+//! The records of a capture file.
+ghost use Rattle.std.specs.Prelude.{◌≡◌, ◌⊎◌, ◌+◌, ◌≤◌, ◌++◌, length, decimal, IfOk};
+ghost use Rattle.page.specs.Recorded.{HasNoWords, IsCaptureText, IsCaptureUnread, ReadsAll, Recorded, record_head, ipv4_of, record_told, nanoseconds_text};
+
+use crate::handed::{hand_over, number_of};
+use capture_file::{Fault, LinkType, ROOM, Record, Records};
+use link_script::RunFault;
+use pcap::ipv4_packet;
+use script_loop::Buffer;
+use std::alloc::{AllocError, Global};
+use std::io::Write;
+
+/// What was read of a capture: `struct page_capture`, of 16 bytes.
+#[repr(C)]
+#[derive(Clone, Copy)]
+pub struct PageCapture {
+    /// How many records were read.
+    pub records: u64,
+    /// How many of the bytes that are handed over are those of the records. Those behind them say what is wrong with
+    /// the file, and where; there are none if it was read to its end.
+    pub told: u64,
+}
+
+/// Room for the line in front of a packet.
+const HEAD: usize = 120;
+
+/// Puts the digits of a number after the text, 20 of them at most.
+fn put_digits(text: &mut Buffer<HEAD>, n: u64)
+    requires { length text.old + 20 ≤ HEAD }
+    ensures items { text.new ≡ text.old ++ decimal n }
+    ensures len { length text.new ≤ length text.old + 20 }
+{
+    let mut digits = itoa::Buffer::new();
+    text.append(digits.format(n).as_bytes());
+}
+
+/// Puts the digits of a time after the text, or a dash.
+fn put_time(text: &mut Buffer<HEAD>, time: Option<u64>)
+    requires { length text.old + 20 ≤ HEAD }
+    ensures items { text.new ≡ text.old ++ nanoseconds_text time }
+    ensures len { length text.new ≤ length text.old + 20 }
+{
+    match time {
+        Some(time) => put_digits(text, time),
+        None => text.append(b"-"),
+    }
+}
+
+/// Puts the line in front of a record's packet in the place of the text.
+fn put_head(text: &mut Buffer<HEAD>, read: Record, captured: usize, len: usize)
+    ensures { text.new ≡ record_head read captured len }
+{
+    text.clear();
+    put_digits(text, read.number);
+    text.append(b" ");
+    put_time(text, read.time);
+    text.append(b" ");
+    put_digits(text, u64::from(read.original_len));
+    text.append(b" ");
+    put_digits(text, captured as u64);
+    text.append(b" ");
+    put_digits(text, len as u64);
+    text.append(b"\n");
+}
+
+/// The IPv4 packet of a frame, or no bytes.
+fn packet_in(link: Option<LinkType>, frame: &[u8]) -> &[u8]
+    ensures { result.now ≡ ipv4_of link frame.now }
+{
+    match link {
+        Some(link) => match ipv4_packet(link, frame) {
+            Ok(packet) => packet,
+            Err(_) => &[],
+        },
+        None => &[],
+    }
+}
+
+/// Puts a record after the text: its line, and its packet. If memory is refused, a part of it is there.
+fn put_record(
+    read: Record,
+    frame: &[u8],
+    head: &mut Buffer<HEAD>,
+    text: &mut Vec<u8>,
+) -> Result<(), AllocError>
+    ensures { IfOk result (λ u. text.new.items ≡ text.old.items ++ record_told read frame.now) }
+{
+    let packet = packet_in(read.link, frame);
+    put_head(head, read, frame.len(), packet.len());
+    text.extend_from_slice(head.as_slice())?;
+    text.extend_from_slice(packet)
+}
+
+/// Puts all records after the text: how many there are, and what is wrong with the file. `AllocError` if memory is
+/// refused, or for 4,294,967,295 records, which no memory holds; a part of them is there then.
+#[tactic(auto, using(crate::proofs::Entries::more_of, crate::proofs::Entries::ended, crate::proofs::Entries::failed))]
+fn put_records(
+    records: &mut Records<&[u8]>,
+    head: &mut Buffer<HEAD>,
+    text: &mut Vec<u8>,
+) -> Result<(u32, Option<Fault>), AllocError>
+    ensures { IfOk result (λ r. ReadsAll records.old text.old.items text.new.items r.0 r.1) }
+{
+    for count in 0..u32::MAX {
+        match records.next_record() {
+            Ok(Some(record)) => put_record(record, records.bytes(), head, text)?,
+            Ok(None) => return Ok((count, None)),
+            Err(fault) => return Ok((count, Some(fault))),
+        }
+    }
+    Err(AllocError)
+}
+
+/// What is wrong with a file, and where, in words. There are none for no fault.
+fn words_for(alloc: Global, fault: Option<Fault>) -> Result<Vec<u8>, AllocError>
+    ensures { IfOk result (λ words. HasNoWords fault words.items) }
+{
+    let mut words = Vec::new(alloc);
+    if let Some(fault) = fault {
+        if let Err(_) = write!(words, "{fault}") {
+            return Err(AllocError);
+        }
+    }
+    Ok(words)
+}
+
+/// What was read of a file.
+#[derive(Drop)]
+struct Text {
+    /// The records, and behind them what is wrong with the file.
+    bytes: Vec<u8>,
+    capture: PageCapture,
+}
+
+/// Reads all records of a file.
+fn read_file(alloc: Global, file: &[u8]) -> Result<Text, AllocError>
+    ensures { IfOk result (λ t. IsCaptureText file.now t.bytes.items t.capture) }
+{
+    let mut head = Buffer::new(alloc)?;
+    let mut bytes = Vec::new(alloc);
+    let room: Buffer<ROOM> = Buffer::new(alloc)?;
+    let mut records = Records::new(file, room);
+    let read = put_records(&mut records, &mut head, &mut bytes);
+    let (_file, _room) = records.end();
+    let (count, fault) = read?;
+    let told = bytes.len() as u64;
+    let words = words_for(alloc, fault)?;
+    bytes.extend_from_slice(words.as_slice())?;
+    Ok(Text {
+        bytes,
+        capture: PageCapture {
+            records: u64::from(count),
+            told,
+        },
+    })
+}
+
+/// Reads a capture file of either format, classic pcap or pcapng, and hands over its records: `uint32_t
+/// bsdudp_page_records(const uint8_t *file, size_t, uint8_t *room, size_t, size_t *len, struct page_capture *)`. Each
+/// record is a line, `NUMBER TIME ORIGINAL CAPTURED LEN`, and then the LEN bytes of its IPv4 packet. NUMBER counts from
+/// 1, as Wireshark does; TIME is in nanoseconds since 1970, or `-` if the file doesn't say; ORIGINAL is how many bytes
+/// the frame had, and CAPTURED how many of them the file has. LEN is 0 if there is no IPv4 packet in them. Behind the
+/// records stands what is wrong with the file, if something is, with its place.
+///
+/// Answers 0, also of a file with a fault, and hands the bytes over as `bsdudp_page_run` does its replies. Or 3,
+/// `Memory`: then `len` is 0, and the room and `capture` are as they were.
+#[unsafe(no_mangle)]
+pub extern "C" fn bsdudp_page_records(
+    alloc: Global,
+    file: &[u8],
+    room: &mut [u8],
+    len: &mut usize,
+    capture: &mut PageCapture,
+) -> u32
+    ensures recorded { Recorded file.now result len.new room.old room.new capture.new
+        ⊎ IsCaptureUnread result len.new room.old room.new capture.old capture.new }
+{
+    match read_file(alloc, file) {
+        Ok(text) => {
+            *len = hand_over(text.bytes.as_slice(), room);
+            *capture = text.capture;
+            number_of(Ok(()))
+        }
+        Err(_) => {
+            *len = 0;
+            number_of(Err(RunFault::Memory))
+        }
+    }
+}
