@@ -23,8 +23,11 @@ Lines, also with a time in front (+0.5s tx); docs/play.md or man bsdplay has mor
   stat
   mbstat
   show WHAT
+Lines behind the NAME: of one host on an Ethernet of many machines:
+  frame BYTES
+  error FD
 Lines of many machines, where NAME: stands in front of those above:
-  host NAME [--SETTING VALUE ..]
+  host NAME [ether LINK ..] [--SETTING VALUE ..]
   wire NAME ..
   carry [all] [N]
   collect

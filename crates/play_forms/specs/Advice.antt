@@ -3,9 +3,9 @@ use Rattle.std.specs.Prelude.{◌≡◌, ◌⊎◌, ℕ, Bool, true, false, List
 use Rattle.std.specs.List.{find}
 use Rattle.flat_model.specs.Scripts.Grammar.{words}
 use Rattle.play_forms.specs.Near.{has_name, nearest}
-use Rattle.play_forms.specs.Table.{Takes, arguments_of, form_of, host_commands, label_of, name_of, wire_commands}
+use Rattle.play_forms.specs.Table.{Takes, arguments_of, form_of, host_commands, hosted_commands, label_of, name_of, wire_commands}
 use Rattle.play_forms.specs.declared.advice.Player.{Player}
-use Rattle.play_forms.specs.declared.advice.Player.TheVariants.{Machine, Wire}
+use Rattle.play_forms.specs.declared.advice.Player.TheVariants.{Machine, Host, Wire}
 use Rattle.play_forms.specs.declared.argument.Argument.{Argument}
 use Rattle.play_forms.specs.declared.command.Command.{Command}
 use Rattle.play_forms.specs.declared.command.Command.TheVariants as command
@@ -24,6 +24,7 @@ pub data Advice : Type 0 where
 
 abbrev pub commands_of : Player → List Command
 commands_of Machine = host_commands
+commands_of Host = hosted_commands
 commands_of Wire = wire_commands
 
 abbrev pub of_host : Option Command → Advice → Advice
@@ -33,7 +34,8 @@ of_host None other = other
 -- a word that no line of the player begins with
 abbrev pub unknown : Player → List ℕ → Advice
 unknown Machine word = Unknown word (nearest word host_commands)
-unknown Wire word = of_host (find (has_name word) host_commands) (Unknown word (nearest word wire_commands))
+unknown Host word = Unknown word (nearest word hosted_commands)
+unknown Wire word = of_host (find (has_name word) hosted_commands) (Unknown word (nearest word wire_commands))
 
 -- `rx pcap`, `rx udp` and `rx raw` have forms of their own
 abbrev pub is_rx : Command → Bool

@@ -25,6 +25,9 @@ name_of command.Tick = codes "tick"
 name_of command.Stat = codes "stat"
 name_of command.MbStat = codes "mbstat"
 name_of command.Show = codes "show"
+name_of command.Frame = codes "frame"
+name_of command.LastError = codes "error"
+name_of command.ShowOfHost = codes "show"
 name_of command.Host = codes "host"
 name_of command.Wire = codes "wire"
 name_of command.Carry = codes "carry"
@@ -59,7 +62,10 @@ form_of command.Tick = codes "tick [N]"
 form_of command.Stat = codes "stat"
 form_of command.MbStat = codes "mbstat"
 form_of command.Show = codes "show WHAT"
-form_of command.Host = codes "host NAME [--SETTING VALUE ..]"
+form_of command.Frame = codes "frame BYTES"
+form_of command.LastError = codes "error FD"
+form_of command.ShowOfHost = codes "show WHAT"
+form_of command.Host = codes "host NAME [ether LINK ..] [--SETTING VALUE ..]"
 form_of command.Wire = codes "wire NAME .."
 form_of command.Carry = codes "carry [all] [N]"
 form_of command.Collect = codes "collect"
@@ -93,6 +99,9 @@ arguments_of command.Tick = Some (argument.Count ∷ [])
 arguments_of command.Stat = Some []
 arguments_of command.MbStat = Some []
 arguments_of command.Show = Some (argument.Topic ∷ [])
+arguments_of command.Frame = Some (argument.Bytes ∷ [])
+arguments_of command.LastError = Some (argument.Fd ∷ [])
+arguments_of command.ShowOfHost = Some (argument.HostTopic ∷ [])
 arguments_of command.Host = None
 arguments_of command.Wire = None
 arguments_of command.Carry = None
@@ -108,7 +117,7 @@ arguments_of command.Swap = None
 arguments_of command.ShowWire = None
 arguments_of command.Summary = None
 
--- what a machine is asked, or one host of many
+-- what a machine is asked
 abbrev pub host_commands : List Command
 host_commands =
     command.Socket
@@ -125,6 +134,27 @@ host_commands =
     ∷ command.Stat
     ∷ command.MbStat
     ∷ command.Show
+    ∷ []
+
+-- what one host of many is asked: the same, and what only one on an Ethernet answers
+abbrev pub hosted_commands : List Command
+hosted_commands =
+    command.Socket
+    ∷ command.Bind
+    ∷ command.Connect
+    ∷ command.SendTo
+    ∷ command.Send
+    ∷ command.RecvFrom
+    ∷ command.Close
+    ∷ command.SetSockOpt
+    ∷ command.Rx
+    ∷ command.Tx
+    ∷ command.Tick
+    ∷ command.Stat
+    ∷ command.MbStat
+    ∷ command.ShowOfHost
+    ∷ command.Frame
+    ∷ command.LastError
     ∷ []
 
 -- what is asked of all hosts and their wire
@@ -160,12 +190,16 @@ label_of argument.Option = codes "OPT (broadcast or reuseport)"
 label_of argument.Switch = codes "ON (1 or 0)"
 label_of argument.Bytes = codes "BYTES (digits, \"text\" or @N)"
 label_of argument.Topic = codes "WHAT (sockets, unfinished, queue, counters or pool)"
+label_of argument.HostTopic = codes "WHAT (sockets, unfinished, queue, counters, pool, neighbours, link)"
 
 abbrev pub is_topic : List ℕ → Bool
 is_topic word =
     bytes_eq word (codes "sockets")
     || (bytes_eq word (codes "unfinished")
     || (bytes_eq word (codes "queue") || (bytes_eq word (codes "counters") || bytes_eq word (codes "pool"))))
+
+abbrev pub is_host_topic : List ℕ → Bool
+is_host_topic word = is_topic word || (bytes_eq word (codes "neighbours") || bytes_eq word (codes "link"))
 
 -- a number of 1 to 65,535
 abbrev pub IsCount : List ℕ → Type 0
@@ -182,3 +216,4 @@ Takes argument.Option word = (word ≡ codes "broadcast") ⊎ (word ≡ codes "r
 Takes argument.Switch word = (word ≡ codes "0") ⊎ (word ≡ codes "1")
 Takes argument.Bytes word = Unit
 Takes argument.Topic word = IsTrue (is_topic word)
+Takes argument.HostTopic word = IsTrue (is_host_topic word)

@@ -10,14 +10,17 @@ ghost use Rattle.play_forms.specs.Table.{arguments_of};
 
 use crate::argument::Argument;
 use crate::command::{Command, host_commands, wire_commands};
+use crate::hosted::hosted_commands;
 use crate::nearest::{named, nearest};
 use script_loop::first_word;
 
 /// What plays a line.
 #[derive(Clone, Copy)]
 pub enum Player {
-    /// One machine, or one host of many, whose name stands in front of the line.
+    /// One machine.
     Machine,
+    /// One host of many, whose name stands in front of the line.
+    Host,
     /// All hosts and their wire.
     Wire,
 }
@@ -86,7 +89,7 @@ fn advice_after<'l>(asked: Command, rest: Option<&'l [u8]>) -> Advice<'l>
         ),
         Command::Send => advice_by(asked, &[Argument::Fd, Argument::Bytes], rest),
         Command::RecvFrom => advice_by(asked, &[Argument::Fd, Argument::Len], rest),
-        Command::Close => advice_by(asked, &[Argument::Fd], rest),
+        Command::Close | Command::LastError => advice_by(asked, &[Argument::Fd], rest),
         Command::SetSockOpt => {
             advice_by(
                 asked,
@@ -94,9 +97,10 @@ fn advice_after<'l>(asked: Command, rest: Option<&'l [u8]>) -> Advice<'l>
                 rest,
             )
         }
-        Command::Rx => advice_by(asked, &[Argument::Bytes], rest),
+        Command::Rx | Command::Frame => advice_by(asked, &[Argument::Bytes], rest),
         Command::Tick => advice_by(asked, &[Argument::Count], rest),
         Command::Show => advice_by(asked, &[Argument::Topic], rest),
+        Command::ShowOfHost => advice_by(asked, &[Argument::HostTopic], rest),
         _ => Advice::Otherwise(asked),
     }
 }
@@ -145,7 +149,8 @@ fn unknown<'l>(player: Player, word: &'l [u8]) -> Advice<'l>
 {
     match player {
         Player::Machine => Advice::Unknown(word, nearest(word, &host_commands())),
-        Player::Wire => match named(word, &host_commands()) {
+        Player::Host => Advice::Unknown(word, nearest(word, &hosted_commands())),
+        Player::Wire => match named(word, &hosted_commands()) {
             Some(asked) => Advice::OfHost(asked),
             None => Advice::Unknown(word, nearest(word, &wire_commands())),
         },
@@ -158,6 +163,7 @@ fn command_of(player: Player, word: &[u8]) -> Option<Command>
 {
     match player {
         Player::Machine => named(word, &host_commands()),
+        Player::Host => named(word, &hosted_commands()),
         Player::Wire => named(word, &wire_commands()),
     }
 }

@@ -1,6 +1,6 @@
 //! The words after a command.
 ghost use Rattle.std.specs.Prelude.{◌≡◌, ◌≤◌, length, MatchBool};
-ghost use Rattle.play_forms.specs.Table.{IsCount, Takes, is_topic, label_of};
+ghost use Rattle.play_forms.specs.Table.{IsCount, Takes, is_host_topic, is_topic, label_of};
 ghost use Rattle.play_forms.specs.declared.argument.Argument.TheVariants as argument;
 
 use request::address_of;
@@ -25,8 +25,10 @@ pub enum Argument {
     Switch,
     /// The bytes of a packet or a datagram. Whatever stands there was read before, or has its own fault.
     Bytes,
-    /// What is shown.
+    /// What is shown of a machine.
     Topic,
+    /// What is shown of one host of many.
+    HostTopic,
 }
 
 /// Whether a word is one of those that `show` takes.
@@ -37,6 +39,13 @@ fn is_shown(word: &[u8]) -> bool
         || (word == b"unfinished".as_slice()
             || (word == b"queue".as_slice()
                 || (word == b"counters".as_slice() || word == b"pool".as_slice())))
+}
+
+/// Whether a word is one of those that `show` takes of one host of many.
+fn is_shown_of_host(word: &[u8]) -> bool
+    ensures { result ≡ is_host_topic word.now }
+{
+    is_shown(word) || (word == b"neighbours".as_slice() || word == b"link".as_slice())
 }
 
 /// Whether a word is a number of 1 to 65,535.
@@ -70,7 +79,7 @@ impl Argument {
     /// Its name in forms, and in brackets what it may be.
     pub(crate) fn label(self) -> &'static str
         ensures is { result.now ≡ label_of self }
-        ensures short { length result.now ≤ 56 }
+        ensures short { length result.now ≤ 67 }
     {
         match self {
             Argument::Fd => "FD (0 to 4294967295)",
@@ -82,6 +91,9 @@ impl Argument {
             Argument::Switch => "ON (1 or 0)",
             Argument::Bytes => "BYTES (digits, \"text\" or @N)",
             Argument::Topic => "WHAT (sockets, unfinished, queue, counters or pool)",
+            Argument::HostTopic => {
+                "WHAT (sockets, unfinished, queue, counters, pool, neighbours, link)"
+            }
         }
     }
 
@@ -99,6 +111,7 @@ impl Argument {
             Argument::Switch => is_switch(word),
             Argument::Bytes => true,
             Argument::Topic => is_shown(word),
+            Argument::HostTopic => is_shown_of_host(word),
         }
     }
 }

@@ -23,6 +23,9 @@ pub enum Command {
     Stat,
     MbStat,
     Show,
+    Frame,
+    LastError,
+    ShowOfHost,
     Host,
     Wire,
     Carry,
@@ -63,6 +66,9 @@ impl Command {
             Command::Stat => "stat",
             Command::MbStat => "mbstat",
             Command::Show => "show",
+            Command::Frame => "frame",
+            Command::LastError => "error",
+            Command::ShowOfHost => "show",
             Command::Host => "host",
             Command::Wire => "wire",
             Command::Carry => "carry",
@@ -83,7 +89,7 @@ impl Command {
     /// How its lines are written.
     pub fn form(self) -> &'static str
         ensures is { result.now ≡ form_of self }
-        ensures short { length result.now ≤ 48 }
+        ensures short { length result.now ≤ 46 }
     {
         match self {
             Command::Socket => "socket",
@@ -103,7 +109,10 @@ impl Command {
             Command::Stat => "stat",
             Command::MbStat => "mbstat",
             Command::Show => "show WHAT",
-            Command::Host => "host NAME [--SETTING VALUE ..]",
+            Command::Frame => "frame BYTES",
+            Command::LastError => "error FD",
+            Command::ShowOfHost => "show WHAT",
+            Command::Host => "host NAME [ether LINK ..] [--SETTING VALUE ..]",
             Command::Wire => "wire NAME ..",
             Command::Carry => "carry [all] [N]",
             Command::Collect => "collect",
@@ -121,7 +130,7 @@ impl Command {
     }
 }
 
-/// What a machine is asked, or one host of many.
+/// What a machine is asked.
 pub fn host_commands() -> [Command; 14]
     ensures { result ≡ table.host_commands }
 {

@@ -5,6 +5,7 @@
 mod advice;
 mod argument;
 mod command;
+mod hosted;
 mod nearest;
 mod text;
 

@@ -65,9 +65,9 @@ fn put_near<const N: usize>(text: &mut Buffer<N>, near: Option<Command>)
 
 /// Puts how the lines of a command are written after the text.
 fn put_form<const N: usize>(text: &mut Buffer<N>, asked: Command)
-    requires { length text.old + 52 ≤ N }
+    requires { length text.old + 50 ≤ N }
     ensures items { text.new ≡ text.old ++ formed asked }
-    ensures len { length text.new ≤ length text.old + 52 }
+    ensures len { length text.new ≤ length text.old + 50 }
 {
     text.append(b": `");
     text.append(asked.form().as_bytes());
@@ -88,9 +88,9 @@ fn put_of_host<const N: usize>(text: &mut Buffer<N>, asked: Command)
 
 /// Puts after the text that a word isn't what stands in its place.
 fn put_wrong<const N: usize>(text: &mut Buffer<N>, word: &[u8], wanted: Argument, asked: Command)
-    requires { length text.old + 152 ≤ N }
+    requires { length text.old + 160 ≤ N }
     ensures items { text.new ≡ text.old ++ wrong_text word.now wanted asked }
-    ensures len { length text.new ≤ length text.old + 152 }
+    ensures len { length text.new ≤ length text.old + 160 }
 {
     put_word(text, word);
     text.append(b" is no ");
@@ -100,9 +100,9 @@ fn put_wrong<const N: usize>(text: &mut Buffer<N>, word: &[u8], wanted: Argument
 
 /// Puts after the text that a word is missing.
 fn put_missing<const N: usize>(text: &mut Buffer<N>, wanted: Argument, asked: Command)
-    requires { length text.old + 152 ≤ N }
+    requires { length text.old + 160 ≤ N }
     ensures items { text.new ≡ text.old ++ missing_text wanted asked }
-    ensures len { length text.new ≤ length text.old + 152 }
+    ensures len { length text.new ≤ length text.old + 160 }
 {
     text.append(wanted.label().as_bytes());
     text.append(b" is missing: `");
@@ -123,9 +123,9 @@ fn put_too_many<const N: usize>(text: &mut Buffer<N>, asked: Command)
 
 /// Puts after the text that a word is too much.
 fn put_more<const N: usize>(text: &mut Buffer<N>, word: &[u8], asked: Command)
-    requires { length text.old + 152 ≤ N }
+    requires { length text.old + 160 ≤ N }
     ensures items { text.new ≡ text.old ++ more_text word.now asked }
-    ensures len { length text.new ≤ length text.old + 152 }
+    ensures len { length text.new ≤ length text.old + 160 }
 {
     put_word(text, word);
     put_too_many(text, asked);
@@ -133,9 +133,9 @@ fn put_more<const N: usize>(text: &mut Buffer<N>, word: &[u8], asked: Command)
 
 /// Puts after the text that a line has another form.
 fn put_otherwise<const N: usize>(text: &mut Buffer<N>, asked: Command)
-    requires { length text.old + 152 ≤ N }
+    requires { length text.old + 160 ≤ N }
     ensures items { text.new ≡ text.old ++ otherwise_text asked }
-    ensures len { length text.new ≤ length text.old + 152 }
+    ensures len { length text.new ≤ length text.old + 160 }
 {
     text.append(b"it's written otherwise: `");
     text.append(asked.form().as_bytes());

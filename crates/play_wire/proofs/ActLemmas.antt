@@ -1,13 +1,16 @@
 -- Acts, one after another.
 use Rattle.std.proofs.Common.{◌≡◌, ℕ, zero, suc, ◌+◌, add-one, Bool, true, false, List, [], ◌∷◌, ◌++◌, map, replicate, Some, None, refl, sym, ap, ◌∙◌, subst}
-use Rattle.std.specs.Prelude.{slice_get, slice_set}
+use Rattle.std.specs.Prelude.{◌==◌, length, not, slice_get, slice_set, MatchResult, Option, Result, Ok, Err}
 use Rattle.flat_model.specs.Amounts.Choice.{Choice}
 use Rattle.flat_model.specs.Machine.Event.{Tick, Done}
 use Rattle.flat_model.specs.Runs.Run.{Turn}
+use Rattle.flat_ether.specs.Links.{LinkState, ticks}
 use Rattle.net_stack.specs.Runs.{AreCalls, IsTurnOf}
 use Rattle.net_stack.specs.Stack.{StackView}
-use Rattle.segment.specs.Law.{Act, Calls, Collects, Delivers, IsAct, AreActs}
-use Rattle.segment.specs.Segment.{SegmentView, AreCarried, IsCarried, is_quiet_segment}
+use Rattle.segment.specs.Frames.{aged_in, link_aged}
+use Rattle.segment.specs.Law.{Act, AgesLink, Calls, Collects, Delivers, Ether, IsAct, AreActs}
+use Rattle.segment.specs.Segment.{SegmentView, AreCarried, IsCarried, is_ether, is_quiet_segment}
+use Rattle.segment.specs.declared.segment.JoinFault.{JoinFault}
 use Rattle.play_wire.specs.Acts.{AreLedTo, call_turn, with_stack_at}
 use Rattle.play_wire.specs.Inside.{IsExchanged, IsKept}
 
@@ -146,3 +149,36 @@ calls_move place v mid w spare s t other b turns first calls back =
       subst (λ (x : SegmentView). AreActs v (map (Calls place) turns) x) (sym put.1)
           (calls_are_acts place v turns s t put.0 calls),
     )
+
+-- ---- hosts on an Ethernet
+
+-- a host joined, or nothing changed
+pub joins_or_not : (v w : SegmentView) (act : Act) (came : Result Unit JoinFault) (Why : JoinFault → Type 0)
+    → MatchResult came (λ _. IsAct v act w) (λ fault. Why fault × (w ≡ v)) → AreLedTo v w
+joins_or_not v w act (Ok done) Why is = one_act v w act is
+joins_or_not v w act (Err fault) Why refused = moves_not v w refused.1
+
+set_length : {X : Type 0} (xs : List X) (i : ℕ) (x : X) → length (slice_set xs i x) ≡ length xs
+set_length [] i x = refl
+set_length (y ∷ xs) zero x = refl
+set_length (y ∷ xs) (suc i) x = ap suc (set_length xs i x)
+
+aged_length : (links : List LinkState) (place : ℕ) (here : Option LinkState)
+    → length (aged_in links place here) ≡ length links
+aged_length links place None = refl
+aged_length links place (Some l) = set_length links place (ticks l)
+
+pub still_ether : (place : ℕ) (v w : SegmentView) → is_ether v ≡ true → w ≡ link_aged place v → is_ether w ≡ true
+still_ether place v w ether is =
+    ap is_ether is
+    ∙ ap (λ n. not (n == 0)) (aged_length v.links place (slice_get v.links place))
+    ∙ ether
+
+pub one_older : (place n : ℕ) (v w x : SegmentView) → AreActs v (replicate n (Ether (AgesLink place))) w
+    → is_ether w ≡ true → x ≡ link_aged place w
+    → AreActs v (replicate (n + 1) (Ether (AgesLink place))) x
+one_older place n v w x before ether is =
+    subst (λ k. AreActs v (replicate k (Ether (AgesLink place))) x) (sym (add-one n))
+    (subst (λ (acts : List Act). AreActs v acts x) (one_more n (Ether (AgesLink place)))
+    (acts_append v w x (replicate n (Ether (AgesLink place))) (Ether (AgesLink place) ∷ []) before
+    (x, (ether, is), refl)))

@@ -1,10 +1,11 @@
 -- The lines of one host.
 use Rattle.std.proofs.Common.{◌≡◌, ℕ, Bool, List, [], ◌∷◌, map, Some, refl, ap, ap₂}
 use Rattle.flat_model.specs.Amounts.Choice.{Choice}
-use Rattle.flat_model.specs.Machine.Event.{Event, Reply}
+use Rattle.flat_model.specs.Machine.Event.{Event, Reply, Counted}
 use Rattle.flat_model.specs.Machine.Step.{Step}
 use Rattle.flat_model.specs.Runs.Run.{Turn}
 use Rattle.flat_model.specs.Scripts.Texts.{reply_text}
+use Rattle.flat_model.specs.declared.counters.Counters.{Counters}
 use Rattle.flat_model.proofs.Laws.{in_range}
 use Rattle.net_stack.specs.Stack.{StackView, state_of}
 use Rattle.play_read.specs.Asks.{Call, Writes}
@@ -14,9 +15,18 @@ use Rattle.play_script.specs.Deeds.{below_text}
 use Rattle.play_script.specs.Outcomes.{told, drops_text}
 use Rattle.segment.specs.Law.{Calls}
 use Rattle.segment.specs.Segment.{SegmentView}
-use Rattle.play_wire.specs.Acts.{Outcome, Told, AreLooks, IsLineAnswered, IsHostLine, call_turn}
+use Rattle.play_wire.specs.Acts.{Outcome, Told, AreLooks, IsLineAnswered, IsStackLine, call_turn}
 use Rattle.play_wire.specs.Inside.{IsExchanged, IsKept}
 use Rattle.play_wire.proofs.ActLemmas.{put_back}
+
+-- what a count of the counters counted
+counts_of : Reply → Counters → Counters
+counts_of (Counted counters) other = counters
+counts_of _ other = other
+
+pub counted_is : (a b : Counters) → Counted a ≡ Counted b → a ≡ b
+unfolding counts_of
+counted_is a b e = ap (λ r. counts_of r a) e
 
 -- a call whose reply was told, and what came of it
 pub answered_by_call : (quiet : Bool) (plain : List ℕ) (s t : StackView) (text below : List ℕ) (event : Event)
@@ -40,7 +50,7 @@ pub host_line : (quiet : Bool) (place : ℕ) (plain : List ℕ) (v mid w : Segme
     (came : Outcome) (turns : List Turn) (b : Bool)
     → IsExchanged place v spare mid s → IsLineAnswered quiet plain s turns came t
     → Choice b (IsExchanged place mid t w other) (IsKept place mid w)
-    → IsHostLine quiet place plain v (map (Calls place) turns) came w
+    → IsStackLine quiet place plain v (map (Calls place) turns) came w
 host_line quiet place plain v mid w spare s t other came turns b first answered back =
     let put = put_back place v mid w spare s t other b first back in
     record { turns = turns; before = s; after = t; here = put.0; answered = answered; acts_are = refl; leads = put.1 }

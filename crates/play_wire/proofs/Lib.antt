@@ -1,4 +1,5 @@
 mod ActLemmas
 mod HostLemmas
+mod LinkLemmas
 mod PlayLemmas
 mod RunLemmas

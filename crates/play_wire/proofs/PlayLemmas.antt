@@ -8,7 +8,8 @@ use Rattle.play_line.specs.declared.fault.Slip.{Slip}
 use Rattle.play_script.specs.Lines.{Reading}
 use Rattle.segment.specs.Law.{Act, AreActs}
 use Rattle.segment.specs.Segment.{SegmentView}
-use Rattle.play_wire.specs.Acts.{Outcome, Refused, AreLedTo, IsHostLine, IsMissing}
+use Rattle.play_wire.specs.Acts.{Outcome, Refused, AreLedTo, IsMissing}
+use Rattle.play_wire.specs.Links.{IsHostLine}
 use Rattle.play_wire.specs.Tells.{WirePlay, IsDone, IsWaited, Tells, TellsLeft, TellsPart, TellsTimed, left_text, next_wire_line}
 use Rattle.flat_model.specs.Scripts.Grammar.{words}
 use Rattle.play_wire.specs.Inside.{came_of}

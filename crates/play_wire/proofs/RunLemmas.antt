@@ -4,9 +4,12 @@ use Rattle.play_line.specs.Time.{TimedView, timed}
 use Rattle.play_line.specs.declared.fault.Slip.{Slip}
 use Rattle.play_script.specs.Lines.{Reading, Nothing, TooLong, Faulty, Asks, reading_part}
 use Rattle.script_loop.specs.Printed.{Prints}
-use Rattle.segment.specs.Law.{Act, Calls, Seeds, AreActs}
+use Rattle.std.specs.Prelude.{slice_get}
+use Rattle.flat_ether.specs.Links.{LinkState}
+use Rattle.segment.specs.Law.{Act, AsksError, Calls, Ether, HearsFrame, Seeds, AreActs, IsAct}
 use Rattle.segment.specs.Segment.{SegmentView}
-use Rattle.play_wire.specs.Acts.{Outcome, IsHostLine}
+use Rattle.play_wire.specs.Acts.{Outcome, IsStackLine}
+use Rattle.play_wire.specs.Links.{DoesAtLink, DoesLink, IsHostLine, LinkAsk, Frame, LastError, Neighbours, Counts, Ticks, Packets}
 use Rattle.play_wire.specs.Runs.{AreToldBy, IsLawful, IsPlayed}
 use Rattle.play_text.specs.Forms.{is_quiet}
 use Rattle.play_text.specs.declared.form.Form.{Form}
@@ -16,12 +19,38 @@ use Rattle.play_wire.proofs.ActLemmas.{acts_append, calls_are_acts}
 none_are : (v w : SegmentView) (acts : List Act) → acts ≡ [] → w ≡ v → AreActs v acts w
 none_are v w acts none same = subst (λ (xs : List Act). AreActs v xs w) (sym none) same
 
-host_acts : (quiet : Bool) (place : ℕ) (plain : List ℕ) (v w : SegmentView) (acts : List Act) (came : Outcome)
-    → IsHostLine quiet place plain v acts came w → AreActs v acts w
-host_acts quiet place plain v w acts came is =
+stack_acts : (quiet : Bool) (place : ℕ) (plain : List ℕ) (v w : SegmentView) (acts : List Act) (came : Outcome)
+    → IsStackLine quiet place plain v acts came w → AreActs v acts w
+stack_acts quiet place plain v w acts came is =
     subst (λ (xs : List Act). AreActs v xs w) (sym is.acts_are)
     (subst (λ (x : SegmentView). AreActs v (map (Calls place) is.turns) x) (sym is.leads)
     (calls_are_acts place v is.turns is.before is.after is.here is.answered.2))
+
+one_is : (v w : SegmentView) (acts : List Act) (act : Act) → acts ≡ act ∷ [] → IsAct v act w → AreActs v acts w
+one_is v w acts act one is = subst (λ (xs : List Act). AreActs v xs w) (sym one) (w, is, refl)
+
+at_link_acts : (place : ℕ) (v w : SegmentView) (acts : List Act) (came : Outcome) (ask : LinkAsk) (link : LinkState)
+    → DoesAtLink place ask link v acts came w → AreActs v acts w
+at_link_acts place v w acts came (Frame frame) link (s, t, l, m, old, new, is, acts_are, told) =
+    one_is v w acts (Ether (HearsFrame place frame)) acts_are is
+at_link_acts place v w acts came (LastError fd) link (error, is, acts_are, told) =
+    one_is v w acts (Ether (AsksError place fd error)) acts_are is
+at_link_acts place v w acts came Neighbours link (none, told, same) = none_are v w acts none same
+at_link_acts place v w acts came Counts link (none, told, same) = none_are v w acts none same
+at_link_acts place v w acts came (Ticks n) link (are, acts_are, told) = are
+at_link_acts place v w acts came Packets link (none, refused, same) = none_are v w acts none same
+
+link_acts : (place : ℕ) (v w : SegmentView) (acts : List Act) (came : Outcome) (ask : LinkAsk)
+    (link : Option LinkState)
+    → DoesLink place ask link v acts came w → AreActs v acts w
+link_acts place v w acts came ask None (none, refused, same) = none_are v w acts none same
+link_acts place v w acts came ask (Some link) does = at_link_acts place v w acts came ask link does
+
+host_acts : (quiet : Bool) (place : ℕ) (plain : List ℕ) (v w : SegmentView) (acts : List Act) (came : Outcome)
+    → IsHostLine quiet place plain v acts came w → AreActs v acts w
+host_acts quiet place plain v w acts came (inl (others, is)) = stack_acts quiet place plain v w acts came is
+host_acts quiet place plain v w acts came (inr (ask, writes, for_link, does)) =
+    link_acts place v w acts came ask (slice_get v.links place) does
 
 done_acts : (now : WirePlay) (host : Option (List ℕ)) (plain : List ℕ) (acts : List Act) (came : Outcome)
     (segment : SegmentView) (names : List (List ℕ))

@@ -63,8 +63,8 @@ abbrev pub IsLineAnswered : Bool → List ℕ → StackView → List Turn → Ou
 IsLineAnswered quiet plain s turns outcome t =
     (ask : Option Ask) × AsksFor plain ask × AreCalls s turns t × Does quiet ask s turns outcome t
 
--- a line of the host at a place leads from v to w by these acts, and comes out so
-pub record IsHostLine (quiet : Bool) (place : ℕ) (plain : List ℕ) (v : SegmentView) (acts : List Act)
+-- a line that the stack of the host at a place answers leads from v to w by these acts, and comes out so
+pub record IsStackLine (quiet : Bool) (place : ℕ) (plain : List ℕ) (v : SegmentView) (acts : List Act)
     (outcome : Outcome) (w : SegmentView) : Type 0 where
   pub turns : List Turn
   pub before : StackView

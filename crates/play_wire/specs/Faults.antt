@@ -2,10 +2,10 @@
 use Rattle.std.specs.Prelude.{◌≡◌, ℕ, List, [], codes, Option, Some, None}
 use Rattle.play_forms.specs.Advice.{IsAdvised}
 use Rattle.play_forms.specs.declared.advice.Player.{Player}
-use Rattle.play_forms.specs.declared.advice.Player.TheVariants.{Machine, Wire}
+use Rattle.play_forms.specs.declared.advice.Player.TheVariants.{Host, Wire}
 use Rattle.play_read.specs.Settings.{fault_words}
 use Rattle.play_wire.specs.declared.fault.Fault.{Fault}
-use Rattle.play_wire.specs.declared.fault.Fault.TheVariants.{Nothing, NoHost, NoName, NameTaken, Setting, TooManyHosts, AddressTaken, NoWire, Wired, NotAll, NoChance, NoPacket, NoCapture, NoSettings}
+use Rattle.play_wire.specs.declared.fault.Fault.TheVariants.{Nothing, NoHost, NoName, NameTaken, Setting, TooManyHosts, AddressTaken, NoWire, Wired, NotAll, NoChance, NoPacket, NoCapture, NoSettings, NoLinkWord, BadMac, BadMask, BadGateway, BadMtu, MacTaken, OtherLink, NoLink, OnEthernet}
 
 abbrev pub wire_fault_words : Fault → List ℕ
 wire_fault_words Nothing = []  -- see IsReason
@@ -22,10 +22,19 @@ wire_fault_words NoChance = codes "a chance is 10%, 0.1 or 1/10, and a delay 0-3
 wire_fault_words NoPacket = codes "no packet under way has this place"
 wire_fault_words NoCapture = codes "no capture is played in to one of many hosts"
 wire_fault_words NoSettings = codes "a host's settings stand in its line `host`"
+wire_fault_words NoLinkWord = codes "a link is `mac M`, `mask M`, `gateway A` and `probe`, in front of settings"
+wire_fault_words BadMac = codes "a hardware address is as 02:00:00:00:00:01, and none of a group"
+wire_fault_words BadMask = codes "a mask is as 255.255.255.0: ones, then zeros"
+wire_fault_words BadGateway = codes "a gateway is another address of the host's network, by its mask"
+wire_fault_words BadMtu = codes "a frame takes a packet of 1500 bytes at most: `--mtu`"
+wire_fault_words MacTaken = codes "another host has this hardware address"
+wire_fault_words OtherLink = codes "either all hosts are on an Ethernet, or none is"
+wire_fault_words NoLink = codes "that is asked of a host on an Ethernet: `host NAME ether ..`"
+wire_fault_words OnEthernet = codes "a host on an Ethernet takes frames: `frame BYTES`, or `carry`"
 
 -- who is asked by a line that names this host, or none
 abbrev pub player_of : Option (List ℕ) → Player
-player_of (Some host) = Machine
+player_of (Some host) = Host
 player_of None = Wire
 
 -- why a plain line does nothing; what it could have been, if it asks for nothing
@@ -43,4 +52,13 @@ IsReason host plain NoChance what = what ≡ wire_fault_words NoChance
 IsReason host plain NoPacket what = what ≡ wire_fault_words NoPacket
 IsReason host plain NoCapture what = what ≡ wire_fault_words NoCapture
 IsReason host plain NoSettings what = what ≡ wire_fault_words NoSettings
+IsReason host plain NoLinkWord what = what ≡ wire_fault_words NoLinkWord
+IsReason host plain BadMac what = what ≡ wire_fault_words BadMac
+IsReason host plain BadMask what = what ≡ wire_fault_words BadMask
+IsReason host plain BadGateway what = what ≡ wire_fault_words BadGateway
+IsReason host plain BadMtu what = what ≡ wire_fault_words BadMtu
+IsReason host plain MacTaken what = what ≡ wire_fault_words MacTaken
+IsReason host plain OtherLink what = what ≡ wire_fault_words OtherLink
+IsReason host plain NoLink what = what ≡ wire_fault_words NoLink
+IsReason host plain OnEthernet what = what ≡ wire_fault_words OnEthernet
 IsReason host plain (Setting fault) what = what ≡ fault_words fault

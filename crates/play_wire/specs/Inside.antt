@@ -1,13 +1,20 @@
 -- What only this crate reads.
-use Rattle.std.specs.Prelude.{◌≡◌, ℕ, List, slice_get, Option, Some, None, Result, Ok, Err}
-use Rattle.net_stack.specs.Stack.{StackView}
+use Rattle.std.specs.Prelude.{◌≡◌, ◌⊎◌, ℕ, Bool, List, length, slice_get, Option, Some, None, Result, Ok, Err}
+use Rattle.flat_ether.specs.Links.{LinkState}
+use Rattle.net_stack.specs.Stack.{StackView, state_of}
+use Rattle.segment.specs.Law.{Act}
 use Rattle.segment.specs.Segment.{SegmentView}
 use Rattle.play_text.specs.Texts.{if_there}
 use Rattle.play_script.specs.declared.printer.Printer.{Printer}
-use Rattle.play_wire.specs.Acts.{Outcome, Told, Refused, with_stack_at}
+use Rattle.play_wire.specs.Acts.{IsMissing, IsStackLine, Outcome, Told, Refused, with_stack_at}
+use Rattle.play_wire.specs.Links as links
+use Rattle.play_wire.specs.Links.{DoesLink, IsHostAt, IsHostLine}
 use Rattle.play_wire.specs.Tells.{WirePlay}
 use Rattle.play_wire.specs.declared.fault.Fault.{Fault}
+use Rattle.play_wire.specs.declared.link_ask.LinkAsk.{LinkAsk}
+use Rattle.play_wire.specs.declared.link_ask.LinkAsk.TheVariants.{Frame, LastError, Neighbours, Counts, Ticks, Packets}
 use Rattle.play_wire.specs.declared.target.Target.{Target}
+use Rattle.play_wire.specs.declared.tell_link.Counts.{Counts as HostCounts}
 
 -- the stack of the host at a place is handed over, and this one stands there
 abbrev pub IsExchanged : ℕ → SegmentView → StackView → SegmentView → StackView → Type 0
@@ -37,3 +44,60 @@ play_with segment names printer = record {
   form = printer.form;
   name = printer.name;
 }
+
+-- ---- links
+
+-- what the code's own type for what a line asks of a link stands for
+abbrev pub link_asked : LinkAsk → links.LinkAsk
+link_asked (Frame frame) = links.Frame frame.now
+link_asked (LastError fd) = links.LastError fd
+link_asked Neighbours = links.Neighbours
+link_asked Counts = links.Counts
+link_asked (Ticks n) = links.Ticks n
+link_asked Packets = links.Packets
+
+-- how many bytes of the room it takes
+abbrev pub room_asked : LinkAsk → ℕ
+room_asked (Frame frame) = length frame.now
+room_asked (LastError fd) = 0
+room_asked Neighbours = 0
+room_asked Counts = 0
+room_asked (Ticks n) = 0
+room_asked Packets = 0
+
+-- nothing of a link is shown
+abbrev pub IsNotShown : List ℕ → Type 0
+IsNotShown plain = (links.WritesLink plain links.Neighbours → ⊥) × (links.WritesLink plain links.Counts → ⊥)
+
+-- nothing but a frame may be asked of a link
+abbrev pub IsNotOther : List ℕ → Type 0
+IsNotOther plain =
+    ((fd : ℕ) → links.WritesLink plain (links.LastError fd) → ⊥)
+    × ((n : ℕ) → links.WritesLink plain (links.Ticks n) → ⊥) × (links.WritesLink plain links.Packets → ⊥)
+    × IsNotShown plain
+
+-- a line of a host, or one of a host that isn't there
+abbrev pub IsAtHost : Bool → ℕ → List ℕ → SegmentView → Outcome → SegmentView → Type 0
+IsAtHost quiet place plain v came w =
+    (acts : List Act) × (IsHostLine quiet place plain v acts came w ⊎ IsMissing place v acts came w)
+
+-- the same of what its stack is asked
+abbrev pub IsAtStack : Bool → ℕ → List ℕ → SegmentView → Outcome → SegmentView → Type 0
+IsAtStack quiet place plain v came w =
+    (acts : List Act) × (IsStackLine quiet place plain v acts came w ⊎ IsMissing place v acts came w)
+
+-- the same of what its link is asked
+abbrev pub IsAtLink : ℕ → links.LinkAsk → SegmentView → Outcome → SegmentView → Type 0
+IsAtLink place ask v came w =
+    (acts : List Act)
+    × (DoesLink place ask (slice_get v.links place) v acts came w ⊎ IsMissing place v acts came w)
+
+-- what the host at a place has counted
+abbrev pub HasCounted : ℕ → SegmentView → HostCounts → Type 0
+HasCounted place v counts =
+    (s : StackView) × (l : LinkState) × IsHostAt place v s l × (counts.stack ≡ (state_of s).counters)
+    × (counts.link ≡ l.tallies)
+
+-- there is no such host with a link
+abbrev pub HasNotCounted : ℕ → SegmentView → Type 0
+HasNotCounted place v = (slice_get v.links place ≡ None) ⊎ (slice_get v.stacks place ≡ None)

@@ -12,8 +12,9 @@ use Rattle.segment.specs.Law.{Act, AreActs}
 use Rattle.segment.specs.Chances.{seeded}
 use Rattle.flat_model.specs.Scripts.Grammar.{words}
 use Rattle.segment.specs.Segment.{SegmentView, is_quiet_segment, no_hosts}
-use Rattle.play_wire.specs.Acts.{IsHostLine, IsMissing, Outcome, Told, Refused}
+use Rattle.play_wire.specs.Acts.{IsMissing, Outcome, Told, Refused}
 use Rattle.play_wire.specs.Faults.{IsReason}
+use Rattle.play_wire.specs.Links.{IsHostLine}
 use Rattle.play_wire.specs.declared.fault.Fault.TheVariants as fault
 use Rattle.play_wire.specs.declared.hosts.TheConstants.{PACKETS}
 

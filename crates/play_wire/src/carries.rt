@@ -3,6 +3,7 @@ ghost use Rattle.segment.specs.Inside.{view};
 ghost use Rattle.play_wire.specs.Acts.{AreLedTo};
 
 use crate::capture::collect;
+use crate::halves::deliver;
 use crate::names::NAME;
 use crate::passed::add_went;
 use play_script::Capture;
@@ -40,8 +41,23 @@ pub(crate) fn bound_of(rest: Option<&[u8]>) -> Option<Bound> {
     }
 }
 
-/// Carries so often. The packets that go are put into the text.
+/// Carries so often. The packets that go are put into the text. Hosts on an Ethernet give what they have before, and
+/// what they answer after each carry, so that it's seen whether anything is left.
 pub(crate) fn carry<T: Sink + Drop>(
+    segment: &mut Segment,
+    bound: Bound,
+    capture: &mut Capture<T>,
+    names: &[Buffer<NAME>],
+    text: &mut Buffer<SHOWN>,
+)
+    ensures { AreLedTo (view segment.old) (view segment.new) }
+{
+    settle(segment, capture, names, text);
+    carry_on(segment, bound, capture, names, text);
+}
+
+/// Carries so often, once hosts on an Ethernet gave what they have.
+fn carry_on<T: Sink + Drop>(
     segment: &mut Segment,
     bound: Bound,
     capture: &mut Capture<T>,
@@ -56,8 +72,8 @@ pub(crate) fn carry<T: Sink + Drop>(
     }
 }
 
-/// Carries once.
-fn carry_once<T: Sink + Drop>(
+/// What waits for the links goes on the wire, and is put into the text.
+fn send<T: Sink + Drop>(
     segment: &mut Segment,
     capture: &mut Capture<T>,
     names: &[Buffer<NAME>],
@@ -67,7 +83,34 @@ fn carry_once<T: Sink + Drop>(
 {
     let first = collect(capture, segment);
     add_went(text, segment, names, first);
-    segment.deliver();
+}
+
+/// Hosts on an Ethernet give what they have.
+fn settle<T: Sink + Drop>(
+    segment: &mut Segment,
+    capture: &mut Capture<T>,
+    names: &[Buffer<NAME>],
+    text: &mut Buffer<SHOWN>,
+)
+    ensures { AreLedTo (view segment.old) (view segment.new) }
+{
+    if segment.is_ether() {
+        send(segment, capture, names, text);
+    }
+}
+
+/// Carries once.
+fn carry_once<T: Sink + Drop>(
+    segment: &mut Segment,
+    capture: &mut Capture<T>,
+    names: &[Buffer<NAME>],
+    text: &mut Buffer<SHOWN>,
+)
+    ensures { AreLedTo (view segment.old) (view segment.new) }
+{
+    send(segment, capture, names, text);
+    deliver(segment);
+    settle(segment, capture, names, text);
 }
 
 /// Carries so often.

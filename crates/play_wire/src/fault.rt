@@ -37,6 +37,24 @@ pub(crate) enum Fault {
     NoCapture,
     /// It has settings.
     NoSettings,
+    /// A word after `ether` isn't one of a link.
+    NoLinkWord,
+    /// The word isn't a hardware address, or is that of a group.
+    BadMac,
+    /// The word isn't a mask.
+    BadMask,
+    /// The word isn't an address, or isn't one of the host's network.
+    BadGateway,
+    /// The host's MTU is above that of an Ethernet.
+    BadMtu,
+    /// Another host has this hardware address.
+    MacTaken,
+    /// Some hosts are on an Ethernet, and this one isn't, or the other way round.
+    OtherLink,
+    /// It's asked of a link, and the host has none.
+    NoLink,
+    /// It brings or takes a packet without a frame, and the host is on an Ethernet.
+    OnEthernet,
 }
 
 impl Fault {
@@ -60,6 +78,17 @@ impl Fault {
             Fault::NoPacket => "no packet under way has this place",
             Fault::NoCapture => "no capture is played in to one of many hosts",
             Fault::NoSettings => "a host's settings stand in its line `host`",
+            Fault::NoLinkWord => {
+                "a link is `mac M`, `mask M`, `gateway A` and `probe`, in front of settings"
+            }
+            Fault::BadMac => "a hardware address is as 02:00:00:00:00:01, and none of a group",
+            Fault::BadMask => "a mask is as 255.255.255.0: ones, then zeros",
+            Fault::BadGateway => "a gateway is another address of the host's network, by its mask",
+            Fault::BadMtu => "a frame takes a packet of 1500 bytes at most: `--mtu`",
+            Fault::MacTaken => "another host has this hardware address",
+            Fault::OtherLink => "either all hosts are on an Ethernet, or none is",
+            Fault::NoLink => "that is asked of a host on an Ethernet: `host NAME ether ..`",
+            Fault::OnEthernet => "a host on an Ethernet takes frames: `frame BYTES`, or `carry`",
         }
     }
 
@@ -68,8 +97,10 @@ impl Fault {
         match fault {
             JoinFault::TooManyHosts => Fault::TooManyHosts,
             JoinFault::AddressTaken => Fault::AddressTaken,
-            // No line makes a host on an Ethernet.
-            JoinFault::OtherLink | JoinFault::MacTaken | JoinFault::BadLink => Fault::AddressTaken,
+            JoinFault::OtherLink => Fault::OtherLink,
+            JoinFault::MacTaken => Fault::MacTaken,
+            // What else a link may lack is seen before.
+            JoinFault::BadLink => Fault::BadGateway,
             JoinFault::Unbooted(BootFault::Memory) => Fault::Setting(SettingFault::Memory),
             JoinFault::Unbooted(BootFault::BadSizes) => Fault::Setting(SettingFault::BadSizes),
             JoinFault::Unbooted(BootFault::BadConfig) => Fault::Setting(SettingFault::BadConfig),

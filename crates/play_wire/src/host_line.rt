@@ -1,20 +1,23 @@
 //! The lines of one host.
-ghost use Rattle.std.specs.Prelude.{◌≡◌, ◌⊎◌, List, codes, length};
+ghost use Rattle.std.specs.Prelude.{◌≡◌, List, MatchOption, codes, length};
 ghost use Rattle.params.specs.declared.TheConstants.{IP_MAX_PACKET};
 ghost use Rattle.flat_model.specs.Runs.Run.{Turn};
 ghost use Rattle.segment.specs.Inside.{view};
-ghost use Rattle.segment.specs.Law.{Act};
-ghost use Rattle.play_wire.specs.Acts.{IsLineAnswered, IsHostLine, IsMissing};
+ghost use Rattle.play_wire.specs.Acts.{IsLineAnswered};
 ghost use Rattle.play_script.specs.Views.{plain_line};
-ghost use Rattle.play_wire.specs.Inside.{came_of};
+ghost use Rattle.play_wire.specs.Inside.{IsAtHost, IsAtStack, came_of};
+ghost use Rattle.play_wire.specs.Links.{IsForStack};
 
 use crate::fault::Fault;
+use crate::link_ask::link_ask;
+use crate::link_line::answer_link;
 use crate::spare::Spare;
 use crate::ticks::{exchange, tick_stack};
 use net_stack::Stack;
 use play_read::Ask;
-use play_script::{Line, Report, moved_by_call};
+use play_script::{DROPS, Line, Report, moved_by_call};
 use play_show::snapshot_of;
+use script_loop::Buffer;
 use segment::Segment;
 use stack_call::call;
 
@@ -72,20 +75,17 @@ fn answer_stack(
     }
 }
 
-/// Does what a line asks of the host at a place, and reports what is told of it. The spare stack stands in the host's
-/// place meanwhile.
-pub(crate) fn answer_host(
+/// Does what a line asks of the stack of the host at a place, and reports what is told of it. The spare stack stands in
+/// its place meanwhile.
+fn answer_at(
     segment: &mut Segment,
     spare: &mut Spare,
     place: usize,
     line: &Line,
     report: &mut Report,
 ) -> Result<(), Fault>
-    ensures { (acts : List Act)
-        × (IsHostLine report.old.quiet place (plain_line line.now) (view segment.old) acts
-        (came_of result report.new.told report.new.below) (view segment.new)
-        ⊎ IsMissing place (view segment.old) acts (came_of result report.new.told report.new.below)
-        (view segment.new)) }
+    ensures { IsAtStack report.old.quiet place (plain_line line.now) (view segment.old)
+        (came_of result report.new.told report.new.below) (view segment.new) }
 {
     if exchange(segment, place, &mut spare.stack) {
         let outcome = answer_stack(
@@ -99,5 +99,53 @@ pub(crate) fn answer_host(
         outcome
     } else {
         Err(Fault::NoHost)
+    }
+}
+
+/// Does what a line asks of the link of the host at a place, and reports what is told of it. `None` if no link answers
+/// it, and then nothing has changed.
+fn answer_by_link(
+    segment: &mut Segment,
+    spare: &mut Stack,
+    drops: &mut Buffer<DROPS>,
+    room: &mut [u8],
+    place: usize,
+    line: &Line,
+    report: &mut Report,
+) -> Option<Result<(), Fault>>
+    requires { length room.old ≡ IP_MAX_PACKET }
+    ensures { MatchOption result (IsForStack place (plain_line line.now) (view segment.old)
+        × (view segment.new ≡ view segment.old) × (report.new.quiet ≡ report.old.quiet)) (λ came.
+        IsAtHost report.old.quiet place (plain_line line.now) (view segment.old)
+        (came_of came report.new.told report.new.below) (view segment.new)) }
+{
+    match link_ask(segment, place, line, room) {
+        Some(ask) => Some(answer_link(segment, spare, drops, place, ask, report)),
+        None => None,
+    }
+}
+
+/// Does what a line asks of the host at a place, and reports what is told of it.
+pub(crate) fn answer_host(
+    segment: &mut Segment,
+    spare: &mut Spare,
+    place: usize,
+    line: &Line,
+    report: &mut Report,
+) -> Result<(), Fault>
+    ensures { IsAtHost report.old.quiet place (plain_line line.now) (view segment.old)
+        (came_of result report.new.told report.new.below) (view segment.new) }
+{
+    match answer_by_link(
+        segment,
+        &mut spare.stack,
+        &mut spare.drops,
+        spare.bytes.as_mut_slice(),
+        place,
+        line,
+        report,
+    ) {
+        Some(came) => came,
+        None => answer_at(segment, spare, place, line, report),
     }
 }

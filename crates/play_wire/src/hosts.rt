@@ -7,6 +7,8 @@ ghost use Rattle.play_wire.specs.Acts.{AreLedTo};
 
 use crate::capture;
 use crate::fault::Fault;
+use crate::halves::join;
+use crate::link::{check_link, link_of};
 use crate::names::{NAME, is_name, place_of};
 use crate::passed::Counted;
 use crate::spare::Spare;
@@ -14,7 +16,7 @@ use flat_model::Config;
 use play_read::{SettingFault, settings_of};
 use play_script::{Capture, DEFAULTS};
 use script_loop::{Buffer, Sink, first_word};
-use segment::Segment;
+use segment::{Link, Segment};
 use std::alloc::{AllocError, Global};
 
 /// The most packets that are under way at once.
@@ -43,6 +45,29 @@ fn config_of(settings: Option<&[u8]>) -> Result<Config, Fault> {
         Ok(config) => Ok(config),
         Err(fault) => Err(Fault::Setting(fault)),
     }
+}
+
+/// The link that the words after a host's name tell, if they begin with `ether`, and the settings behind it.
+fn link_in(words: Option<&[u8]>, place: usize) -> Result<(Option<Link>, Option<&[u8]>), Fault> {
+    let Some(text) = words else {
+        return Ok((None, None));
+    };
+    let (word, rest) = first_word(text);
+    if word != b"ether".as_slice() {
+        return Ok((None, words));
+    }
+    let (link, settings) = link_of(rest, place)?;
+    Ok((Some(link), settings))
+}
+
+/// The link and the configuration that the words after a host's name tell, by its place.
+fn settings_in(words: Option<&[u8]>, place: usize) -> Result<(Option<Link>, Config), Fault> {
+    let (link, settings) = link_in(words, place)?;
+    let config = config_of(settings)?;
+    if let Some(link) = link {
+        check_link(&link, &config)?;
+    }
+    Ok((link, config))
 }
 
 /// Whether a word stands among these.
@@ -112,9 +137,10 @@ impl<T: Sink + Drop> Hosts<T> {
         }
     }
 
-    /// The host that a line `host NAME ..` tells: its name and its settings. Refused in this order: it has no name, or
-    /// the word isn't one; there is a wire already; a host has the name; and what `config_of` refuses.
-    fn host_of<'a>(&self, rest: Option<&'a [u8]>) -> Result<(&'a [u8], Config), Fault>
+    /// The host that a line `host NAME ..` tells: its name, its link and its settings. Refused in this order: it has no
+    /// name, or the word isn't one; there is a wire already; a host has the name; and what `link_of`, `config_of` and
+    /// `check_link` refuse.
+    fn host_of<'a>(&self, rest: Option<&'a [u8]>) -> Result<(&'a [u8], Option<Link>, Config), Fault>
         ensures { IfOk result (λ r. length r.0.now ≤ NAME) }
     {
         let Some(words) = rest else {
@@ -130,16 +156,16 @@ impl<T: Sink + Drop> Hosts<T> {
         if place_of(self.names.as_slice(), name).is_some() {
             return Err(Fault::NameTaken);
         }
-        let config = config_of(settings)?;
-        Ok((name, config))
+        let (link, config) = settings_in(settings, self.names.len())?;
+        Ok((name, link, config))
     }
 
-    /// `host NAME ..`: a host with these settings has the next place.
+    /// `host NAME ..`: a host with this link and these settings has the next place.
     pub(crate) fn add(&mut self, rest: Option<&[u8]>) -> Result<(), Fault>
         ensures moves { AreLedTo (view self.old.segment) (view self.new.segment) }
         ensures names { (more : List (List ℕ)) × (self.new.names.items ≡ self.old.names.items ++ more) }
     {
-        let (name, config) = self.host_of(rest)?;
+        let (name, link, config) = self.host_of(rest)?;
         let Ok(mut buffer) = Buffer::new(self.alloc) else {
             return Err(Fault::Setting(SettingFault::Memory));
         };
@@ -147,7 +173,7 @@ impl<T: Sink + Drop> Hosts<T> {
         if self.names.reserve(1).is_err() || self.counts.reserve(1).is_err() {
             return Err(Fault::Setting(SettingFault::Memory));
         }
-        match self.segment.join(self.alloc, config) {
+        match join(&mut self.segment, self.alloc, config, link) {
             Ok(()) => {
                 self.names.push_reserved(buffer);
                 self.counts.push_reserved(Counted::none());

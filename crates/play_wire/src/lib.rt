@@ -1,5 +1,6 @@
 //! Scripts of many machines: hosts with names, each of them asked by the lines of `play_script`, and one wire that
-//! joins them. What waits in their output queues passes by lines of its own.
+//! joins them. What waits in their output queues passes by lines of its own: packets, or the frames of hosts on an
+//! Ethernet.
 #![tactic(auto)]
 
 mod add;
@@ -8,9 +9,15 @@ mod capture;
 mod carries;
 mod chance;
 mod fault;
+mod frame;
+mod halves;
 mod host_line;
 mod hosts;
 mod impair;
+mod link;
+mod link_ask;
+mod link_count;
+mod link_line;
 mod names;
 mod passed;
 mod player;
@@ -19,6 +26,7 @@ mod show;
 mod spare;
 mod summary;
 mod target;
+mod tell_link;
 mod ticks;
 mod wire_line;
 

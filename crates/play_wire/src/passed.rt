@@ -3,6 +3,7 @@ ghost use Rattle.segment.specs.Inside.{view};
 ghost use Rattle.play_wire.specs.Acts.{AreLedTo};
 
 use crate::add::{add, add_number};
+use crate::frame::add_frame;
 use crate::names::NAME;
 use crate::show::name_at;
 use crate::spare::Spare;
@@ -61,18 +62,22 @@ pub(crate) fn take_counts(segment: &mut Segment, spare: &mut Stack, counts: &mut
 }
 
 /// Puts the words of a packet after a text, if there is room for them.
-fn add_words(text: &mut Buffer<SHOWN>, packet: &[u8]) {
+pub(crate) fn add_words(text: &mut Buffer<SHOWN>, packet: &[u8]) {
     if packet.len() <= IP_MAX_PACKET as usize && text.len() <= SHOWN - PACKET_TEXT {
         put_packet(text, packet);
     }
 }
 
-/// Puts a packet after a text, as a line with its sender.
-fn add_sent(text: &mut Buffer<SHOWN>, name: &[u8], packet: &[u8]) {
+/// Puts a packet or a frame after a text, as a line with its sender.
+fn add_sent(text: &mut Buffer<SHOWN>, name: &[u8], packet: &[u8], ether: bool) {
     add(text, b"    ");
     add(text, name);
     add(text, b": ");
-    add_words(text, packet);
+    if ether {
+        add_frame(text, packet);
+    } else {
+        add_words(text, packet);
+    }
     add(text, b"\n");
 }
 
@@ -91,7 +96,8 @@ pub(crate) fn add_went(
     for at in first..segment.flight_len() {
         if let Some(it) = segment.under_way(at) {
             if at - first < MOST {
-                add_sent(text, name_at(names, it.sender), it.packet);
+                let name = name_at(names, it.sender);
+                add_sent(text, name, it.packet, segment.is_ether());
             } else {
                 more = more.saturating_add(1);
             }
@@ -104,53 +110,55 @@ pub(crate) fn add_went(
     }
 }
 
-/// Puts how many packets of a host had some fate after a text, as a line, if there are any.
-fn add_fate(text: &mut Buffer<SHOWN>, name: &[u8], fate: &[u8], count: u64) {
+/// Who counted, and of what: of packets or of frames.
+#[derive(Clone, Copy)]
+struct Counter<'a> {
+    name: &'a [u8],
+    unit: &'a [u8],
+}
+
+/// Puts how many packets or frames of a host had some fate after a text, as a line, if there are any.
+fn add_fate(text: &mut Buffer<SHOWN>, by: Counter<'_>, fate: &[u8], count: u64) {
     if count == 0 {
         return;
     }
     add(text, b"    ");
-    add(text, name);
+    add(text, by.name);
     add(text, b": ");
     add(text, fate);
     add(text, b" ");
     add_number(text, count);
-    add(
-        text,
-        if count == 1 {
-            b" packet\n".as_slice()
-        } else {
-            b" packets\n"
-        },
-    );
+    add(text, b" ");
+    add(text, by.unit);
+    add(text, if count == 1 { b"\n".as_slice() } else { b"s\n" });
 }
 
 /// Puts what a host did with packets after a text: how many it lost, repeated and received, and why some were dropped.
 fn add_counts(
     text: &mut Buffer<SHOWN>,
     drops: &mut Buffer<DROPS>,
-    name: &[u8],
+    by: Counter<'_>,
     old: &Counted,
     new: &Counted,
 ) {
     let (was, is) = (old.tally, new.tally);
-    add_fate(text, name, b"lost", is.lost.saturating_sub(was.lost));
+    add_fate(text, by, b"lost", is.lost.saturating_sub(was.lost));
     add_fate(
         text,
-        name,
+        by,
         b"repeated",
         is.repeated.saturating_sub(was.repeated),
     );
     add_fate(
         text,
-        name,
+        by,
         b"received",
         is.received.saturating_sub(was.received),
     );
     put_drops(drops, &old.counters, &new.counters);
     if !drops.is_empty() {
         add(text, b"    ");
-        add(text, name);
+        add(text, by.name);
         add(text, b":");
         add(text, bytes_of(drops));
         add(text, b"\n");
@@ -167,9 +175,15 @@ pub(crate) fn add_all(
 )
     ensures { AreLedTo (view segment.old) (view segment.new) }
 {
+    let unit = if segment.is_ether() {
+        b"frame".as_slice()
+    } else {
+        b"packet"
+    };
     for place in 0..counts.len() {
         let old = counts[place];
         let new = counted_at(segment, &mut spare.stack, place);
-        add_counts(text, &mut spare.drops, name_at(names, place), &old, &new);
+        let name = name_at(names, place);
+        add_counts(text, &mut spare.drops, Counter { name, unit }, &old, &new);
     }
 }

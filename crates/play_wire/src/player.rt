@@ -67,7 +67,7 @@ fn advised_by(target: &Target) -> Advised
     ensures { result ≡ player_of (named_by target.now) }
 {
     if target.named {
-        Advised::Machine
+        Advised::Host
     } else {
         Advised::Wire
     }

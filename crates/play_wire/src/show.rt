@@ -1,5 +1,6 @@
 //! What is under way, in words.
 use crate::add::{add, add_number};
+use crate::frame::{add_address, add_frame};
 use crate::names::NAME;
 use byteorder::{BigEndian, ByteOrder};
 use params::IP_HEADER;
@@ -22,16 +23,6 @@ fn header_of(packet: &[u8]) -> Header {
     header
 }
 
-/// Puts an address after a text.
-fn add_address(text: &mut Buffer<SHOWN>, octets: &[u8]) {
-    for (place, octet) in octets.iter().enumerate() {
-        if place != 0 {
-            add(text, b".");
-        }
-        add_number(text, u64::from(*octet));
-    }
-}
-
 /// Puts what part of a datagram a packet has after a text, if it isn't all of it.
 fn add_part(text: &mut Buffer<SHOWN>, header: &Header) {
     let word = BigEndian::read_u16(&header[6..]);
@@ -47,22 +38,31 @@ fn add_part(text: &mut Buffer<SHOWN>, header: &Header) {
     }
 }
 
-/// Puts a packet that is under way after a text, as a line.
-fn add_packet(text: &mut Buffer<SHOWN>, at: usize, name: &[u8], it: UnderWay<'_>) {
-    let header = header_of(it.packet);
+/// Puts a packet after a text.
+fn add_packet(text: &mut Buffer<SHOWN>, packet: &[u8]) {
+    let header = header_of(packet);
+    add_address(text, &header[12..16]);
+    add(text, b" > ");
+    add_address(text, &header[16..]);
+    add(text, b", ");
+    add_number(text, packet.len() as u64);
+    add(text, b" bytes, id ");
+    add_number(text, u64::from(BigEndian::read_u16(&header[4..])));
+    add_part(text, &header);
+}
+
+/// Puts a packet or a frame that is under way after a text, as a line.
+fn add_under_way(text: &mut Buffer<SHOWN>, at: usize, name: &[u8], it: UnderWay<'_>, ether: bool) {
     add(text, b"    ");
     add_number(text, at as u64);
     add(text, b"  ");
     add(text, name);
     add(text, b": ");
-    add_address(text, &header[12..16]);
-    add(text, b" > ");
-    add_address(text, &header[16..]);
-    add(text, b", ");
-    add_number(text, it.packet.len() as u64);
-    add(text, b" bytes, id ");
-    add_number(text, u64::from(BigEndian::read_u16(&header[4..])));
-    add_part(text, &header);
+    if ether {
+        add_frame(text, it.packet);
+    } else {
+        add_packet(text, it.packet);
+    }
     if it.wait != 0 {
         add(text, b", due after ");
         add_number(text, it.wait);
@@ -78,7 +78,7 @@ pub(crate) fn name_at(names: &[Buffer<NAME>], place: usize) -> &[u8] {
     }
 }
 
-/// Tells how many packets are under way, and below it a line for each of the first 200.
+/// Tells how many packets or frames are under way, and below it a line for each of the first 200.
 pub(crate) fn tell_wire(
     segment: &Segment,
     names: &[Buffer<NAME>],
@@ -89,15 +89,17 @@ pub(crate) fn tell_wire(
     add_number(told, count as u64);
     add(
         told,
-        if count == 1 {
-            b" packet under way"
-        } else {
-            b" packets under way"
+        match (segment.is_ether(), count) {
+            (false, 1) => b" packet under way".as_slice(),
+            (false, _) => b" packets under way",
+            (true, 1) => b" frame under way",
+            (true, _) => b" frames under way",
         },
     );
     for at in 0..MOST {
         if let Some(it) = segment.under_way(at) {
-            add_packet(below, at, name_at(names, it.sender), it);
+            let name = name_at(names, it.sender);
+            add_under_way(below, at, name, it, segment.is_ether());
         }
     }
 }

@@ -1,5 +1,6 @@
 //! What was counted of each host.
-ghost use Rattle.std.specs.Prelude.{◌≡◌};
+ghost use Rattle.std.specs.Prelude.{◌≡◌, option_map, slice_get};
+ghost use Rattle.net_stack.specs.Stack.{state_of};
 ghost use Rattle.segment.specs.Inside.{view};
 ghost use Rattle.play_wire.specs.Acts.{AreLedTo};
 
@@ -76,7 +77,8 @@ pub(crate) fn counters_at(
     spare: &mut Stack,
     place: usize,
 ) -> Option<Counters>
-    ensures { AreLedTo (view segment.old) (view segment.new) }
+    ensures same { view segment.new ≡ view segment.old }
+    ensures is { result ≡ option_map (λ s. (state_of s).counters) (slice_get (view segment.old).stacks place) }
 {
     if exchange(segment, place, spare) {
         let counters = spare.counters();

@@ -1,10 +1,11 @@
 //! Ticks of hosts.
-ghost use Rattle.std.specs.Prelude.{◌≡◌, map, replicate};
+ghost use Rattle.std.specs.Prelude.{◌≡◌, true, map, replicate};
 ghost use Rattle.flat_model.specs.Amounts.Choice.{Choice};
 ghost use Rattle.flat_model.specs.Machine.Event.{Tick, Done};
 ghost use Rattle.net_stack.specs.Runs.{AreCalls};
 ghost use Rattle.segment.specs.Inside.{view};
-ghost use Rattle.segment.specs.Law.{Calls, AreActs};
+ghost use Rattle.segment.specs.Law.{AgesLink, AreActs, Calls, Ether};
+ghost use Rattle.segment.specs.Segment.{is_ether};
 ghost use Rattle.play_wire.specs.Acts.{AreLedTo, call_turn};
 ghost use Rattle.play_wire.specs.Inside.{IsExchanged, IsKept};
 
@@ -37,14 +38,36 @@ pub(crate) fn tick_stack(stack: &mut Stack, count: u32)
     }
 }
 
-/// Lets so many ticks pass at the host at a place, if there is such a host. The spare stack stands in its place
-/// meanwhile.
-fn tick_host(segment: &mut Segment, spare: &mut Stack, place: usize, count: u32)
+/// The link of the host at a place is so many ticks older.
+pub(crate) fn age_link(segment: &mut Segment, place: usize, count: u32)
+    requires { is_ether (view segment.old) ≡ true }
+    ensures { AreActs (view segment.old) (replicate count (Ether (AgesLink place))) (view segment.new) }
+{
+    let mut aged = 0;
+    while aged < count {
+        segment.age_link(place);
+        aged += 1;
+    }
+}
+
+/// Lets so many ticks pass at the stack of the host at a place, if there is such a host. The spare stack stands in its
+/// place meanwhile.
+fn tick_bare(segment: &mut Segment, spare: &mut Stack, place: usize, count: u32)
     ensures { AreLedTo (view segment.old) (view segment.new) }
 {
     if exchange(segment, place, spare) {
         tick_stack(spare, count);
         exchange(segment, place, spare);
+    }
+}
+
+/// Lets so many ticks pass at the host at a place, if there is such a host, and at its link, if it has one.
+fn tick_host(segment: &mut Segment, spare: &mut Stack, place: usize, count: u32)
+    ensures { AreLedTo (view segment.old) (view segment.new) }
+{
+    tick_bare(segment, spare, place, count);
+    if segment.is_ether() {
+        age_link(segment, place, count);
     }
 }
 

@@ -10,12 +10,13 @@ use crate::by_hand::{by_hand_in, do_by_hand};
 use crate::capture::collect;
 use crate::carries::{Bound, bound_of, carry};
 use crate::fault::Fault;
+use crate::halves::deliver;
 use crate::hosts::Hosts;
+use crate::link_ask::ticks_in;
 use crate::passed::{add_all, take_counts};
 use crate::show::tell_wire;
 use crate::summary::tell_summary;
 use crate::ticks::tick_all;
-use play_read::ticks_of;
 use play_script::{Report, TOLD};
 use script_loop::{Buffer, Sink, first_word, is_end};
 use segment::Segment;
@@ -145,13 +146,8 @@ impl<T: Sink + Drop> Hosts<T> {
         ensures moves { AreLedTo (view self.old.segment) (view self.new.segment) }
         ensures names { self.new.names ≡ self.old.names }
     {
-        let count = if words == b"tick".as_slice() {
-            1
-        } else {
-            match ticks_of(words) {
-                Some(count) => count,
-                None => return Err(Fault::Nothing),
-            }
+        let Some(count) = ticks_in(words) else {
+            return Err(Fault::Nothing);
         };
         tick_all(&mut self.segment, &mut self.spare.stack, count);
         self.capture.tick(count);
@@ -172,7 +168,7 @@ impl<T: Sink + Drop> Hosts<T> {
         if word == b"collect".as_slice() {
             collect(&mut self.capture, &mut self.segment);
         } else {
-            self.segment.deliver();
+            deliver(&mut self.segment);
         }
         Ok(())
     }

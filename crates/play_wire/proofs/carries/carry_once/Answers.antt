@@ -1,11 +1,11 @@
-use Rattle.std.proofs.Common.{refl}
 use Rattle.segment.specs.Inside.{view}
-use Rattle.segment.specs.Law.{Delivers}
-use Rattle.play_wire.proofs.ActLemmas.{moves_on, one_act}
+use Rattle.play_wire.proofs.ActLemmas.{moves_on}
 use Rattle.play_wire.proofs.carries.carry_once.Goals as goal
 
 pub returns : goal.returns
 returns g c =
-    let mid = view c.collect-first.new.segment in
-    moves_on (view c.args.segment.now) mid (view c.deliver.new.self) c.collect-first.ensures
-    (one_act mid (view c.deliver.new.self) (Delivers mid) (refl, c.deliver.ensures))
+    let first = view c.args.segment.now in
+    let gone = view c.send.new.segment in
+    let come = view c.deliver.new.segment in
+    moves_on first come (view c.settle.new.segment) (moves_on first gone come c.send.ensures c.deliver.ensures)
+    c.settle.ensures

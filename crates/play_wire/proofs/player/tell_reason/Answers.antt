@@ -5,7 +5,7 @@ use Rattle.play_wire.specs.Faults.{IsReason, wire_fault_words}
 use Rattle.play_script.specs.Views.{plain_line}
 use Rattle.play_wire.specs.Inside.{named_by}
 use Rattle.play_wire.specs.declared.fault.Fault.{Fault}
-use Rattle.play_wire.specs.declared.fault.Fault.TheVariants.{Nothing, NoHost, NoName, NameTaken, Setting, TooManyHosts, AddressTaken, NoWire, Wired, NotAll, NoChance, NoPacket, NoCapture, NoSettings}
+use Rattle.play_wire.specs.declared.fault.Fault.TheVariants.{Nothing, NoHost, NoName, NameTaken, Setting, TooManyHosts, AddressTaken, NoWire, Wired, NotAll, NoChance, NoPacket, NoCapture, NoSettings, NoLinkWord, BadMac, BadMask, BadGateway, BadMtu, MacTaken, OtherLink, NoLink, OnEthernet}
 use Rattle.play_wire.proofs.player.tell_reason.Goals as goal
 
 -- the words of a line that asks for something
@@ -24,6 +24,15 @@ reason_of host plain NoChance what some is = is
 reason_of host plain NoPacket what some is = is
 reason_of host plain NoCapture what some is = is
 reason_of host plain NoSettings what some is = is
+reason_of host plain NoLinkWord what some is = is
+reason_of host plain BadMac what some is = is
+reason_of host plain BadMask what some is = is
+reason_of host plain BadGateway what some is = is
+reason_of host plain BadMtu what some is = is
+reason_of host plain MacTaken what some is = is
+reason_of host plain OtherLink what some is = is
+reason_of host plain NoLink what some is = is
+reason_of host plain OnEthernet what some is = is
 reason_of host plain (Setting fault) what some is = is
 
 pub returns-in-Nothing-clause-reason : goal.returns-in-Nothing-clause-reason

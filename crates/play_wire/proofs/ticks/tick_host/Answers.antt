@@ -1,15 +1,13 @@
-use Rattle.std.proofs.Common.{replicate}
-use Rattle.flat_model.specs.Machine.Event.{Tick, Done}
+use Rattle.std.proofs.Common.{◌∙◌, replicate, sym}
 use Rattle.segment.specs.Inside.{view}
-use Rattle.play_wire.specs.Acts.{call_turn}
-use Rattle.play_wire.proofs.ActLemmas.{calls_move}
+use Rattle.segment.specs.Law.{AgesLink, Ether}
+use Rattle.play_wire.proofs.ActLemmas.{moves_on}
 use Rattle.play_wire.proofs.ticks.tick_host.Goals as goal
 
-pub returns-then-exchange : goal.returns-then-exchange
-returns-then-exchange c =
-    calls_move c.args.place (view c.args.segment.now) (view c.exchange.new.segment)
-    (view c.exchange-then-exchange.new.segment)
-    c.args.spare.now c.exchange.new.stack c.tick_stack.new.stack c.exchange-then-exchange.new.stack
-    c.exchange-then-exchange.result
-    (replicate c.args.count (call_turn Tick Done)) (c.exchange.ensures.yes c.if-exchange.true) c.tick_stack.ensures
-    c.exchange-then-exchange.ensures
+pub age_link-requires : goal.age_link-requires
+age_link-requires c = sym c.is_ether.ensures ∙ c.if-is_ether.true
+
+pub returns-then-is_ether : goal.returns-then-is_ether
+returns-then-is_ether c =
+    moves_on (view c.args.segment.now) (view c.tick_bare.new.segment) (view c.age_link.new.segment) c.tick_bare.ensures
+    (replicate c.args.count (Ether (AgesLink c.args.place)), c.age_link.ensures)

@@ -1,0 +1,414 @@
+-- Lines that a host's link answers.
+use Rattle.std.proofs.Common.{◌≡◌, ◌<◌, ◌⊎◌, inl, inr, ℕ, zero, suc, Bool, true, false, List, [], ◌∷◌, ◌++◌, map, replicate, Option, Some, None, refl, sym, ap, ap₂, ◌∙◌, subst, arith}
+use Rattle.std.proofs.Math.Dec.{eqb-suc-zero}
+use Rattle.std.proofs.lemmas.Bool.{lt-ltb}
+use Rattle.std.specs.Prelude.{◌==◌, if◌then◌else◌, not, codes, is_some, nat_lt, MatchOption, length, option_map, slice_get, ◌&&◌, Result}
+use Rattle.flat_ether.specs.Claims.{address_state}
+use Rattle.flat_ether.specs.Links.{LinkState}
+use Rattle.flat_ether.specs.declared.claim.AddressState.{AddressState}
+use Rattle.flat_ether.specs.declared.link.Link.{Link}
+use Rattle.flat_ether.specs.declared.neighbour.Neighbour.{Neighbour}
+use Rattle.flat_ether.specs.declared.tallies.Tallies.{Tallies}
+use Rattle.flat_ether.specs.declared.error.NetFault.{NetFault}
+use Rattle.flat_model.specs.Amounts.Choice.{Choice}
+use Rattle.flat_model.specs.Machine.Event.{Tick, Done}
+use Rattle.flat_model.specs.declared.counters.Counters.{Counters}
+use Rattle.flat_model.specs.declared.errno.Errno.{Errno}
+use Rattle.net_stack.specs.Runs.{AreCalls}
+use Rattle.net_stack.specs.Stack.{StackView, state_of}
+use Rattle.segment.specs.Frames.{IsAskedError, IsHeard}
+use Rattle.segment.specs.Law.{Act, AreActs, AgesLink, AsksError, Calls, Ether, HearsFrame}
+use Rattle.segment.specs.Segment.{SegmentView, is_ether}
+use Rattle.play_wire.specs.Acts.{IsMissing, IsStackLine, Outcome, Told, Refused, call_turn}
+use Rattle.play_read.specs.Asks.{IsTicks}
+use Rattle.play_wire.specs.Inside.{HasCounted, HasNotCounted, IsAtHost, IsAtLink, IsAtStack, IsExchanged, IsKept, IsNotOther, IsNotShown, link_asked}
+use Rattle.play_wire.specs.LinkTexts.{error_text, heard_text, link_lines, neighbour_lines, neighbours_text, state_text}
+use Rattle.play_wire.specs.Links.{DoesLink, IsForStack, IsFrameLine, IsHostLine, IsTickLine, LinkAsk, Frame, LastError, Neighbours, Counts, Ticks, Packets, WritesLink, is_for_link, is_of_link, is_packet_line, ticks_at}
+use Rattle.play_wire.specs.declared.fault.Fault.TheVariants as fault
+use Rattle.play_wire.specs.declared.link_ask.LinkAsk.{LinkAsk as Asked}
+use Rattle.play_wire.specs.declared.tell_link.Counts.{Counts as HostCounts}
+use Rattle.play_wire.proofs.ActLemmas.{acts_append, calls_are_acts, get_set, put_back}
+
+-- ---- a line of a host
+
+by_link : (quiet : Bool) (place : ℕ) (plain : List ℕ) (ask : LinkAsk) (v w : SegmentView) (came : Outcome) (acts : List Act)
+    → WritesLink plain ask → is_for_link (slice_get v.links place) ask ≡ true
+    → DoesLink place ask (slice_get v.links place) v acts came w ⊎ IsMissing place v acts came w
+    → IsHostLine quiet place plain v acts came w ⊎ IsMissing place v acts came w
+by_link quiet place plain ask v w came acts writes there (inl does) = inl (inr (ask, writes, there, does))
+by_link quiet place plain ask v w came acts writes there (inr missing) = inr missing
+
+pub host_by_link : (quiet : Bool) (place : ℕ) (plain : List ℕ) (ask : LinkAsk) (v w : SegmentView) (came : Outcome)
+    → WritesLink plain ask → is_for_link (slice_get v.links place) ask ≡ true → IsAtLink place ask v came w
+    → IsAtHost quiet place plain v came w
+host_by_link quiet place plain ask v w came writes there (acts, did) =
+    (acts, by_link quiet place plain ask v w came acts writes there did)
+
+by_stack : (quiet : Bool) (place : ℕ) (plain : List ℕ) (v w : SegmentView) (came : Outcome) (acts : List Act)
+    → IsForStack place plain v → IsStackLine quiet place plain v acts came w ⊎ IsMissing place v acts came w
+    → IsHostLine quiet place plain v acts came w ⊎ IsMissing place v acts came w
+by_stack quiet place plain v w came acts others (inl is) = inl (inl (others, is))
+by_stack quiet place plain v w came acts others (inr missing) = inr missing
+
+pub host_by_stack : (quiet quiet' : Bool) (place : ℕ) (plain : List ℕ) (v v' w : SegmentView) (came : Outcome)
+    → IsForStack place plain v × (v' ≡ v) × (quiet' ≡ quiet) → IsAtStack quiet' place plain v' came w
+    → IsAtHost quiet place plain v came w
+host_by_stack quiet quiet' place plain v v' w came (others, same, loud) (acts, did) =
+    let here : IsStackLine quiet' place plain v acts came w ⊎ IsMissing place v acts came w =
+    subst (λ (x : SegmentView). IsStackLine quiet' place plain x acts came w ⊎ IsMissing place x acts came w) same did in
+    let so : IsStackLine quiet place plain v acts came w ⊎ IsMissing place v acts came w =
+    subst (λ (q : Bool). IsStackLine q place plain v acts came w ⊎ IsMissing place v acts came w) loud here in
+    (acts, by_stack quiet place plain v w came acts others so)
+
+-- ---- what a line asks for
+
+-- a line that asks a link for nothing
+pub asks_none : (plain : List ℕ)
+    → ((frame : List ℕ) → WritesLink plain (Frame frame) → ⊥) → ((fd : ℕ) → WritesLink plain (LastError fd) → ⊥)
+    → ((n : ℕ) → WritesLink plain (Ticks n) → ⊥) → (WritesLink plain Packets → ⊥)
+    → (WritesLink plain Neighbours → ⊥) → (WritesLink plain Counts → ⊥)
+    → (ask : LinkAsk) → WritesLink plain ask → ⊥
+asks_none plain frame error ticks packets neighbours counts (Frame it) writes = frame it writes
+asks_none plain frame error ticks packets neighbours counts (LastError fd) writes = error fd writes
+asks_none plain frame error ticks packets neighbours counts Neighbours writes = neighbours writes
+asks_none plain frame error ticks packets neighbours counts Counts writes = counts writes
+asks_none plain frame error ticks packets neighbours counts (Ticks n) writes = ticks n writes
+asks_none plain frame error ticks packets neighbours counts Packets writes = packets writes
+
+pub none_is : {X Y : Type 0} (f : X → Y) (x : Option X) → option_map f x ≡ None → x ≡ None
+none_is f None e = refl
+none_is f (Some x) e = absurd (never e)
+  where
+    never : Some (f x) ≡ None → ⊥
+    never g = cc
+
+-- a host with a link is asked for whatever a link is
+pub for_its_link : (links : Option LinkState) (ask : LinkAsk) (link : Link)
+    → option_map (λ (l : LinkState). l.link) links ≡ Some link → is_for_link links ask ≡ true
+for_its_link None ask link e = absurd (never e)
+  where
+    never : None ≡ Some link → ⊥
+    never g = cc
+for_its_link (Some l) ask link e = refl
+
+-- a host without one for the rest
+pub for_no_link : (links : Option LinkState) (ask : LinkAsk) (b : Bool)
+    → option_map (λ (l : LinkState). l.link) links ≡ None → is_of_link ask ≡ b → is_for_link links ask ≡ b
+for_no_link links ask b e is =
+    ap (λ (x : Option LinkState). is_for_link x ask) (none_is (λ (l : LinkState). l.link) links e) ∙ is
+
+pub link_there : (links : Option LinkState) (link : Link) → option_map (λ (l : LinkState). l.link) links ≡ Some link
+    → is_some links ≡ true
+link_there None link e = absurd (never e)
+  where
+    never : None ≡ Some link → ⊥
+    never g = cc
+link_there (Some l) link e = refl
+
+-- `tick` alone, or with a number
+pub tick_line : (plain : List ℕ) (n : Option ℕ) → (plain ≡ codes "tick" → ⊥)
+    → MatchOption n ((k : ℕ) → IsTicks plain k → ⊥) (IsTicks plain)
+    → MatchOption n ((k : ℕ) → IsTickLine plain k → ⊥) (IsTickLine plain)
+tick_line plain (Some k) more is = inr is
+tick_line plain None more none = λ k h. elim h [
+  | inl one ↦ more one.0
+  | inr is ↦ none k is
+]
+
+-- a packet by name
+pub packet_spelled : (named : Bool) (packet words : List ℕ) → named ≡ true
+    → is_packet_line (if named then codes "rx " ++ packet else words) ≡ true
+packet_spelled true packet words e = refl
+packet_spelled false packet words e = absurd (never e)
+  where
+    never : false ≡ true → ⊥
+    never g = cc
+
+-- words that name no packet
+pub ask_spelled : (named : Bool) (packet words plain : List ℕ) (ask : Option Asked) → named ≡ false → plain ≡ words
+    → MatchOption ask ((it : LinkAsk) → WritesLink plain it → ⊥) (λ it. WritesLink plain (link_asked it))
+    → MatchOption ask ((it : LinkAsk) → WritesLink (if named then codes "rx " ++ packet else words) it → ⊥)
+    (λ it. WritesLink (if named then codes "rx " ++ packet else words) (link_asked it))
+ask_spelled true packet words plain ask e same is = absurd (never e)
+  where
+    never : true ≡ false → ⊥
+    never g = cc
+ask_spelled false packet words plain ask e same is =
+    subst (λ (p : List ℕ). MatchOption ask ((it : LinkAsk) → WritesLink p it → ⊥)
+    (λ it. WritesLink p (link_asked it))) same is
+
+-- what is neither an error, nor ticks, nor a packet, and what is shown
+pub other_or_none : (plain : List ℕ) (ask : Option Asked) → ((fd : ℕ) → WritesLink plain (LastError fd) → ⊥)
+    → ((n : ℕ) → WritesLink plain (Ticks n) → ⊥) → (WritesLink plain Packets → ⊥)
+    → MatchOption ask (IsNotShown plain) (λ it. WritesLink plain (link_asked it))
+    → MatchOption ask (IsNotOther plain) (λ it. WritesLink plain (link_asked it))
+other_or_none plain (Some it) error ticks packets is = is
+other_or_none plain None error ticks packets shown = (error, ticks, packets, shown)
+
+-- what isn't a frame, and what else it is
+pub asks_or_none : (plain : List ℕ) (ask : Option Asked) → ((frame : List ℕ) → IsFrameLine plain frame → ⊥)
+    → MatchOption ask (IsNotOther plain) (λ it. WritesLink plain (link_asked it))
+    → MatchOption ask ((it : LinkAsk) → WritesLink plain it → ⊥) (λ it. WritesLink plain (link_asked it))
+asks_or_none plain (Some it) frame is = is
+asks_or_none plain None frame (error, ticks, packets, shown) =
+    asks_none plain frame error ticks packets shown.0 shown.1
+
+-- ---- refusals
+
+pub no_link : (place : ℕ) (ask : LinkAsk) (v : SegmentView) → slice_get v.links place ≡ None
+    → IsAtLink place ask v (Refused fault.NoLink) v
+no_link place ask v e = (
+  [],
+  inl (subst (λ (x : Option LinkState). DoesLink place ask x v [] (Refused fault.NoLink) v) (sym e)
+      (refl, refl, refl)),
+)
+
+pub no_link_by : {Y : Type 0} (f : LinkState → Y) (place : ℕ) (ask : LinkAsk) (v : SegmentView)
+    → option_map f (slice_get v.links place) ≡ None → IsAtLink place ask v (Refused fault.NoLink) v
+no_link_by f place ask v e = no_link place ask v (none_is f (slice_get v.links place) e)
+
+pub no_host : (place : ℕ) (ask : LinkAsk) (v : SegmentView) → slice_get v.stacks place ≡ None
+    → IsAtLink place ask v (Refused fault.NoHost) v
+no_host place ask v e = ([], inr (e, refl, refl, refl))
+
+pub not_counted : (place : ℕ) (ask : LinkAsk) (v w : SegmentView) → w ≡ v → is_some (slice_get v.links place) ≡ true
+    → HasNotCounted place v → IsAtLink place ask v (Refused fault.NoHost) w
+not_counted place ask v w same there (inl none) = absurd (never (sym (ap is_some none) ∙ there))
+  where
+    never : false ≡ true → ⊥
+    never g = cc
+not_counted place ask v w same there (inr none) =
+    subst (λ (x : SegmentView). IsAtLink place ask v (Refused fault.NoHost) x) (sym same) (no_host place ask v none)
+
+-- ---- what is shown
+
+some_is : {X Y : Type 0} (f : X → Y) (x : Option X) (y : Y) → option_map f x ≡ Some y
+    → (it : X) × (x ≡ Some it) × (f it ≡ y)
+some_is f None y e = absurd (never e)
+  where
+    never : None ≡ Some y → ⊥
+    never g = cc
+some_is f (Some x) y e = (x, refl, cc e)
+
+pub neighbours_shown : (place : ℕ) (v : SegmentView) (ns : List Neighbour) (told below : List ℕ)
+    → option_map (λ (l : LinkState). l.neighbours) (slice_get v.links place) ≡ Some ns
+    → told ≡ neighbours_text ns → below ≡ neighbour_lines ns
+    → IsAtLink place Neighbours v (Told told below) v
+neighbours_shown place v ns told below e is lines =
+    let there = some_is (λ (l : LinkState). l.neighbours) (slice_get v.links place) ns e in
+    let text : told ≡ neighbours_text there.0.neighbours = is ∙ ap neighbours_text (sym there.2) in
+    let rows : below ≡ neighbour_lines there.0.neighbours = lines ∙ ap neighbour_lines (sym there.2) in (
+      [],
+      inl (subst (λ (x : Option LinkState). DoesLink place Neighbours x v [] (Told told below) v) (sym there.1)
+          (refl, ap₂ Told text rows, refl)),
+    )
+
+get_same : {X : Type 0} (x : Option X) (a b : X) → x ≡ Some a → x ≡ Some b → a ≡ b
+get_same x a b e f = cc (sym e ∙ f)
+
+pub link_shown : (place : ℕ) (v : SegmentView) (link : Link) (state : AddressState) (tallies : Tallies)
+    (told below : List ℕ)
+    → Some link ≡ option_map (λ (l : LinkState). l.link) (slice_get v.links place)
+    → Some state ≡ option_map (λ (l : LinkState). address_state l.claim) (slice_get v.links place)
+    → Some tallies ≡ option_map (λ (l : LinkState). l.tallies) (slice_get v.links place)
+    → told ≡ state_text state → below ≡ link_lines link tallies
+    → IsAtLink place Counts v (Told told below) v
+link_shown place v link state tallies told below e f g is lines = by (slice_get v.links place) refl
+  where
+    by : (x : Option LinkState) → slice_get v.links place ≡ x → IsAtLink place Counts v (Told told below) v
+    by None n = absurd (never (e ∙ ap (option_map (λ (l : LinkState). l.link)) n))
+      where
+        never : Some link ≡ None → ⊥
+        never h = cc
+    by (Some l) n =
+        let link_is : link ≡ l.link = cc (e ∙ ap (option_map (λ (l : LinkState). l.link)) n) in
+        let state_is : state ≡ address_state l.claim =
+        cc (f ∙ ap (option_map (λ (l : LinkState). address_state l.claim)) n) in
+        let tallies_are : tallies ≡ l.tallies = cc (g ∙ ap (option_map (λ (l : LinkState). l.tallies)) n) in (
+          [],
+          inl (subst (λ (x : Option LinkState). DoesLink place Counts x v [] (Told told below) v) (sym n)
+              (refl, ap₂ Told (is ∙ ap state_text state_is) (lines ∙ ap₂ link_lines link_is tallies_are), refl)),
+        )
+
+-- ---- ticks
+
+pub ticked : (place n : ℕ) (v mid w : SegmentView) (told below : List ℕ) → is_some (slice_get v.links place) ≡ true
+    → AreActs v (map (Calls place) (replicate n (call_turn Tick Done))) mid
+    → AreActs mid (replicate n (Ether (AgesLink place))) w
+    → told ≡ codes "ok" → below ≡ [] → IsAtLink place (Ticks n) v (Told told below) w
+ticked place n v mid w told below there first aged text none = by (slice_get v.links place) refl
+  where
+    acts : AreActs v (ticks_at place n) w
+    acts =
+        acts_append v mid w (map (Calls place) (replicate n (call_turn Tick Done)))
+        (replicate n (Ether (AgesLink place))) first aged
+
+    by : (x : Option LinkState) → slice_get v.links place ≡ x → IsAtLink place (Ticks n) v (Told told below) w
+    by None e = absurd (never (sym (ap is_some e) ∙ there))
+      where
+        never : false ≡ true → ⊥
+        never h = cc
+    by (Some l) e = (
+      ticks_at place n,
+      inl (subst (λ (x : Option LinkState). DoesLink place (Ticks n) x v (ticks_at place n) (Told told below) w)
+          (sym e) (acts, refl, ap₂ Told text none)),
+    )
+
+pub packets_refused : (place : ℕ) (v : SegmentView) → is_some (slice_get v.links place) ≡ true
+    → IsAtLink place Packets v (Refused fault.OnEthernet) v
+packets_refused place v there = by (slice_get v.links place) refl
+  where
+    by : (x : Option LinkState) → slice_get v.links place ≡ x → IsAtLink place Packets v (Refused fault.OnEthernet) v
+    by None e = absurd (never (sym (ap is_some e) ∙ there))
+      where
+        never : false ≡ true → ⊥
+        never h = cc
+    by (Some l) e = (
+      [],
+      inl (subst (λ (x : Option LinkState). DoesLink place Packets x v [] (Refused fault.OnEthernet) v) (sym e)
+          (refl, refl, refl)),
+    )
+
+-- ---- a frame, and an error
+
+there_below : {X : Type 0} (xs : List X) (i : ℕ) (x : X) → slice_get xs i ≡ Some x → i < length xs
+there_below [] i x e = absurd (never e)
+  where
+    never : None ≡ Some x → ⊥
+    never g = cc
+there_below (y ∷ xs) zero x e = omega arith
+there_below (y ∷ xs) (suc i) x e = omega (arith, there_below xs i x e)
+
+there_lt : {X : Type 0} (xs : List X) (i : ℕ) (x : X) → slice_get xs i ≡ Some x → nat_lt i (length xs) ≡ true
+there_lt xs i x e = lt-ltb i (length xs) (there_below xs i x e)
+
+both_true : (a b : Bool) → a ≡ true → b ≡ true → (a && b) ≡ true
+both_true a b e f = rw (e, f) refl
+
+-- a host that has counted is there
+pub is_there : (place : ℕ) (v : SegmentView) (counts : HostCounts) → HasCounted place v counts
+    → (nat_lt place (length v.stacks) && nat_lt place (length v.links)) ≡ true
+is_there place v counts (s, l, at, stack, link) =
+    both_true (nat_lt place (length v.stacks)) (nat_lt place (length v.links)) (there_lt v.stacks place s at.0)
+    (there_lt v.links place l at.1)
+
+heard_so : (place : ℕ) (frame : List ℕ) (v w : SegmentView) (before after : HostCounts) (told : List ℕ)
+    → HasCounted place v before → IsHeard place frame v w → HasCounted place w after
+    → told ≡ heard_text before.stack before.link after.stack after.link
+    → IsAtLink place (Frame frame) v (Told told []) w
+heard_so place frame v w before after told (s, l, at, stack, link) is (t, m, at', stack', link') text =
+    let said : told ≡ heard_text (state_of s).counters l.tallies (state_of t).counters m.tallies =
+    text ∙ ap₂ (λ a b. heard_text a b after.stack after.link) stack link
+    ∙ ap₂ (λ a b. heard_text (state_of s).counters l.tallies a b) stack' link' in (
+      Ether (HearsFrame place frame) ∷ [],
+      inl (subst (λ (x : Option LinkState). DoesLink place (Frame frame) x v (Ether (HearsFrame place frame) ∷ [])
+          (Told told []) w)
+          (sym at.1)
+          (s, t, l, m, at, at', is, refl, ap (λ x. Told x []) said)),
+    )
+
+is_heard : (place : ℕ) (frame : List ℕ) (v w : SegmentView) (before : HostCounts) (b : Bool) → HasCounted place v before
+    → b ≡ (nat_lt place (length v.stacks) && nat_lt place (length v.links))
+    → Choice b (IsHeard place frame v w) (w ≡ v) → IsHeard place frame v w
+is_heard place frame v w before b counted is choice = choice.yes (is ∙ is_there place v before counted)
+
+pub frame_heard : (place : ℕ) (frame : List ℕ) (v v' w w' : SegmentView) (before after : HostCounts) (b : Bool)
+    (told below : List ℕ)
+    → v' ≡ v → HasCounted place v before → b ≡ (nat_lt place (length v'.stacks) && nat_lt place (length v'.links))
+    → Choice b (IsHeard place frame v' w) (w ≡ v') → w' ≡ w → HasCounted place w after
+    → told ≡ heard_text before.stack before.link after.stack after.link → below ≡ []
+    → IsAtLink place (Frame frame) v (Told told below) w'
+frame_heard place frame v v' w w' before after b told below same counted is choice same' counted' text none =
+    let counted_so : HasCounted place v' before =
+    subst (λ (x : SegmentView). HasCounted place x before) (sym same) counted in
+    let here : IsAtLink place (Frame frame) v' (Told told []) w =
+    heard_so place frame v' w before after told counted_so (is_heard place frame v' w before b counted_so is choice)
+    counted' text in
+    subst (λ (x : SegmentView). IsAtLink place (Frame frame) x (Told told below) w') same
+    (subst (λ (x : SegmentView). IsAtLink place (Frame frame) v' (Told told below) x) (sym same')
+    (subst (λ (xs : List ℕ). IsAtLink place (Frame frame) v' (Told told xs) w) (sym none) here))
+
+-- a host that heard a frame is still there
+still_there : (place : ℕ) (frame : List ℕ) (v w : SegmentView) → IsHeard place frame v w → HasNotCounted place w → ⊥
+still_there place frame v w is (inl none) =
+    never (sym none ∙ ap (λ (x : SegmentView). slice_get x.links place) is.is
+    ∙ get_set v.links place is.link is.link' is.link_is)
+  where
+    never : None ≡ Some is.link' → ⊥
+    never g = cc
+still_there place frame v w is (inr none) =
+    never (sym none ∙ ap (λ (x : SegmentView). slice_get x.stacks place) is.is
+    ∙ get_set v.stacks place is.stack is.stack' is.stack_is)
+  where
+    never : None ≡ Some is.stack' → ⊥
+    never g = cc
+
+pub frame_counted : (place : ℕ) (frame : List ℕ) (v v' w w' : SegmentView) (before : HostCounts) (b : Bool)
+    → v' ≡ v → HasCounted place v before → b ≡ (nat_lt place (length v'.stacks) && nat_lt place (length v'.links))
+    → Choice b (IsHeard place frame v' w) (w ≡ v') → HasNotCounted place w
+    → IsAtLink place (Frame frame) v (Refused fault.NoHost) w'
+frame_counted place frame v v' w w' before b same counted is choice none =
+    absurd (still_there place frame v' w (is_heard place frame v' w before b
+    (subst (λ (x : SegmentView). HasCounted place x before) (sym same) counted) is choice) none)
+
+pub error_asked : (place fd : ℕ) (v v' w : SegmentView) (before : HostCounts) (error : Result (Option NetFault) Errno)
+    (told below : List ℕ)
+    → v' ≡ v → HasCounted place v before → IsAskedError place fd error v' w
+    → told ≡ error_text error → below ≡ [] → IsAtLink place (LastError fd) v (Told told below) w
+error_asked place fd v v' w before error told below same (s, l, at, stack, link) is text none =
+    let is_so : IsAskedError place fd error v w =
+    subst (λ (x : SegmentView). IsAskedError place fd error x w) same is in (
+      Ether (AsksError place fd error) ∷ [],
+      inl (subst (λ (x : Option LinkState). DoesLink place (LastError fd) x v (Ether (AsksError place fd error) ∷ [])
+          (Told told below) w)
+          (sym at.1)
+          (error, is_so, refl, ap₂ Told text none)),
+    )
+
+-- a host that is there answers
+pub error_never : (place : ℕ) (ask : LinkAsk) (v v' w : SegmentView) (before : HostCounts) → v' ≡ v
+    → HasCounted place v before
+    → false ≡ (nat_lt place (length v'.stacks) && nat_lt place (length v'.links))
+    → IsAtLink place ask v (Refused fault.NoHost) w
+error_never place ask v v' w before same counted is =
+    absurd (never (is ∙ is_there place v' before (subst (λ (x : SegmentView). HasCounted place x before) (sym same)
+    counted)))
+  where
+    never : false ≡ true → ⊥
+    never g = cc
+
+-- what a host with a link has counted
+pub counted_so : (place : ℕ) (v : SegmentView) (stack : Counters) (link : Tallies)
+    → Some stack ≡ option_map (λ (s : StackView). (state_of s).counters) (slice_get v.stacks place)
+    → Some link ≡ option_map (λ (l : LinkState). l.tallies) (slice_get v.links place)
+    → HasCounted place v (record { stack = stack; link = link })
+counted_so place v stack link e f =
+    let s = some_is (λ (s : StackView). (state_of s).counters) (slice_get v.stacks place) stack (sym e) in
+    let l = some_is (λ (l : LinkState). l.tallies) (slice_get v.links place) link (sym f) in
+    (s.0, l.0, (s.1, l.1), sym s.2, sym l.2)
+
+-- ticks of a stack that was handed over and put back
+pub stack_ticked : (place n : ℕ) (v mid w : SegmentView) (spare s t other : StackView) (b : Bool)
+    → IsExchanged place v spare mid s → AreCalls s (replicate n (call_turn Tick Done)) t
+    → Choice b (IsExchanged place mid t w other) (IsKept place mid w)
+    → AreActs v (map (Calls place) (replicate n (call_turn Tick Done))) w × (w.links ≡ v.links)
+stack_ticked place n v mid w spare s t other b first calls back =
+    let put = put_back place v mid w spare s t other b first back in (
+      subst (λ (x : SegmentView). AreActs v (map (Calls place) (replicate n (call_turn Tick Done))) x) (sym put.1)
+          (calls_are_acts place v (replicate n (call_turn Tick Done)) s t put.0 calls),
+      ap (λ (x : SegmentView). x.links) put.1,
+    )
+
+some_ether : (place : ℕ) (links : List LinkState) → is_some (slice_get links place) ≡ true
+    → not (length links == 0) ≡ true
+some_ether place [] e = absurd (never e)
+  where
+    never : false ≡ true → ⊥
+    never g = cc
+some_ether place (l ∷ links) e = ap not (eqb-suc-zero (length links))
+
+-- a host with a link is on an Ethernet
+pub link_is_ether : (place : ℕ) (v w : SegmentView) → is_some (slice_get v.links place) ≡ true → w.links ≡ v.links
+    → is_ether w ≡ true
+link_is_ether place v w there same =
+    ap (λ (links : List LinkState). not (length links == 0)) same ∙ some_ether place v.links there

@@ -1,0 +1,136 @@
+-- What a line asks of the link of a host on an Ethernet, and what comes of it (this project's own).
+use Rattle.std.specs.Prelude.{◌≡◌, ◌⊎◌, ℕ, ◌||◌, Bool, true, false, List, [], ◌∷◌, ◌++◌, codes, bytes_eq, map, replicate, slice_get, take, Option, Some, None, Result}
+use Rattle.flat_ether.specs.Claims.{address_state}
+use Rattle.flat_ether.specs.Links.{LinkState}
+use Rattle.flat_ether.specs.declared.error.NetFault.{NetFault}
+use Rattle.flat_model.specs.Machine.Event.{Tick, Done}
+use Rattle.flat_model.specs.Scripts.Grammar.{words, IsHex, IsNumber}
+use Rattle.flat_model.specs.declared.errno.Errno.{Errno}
+use Rattle.net_stack.specs.Stack.{StackView, state_of}
+use Rattle.play_read.specs.Asks.{IsTicks}
+use Rattle.segment.specs.Frames.{IsAskedError, IsHeard}
+use Rattle.segment.specs.Law.{Act, AreActs, AgesLink, AsksError, Calls, Ether, HearsFrame}
+use Rattle.segment.specs.Segment.{SegmentView}
+use Rattle.play_wire.specs.Acts.{IsStackLine, Outcome, Told, Refused, call_turn}
+use Rattle.play_wire.specs.LinkTexts.{error_text, heard_text, link_lines, neighbour_lines, neighbours_text, state_text}
+use Rattle.play_wire.specs.declared.fault.Fault.{Fault}
+use Rattle.play_wire.specs.declared.fault.Fault.TheVariants as fault
+
+pub data LinkAsk : Type 0 where
+  Frame : (frame : List ℕ) → LinkAsk  -- this frame comes
+  LastError : (fd : ℕ) → LinkAsk  -- what others reported of a socket's datagrams
+  Neighbours : LinkAsk  -- the neighbours are shown
+  Counts : LinkAsk  -- the link is shown, with what it has counted
+  Ticks : (n : ℕ) → LinkAsk  -- so many ticks
+  Packets : LinkAsk  -- a packet comes or is taken that has no frame
+
+-- ---- what a line asks for
+
+-- `NAME WORD`
+abbrev pub IsWordPair : List ℕ → List ℕ → List ℕ → Type 0
+IsWordPair plain name word = words plain ≡ name ∷ word ∷ []
+
+abbrev pub IsFrameLine : List ℕ → List ℕ → Type 0
+IsFrameLine plain frame = (word : List ℕ) × IsWordPair plain (codes "frame") word × IsHex word frame
+
+abbrev pub IsErrorLine : List ℕ → ℕ → Type 0
+IsErrorLine plain fd = (word : List ℕ) × IsWordPair plain (codes "error") word × IsNumber 4294967295 word fd
+
+-- `tick`, or `tick N`
+abbrev pub IsTickLine : List ℕ → ℕ → Type 0
+IsTickLine plain n = ((plain ≡ codes "tick") × (n ≡ 1)) ⊎ IsTicks plain n
+
+-- `rx` and what follows it, or `tx`
+abbrev pub is_packet_line : List ℕ → Bool
+is_packet_line plain = bytes_eq (codes "rx ") (take 3 plain) || bytes_eq plain (codes "tx")
+
+abbrev pub WritesLink : List ℕ → LinkAsk → Type 0
+WritesLink plain (Frame frame) = IsFrameLine plain frame
+WritesLink plain (LastError fd) = IsErrorLine plain fd
+WritesLink plain Neighbours = plain ≡ codes "show neighbours"
+WritesLink plain Counts = plain ≡ codes "show link"
+WritesLink plain (Ticks n) = IsTickLine plain n
+WritesLink plain Packets = is_packet_line plain ≡ true
+
+-- what only a link is asked for
+abbrev pub is_of_link : LinkAsk → Bool
+is_of_link (Frame frame) = true
+is_of_link (LastError fd) = true
+is_of_link Neighbours = true
+is_of_link Counts = true
+is_of_link (Ticks n) = false
+is_of_link Packets = false
+
+-- what a host with this link, or with none, isn't asked for as a bare stack
+abbrev pub is_for_link : Option LinkState → LinkAsk → Bool
+is_for_link None ask = is_of_link ask
+is_for_link (Some link) ask = true
+
+-- ---- what comes of it
+
+-- the line does nothing, for this reason
+abbrev pub IsRefusal : Fault → SegmentView → List Act → Outcome → SegmentView → Type 0
+IsRefusal reason v acts outcome w = (acts ≡ []) × (outcome ≡ Refused reason) × (w ≡ v)
+
+-- something is shown, and nothing changes
+abbrev pub IsShown : List ℕ → List ℕ → SegmentView → List Act → Outcome → SegmentView → Type 0
+IsShown text below v acts outcome w = (acts ≡ []) × (outcome ≡ Told text below) × (w ≡ v)
+
+-- the stack and the link of the host at a place
+abbrev pub IsHostAt : ℕ → SegmentView → StackView → LinkState → Type 0
+IsHostAt place v s l = (slice_get v.stacks place ≡ Some s) × (slice_get v.links place ≡ Some l)
+
+-- A frame came, and it's told why what it brought was dropped, and what the link counted.
+abbrev pub IsFrameHeard : ℕ → List ℕ → SegmentView → List Act → Outcome → SegmentView → Type 0
+IsFrameHeard place frame v acts outcome w =
+    (s t : StackView) × (l m : LinkState) × IsHostAt place v s l × IsHostAt place w t m × IsHeard place frame v w
+    × (acts ≡ Ether (HearsFrame place frame) ∷ [])
+    × (outcome ≡ Told (heard_text (state_of s).counters l.tallies (state_of t).counters m.tallies) [])
+
+-- the error that others reported last is told
+abbrev pub IsErrorTold : ℕ → ℕ → SegmentView → List Act → Outcome → SegmentView → Type 0
+IsErrorTold place fd v acts outcome w =
+    (error : Result (Option NetFault) Errno) × IsAskedError place fd error v w
+    × (acts ≡ Ether (AsksError place fd error) ∷ []) × (outcome ≡ Told (error_text error) [])
+
+-- ticks of the stack and of its link
+abbrev pub ticks_at : ℕ → ℕ → List Act
+ticks_at place n = map (Calls place) (replicate n (call_turn Tick Done)) ++ replicate n (Ether (AgesLink place))
+
+-- what is asked of this link
+abbrev pub DoesAtLink : ℕ → LinkAsk → LinkState → SegmentView → List Act → Outcome → SegmentView → Type 0
+DoesAtLink place (Frame frame) link v acts outcome w = IsFrameHeard place frame v acts outcome w
+DoesAtLink place (LastError fd) link v acts outcome w = IsErrorTold place fd v acts outcome w
+DoesAtLink place Neighbours link v acts outcome w =
+    IsShown (neighbours_text link.neighbours) (neighbour_lines link.neighbours) v acts outcome w
+DoesAtLink place Counts link v acts outcome w =
+    IsShown (state_text (address_state link.claim)) (link_lines link.link link.tallies) v acts outcome w
+DoesAtLink place (Ticks n) link v acts outcome w =
+    AreActs v acts w × (acts ≡ ticks_at place n) × (outcome ≡ Told (codes "ok") [])
+DoesAtLink place Packets link v acts outcome w = IsRefusal fault.OnEthernet v acts outcome w
+
+-- the same where there may be no link
+abbrev pub DoesLink : ℕ → LinkAsk → Option LinkState → SegmentView → List Act → Outcome → SegmentView → Type 0
+DoesLink place ask (Some link) v acts outcome w = DoesAtLink place ask link v acts outcome w
+DoesLink place ask None v acts outcome w = IsRefusal fault.NoLink v acts outcome w
+
+-- ---- a line of a host
+
+-- a line that a link answers
+abbrev pub IsLinkLine : ℕ → List ℕ → SegmentView → List Act → Outcome → SegmentView → Type 0
+IsLinkLine place plain v acts outcome w =
+    (ask : LinkAsk) × WritesLink plain ask × (is_for_link (slice_get v.links place) ask ≡ true)
+    × DoesLink place ask (slice_get v.links place) v acts outcome w
+
+-- a line that no link answers: it asks a link for nothing, or a host without one as a bare stack
+abbrev pub IsForStack : ℕ → List ℕ → SegmentView → Type 0
+IsForStack place plain v =
+    ((ask : LinkAsk) → WritesLink plain ask → ⊥)
+    ⊎ ((ask : LinkAsk) × WritesLink plain ask × (is_for_link (slice_get v.links place) ask ≡ false))
+
+-- A line of the host at a place leads from v to w by these acts, and comes out so. Nothing is told below a reply of its
+-- stack if `quiet`.
+abbrev pub IsHostLine : Bool → ℕ → List ℕ → SegmentView → List Act → Outcome → SegmentView → Type 0
+IsHostLine quiet place plain v acts outcome w =
+    (IsForStack place plain v × IsStackLine quiet place plain v acts outcome w)
+    ⊎ IsLinkLine place plain v acts outcome w

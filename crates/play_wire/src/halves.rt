@@ -1,0 +1,44 @@
+//! What hosts with and without a link do alike.
+ghost use Rattle.segment.specs.Inside.{view};
+ghost use Rattle.play_wire.specs.Acts.{AreLedTo};
+
+use flat_model::Config;
+use segment::{JoinFault, Link, Segment};
+use std::alloc::Global;
+
+/// A host joins, on an Ethernet if it has a link.
+pub(crate) fn join(
+    segment: &mut Segment,
+    alloc: Global,
+    config: Config,
+    link: Option<Link>,
+) -> Result<(), JoinFault>
+    ensures { AreLedTo (view segment.old) (view segment.new) }
+{
+    match link {
+        Some(link) => segment.join_ether(alloc, config, link),
+        None => segment.join(alloc, config),
+    }
+}
+
+/// What waits for the links goes on the wire.
+pub(crate) fn collect(segment: &mut Segment)
+    ensures { AreLedTo (view segment.old) (view segment.new) }
+{
+    if segment.is_ether() {
+        segment.collect_frames();
+    } else {
+        segment.collect();
+    }
+}
+
+/// What is due comes.
+pub(crate) fn deliver(segment: &mut Segment)
+    ensures { AreLedTo (view segment.old) (view segment.new) }
+{
+    if segment.is_ether() {
+        segment.deliver_frames();
+    } else {
+        segment.deliver();
+    }
+}

@@ -1,0 +1,89 @@
+//! What a host's link counts.
+ghost use Rattle.std.specs.Prelude.{◌≡◌, ◌≤◌, length};
+ghost use Rattle.play_wire.specs.LinkTexts.{all_link_counts, link_count, link_count_name};
+
+use segment::Tallies;
+
+/// What is counted, as `Tallies` has it.
+#[derive(Clone, Copy)]
+pub(crate) enum LinkCount {
+    Ignored,
+    Martians,
+    BadArp,
+    Conflicts,
+    RepliesDropped,
+    NoRoute,
+    HeldDropped,
+    Unresolved,
+    TooLong,
+    Echoes,
+    Unreachable,
+    Limited,
+    IcmpDropped,
+}
+
+/// All of it, in the order in which it's told.
+pub(crate) fn link_counts() -> [LinkCount; 13]
+    ensures { result ≡ all_link_counts }
+{
+    [
+        LinkCount::Ignored,
+        LinkCount::Martians,
+        LinkCount::BadArp,
+        LinkCount::Conflicts,
+        LinkCount::RepliesDropped,
+        LinkCount::NoRoute,
+        LinkCount::HeldDropped,
+        LinkCount::Unresolved,
+        LinkCount::TooLong,
+        LinkCount::Echoes,
+        LinkCount::Unreachable,
+        LinkCount::Limited,
+        LinkCount::IcmpDropped,
+    ]
+}
+
+impl LinkCount {
+    /// Its name, as in `Tallies`.
+    pub(crate) fn name(self) -> &'static str
+        ensures is { result.now ≡ link_count_name self }
+        ensures short { length result.now ≤ 16 }
+    {
+        match self {
+            LinkCount::Ignored => "ignored",
+            LinkCount::Martians => "martians",
+            LinkCount::BadArp => "bad_arp",
+            LinkCount::Conflicts => "conflicts",
+            LinkCount::RepliesDropped => "replies_dropped",
+            LinkCount::NoRoute => "no_route",
+            LinkCount::HeldDropped => "held_dropped",
+            LinkCount::Unresolved => "unresolved",
+            LinkCount::TooLong => "too_long",
+            LinkCount::Echoes => "echoes",
+            LinkCount::Unreachable => "unreachable",
+            LinkCount::Limited => "limited",
+            LinkCount::IcmpDropped => "icmp_dropped",
+        }
+    }
+
+    /// How often it was counted.
+    pub(crate) fn value(self, tallies: &Tallies) -> u64
+        ensures { result ≡ link_count self tallies.now }
+    {
+        match self {
+            LinkCount::Ignored => tallies.ignored,
+            LinkCount::Martians => tallies.martians,
+            LinkCount::BadArp => tallies.bad_arp,
+            LinkCount::Conflicts => tallies.conflicts,
+            LinkCount::RepliesDropped => tallies.replies_dropped,
+            LinkCount::NoRoute => tallies.no_route,
+            LinkCount::HeldDropped => tallies.held_dropped,
+            LinkCount::Unresolved => tallies.unresolved,
+            LinkCount::TooLong => tallies.too_long,
+            LinkCount::Echoes => tallies.echoes,
+            LinkCount::Unreachable => tallies.unreachable,
+            LinkCount::Limited => tallies.limited,
+            LinkCount::IcmpDropped => tallies.icmp_dropped,
+        }
+    }
+}

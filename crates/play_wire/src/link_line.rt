@@ -1,0 +1,182 @@
+//! The lines of one host that its link answers.
+ghost use Rattle.std.specs.Prelude.{◌≡◌, ◌≤◌, MatchOption, length, is_some, true, slice_get};
+ghost use Rattle.params.specs.declared.TheConstants.{IP_MAX_PACKET};
+ghost use Rattle.segment.specs.Inside.{view};
+ghost use Rattle.play_wire.specs.Inside.{HasCounted, HasNotCounted, IsAtLink, came_of, link_asked, room_asked};
+ghost use Rattle.play_wire.specs.Links as links;
+
+use crate::fault::Fault;
+use crate::link_ask::LinkAsk;
+use crate::summary::counters_at;
+use crate::tell_link::{Counts, tell_error, tell_heard, tell_link, tell_neighbours};
+use crate::ticks::{age_link, exchange, tick_stack};
+use net_stack::Stack;
+use play_script::{DROPS, Report};
+use script_loop::Buffer;
+use segment::Segment;
+
+/// What the host at a place has counted. Nothing changes. `None` if there is no such host with a link.
+fn counts_at(segment: &mut Segment, spare: &mut Stack, place: usize) -> Option<Counts>
+    ensures same { view segment.new ≡ view segment.old }
+    ensures counts { MatchOption result (HasNotCounted place (view segment.old))
+        (HasCounted place (view segment.old)) }
+{
+    let Some(link) = segment.link_tallies(place) else {
+        return None;
+    };
+    let Some(stack) = counters_at(segment, spare, place) else {
+        return None;
+    };
+    Some(Counts { stack, link })
+}
+
+/// `frame BYTES`: a frame comes to the host at a place, which has to have a link. `drops` is room for the causes.
+fn hear(
+    segment: &mut Segment,
+    spare: &mut Stack,
+    drops: &mut Buffer<DROPS>,
+    place: usize,
+    frame: &[u8],
+    report: &mut Report,
+) -> Result<(), Fault>
+    requires fits { length frame.now ≤ IP_MAX_PACKET }
+    requires link { is_some (slice_get (view segment.old).links place) ≡ true }
+    ensures { IsAtLink place (links.Frame frame.now) (view segment.old)
+        (came_of result report.new.told report.new.below) (view segment.new) }
+{
+    let Some(before) = counts_at(segment, spare, place) else {
+        return Err(Fault::NoHost);
+    };
+    segment.hear(place, frame);
+    match counts_at(segment, spare, place) {
+        Some(after) => {
+            report.below.clear();
+            tell_heard(&mut report.told, drops, &before, &after);
+            Ok(())
+        }
+        None => Err(Fault::NoHost),
+    }
+}
+
+/// `error FD`: what others reported of the datagrams of a socket of the host at a place is told. The host has to have a
+/// link.
+fn ask_error(
+    segment: &mut Segment,
+    spare: &mut Stack,
+    place: usize,
+    fd: u32,
+    report: &mut Report,
+) -> Result<(), Fault>
+    requires { is_some (slice_get (view segment.old).links place) ≡ true }
+    ensures { IsAtLink place (links.LastError fd) (view segment.old)
+        (came_of result report.new.told report.new.below) (view segment.new) }
+{
+    let Some(_) = counts_at(segment, spare, place) else {
+        return Err(Fault::NoHost);
+    };
+    match segment.last_error(place, fd) {
+        Some(error) => {
+            report.below.clear();
+            tell_error(&mut report.told, error);
+            Ok(())
+        }
+        None => Err(Fault::NoHost),
+    }
+}
+
+/// `show neighbours`: those of the host at a place are shown.
+fn show_neighbours(segment: &Segment, place: usize, report: &mut Report) -> Result<(), Fault>
+    ensures { IsAtLink place links.Neighbours (view segment.now)
+        (came_of result report.new.told report.new.below) (view segment.now) }
+{
+    let Some(neighbours) = segment.neighbours(place) else {
+        return Err(Fault::NoLink);
+    };
+    tell_neighbours(&mut report.told, &mut report.below, neighbours);
+    Ok(())
+}
+
+/// `show link`: the link of the host at a place is shown.
+fn show_link(segment: &Segment, place: usize, report: &mut Report) -> Result<(), Fault>
+    ensures { IsAtLink place links.Counts (view segment.now)
+        (came_of result report.new.told report.new.below) (view segment.now) }
+{
+    let Some(link) = segment.link(place) else {
+        return Err(Fault::NoLink);
+    };
+    let Some(state) = segment.address(place) else {
+        return Err(Fault::NoLink);
+    };
+    let Some(tallies) = segment.link_tallies(place) else {
+        return Err(Fault::NoLink);
+    };
+    tell_link(&mut report.told, &mut report.below, state, &link, &tallies);
+    Ok(())
+}
+
+/// `tick N`: so many ticks pass at the host at a place, and at its link, which it has to have.
+fn tick(
+    segment: &mut Segment,
+    spare: &mut Stack,
+    place: usize,
+    count: u32,
+    report: &mut Report,
+) -> Result<(), Fault>
+    requires { is_some (slice_get (view segment.old).links place) ≡ true }
+    ensures { IsAtLink place (links.Ticks count) (view segment.old)
+        (came_of result report.new.told report.new.below) (view segment.new) }
+{
+    if exchange(segment, place, spare) {
+        tick_stack(spare, count);
+        exchange(segment, place, spare);
+        age_link(segment, place, count);
+        report.tell_ok();
+        Ok(())
+    } else {
+        Err(Fault::NoHost)
+    }
+}
+
+/// Does what a line asks of the link of the host at a place, which has one.
+fn answer_there(
+    segment: &mut Segment,
+    spare: &mut Stack,
+    drops: &mut Buffer<DROPS>,
+    place: usize,
+    ask: LinkAsk<'_>,
+    report: &mut Report,
+) -> Result<(), Fault>
+    requires fits { room_asked ask ≤ IP_MAX_PACKET }
+    requires link { is_some (slice_get (view segment.old).links place) ≡ true }
+    ensures { IsAtLink place (link_asked ask.entry) (view segment.old)
+        (came_of result report.new.told report.new.below) (view segment.new) }
+{
+    match ask {
+        LinkAsk::Frame(frame) => hear(segment, spare, drops, place, frame, report),
+        LinkAsk::LastError(fd) => ask_error(segment, spare, place, fd, report),
+        LinkAsk::Neighbours => show_neighbours(segment, place, report),
+        LinkAsk::Counts => show_link(segment, place, report),
+        LinkAsk::Ticks(count) => tick(segment, spare, place, count, report),
+        LinkAsk::Packets => Err(Fault::OnEthernet),
+    }
+}
+
+/// Does what a line asks of the link of the host at a place, and reports what is told of it. `drops` is room for the
+/// causes.
+pub(crate) fn answer_link(
+    segment: &mut Segment,
+    spare: &mut Stack,
+    drops: &mut Buffer<DROPS>,
+    place: usize,
+    ask: LinkAsk<'_>,
+    report: &mut Report,
+) -> Result<(), Fault>
+    requires { room_asked ask ≤ IP_MAX_PACKET }
+    ensures { IsAtLink place (link_asked ask.entry) (view segment.old)
+        (came_of result report.new.told report.new.below) (view segment.new) }
+{
+    match segment.link(place) {
+        Some(_) => answer_there(segment, spare, drops, place, ask, report),
+        None => Err(Fault::NoLink),
+    }
+}
