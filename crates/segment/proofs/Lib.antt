@@ -13,3 +13,6 @@ mod Hosts
 mod Wires
 mod Bare
 mod Framing
+mod EtherHistory
+mod EtherWires
+mod EtherHosts

@@ -5,3 +5,4 @@ pub mod Segment
 pub mod Frames
 pub mod Inside
 pub mod Law
+pub mod EtherLaw

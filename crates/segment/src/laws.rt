@@ -1,15 +1,22 @@
-//! The law of a segment. It's a function that does nothing, and its contract is the law.
-ghost use Rattle.std.specs.Prelude.{◌≡◌, ◌++◌, ◌∷◌, List, ℕ};
+//! The laws of a segment. Each is a function that does nothing, and its contract is the law.
+ghost use Rattle.std.specs.Prelude.{◌≡◌, ◌++◌, ◌∷◌, Contains, List, ℕ};
 ghost use Rattle.flat_model.specs.Runs.Run.{Turn};
 ghost use Rattle.flat_model.specs.Machine.Event.{Receive, Received};
 ghost use Rattle.flat_model.specs.Machine.Ledger.{exact_ledger};
+ghost use Rattle.flat_model.specs.Machine.State.{Datagram, Socket};
 ghost use Rattle.flat_model.specs.declared.address.Addr.{Addr};
 ghost use Rattle.flat_model.specs.declared.config.Config.{Config};
 ghost use Rattle.flat_wire.specs.Wire.{WasSent};
+ghost use Rattle.flat_ether.specs.Hosts.{Host, HostAct};
+ghost use Rattle.flat_ether.specs.Hosts as host;
+ghost use Rattle.flat_ether.specs.Laws.{WasReceivedOnEthernet, WasSentOnEthernet};
+ghost use Rattle.flat_ether.specs.declared.link.Link.{Link};
 ghost use Rattle.net_stack.specs.Stack.{StackView, state_of};
-ghost use Rattle.segment.specs.Segment.{SegmentView};
-ghost use Rattle.segment.specs.Law.{Act, AreOnSegment, turns_of};
+ghost use Rattle.segment.specs.Segment.{SegmentView, no_hosts};
+ghost use Rattle.segment.specs.Law.{Act, AreActs, AreOnSegment, turns_of};
+ghost use Rattle.segment.specs.EtherLaw.{AreOnEtherSegment, acts_of};
 
+use flat_ether::any_hosts_on_an_ethernet;
 use net_stack::stacks_on_a_wire;
 
 /// Two hosts of a segment, whatever was done since it had none: hosts joined, calls were made on any of them, and
@@ -26,4 +33,29 @@ pub fn hosts_on_a_segment()
         → WasSent exact_ledger exact_ledger first second (turns_of i acts) before (state_of s) fd most sender bytes }
 {
     stacks_on_a_wire();
+}
+
+/// Two hosts of a segment on which all are on an Ethernet, whatever was done since it had none: hosts joined, calls
+/// were made on any of them, and frames were carried, lost, repeated and held up in between. If the first one sent
+/// fewer than 65,536 times, and neither a frame from outside nor a call brought the second a packet of UDP in its name,
+/// then what `recvfrom` of the second answers with its address as the sender's, the first was told that it has sent, as
+/// `hosts_on_a_segment` has it; and so was, whole, each datagram that waits in a queue of the second. ARP and ICMP may
+/// be forged.
+pub fn hosts_on_an_ether_segment()
+    ensures received { (room i j : ℕ) (first second : Config) (s t : Host) (acts : List Act) (last : SegmentView)
+        (done : AreActs (no_hosts room) acts last) (before after : List HostAct) (fd most : ℕ) (sender : Addr)
+        (bytes : List ℕ) → AreOnEtherSegment room i j first second s t acts last done
+        → acts_of j (no_hosts room) acts last done
+        ≡ before ++ host.Calls (record { event = Receive fd most; reply = Received sender bytes }) ∷ after
+        → sender.ip ≡ first.addr → (l : Link) × (m : Link)
+        × WasReceivedOnEthernet first second l m (acts_of i (no_hosts room) acts last done) before s fd most sender
+        bytes }
+    ensures waits { (room i j : ℕ) (first second : Config) (s t : Host) (acts : List Act) (last : SegmentView)
+        (done : AreActs (no_hosts room) acts last) (socket : Socket) (datagram : Datagram)
+        → AreOnEtherSegment room i j first second s t acts last done → Contains t.machine.sockets socket
+        → Contains socket.queue datagram → datagram.sender.ip ≡ first.addr
+        → (l : Link)
+        × WasSentOnEthernet first second l (acts_of i (no_hosts room) acts last done) s socket datagram }
+{
+    any_hosts_on_an_ethernet();
 }

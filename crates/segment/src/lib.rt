@@ -17,7 +17,7 @@ mod ways;
 pub use chances::{Chances, NO_CHANCES};
 pub use ether_host::{AddressState, Link, Mac, Neighbour, NetFault, Tallies};
 pub use hand::UnderWay;
-pub use laws::hosts_on_a_segment;
+pub use laws::{hosts_on_a_segment, hosts_on_an_ether_segment};
 pub use links::FRAMES;
 pub use segment::{JoinFault, MAX_HOSTS, Segment};
 pub use tally::Tally;
