@@ -1,5 +1,4 @@
 -- What only this crate reads.
-use Rattle.std.specs.Prelude.{List, Option}
 use Rattle.play_forms.specs.Advice as advice
 use Rattle.play_forms.specs.declared.advice.Advice.{Advice}
 use Rattle.play_forms.specs.declared.advice.Advice.TheVariants.{Empty, Unknown, OfHost, Wrong, Missing, More, Otherwise}
