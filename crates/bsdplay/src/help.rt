@@ -1,7 +1,8 @@
 //! The end of the help.
 
 /// The statuses, and the forms of all lines, those that docs/play.md has.
-pub(crate) const LINES: &str = "Status: 0 if all is well; 1 if a line is wrong, something else than expected came, or a
+pub(crate) const LINES: &str =
+    "Status: 0 if all is well; 1 if a line is wrong, something else than expected came, or a
 capture can't be played in; 2 for a wrong command line; 3 without memory; 4 if a
 file can't be read, or writing fails.
 

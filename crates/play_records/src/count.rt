@@ -33,11 +33,7 @@ impl Count {
     {
         Count {
             count: self.count.saturating_add(1),
-            first: if self.count == 0 {
-                number
-            } else {
-                self.first
-            },
+            first: if self.count == 0 { number } else { self.first },
         }
     }
 }

@@ -39,19 +39,22 @@ static PLAIN: [(&str, &str); 23] = [
     ("stat => stat ip.total=1", "stat => stat ip.total=1"),
 ];
 
+/// What is wrong with most of them.
+const NOT_HEX: &str = "not a hex digit (a text stands in quotes: \"hi\")";
+
 /// Lines that stand for none, with what is wrong with them, and in which column.
 static FAULTY: [(&str, &str, u64); 33] = [
-    ("rx 0g", "not a hex digit (a text stands in quotes: \"hi\")", 5),
-    ("rx udq", "not a hex digit (a text stands in quotes: \"hi\")", 4),
-    ("rx pcaq", "not a hex digit (a text stands in quotes: \"hi\")", 4),
-    ("send 3 pcap", "not a hex digit (a text stands in quotes: \"hi\")", 8),
-    ("rx 00+pcap", "not a hex digit (a text stands in quotes: \"hi\")", 7),
+    ("rx 0g", NOT_HEX, 5),
+    ("rx udq", NOT_HEX, 4),
+    ("rx pcaq", NOT_HEX, 4),
+    ("send 3 pcap", NOT_HEX, 8),
+    ("rx 00+pcap", NOT_HEX, 7),
     ("rx pcap a+b", "odd number of hex digits", 10),
-    ("send 3 hi", "not a hex digit (a text stands in quotes: \"hi\")", 8),
-    ("send 3 udp", "not a hex digit (a text stands in quotes: \"hi\")", 8),
-    ("rx 00+udp", "not a hex digit (a text stands in quotes: \"hi\")", 7),
-    ("rx udp a > b id 3", "not a hex digit (a text stands in quotes: \"hi\")", 14),
-    ("sendto 3 10.0.0.2 9 0x12", "not a hex digit (a text stands in quotes: \"hi\")", 22),
+    ("send 3 hi", NOT_HEX, 8),
+    ("send 3 udp", NOT_HEX, 8),
+    ("rx 00+udp", NOT_HEX, 7),
+    ("rx udp a > b id 3", NOT_HEX, 14),
+    ("sendto 3 10.0.0.2 9 0x12", NOT_HEX, 22),
     ("rx 450", "odd number of hex digits", 7),
     ("rx 00+1", "odd number of hex digits", 8),
     ("rx 123*2", "odd number of hex digits", 7),
