@@ -199,6 +199,7 @@ function showForms() {
   const list = all => h("ul", {}, all.map(it => h("li", {}, h("code", {}, it))));
   byId("forms-of").replaceChildren(h("h3", {}, "One machine"), list(FORMS.machine),
     h("h3", {}, "Many machines: ", h("code", {}, "NAME:"), " stands in front of those above"), list(FORMS.wire),
+    h("h3", {}, "A host on an Ethernet, behind its ", h("code", {}, "NAME:")), list(FORMS.ethernet),
     h("h3", {}, "Words"), list(FORMS.words));
 }
 

@@ -24,7 +24,7 @@ class WireHost {
 // ---- what the program is asked for
 
 const CHANCE = /^(loss|reorder|delay) |^repeat .*[%./]/;
-const HOST_LINE = /^([A-Za-z]\w*): (.*)$/;
+const HOST_LINE = /^([A-Za-z]\w*): ?(.*)$/;
 
 // A line that carries, as its halves, with a look at the wire between them.
 function halvesOf(line) {
