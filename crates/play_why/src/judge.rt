@@ -1,8 +1,9 @@
 //! What judges the records of a capture, one after another.
-ghost use Rattle.std.specs.Prelude.{◌≡◌, ◌+◌, ◌≤◌, ◌++◌, IfOk, length, replicate};
+ghost use Rattle.std.specs.Prelude.{◌≡◌, ◌+◌, ◌≤◌, ◌++◌, IfOk, MatchResult, length, replicate};
 ghost use Rattle.params.specs.declared.TheConstants.{IP_MAX_PACKET};
 ghost use Rattle.flat_model.specs.Machine.Event.{Tick};
 ghost use Rattle.flat_model.specs.Machine.State.{boot};
+ghost use Rattle.net_stack.specs.Boots.{IsUnbooted};
 ghost use Rattle.net_stack.specs.Stack.{state_of};
 ghost use Rattle.play_why.specs.Fates.{IsSeen};
 ghost use Rattle.play_why.specs.Judged as judged;
@@ -187,25 +188,28 @@ impl Totals {
 
 impl Judge {
     /// A machine with this address, to which no packet came yet. Each port is bound when a datagram comes for it, or
-    /// this one alone. Refused with `BadConfig` if the address isn't that of a host, and with `Memory`.
+    /// this one alone. Refused with `BadConfig` if there is no machine with such an address, and else with `Memory`.
     pub fn new(
         alloc: Global,
         layout: Layout,
         ours: u32,
         port: Option<u16>,
     ) -> Result<Judge, BootFault>
-        ensures { IfOk result (λ j. (state_of j.machine ≡ boot (judged.machine_for ours (judged.broadcast_of ours)))
-            × (j.layout ≡ layout) × (j.ours ≡ ours) × (j.verdicts ≡ none_dropped) × (j.ticks ≡ 0)) }
+        ensures { MatchResult result
+            (λ j. (state_of j.machine ≡ boot (judged.machine_for ours (judged.broadcast_of ours)))
+            × (j.layout ≡ layout) × (j.ours ≡ ours) × (j.verdicts ≡ none_dropped) × (j.ticks ≡ 0))
+            (IsUnbooted (judged.machine_for ours (judged.broadcast_of ours))) }
     {
         let broadcast = broadcast_of(ours);
+        let machine = Stack::boot(alloc, config_of(ours, broadcast))?;
         let (Ok(parts), Ok(rooms), Ok(text)) = (
             Parts::new(alloc),
             Rooms::new(alloc),
             Buffer::new(alloc),
         ) else {
+            let _ = machine.end();
             return Err(BootFault::Memory);
         };
-        let machine = Stack::boot(alloc, config_of(ours, broadcast))?;
         Ok(Judge {
             machine,
             layout,
