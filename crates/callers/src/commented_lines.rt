@@ -1,4 +1,4 @@
-//! A script with a comment, and with the replies that are expected.
+//! A script with a comment and the replies that are expected.
 use flat_model::Config;
 use play_script::{Form, Style, play};
 use std::alloc::Global;

@@ -1,4 +1,4 @@
-//! What is told of a line, as an object of JSON, and what a packet's headers say, in words.
+//! A line's report as an object of JSON, and a packet's headers in words.
 ghost use Rattle.std.specs.Prelude.{◌≡◌, [], false, IfOk, None, codes};
 ghost use Rattle.play_text.specs.Texts.{outcome_object};
 
