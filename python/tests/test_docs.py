@@ -7,6 +7,7 @@ import re
 import socket
 import subprocess
 import sys
+import textwrap
 
 import bsdudp
 import pytest
@@ -57,6 +58,14 @@ def test_pieces(tmp_path, monkeypatch):
         if "scapy" in piece:
             pytest.importorskip("scapy.all")
         run(piece, names)
+
+
+def test_readme(capsys):
+    """README's lines, up to the paragraph behind them."""
+    text = (TOP / "README.md").read_text(encoding="utf-8")
+    piece = re.search(r"^    import bsdudp\n(?:    .*\n)+", text, re.M)[0]
+    exec(compile(textwrap.dedent(piece), "README.md", "exec"), {})
+    assert capsys.readouterr().out.startswith("(b'hi', ('10.0.0.1', 1024)) {")
 
 
 def test_sweep(tmp_path):
