@@ -3,6 +3,7 @@ ghost use Rattle.segment.specs.Inside.{view};
 ghost use Rattle.play_wire.specs.Acts.{AreLedTo};
 
 use crate::halves;
+use crate::log::Log;
 use params::IP_MAX_PACKET;
 use play_script::Capture;
 use script_loop::Sink;
@@ -36,14 +37,17 @@ fn keep_from<T: Sink + Drop>(capture: &mut Capture<T>, segment: &Segment, first:
     }
 }
 
-/// What waits for the links goes on the wire, and is kept. Answers the place of the first such packet.
-pub(crate) fn collect<T: Sink + Drop>(capture: &mut Capture<T>, segment: &mut Segment) -> usize
+/// What waits for the links goes on the wire, is logged, and is kept.
+pub(crate) fn collect<T: Sink + Drop>(
+    capture: &mut Capture<T>,
+    segment: &mut Segment,
+    log: &mut Log,
+)
     ensures { AreLedTo (view segment.old) (view segment.new) }
 {
     let first = segment.flight_len();
-    halves::collect(segment);
+    halves::collect(segment, log);
     keep_from(capture, segment, first);
-    first
 }
 
 /// Ends it. Whether the whole capture was written.

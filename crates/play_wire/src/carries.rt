@@ -4,10 +4,9 @@ ghost use Rattle.play_wire.specs.Acts.{AreLedTo};
 
 use crate::capture::collect;
 use crate::halves::deliver;
+use crate::log::Log;
 use crate::names::NAME;
-use crate::passed::add_went;
 use play_script::Capture;
-use play_show::SHOWN;
 use script_loop::{Buffer, Sink, first_word, number, one};
 use segment::Segment;
 
@@ -41,19 +40,19 @@ pub(crate) fn bound_of(rest: Option<&[u8]>) -> Option<Bound> {
     }
 }
 
-/// Carries so often. The packets that go are put into the text. Hosts on an Ethernet give what they have before, and
+/// Carries so often. What becomes of each packet is told. Hosts on an Ethernet give what they have before, and
 /// what they answer after each carry, so that it's seen whether anything is left.
 pub(crate) fn carry<T: Sink + Drop>(
     segment: &mut Segment,
     bound: Bound,
     capture: &mut Capture<T>,
     names: &[Buffer<NAME>],
-    text: &mut Buffer<SHOWN>,
+    log: &mut Log,
 )
     ensures { AreLedTo (view segment.old) (view segment.new) }
 {
-    settle(segment, capture, names, text);
-    carry_on(segment, bound, capture, names, text);
+    settle(segment, capture, names, log);
+    carry_on(segment, bound, capture, names, log);
 }
 
 /// Carries so often, once hosts on an Ethernet gave what they have.
@@ -62,27 +61,27 @@ fn carry_on<T: Sink + Drop>(
     bound: Bound,
     capture: &mut Capture<T>,
     names: &[Buffer<NAME>],
-    text: &mut Buffer<SHOWN>,
+    log: &mut Log,
 )
     ensures { AreLedTo (view segment.old) (view segment.new) }
 {
     match bound {
-        Bound::Times(count) => carry_times(segment, count, capture, names, text),
-        Bound::Quiet(most) => carry_all(segment, most, capture, names, text),
+        Bound::Times(count) => carry_times(segment, count, capture, names, log),
+        Bound::Quiet(most) => carry_all(segment, most, capture, names, log),
     }
 }
 
-/// What waits for the links goes on the wire, and is put into the text.
+/// What waits for the links goes on the wire, and what is lost or goes twice is told.
 fn send<T: Sink + Drop>(
     segment: &mut Segment,
     capture: &mut Capture<T>,
     names: &[Buffer<NAME>],
-    text: &mut Buffer<SHOWN>,
+    log: &mut Log,
 )
     ensures { AreLedTo (view segment.old) (view segment.new) }
 {
-    let first = collect(capture, segment);
-    add_went(text, segment, names, first);
+    collect(capture, segment, log);
+    log.tell(names, segment.is_ether());
 }
 
 /// Hosts on an Ethernet give what they have.
@@ -90,13 +89,21 @@ fn settle<T: Sink + Drop>(
     segment: &mut Segment,
     capture: &mut Capture<T>,
     names: &[Buffer<NAME>],
-    text: &mut Buffer<SHOWN>,
+    log: &mut Log,
 )
     ensures { AreLedTo (view segment.old) (view segment.new) }
 {
     if segment.is_ether() {
-        send(segment, capture, names, text);
+        send(segment, capture, names, log);
     }
+}
+
+/// What is due comes, and is told.
+fn bring(segment: &mut Segment, names: &[Buffer<NAME>], log: &mut Log)
+    ensures { AreLedTo (view segment.old) (view segment.new) }
+{
+    deliver(segment, log);
+    log.tell(names, segment.is_ether());
 }
 
 /// Carries once.
@@ -104,13 +111,13 @@ fn carry_once<T: Sink + Drop>(
     segment: &mut Segment,
     capture: &mut Capture<T>,
     names: &[Buffer<NAME>],
-    text: &mut Buffer<SHOWN>,
+    log: &mut Log,
 )
     ensures { AreLedTo (view segment.old) (view segment.new) }
 {
-    send(segment, capture, names, text);
-    deliver(segment);
-    settle(segment, capture, names, text);
+    send(segment, capture, names, log);
+    bring(segment, names, log);
+    settle(segment, capture, names, log);
 }
 
 /// Carries so often.
@@ -119,12 +126,12 @@ fn carry_times<T: Sink + Drop>(
     count: u32,
     capture: &mut Capture<T>,
     names: &[Buffer<NAME>],
-    text: &mut Buffer<SHOWN>,
+    log: &mut Log,
 )
     ensures { AreLedTo (view segment.old) (view segment.new) }
 {
     for _ in 0..count {
-        carry_once(segment, capture, names, text);
+        carry_once(segment, capture, names, log);
     }
 }
 
@@ -134,7 +141,7 @@ fn carry_all<T: Sink + Drop>(
     most: u32,
     capture: &mut Capture<T>,
     names: &[Buffer<NAME>],
-    text: &mut Buffer<SHOWN>,
+    log: &mut Log,
 )
     ensures { AreLedTo (view segment.old) (view segment.new) }
 {
@@ -142,6 +149,6 @@ fn carry_all<T: Sink + Drop>(
         if segment.is_quiet() {
             return;
         }
-        carry_once(segment, capture, names, text);
+        carry_once(segment, capture, names, log);
     }
 }

@@ -2,6 +2,7 @@
 ghost use Rattle.segment.specs.Inside.{view};
 ghost use Rattle.play_wire.specs.Acts.{AreLedTo};
 
+use crate::log::Log;
 use flat_model::Config;
 use segment::{JoinFault, Link, Segment};
 use std::alloc::Global;
@@ -21,24 +22,24 @@ pub(crate) fn join(
     }
 }
 
-/// What waits for the links goes on the wire.
-pub(crate) fn collect(segment: &mut Segment)
+/// What waits for the links goes on the wire, and is logged.
+pub(crate) fn collect(segment: &mut Segment, log: &mut Log)
     ensures { AreLedTo (view segment.old) (view segment.new) }
 {
     if segment.is_ether() {
-        segment.collect_frames();
+        segment.collect_frames_watched(log);
     } else {
-        segment.collect();
+        segment.collect_watched(log);
     }
 }
 
-/// What is due comes.
-pub(crate) fn deliver(segment: &mut Segment)
+/// What is due comes, and is logged.
+pub(crate) fn deliver(segment: &mut Segment, log: &mut Log)
     ensures { AreLedTo (view segment.old) (view segment.new) }
 {
     if segment.is_ether() {
-        segment.deliver_frames();
+        segment.deliver_frames_watched(log);
     } else {
-        segment.deliver();
+        segment.deliver_watched(log);
     }
 }

@@ -9,6 +9,7 @@ use crate::capture;
 use crate::fault::Fault;
 use crate::halves::join;
 use crate::link::{check_link, link_of};
+use crate::log::Log;
 use crate::names::{NAME, is_name, place_of};
 use crate::passed::Counted;
 use crate::spare::Spare;
@@ -34,6 +35,8 @@ pub(crate) struct Hosts<T: Sink + Drop> {
     pub(crate) spare: Spare,
     /// What each host has counted before a line.
     pub(crate) counts: Vec<Counted>,
+    /// What passes on the wire by a line.
+    pub(crate) log: Log,
 }
 
 /// The configuration that the words after a host's name tell.
@@ -114,6 +117,10 @@ impl<T: Sink + Drop> Hosts<T> {
         ensures { IfSome result (λ h. (view h.segment ≡ record (no_hosts PACKETS) { random = seeded seed })
             × (h.names.items ≡ [])) }
     {
+        let Ok(log) = Log::new(alloc) else {
+            capture::end(capture);
+            return None;
+        };
         let Ok(mut segment) = Segment::new(alloc, PACKETS) else {
             capture::end(capture);
             return None;
@@ -128,6 +135,7 @@ impl<T: Sink + Drop> Hosts<T> {
                 capture,
                 spare,
                 counts: Vec::new(alloc),
+                log,
             }),
             None => {
                 segment.end();
@@ -211,6 +219,7 @@ impl<T: Sink + Drop> Hosts<T> {
             capture,
             spare,
             counts: _counts,
+            log: _log,
         } = self;
         spare.end();
         segment.end();

@@ -18,6 +18,7 @@ mod link;
 mod link_ask;
 mod link_count;
 mod link_line;
+mod log;
 mod names;
 mod passed;
 mod player;
@@ -28,6 +29,7 @@ mod summary;
 mod target;
 mod tell_link;
 mod ticks;
+mod verdict;
 mod wire_line;
 
 pub use play_pcap::Nowhere;

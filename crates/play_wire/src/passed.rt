@@ -1,9 +1,9 @@
-//! What passed by a line `carry`, in words.
+//! What hosts counted by a line `carry`, in words.
 ghost use Rattle.segment.specs.Inside.{view};
 ghost use Rattle.play_wire.specs.Acts.{AreLedTo};
 
 use crate::add::{add, add_number};
-use crate::frame::add_frame;
+use crate::log::Log;
 use crate::names::NAME;
 use crate::show::name_at;
 use crate::spare::Spare;
@@ -16,9 +16,6 @@ use play_show::SHOWN;
 use play_text::put_packet;
 use script_loop::Buffer;
 use segment::{Segment, Tally};
-
-/// The most packets of a carry that are printed.
-const MOST: usize = 64;
 
 /// Room for a packet in words.
 const PACKET_TEXT: usize = 174;
@@ -65,48 +62,6 @@ pub(crate) fn take_counts(segment: &mut Segment, spare: &mut Stack, counts: &mut
 pub(crate) fn add_words(text: &mut Buffer<SHOWN>, packet: &[u8]) {
     if packet.len() <= IP_MAX_PACKET as usize && text.len() <= SHOWN - PACKET_TEXT {
         put_packet(text, packet);
-    }
-}
-
-/// Puts a packet or a frame after a text, as a line with its sender.
-fn add_sent(text: &mut Buffer<SHOWN>, name: &[u8], packet: &[u8], ether: bool) {
-    add(text, b"    ");
-    add(text, name);
-    add(text, b": ");
-    if ether {
-        add_frame(text, packet);
-    } else {
-        add_words(text, packet);
-    }
-    add(text, b"\n");
-}
-
-/// Puts the packets that went on the wire after a text: those that are under way from a place on, the first 64 of them.
-/// A text that has half the bytes that it may have takes none.
-pub(crate) fn add_went(
-    text: &mut Buffer<SHOWN>,
-    segment: &Segment,
-    names: &[Buffer<NAME>],
-    first: usize,
-) {
-    if text.len() > SHOWN / 2 {
-        return;
-    }
-    let mut more = 0u64;
-    for at in first..segment.flight_len() {
-        if let Some(it) = segment.under_way(at) {
-            if at - first < MOST {
-                let name = name_at(names, it.sender);
-                add_sent(text, name, it.packet, segment.is_ether());
-            } else {
-                more = more.saturating_add(1);
-            }
-        }
-    }
-    if more != 0 {
-        add(text, b"    and ");
-        add_number(text, more);
-        add(text, b" more\n");
     }
 }
 
@@ -165,9 +120,9 @@ fn add_counts(
     }
 }
 
-/// Puts after a text what each host did with packets since its counts were taken down.
+/// Tells what each host did with packets since its counts were taken down, if not all of them were told one by one.
 pub(crate) fn add_all(
-    text: &mut Buffer<SHOWN>,
+    log: &mut Log,
     segment: &mut Segment,
     spare: &mut Spare,
     names: &[Buffer<NAME>],
@@ -184,6 +139,9 @@ pub(crate) fn add_all(
         let old = counts[place];
         let new = counted_at(segment, &mut spare.stack, place);
         let name = name_at(names, place);
-        add_counts(text, &mut spare.drops, Counter { name, unit }, &old, &new);
+        if log.missed {
+            let by = Counter { name, unit };
+            add_counts(&mut log.text, &mut spare.drops, by, &old, &new);
+        }
     }
 }

@@ -6,6 +6,7 @@ ghost use Rattle.play_wire.specs.Acts.{AreLedTo};
 ghost use Rattle.segment.specs.Law.{Act};
 ghost use Rattle.play_wire.specs.Tells.{IsWaited, left_text};
 
+use crate::add::add;
 use crate::by_hand::{by_hand_in, do_by_hand};
 use crate::capture::collect;
 use crate::carries::{Bound, bound_of, carry};
@@ -17,7 +18,7 @@ use crate::passed::{add_all, take_counts};
 use crate::show::tell_wire;
 use crate::summary::tell_summary;
 use crate::ticks::tick_all;
-use play_script::{Report, TOLD};
+use play_script::{Report, TOLD, bytes_of};
 use script_loop::{Buffer, Sink, first_word, is_end};
 use segment::Segment;
 
@@ -34,13 +35,6 @@ fn tell_left(told: &mut Buffer<TOLD>, segment: &Segment)
     told.append(b"left ");
     told.append(digits.format(segment.flight_len() as u64).as_bytes());
     told.append(b" under way");
-}
-
-/// Takes the lines below a reply out of a report that is quiet.
-fn clear_if_quiet(report: &mut Report) {
-    if report.quiet {
-        report.below.clear();
-    }
 }
 
 /// What a line of the wire asks, but for `carry`.
@@ -95,13 +89,13 @@ impl<T: Sink + Drop> Hosts<T> {
         self.capture.tick(ticks);
     }
 
-    /// Carries so often, and reports which packets went, how many were lost, repeated and received, and why some were
-    /// dropped. Nothing of it is reported if the report is quiet.
+    /// Carries so often, and reports what became of each packet. Nothing of it is reported if the report is quiet.
     fn pass(&mut self, bound: Bound, report: &mut Report)
         ensures moves { AreLedTo (view self.old.segment) (view self.new.segment) }
         ensures names { self.new.names ≡ self.old.names }
     {
         let names = self.names.as_slice();
+        self.log.begin(report.quiet);
         take_counts(
             &mut self.segment,
             &mut self.spare.stack,
@@ -112,16 +106,17 @@ impl<T: Sink + Drop> Hosts<T> {
             bound,
             &mut self.capture,
             names,
-            &mut report.below,
+            &mut self.log,
         );
+        self.log.tell_left(&self.segment, names);
         add_all(
-            &mut report.below,
+            &mut self.log,
             &mut self.segment,
             &mut self.spare,
             names,
             self.counts.as_slice(),
         );
-        clear_if_quiet(report);
+        add(&mut report.below, bytes_of(&self.log.text));
     }
 
     /// `carry ..`.
@@ -165,10 +160,11 @@ impl<T: Sink + Drop> Hosts<T> {
         if !self.wired {
             return Err(Fault::NoWire);
         }
+        self.log.begin(true);
         if word == b"collect".as_slice() {
-            collect(&mut self.capture, &mut self.segment);
+            collect(&mut self.capture, &mut self.segment, &mut self.log);
         } else {
-            deliver(&mut self.segment);
+            deliver(&mut self.segment, &mut self.log);
         }
         Ok(())
     }

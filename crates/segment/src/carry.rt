@@ -11,7 +11,8 @@ use crate::flight::Flight;
 use crate::frame::Frame;
 use crate::segment::Segment;
 use crate::tally::count_all;
-use crate::ways::{hand_all, take_all};
+use crate::watch::{Nobody, Watch};
+use crate::ways::{hand_all, show_due, take_all};
 use flat_model::Config;
 use net_stack::Stack;
 
@@ -30,7 +31,12 @@ fn nothing_waits(stacks: &[Stack]) -> bool
 }
 
 /// Each host gives all that waits for its link.
-fn collect_all(flight: &mut Flight, impairment: &mut Impairment, stacks: &mut Vec<Stack>)
+fn collect_all<W: Watch>(
+    flight: &mut Flight,
+    impairment: &mut Impairment,
+    stacks: &mut Vec<Stack>,
+    watch: &mut W,
+)
     ensures hosts { AtEach (λ place s t. AreCalls s (transmits_of (waiting s)) t) stacks.old.items stacks.new.items }
     ensures taken { under_way flight.new
         ≡ sent_behind flight.old impairment.old (given_below stacks.old.items (length stacks.old.items)) }
@@ -42,19 +48,19 @@ fn collect_all(flight: &mut Flight, impairment: &mut Impairment, stacks: &mut Ve
     ensures room { vec_capacity flight.new.frames ≡ vec_capacity flight.old.frames }
 {
     for place in 0..stacks.len() {
-        take_all(flight, impairment, place, &mut stacks[place]);
+        take_all(flight, impairment, place, &mut stacks[place], watch);
     }
 }
 
 /// All that goes to a host comes to it.
-fn deliver_all(due: &[Frame], configs: &[Config], stacks: &mut Vec<Stack>)
+fn deliver_all<W: Watch>(due: &[Frame], configs: &[Config], stacks: &mut Vec<Stack>, watch: &mut W)
     ensures { AtEach (λ place s t. AreCalls s
         (comes (received_in place (slice_get configs.now place) (map flying due.now))) t)
         stacks.old.items stacks.new.items }
 {
     for place in 0..stacks.len() {
         if let Some(config) = configs.get(place) {
-            hand_all(due, place, config, &mut stacks[place]);
+            hand_all(due, place, config, &mut stacks[place], watch);
         }
     }
 }
@@ -66,13 +72,33 @@ impl Segment {
     pub fn collect(&mut self)
         ensures { IsCollected (view self.old) (view self.new) }
     {
-        collect_all(&mut self.flight, &mut self.impairment, &mut self.stacks);
+        self.collect_watched(&mut Nobody);
+    }
+
+    /// The same, watched: `sent` is called for each packet, in the order in which they go.
+    pub fn collect_watched<W: Watch>(&mut self, watch: &mut W)
+        ensures { IsCollected (view self.old) (view self.new) }
+    {
+        collect_all(
+            &mut self.flight,
+            &mut self.impairment,
+            &mut self.stacks,
+            watch,
+        );
     }
 
     /// What is due comes: each packet to whom its destination names, a broadcast to all others, and none to its sender.
     /// Before that it's drawn for each but the last, from the first on, whether it changes places with the one after
     /// it. What isn't due yet is a carry nearer then.
     pub fn deliver(&mut self)
+        ensures { HasComeDue (view self.old) (view self.new) }
+    {
+        self.deliver_watched(&mut Nobody);
+    }
+
+    /// The same, watched: `due` is called for each packet that is due, and then, for each host from place 0 on, `comes`
+    /// before each packet that goes to it, and `came` after it.
+    pub fn deliver_watched<W: Watch>(&mut self, watch: &mut W)
         ensures { HasComeDue (view self.old) (view self.new) }
     {
         let flight = &mut self.flight;
@@ -83,10 +109,12 @@ impl Segment {
             self.configs.as_slice(),
             &mut self.impairment.tallies,
         );
+        show_due(flight.due.as_slice(), watch);
         deliver_all(
             flight.due.as_slice(),
             self.configs.as_slice(),
             &mut self.stacks,
+            watch,
         );
     }
 

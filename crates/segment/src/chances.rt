@@ -34,11 +34,14 @@ pub const NO_CHANCES: Chances = Chances {
     jitter: 0,
 };
 
-/// What becomes of a packet, and the delay of each copy.
+/// What becomes of a packet as it goes on the wire.
 #[derive(Clone, Copy, Debug, PartialEq, Eq)]
-pub(crate) enum Fate {
+pub enum Fate {
+    /// It's lost.
     Lost,
+    /// It goes, and isn't due in so many carries.
     Once(u64),
+    /// It goes twice, and each copy has a delay of its own.
     Twice(u64, u64),
 }
 

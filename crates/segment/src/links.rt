@@ -14,6 +14,8 @@ use crate::flight::Flight;
 use crate::frame::Frame;
 use crate::segment::Segment;
 use crate::tally::Tally;
+use crate::watch::{Nobody, Watch};
+use crate::ways::{Arrival, show_due};
 use ether_host::{LinkLayer, Mac};
 use flat_ether::ETHER_MTU;
 use net_stack::Stack;
@@ -49,7 +51,7 @@ impl Frame {
 }
 
 /// The frame in hand goes under way as its fate wants it. If it finds no room, it's lost.
-fn send(flight: &mut Flight, impairment: &mut Impairment)
+fn send<W: Watch>(flight: &mut Flight, impairment: &mut Impairment, watch: &mut W)
     ensures taken { under_way flight.new ≡ sent_behind flight.old impairment.old (flying flight.old.hand ∷ []) }
     ensures random { impairment.new.random ≡ random_after impairment.old (flying flight.old.hand ∷ []) }
     ensures tallies { impairment.new.tallies.items ≡ tallies_after impairment.old (flying flight.old.hand ∷ []) }
@@ -57,16 +59,17 @@ fn send(flight: &mut Flight, impairment: &mut Impairment)
     ensures room { vec_capacity flight.new.frames ≡ vec_capacity flight.old.frames }
 {
     let fate = impairment.fate(flight.hand.sender);
-    flight.enter(fate);
+    flight.enter(fate, watch);
 }
 
 /// Takes the frames that the host at a place gives.
-fn take_frames(
+fn take_frames<W: Watch>(
     flight: &mut Flight,
     impairment: &mut Impairment,
     sender: usize,
     stack: &mut Stack,
     link: &mut LinkLayer,
+    watch: &mut W,
 )
     ensures host { halves stack.new (link_seen link.new)
         ≡ (frames_given FRAMES (halves stack.old (link_seen link.old))).1 }
@@ -83,16 +86,17 @@ fn take_frames(
         if !flight.hand.give(sender, stack, link) {
             return;
         }
-        send(flight, impairment);
+        send(flight, impairment, watch);
     }
 }
 
 /// Each host gives its frames.
-fn collect_frames(
+fn collect_frames<W: Watch>(
     flight: &mut Flight,
     impairment: &mut Impairment,
     stacks: &mut Vec<Stack>,
     links: &mut Vec<LinkLayer>,
+    watch: &mut W,
 )
     ensures hosts { AtEach (λ place h k. k ≡ (frames_given FRAMES h).1)
         (hosts_of stacks.old.items (map link_seen links.old.items))
@@ -115,6 +119,7 @@ fn collect_frames(
                 place,
                 &mut stacks[place],
                 &mut links[place],
+                watch,
             );
         }
     }
@@ -156,16 +161,30 @@ fn count_frames(due: &[Frame], links: &[LinkLayer], tallies: &mut Vec<Tally>)
 }
 
 /// A frame comes to a host.
-fn hand_over(stack: &mut Stack, link: &mut LinkLayer, frame: &[u8])
+fn hand_over<W: Watch>(
+    stack: &mut Stack,
+    link: &mut LinkLayer,
+    frame: &[u8],
+    at: Arrival,
+    watch: &mut W,
+)
     requires { length frame.now ≤ MAX_MTU }
     ensures { HearEach (frame.now ∷ []) (halves stack.old (link_seen link.old))
         (halves stack.new (link_seen link.new)) }
 {
+    watch.comes(at.number, at.place, stack, link.tallies());
     link.receive(stack, frame);
+    watch.came(at.number, at.place, stack, link.tallies());
 }
 
 /// Hands to the host at a place all of these frames that come to it.
-fn hand_frames(due: &[Frame], place: usize, stack: &mut Stack, link: &mut LinkLayer)
+fn hand_frames<W: Watch>(
+    due: &[Frame],
+    place: usize,
+    stack: &mut Stack,
+    link: &mut LinkLayer,
+    watch: &mut W,
+)
     ensures { HearEach (frames_to place (link_seen link.old).link.mac (map flying due.now))
         (halves stack.old (link_seen link.old)) (halves stack.new (link_seen link.new)) }
 {
@@ -173,13 +192,24 @@ fn hand_frames(due: &[Frame], place: usize, stack: &mut Stack, link: &mut LinkLa
     for at in 0..due.len() {
         let frame = &due[at];
         if frame.is_heard(place, mac) {
-            hand_over(stack, link, frame.bytes());
+            hand_over(
+                stack,
+                link,
+                frame.bytes(),
+                Arrival { number: at, place },
+                watch,
+            );
         }
     }
 }
 
 /// All frames that come to a host are handed to it.
-fn deliver_frames(due: &[Frame], stacks: &mut Vec<Stack>, links: &mut Vec<LinkLayer>)
+fn deliver_frames<W: Watch>(
+    due: &[Frame],
+    stacks: &mut Vec<Stack>,
+    links: &mut Vec<LinkLayer>,
+    watch: &mut W,
+)
     ensures hosts { AtEach (λ place h k. HearEach (frames_to place h.link.link.mac (map flying due.now)) h k)
         (hosts_of stacks.old.items (map link_seen links.old.items))
         (hosts_of stacks.new.items (map link_seen links.new.items)) }
@@ -187,7 +217,7 @@ fn deliver_frames(due: &[Frame], stacks: &mut Vec<Stack>, links: &mut Vec<LinkLa
 {
     for place in 0..links.len() {
         if place < stacks.len() {
-            hand_frames(due, place, &mut stacks[place], &mut links[place]);
+            hand_frames(due, place, &mut stacks[place], &mut links[place], watch);
         }
     }
 }
@@ -198,17 +228,32 @@ impl Segment {
     pub fn collect_frames(&mut self)
         ensures { AreFramesCollected (view self.old) (view self.new) }
     {
+        self.collect_frames_watched(&mut Nobody);
+    }
+
+    /// The same, watched: `sent` is called for each frame, in the order in which they go.
+    pub fn collect_frames_watched<W: Watch>(&mut self, watch: &mut W)
+        ensures { AreFramesCollected (view self.old) (view self.new) }
+    {
         collect_frames(
             &mut self.flight,
             &mut self.impairment,
             &mut self.stacks,
             &mut self.links,
+            watch,
         );
     }
 
     /// What is due comes: each frame to the host with the hardware address that it goes to, one to all to all others,
     /// and none to its sender. The order is drawn before, as `deliver` does it.
     pub fn deliver_frames(&mut self)
+        ensures { AreFramesDelivered (view self.old) (view self.new) }
+    {
+        self.deliver_frames_watched(&mut Nobody);
+    }
+
+    /// The same, watched, as `deliver_watched` is.
+    pub fn deliver_frames_watched<W: Watch>(&mut self, watch: &mut W)
         ensures { AreFramesDelivered (view self.old) (view self.new) }
     {
         let flight = &mut self.flight;
@@ -219,6 +264,12 @@ impl Segment {
             self.links.as_slice(),
             &mut self.impairment.tallies,
         );
-        deliver_frames(flight.due.as_slice(), &mut self.stacks, &mut self.links);
+        show_due(flight.due.as_slice(), watch);
+        deliver_frames(
+            flight.due.as_slice(),
+            &mut self.stacks,
+            &mut self.links,
+            watch,
+        );
     }
 }

@@ -7,6 +7,7 @@ ghost use Rattle.segment.specs.Inside.{flying, under_way};
 use crate::chances::Fate;
 use crate::flight::Flight;
 use crate::frame::Frame;
+use crate::watch::Watch;
 use std::mem;
 
 /// Of these packets, those that are due, and the others, a carry older. Both lists are empty, with room for all.
@@ -45,8 +46,8 @@ impl Flight {
         }
     }
 
-    /// The packet in hand goes under way as its fate wants it.
-    pub(crate) fn enter(&mut self, fate: Fate)
+    /// Copies of the packet in hand go under way as its fate wants it.
+    fn put_copies(&mut self, fate: Fate)
         ensures entered { under_way self.new
             ≡ take (vec_capacity self.old.frames) (under_way self.old ++ copies_before fate (flying self.old.hand) []) }
         ensures room { vec_capacity self.new.frames ≡ vec_capacity self.old.frames }
@@ -59,6 +60,18 @@ impl Flight {
                 self.put(second);
             }
         }
+    }
+
+    /// The packet in hand goes under way as its fate wants it.
+    pub(crate) fn enter<W: Watch>(&mut self, fate: Fate, watch: &mut W)
+        ensures entered { under_way self.new
+            ≡ take (vec_capacity self.old.frames) (under_way self.old ++ copies_before fate (flying self.old.hand) []) }
+        ensures room { vec_capacity self.new.frames ≡ vec_capacity self.old.frames }
+    {
+        let before = self.frames.len();
+        self.put_copies(fate);
+        let copies = self.frames.len().saturating_sub(before);
+        watch.sent(self.hand.sender, self.hand.bytes(), fate, copies);
     }
 
     /// What is due leaves, and the rest is a carry older.

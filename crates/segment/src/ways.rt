@@ -8,16 +8,19 @@ ghost use Rattle.segment.specs.Inside.{sent_behind, flying, random_after, tallie
 use crate::chances::Impairment;
 use crate::flight::Flight;
 use crate::frame::Frame;
+use crate::watch::Watch;
+use ether_host::Tallies;
 use flat_model::Config;
 use net_stack::Stack;
 
 /// Takes all packets that wait for the link of the host at a place. Each goes under way as its fate wants it; one that
 /// finds no room is lost.
-pub(crate) fn take_all(
+pub(crate) fn take_all<W: Watch>(
     flight: &mut Flight,
     impairment: &mut Impairment,
     sender: usize,
     stack: &mut Stack,
+    watch: &mut W,
 )
     ensures calls { AreCalls stack.old (transmits_of (waiting stack.old)) stack.new }
     ensures taken { under_way flight.new ≡ sent_behind flight.old impairment.old (sent_by sender (waiting stack.old)) }
@@ -28,12 +31,18 @@ pub(crate) fn take_all(
     ensures room { vec_capacity flight.new.frames ≡ vec_capacity flight.old.frames }
 {
     for _ in 0..stack.output_len() {
-        take_one(flight, impairment, sender, stack);
+        take_one(flight, impairment, sender, stack, watch);
     }
 }
 
 /// Takes the packet that has waited longest for the link. One has to wait.
-fn take_one(flight: &mut Flight, impairment: &mut Impairment, sender: usize, stack: &mut Stack)
+fn take_one<W: Watch>(
+    flight: &mut Flight,
+    impairment: &mut Impairment,
+    sender: usize,
+    stack: &mut Stack,
+    watch: &mut W,
+)
     requires { 0 < length (waiting stack.old) }
     ensures calls { AreCalls stack.old (transmits_of (take 1 (waiting stack.old))) stack.new }
     ensures waits { waiting stack.new ≡ drop 1 (waiting stack.old) }
@@ -47,25 +56,48 @@ fn take_one(flight: &mut Flight, impairment: &mut Impairment, sender: usize, sta
 {
     flight.hand.fill(sender, stack);
     let fate = impairment.fate(sender);
-    flight.enter(fate);
+    flight.enter(fate, watch);
+}
+
+/// Which of the packets that are due comes, and the place of the host to which it does.
+#[derive(Clone, Copy)]
+pub(crate) struct Arrival {
+    pub(crate) number: usize,
+    pub(crate) place: usize,
+}
+
+/// Shows the packets that are due.
+pub(crate) fn show_due<W: Watch>(due: &[Frame], watch: &mut W) {
+    for number in 0..due.len() {
+        let frame = &due[number];
+        watch.due(number, frame.sender, frame.bytes());
+    }
 }
 
 /// Hands a packet to a host.
-fn hand_over(stack: &mut Stack, packet: &[u8])
+fn hand_over<W: Watch>(stack: &mut Stack, packet: &[u8], at: Arrival, watch: &mut W)
     requires { length packet.now ≤ MAX_MTU }
     ensures { AreCalls stack.old (comes (packet.now ∷ [])) stack.new }
 {
+    watch.comes(at.number, at.place, stack, Tallies::default());
     stack.rx(packet);
+    watch.came(at.number, at.place, stack, Tallies::default());
 }
 
 /// Hands to the host at a place all of these packets that go to it.
-pub(crate) fn hand_all(due: &[Frame], place: usize, config: &Config, stack: &mut Stack)
+pub(crate) fn hand_all<W: Watch>(
+    due: &[Frame],
+    place: usize,
+    config: &Config,
+    stack: &mut Stack,
+    watch: &mut W,
+)
     ensures { AreCalls stack.old (comes (received place config.now (map flying due.now))) stack.new }
 {
     for at in 0..due.len() {
         let frame = &due[at];
         if frame.goes_to(place, config) {
-            hand_over(stack, frame.bytes());
+            hand_over(stack, frame.bytes(), Arrival { number: at, place }, watch);
         }
     }
 }

@@ -6,6 +6,6 @@ pub returns : goal.returns
 returns g c =
     let first = view c.args.segment.now in
     let gone = view c.send.new.segment in
-    let come = view c.deliver.new.segment in
-    moves_on first come (view c.settle.new.segment) (moves_on first gone come c.send.ensures c.deliver.ensures)
+    let come = view c.bring.new.segment in
+    moves_on first come (view c.settle.new.segment) (moves_on first gone come c.send.ensures c.bring.ensures)
     c.settle.ensures

@@ -10,7 +10,7 @@ use Rattle.segment.proofs.Giving.{given_next}
 use Rattle.segment.proofs.carry.collect_all.Goals as goal
 
 pub loop-place-preserved : goal.loop-place-preserved
-loop-place-preserved c =
+loop-place-preserved g c =
     let inv = c.loop-place.invariant in
     let s = c.index_mut.result.now in
     let t = c.take_all.new.stack in
@@ -40,6 +40,6 @@ loop-place-preserved c =
     }
 
 pub returns-clause-hosts : goal.returns-clause-hosts
-returns-clause-hosts c =
+returns-clause-hosts g c =
     walk_ends (λ place x y. AreCalls x (transmits_of (waiting x)) y) c.args.stacks.now.items c.loop-place.stacks.items
     c.loop-place.place c.loop-place.invariant.walked (omega arith)

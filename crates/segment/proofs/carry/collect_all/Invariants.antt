@@ -9,7 +9,7 @@ use Rattle.segment.proofs.Walking.{IsWalked}
 use Rattle.segment.proofs.carry.collect_all.Given as goal
 
 abbrev pub invariant-loop-place : goal.invariant-loop-place
-invariant-loop-place l = record {
+invariant-loop-place g l = record {
   walked : IsWalked (λ place s t. AreCalls s (transmits_of (waiting s)) t) l.fn.stacks.items l.stacks.items l.place;
   entered : Entered (vec_capacity l.fn.flight.frames) l.fn.impairment.chances.items (under_way l.fn.flight)
       (under_way l.flight) l.fn.impairment.random l.impairment.random l.fn.impairment.tallies.items

@@ -7,6 +7,6 @@ use Rattle.segment.proofs.Walking.{IsWalked}
 use Rattle.segment.proofs.carry.deliver_all.Given as goal
 
 abbrev pub invariant-loop-place : goal.invariant-loop-place
-invariant-loop-place l =
+invariant-loop-place g l =
     IsWalked (λ place s t. AreCalls s (comes (received_in place (slice_get l.configs place) (map flying l.due))) t)
     l.fn.stacks.items l.stacks.items l.place

@@ -18,7 +18,7 @@ abbrev gives_so : ℕ → Host → Host → Type 0
 gives_so place h k = k ≡ (frames_given FRAMES h).1
 
 pub loop-place-preserved : goal.loop-place-preserved
-loop-place-preserved c =
+loop-place-preserved g c =
     let inv = c.loop-place.invariant in
     let place = c.loop-place.place in
     let old = hosts_of c.args.stacks.now.items (map link_seen c.args.links.now.items) in
@@ -80,29 +80,29 @@ loop-place-preserved c =
           }
     ]
 
-all_walked : (c : goal.After-loop-place) → c.loop-place.place ≡ length c.args.links.now.items
-all_walked c = omega (arith, c.loop-place.invariant.end)
+all_walked : (g : _) (c : goal.After-loop-place g) → c.loop-place.place ≡ length c.args.links.now.items
+all_walked g c = omega (arith, c.loop-place.invariant.end)
 
 pub returns-clause-taken : goal.returns-clause-taken
-returns-clause-taken c =
+returns-clause-taken g c =
     let old = hosts_of c.args.stacks.now.items (map link_seen c.args.links.now.items) in
     c.loop-place.invariant.entered.taken
-    ∙ ap (λ n. sent_behind c.args.flight.now c.args.impairment.now (frames_below old n)) (all_walked c)
+    ∙ ap (λ n. sent_behind c.args.flight.now c.args.impairment.now (frames_below old n)) (all_walked g c)
 
 pub returns-clause-random : goal.returns-clause-random
-returns-clause-random c =
+returns-clause-random g c =
     let old = hosts_of c.args.stacks.now.items (map link_seen c.args.links.now.items) in
     c.loop-place.invariant.entered.random
-    ∙ ap (λ n. random_after c.args.impairment.now (frames_below old n)) (all_walked c)
+    ∙ ap (λ n. random_after c.args.impairment.now (frames_below old n)) (all_walked g c)
 
 pub returns-clause-tallies : goal.returns-clause-tallies
-returns-clause-tallies c =
+returns-clause-tallies g c =
     let old = hosts_of c.args.stacks.now.items (map link_seen c.args.links.now.items) in
     c.loop-place.invariant.entered.tallies
-    ∙ ap (λ n. tallies_after c.args.impairment.now (frames_below old n)) (all_walked c)
+    ∙ ap (λ n. tallies_after c.args.impairment.now (frames_below old n)) (all_walked g c)
 
 pub returns-clause-hosts : goal.returns-clause-hosts
-returns-clause-hosts c =
+returns-clause-hosts g c =
     let inv = c.loop-place.invariant in
     walk_ends (λ place h k. k ≡ (frames_given FRAMES h).1) (hosts_of c.args.stacks.now.items
     (map link_seen c.args.links.now.items)) (hosts_of c.loop-place.stacks.items

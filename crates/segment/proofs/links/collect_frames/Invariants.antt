@@ -9,7 +9,7 @@ use Rattle.segment.proofs.Walking.{IsWalked}
 use Rattle.segment.proofs.links.collect_frames.Given as goal
 
 abbrev pub invariant-loop-place : goal.invariant-loop-place
-invariant-loop-place l = record {
+invariant-loop-place g l = record {
   walked : IsWalked (λ place h k. k ≡ (frames_given FRAMES h).1)
       (hosts_of l.fn.stacks.items (map link_seen l.fn.links.items))
       (hosts_of l.stacks.items (map link_seen l.links.items))

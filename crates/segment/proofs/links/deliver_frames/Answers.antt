@@ -14,7 +14,7 @@ abbrev hears_so : List Flying → ℕ → Host → Host → Type 0
 hears_so due place h k = HearEach (frames_to place h.link.link.mac due) h k
 
 pub loop-place-preserved : goal.loop-place-preserved
-loop-place-preserved c =
+loop-place-preserved g c =
     let inv = c.loop-place.invariant in
     let place = c.loop-place.place in
     let due = map flying c.args.due.now in
@@ -47,7 +47,7 @@ loop-place-preserved c =
     ]
 
 pub returns-clause-hosts : goal.returns-clause-hosts
-returns-clause-hosts c =
+returns-clause-hosts g c =
     let inv = c.loop-place.invariant in
     walk_ends (λ place h k. HearEach (frames_to place h.link.link.mac (map flying c.args.due.now)) h k)
     (hosts_of c.args.stacks.now.items

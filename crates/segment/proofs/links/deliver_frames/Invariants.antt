@@ -6,7 +6,7 @@ use Rattle.segment.proofs.Walking.{IsWalked}
 use Rattle.segment.proofs.links.deliver_frames.Given as goal
 
 abbrev pub invariant-loop-place : goal.invariant-loop-place
-invariant-loop-place l = record {
+invariant-loop-place g l = record {
   walked : IsWalked (λ place h k. HearEach (frames_to place h.link.link.mac (map flying l.due)) h k)
       (hosts_of l.fn.stacks.items (map link_seen l.fn.links.items))
       (hosts_of l.stacks.items (map link_seen l.links.items))

@@ -11,7 +11,7 @@ use Rattle.segment.proofs.links.hand_frames.Goals as goal
 use Rattle.segment.proofs.links.hand_frames.Goals.{then-is_heard, else-is_heard}
 
 pub loop-at-preserved : goal.loop-at-preserved
-loop-at-preserved c =
+loop-at-preserved g c =
     let frame = c.index-due-at.result in
     let mac = (link_seen c.args.link.now).link.mac in
     let is : frame_goes_to c.args.place mac (flying frame) ≡ c.is_heard.result =

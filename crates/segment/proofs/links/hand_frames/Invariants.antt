@@ -6,6 +6,6 @@ use Rattle.segment.specs.Inside.{flying}
 use Rattle.segment.proofs.links.hand_frames.Given as goal
 
 abbrev pub invariant-loop-at : goal.invariant-loop-at
-invariant-loop-at l =
+invariant-loop-at g l =
     HearEach (frames_to l.place (link_seen l.fn.link).link.mac (map flying (take l.at l.due)))
     (halves l.fn.stack (link_seen l.fn.link)) (halves l.stack (link_seen l.link))

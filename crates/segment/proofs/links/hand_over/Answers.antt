@@ -3,7 +3,7 @@ use Rattle.segment.proofs.Taking.{are_bytes}
 use Rattle.segment.proofs.links.hand_over.Goals as goal
 
 pub returns : goal.returns
-returns c = (
+returns g c = (
   _,
   (are_bytes c.args.frame.now (λ k. omega (arith, c.type_inv.frame k)), omega arith, c.receive.ensures),
   refl,

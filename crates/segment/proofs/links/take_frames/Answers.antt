@@ -16,7 +16,7 @@ less : (n : ℕ) → n ≡ n - 0
 less n = omega arith
 
 pub loop-init : goal.loop-init
-loop-init c =
+loop-init g c =
     let h = halves c.args.stack.now (link_seen c.args.link.now) in
     let flight = c.args.flight.now in
     record {
@@ -32,7 +32,7 @@ loop-init c =
     }
 
 pub loop-preserved : goal.loop-preserved
-loop-preserved c =
+loop-preserved g c =
     let inv = c.loop.invariant in
     let first = halves c.args.stack.now (link_seen c.args.link.now) in
     let h = halves c.loop.stack (link_seen c.loop.link) in
@@ -70,9 +70,9 @@ loop-preserved c =
     }
 
 -- no frame is left
-ended : (c : goal.Then-not-give) → frames_given FRAMES (halves c.args.stack.now (link_seen c.args.link.now))
+ended : (g : _) (c : goal.Then-not-give g) → frames_given FRAMES (halves c.args.stack.now (link_seen c.args.link.now))
     ≡ (c.loop.invariant.given, halves c.give.new.stack (link_seen c.give.new.link))
-ended c =
+ended g c =
     let h = halves c.loop.stack (link_seen c.loop.link) in
     let k = halves c.give.new.stack (link_seen c.give.new.link) in
     let hand = c.give.new.self in
@@ -82,54 +82,54 @@ ended c =
     (ap (λ (b : Bool). (if b then Some (take hand.len hand.room) else None, k)) (sym c.if-not-give.true)
     ∙ c.give.ensures.step))
 
-given_then : (c : goal.Then-not-give)
+given_then : (g : _) (c : goal.Then-not-give g)
     → c.loop.invariant.given ≡ (frames_given FRAMES (halves c.args.stack.now (link_seen c.args.link.now))).0
-given_then c = ap (λ (r : List (List ℕ) × Host). r.0) (sym (ended c))
+given_then g c = ap (λ (r : List (List ℕ) × Host). r.0) (sym (ended g c))
 
 pub returns-then-not-give-clause-host : goal.returns-then-not-give-clause-host
-returns-then-not-give-clause-host c = ap (λ (r : List (List ℕ) × Host). r.1) (sym (ended c))
+returns-then-not-give-clause-host g c = ap (λ (r : List (List ℕ) × Host). r.1) (sym (ended g c))
 
 pub returns-then-not-give-clause-taken : goal.returns-then-not-give-clause-taken
-returns-then-not-give-clause-taken c =
+returns-then-not-give-clause-taken g c =
     c.loop.invariant.entered.taken
-    ∙ ap (λ fs. sent_behind c.args.flight.now c.args.impairment.now (sent_by c.args.sender fs)) (given_then c)
+    ∙ ap (λ fs. sent_behind c.args.flight.now c.args.impairment.now (sent_by c.args.sender fs)) (given_then g c)
 
 pub returns-then-not-give-clause-random : goal.returns-then-not-give-clause-random
-returns-then-not-give-clause-random c =
+returns-then-not-give-clause-random g c =
     c.loop.invariant.entered.random
-    ∙ ap (λ fs. random_after c.args.impairment.now (sent_by c.args.sender fs)) (given_then c)
+    ∙ ap (λ fs. random_after c.args.impairment.now (sent_by c.args.sender fs)) (given_then g c)
 
 pub returns-then-not-give-clause-tallies : goal.returns-then-not-give-clause-tallies
-returns-then-not-give-clause-tallies c =
+returns-then-not-give-clause-tallies g c =
     c.loop.invariant.entered.tallies
-    ∙ ap (λ fs. tallies_after c.args.impairment.now (sent_by c.args.sender fs)) (given_then c)
+    ∙ ap (λ fs. tallies_after c.args.impairment.now (sent_by c.args.sender fs)) (given_then g c)
 
 -- as many as there may be
-full : (c : goal.After-loop) → frames_given FRAMES (halves c.args.stack.now (link_seen c.args.link.now))
+full : (g : _) (c : goal.After-loop g) → frames_given FRAMES (halves c.args.stack.now (link_seen c.args.link.now))
     ≡ (c.loop.invariant.given, halves c.loop.stack (link_seen c.loop.link))
-full c =
+full g c =
     let h = halves c.loop.stack (link_seen c.loop.link) in
     so_far_end FRAMES (halves c.args.stack.now (link_seen c.args.link.now)) (FRAMES - c.loop.counter) h h
     c.loop.invariant.given c.loop.invariant.so_far (given_none (FRAMES - c.loop.counter) h (omega arith))
 
-given_all : (c : goal.After-loop)
+given_all : (g : _) (c : goal.After-loop g)
     → c.loop.invariant.given ≡ (frames_given FRAMES (halves c.args.stack.now (link_seen c.args.link.now))).0
-given_all c = ap (λ (r : List (List ℕ) × Host). r.0) (sym (full c))
+given_all g c = ap (λ (r : List (List ℕ) × Host). r.0) (sym (full g c))
 
 pub returns-clause-host : goal.returns-clause-host
-returns-clause-host c = ap (λ (r : List (List ℕ) × Host). r.1) (sym (full c))
+returns-clause-host g c = ap (λ (r : List (List ℕ) × Host). r.1) (sym (full g c))
 
 pub returns-clause-taken : goal.returns-clause-taken
-returns-clause-taken c =
+returns-clause-taken g c =
     c.loop.invariant.entered.taken
-    ∙ ap (λ fs. sent_behind c.args.flight.now c.args.impairment.now (sent_by c.args.sender fs)) (given_all c)
+    ∙ ap (λ fs. sent_behind c.args.flight.now c.args.impairment.now (sent_by c.args.sender fs)) (given_all g c)
 
 pub returns-clause-random : goal.returns-clause-random
-returns-clause-random c =
+returns-clause-random g c =
     c.loop.invariant.entered.random
-    ∙ ap (λ fs. random_after c.args.impairment.now (sent_by c.args.sender fs)) (given_all c)
+    ∙ ap (λ fs. random_after c.args.impairment.now (sent_by c.args.sender fs)) (given_all g c)
 
 pub returns-clause-tallies : goal.returns-clause-tallies
-returns-clause-tallies c =
+returns-clause-tallies g c =
     c.loop.invariant.entered.tallies
-    ∙ ap (λ fs. tallies_after c.args.impairment.now (sent_by c.args.sender fs)) (given_all c)
+    ∙ ap (λ fs. tallies_after c.args.impairment.now (sent_by c.args.sender fs)) (given_all g c)

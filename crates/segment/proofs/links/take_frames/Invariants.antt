@@ -10,7 +10,7 @@ use Rattle.segment.proofs.Framing.{IsSoFar}
 use Rattle.segment.proofs.links.take_frames.Given as goal
 
 abbrev pub invariant-loop : goal.invariant-loop
-invariant-loop l = record {
+invariant-loop g l = record {
   given : List (List ℕ);
   so_far : IsSoFar FRAMES (halves l.fn.stack (link_seen l.fn.link)) (FRAMES - l.counter)
       (halves l.stack (link_seen l.link))

@@ -5,7 +5,7 @@ use Rattle.segment.proofs.ways.hand_all.Goals as goal
 use Rattle.segment.proofs.ways.hand_all.Goals.{then-goes_to, else-goes_to}
 
 pub loop-at-preserved : goal.loop-at-preserved
-loop-at-preserved c =
+loop-at-preserved g c =
     let frame = c.index-due-at.result in
     more_come c.args.place c.args.config.now c.loop-at.at c.args.due.now frame c.args.stack.now c.loop-at.stack
     c.if-goes_to.stack

@@ -7,7 +7,7 @@ use Rattle.segment.proofs.Taking.{drop_next, more_calls, sent_next}
 use Rattle.segment.proofs.ways.take_all.Goals as goal
 
 pub loop-preserved : goal.loop-preserved
-loop-preserved c =
+loop-preserved g c =
     let i = c.loop.counter in
     let all = waiting c.args.stack.now in
     let inv = c.loop.invariant in

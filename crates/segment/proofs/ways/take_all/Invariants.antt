@@ -7,7 +7,7 @@ use Rattle.segment.proofs.Entering.{Entered}
 use Rattle.segment.proofs.ways.take_all.Given as goal
 
 abbrev pub invariant-loop : goal.invariant-loop
-invariant-loop l = record {
+invariant-loop g l = record {
   calls : AreCalls l.fn.stack (transmits_of (take l.counter (waiting l.fn.stack))) l.stack;
   waits : waiting l.stack ≡ drop l.counter (waiting l.fn.stack);
   entered : Entered (vec_capacity l.fn.flight.frames) l.fn.impairment.chances.items (under_way l.fn.flight)

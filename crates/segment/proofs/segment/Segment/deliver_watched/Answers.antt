@@ -8,15 +8,15 @@ use Rattle.segment.specs.Inside.{flying, view}
 use Rattle.segment.specs.Segment.{AtEach, leaving, received_in}
 use Rattle.segment.specs.Tallies.{hears}
 use Rattle.segment.specs.declared.tally.Tally.{Tally}
-use Rattle.segment.proofs.segment.Segment.deliver.Goals as goal
+use Rattle.segment.proofs.segment.Segment.deliver_watched.Goals as goal
 
 pub returns : goal.returns
-returns c =
+returns g c =
     let old = view c.args.self.now in
     let due : map flying c.shuffle.new.due.items ≡ (leaving old).0 =
     c.shuffle.ensures.due ∙ ap (λ (fs : List Flying). (shuffled old.chances fs old.random).0) c.leave.ensures.due in
     let counted : map flying c.as_slice.result.now ≡ (leaving old).0 = ap (map flying) c.as_slice.ensures.value ∙ due in
-    let now : map flying c.as_slice-3.result.now ≡ (leaving old).0 = ap (map flying) c.as_slice-3.ensures.value ∙ due in
+    let now : map flying c.as_slice-4.result.now ≡ (leaving old).0 = ap (map flying) c.as_slice-4.ensures.value ∙ due in
     record {
       configs = refl;
       room = c.leave.ensures.room;
@@ -45,6 +45,6 @@ returns c =
           (subst (λ (configs : List Config). AtEach
           (λ place s t. AreCalls s (comes
           (received_in place (slice_get configs place)
-          (map flying c.as_slice-3.result.now))) t) old.stacks c.deliver_all.new.stacks.items)
-          c.as_slice-4.ensures.value c.deliver_all.ensures);
+          (map flying c.as_slice-4.result.now))) t) old.stacks c.deliver_all.new.stacks.items)
+          c.as_slice-5.ensures.value c.deliver_all.ensures);
     }

@@ -1,8 +1,8 @@
 use Rattle.std.proofs.Common.{ap, refl}
-use Rattle.segment.proofs.segment.Segment.collect.Goals as goal
+use Rattle.segment.proofs.segment.Segment.collect_watched.Goals as goal
 
 pub returns : goal.returns
-returns c = record {
+returns g c = record {
   configs = refl;
   room = c.collect_all.ensures.room;
   links = refl;

@@ -1,0 +1,294 @@
+//! What passes on the wire by a line, and what is told of it.
+ghost use Rattle.std.specs.Prelude.{◌≤◌};
+ghost use Rattle.params.specs.declared.TheConstants.{MAX_MTU};
+
+use crate::add::{add, add_number};
+use crate::frame::add_frame;
+use crate::names::NAME;
+use crate::passed::add_words;
+use crate::show::name_at;
+use crate::verdict::{Look, Verdict};
+use net_stack::Stack;
+use params::MAX_MTU;
+use play_show::SHOWN;
+use script_loop::Buffer;
+use segment::{Fate, Segment, Tallies, UnderWay, Watch};
+use std::alloc::{AllocError, Global};
+
+/// The most packets of each half of a carry that are told.
+const MOST: usize = 64;
+
+/// The most fates of these packets that are told.
+const FATES: usize = 4096;
+
+/// The room for a packet of any link.
+const ROOM: usize = MAX_MTU as usize;
+
+/// Room for a packet or a fate in a line.
+const LINE: usize = 512;
+
+/// A packet or a frame that went or came.
+#[derive(Clone, Copy)]
+struct Packet {
+    sender: usize,
+    len: usize,
+    room: [u8; ROOM],
+    ghost within: { len ≤ MAX_MTU },
+}
+
+impl Packet {
+    fn of(sender: usize, packet: &[u8]) -> Packet {
+        let mut room = [0; ROOM];
+        let len = packet.len().min(ROOM);
+        room[..len].copy_from_slice(&packet[..len]);
+        Packet { sender, len, room }
+    }
+
+    fn bytes(&self) -> &[u8] {
+        &self.room[..self.len]
+    }
+}
+
+/// What became of a packet.
+#[derive(Clone, Copy)]
+enum Happened {
+    /// It was lost by chance.
+    Lost,
+    /// A copy of it found no room on the wire.
+    NoRoom,
+    /// It went twice.
+    Twice,
+    /// It came to the host at this place.
+    Came(usize, Verdict),
+}
+
+/// What became of the packet with this number.
+#[derive(Clone, Copy)]
+struct Event {
+    number: usize,
+    happened: Happened,
+}
+
+/// What passes on the wire by a line, and what is told of it.
+#[derive(Drop)]
+pub(crate) struct Log {
+    /// Whether nothing is told.
+    quiet: bool,
+    /// The packets of a half of a carry, and what became of them.
+    packets: Vec<Packet>,
+    events: Vec<Event>,
+    /// How many more there were, for which there is no room.
+    more: u64,
+    /// The host to which a packet is about to come.
+    before: Option<Look>,
+    /// Whether something wasn't told of the line.
+    pub(crate) missed: bool,
+    /// What is told.
+    pub(crate) text: Buffer<SHOWN>,
+}
+
+/// Puts a packet or a frame after a text, as a line with its sender.
+fn add_packet(text: &mut Buffer<SHOWN>, name: &[u8], packet: &[u8], ether: bool) {
+    add(text, b"    ");
+    add(text, name);
+    add(text, b": ");
+    if ether {
+        add_frame(text, packet);
+    } else {
+        add_words(text, packet);
+    }
+    add(text, b"\n");
+}
+
+/// Puts what became of a packet after a text, as a line.
+fn add_event(text: &mut Buffer<SHOWN>, names: &[Buffer<NAME>], happened: &Happened) {
+    add(text, b"        ");
+    match happened {
+        Happened::Lost => add(text, b"lost"),
+        Happened::NoRoom => add(text, b"lost: the wire has no room"),
+        Happened::Twice => add(text, b"sent twice"),
+        Happened::Came(place, verdict) => {
+            add(text, name_at(names, *place));
+            verdict.put(text);
+        }
+    }
+    add(text, b"\n");
+}
+
+/// Puts what became of the packet with this number after a text, each in a line.
+fn add_events(text: &mut Buffer<SHOWN>, names: &[Buffer<NAME>], events: &[Event], number: usize) {
+    let mut any = false;
+    for event in events {
+        if event.number == number {
+            any = true;
+            if has_room(text) {
+                add_event(text, names, &event.happened);
+            }
+        }
+    }
+    if !any {
+        add(text, b"        no host received it\n");
+    }
+}
+
+/// Puts when a packet is due after a text, as a line.
+fn add_due(text: &mut Buffer<SHOWN>, wait: u64) {
+    if wait == 0 {
+        add(text, b"        under way, due in the next carry\n");
+        return;
+    }
+    add(text, b"        under way, due after ");
+    add_number(text, wait);
+    add(
+        text,
+        if wait == 1 {
+            b" carry\n".as_slice()
+        } else {
+            b" carries\n"
+        },
+    );
+}
+
+/// Whether there is room for a line more.
+fn has_room(text: &Buffer<SHOWN>) -> bool {
+    text.len() <= SHOWN - LINE
+}
+
+impl Log {
+    /// Of no line.
+    pub(crate) fn new(alloc: Global) -> Result<Log, AllocError> {
+        Ok(Log {
+            quiet: true,
+            packets: Vec::with_capacity(alloc, MOST)?,
+            events: Vec::with_capacity(alloc, FATES)?,
+            more: 0,
+            before: None,
+            missed: false,
+            text: Buffer::new(alloc)?,
+        })
+    }
+
+    /// A line begins, of which nothing is told if it's quiet.
+    pub(crate) fn begin(&mut self, quiet: bool) {
+        self.quiet = quiet;
+        self.missed = false;
+        self.text.clear();
+        self.clear();
+    }
+
+    /// Forgets the packets.
+    fn clear(&mut self) {
+        self.packets.clear();
+        self.events.clear();
+        self.more = 0;
+    }
+
+    /// Keeps a packet.
+    fn keep(&mut self, sender: usize, packet: &[u8]) {
+        if self.packets.len() < self.packets.capacity() {
+            self.packets.push_reserved(Packet::of(sender, packet));
+        } else {
+            self.more = self.more.saturating_add(1);
+        }
+    }
+
+    /// Keeps what became of the packet with this number, if it's kept.
+    fn note(&mut self, number: usize, happened: Happened) {
+        if number < self.packets.len() && self.events.len() < self.events.capacity() {
+            self.events.push_reserved(Event { number, happened });
+        }
+    }
+
+    /// Tells all packets that are kept, and what became of them, and forgets them.
+    pub(crate) fn tell(&mut self, names: &[Buffer<NAME>], ether: bool) {
+        for number in 0..self.packets.len() {
+            self.tell_packet(names, ether, number);
+        }
+        self.tell_more();
+        self.clear();
+    }
+
+    /// Tells the packet with this number, and what became of it.
+    fn tell_packet(&mut self, names: &[Buffer<NAME>], ether: bool, number: usize) {
+        if !has_room(&self.text) {
+            self.more = self.more.saturating_add(1);
+            return;
+        }
+        if let Some(packet) = self.packets.get(number) {
+            let name = name_at(names, packet.sender);
+            add_packet(&mut self.text, name, packet.bytes(), ether);
+            add_events(&mut self.text, names, self.events.as_slice(), number);
+        }
+    }
+
+    /// Tells how many more packets there were.
+    fn tell_more(&mut self) {
+        if self.more != 0 {
+            self.missed = true;
+            add(&mut self.text, b"    and ");
+            add_number(&mut self.text, self.more);
+            add(&mut self.text, b" more\n");
+        }
+    }
+
+    /// Tells a packet that is under way.
+    fn tell_under_way(&mut self, names: &[Buffer<NAME>], ether: bool, it: &UnderWay<'_>) {
+        let name = name_at(names, it.sender);
+        add_packet(&mut self.text, name, it.packet, ether);
+        add_due(&mut self.text, it.wait);
+    }
+
+    /// Tells what is still under way.
+    pub(crate) fn tell_left(&mut self, segment: &Segment, names: &[Buffer<NAME>]) {
+        if self.quiet {
+            return;
+        }
+        for at in 0..segment.flight_len() {
+            if let Some(it) = segment.under_way(at) {
+                if at < MOST && has_room(&self.text) {
+                    self.tell_under_way(names, segment.is_ether(), &it);
+                } else {
+                    self.more = self.more.saturating_add(1);
+                }
+            }
+        }
+        self.tell_more();
+        self.clear();
+    }
+}
+
+impl Watch for Log {
+    fn sent(&mut self, sender: usize, packet: &[u8], fate: Fate, copies: usize) {
+        let happened = match fate {
+            Fate::Lost => Happened::Lost,
+            Fate::Twice(_, _) if copies == 2 => Happened::Twice,
+            Fate::Once(_) if copies == 1 => return,
+            _ => Happened::NoRoom,
+        };
+        if !self.quiet {
+            let number = self.packets.len();
+            self.keep(sender, packet);
+            self.note(number, happened);
+        }
+    }
+
+    fn due(&mut self, _number: usize, sender: usize, packet: &[u8]) {
+        if !self.quiet {
+            self.keep(sender, packet);
+        }
+    }
+
+    fn comes(&mut self, number: usize, _place: usize, stack: &Stack, link: Tallies) {
+        self.before = None;
+        if number < self.packets.len() {
+            self.before = Some(Look::at(stack, link));
+        }
+    }
+
+    fn came(&mut self, number: usize, place: usize, stack: &Stack, link: Tallies) {
+        if let Some(before) = &self.before {
+            let verdict = Verdict::of(before, &Look::at(stack, link));
+            self.note(number, Happened::Came(place, verdict));
+        }
+    }
+}
