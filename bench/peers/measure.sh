@@ -1,22 +1,8 @@
 # Our stack beside lwIP. LWIP names a folder that has its sources already.
 
-# lwIP's sources as Debian 12 has them, into FOLDER/lwip-VERSION, with lists of packages of its own.
-fetch_lwip() { # FOLDER
-    local keys=/usr/share/keyrings/debian-archive-keyring.gpg options
-    mkdir -p "$1/lists/partial" "$1/cache/archives/partial"
-    echo "deb-src [signed-by=$keys] http://deb.debian.org/debian bookworm main" > "$1/sources.list"
-    options=(-qq -o "Dir::Etc::SourceList=$1/sources.list" -o Dir::Etc::SourceParts=- -o "Dir::State::Lists=$1/lists"
-        -o "Dir::Cache=$1/cache" -o APT::Sandbox::User=)
-    apt-get "${options[@]}" update && (cd "$1" && apt-get "${options[@]}" source lwip)
-}
-
-# The folder of lwIP's sources.
+# The folder of lwIP's sources, those of Debian 12 if none is named.
 lwip_sources() { # WORK
-    if [ -z "${LWIP:-}" ]; then
-        fetch_lwip "$1" > "$1/lwip.log" 2>&1 || return 1
-        LWIP="$(echo "$1"/lwip-*/)"
-    fi
-    [ -f "$LWIP/src/core/udp.c" ]
+    LWIP=${LWIP:-$("$bench/../tools/debian-source" "$1" lwip 2> "$1/lwip.log")} && [ -f "$LWIP/src/core/udp.c" ]
 }
 
 # One build of lwIP with lwip.c, as a shared library that shows nothing but what is named after it.
