@@ -1,6 +1,7 @@
 //! The output queue.
 ghost use Rattle.std.specs.Prelude.{◌≡◌, ℕ, ◌+◌, ◌<◌, ◌≤◌, ◌==◌, ◌++◌, [], ◌∷◌, true, false, None, IfSome, MatchOption, option_map, drop, take, length, nat_lt, IfNone};
 ghost use Rattle.mbuf_chain.specs.Chain.{PoolView, IsLive, chain_of, entry_of, string, alone};
+ghost use Rattle.mbuf_chain.specs.Heads.{nth_heads};
 ghost use Rattle.mbuf_chain.specs.Owners.{Moves, IsOwned, times_among};
 ghost use Rattle.mbuf_chain.specs.Train.{IsHeld, numbers};
 ghost use Rattle.ledger.specs.Accounts.{item_at};
@@ -11,7 +12,7 @@ ghost use Rattle.ip_out.specs.Queues.{IsOutputQueue};
 use crate::fragments::add_whole;
 use crate::head::IpHead;
 use crate::waiting::copy_packet;
-use mbuf_chain::{Chain, Pool, Train};
+use mbuf_chain::{Chain, MbufHeads, Pool, Train};
 use params::OUTPUT_QUEUE_PACKETS;
 use std::marker::Model;
 use std::mem;
@@ -125,6 +126,15 @@ impl Queue {
         ensures rest { IfSome result (λ n. drop n room.new ≡ drop n room.old) }
     {
         copy_packet(pool, &self.train, i, room)
+    }
+
+    /// What each mbuf of the packet in front of which `i` others wait says of itself, and its bytes, in order: for a
+    /// drawing of them. `None` exactly if no more than `i` wait. It takes a step for each packet in front.
+    pub fn heads<'a>(&self, pool: &'a Pool, i: u32) -> Option<MbufHeads<'a>>
+        requires { IsOutputQueue pool.now self.now }
+        ensures { result ≡ nth_heads pool.now (numbers pool.now self.now) i }
+    {
+        self.train.heads(pool, i)
     }
 
     /// Puts a packet at the end. Conditions: fewer than 50 wait; the first mbuf has a packet header. It takes a number

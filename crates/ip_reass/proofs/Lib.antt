@@ -25,4 +25,5 @@ mod AtOnce
 mod Distinct
 mod Holding
 mod Ranges
+mod Holders
 pub mod Laws

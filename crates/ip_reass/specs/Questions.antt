@@ -1,11 +1,14 @@
 -- What a question about the unfinished datagrams answers, as a function of the flat machine's (this project's own;
 -- volume 2, chapter 10, has the list that they stand in).
-use Rattle.std.specs.Prelude.{ℕ, ◌==◌, Bool, false, List, length, map, count_by, sum_by, slice_get, Option, None, Some, option_map}
+use Rattle.std.specs.Prelude.{ℕ, ◌==◌, Bool, false, List, [], length, map, count_by, sum_by, slice_get, Option, None, Some, option_map}
 use Rattle.std.specs.List.{range_with_len}
 use Rattle.params.specs.declared.TheConstants.{IP_MAX_DATA}
 use Rattle.flat_model.specs.Fragments.Overlay.{Held, Piece, Map}
 use Rattle.flat_model.specs.Fragments.Whole.{pieces}
 use Rattle.flat_model.specs.Machine.State.{Unfinished}
+use Rattle.mbuf_chain.specs.Chain.{PoolView}
+use Rattle.ip_reass.specs.Table.{held}
+use Rattle.ip_reass.specs.declared.datagram.Datagram.{Datagram}
 use Rattle.ip_reass.specs.declared.questions.HeldRange.{HeldRange}
 use Rattle.ip_reass.specs.declared.questions.UnfinishedDatagram.{UnfinishedDatagram}
 
@@ -53,3 +56,13 @@ range_in k (Some u) = nth_of u.bytes k
 
 abbrev pub nth_range : ℕ → ℕ → List Unfinished → Option HeldRange
 nth_range i k us = range_in k (slice_get us i)
+
+-- ---- the chains
+
+abbrev pub held_by : PoolView → Option Datagram → List ℕ
+held_by p None = []
+held_by p (Some d) = held p d
+
+-- the chains of the datagram at a place: the mbuf of its key, and then its fragments; none if there is no such datagram
+abbrev pub nth_held : PoolView → List Datagram → ℕ → List ℕ
+nth_held p ds i = held_by p (slice_get ds i)

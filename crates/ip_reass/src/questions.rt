@@ -1,14 +1,15 @@
 //! What a caller may ask of the unfinished datagrams. A question changes nothing.
 ghost use Rattle.std.specs.Prelude.{◌≡◌, ◌<◌};
+ghost use Rattle.mbuf_chain.specs.Heads.{nth_heads};
 ghost use Rattle.ip_reass.specs.Fragments.{IsQueue, fragments, map_of};
-ghost use Rattle.ip_reass.specs.Questions.{nth_of, nth_range, nth_unfinished};
+ghost use Rattle.ip_reass.specs.Questions.{nth_held, nth_of, nth_range, nth_unfinished};
 ghost use Rattle.ip_reass.specs.Table.{IsTable, unfinished};
 
 use crate::datagram::Datagram;
 use crate::span::Tag;
 use crate::table::Reass;
 use flat_model::FragmentKey;
-use mbuf_chain::{Pool, Train};
+use mbuf_chain::{MbufHeads, Pool, Train};
 
 /// A datagram some of whose fragments have come.
 #[derive(Clone, Copy, Debug, PartialEq, Eq)]
@@ -82,6 +83,22 @@ fn range_in(pool: &Pool, table: &[Datagram], i: usize, k: u32) -> Option<HeldRan
     range_at(pool, &table[i].fragments, k)
 }
 
+/// The mbufs of a chain of the datagram at a place.
+fn heads_in<'a>(pool: &'a Pool, table: &[Datagram], i: usize, k: u32) -> Option<MbufHeads<'a>>
+    requires { IsTable pool.now table.now }
+    ensures { result ≡ nth_heads pool.now (nth_held pool.now table.now i) k }
+{
+    if i >= table.len() {
+        return None;
+    }
+    let datagram = &table[i];
+    if k == 0 {
+        Some(pool.heads(&datagram.holder))
+    } else {
+        datagram.fragments.heads(pool, k - 1)
+    }
+}
+
 impl Reass {
     /// The unfinished datagram at a place, in the order of their beginning: `None` exactly if no more than `i` are
     /// unfinished.
@@ -100,5 +117,16 @@ impl Reass {
         ensures { result ≡ nth_range i k (unfinished pool.now self.now.datagrams) }
     {
         range_in(pool, self.datagrams.as_slice(), i as usize, k)
+    }
+
+    /// What each mbuf of the `k`th chain of the unfinished datagram at place `i` says of itself, and its bytes, in
+    /// order: for a drawing of them. Chain 0 is the mbuf of its key, and the others are its fragments in order of
+    /// offset. `None` exactly if there is no such datagram, or if it has no more than `k` chains. It takes a step for
+    /// each fragment in front.
+    pub fn heads<'a>(&self, pool: &'a Pool, i: u32, k: u32) -> Option<MbufHeads<'a>>
+        requires { IsTable pool.now self.now.datagrams }
+        ensures { result ≡ nth_heads pool.now (nth_held pool.now self.now.datagrams i) k }
+    {
+        heads_in(pool, self.datagrams.as_slice(), i as usize, k)
     }
 }

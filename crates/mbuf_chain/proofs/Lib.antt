@@ -21,5 +21,6 @@ mod Cuts
 mod Drops
 mod Along
 mod Reading
+mod Told
 mod Filled
 mod FilledCluster

@@ -5,4 +5,5 @@ pub mod Frames
 pub mod Train
 pub mod Kept
 pub mod Pieces
+pub mod Heads
 pub mod Inside

@@ -7,6 +7,7 @@ mod data;
 mod edit;
 mod links;
 mod make;
+mod mbuf_head;
 mod pieces;
 mod place;
 mod pool;
@@ -16,7 +17,8 @@ mod train;
 mod usage;
 
 pub use chain::Chain;
-pub use pieces::{Entries, Pieces};
+pub use mbuf_head::MbufHead;
+pub use pieces::{Entries, MbufHeads, Pieces};
 pub use place::{Place, Segment};
 pub use pool::Pool;
 pub use queued_place::QueuedPlace;

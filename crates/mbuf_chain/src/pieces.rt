@@ -1,12 +1,14 @@
 //! A chain's mbufs read in place, one after another.
 ghost use Rattle.std.specs.Prelude.{◌≡◌, length, Some};
-ghost use Rattle.std.specs.Iterator.{YieldsFirst, YieldsFirstRef, item_count};
+ghost use Rattle.std.specs.Iterator.{YieldsFirst, YieldsFirstBy, YieldsFirstRef, item_count};
 ghost use Rattle.mbuf_chain.specs.Chain.{IsLive, chain_of, layout};
+ghost use Rattle.mbuf_chain.specs.Heads.{heads};
 ghost use Rattle.mbuf_chain.specs.Inside.Cells.{IsPool, pool_of};
 ghost use Rattle.mbuf_chain.specs.Pieces.{chain_pieces};
 ghost use Rattle.mbuf_chain.specs.Inside.Readable.{data_of};
 
 use crate::data::buffer_of;
+use crate::mbuf_head::MbufHead;
 use mbuf_pool::{Head, Part, Store};
 use std::marker::Model;
 
@@ -50,6 +52,26 @@ impl<'a> Model for Pieces<'a> {
     ghost invariant = { λ p. IsReadable p.store.now p.at };
 }
 
+/// An iterator over a chain's mbufs: what each says of itself, and its bytes, lent without copying. A contract sees it
+/// as the list of what it has left.
+#[derive(Drop)]
+pub struct MbufHeads<'a> {
+    store: &'a Store,
+    at: Option<u32>,
+}
+
+impl<'a> Model for MbufHeads<'a> {
+    ghost use Rattle.std.specs.Prelude.{ℕ, List};
+    ghost use Rattle.mbuf_chain.specs.declared.mbuf_head.MbufHead.{MbufHead};
+    ghost use Rattle.mbuf_chain.specs.Inside.Readable.{told_from, IsReadable};
+
+    ghost Value = { List (MbufHead × List ℕ) };
+
+    ghost view = { λ h. told_from h.store.now h.at };
+
+    ghost invariant = { λ h. IsReadable h.store.now h.at };
+}
+
 /// Where the bytes lie that an mbuf shows under a head.
 fn data_of(cell: u32, head: Head) -> Part
     ensures { result ≡ data_of cell head }
@@ -85,6 +107,18 @@ pub(crate) fn pieces_of(store: &Store, first: u32) -> Pieces<'_>
     }
 }
 
+/// The mbufs of a chain: what they say of themselves, and their bytes.
+pub(crate) fn heads_of(store: &Store, first: u32) -> MbufHeads<'_>
+    requires pool { IsPool store.now }
+    requires live { IsLive (pool_of store.now) first }
+    ensures { result ≡ heads (chain_of (pool_of store.now) first) }
+{
+    MbufHeads {
+        store,
+        at: Some(first),
+    }
+}
+
 impl<'a> Iterator for Entries<'a> {
     type Item = (u32, Option<u32>);
 
@@ -114,5 +148,22 @@ impl<'a> Iterator for Pieces<'a> {
         let head = self.store.head(cell);
         self.at = head.next;
         Some(self.store.bytes(data_of(cell, head)))
+    }
+}
+
+impl<'a> Iterator for MbufHeads<'a> {
+    type Item = (MbufHead, &'a [u8]);
+
+    ghost next_gives = { YieldsFirstBy (λ item. (item.0, item.1.now)) (λ s. s) };
+
+    ghost remaining = { item_count (λ s. s) };
+
+    /// What the next mbuf says of itself, and its bytes, or `None` after the last.
+    fn next(&mut self) -> Option<(MbufHead, &'a [u8])> {
+        let cell = self.at?;
+        let head = self.store.head(cell);
+        self.at = head.next;
+        let bytes = self.store.bytes(data_of(cell, head));
+        Some((MbufHead::of(cell, head), bytes))
     }
 }

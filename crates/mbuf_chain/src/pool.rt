@@ -4,12 +4,13 @@ ghost use Rattle.std.specs.FinMap as finmap;
 ghost use Rattle.params.specs.declared.TheConstants.{MBUF_HEADER, MCLBYTES, MSIZE};
 ghost use Rattle.mbuf_pool.specs.Store.{mbufs_out, cluster_count};
 ghost use Rattle.mbuf_chain.specs.Chain.{IsLive, IsPlace, chain_of, with_chain, without, held_mbufs, references, reference_counts, free_clusters, string, layout, entry_of, Adds, IsUnshared, room_start, room_end, leading_space, trailing_space, entry_in, HasLeadingSpace, HasTrailingSpace};
+ghost use Rattle.mbuf_chain.specs.Heads.{heads};
 ghost use Rattle.mbuf_chain.specs.Pieces.{chain_pieces};
 ghost use Rattle.mbuf_chain.specs.Steps.{one_mbuf, empty_entry, narrowed, with_entry, with_front, with_back, overwritten, headless, joined, placed, first_part, second_part, with_entry_in};
 ghost use Rattle.mbuf_chain.specs.Frames.{IsBounded};
 
 use crate::chain::Chain;
-use crate::pieces::{Entries, Pieces};
+use crate::pieces::{Entries, MbufHeads, Pieces};
 use crate::place::{Place, Segment};
 use crate::usage::Usage;
 use crate::{data, edit, links, make, pieces};
@@ -227,6 +228,15 @@ impl Pool {
         ensures { result ≡ chain_pieces (chain_of self.now chain.now) }
     {
         pieces::pieces_of(&self.store, chain.first)
+    }
+
+    /// What each mbuf of a chain says of itself, and its bytes, in order, lent without copying: for a drawing of them.
+    /// The numbers in it are answers alone, which no call takes for a chain.
+    pub fn heads(&self, chain: &Chain) -> MbufHeads<'_>
+        requires { IsLive self.now chain.now }
+        ensures { result ≡ heads (chain_of self.now chain.now) }
+    {
+        pieces::heads_of(&self.store, chain.first)
     }
 
     /// The place of a chain's first mbuf.

@@ -5,11 +5,12 @@ ghost use Rattle.mbuf_chain.specs.Chain.{IsLive, chain_of, with_chain, flat_byte
 ghost use Rattle.mbuf_chain.specs.Owners.{times_among, Moves};
 ghost use Rattle.mbuf_chain.specs.Steps.{placed};
 ghost use Rattle.mbuf_chain.specs.Frames.{IsBounded};
+ghost use Rattle.mbuf_chain.specs.Heads.{heads, nth_heads};
 ghost use Rattle.mbuf_chain.specs.Pieces.{pieces_of};
 ghost use Rattle.mbuf_chain.specs.Train.{queued_packets, queued_packet_at, numbers, IsQueuedPlace, IsHeld, Inserts, Takes};
 
 use crate::chain::Chain;
-use crate::pieces::Pieces;
+use crate::pieces::{MbufHeads, Pieces};
 use crate::pool::Pool;
 use crate::queued_place::QueuedPlace;
 use std::marker::Model;
@@ -263,6 +264,19 @@ impl Train {
         len_of(pool, self.number(pool, i))
     }
 
+    /// What each mbuf of the chain at a place says of itself, and its bytes, in order, lent without copying: for a
+    /// drawing of them. `None` exactly if there are no more than `i` chains. It takes a step for each chain in front,
+    /// and none for the last.
+    pub fn heads<'a>(&self, pool: &'a Pool, i: u32) -> Option<MbufHeads<'a>>
+        requires { IsHeld pool.now self.now }
+        ensures { result ≡ nth_heads pool.now (numbers pool.now self.now) i }
+    {
+        if i >= self.len() {
+            return None;
+        }
+        Some(heads_of(pool, self.number(pool, i)))
+    }
+
     /// Ends a train without chains, for which no pool has to be at hand.
     pub fn end_empty(self)
         requires { self.len ≡ 0 }
@@ -438,6 +452,17 @@ fn pieces_of(pool: &Pool, number: u32) -> Pieces<'_>
     let pieces = pool.pieces(&chain);
     let _ = chain.into_number();
     pieces
+}
+
+/// What each mbuf of a chain says of itself, and its bytes.
+fn heads_of(pool: &Pool, number: u32) -> MbufHeads<'_>
+    requires { IsLive pool.now number }
+    ensures { result ≡ heads (chain_of pool.now number) }
+{
+    let chain = Chain::from_number(number);
+    let heads = pool.heads(&chain);
+    let _ = chain.into_number();
+    heads
 }
 
 /// The tag of a chain.

@@ -2,4 +2,5 @@ pub mod Stack
 pub mod Boots
 pub mod Runs
 pub mod Wire
+pub mod Questions
 pub mod Inside

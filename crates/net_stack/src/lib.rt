@@ -14,5 +14,6 @@ mod transmit;
 
 pub use ip_reass::{HeldRange, UnfinishedDatagram};
 pub use laws::{calls_are_run, stacks_on_a_wire};
+pub use questions::Holder;
 pub use sock_calls::{NextDatagram, SocketName};
 pub use stack::{BootFault, Stack};

@@ -1,15 +1,31 @@
 //! What a caller may ask of a stack. A question changes nothing, and takes no step.
 ghost use Rattle.std.specs.Prelude.{◌≡◌, ◌≤◌, drop, length, take, option_map, IfNone, IfSome};
 ghost use Rattle.flat_model.specs.Machine.Count.{value_of};
+ghost use Rattle.mbuf_chain.specs.Heads.{nth_heads};
 ghost use Rattle.ip_out.specs.Questions.{nth_packet, oldest_length};
 ghost use Rattle.ip_reass.specs.Questions.{nth_range, nth_unfinished};
-ghost use Rattle.sock_calls.specs.Questions.{bytes_queued_at, next_datagram, readable, socket_name};
+ghost use Rattle.sock_calls.specs.Questions.{bytes_queued_at, memory_queued_at, next_datagram, readable, socket_name};
+ghost use Rattle.net_stack.specs.Questions.{chains_held, nth_references};
 ghost use Rattle.net_stack.specs.Stack.{state_of};
 
 use crate::stack::Stack;
 use flat_model::{Counter, Errno};
 use ip_reass::{HeldRange, UnfinishedDatagram};
+use mbuf_chain::MbufHeads;
 use sock_calls::{NextDatagram, SocketName};
+
+/// Who holds chains of a stack's mbufs. A chain has one holder, and each mbuf that isn't free stands in one chain.
+#[derive(Clone, Copy, Debug, PartialEq, Eq)]
+pub enum Holder {
+    /// The receive queue of the socket with this descriptor: a chain for each datagram that waits, the oldest first.
+    /// The sender's address is in its first mbuf (`so_rcv` of volume 2, chapter 16).
+    Socket(u32),
+    /// The output queue: a chain for each packet that waits for the link, the oldest first (`if_snd` of chapter 3).
+    Output,
+    /// The unfinished datagram at this place, in the order of their beginning, from 0: first the mbuf of its key, and
+    /// then a chain for each fragment, in order of offset (`ipq` of chapter 10).
+    Unfinished(u32),
+}
 
 impl Stack {
     /// What a socket is bound and connected to, and its options: the port that was chosen for it, too (`getsockname`,
@@ -117,5 +133,38 @@ impl Stack {
     {
         let host = self.host.as_ref();
         host.reass.range(&host.pool, i, k)
+    }
+
+    /// How much memory is behind what waits in a socket, in bytes: 128 for each mbuf, and 2048 for each reference to a
+    /// cluster (`sb_mbcnt` of volume 2, chapter 16). Refused: `BadDescriptor`.
+    pub fn memory_queued(&self, fd: u32) -> Result<u32, Errno>
+        ensures { result ≡ memory_queued_at fd (state_of self.now) }
+    {
+        self.host.socks.memory_queued(fd)
+    }
+
+    /// What each mbuf of a holder's chain at a place, from 0, says of itself, and its bytes, in order, lent without
+    /// copying: for a drawing of them (volume 2, chapter 2). `None` exactly if it holds no more than `i` chains; a
+    /// socket that isn't open and a datagram that isn't there hold none. It takes a step for each chain in front.
+    pub fn heads(&self, holder: Holder, i: u32) -> Option<MbufHeads<'_>>
+        ensures { result ≡ nth_heads self.now.pool (chains_held self.now holder) i }
+    {
+        let host = self.host.as_ref();
+        match holder {
+            Holder::Socket(fd) => host.socks.heads(&host.pool, fd, i),
+            Holder::Output => host.net.out.heads(&host.pool, i),
+            Holder::Unfinished(place) => host.reass.heads(&host.pool, place, i),
+        }
+    }
+
+    /// How many mbufs refer to a cluster. `None` exactly if the pool has no such cluster: they're counted from 0.
+    pub fn references(&self, cluster: u32) -> Option<u32>
+        ensures { result ≡ nth_references self.now.pool cluster }
+    {
+        if cluster < self.config.clusters {
+            Some(self.host.pool.count(cluster))
+        } else {
+            None
+        }
     }
 }

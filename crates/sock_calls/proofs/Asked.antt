@@ -10,7 +10,7 @@ use Rattle.pcb_table.specs.declared.block.Block.{Block}
 use Rattle.pcb_table.specs.Table.{Table, Queues, block_at, machine, socket_with}
 use Rattle.pcb_table.proofs.Laws.{socket_found}
 use Rattle.sockbuf.specs.SockBuf.{SockBufView, IsSockBuf, datagrams, no_datagrams}
-use Rattle.sock_calls.specs.Questions.{name_or_fault, next_in, oldest_datagram, next_datagram, bytes_waiting, bytes_queued_at, socket_name, set_below, waits_in}
+use Rattle.sock_calls.specs.Questions.{name_or_fault, next_in, oldest_datagram, next_datagram, bytes_waiting, bytes_queued_at, memory_behind, memory_queued_at, socket_name, set_below, waits_in}
 use Rattle.sock_calls.specs.Inside.Asked.{told_name, waits_at}
 use Rattle.sock_calls.specs.Sockets.{IsSocks, from_three, queue_at, queues_of}
 use Rattle.sock_calls.proofs.Frames.{at_default}
@@ -55,6 +55,20 @@ pub bytes_refused : (f : Queues) (t : Table) (fd : ℕ) (rest : State) → block
 bytes_refused f t fd rest is =
     ap (λ (o : Option Block). bytes_waiting (option_map (socket_with f) o)) (sym is)
     ∙ ap bytes_waiting (sym (socket_found rest f t fd))
+
+-- the same of how much memory is behind them
+pub memory_found : (f : Queues) (t : Table) (fd : ℕ) (b : Block) (rest : State) → block_at fd t ≡ Some b → b.fd ≡ fd
+    → Ok (queue.memory_queued (f fd)) ≡ memory_queued_at fd (machine rest f t)
+memory_found f t fd b rest is names =
+    ap (λ (k : ℕ). Ok (queue.memory_queued (f k))) (sym names)
+    ∙ ap (λ (o : Option Block). memory_behind (option_map (socket_with f) o)) (sym is)
+    ∙ ap memory_behind (sym (socket_found rest f t fd))
+
+pub memory_refused : (f : Queues) (t : Table) (fd : ℕ) (rest : State) → block_at fd t ≡ None
+    → memory_behind None ≡ memory_queued_at fd (machine rest f t)
+memory_refused f t fd rest is =
+    ap (λ (o : Option Block). memory_behind (option_map (socket_with f) o)) (sym is)
+    ∙ ap memory_behind (sym (socket_found rest f t fd))
 
 -- ---- all sockets
 

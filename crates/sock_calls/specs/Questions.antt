@@ -52,6 +52,15 @@ bytes_waiting (Some me) = Ok (queue.bytes_queued me.queue)
 abbrev pub bytes_queued_at : ℕ → State → Result ℕ Errno
 bytes_queued_at fd s = bytes_waiting (socket_at fd s)
 
+abbrev pub memory_behind : Option Socket → Result ℕ Errno
+memory_behind None = Err BadDescriptor
+memory_behind (Some me) = Ok (queue.memory_queued me.queue)
+
+-- How much memory is behind what waits in a descriptor's socket (`sb_mbcnt` of chapter 16); refused where no such
+-- socket is open.
+abbrev pub memory_queued_at : ℕ → State → Result ℕ Errno
+memory_queued_at fd s = memory_behind (socket_at fd s)
+
 -- ---- all sockets
 
 -- those of the numbers below a limit for which the test holds, as one number: its bit k stands for k

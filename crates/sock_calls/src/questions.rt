@@ -2,15 +2,16 @@
 ghost use Rattle.std.specs.Prelude.{◌≡◌, ◌<◌, length, ℕ};
 ghost use Rattle.flat_model.specs.Sockets.Fits as flat;
 ghost use Rattle.mbuf_chain.specs.Chain.{PoolView};
+ghost use Rattle.mbuf_chain.specs.Heads.{nth_heads};
 ghost use Rattle.pcb_table.specs.Table.{block_at};
-ghost use Rattle.sockbuf.specs.SockBuf.{IsSockBuf, datagrams};
+ghost use Rattle.sockbuf.specs.SockBuf.{IsSockBuf, chains_of, datagrams};
 ghost use Rattle.sock_calls.specs.Questions.{set_below, oldest_datagram};
 ghost use Rattle.sock_calls.specs.Inside.Asked.{told_name, waits_at};
 ghost use Rattle.sock_calls.specs.Sockets.{queue_at, queues_of};
 
 use crate::queues::QUEUES;
 use flat_model::{Addr, Errno};
-use mbuf_chain::Pool;
+use mbuf_chain::{MbufHeads, Pool};
 use params::MAX_SOCKETS;
 use pcb_table::Pcbs;
 use sockbuf::SockBuf;
@@ -82,6 +83,29 @@ pub(crate) fn bytes_at(queues: &[SockBuf], place: usize) -> u32
         → result ≡ flat.bytes_queued (queues_of p queues.now place) }
 {
     queues[place].cc()
+}
+
+/// How much memory is behind what waits in the queue at a place.
+pub(crate) fn memory_at(queues: &[SockBuf], place: usize) -> u32
+    requires { place < length queues.now }
+    ensures { (p : PoolView) → IsSockBuf p (queue_at queues.now place)
+        → result ≡ flat.memory_queued (queues_of p queues.now place) }
+{
+    queues[place].mbcnt()
+}
+
+/// The mbufs of a datagram of the queue at a place.
+pub(crate) fn heads_at<'a>(
+    pool: &'a Pool,
+    queues: &[SockBuf],
+    place: usize,
+    i: u32,
+) -> Option<MbufHeads<'a>>
+    requires each { (k : ℕ) → IsSockBuf pool.now (queue_at queues.now k) }
+    requires place { place < length queues.now }
+    ensures { result ≡ nth_heads pool.now (chains_of pool.now (queue_at queues.now place)) i }
+{
+    queues[place].heads(pool, i)
 }
 
 /// The places of the queues in which a datagram waits: bit k is set where one does in that at place k.

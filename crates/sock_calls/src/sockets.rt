@@ -5,26 +5,30 @@ ghost use Rattle.flat_model.specs.Machine.State.{State};
 ghost use Rattle.flat_model.specs.Machine.Step.{Step};
 ghost use Rattle.flat_model.specs.Machine.Replies.{opened_reply, done_reply, received_reply, FitsRoom};
 ghost use Rattle.mbuf_chain.specs.Chain.{PoolView, chain_of, string};
+ghost use Rattle.mbuf_chain.specs.Heads.{nth_heads};
 ghost use Rattle.mbuf_chain.specs.Owners.{IsOwned, Moves};
 ghost use Rattle.pcb_table.specs.Table.{IsDescriptor};
+ghost use Rattle.sockbuf.specs.SockBuf.{chains_of};
 ghost use Rattle.sock_calls.specs.Delivery.{seen, IsInput};
 ghost use Rattle.sock_calls.specs.Whole.{ComesWhole};
 ghost use Rattle.sock_calls.specs.Outgoing.{sending, CanSend, IsSent};
-ghost use Rattle.sock_calls.specs.Questions.{bytes_queued_at, next_datagram, readable, socket_name};
-ghost use Rattle.sock_calls.specs.Sockets.{AreEmpty, IsSocks, IsCalled, queued_chains, with_sockets};
+ghost use Rattle.sock_calls.specs.Questions.{bytes_queued_at, memory_queued_at, next_datagram, readable, socket_name};
+ghost use Rattle.sock_calls.specs.Sockets.{AreEmpty, IsSocks, IsCalled, queue_at, queued_chains, with_sockets};
 
 use crate::delivery::Datagram;
 use crate::ending::flush_all;
 use crate::net::Net;
 use crate::parts::Parts;
-use crate::questions::{NextDatagram, SocketName, bytes_at, name_of, next_at, readable};
+use crate::questions::{
+    NextDatagram, SocketName, bytes_at, heads_at, memory_at, name_of, next_at, readable,
+};
 use crate::queues::ReceiveQueues;
 use crate::receive::refusal;
 use arrayvec::ArrayVec;
 use flat_model::{Addr, Counters, Errno, Opt};
 use ip_out::IpHead;
 use ledger::Waiting;
-use mbuf_chain::{Chain, Pool};
+use mbuf_chain::{Chain, MbufHeads, Pool};
 use params::{FIRST_DESCRIPTOR, IP_MAX_PACKET, MAX_SOCKETS};
 use pcb_table::{Pcbs, SOCKETS};
 use std::alloc::{AllocError, Global};
@@ -120,6 +124,32 @@ impl Socks {
         match self.parts.pcbs.block(fd) {
             Some(_) => Ok(bytes_at(self.parts.queues.as_slice(), place_of(fd))),
             None => Err(Errno::BadDescriptor),
+        }
+    }
+
+    /// How much memory is behind what waits in a socket, in bytes: 128 for each mbuf, and 2048 for each reference to a
+    /// cluster (`sb_mbcnt` of volume 2, chapter 16). It changes nothing, and takes a number of steps that doesn't
+    /// depend on the queue. Refused: `BadDescriptor`.
+    pub fn memory_queued(&self, fd: u32) -> Result<u32, Errno>
+        ensures { (p : PoolView) (rest : State) → IsSocks p self.now
+            → result ≡ memory_queued_at fd (with_sockets p self.now rest) }
+    {
+        match self.parts.pcbs.block(fd) {
+            Some(_) => Ok(memory_at(self.parts.queues.as_slice(), place_of(fd))),
+            None => Err(Errno::BadDescriptor),
+        }
+    }
+
+    /// What each mbuf of the datagram in front of which `i` others wait in a socket says of itself, and its bytes, in
+    /// order: for a drawing of them. The sender's address is in the first. `None` exactly if no more than `i` wait,
+    /// also if no such socket is open. It takes a step for each datagram in front.
+    pub fn heads<'a>(&self, pool: &'a Pool, fd: u32, i: u32) -> Option<MbufHeads<'a>>
+        requires { IsSocks pool.now self.now }
+        ensures { result ≡ nth_heads pool.now (chains_of pool.now (queue_at self.now.queues fd)) i }
+    {
+        match self.parts.pcbs.block(fd) {
+            Some(_) => heads_at(pool, self.parts.queues.as_slice(), place_of(fd), i),
+            None => None,
         }
     }
 

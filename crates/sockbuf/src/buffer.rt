@@ -3,6 +3,7 @@
 ghost use Rattle.std.specs.Prelude.{◌≡◌, ◌==◌, ◌<◌, ◌∷◌, [], ◌++◌, true, length, MatchOption, Ok, ℕ};
 ghost use Rattle.flat_model.specs.Sockets.Fits as flat;
 ghost use Rattle.mbuf_chain.specs.Chain.{IsLive, PoolView, chain_of, held_mbufs, string};
+ghost use Rattle.mbuf_chain.specs.Heads.{nth_heads};
 ghost use Rattle.mbuf_chain.specs.Owners.{times_among, Moves};
 ghost use Rattle.sockbuf.specs.Questions.{oldest_of};
 ghost use Rattle.sockbuf.specs.SockBuf.{AppendsAddr, IsEmpty, IsSockBuf, TakesOldest, chains_of, datagram_from, datagrams, no_datagrams};
@@ -10,7 +11,7 @@ ghost use Rattle.sockbuf.specs.SockBuf.{AppendsAddr, IsEmpty, IsSockBuf, TakesOl
 use crate::address::{sockaddr_in, with_address};
 use crate::measure::memory_of;
 use flat_model::Addr;
-use mbuf_chain::{Chain, Pool, Reclaim, Train};
+use mbuf_chain::{Chain, MbufHeads, Pool, Reclaim, Train};
 use params::{MSIZE, SOCKADDR_BYTES, UDP_RECEIVE_MEMORY, UDP_RECEIVE_SPACE};
 use std::alloc::{AllocError, Global};
 use std::marker::Model;
@@ -116,6 +117,16 @@ impl SockBuf {
             Some(front) => Some((sockaddr_in(front), len - SOCKADDR_BYTES)),
             None => unreachable!(),
         }
+    }
+
+    /// What each mbuf of the datagram in front of which `i` others wait says of itself, and its bytes, in order: for a
+    /// drawing of them. The sender's address is in the first. `None` exactly if no more than `i` wait. It takes a step
+    /// for each datagram in front.
+    pub fn heads<'a>(&self, pool: &'a Pool, i: u32) -> Option<MbufHeads<'a>>
+        requires { IsSockBuf pool.now self.now }
+        ensures { result ≡ nth_heads pool.now (chains_of pool.now self.now) i }
+    {
+        self.train.heads(pool, i)
     }
 
     /// Puts a datagram at the end, with its sender's address in an mbuf in front (`sbappendaddr`). It takes one mbuf,

@@ -1,8 +1,9 @@
 -- How a walk along the links means the entries of a chain (this project's own).
 use Rattle.std.specs.Prelude.{ℕ, ◌≤◌, List, map, Option}
 use Rattle.mbuf_pool.specs.Cells.{Head, Part}
-use Rattle.mbuf_pool.specs.Store.{StoreView, cluster_count, IsStore}
+use Rattle.mbuf_pool.specs.Store.{StoreView, cluster_count, mbuf_head, IsStore}
 use Rattle.mbuf_chain.specs.Chain.{Entry}
+use Rattle.mbuf_chain.specs.declared.mbuf_head.MbufHead.{MbufHead}
 use Rattle.mbuf_chain.specs.Inside.Cells.{weigh, entry_at, refers_at, cells_from, buffer_of, LeadsToEnd}
 
 -- the entries from an mbuf on
@@ -18,3 +19,23 @@ pub record IsReadable (s : StoreView) (at : Option ℕ) : Type 0 where
 -- the bytes that an mbuf shows under a head
 abbrev pub data_of : ℕ → Head → Part
 data_of i h = record { buffer = buffer_of i h.cluster; start = h.start; len = h.len }
+
+-- what an mbuf with a head says of itself
+abbrev pub told_head : ℕ → Head → MbufHead
+told_head i h = record {
+  number = i;
+  next = h.next;
+  next_packet = h.next_packet;
+  start = h.start;
+  len = h.len;
+  packet = h.packet;
+  cluster = h.cluster;
+}
+
+-- what an mbuf says of itself, and the bytes that it shows
+abbrev pub told_at : StoreView → ℕ → MbufHead × List ℕ
+told_at s i = (told_head i (mbuf_head s i), (entry_at s i).bytes)
+
+-- the same of the mbufs from one on
+abbrev pub told_from : StoreView → Option ℕ → List (MbufHead × List ℕ)
+told_from s at = map (told_at s) (cells_from s at)

@@ -1,0 +1,18 @@
+use Rattle.std.proofs.Common.{◌≡◌, subst}
+use Rattle.flat_model.specs.Machine.State.{State}
+use Rattle.ip_reass.specs.Table.{unfinished}
+use Rattle.sock_calls.specs.Questions.{memory_queued_at}
+use Rattle.net_stack.specs.Inside.Fields.{stack_of}
+use Rattle.net_stack.specs.Stack.{StackView, rest_of_stack, state_of}
+use Rattle.net_stack.proofs.Called.{lent, lent_inside, lent_shows}
+use Rattle.net_stack.proofs.stack.Stack.memory_queued.Goals as goal
+
+pub returns : goal.returns
+returns c =
+    let s : StackView = stack_of (lent c.self.inside c.deref.result.now) in
+    let rest : State =
+    record (rest_of_stack s) { unfinished = unfinished s.pool s.reass.datagrams; counters = s.counters } in
+    subst (λ (v : StackView). c.memory_queued.result ≡ memory_queued_at c.args.fd (state_of v))
+    (lent_shows c.self.inside c.deref.result.now c.args.self.now c.deref.ensures c.self.view_is)
+    (c.memory_queued.ensures s.pool rest (lent_inside c.self.inside c.deref.result.now c.deref.ensures
+    c.self.invariant).stack.socks)
