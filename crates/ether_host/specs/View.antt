@@ -1,9 +1,10 @@
 -- What a host shows, and the state that it means (this project's own).
-use Rattle.std.specs.Prelude.{◌≡◌, true, false}
+use Rattle.std.specs.Prelude.{◌≡◌, ℕ, ◌==◌, Bool, true, false}
+use Rattle.std.specs.List.{count_by}
 use Rattle.std.specs.Borrow.{Lends, MutBor, Fml}
 use Rattle.flat_model.specs.declared.config.Config.{Config}
 use Rattle.flat_ether.specs.Hosts.{Host}
-use Rattle.flat_ether.specs.Links.{LinkState}
+use Rattle.flat_ether.specs.Links.{LinkState, WaitingPacket}
 use Rattle.flat_ether.specs.Routes.{is_link}
 use Rattle.flat_ether.specs.declared.link.Link.{Link}
 use Rattle.net_stack.specs.Boots as boots
@@ -33,6 +34,13 @@ host_of v = record { machine = state_of v.stack; link = v.link }
 -- the host ends with the last value behind the reference as its stack
 abbrev pub LendsStack : MutBor EtherHost → MutBor StackView → Fml
 LendsStack h r = Lends the_row stack_row h r (λ s. record h.now { stack = s })
+
+abbrev pub waits_for : ℕ → WaitingPacket → Bool
+waits_for hop it = it.hop == hop
+
+-- how many packets wait for the hardware address of this next hop
+abbrev pub held_for : ℕ → LinkState → ℕ
+held_for hop link = count_by (waits_for hop) link.held
 
 -- why there is no host: the link is tested first
 abbrev pub IsHostUnbooted : Config → Link → EtherFault → Type 0

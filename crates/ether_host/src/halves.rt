@@ -5,7 +5,7 @@ ghost use Rattle.flat_ether.specs.Claims.{address_state};
 ghost use Rattle.flat_ether.specs.Hosts.{Hears, gives, last_error};
 ghost use Rattle.flat_ether.specs.declared.sizes.TheConstants.{ETHER_HEADER, ETHER_MTU};
 ghost use Rattle.ether_host.specs.Fronts.{room_front};
-ghost use Rattle.ether_host.specs.View.{halves};
+ghost use Rattle.ether_host.specs.View.{halves, held_for};
 
 use crate::frames::{body_of, kind_of};
 use crate::layer::LinkLayer;
@@ -88,5 +88,13 @@ impl LinkLayer {
         ensures { result.now ≡ (link_seen self.now).neighbours }
     {
         self.neighbours.as_slice()
+    }
+
+    /// How many packets wait for the hardware address of a next hop. A host keeps eight at most, for all hops.
+    #[tactic(auto, using(crate::proofs::Places::held_counted))]
+    pub fn held_for(&self, hop: u32) -> usize
+        ensures { result ≡ held_for hop (link_seen self.now) }
+    {
+        self.held.iter().filter(|it| it.hop == hop).count()
     }
 }

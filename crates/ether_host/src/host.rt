@@ -7,7 +7,7 @@ ghost use Rattle.flat_ether.specs.Hosts.{Hears, Ticks, gives, host_up, last_erro
 ghost use Rattle.flat_ether.specs.declared.sizes.TheConstants.{ETHER_HEADER, ETHER_MTU};
 ghost use Rattle.net_stack.specs.Boots.{free_pool};
 ghost use Rattle.ether_host.specs.Fronts.{room_front};
-ghost use Rattle.ether_host.specs.View.{IsHostUnbooted, LendsStack, host_of, host_view};
+ghost use Rattle.ether_host.specs.View.{IsHostUnbooted, LendsStack, held_for, host_of, host_view};
 
 use crate::layer::LinkLayer;
 use flat_ether::{AddressState, Link, Neighbour, NetFault, Tallies};
@@ -130,6 +130,13 @@ impl EtherHost {
         ensures { result.now ≡ (host_view self.now).link.neighbours }
     {
         self.layer.neighbours()
+    }
+
+    /// How many packets wait for the hardware address of a next hop. A host keeps eight at most, for all hops.
+    pub fn held_for(&self, hop: u32) -> usize
+        ensures { result ≡ held_for hop (host_view self.now).link }
+    {
+        self.layer.held_for(hop)
     }
 
     /// Frees all that the host holds, and gives back the pool of its stack, of which everything is free then.

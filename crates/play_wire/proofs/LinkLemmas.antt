@@ -3,6 +3,7 @@ use Rattle.std.proofs.Common.{◌≡◌, ◌<◌, ◌⊎◌, inl, inr, ℕ, zero
 use Rattle.std.proofs.Math.Dec.{eqb-suc-zero}
 use Rattle.std.proofs.lemmas.Bool.{lt-ltb}
 use Rattle.std.specs.Prelude.{◌==◌, if◌then◌else◌, not, codes, is_some, nat_lt, MatchOption, length, option_map, slice_get, ◌&&◌, Result}
+use Rattle.ether_host.specs.View.{held_for}
 use Rattle.flat_ether.specs.Claims.{address_state}
 use Rattle.flat_ether.specs.Links.{LinkState}
 use Rattle.flat_ether.specs.declared.claim.AddressState.{AddressState}
@@ -21,7 +22,7 @@ use Rattle.segment.specs.Law.{Act, AreActs, AgesLink, AsksError, Calls, Ether, H
 use Rattle.segment.specs.Segment.{SegmentView, is_ether}
 use Rattle.play_wire.specs.Acts.{IsMissing, IsStackLine, Outcome, Told, Refused, call_turn}
 use Rattle.play_read.specs.Asks.{IsTicks}
-use Rattle.play_wire.specs.Inside.{HasCounted, HasNotCounted, IsAtHost, IsAtLink, IsAtStack, IsExchanged, IsKept, IsNotOther, IsNotShown, link_asked}
+use Rattle.play_wire.specs.Inside.{HasCounted, HasNotCounted, IsAtHost, IsAtLink, IsAtStack, IsExchanged, IsKept, IsNotOther, IsNotShown, held_by, link_asked}
 use Rattle.play_wire.specs.LinkTexts.{error_text, heard_text, link_lines, neighbour_lines, neighbours_text, state_text}
 use Rattle.play_wire.specs.Links.{DoesLink, IsForStack, IsFrameLine, IsHostLine, IsTickLine, LinkAsk, Frame, LastError, Neighbours, Counts, Ticks, Packets, WritesLink, is_for_link, is_of_link, is_packet_line, ticks_at}
 use Rattle.play_wire.specs.declared.fault.Fault.TheVariants as fault
@@ -190,14 +191,32 @@ some_is f None y e = absurd (never e)
     never g = cc
 some_is f (Some x) y e = (x, refl, cc e)
 
+-- what waits for a next hop, at a host that has a link, and at one that has none
+pub held_there : (links : Option LinkState) (hop n : ℕ)
+    → Some n ≡ option_map (λ (l : LinkState). held_for hop l) links → n ≡ held_by links hop
+held_there None hop n e = absurd (never e)
+  where
+    never : Some n ≡ None → ⊥
+    never g = cc
+held_there (Some l) hop n e = cc e
+
+pub held_nowhere : (links : Option LinkState) (hop : ℕ)
+    → None ≡ option_map (λ (l : LinkState). held_for hop l) links → 0 ≡ held_by links hop
+held_nowhere None hop e = refl
+held_nowhere (Some l) hop e = absurd (never e)
+  where
+    never : None ≡ Some (held_for hop l) → ⊥
+    never g = cc
+
 pub neighbours_shown : (place : ℕ) (v : SegmentView) (ns : List Neighbour) (told below : List ℕ)
     → option_map (λ (l : LinkState). l.neighbours) (slice_get v.links place) ≡ Some ns
-    → told ≡ neighbours_text ns → below ≡ neighbour_lines ns
+    → told ≡ neighbours_text ns → below ≡ neighbour_lines (held_by (slice_get v.links place)) ns
     → IsAtLink place Neighbours v (Told told below) v
 neighbours_shown place v ns told below e is lines =
     let there = some_is (λ (l : LinkState). l.neighbours) (slice_get v.links place) ns e in
     let text : told ≡ neighbours_text there.0.neighbours = is ∙ ap neighbours_text (sym there.2) in
-    let rows : below ≡ neighbour_lines there.0.neighbours = lines ∙ ap neighbour_lines (sym there.2) in (
+    let rows : below ≡ neighbour_lines (held_by (Some there.0)) there.0.neighbours =
+    lines ∙ ap₂ (λ (x : Option LinkState). neighbour_lines (held_by x)) there.1 (sym there.2) in (
       [],
       inl (subst (λ (x : Option LinkState). DoesLink place Neighbours x v [] (Told told below) v) (sym there.1)
           (refl, ap₂ Told text rows, refl)),

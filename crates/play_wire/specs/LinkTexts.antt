@@ -1,6 +1,5 @@
 -- What a host's link knows and has counted, in words (this project's own).
-use Rattle.std.specs.Prelude.{ℕ, ◌/◌, ◌%◌, ◌==◌, List, [], ◌∷◌, ◌++◌, length, take, flat_map, codes, decimal, if◌then◌else◌, nat_lt, Option, Some, None, Result, Ok, Err}
-use Rattle.hex.specs.Hex.{encode_lower}
+use Rattle.std.specs.Prelude.{ℕ, ◌==◌, List, [], ◌∷◌, ◌++◌, length, take, flat_map, codes, decimal, if◌then◌else◌, nat_lt, Option, Some, None, Result, Ok, Err}
 use Rattle.flat_model.specs.Scripts.Errnos.{errno_number, name_of}
 use Rattle.flat_model.specs.Scripts.Grammar.{address_text}
 use Rattle.flat_model.specs.declared.counters.Counters.{Counters}
@@ -15,37 +14,28 @@ use Rattle.flat_ether.specs.declared.neighbour.Neighbour.{Neighbour}
 use Rattle.flat_ether.specs.declared.sizes.TheConstants.{ARP_TRIES, NEIGHBOURS}
 use Rattle.flat_ether.specs.declared.tallies.Tallies.{Tallies}
 use Rattle.play_script.specs.Outcomes.{told, drops_text}
-use Rattle.play_text.specs.Pieces.{amount}
+use Rattle.play_text.specs.Pieces.{amount, mac_text}
 use Rattle.play_wire.specs.declared.link_count.LinkCount.{LinkCount}
 use Rattle.play_wire.specs.declared.link_count.LinkCount.TheVariants.{Ignored, Martians, BadArp, Conflicts, RepliesDropped, NoRoute, HeldDropped, Unresolved, TooLong, Echoes, Unreachable, Limited, IcmpDropped}
 
--- two digits
-abbrev pub octet_text : ℕ → List ℕ
-octet_text octet = encode_lower (octet ∷ [])
-
--- `02:00:00:00:00:01`
-abbrev pub hardware_text : Mac → List ℕ
-hardware_text mac =
-    octet_text (mac.high / 256) ++ codes ":" ++ octet_text (mac.high % 256) ++ codes ":"
-    ++ octet_text (mac.low / 65536 / 256) ++ codes ":" ++ octet_text (mac.low / 65536 % 256) ++ codes ":"
-    ++ octet_text (mac.low % 65536 / 256) ++ codes ":" ++ octet_text (mac.low % 65536 % 256)
-
 -- ---- neighbours
 
-abbrev pub known_text : Option Mac → ℕ → ℕ → List ℕ
-known_text (Some mac) ticks tries =
-    codes " is at " ++ hardware_text mac ++ codes ", " ++ amount ticks (codes "tick") ++ codes " left"
-known_text None ticks tries =
-    codes " is asked for, " ++ decimal tries ++ codes " of " ++ decimal ARP_TRIES ++ codes " requests sent"
+-- where a neighbour is; or how often it was asked for, and how many packets wait for that
+abbrev pub known_text : Option Mac → ℕ → ℕ → ℕ → List ℕ
+known_text (Some mac) ticks tries waiting =
+    codes " is at " ++ mac_text mac ++ codes ", " ++ amount ticks (codes "tick") ++ codes " left"
+known_text None ticks tries waiting =
+    codes " is asked for, " ++ decimal tries ++ codes " of " ++ decimal ARP_TRIES ++ codes " requests sent, "
+    ++ decimal waiting ++ (if waiting == 1 then codes " packet waits" else codes " packets wait")
 
--- a neighbour that is known or asked for
-abbrev pub neighbour_line : Neighbour → List ℕ
-neighbour_line it =
-    codes "    " ++ address_text it.ip ++ known_text it.mac it.ticks it.tries ++ codes "\n"
+-- a neighbour that is known or asked for, by how many packets wait for it
+abbrev pub neighbour_line : (ℕ → ℕ) → Neighbour → List ℕ
+neighbour_line waiting it =
+    codes "    " ++ address_text it.ip ++ known_text it.mac it.ticks it.tries (waiting it.ip) ++ codes "\n"
 
 -- of the first 32, which is all that a table has
-abbrev pub neighbour_lines : List Neighbour → List ℕ
-neighbour_lines neighbours = flat_map neighbour_line (take NEIGHBOURS neighbours)
+abbrev pub neighbour_lines : (ℕ → ℕ) → List Neighbour → List ℕ
+neighbour_lines waiting neighbours = flat_map (neighbour_line waiting) (take NEIGHBOURS neighbours)
 
 abbrev pub neighbours_text : List Neighbour → List ℕ
 neighbours_text neighbours =
@@ -134,7 +124,7 @@ gateway_text None = codes "no gateway"
 
 abbrev pub link_line : Link → List ℕ
 link_line link =
-    codes "    " ++ hardware_text link.mac ++ codes ", mask " ++ address_text link.mask ++ codes ", "
+    codes "    " ++ mac_text link.mac ++ codes ", mask " ++ address_text link.mask ++ codes ", "
     ++ gateway_text link.gateway ++ codes "\n"
 
 -- its addresses, and what it has counted

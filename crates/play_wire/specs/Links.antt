@@ -1,6 +1,7 @@
 -- What a line asks of the link of a host on an Ethernet, and what comes of it (this project's own).
 use Rattle.std.specs.Prelude.{◌≡◌, ◌⊎◌, ℕ, ◌||◌, Bool, true, false, List, [], ◌∷◌, ◌++◌, codes, bytes_eq, map, replicate, slice_get, take, Option, Some, None, Result}
 use Rattle.flat_ether.specs.Claims.{address_state}
+use Rattle.ether_host.specs.View.{held_for}
 use Rattle.flat_ether.specs.Links.{LinkState}
 use Rattle.flat_ether.specs.declared.error.NetFault.{NetFault}
 use Rattle.flat_model.specs.Machine.Event.{Tick, Done}
@@ -102,7 +103,8 @@ abbrev pub DoesAtLink : ℕ → LinkAsk → LinkState → SegmentView → List A
 DoesAtLink place (Frame frame) link v acts outcome w = IsFrameHeard place frame v acts outcome w
 DoesAtLink place (LastError fd) link v acts outcome w = IsErrorTold place fd v acts outcome w
 DoesAtLink place Neighbours link v acts outcome w =
-    IsShown (neighbours_text link.neighbours) (neighbour_lines link.neighbours) v acts outcome w
+    IsShown (neighbours_text link.neighbours) (neighbour_lines (λ hop. held_for hop link) link.neighbours) v acts
+    outcome w
 DoesAtLink place Counts link v acts outcome w =
     IsShown (state_text (address_state link.claim)) (link_lines link.link link.tallies) v acts outcome w
 DoesAtLink place (Ticks n) link v acts outcome w =

@@ -5,33 +5,54 @@ ghost use Rattle.play_wire.specs.Acts.{AreLedTo};
 use crate::halves;
 use crate::log::Log;
 use params::IP_MAX_PACKET;
-use play_script::Capture;
-use script_loop::Sink;
+use pcap::LinkType;
+use play_pcap::{RECORD, WireTrace};
+use script_loop::{Buffer, Sink};
 use segment::Segment;
 
-/// The packet of a frame, if it's one of IPv4.
-fn packet_in(frame: &[u8]) -> Option<&[u8]> {
-    match frame {
-        [_, _, _, _, _, _, _, _, _, _, _, _, 8, 0, packet @ ..] => Some(packet),
-        _ => None,
-    }
+/// A capture of the wire, and the number of the script's line by which something goes on it.
+pub(crate) struct Capture<T: Sink + Drop> {
+    trace: WireTrace<T>,
+    pub(crate) line: u64,
 }
 
-/// Keeps a packet.
-fn keep<T: Sink + Drop>(capture: &mut Capture<T>, packet: &[u8]) {
-    if packet.len() <= IP_MAX_PACKET as usize {
-        capture.keep(packet);
+impl<T: Sink + Drop> Capture<T> {
+    /// One that is written to this sink, of packets as long as no host is on an Ethernet.
+    pub(crate) fn begin(sink: T, room: Buffer<RECORD>) -> Capture<T> {
+        Capture {
+            trace: WireTrace::begin(LinkType::Ipv4, sink, room),
+            line: 0,
+        }
     }
-}
 
-/// Keeps the packets that are under way from a place on; of frames those of IPv4, without their headers.
-fn keep_from<T: Sink + Drop>(capture: &mut Capture<T>, segment: &Segment, first: usize) {
-    for at in first..segment.flight_len() {
-        if let Some(it) = segment.under_way(at) {
-            if !segment.is_ether() {
-                keep(capture, it.packet);
-            } else if let Some(packet) = packet_in(it.packet) {
-                keep(capture, packet);
+    /// Hosts on an Ethernet give frames, and others packets. A segment has hosts of one kind alone.
+    pub(crate) fn choose(&mut self, segment: &Segment) {
+        self.trace.choose(if segment.is_ether() {
+            LinkType::Ethernet
+        } else {
+            LinkType::Ipv4
+        });
+    }
+
+    /// Lets so many ticks pass.
+    pub(crate) fn tick(&mut self, count: u32) {
+        for _ in 0..count {
+            self.trace.tick();
+        }
+    }
+
+    /// Keeps a packet or a frame. One of more than 65,535 bytes isn't kept; no host gives one.
+    fn keep(&mut self, bytes: &[u8]) {
+        if bytes.len() <= IP_MAX_PACKET as usize {
+            self.trace.keep(self.line, bytes);
+        }
+    }
+
+    /// Keeps the packets or frames that are under way from a place on.
+    fn keep_from(&mut self, segment: &Segment, first: usize) {
+        for at in first..segment.flight_len() {
+            if let Some(it) = segment.under_way(at) {
+                self.keep(it.packet);
             }
         }
     }
@@ -47,13 +68,12 @@ pub(crate) fn collect<T: Sink + Drop>(
 {
     let first = segment.flight_len();
     halves::collect(segment, log);
-    keep_from(capture, segment, first);
+    capture.keep_from(segment, first);
 }
 
 /// Ends it. Whether the whole capture was written.
 pub(crate) fn end<T: Sink + Drop>(capture: Capture<T>) -> bool {
     let Capture { trace, line: _ } = capture;
-    let whole = trace.is_whole();
-    let _sink = trace.end();
+    let (_sink, whole) = trace.end();
     whole
 }

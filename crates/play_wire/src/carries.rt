@@ -2,11 +2,10 @@
 ghost use Rattle.segment.specs.Inside.{view};
 ghost use Rattle.play_wire.specs.Acts.{AreLedTo};
 
-use crate::capture::collect;
+use crate::capture::{Capture, collect};
 use crate::halves::deliver;
 use crate::log::Log;
 use crate::names::NAME;
-use play_script::Capture;
 use script_loop::{Buffer, Sink, first_word, number, one};
 use segment::Segment;
 

@@ -5,7 +5,7 @@ ghost use Rattle.segment.specs.Chances.{seeded};
 ghost use Rattle.segment.specs.Segment.{no_hosts};
 ghost use Rattle.play_wire.specs.Acts.{AreLedTo};
 
-use crate::capture;
+use crate::capture::{self, Capture};
 use crate::fault::Fault;
 use crate::halves::join;
 use crate::link::{check_link, link_of};
@@ -15,7 +15,7 @@ use crate::passed::Counted;
 use crate::spare::Spare;
 use flat_model::Config;
 use play_read::{SettingFault, settings_of};
-use play_script::{Capture, DEFAULTS};
+use play_script::DEFAULTS;
 use script_loop::{Buffer, Sink, first_word};
 use segment::{Link, Segment};
 use std::alloc::{AllocError, Global};
@@ -183,6 +183,7 @@ impl<T: Sink + Drop> Hosts<T> {
         }
         match join(&mut self.segment, self.alloc, config, link) {
             Ok(()) => {
+                self.capture.choose(&self.segment);
                 self.names.push_reserved(buffer);
                 self.counts.push_reserved(Counted::none());
                 Ok(())

@@ -9,7 +9,6 @@ mod capture;
 mod carries;
 mod chance;
 mod fault;
-mod frame;
 mod halves;
 mod host_line;
 mod hosts;

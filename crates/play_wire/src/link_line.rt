@@ -92,7 +92,13 @@ fn show_neighbours(segment: &Segment, place: usize, report: &mut Report) -> Resu
     let Some(neighbours) = segment.neighbours(place) else {
         return Err(Fault::NoLink);
     };
-    tell_neighbours(&mut report.told, &mut report.below, neighbours);
+    tell_neighbours(
+        &mut report.told,
+        &mut report.below,
+        segment,
+        place,
+        neighbours,
+    );
     Ok(())
 }
 

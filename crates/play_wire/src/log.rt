@@ -3,10 +3,9 @@ ghost use Rattle.std.specs.Prelude.{◌≤◌};
 ghost use Rattle.params.specs.declared.TheConstants.{MAX_MTU};
 
 use crate::add::{add, add_number};
-use crate::frame::add_frame;
 use crate::names::NAME;
 use crate::passed::add_words;
-use crate::show::name_at;
+use crate::show::{add_frame, name_at};
 use crate::verdict::{Look, Verdict};
 use net_stack::Stack;
 use params::MAX_MTU;

@@ -12,12 +12,12 @@ ghost use Rattle.play_wire.specs.Inside.{play_with};
 ghost use Rattle.play_wire.specs.Runs.{IsPlayed};
 ghost use Rattle.play_wire.specs.Tells.{WirePlay, Tells, wire_started};
 
+use crate::capture::Capture;
 use crate::hosts::Hosts;
 use crate::player::Player;
 use crate::target::Target;
 use play_packet::LineReader;
-use play_pcap::Trace;
-use play_script::{Capture, Line, Played, Printer, Report, Style};
+use play_script::{Line, Played, Printer, Report, Style};
 use script_loop::{Buffer, RunFault, Sink, Source, serve_script};
 use segment::hosts_on_a_segment;
 use std::alloc::{AllocError, Global};
@@ -74,10 +74,7 @@ fn capture_for<T: Sink + Drop>(alloc: Global, sink: T) -> Option<Capture<T>> {
     let Ok(room) = Buffer::new(alloc) else {
         return None;
     };
-    Some(Capture {
-        trace: Trace::begin(sink, room),
-        line: 0,
-    })
+    Some(Capture::begin(sink, room))
 }
 
 /// No hosts, a wire with this seed, and a capture that is written to this sink. `None` if host memory was refused.
@@ -127,8 +124,8 @@ fn player_for<T: Sink + Drop>(
 /// then.
 ///
 /// Each packet is written to `start.capture` as it goes on the wire, at a time that `play_pcap::Trace` tells by the
-/// ticks and the line's number. One that is lost by chance isn't, and one that goes twice is there twice. No clause
-/// speaks of the capture.
+/// ticks and the line's number; of hosts on an Ethernet each frame, ARP's too, in a capture of that link type. One that
+/// is lost by chance isn't, and one that goes twice is there twice. No clause speaks of the capture.
 ///
 /// `sound` tells whether all lines that were read did something, and all that was expected came.
 ///

@@ -1,8 +1,10 @@
 //! What the link of a host knows and has counted, in words.
-ghost use Rattle.std.specs.Prelude.{◌≡◌, ◌+◌, ◌≤◌, ◌++◌, length, take};
+ghost use Rattle.std.specs.Prelude.{◌≡◌, ◌+◌, ◌≤◌, ◌++◌, length, slice_get, take};
 ghost use Rattle.flat_ether.specs.declared.sizes.TheConstants.{NEIGHBOURS};
-ghost use Rattle.play_wire.specs.LinkTexts.{count_line, count_lines, error_text, gateway_text, heard_text, known_text, link_line, link_lines, hardware_text, neighbour_line, neighbour_lines, neighbours_text, octet_text, rise_text, rises_text, state_text};
+ghost use Rattle.play_wire.specs.Inside.{held_by};
+ghost use Rattle.play_wire.specs.LinkTexts.{count_line, count_lines, error_text, gateway_text, heard_text, known_text, link_line, link_lines, neighbour_line, neighbour_lines, neighbours_text, rise_text, rises_text, state_text};
 ghost use Rattle.play_script.specs.Outcomes.{told as told_of};
+ghost use Rattle.segment.specs.Inside.{view};
 ghost use Rattle.std.specs.Prelude.{codes};
 
 use crate::link_count::{LinkCount, link_counts};
@@ -10,55 +12,24 @@ use flat_ether::{ARP_TRIES, NEIGHBOURS};
 use flat_model::{Counters, Errno};
 use play_script::{DROPS, TOLD, bytes_of, put_drops};
 use play_show::SHOWN;
-use play_text::Piece::{Address, Amount, Either, Long, Number, Text};
+use play_text::Piece::{Address, Amount, Either, Hardware, Long, Number, Text};
 use play_text::put;
 use script_loop::Buffer;
-use segment::{AddressState, Link, Mac, Neighbour, NetFault, Tallies};
-
-/// Puts a byte after the text, in two digits.
-fn put_octet(text: &mut Buffer<SHOWN>, octet: u8)
-    requires { length text.old + 2 ≤ SHOWN }
-    ensures items { text.new ≡ text.old ++ octet_text octet }
-    ensures len { length text.new ≡ length text.old + 2 }
-{
-    let mut digits = [0; 2];
-    let _ = hex::encode_to_slice([octet], &mut digits);
-    text.append(&digits);
-}
-
-/// Puts a hardware address after the text.
-pub(crate) fn put_mac(text: &mut Buffer<SHOWN>, mac: Mac)
-    requires { length text.old + 17 ≤ SHOWN }
-    ensures items { text.new ≡ text.old ++ hardware_text mac }
-    ensures len { length text.new ≤ length text.old + 17 }
-{
-    let (upper, lower) = (mac.low / 65_536, mac.low % 65_536);
-    put_octet(text, (mac.high / 256) as u8);
-    text.append(b":");
-    put_octet(text, (mac.high % 256) as u8);
-    text.append(b":");
-    put_octet(text, (upper / 256) as u8);
-    text.append(b":");
-    put_octet(text, (upper % 256) as u8);
-    text.append(b":");
-    put_octet(text, (lower / 256) as u8);
-    text.append(b":");
-    put_octet(text, (lower % 256) as u8);
-}
+use segment::{AddressState, Link, Mac, Neighbour, NetFault, Segment, Tallies};
 
 // ---- neighbours
 
 /// Puts the hardware address of a neighbour after the text.
 fn put_place(text: &mut Buffer<SHOWN>, mac: Mac, ticks: u16)
     requires { length text.old + 60 ≤ SHOWN }
-    ensures items { text.new ≡ text.old ++ known_text (Some mac) ticks 0 }
+    ensures items { text.new ≡ text.old ++ known_text (Some mac) ticks 0 0 }
     ensures len { length text.new ≤ length text.old + 60 }
 {
-    text.append(b" is at ");
-    put_mac(text, mac);
     put(
         text,
         &[
+            Text(b" is at "),
+            Hardware(mac),
             Text(b", "),
             Amount(u32::from(ticks), b"tick"),
             Text(b" left"),
@@ -66,35 +37,58 @@ fn put_place(text: &mut Buffer<SHOWN>, mac: Mac, ticks: u16)
     );
 }
 
-/// Puts after the text where a neighbour is, or how often it was asked for.
-fn put_known(text: &mut Buffer<SHOWN>, it: &Neighbour)
-    requires { length text.old + 60 ≤ SHOWN }
-    ensures items { text.new ≡ text.old ++ known_text it.now.mac it.now.ticks it.now.tries }
-    ensures len { length text.new ≤ length text.old + 60 }
+/// Puts after the text how often a neighbour was asked for, and how many packets wait for that.
+fn put_asked(text: &mut Buffer<SHOWN>, tries: u8, waiting: usize)
+    requires { length text.old + 110 ≤ SHOWN }
+    ensures items { text.new ≡ text.old ++ known_text None 0 tries waiting }
+    ensures len { length text.new ≤ length text.old + 110 }
+{
+    put(
+        text,
+        &[
+            Text(b" is asked for, "),
+            Number(u32::from(tries)),
+            Text(b" of "),
+            Number(u32::from(ARP_TRIES)),
+            Text(b" requests sent, "),
+            Long(waiting as u64),
+            Either(waiting == 1, b" packet waits", b" packets wait"),
+        ],
+    );
+}
+
+/// Puts after the text where a neighbour is; or how often it was asked for, and how many packets wait for that.
+fn put_known(text: &mut Buffer<SHOWN>, it: &Neighbour, waiting: usize)
+    requires { length text.old + 110 ≤ SHOWN }
+    ensures items { text.new ≡ text.old ++ known_text it.now.mac it.now.ticks it.now.tries waiting }
+    ensures len { length text.new ≤ length text.old + 110 }
 {
     match it.mac {
         Some(mac) => put_place(text, mac, it.ticks),
-        None => put(
-            text,
-            &[
-                Text(b" is asked for, "),
-                Number(u32::from(it.tries)),
-                Text(b" of "),
-                Number(u32::from(ARP_TRIES)),
-                Text(b" requests sent"),
-            ],
-        ),
+        None => put_asked(text, it.tries, waiting),
     }
 }
 
-/// Puts the line of a neighbour after the text.
-fn put_neighbour(text: &mut Buffer<SHOWN>, it: &Neighbour)
-    requires { length text.old + 80 ≤ SHOWN }
-    ensures items { text.new ≡ text.old ++ neighbour_line it.now }
-    ensures len { length text.new ≤ length text.old + 80 }
+/// How many packets of the host at a place wait for the hardware address of a next hop.
+#[tactic(auto, using(crate::proofs::LinkLemmas::held_there, crate::proofs::LinkLemmas::held_nowhere))]
+fn held_at(segment: &Segment, place: usize, hop: u32) -> usize
+    ensures { result ≡ held_by (slice_get (view segment.now).links place) hop }
+{
+    match segment.held_for(place, hop) {
+        Some(waiting) => waiting,
+        None => 0,
+    }
+}
+
+/// Puts the line of a neighbour of the host at a place after the text.
+fn put_neighbour(text: &mut Buffer<SHOWN>, segment: &Segment, place: usize, it: &Neighbour)
+    requires { length text.old + 130 ≤ SHOWN }
+    ensures items { text.new ≡ text.old
+        ++ neighbour_line (held_by (slice_get (view segment.now).links place)) it.now }
+    ensures len { length text.new ≤ length text.old + 130 }
 {
     put(text, &[Text(b"    "), Address(it.ip)]);
-    put_known(text, it);
+    put_known(text, it, held_at(segment, place, it.ip));
     text.append(b"\n");
 }
 
@@ -111,24 +105,27 @@ fn first(neighbours: &[Neighbour], most: usize) -> &[Neighbour]
     }
 }
 
-/// Puts the lines of neighbours into a buffer, of which there are 32 at most.
-fn put_lines(text: &mut Buffer<SHOWN>, neighbours: &[Neighbour])
-    ensures { text.new ≡ neighbour_lines neighbours.now }
+/// Puts the lines of neighbours of the host at a place into a buffer, of which there are 32 at most.
+fn put_lines(text: &mut Buffer<SHOWN>, segment: &Segment, place: usize, neighbours: &[Neighbour])
+    ensures { text.new ≡ neighbour_lines (held_by (slice_get (view segment.now).links place)) neighbours.now }
 {
     text.clear();
     for neighbour in first(neighbours, NEIGHBOURS) {
-        put_neighbour(text, neighbour);
+        put_neighbour(text, segment, place, neighbour);
     }
 }
 
-/// Tells how many neighbours there are, and below it a line for each.
+/// Tells how many neighbours the host at a place has, which are these, and below it a line for each.
 pub(crate) fn tell_neighbours(
     told: &mut Buffer<TOLD>,
     below: &mut Buffer<SHOWN>,
+    segment: &Segment,
+    place: usize,
     neighbours: &[Neighbour],
 )
     ensures told { told.new ≡ neighbours_text neighbours.now }
-    ensures below { below.new ≡ neighbour_lines neighbours.now }
+    ensures below { below.new
+        ≡ neighbour_lines (held_by (slice_get (view segment.now).links place)) neighbours.now }
 {
     let len = neighbours.len();
     told.clear();
@@ -139,7 +136,7 @@ pub(crate) fn tell_neighbours(
             Either(len == 1, b" neighbour", b" neighbours"),
         ],
     );
-    put_lines(below, neighbours);
+    put_lines(below, segment, place, neighbours);
 }
 
 // ---- a link
@@ -162,9 +159,16 @@ fn put_link(text: &mut Buffer<SHOWN>, link: &Link)
     ensures items { text.new ≡ text.old ++ link_line link.now }
     ensures len { length text.new ≤ length text.old + 80 }
 {
-    text.append(b"    ");
-    put_mac(text, link.mac);
-    put(text, &[Text(b", mask "), Address(link.mask), Text(b", ")]);
+    put(
+        text,
+        &[
+            Text(b"    "),
+            Hardware(link.mac),
+            Text(b", mask "),
+            Address(link.mask),
+            Text(b", "),
+        ],
+    );
     put_gateway(text, link.gateway);
     text.append(b"\n");
 }

@@ -6,6 +6,7 @@ ghost use Rattle.params.specs.declared.TheConstants.{IP_MAX_PACKET};
 ghost use Rattle.flat_ether.specs.Claims.{address_state};
 ghost use Rattle.flat_ether.specs.declared.sizes.TheConstants.{ETHER_HEADER};
 ghost use Rattle.ether_host.specs.Inside.{link_seen};
+ghost use Rattle.ether_host.specs.View.{held_for};
 ghost use Rattle.segment.specs.Frames.{IsAskedError, IsEtherJoined, IsEtherRefused, IsFree, IsHeard, link_aged, other_mac};
 ghost use Rattle.segment.specs.Inside.{view};
 
@@ -139,6 +140,15 @@ impl Segment {
     {
         let link = self.links.get(place)?;
         Some(link.neighbours())
+    }
+
+    /// How many packets of the host at a place wait for the hardware address of a next hop. `None` if there is no such
+    /// host on an Ethernet.
+    pub fn held_for(&self, place: usize, hop: u32) -> Option<usize>
+        ensures { result ≡ option_map (λ l. held_for hop l) (slice_get (view self.now).links place) }
+    {
+        let link = self.links.get(place)?;
+        Some(link.held_for(hop))
     }
 
     /// The link of the host at a place. `None` if there is no such host on an Ethernet.

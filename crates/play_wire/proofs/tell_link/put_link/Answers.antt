@@ -3,11 +3,5 @@ use Rattle.play_wire.proofs.tell_link.put_link.Goals as goal
 
 pub returns-clause-items : goal.returns-clause-items
 returns-clause-items c =
-    rw (
-      c.append-2.ensures.items,
-      c.put_gateway.ensures.items,
-      c.put.ensures.items,
-      c.put_mac.ensures.items,
-      c.append.ensures.items,
-    )
+    rw (c.append.ensures.items, c.put_gateway.ensures.items, c.put.ensures.items)
     (simp append_assoc)
