@@ -1,10 +1,10 @@
 -- What was done with each host of an Ethernet segment, from its start on.
-use Rattle.std.proofs.Common.{◌≡◌, ◌≢◌, ◌⊎◌, inl, inr, ℕ, ◌+◌, ◌<◌, ◌≤◌, List, [], ◌∷◌, ◌++◌, length, zero, suc, Bool, true, false, Option, None, Some, refl, sym, ap, ◌∙◌, subst, arith}
+use Rattle.std.proofs.Common.{◌≡◌, ◌≢◌, ◌⊎◌, inl, inr, ℕ, ◌+◌, List, [], ◌∷◌, ◌++◌, length, zero, suc, Bool, true, false, Option, None, Some, refl, sym, ap, ◌∙◌, subst, arith}
 use Rattle.std.specs.Prelude.{slice_get, slice_set, nat_le, ◌==◌, if◌then◌else◌, option_to_list}
 use Rattle.std.proofs.Math.ListN.{length-set}
 use Rattle.std.proofs.lemmas.Bool.{eqb-true}
 use Rattle.std.proofs.lemmas.Bool.Decides.{eqb_tells}
-use Rattle.std.proofs.lemmas.Option.{none-some, same_Some}
+use Rattle.std.proofs.lemmas.Option.{none-some}
 use Rattle.flat_model.specs.Machine.State.{IsConfig}
 use Rattle.flat_model.specs.Machine.State.{State}
 use Rattle.flat_model.specs.Machine.Step.{Step}
@@ -20,7 +20,7 @@ use Rattle.ether_host.specs.View.{halves}
 use Rattle.net_stack.specs.Stack.{StackView, state_of}
 use Rattle.segment.specs.EtherLaw.{GoByFrames, GoesByFrames, acts_of, host_of_halves, coming, coming_in, ether_acts, host_acts, host_at, if_host, takes_if, taking, taking_in, then_takes}
 use Rattle.segment.specs.Flying.{Flying}
-use Rattle.segment.specs.Frames.{AreFramesCollected, AreFramesDelivered, FrameComes, HearEach, IsEtherJoined, IsHostStep, aged_in, frames_given, frames_to, gives_short, hosts_of, link_aged, or_more}
+use Rattle.segment.specs.Frames.{FrameComes, HearEach, IsEtherJoined, IsHostStep, aged_in, frames_given, frames_to, hosts_of, link_aged, or_more}
 use Rattle.segment.specs.Law.{Act, Ether, Joins, Calls, Collects, Delivers, Impairs, Seeds, Loses, Repeats, Swaps, AreActs, IsAct, IsHostCalled, JoinsEther, CollectsFrames, DeliversFrames, HearsFrame, AsksError, AgesLink}
 use Rattle.segment.specs.Segment.{SegmentView, AreBoth, AtEach, leaving}
 use Rattle.segment.specs.declared.links.TheConstants.{FRAMES}

@@ -1,15 +1,13 @@
 -- Two hosts of an Ethernet segment are among hosts on one Ethernet.
-use Rattle.std.proofs.Common.{◌≡◌, ◌≢◌, ◌⊎◌, inl, inr, ℕ, ◌+◌, ◌<◌, ◌≤◌, List, [], ◌∷◌, ◌++◌, length, zero, suc, Bool, true, false, Option, None, Some, refl, sym, ap, ◌∙◌, subst, arith}
+use Rattle.std.proofs.Common.{◌≡◌, ◌≢◌, ◌⊎◌, inl, inr, ℕ, ◌+◌, ◌<◌, List, [], ◌∷◌, ◌++◌, length, zero, suc, Bool, true, false, Option, None, Some, refl, sym, ap, ◌∙◌, subst, arith}
 use Rattle.std.specs.Prelude.{slice_get, slice_set, ◌==◌, if◌then◌else◌, All, Contains}
-use Rattle.std.specs.List.{AllByRecursion as Each, list_all}
+use Rattle.std.specs.List.{list_all}
 use Rattle.std.proofs.lemmas.Bool.Decides.{eqb_tells}
 use Rattle.std.proofs.lemmas.List.Elements.{All-from_recursion, recursion_from_All}
 use Rattle.std.proofs.lemmas.Option.{none-some}
 use Rattle.flat_model.specs.Machine.State.{IsConfig}
 use Rattle.flat_model.specs.declared.config.Config.{Config}
 use Rattle.flat_model.proofs.Laws.{each-weaker}
-use Rattle.flat_wire.specs.Wire.{ComesFrom}
-use Rattle.flat_ether.specs.Frames.{body_of}
 use Rattle.flat_ether.specs.Hosts.{Host, HostAct, AreHostActs, host_up}
 use Rattle.flat_ether.specs.Laws.{AreAmongHosts, IsUnforged, frames_in, frames_out}
 use Rattle.flat_ether.specs.Links.{LinkState, link_up, ticks}
@@ -21,7 +19,7 @@ use Rattle.segment.specs.Frames.{HearEach, aged_in, frames_given, frames_to}
 use Rattle.segment.specs.Law.{Act, Ether, Joins, Calls, Collects, Delivers, Impairs, Seeds, Loses, Repeats, Swaps, AreActs, IsAct, JoinsEther, CollectsFrames, DeliversFrames, HearsFrame, AsksError, AgesLink}
 use Rattle.segment.specs.Segment.{SegmentView, AreBoth, are_apart, leaving, no_hosts}
 use Rattle.segment.specs.declared.links.TheConstants.{FRAMES}
-use Rattle.segment.proofs.EtherHistory.{BeginsHost, at_place, even_on, host_began}
+use Rattle.segment.proofs.EtherHistory.{at_place, even_on, host_began}
 use Rattle.segment.proofs.EtherWires.{frames_come, out_append}
 use Rattle.segment.proofs.History.{get_front, get_within}
 use Rattle.segment.proofs.Hosts.{AreApart, all_pass, get_last_or, told_apart, turned}

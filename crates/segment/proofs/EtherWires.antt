@@ -1,13 +1,11 @@
 -- What comes to a host of an Ethernet segment is what its hosts gave, or what came from outside.
-use Rattle.std.proofs.Common.{◌≡◌, ◌≢◌, ◌⊎◌, inl, inr, ℕ, ◌+◌, ◌<◌, ◌≤◌, List, [], ◌∷◌, ◌++◌, length, zero, suc, Bool, true, false, Option, None, Some, refl, sym, ap, ◌∙◌, subst, arith, append_assoc}
-use Rattle.std.specs.Prelude.{slice_get, slice_set, ◌==◌, ◌&&◌, nat_lt, if◌then◌else◌, Contains, option_to_list}
+use Rattle.std.proofs.Common.{◌≡◌, ℕ, ◌+◌, List, [], ◌∷◌, ◌++◌, length, zero, suc, Bool, true, false, Option, None, Some, refl, sym, ap, ◌∙◌, subst, arith, append_assoc}
+use Rattle.std.specs.Prelude.{slice_get, ◌==◌, ◌&&◌, nat_lt, if◌then◌else◌, Contains}
 use Rattle.std.specs.List.{AllByRecursion as Each, cons_option}
-use Rattle.std.proofs.lemmas.Option.{none-some}
-use Rattle.flat_model.specs.declared.config.Config.{Config}
 use Rattle.flat_model.proofs.Laws.{each-append, each-map_to, each-take, each-weaker}
-use Rattle.flat_ether.specs.Hosts.{Host, HostAct, Ages, Asks_error as Asked, Calls as Called, Comes_in as Comes, gives}
+use Rattle.flat_ether.specs.Hosts.{Host, HostAct, Ages, Asks_error as Asked, Calls as Called, Comes_in as Comes}
 use Rattle.flat_ether.specs.Laws.{frame_in, frame_out, frames_in, frames_out}
-use Rattle.segment.specs.EtherLaw.{GoByFrames, GoesByFrames, acts_of, coming, coming_in, heard_in, heard_of, host_acts, host_at, if_host, takes_if, taking, taking_in, then_takes}
+use Rattle.segment.specs.EtherLaw.{GoByFrames, acts_of, coming, coming_in, heard_of, host_acts, host_at, if_host, takes_if, taking, taking_in, then_takes}
 use Rattle.segment.specs.Chances.{entering}
 use Rattle.segment.specs.Flying.{Flying, sent_by}
 use Rattle.segment.specs.Frames.{AreFramesCollected, frame_goes_to, frames_below, frames_given, frames_of, frames_to, given_in, gives_short, hosts_in}

@@ -1,5 +1,5 @@
 -- Hosts on an Ethernet: what their links give to a segment, and take from it (this project's own).
-use Rattle.std.specs.Prelude.{◌≡◌, ◌+◌, ◌≤◌, ℕ, zero, suc, Bool, true, false, nat_le, ◌==◌, ◌&&◌, not, if◌then◌else◌, List, [], ◌∷◌, ◌++◌, length, filter, filter_map, map, take, slice_get, slice_set, Option, Some, None, Result}
+use Rattle.std.specs.Prelude.{◌≡◌, ◌+◌, ◌≤◌, ℕ, zero, suc, Bool, true, false, nat_le, ◌==◌, ◌&&◌, not, if◌then◌else◌, List, [], ◌∷◌, ◌++◌, length, filter, filter_map, map, take, drop, slice_get, slice_set, Option, Some, None, Result}
 use Rattle.std.specs.List.{list_all}
 use Rattle.flat_model.specs.Machine.State.{IsConfig, boot}
 use Rattle.flat_model.specs.declared.config.Config.{Config}
@@ -64,12 +64,14 @@ frames_below hosts (suc place) = frames_below hosts place ++ sent_by place (give
 abbrev pub frames_of : SegmentView → List Flying
 frames_of v = frames_below (hosts_in v) (length v.links)
 
--- Each host gave its frames. They went under way behind the rest, as far as there is room.
+-- Each host gave its frames. They went under way behind the rest, as far as there is room. A stack without a link is
+-- as it was.
 pub record AreFramesCollected (old new : SegmentView) : Type 0 where
   pub configs : new.configs ≡ old.configs
   pub room : new.room ≡ old.room
   pub chances : new.chances ≡ old.chances
   pub links : length new.links ≡ length old.links
+  pub others : drop (length old.links) new.stacks ≡ drop (length old.links) old.stacks
   pub flight : new.flight ≡ take old.room (old.flight ++ (entering old.chances (frames_of old) old.random).0)
   pub random : new.random ≡ (entering old.chances (frames_of old) old.random).1
   pub tallies : new.tallies ≡ tallied old.chances (frames_of old) old.random old.tallies
@@ -85,9 +87,9 @@ abbrev pub frames_to : ℕ → Mac → List Flying → List (List ℕ)
 frames_to place mac flight =
     filter_map (λ (f : Flying). if frame_goes_to place mac f then Some f.packet else None) flight
 
-abbrev pub frames_in : ℕ → Option LinkState → List Flying → List (List ℕ)
-frames_in place None flight = []
-frames_in place (Some l) flight = frames_to place l.link.mac flight
+abbrev pub frames_heard : ℕ → Option LinkState → List Flying → List (List ℕ)
+frames_heard place None flight = []
+frames_heard place (Some l) flight = frames_to place l.link.mac flight
 
 -- a frame comes to a host
 abbrev pub FrameComes : List ℕ → Host → Host → Type 0
@@ -98,16 +100,17 @@ abbrev pub HearEach : List (List ℕ) → Host → Host → Type 0
 HearEach [] old new = new ≡ old
 HearEach (f ∷ later) old new = (mid : Host) × FrameComes f old mid × HearEach later mid new
 
--- What was due came, and the rest is a carry older.
+-- What was due came, and the rest is a carry older. A stack without a link is as it was.
 pub record AreFramesDelivered (old new : SegmentView) : Type 0 where
   pub configs : new.configs ≡ old.configs
   pub room : new.room ≡ old.room
   pub chances : new.chances ≡ old.chances
   pub links : length new.links ≡ length old.links
+  pub others : drop (length old.links) new.stacks ≡ drop (length old.links) old.stacks
   pub flight : new.flight ≡ map flying_aged (filter is_early old.flight)
   pub random : new.random ≡ (leaving old).1
   pub tallies : AtEach (λ place t u. u
-      ≡ hears (length (frames_in place (slice_get old.links place) (leaving old).0)) t) old.tallies new.tallies
+      ≡ hears (length (frames_heard place (slice_get old.links place) (leaving old).0)) t) old.tallies new.tallies
   pub hosts : AtEach (λ place h k. HearEach (frames_to place h.link.link.mac (leaving old).0) h k)
       (hosts_in old) (hosts_in new)
 

@@ -1,10 +1,10 @@
 //! Hosts on an Ethernet: what their links give goes under way in frames, and frames come to them.
-ghost use Rattle.std.specs.Prelude.{◌≡◌, ◌≤◌, ◌==◌, ◌∷◌, [], not, if◌then◌else◌, take, Some, None, map, slice_get, vec_capacity, length};
+ghost use Rattle.std.specs.Prelude.{◌≡◌, ◌≤◌, ◌==◌, ◌∷◌, [], not, if◌then◌else◌, take, drop, Some, None, map, slice_get, vec_capacity, length};
 ghost use Rattle.params.specs.declared.TheConstants.{MAX_MTU};
 ghost use Rattle.ether_host.specs.Inside.{link_seen};
 ghost use Rattle.ether_host.specs.View.{halves};
 ghost use Rattle.segment.specs.Flying.{sent_by};
-ghost use Rattle.segment.specs.Frames.{AreFramesCollected, AreFramesDelivered, HearEach, frames_below, frames_given, frames_in, frames_to, gives_short, hosts_of};
+ghost use Rattle.segment.specs.Frames.{AreFramesCollected, AreFramesDelivered, HearEach, frames_below, frames_given, frames_heard, frames_to, gives_short, hosts_of};
 ghost use Rattle.segment.specs.Segment.{AtEach};
 ghost use Rattle.segment.specs.Tallies.{hears};
 ghost use Rattle.segment.specs.Inside.{sent_behind, flying, random_after, tallies_after, under_way, view};
@@ -110,6 +110,8 @@ fn collect_frames<W: Watch>(
     ensures chances { impairment.new.chances ≡ impairment.old.chances }
     ensures room { vec_capacity flight.new.frames ≡ vec_capacity flight.old.frames }
     ensures links { length links.new.items ≡ length links.old.items }
+    ensures others { drop (length (map link_seen links.old.items)) stacks.new.items
+        ≡ drop (length (map link_seen links.old.items)) stacks.old.items }
 {
     for place in 0..links.len() {
         if place < stacks.len() {
@@ -140,7 +142,7 @@ fn count_to(due: &[Frame], place: usize, mac: Mac) -> u64
 
 /// How many of these frames come to the host at a place.
 fn heard(due: &[Frame], place: usize, links: &[LinkLayer]) -> u64
-    ensures { result ≡ length (frames_in place (slice_get (map link_seen links.now) place) (map flying due.now)) }
+    ensures { result ≡ length (frames_heard place (slice_get (map link_seen links.now) place) (map flying due.now)) }
 {
     match links.get(place) {
         Some(link) => count_to(due, place, link.link().mac),
@@ -151,7 +153,7 @@ fn heard(due: &[Frame], place: usize, links: &[LinkLayer]) -> u64
 /// Counts at each host the frames that come to it.
 fn count_frames(due: &[Frame], links: &[LinkLayer], tallies: &mut Vec<Tally>)
     ensures { AtEach (λ place t u.
-        u ≡ hears (length (frames_in place (slice_get (map link_seen links.now) place) (map flying due.now))) t)
+        u ≡ hears (length (frames_heard place (slice_get (map link_seen links.now) place) (map flying due.now))) t)
         tallies.old.items tallies.new.items }
 {
     for place in 0..tallies.len() {
@@ -214,6 +216,8 @@ fn deliver_frames<W: Watch>(
         (hosts_of stacks.old.items (map link_seen links.old.items))
         (hosts_of stacks.new.items (map link_seen links.new.items)) }
     ensures links { length links.new.items ≡ length links.old.items }
+    ensures others { drop (length (map link_seen links.old.items)) stacks.new.items
+        ≡ drop (length (map link_seen links.old.items)) stacks.old.items }
 {
     for place in 0..links.len() {
         if place < stacks.len() {

@@ -1,6 +1,7 @@
-use Rattle.std.proofs.Common.{◌≡◌, ◌∙◌, ◌<◌, ◌≤◌, ℕ, length, map, sym, ap, arith}
+use Rattle.std.proofs.Common.{◌≡◌, ◌∙◌, ◌<◌, ◌≤◌, ℕ, drop, length, map, sym, ap, arith}
 use Rattle.std.specs.Prelude.{vec_capacity}
 use Rattle.std.proofs.Math.ListN.{length-set}
+use Rattle.std.proofs.lemmas.List.{drop-set-lt, length-map}
 use Rattle.flat_ether.specs.Hosts.{Host}
 use Rattle.ether_host.specs.Inside.{link_seen}
 use Rattle.ether_host.specs.View.{halves}
@@ -24,6 +25,8 @@ loop-place-preserved g c =
     let old = hosts_of c.args.stacks.now.items (map link_seen c.args.links.now.items) in
     let stacks = c.loop-place.stacks.items in
     let links = c.loop-place.links.items in
+    let most = length (map link_seen c.args.links.now.items) in
+    let as_many : most ≡ length c.args.links.now.items = length-map c.args.links.now.items link_seen in
     let now = c.if-place-len in
     elim c.if-place-len.branch [
       | then-place-len w ↦
@@ -56,6 +59,9 @@ loop-place-preserved g c =
             chances = ap (λ v. v.chances) w.impairment-is ∙ w.take_frames.ensures.chances ∙ inv.chances;
             room = ap (λ v. vec_capacity v.frames) w.flight-is ∙ w.take_frames.ensures.room ∙ inv.room;
             links = ap (λ v. length v.items) w.links-is ∙ length-set links place w.take_frames.new.link ∙ inv.links;
+            others =
+                ap (λ v. drop most v.items) w.stacks-is
+                ∙ drop-set-lt most stacks place w.take_frames.new.stack (omega (arith, inv.end, as_many)) ∙ inv.others;
             end = inv.end;
           }
       | else-place-len w ↦
@@ -76,6 +82,7 @@ loop-place-preserved g c =
             chances = ap (λ v. v.chances) w.impairment-is ∙ inv.chances;
             room = ap (λ v. vec_capacity v.frames) w.flight-is ∙ inv.room;
             links = ap (λ v. length v.items) w.links-is ∙ inv.links;
+            others = ap (λ v. drop most v.items) w.stacks-is ∙ inv.others;
             end = inv.end;
           }
     ]

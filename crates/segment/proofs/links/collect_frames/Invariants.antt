@@ -1,4 +1,4 @@
-use Rattle.std.proofs.Common.{◌≡◌, length, map}
+use Rattle.std.proofs.Common.{◌≡◌, drop, length, map}
 use Rattle.std.specs.Prelude.{vec_capacity}
 use Rattle.ether_host.specs.Inside.{link_seen}
 use Rattle.segment.specs.Frames.{frames_below, frames_given, hosts_of}
@@ -20,5 +20,7 @@ invariant-loop-place g l = record {
   chances : l.impairment.chances ≡ l.fn.impairment.chances;
   room : vec_capacity l.flight.frames ≡ vec_capacity l.fn.flight.frames;
   links : length l.links.items ≡ length l.fn.links.items;
+  others : drop (length (map link_seen l.fn.links.items)) l.stacks.items
+      ≡ drop (length (map link_seen l.fn.links.items)) l.fn.stacks.items;
   end : l.place-end ≡ length l.fn.links.items;
 }

@@ -1,5 +1,6 @@
-use Rattle.std.proofs.Common.{◌∙◌, ℕ, List, length, map, ap, arith}
+use Rattle.std.proofs.Common.{◌≡◌, ◌∙◌, ℕ, List, drop, length, map, ap, arith}
 use Rattle.std.proofs.Math.ListN.{length-set}
+use Rattle.std.proofs.lemmas.List.{drop-set-lt, length-map}
 use Rattle.flat_ether.specs.Hosts.{Host}
 use Rattle.ether_host.specs.Inside.{link_seen}
 use Rattle.segment.specs.Flying.{Flying}
@@ -21,6 +22,8 @@ loop-place-preserved g c =
     let old = hosts_of c.args.stacks.now.items (map link_seen c.args.links.now.items) in
     let stacks = c.loop-place.stacks.items in
     let links = c.loop-place.links.items in
+    let most = length (map link_seen c.args.links.now.items) in
+    let as_many : most ≡ length c.args.links.now.items = length-map c.args.links.now.items link_seen in
     let now = c.if-place-len in
     elim c.if-place-len.branch [
       | then-place-len w ↦
@@ -34,6 +37,9 @@ loop-place-preserved g c =
                 w.index_mut.ensures.value w.index_mut-then-place-len.ensures.value w.hand_frames.ensures
                 (ap (λ v. v.items) w.stacks-is) (ap (λ v. v.items) w.links-is);
             links = ap (λ v. length v.items) w.links-is ∙ length-set links place w.hand_frames.new.link ∙ inv.links;
+            others =
+                ap (λ v. drop most v.items) w.stacks-is
+                ∙ drop-set-lt most stacks place w.hand_frames.new.stack (omega (arith, inv.end, as_many)) ∙ inv.others;
             end = inv.end;
           }
       | else-place-len w ↦ record {
@@ -42,6 +48,7 @@ loop-place-preserved g c =
             (omega (arith, c.len.ensures, w.if-place-len.false))
             (ap (λ v. v.items) w.stacks-is) (ap (λ v. v.items) w.links-is);
         links = ap (λ v. length v.items) w.links-is ∙ inv.links;
+        others = ap (λ v. drop most v.items) w.stacks-is ∙ inv.others;
         end = inv.end;
       }
     ]

@@ -1,4 +1,4 @@
-use Rattle.std.proofs.Common.{◌≡◌, length, map}
+use Rattle.std.proofs.Common.{◌≡◌, drop, length, map}
 use Rattle.ether_host.specs.Inside.{link_seen}
 use Rattle.segment.specs.Frames.{HearEach, frames_to, hosts_of}
 use Rattle.segment.specs.Inside.{flying}
@@ -12,5 +12,7 @@ invariant-loop-place g l = record {
       (hosts_of l.stacks.items (map link_seen l.links.items))
       l.place;
   links : length l.links.items ≡ length l.fn.links.items;
+  others : drop (length (map link_seen l.fn.links.items)) l.stacks.items
+      ≡ drop (length (map link_seen l.fn.links.items)) l.fn.stacks.items;
   end : l.place-end ≡ length l.fn.links.items;
 }
