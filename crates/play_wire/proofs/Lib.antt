@@ -3,3 +3,5 @@ mod HostLemmas
 mod LinkLemmas
 mod PlayLemmas
 mod RunLemmas
+mod SeedLemmas
+mod WireLemmas

@@ -1,43 +1,61 @@
 -- A line, and what it does.
 use Rattle.std.proofs.Common.{◌≡◌, ◌⊎◌, inl, inr, ℕ, zero, suc, ◌&&◌, Bool, true, false, List, [], ◌∷◌, ◌++◌, arith, Option, Some, refl, sym, ap, ◌∙◌, subst, append-nil}
-use Rattle.std.specs.Prelude.{codes, slice_get, Result, Ok, Err, IfOk}
+use Rattle.std.specs.Prelude.{codes, slice_get, None, MatchResult, Result, Ok, Err}
 use Rattle.play_text.specs.Forms.{is_quiet}
 use Rattle.play_text.specs.Texts.{if_there}
 use Rattle.play_line.specs.Time.{TimedView, timed}
 use Rattle.play_line.specs.declared.fault.Slip.{Slip}
 use Rattle.play_script.specs.Lines.{Reading}
-use Rattle.segment.specs.Law.{Act, AreActs}
+use Rattle.flat_model.specs.Amounts.Choice.{Choice}
+use Rattle.segment.specs.Law.{Act, AreActs, IsAct}
 use Rattle.segment.specs.Segment.{SegmentView}
-use Rattle.play_wire.specs.Acts.{Outcome, Refused, AreLedTo, IsMissing}
+use Rattle.play_wire.specs.Acts.{Outcome, Told, Refused, AreLedTo, IsMissing}
 use Rattle.play_wire.specs.Links.{IsHostLine}
-use Rattle.play_wire.specs.Tells.{WirePlay, IsDone, IsWaited, Tells, TellsLeft, TellsPart, TellsTimed, left_text, next_wire_line}
-use Rattle.flat_model.specs.Scripts.Grammar.{words}
+use Rattle.play_wire.specs.Tells.{WirePlay, DoesLine, IsByHand, IsDone, IsWaited, Tells, TellsPart, TellsTimed, added_by, next_wire_line}
+use Rattle.play_wire.specs.Wires.{AsksWire, Host}
 use Rattle.play_wire.specs.Inside.{came_of}
 use Rattle.play_wire.specs.declared.fault.Fault.{Fault}
 use Rattle.play_wire.specs.declared.fault.Fault.TheVariants as fault
 
-pub done_by_wire : (play : WirePlay) (named : Bool) (host plain : List ℕ) (came : Outcome) (v w : SegmentView)
+pub done_by_wire : (play : WirePlay) (named : Bool) (host words plain : List ℕ) (came : Outcome) (v w : SegmentView)
     (old new : List (List ℕ))
-    → play.segment ≡ v → play.names ≡ old → named ≡ false → AreLedTo v w → (more : List (List ℕ)) × (new ≡ old ++ more)
-    → TellsLeft plain came w
+    → play.segment ≡ v → play.names ≡ old → named ≡ false → words ≡ plain
+    → (acts : List Act) × AreActs v acts w × DoesLine words v acts came w old new
     → (acts : List Act) × IsDone play (if_there named host) plain acts came w new
-done_by_wire play named host plain came v w old new e f is (acts, are) (more, joined) tells = (
-  acts,
-  subst (λ b. IsDone play (if_there b host) plain acts came w new) (sym is) (
-    subst (λ (x : SegmentView). AreActs x acts w) (sym e) are,
-    tells,
-    more,
-    joined
-        ∙ ap (λ (xs : List (List ℕ)). xs ++ more) (sym f),
+done_by_wire play named host words plain came v w old new e f is same (acts, are, does) =
+    let read : DoesLine plain v acts came w old new =
+    subst (λ (line : List ℕ). DoesLine line v acts came w old new) same does in
+    let here : DoesLine plain play.segment acts came w old new =
+    subst (λ (x : SegmentView). DoesLine plain x acts came w old new) (sym e) read in
+    let mine : DoesLine plain play.segment acts came w play.names new =
+    subst (λ (names : List (List ℕ)). DoesLine plain play.segment acts came w names new) (sym f) here in (
+      acts,
+      subst (λ b. IsDone play (if_there b host) plain acts came w new) (sym is)
+          (subst (λ (x : SegmentView). AreActs x acts w) (sym e) are, mine),
+    )
+
+-- a host that joined so, or not
+pub host_added : (name : List ℕ) (settings old new : List (List ℕ)) (came : Result Unit Fault) (told below : List ℕ)
+    → MatchResult came (λ _. new ≡ old ++ name ∷ []) (λ _. new ≡ old)
+    → new ≡ old ++ added_by (Some (Host name settings)) (came_of came told below)
+host_added name settings old new (Ok done) told below is = is
+host_added name settings old new (Err fault) told below is = is ∙ sym (append-nil old)
+
+pub names_kept : (old new : List (List ℕ)) → new ≡ old → new ≡ old ++ []
+names_kept old new is = is ∙ sym (append-nil old)
+
+-- packets under way by hand, which were there or not
+pub by_hand : (v w : SegmentView) (act : Act) (seen there : Bool) (came : Outcome) → IsAct v act w → seen ≡ there
+    → Choice seen (came ≡ Told (codes "ok") []) (came ≡ Refused fault.NoPacket)
+    → (acts : List Act) × AreActs v acts w × IsByHand there act acts came
+by_hand v w act seen there came did same told = (
+  act ∷ [],
+  (w, did, refl),
+  (
+    refl,
+    subst (λ (b : Bool). Choice b (came ≡ Told (codes "ok") []) (came ≡ Refused fault.NoPacket)) same told,
   ),
 )
-
--- what is told of a line `carry` that is answered so
-pub tells_left : (came : Result Unit Fault) (plain words' told below : List ℕ) (w : SegmentView) → words' ≡ plain
-    → ((rest : List (List ℕ)) → words words' ≡ codes "carry" ∷ rest → IfOk came (λ _. told ≡ left_text w))
-    → TellsLeft plain (came_of came told below) w
-tells_left (Ok done) plain words' told below w same tells = λ rest is. tells rest (ap words same ∙ is)
-tells_left (Err fault) plain words' told below w same tells = tt
 
 pub done_by_host : (play : WirePlay) (named : Bool) (host words plain : List ℕ) (came : Outcome) (v w : SegmentView)
     (old : List (List ℕ)) (place : ℕ)
@@ -71,12 +89,12 @@ done_by_none play named host plain v old e f is = (
 
 -- a packet by name comes to no host
 pub done_by_nobody : (play : WirePlay) (named : Bool) (host plain : List ℕ) (v : SegmentView) (old : List (List ℕ))
-    → play.segment ≡ v → play.names ≡ old → named ≡ false
+    → play.segment ≡ v → play.names ≡ old → named ≡ false → AsksWire plain None
     → (acts : List Act) × IsDone play (if_there named host) plain acts (Refused fault.Nothing) v old
-done_by_nobody play named host plain v old e f is = (
+done_by_nobody play named host plain v old e f is none = (
   [],
   subst (λ b. IsDone play (if_there b host) plain [] (Refused fault.Nothing) v old) (sym is)
-      (sym e, tt, [], sym f ∙ sym (append-nil play.names)),
+      (sym e, (None, none, (refl, refl), names_kept play.names old (sym f))),
 )
 
 -- a part of a line that is read so

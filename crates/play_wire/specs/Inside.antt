@@ -11,10 +11,16 @@ use Rattle.play_wire.specs.Acts.{IsMissing, IsStackLine, Outcome, Told, Refused,
 use Rattle.play_wire.specs.Links as links
 use Rattle.play_wire.specs.Links.{DoesLink, IsHostAt, IsHostLine}
 use Rattle.play_wire.specs.Tells.{WirePlay}
+use Rattle.play_wire.specs.Wires as wires
+use Rattle.play_wire.specs.Wires.{AsksAfter}
+use Rattle.script_loop.specs.Left.{left}
 use Rattle.play_wire.specs.declared.fault.Fault.{Fault}
 use Rattle.play_wire.specs.declared.link_ask.LinkAsk.{LinkAsk}
 use Rattle.play_wire.specs.declared.link_ask.LinkAsk.TheVariants.{Frame, LastError, Neighbours, Counts, Ticks, Packets}
 use Rattle.play_wire.specs.declared.target.Target.{Target}
+use Rattle.play_wire.specs.declared.verb.Verb.{Verb}
+use Rattle.play_wire.specs.declared.wire_ask.WireAsk.{WireAsk}
+use Rattle.play_wire.specs.declared.wire_ask.WireAsk.TheVariants as ask
 use Rattle.play_wire.specs.declared.tell_link.Counts.{Counts as HostCounts}
 
 -- the stack of the host at a place is handed over, and this one stands there
@@ -45,6 +51,33 @@ play_with segment names printer = record {
   form = printer.form;
   name = printer.name;
 }
+
+-- ---- the wire
+
+-- what the code's own type for what a line asks of the wire stands for
+abbrev pub wire_asked : WireAsk → wires.WireAsk
+wire_asked (ask.Host name settings) = wires.Host name.now (left settings)
+wire_asked (ask.Wire names) = wires.Wire (left names)
+wire_asked (ask.Carry bound) = wires.Carry bound
+wire_asked ask.Collect = wires.Collect
+wire_asked ask.Deliver = wires.Deliver
+wire_asked (ask.Tick n) = wires.Tick n
+wire_asked (ask.Seed seed) = wires.Seed seed
+wire_asked (ask.Drop at) = wires.Drop at
+wire_asked (ask.Repeat at) = wires.Repeat at
+wire_asked (ask.Swap at other) = wires.Swap at other
+wire_asked (ask.Impair kind words) = wires.Impair kind (left words)
+wire_asked ask.Show = wires.Show
+wire_asked ask.Summary = wires.Summary
+
+abbrev pub wire_asks : Option WireAsk → Option wires.WireAsk
+wire_asks (Some ask) = Some (wire_asked ask)
+wire_asks None = None
+
+-- the words after this one ask for this, or for nothing
+abbrev pub ReadsAfter : Verb → List (List ℕ) → Option WireAsk → Type 0
+ReadsAfter verb args (Some ask) = AsksAfter verb args (wire_asked ask)
+ReadsAfter verb args None = (ask : wires.WireAsk) → AsksAfter verb args ask → ⊥
 
 -- ---- links
 

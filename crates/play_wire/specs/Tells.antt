@@ -1,5 +1,6 @@
 -- What may be told of a line, and what it leads to (this project's own).
-use Rattle.std.specs.Prelude.{◌≡◌, ◌⊎◌, ℕ, ◌-◌, ◌&&◌, ◌||◌, zero, suc, Bool, true, false, List, [], ◌∷◌, ◌++◌, length, codes, decimal, if◌then◌else◌, slice_get, Option, Some, None, Result, Ok, Err}
+use Rattle.std.specs.Prelude.{◌≡◌, ◌⊎◌, ℕ, ◌-◌, ◌&&◌, ◌||◌, zero, suc, Bool, true, false, List, [], ◌∷◌, ◌++◌, length, codes, decimal, if◌then◌else◌, nat_lt, slice_get, Option, Some, None, Result, Ok, Err}
+use Rattle.flat_model.specs.Amounts.Choice.{Choice}
 use Rattle.flat_model.specs.Machine.Count.{more_by}
 use Rattle.play_line.specs.Time.{TimedView, timed}
 use Rattle.play_line.specs.declared.fault.Slip.{Slip}
@@ -8,13 +9,13 @@ use Rattle.play_text.specs.Texts.{fault_text, slip_text}
 use Rattle.play_text.specs.Forms.{is_quiet}
 use Rattle.play_text.specs.declared.form.Form.{Form}
 use Rattle.play_script.specs.Tells.{is_sound, told_text}
-use Rattle.segment.specs.Law.{Act, AreActs}
+use Rattle.segment.specs.Law.{Act, AreActs, Loses, Repeats, Seeds, Swaps}
 use Rattle.segment.specs.Chances.{seeded}
-use Rattle.flat_model.specs.Scripts.Grammar.{words}
 use Rattle.segment.specs.Segment.{SegmentView, is_quiet_segment, no_hosts}
 use Rattle.play_wire.specs.Acts.{IsMissing, Outcome, Told, Refused}
 use Rattle.play_wire.specs.Faults.{IsReason}
 use Rattle.play_wire.specs.Links.{IsHostLine}
+use Rattle.play_wire.specs.Wires.{WireAsk, AsksWire, Host, Wire, Carry, Collect, Deliver, Tick, Seed, Drop, Repeat, Swap, Show}
 use Rattle.play_wire.specs.declared.fault.Fault.TheVariants as fault
 use Rattle.play_wire.specs.declared.hosts.TheConstants.{PACKETS}
 
@@ -73,14 +74,54 @@ abbrev pub left_text : SegmentView → List ℕ
 left_text v =
     if is_quiet_segment v then codes "quiet" else codes "left " ++ decimal (length v.flight) ++ codes " under way"
 
--- if a line `carry` does something, that's what is told of it
-abbrev pub TellsLeft : List ℕ → Outcome → SegmentView → Type 0
-TellsLeft plain (Told told below) segment =
-    (rest : List (List ℕ)) → words plain ≡ codes "carry" ∷ rest → told ≡ left_text segment
-TellsLeft plain (Refused reason) segment = Unit
+-- that is told of a carry; without a wire it's refused, and nothing is done
+abbrev pub TellsLeft : List Act → Outcome → SegmentView → Type 0
+TellsLeft acts (Told told below) segment = told ≡ left_text segment
+TellsLeft acts (Refused reason) segment = (acts ≡ []) × (reason ≡ fault.NoWire)
 
--- A line of a host is that of the host with this name. A line of the wire may add hosts, and `carry` tells what is
--- left.
+-- the same of half a carry, which is told as done
+abbrev pub TellsHalf : List Act → Outcome → Type 0
+TellsHalf acts (Told told below) = (told ≡ codes "ok") × (below ≡ [])
+TellsHalf acts (Refused reason) = (acts ≡ []) × (reason ≡ fault.NoWire)
+
+-- by hand: it's refused if a packet isn't there, or there's no room for a copy
+abbrev pub IsByHand : Bool → Act → List Act → Outcome → Type 0
+IsByHand there act acts outcome =
+    (acts ≡ act ∷ []) × Choice there (outcome ≡ Told (codes "ok") []) (outcome ≡ Refused fault.NoPacket)
+
+-- what is asked of the wire does these acts, which lead from v to w, and comes out so
+abbrev pub DoesWire : WireAsk → SegmentView → List Act → Outcome → SegmentView → Type 0
+DoesWire (Carry bound) v acts outcome w = TellsLeft acts outcome w
+DoesWire Collect v acts outcome w = TellsHalf acts outcome
+DoesWire Deliver v acts outcome w = TellsHalf acts outcome
+DoesWire (Tick n) v acts outcome w = outcome ≡ Told (codes "ok") []
+DoesWire (Seed seed) v acts outcome w = (acts ≡ Seeds seed ∷ []) × (outcome ≡ Told (codes "ok") [])
+DoesWire (Drop at) v acts outcome w = IsByHand (nat_lt at (length v.flight)) (Loses at) acts outcome
+DoesWire (Repeat at) v acts outcome w =
+    IsByHand (nat_lt at (length v.flight) && nat_lt (length v.flight) v.room) (Repeats at) acts outcome
+DoesWire (Swap at other) v acts outcome w =
+    IsByHand (nat_lt at (length v.flight) && nat_lt other (length v.flight)) (Swaps at other) acts outcome
+DoesWire (Wire hosts) v acts outcome w = acts ≡ []
+DoesWire Show v acts outcome w = acts ≡ []
+DoesWire _ v acts outcome w = Unit {0}
+
+-- the name of a host that joined so
+abbrev pub added_by : Option WireAsk → Outcome → List (List ℕ)
+added_by (Some (Host name settings)) (Told told below) = name ∷ []
+added_by _ _ = []
+
+-- nothing is asked, so nothing is done
+abbrev pub DoesAsked : Option WireAsk → SegmentView → List Act → Outcome → SegmentView → Type 0
+DoesAsked (Some ask) v acts outcome w = DoesWire ask v acts outcome w
+DoesAsked None v acts outcome w = (acts ≡ []) × (outcome ≡ Refused fault.Nothing)
+
+-- a line of the wire does these acts, and comes out so; the names of the hosts before and after it
+abbrev pub DoesLine : List ℕ → SegmentView → List Act → Outcome → SegmentView → List (List ℕ) → List (List ℕ) → Type 0
+DoesLine plain v acts outcome w names after =
+    (ask : Option WireAsk) × AsksWire plain ask × DoesAsked ask v acts outcome w
+    × (after ≡ names ++ added_by ask outcome)
+
+-- A line of a host is that of the host with this name. Another line is one of the wire.
 abbrev pub IsDone : WirePlay → Option (List ℕ) → List ℕ → List Act → Outcome → SegmentView → List (List ℕ) → Type 0
 IsDone now (Some host) plain acts outcome segment names =
     (names ≡ now.names)
@@ -89,8 +130,7 @@ IsDone now (Some host) plain acts outcome segment names =
     ⊎ IsMissing place now.segment acts outcome segment))
     ⊎ ((acts ≡ []) × (segment ≡ now.segment) × (outcome ≡ Refused fault.NoHost)))
 IsDone now None plain acts outcome segment names =
-    AreActs now.segment acts segment × TellsLeft plain outcome segment
-    × (more : List (List ℕ)) × (names ≡ now.names ++ more)
+    AreActs now.segment acts segment × DoesLine plain now.segment acts outcome segment now.names names
 
 -- what a line does that asks for something
 abbrev pub TellsAsked : WirePlay → Option (List ℕ) → List ℕ → List ℕ → Option (List ℕ) → List Act → List ℕ → WirePlay

@@ -6,14 +6,8 @@ use crate::capture::{Capture, collect};
 use crate::halves::deliver;
 use crate::log::Log;
 use crate::names::NAME;
-use script_loop::{Buffer, Sink, first_word, number, one};
+use script_loop::{Buffer, Sink};
 use segment::Segment;
-
-/// The most carries that a line asks for.
-const MOST: u32 = 1_000_000;
-
-/// The most carries of `carry all` if it doesn't say another number.
-const ALL: u32 = 1000;
 
 /// How many carries a line asks for.
 #[derive(Clone, Copy)]
@@ -22,21 +16,6 @@ pub(crate) enum Bound {
     Times(u32),
     /// Until nothing is left, and at most so many.
     Quiet(u32),
-}
-
-/// How many carries the words after `carry` ask for.
-pub(crate) fn bound_of(rest: Option<&[u8]>) -> Option<Bound> {
-    let Some(words) = rest else {
-        return Some(Bound::Times(1));
-    };
-    let (word, after) = first_word(words);
-    if word != b"all".as_slice() {
-        return Some(Bound::Times(number(one(rest)?, MOST)?));
-    }
-    match after {
-        Some(_) => Some(Bound::Quiet(number(one(after)?, MOST)?)),
-        None => Some(Bound::Quiet(ALL)),
-    }
 }
 
 /// Carries so often. What becomes of each packet is told. Hosts on an Ethernet give what they have before, and

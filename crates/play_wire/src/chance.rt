@@ -1,4 +1,5 @@
 //! The chances that a line sets.
+use crate::verb::Verb;
 use script_loop::number;
 use segment::Chances;
 
@@ -120,13 +121,13 @@ fn delay_in(word: &[u8]) -> Option<Part> {
     Some(Part::Delay(least, most.checked_sub(least)?))
 }
 
-/// What a line that begins with this word sets to this value.
-pub(crate) fn part_in(word: &[u8], value: &[u8]) -> Option<Part> {
-    match word {
-        b"loss" => Some(Part::Loss(chance_in(value)?)),
-        b"repeat" => Some(Part::Repeat(chance_in(value)?)),
-        b"reorder" => Some(Part::Reorder(chance_in(value)?)),
-        b"delay" => delay_in(value),
+/// What a line of this kind sets to this value.
+pub(crate) fn part_in(kind: Verb, value: &[u8]) -> Option<Part> {
+    match kind {
+        Verb::Loss => Some(Part::Loss(chance_in(value)?)),
+        Verb::Repeat => Some(Part::Repeat(chance_in(value)?)),
+        Verb::Reorder => Some(Part::Reorder(chance_in(value)?)),
+        Verb::Delay => delay_in(value),
         _ => None,
     }
 }

@@ -1,5 +1,5 @@
 //! The hosts of a script, and the wire that joins them.
-ghost use Rattle.std.specs.Prelude.{◌≡◌, ◌≤◌, ◌++◌, ℕ, List, [], IfOk, IfSome, length};
+ghost use Rattle.std.specs.Prelude.{◌≡◌, ◌≤◌, ◌++◌, ◌∷◌, [], IfOk, IfSome, MatchResult, length};
 ghost use Rattle.segment.specs.Inside.{view};
 ghost use Rattle.segment.specs.Chances.{seeded};
 ghost use Rattle.segment.specs.Segment.{no_hosts};
@@ -145,16 +145,11 @@ impl<T: Sink + Drop> Hosts<T> {
         }
     }
 
-    /// The host that a line `host NAME ..` tells: its name, its link and its settings. Refused in this order: it has no
-    /// name, or the word isn't one; there is a wire already; a host has the name; and what `link_of`, `config_of` and
-    /// `check_link` refuse.
-    fn host_of<'a>(&self, rest: Option<&'a [u8]>) -> Result<(&'a [u8], Option<Link>, Config), Fault>
-        ensures { IfOk result (λ r. length r.0.now ≤ NAME) }
+    /// The link and the settings of a host that a line `host NAME ..` tells. Refused in this order: the word isn't a
+    /// name; there is a wire already; a host has the name; and what `link_of`, `config_of` and `check_link` refuse.
+    fn host_of(&self, name: &[u8], words: Option<&[u8]>) -> Result<(Option<Link>, Config), Fault>
+        ensures { IfOk result (λ _. length name.now ≤ NAME) }
     {
-        let Some(words) = rest else {
-            return Err(Fault::NoName);
-        };
-        let (name, settings) = first_word(words);
         if !is_name(name) {
             return Err(Fault::NoName);
         }
@@ -164,16 +159,16 @@ impl<T: Sink + Drop> Hosts<T> {
         if place_of(self.names.as_slice(), name).is_some() {
             return Err(Fault::NameTaken);
         }
-        let (link, config) = settings_in(settings, self.names.len())?;
-        Ok((name, link, config))
+        settings_in(words, self.names.len())
     }
 
     /// `host NAME ..`: a host with this link and these settings has the next place.
-    pub(crate) fn add(&mut self, rest: Option<&[u8]>) -> Result<(), Fault>
+    pub(crate) fn add(&mut self, name: &[u8], words: Option<&[u8]>) -> Result<(), Fault>
         ensures moves { AreLedTo (view self.old.segment) (view self.new.segment) }
-        ensures names { (more : List (List ℕ)) × (self.new.names.items ≡ self.old.names.items ++ more) }
+        ensures names { MatchResult result (λ _. self.new.names.items ≡ self.old.names.items ++ name.now ∷ [])
+            (λ _. self.new.names.items ≡ self.old.names.items) }
     {
-        let (name, link, config) = self.host_of(rest)?;
+        let (link, config) = self.host_of(name, words)?;
         let Ok(mut buffer) = Buffer::new(self.alloc) else {
             return Err(Fault::Setting(SettingFault::Memory));
         };

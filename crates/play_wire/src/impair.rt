@@ -7,9 +7,9 @@ use crate::chance::{Part, part_in};
 use crate::fault::Fault;
 use crate::hosts::Hosts;
 use crate::names::place_of;
+use crate::verb::Verb;
 use script_loop::{Sink, first_word, one};
 use segment::Segment;
-use std::str;
 
 /// Sets this of what the host at a place sends.
 fn set(segment: &mut Segment, place: usize, part: Part)
@@ -29,17 +29,9 @@ fn set_all(segment: &mut Segment, part: Part)
     }
 }
 
-/// The seed that a word writes.
-fn seed_in(word: &[u8]) -> Option<u64> {
-    let Ok(text) = str::from_utf8(word) else {
-        return None;
-    };
-    text.parse::<u64>().ok()
-}
-
 impl<T: Sink + Drop> Hosts<T> {
     /// `loss C`, `repeat C`, `reorder C`, `delay A-B`: of what all hosts send, or, with `from NAME`, of what one sends.
-    pub(crate) fn impair(&mut self, word: &[u8], rest: Option<&[u8]>) -> Result<(), Fault>
+    pub(crate) fn impair(&mut self, kind: Verb, rest: Option<&[u8]>) -> Result<(), Fault>
         ensures moves { AreLedTo (view self.old.segment) (view self.new.segment) }
         ensures names { self.new.names ≡ self.old.names }
     {
@@ -47,7 +39,7 @@ impl<T: Sink + Drop> Hosts<T> {
             return Err(Fault::NoChance);
         };
         let (value, after) = first_word(words);
-        let Some(part) = part_in(word, value) else {
+        let Some(part) = part_in(kind, value) else {
             return Err(Fault::NoChance);
         };
         let Some(words) = after else {
@@ -68,20 +60,5 @@ impl<T: Sink + Drop> Hosts<T> {
             }
             None => Err(Fault::NoHost),
         }
-    }
-
-    /// `seed N`.
-    pub(crate) fn seed(&mut self, rest: Option<&[u8]>) -> Result<(), Fault>
-        ensures moves { AreLedTo (view self.old.segment) (view self.new.segment) }
-        ensures names { self.new.names ≡ self.old.names }
-    {
-        let Some(word) = one(rest) else {
-            return Err(Fault::Nothing);
-        };
-        let Some(seed) = seed_in(word) else {
-            return Err(Fault::Nothing);
-        };
-        self.segment.seed(seed);
-        Ok(())
     }
 }

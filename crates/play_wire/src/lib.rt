@@ -4,7 +4,6 @@
 #![tactic(auto)]
 
 mod add;
-mod by_hand;
 mod capture;
 mod carries;
 mod chance;
@@ -13,6 +12,7 @@ mod halves;
 mod host_line;
 mod hosts;
 mod impair;
+mod laws;
 mod link;
 mod link_ask;
 mod link_count;
@@ -28,8 +28,11 @@ mod summary;
 mod target;
 mod tell_link;
 mod ticks;
+mod verb;
 mod verdict;
+mod wire_ask;
 mod wire_line;
 
+pub use laws::asks_law;
 pub use play_pcap::Nowhere;
 pub use runs::{PlayedHosts, Start, play_hosts};

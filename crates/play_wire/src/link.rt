@@ -1,5 +1,5 @@
 //! The words of a line `host` that tell the link of a host on an Ethernet.
-ghost use Rattle.std.specs.Prelude.{◌≤◌, length};
+ghost use Rattle.std.specs.Prelude.{◌≡◌, ◌≤◌, [], drop, get_or, length};
 ghost use Rattle.script_loop.specs.Left.{left};
 
 use crate::fault::Fault;
@@ -96,8 +96,10 @@ fn with_word(link: Link, name: &[u8], value: &[u8]) -> Result<Link, Fault> {
 }
 
 /// The word after a name, which is empty if none is left, and what is left after it.
-fn value_in(rest: Option<&[u8]>) -> (&[u8], Option<&[u8]>)
-    ensures { length (left result.1) ≤ length (left rest.entry) }
+pub(crate) fn value_in(rest: Option<&[u8]>) -> (&[u8], Option<&[u8]>)
+    ensures word { result.0.now ≡ get_or (left rest.entry) 0 [] }
+    ensures rest { left result.1 ≡ drop 1 (left rest.entry) }
+    ensures shorter { length (left result.1) ≤ length (left rest.entry) }
 {
     match rest {
         Some(words) => first_word(words),

@@ -1,25 +1,26 @@
 //! The lines of the wire.
-ghost use Rattle.std.specs.Prelude.{◌≡◌, ◌++◌, ◌∷◌, ℕ, List, IfOk, codes};
+ghost use Rattle.std.specs.Prelude.{◌≡◌, ◌++◌, List, [], Some, codes};
+ghost use Rattle.flat_model.specs.Amounts.Choice.{Choice};
 ghost use Rattle.segment.specs.Inside.{view};
-ghost use Rattle.flat_model.specs.Scripts.Grammar as line;
-ghost use Rattle.play_wire.specs.Acts.{AreLedTo};
-ghost use Rattle.segment.specs.Law.{Act};
-ghost use Rattle.play_wire.specs.Tells.{IsWaited, left_text};
+ghost use Rattle.segment.specs.Law.{Act, AreActs};
+ghost use Rattle.play_wire.specs.Acts.{AreLedTo, Told, Refused};
+ghost use Rattle.play_wire.specs.Inside.{came_of, wire_asked};
+ghost use Rattle.play_wire.specs.Tells.{DoesLine, DoesWire, IsWaited, TellsHalf, TellsLeft, added_by, left_text};
+ghost use Rattle.play_wire.specs.declared.fault.Fault.TheVariants as fault;
 
 use crate::add::add;
-use crate::by_hand::{by_hand_in, do_by_hand};
 use crate::capture::collect;
-use crate::carries::{Bound, bound_of, carry};
+use crate::carries::{Bound, carry};
 use crate::fault::Fault;
 use crate::halves::deliver;
 use crate::hosts::Hosts;
-use crate::link_ask::ticks_in;
 use crate::passed::{add_all, take_counts};
 use crate::show::tell_wire;
 use crate::summary::tell_summary;
 use crate::ticks::tick_all;
+use crate::wire_ask::{WireAsk, wire_ask_of};
 use play_script::{Report, TOLD, bytes_of};
-use script_loop::{Buffer, Sink, first_word, is_end};
+use script_loop::{Buffer, Sink};
 use segment::Segment;
 
 /// Puts into a text what is left on the wire.
@@ -37,46 +38,28 @@ fn tell_left(told: &mut Buffer<TOLD>, segment: &Segment)
     told.append(b" under way");
 }
 
-/// What a line of the wire asks, but for `carry`.
-#[derive(Clone, Copy)]
-enum Verb {
-    Host,
-    Wire,
-    Half,
-    Tick,
-    Seed,
-    ByHand,
-    Repeat,
-    Impair,
-}
-
-/// The words that lines of the wire begin with.
-static VERBS: [(&[u8], Verb); 12] = [
-    (b"host", Verb::Host),
-    (b"wire", Verb::Wire),
-    (b"collect", Verb::Half),
-    (b"deliver", Verb::Half),
-    (b"tick", Verb::Tick),
-    (b"seed", Verb::Seed),
-    (b"drop", Verb::ByHand),
-    (b"swap", Verb::ByHand),
-    (b"repeat", Verb::Repeat),
-    (b"loss", Verb::Impair),
-    (b"reorder", Verb::Impair),
-    (b"delay", Verb::Impair),
-];
-
-/// The verb that a line begins with.
-fn verb_of(word: &[u8]) -> Option<Verb> {
-    'verbs: for (name, verb) in &VERBS {
-        if word == *name {
-            return Some(*verb);
-        }
+/// Reports `ok` if all packets were there, and there was room for a copy.
+fn tell_there(there: bool, report: &mut Report) -> Result<(), Fault>
+    ensures { Choice there (came_of result report.new.told report.new.below ≡ Told (codes "ok") [])
+        (came_of result report.new.told report.new.below ≡ Refused fault.NoPacket) }
+{
+    if !there {
+        return Err(Fault::NoPacket);
     }
-    None
+    report.tell_ok();
+    Ok(())
 }
 
 impl<T: Sink + Drop> Hosts<T> {
+    /// Lets so many ticks pass at each host.
+    fn tick(&mut self, count: u32)
+        ensures moves { AreLedTo (view self.old.segment) (view self.new.segment) }
+        ensures names { self.new.names ≡ self.old.names }
+    {
+        tick_all(&mut self.segment, &mut self.spare.stack, count);
+        self.capture.tick(count);
+    }
+
     /// Lets so many ticks pass at each host before a line.
     pub(crate) fn wait(&mut self, ticks: u32)
         ensures waited { (acts : List Act) × IsWaited ticks (view self.old.segment) acts (view self.new.segment) }
@@ -85,8 +68,7 @@ impl<T: Sink + Drop> Hosts<T> {
         if ticks == 0 {
             return;
         }
-        tick_all(&mut self.segment, &mut self.spare.stack, ticks);
-        self.capture.tick(ticks);
+        self.tick(ticks);
     }
 
     /// Carries so often, and reports what became of each packet. Nothing of it is reported if the report is quiet.
@@ -119,148 +101,134 @@ impl<T: Sink + Drop> Hosts<T> {
         add(&mut report.below, bytes_of(&self.log.text));
     }
 
-    /// `carry ..`.
-    fn carry(&mut self, rest: Option<&[u8]>, report: &mut Report) -> Result<(), Fault>
-        ensures moves { AreLedTo (view self.old.segment) (view self.new.segment) }
+    /// `carry ..`: what waits for the links passes, and what is left is told.
+    fn carry(&mut self, bound: Bound, report: &mut Report) -> Result<(), Fault>
+        ensures carries { (acts : List Act) × AreActs (view self.old.segment) acts (view self.new.segment)
+            × TellsLeft acts (came_of result report.new.told report.new.below) (view self.new.segment) }
         ensures names { self.new.names ≡ self.old.names }
-        ensures left { IfOk result (λ _. report.new.told ≡ left_text (view self.new.segment)) }
     {
-        let Some(bound) = bound_of(rest) else {
-            return Err(Fault::Nothing);
-        };
         if !self.wired {
             return Err(Fault::NoWire);
         }
+        report.below.clear();
         self.pass(bound, report);
         tell_left(&mut report.told, &self.segment);
         Ok(())
     }
 
-    /// `tick` or `tick N`: all hosts.
-    fn tick(&mut self, words: &[u8]) -> Result<(), Fault>
-        ensures moves { AreLedTo (view self.old.segment) (view self.new.segment) }
+    /// `collect`: what waits for the links goes on the wire.
+    fn collect(&mut self, report: &mut Report) -> Result<(), Fault>
+        ensures collects { (acts : List Act) × AreActs (view self.old.segment) acts (view self.new.segment)
+            × TellsHalf acts (came_of result report.new.told report.new.below) }
         ensures names { self.new.names ≡ self.old.names }
     {
-        let Some(count) = ticks_in(words) else {
-            return Err(Fault::Nothing);
-        };
-        tick_all(&mut self.segment, &mut self.spare.stack, count);
-        self.capture.tick(count);
-        Ok(())
-    }
-
-    /// `collect` or `deliver`: the halves of a carry.
-    fn half(&mut self, word: &[u8], rest: Option<&[u8]>) -> Result<(), Fault>
-        ensures moves { AreLedTo (view self.old.segment) (view self.new.segment) }
-        ensures names { self.new.names ≡ self.old.names }
-    {
-        if !is_end(rest) {
-            return Err(Fault::Nothing);
-        }
         if !self.wired {
             return Err(Fault::NoWire);
         }
         self.log.begin(true);
-        if word == b"collect".as_slice() {
-            collect(&mut self.capture, &mut self.segment, &mut self.log);
-        } else {
-            deliver(&mut self.segment, &mut self.log);
-        }
+        collect(&mut self.capture, &mut self.segment, &mut self.log);
+        report.tell_ok();
         Ok(())
     }
 
-    /// `drop I`, `repeat I` or `swap I J`.
-    fn by_hand(&mut self, word: &[u8], rest: Option<&[u8]>) -> Result<(), Fault>
+    /// `deliver`: what is due comes.
+    fn deliver(&mut self, report: &mut Report) -> Result<(), Fault>
+        ensures delivers { (acts : List Act) × AreActs (view self.old.segment) acts (view self.new.segment)
+            × TellsHalf acts (came_of result report.new.told report.new.below) }
+        ensures names { self.new.names ≡ self.old.names }
+    {
+        if !self.wired {
+            return Err(Fault::NoWire);
+        }
+        self.log.begin(true);
+        deliver(&mut self.segment, &mut self.log);
+        report.tell_ok();
+        Ok(())
+    }
+
+    /// `show wire`: what is under way is told.
+    fn show_wire(&self, report: &mut Report) {
+        report.told.clear();
+        report.below.clear();
+        tell_wire(
+            &self.segment,
+            self.names.as_slice(),
+            &mut report.told,
+            &mut report.below,
+        );
+    }
+
+    /// `summary`: what was counted of each host is told.
+    fn summary(&mut self, report: &mut Report)
         ensures moves { AreLedTo (view self.old.segment) (view self.new.segment) }
         ensures names { self.new.names ≡ self.old.names }
     {
-        match by_hand_in(word, rest) {
-            Some(what) => do_by_hand(&mut self.segment, what),
+        report.tell_ok();
+        tell_summary(
+            &mut self.segment,
+            &mut self.spare.stack,
+            self.names.as_slice(),
+            &mut report.below,
+        );
+    }
+
+    /// Does what a line asks that names no host, and reports what is told of it.
+    fn answer_ask(&mut self, ask: WireAsk<'_>, report: &mut Report) -> Result<(), Fault>
+        ensures does { (acts : List Act) × AreActs (view self.old.segment) acts (view self.new.segment)
+            × DoesWire (wire_asked ask.entry) (view self.old.segment) acts
+            (came_of result report.new.told report.new.below) (view self.new.segment) }
+        ensures names { self.new.names.items ≡ self.old.names.items ++ added_by (Some (wire_asked ask.entry))
+            (came_of result report.new.told report.new.below) }
+    {
+        match ask {
+            WireAsk::Host(name, words) => {
+                report.tell_ok();
+                self.add(name, words)
+            }
+            WireAsk::Wire(names) => {
+                report.tell_ok();
+                self.wire(names)
+            }
+            WireAsk::Carry(bound) => self.carry(bound, report),
+            WireAsk::Collect => self.collect(report),
+            WireAsk::Deliver => self.deliver(report),
+            WireAsk::Tick(count) => {
+                self.tick(count);
+                report.tell_ok();
+                Ok(())
+            }
+            WireAsk::Seed(seed) => {
+                self.segment.seed(seed);
+                report.tell_ok();
+                Ok(())
+            }
+            WireAsk::Drop(at) => tell_there(self.segment.lose(at), report),
+            WireAsk::Repeat(at) => tell_there(self.segment.repeat(at), report),
+            WireAsk::Swap(at, other) => tell_there(self.segment.swap(at, other), report),
+            WireAsk::Impair(kind, words) => {
+                report.tell_ok();
+                self.impair(kind, words)
+            }
+            WireAsk::Show => {
+                self.show_wire(report);
+                Ok(())
+            }
+            WireAsk::Summary => {
+                self.summary(report);
+                Ok(())
+            }
+        }
+    }
+
+    /// Does what a plain line asks that names no host, and reports what is told of it.
+    pub(crate) fn answer_wire(&mut self, plain: &[u8], report: &mut Report) -> Result<(), Fault>
+        ensures { (acts : List Act) × AreActs (view self.old.segment) acts (view self.new.segment)
+            × DoesLine plain.now (view self.old.segment) acts (came_of result report.new.told report.new.below)
+            (view self.new.segment) self.old.names.items self.new.names.items }
+    {
+        match wire_ask_of(plain) {
+            Some(ask) => self.answer_ask(ask, report),
             None => Err(Fault::Nothing),
         }
-    }
-
-    /// `repeat I` by hand, or `repeat C`, which is a chance.
-    fn repeat(&mut self, rest: Option<&[u8]>) -> Result<(), Fault>
-        ensures moves { AreLedTo (view self.old.segment) (view self.new.segment) }
-        ensures names { self.new.names ≡ self.old.names }
-    {
-        match by_hand_in(b"repeat", rest) {
-            Some(what) => do_by_hand(&mut self.segment, what),
-            None => self.impair(b"repeat", rest),
-        }
-    }
-
-    /// Does what a line asks that names no host, but for `carry`.
-    fn do_line(&mut self, words: &[u8]) -> Result<(), Fault>
-        ensures moves { AreLedTo (view self.old.segment) (view self.new.segment) }
-        ensures names { (more : List (List ℕ)) × (self.new.names.items ≡ self.old.names.items ++ more) }
-    {
-        let (word, rest) = first_word(words);
-        let Some(verb) = verb_of(word) else {
-            return Err(Fault::Nothing);
-        };
-        match verb {
-            Verb::Host => self.add(rest),
-            Verb::Wire => self.wire(rest),
-            Verb::Half => self.half(word, rest),
-            Verb::Tick => self.tick(words),
-            Verb::Seed => self.seed(rest),
-            Verb::ByHand => self.by_hand(word, rest),
-            Verb::Repeat => self.repeat(rest),
-            Verb::Impair => self.impair(word, rest),
-        }
-    }
-
-    /// `show wire` and `summary`: puts what is told into the report. Whether a line asks for one of them.
-    fn tell(&mut self, words: &[u8], report: &mut Report) -> bool
-        ensures moves { AreLedTo (view self.old.segment) (view self.new.segment) }
-        ensures names { self.new.names ≡ self.old.names }
-    {
-        let names = self.names.as_slice();
-        if words == b"show wire".as_slice() {
-            tell_wire(&self.segment, names, &mut report.told, &mut report.below);
-            return true;
-        }
-        if words == b"summary".as_slice() {
-            tell_summary(
-                &mut self.segment,
-                &mut self.spare.stack,
-                names,
-                &mut report.below,
-            );
-            return true;
-        }
-        false
-    }
-
-    /// Does what a line asks that names no host, but for `carry`, and puts what is told of it into the report.
-    fn answer_other(&mut self, words: &[u8], report: &mut Report) -> Result<(), Fault>
-        ensures moves { AreLedTo (view self.old.segment) (view self.new.segment) }
-        ensures names { (more : List (List ℕ)) × (self.new.names.items ≡ self.old.names.items ++ more) }
-    {
-        report.told.clear();
-        if !self.tell(words, report) {
-            self.do_line(words)?;
-        }
-        if report.told.is_empty() {
-            report.told.append(b"ok");
-        }
-        Ok(())
-    }
-
-    /// Does what a line asks that names no host, and puts what is told of it into the report.
-    pub(crate) fn answer_wire(&mut self, words: &[u8], report: &mut Report) -> Result<(), Fault>
-        ensures moves { AreLedTo (view self.old.segment) (view self.new.segment) }
-        ensures names { (more : List (List ℕ)) × (self.new.names.items ≡ self.old.names.items ++ more) }
-        ensures left { (rest : List (List ℕ)) → line.words words.now ≡ codes "carry" ∷ rest
-            → IfOk result (λ _. report.new.told ≡ left_text (view self.new.segment)) }
-    {
-        report.below.clear();
-        let (word, rest) = first_word(words);
-        if word == b"carry".as_slice() {
-            return self.carry(rest, report);
-        }
-        self.answer_other(words, report)
     }
 }

@@ -1,8 +1,10 @@
 use Rattle.std.proofs.Common.{refl}
+use Rattle.flat_model.specs.Scripts.Texts.{hex_text}
 use Rattle.segment.specs.Inside.{view}
 use Rattle.play_script.specs.Views.{plain_line}
 use Rattle.play_wire.specs.Inside.{came_of}
-use Rattle.play_wire.proofs.PlayLemmas.{done_by_host, done_by_nobody, done_by_none, done_by_wire, tells_left}
+use Rattle.play_wire.proofs.PlayLemmas.{done_by_host, done_by_nobody, done_by_none, done_by_wire}
+use Rattle.play_wire.proofs.WireLemmas.{packet_asks_none}
 use Rattle.play_wire.proofs.player.answer_words.Goals as goal
 
 pub returns-in-Some : goal.returns-in-Some
@@ -25,15 +27,12 @@ pub returns-then-line : goal.returns-then-line
 returns-then-line g c play e f loud =
     done_by_nobody play c.args.target.now.named c.args.target.now.host (plain_line c.args.line.now)
     (view c.args.hosts.now.segment) c.args.hosts.now.names.items e f c.if-target.false
+    (packet_asks_none c.args.line.now.named (hex_text c.args.line.now.packet) c.args.line.now.words c.if-line.true)
 
 pub returns-else-line : goal.returns-else-line
 returns-else-line g c play e f loud = rw c.if-line.false
-    (done_by_wire play c.args.target.now.named c.args.target.now.host c.args.line.now.words
+    (done_by_wire play c.args.target.now.named c.args.target.now.host c.bytes_of.result.now c.args.line.now.words
     (came_of c.answer_wire.result c.answer_wire.new.report.told c.answer_wire.new.report.below)
     (view c.args.hosts.now.segment)
     (view c.answer_wire.new.self.segment) c.args.hosts.now.names.items c.answer_wire.new.self.names.items e f
-    c.if-target.false
-    c.answer_wire.ensures.moves c.answer_wire.ensures.names
-    (tells_left c.answer_wire.result c.args.line.now.words c.bytes_of.result.now c.answer_wire.new.report.told
-    c.answer_wire.new.report.below
-    (view c.answer_wire.new.self.segment) c.bytes_of.ensures.is c.answer_wire.ensures.left))
+    c.if-target.false c.bytes_of.ensures.is c.answer_wire.ensures)

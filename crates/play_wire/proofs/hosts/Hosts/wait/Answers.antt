@@ -8,5 +8,5 @@ returns-then-ticks-eq0-clause-waited g c =
 
 pub returns-clause-waited : goal.returns-clause-waited
 returns-clause-waited g c =
-    waited_some c.args.ticks (view c.args.self.now.segment) (view c.tick_all.new.segment) c.if-ticks-eq0.false
-    c.tick_all.ensures
+    waited_some c.args.ticks (view c.args.self.now.segment) (view c.tick.new.self.segment) c.if-ticks-eq0.false
+    c.tick.ensures.moves

@@ -1,0 +1,6 @@
+use Rattle.script_loop.specs.Left.{left}
+use Rattle.play_wire.proofs.WireLemmas.{no_drop}
+use Rattle.play_wire.proofs.wire_ask.drop_of.Goals as goal
+
+pub returns-in_err-one_number : goal.returns-in_err-one_number
+returns-in_err-one_number c = rw c.from_residual.ensures (no_drop (left c.args.rest) c.in_err-one_number.ensures)

@@ -1,0 +1,74 @@
+-- What a line asks of the wire (this project's own).
+use Rattle.std.specs.Prelude.{◌≡◌, ◌⊎◌, ◌<◌, ◌^◌, ℕ, List, [], ◌∷◌, codes, drop, get_or, Option, Some, None}
+use Rattle.std.specs.Str.Parse.{IsNumeral, digits_value, without_leading_plus}
+use Rattle.flat_model.specs.Scripts.Grammar.{words, IsNumber}
+use Rattle.play_wire.specs.Verbs.{word_of, IsOneNumber, IsTickCount}
+use Rattle.play_wire.specs.declared.carries.Bound.{Bound}
+use Rattle.play_wire.specs.declared.carries.Bound.TheVariants.{Times, Quiet}
+use Rattle.play_wire.specs.declared.verb.Verb.{Verb}
+use Rattle.play_wire.specs.declared.verb.Verb.TheVariants as verb
+
+pub data WireAsk : Type 0 where
+  Host : (name : List ℕ) (settings : List (List ℕ)) → WireAsk  -- a host of this name joins, with this link and settings
+  Wire : (names : List (List ℕ)) → WireAsk  -- the hosts of these names are joined
+  Carry : (bound : Bound) → WireAsk  -- what waits for the links passes
+  Collect : WireAsk  -- what waits for the links goes on the wire
+  Deliver : WireAsk  -- what is due comes
+  Tick : (n : ℕ) → WireAsk  -- so many ticks of each host
+  Seed : (seed : ℕ) → WireAsk  -- the choices start with this seed
+  Drop : (at : ℕ) → WireAsk  -- a packet under way is lost
+  Repeat : (at : ℕ) → WireAsk  -- it goes twice
+  Swap : (at other : ℕ) → WireAsk  -- two change places
+  Impair : (kind : Verb) (words : List (List ℕ)) → WireAsk  -- a chance or a delay is set, by these words
+  Show : WireAsk  -- what is under way is shown
+  Summary : WireAsk  -- what was counted of each host is told
+
+-- once, or so often; until nothing is left, and at most 1,000 or so many times
+abbrev pub IsBound : List (List ℕ) → Bound → Type 0
+IsBound args (Times n) = ((args ≡ []) × (n ≡ 1)) ⊎ IsOneNumber 1000000 args n
+IsBound args (Quiet n) =
+    ((args ≡ codes "all" ∷ []) × (n ≡ 1000))
+    ⊎ ((word : List ℕ) × (args ≡ codes "all" ∷ word ∷ []) × IsNumber 1000000 word n)
+
+-- decimal digits, behind a plus or not, of a number of 64 bits
+abbrev pub IsSeed : List (List ℕ) → ℕ → Type 0
+IsSeed args seed =
+    (word : List ℕ) × (args ≡ word ∷ []) × IsNumeral 10 (without_leading_plus word)
+    × (digits_value 10 (without_leading_plus word) < 2 ^ 64) × (seed ≡ digits_value 10 (without_leading_plus word))
+
+abbrev pub ArePlaces : List (List ℕ) → ℕ → ℕ → Type 0
+ArePlaces args at other =
+    (first second : List ℕ) × (args ≡ first ∷ second ∷ []) × IsNumber 65535 first at × IsNumber 65535 second other
+
+-- the words after this one ask for this
+abbrev pub AsksAfter : Verb → List (List ℕ) → WireAsk → Type 0
+-- a name that is missing is an empty word
+AsksAfter verb.Host args (Host name settings) = (name ≡ get_or args 0 []) × (settings ≡ drop 1 args)
+AsksAfter verb.Wire args (Wire names) = names ≡ args
+AsksAfter verb.Carry args (Carry bound) = IsBound args bound
+AsksAfter verb.Collect args Collect = args ≡ []
+AsksAfter verb.Deliver args Deliver = args ≡ []
+AsksAfter verb.Tick args (Tick n) = IsTickCount args n
+AsksAfter verb.Seed args (Seed seed) = IsSeed args seed
+AsksAfter verb.Drop args (Drop at) = IsOneNumber 65535 args at
+AsksAfter verb.Swap args (Swap at other) = ArePlaces args at other
+AsksAfter verb.Repeat args (Repeat at) = IsOneNumber 65535 args at
+-- what is no place is a chance
+AsksAfter verb.Repeat args (Impair kind words) =
+    ((at : ℕ) → ¬ IsOneNumber 65535 args at) × (kind ≡ verb.Repeat) × (words ≡ args)
+AsksAfter verb.Loss args (Impair kind words) = (kind ≡ verb.Loss) × (words ≡ args)
+AsksAfter verb.Reorder args (Impair kind words) = (kind ≡ verb.Reorder) × (words ≡ args)
+AsksAfter verb.Delay args (Impair kind words) = (kind ≡ verb.Delay) × (words ≡ args)
+AsksAfter verb.Show args Show = args ≡ codes "wire" ∷ []
+AsksAfter verb.Summary args Summary = args ≡ []
+AsksAfter _ _ _ = ⊥
+
+-- the line asks for this
+abbrev pub WritesWire : List ℕ → WireAsk → Type 0
+WritesWire plain ask =
+    (verb : Verb) × (args : List (List ℕ)) × (words plain ≡ word_of verb ∷ args) × AsksAfter verb args ask
+
+-- what it asks for, if it asks for anything
+abbrev pub AsksWire : List ℕ → Option WireAsk → Type 0
+AsksWire plain (Some ask) = WritesWire plain ask
+AsksWire plain None = (ask : WireAsk) → ¬ WritesWire plain ask

@@ -1,0 +1,47 @@
+//! The words that lines of the wire begin with.
+ghost use Rattle.std.specs.Prelude.{◌≡◌, MatchOption};
+ghost use Rattle.play_wire.specs.Verbs.{word_of};
+
+/// The word that a line of the wire begins with.
+#[derive(Clone, Copy)]
+pub(crate) enum Verb {
+    Host,
+    Wire,
+    Carry,
+    Collect,
+    Deliver,
+    Tick,
+    Seed,
+    Drop,
+    Repeat,
+    Swap,
+    Loss,
+    Reorder,
+    Delay,
+    Show,
+    Summary,
+}
+
+/// The verb that this word is.
+pub(crate) fn verb_of(word: &[u8]) -> Option<Verb>
+    ensures { MatchOption result ((verb : Verb) → word.now ≡ word_of verb → ⊥) (λ verb. word.now ≡ word_of verb) }
+{
+    match word {
+        b"host" => Some(Verb::Host),
+        b"wire" => Some(Verb::Wire),
+        b"carry" => Some(Verb::Carry),
+        b"collect" => Some(Verb::Collect),
+        b"deliver" => Some(Verb::Deliver),
+        b"tick" => Some(Verb::Tick),
+        b"seed" => Some(Verb::Seed),
+        b"drop" => Some(Verb::Drop),
+        b"repeat" => Some(Verb::Repeat),
+        b"swap" => Some(Verb::Swap),
+        b"loss" => Some(Verb::Loss),
+        b"reorder" => Some(Verb::Reorder),
+        b"delay" => Some(Verb::Delay),
+        b"show" => Some(Verb::Show),
+        b"summary" => Some(Verb::Summary),
+        _ => None,
+    }
+}

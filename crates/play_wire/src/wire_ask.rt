@@ -1,0 +1,203 @@
+//! What a line asks of the wire: it's read once, and what it asks for is a value.
+ghost use Rattle.std.specs.Prelude.{◌≡◌, ℕ, [], MatchOption};
+ghost use Rattle.script_loop.specs.Left.{left};
+ghost use Rattle.play_wire.specs.Inside.{ReadsAfter, wire_asked, wire_asks};
+ghost use Rattle.play_wire.specs.Verbs.{IsOneNumber, IsTickCount};
+ghost use Rattle.play_wire.specs.Wires.{AsksWire, IsBound, IsSeed};
+ghost use Rattle.play_wire.specs.declared.verb.Verb.TheVariants as verb;
+
+use crate::carries::Bound;
+use crate::link::value_in;
+use crate::verb::{Verb, verb_of};
+use script_loop::{first_word, is_end, number, one, two};
+use std::str;
+
+/// The most carries that a line asks for.
+const MOST_CARRIES: u32 = 1_000_000;
+
+/// The most carries of `carry all` if it doesn't say another number.
+const ALL: u32 = 1000;
+
+/// The last place of a packet, and the most ticks.
+const MOST: u32 = 65_535;
+
+/// What a line asks of the wire. Names and settings are borrowed from the line.
+#[derive(Clone, Copy)]
+pub(crate) enum WireAsk<'l> {
+    /// A host of this name joins, by what stands behind the name. The name is empty if it's missing.
+    Host(&'l [u8], Option<&'l [u8]>),
+    /// The hosts of these names are joined.
+    Wire(Option<&'l [u8]>),
+    /// What waits for the links passes.
+    Carry(Bound),
+    /// What waits for the links goes on the wire.
+    Collect,
+    /// What is due comes.
+    Deliver,
+    /// So many ticks pass at each host.
+    Tick(u32),
+    /// The choices of the wire start with this seed.
+    Seed(u64),
+    /// The packet under way at this place, from 0 on, is lost.
+    Drop(usize),
+    /// It goes twice.
+    Repeat(usize),
+    /// Two of them change places.
+    Swap(usize, usize),
+    /// A chance or a delay is set, by these words.
+    Impair(Verb, Option<&'l [u8]>),
+    /// What is under way is shown.
+    Show,
+    /// What was counted of each host is told.
+    Summary,
+}
+
+/// The one number that is left.
+fn one_number(rest: Option<&[u8]>, most: u32) -> Option<u32>
+    ensures { MatchOption result ((n : ℕ) → IsOneNumber most (left rest.entry) n → ⊥)
+        (IsOneNumber most (left rest.entry)) }
+{
+    number(one(rest)?, most)
+}
+
+/// What is asked, where no word is left.
+fn alone<'l>(rest: Option<&[u8]>, ask: WireAsk<'l>) -> Option<WireAsk<'l>>
+    ensures { MatchOption result (left rest.entry ≡ [] → ⊥) (λ r. (r ≡ ask.entry) × (left rest.entry ≡ [])) }
+{
+    if is_end(rest) { Some(ask) } else { None }
+}
+
+/// How many carries the words after `carry` ask for.
+fn bound_of(rest: Option<&[u8]>) -> Option<Bound>
+    ensures { MatchOption result ((bound : Bound) → IsBound (left rest.entry) bound → ⊥)
+        (IsBound (left rest.entry)) }
+{
+    let Some(words) = rest else {
+        return Some(Bound::Times(1));
+    };
+    let (word, after) = first_word(words);
+    if word != b"all".as_slice() {
+        return Some(Bound::Times(one_number(rest, MOST_CARRIES)?));
+    }
+    if is_end(after) {
+        return Some(Bound::Quiet(ALL));
+    }
+    Some(Bound::Quiet(one_number(after, MOST_CARRIES)?))
+}
+
+fn carry_of(rest: Option<&[u8]>) -> Option<WireAsk<'static>>
+    ensures { ReadsAfter verb.Carry (left rest.entry) result }
+{
+    Some(WireAsk::Carry(bound_of(rest)?))
+}
+
+/// How many ticks the words after `tick` ask for.
+fn ticks_of(rest: Option<&[u8]>) -> Option<u32>
+    ensures { MatchOption result ((n : ℕ) → IsTickCount (left rest.entry) n → ⊥) (IsTickCount (left rest.entry)) }
+{
+    if is_end(rest) {
+        return Some(1);
+    }
+    let count = one_number(rest, MOST)?;
+    if count == 0 { None } else { Some(count) }
+}
+
+fn tick_of(rest: Option<&[u8]>) -> Option<WireAsk<'static>>
+    ensures { ReadsAfter verb.Tick (left rest.entry) result }
+{
+    Some(WireAsk::Tick(ticks_of(rest)?))
+}
+
+/// The seed that the word after `seed` writes.
+fn seed_in(rest: Option<&[u8]>) -> Option<u64>
+    ensures { MatchOption result ((seed : ℕ) → IsSeed (left rest.entry) seed → ⊥) (IsSeed (left rest.entry)) }
+{
+    let word = one(rest)?;
+    let Ok(text) = str::from_utf8(word) else {
+        return None;
+    };
+    let Ok(seed) = text.parse::<u64>() else {
+        return None;
+    };
+    Some(seed)
+}
+
+fn seed_of(rest: Option<&[u8]>) -> Option<WireAsk<'static>>
+    ensures { ReadsAfter verb.Seed (left rest.entry) result }
+{
+    Some(WireAsk::Seed(seed_in(rest)?))
+}
+
+fn drop_of(rest: Option<&[u8]>) -> Option<WireAsk<'static>>
+    ensures { ReadsAfter verb.Drop (left rest.entry) result }
+{
+    Some(WireAsk::Drop(one_number(rest, MOST)? as usize))
+}
+
+fn swap_of(rest: Option<&[u8]>) -> Option<WireAsk<'static>>
+    ensures { ReadsAfter verb.Swap (left rest.entry) result }
+{
+    let (first, second) = two(rest)?;
+    let at = number(first, MOST)?;
+    let other = number(second, MOST)?;
+    Some(WireAsk::Swap(at as usize, other as usize))
+}
+
+/// `repeat I` by hand, or `repeat C`, which is a chance.
+fn repeat_of(rest: Option<&[u8]>) -> WireAsk<'_>
+    ensures { ReadsAfter verb.Repeat (left rest.entry) (Some result) }
+{
+    match one_number(rest, MOST) {
+        Some(at) => WireAsk::Repeat(at as usize),
+        None => WireAsk::Impair(Verb::Repeat, rest),
+    }
+}
+
+fn show_of(rest: Option<&[u8]>) -> Option<WireAsk<'static>>
+    ensures { ReadsAfter verb.Show (left rest.entry) result }
+{
+    let word = one(rest)?;
+    if word == b"wire".as_slice() {
+        Some(WireAsk::Show)
+    } else {
+        None
+    }
+}
+
+fn host_of(rest: Option<&[u8]>) -> WireAsk<'_>
+    ensures { ReadsAfter verb.Host (left rest.entry) (Some result) }
+{
+    let (name, settings) = value_in(rest);
+    WireAsk::Host(name, settings)
+}
+
+/// What a verb and the words after it ask for.
+fn form_of<'l>(verb: Verb, rest: Option<&'l [u8]>) -> Option<WireAsk<'l>>
+    ensures { ReadsAfter verb (left rest.entry) result }
+{
+    match verb {
+        Verb::Host => Some(host_of(rest)),
+        Verb::Wire => Some(WireAsk::Wire(rest)),
+        Verb::Carry => carry_of(rest),
+        Verb::Collect => alone(rest, WireAsk::Collect),
+        Verb::Deliver => alone(rest, WireAsk::Deliver),
+        Verb::Tick => tick_of(rest),
+        Verb::Seed => seed_of(rest),
+        Verb::Drop => drop_of(rest),
+        Verb::Repeat => Some(repeat_of(rest)),
+        Verb::Swap => swap_of(rest),
+        Verb::Loss | Verb::Reorder | Verb::Delay => Some(WireAsk::Impair(verb, rest)),
+        Verb::Show => show_of(rest),
+        Verb::Summary => alone(rest, WireAsk::Summary),
+    }
+}
+
+/// What a plain line asks of the wire, or `None` if it asks for nothing. A plain line has one space between each two
+/// words.
+pub(crate) fn wire_ask_of(plain: &[u8]) -> Option<WireAsk<'_>>
+    ensures { AsksWire plain.now (wire_asks result) }
+{
+    let (word, rest) = first_word(plain);
+    let verb = verb_of(word)?;
+    form_of(verb, rest)
+}
