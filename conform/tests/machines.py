@@ -20,6 +20,9 @@ MODULES = {"read": _read, "reassembly": _reassembly, "machine": _machine}
 ABILITIES = frozenset({"out", "send", "mtu", "sockets", "connect"})
 GRAVE = (FAULT, NEVER, MUST)
 CASES = [case for case in cases.make(1) if case.size[1] < 300_000 and len(case.steps) < 2_000]
+# The settings for which the machine asks in each case, with all at their defaults. Another value of one changes nothing
+# before it's asked for, so whatever isn't asked for here leaves the case as it is.
+ASKED = {}
 
 
 class Noting(Path):
@@ -47,10 +50,9 @@ def alarm(name):
         if value == setting.default and name != next(iter(SETTINGS)):
             continue  # the machine with all defaults is tried once
         for case in CASES:
-            path = Noting({name: value})
-            events = _machine.play(case, path).events
-            if name not in path.noted and value != setting.default:
+            if name not in ASKED[case.name] and value != setting.default:
                 continue  # it answers as the machine with all defaults does
+            events = _machine.play(case, Path({name: value})).events
             for it in breaches(case, events):
                 if it.level in GRAVE or value in setting.keeps:
                     return f"{name} = {value} is permitted, but {case.name}, {case.title}: {it.level} {it.what}"
@@ -120,6 +122,10 @@ def main():
     counts = parser.parse_args().count
     faults = 0
     plants = list(edits())
+    for case in CASES:
+        path = Noting({})
+        _machine.play(case, path)
+        ASKED[case.name] = path.noted
     with concurrent.futures.ProcessPoolExecutor(os.cpu_count()) as pool:
         alarms, missed = pool.map(alarm, SETTINGS), pool.map(unseen, plants)
         for line in filter(None, alarms):
