@@ -1,36 +1,8 @@
 //! How scripts are printed, by the options and by where the output goes.
-use clap::{Arg, ArgAction, ArgMatches, Command};
+use clap::ArgMatches;
 use play_script::Form;
-use std::alloc::{AllocError, Global};
 use std::env::{self, VarError};
 use std::io::IsTerminal;
-
-/// The options for what is printed.
-pub(crate) fn with_forms<'a>(
-    alloc: Global,
-    command: Command<'a>,
-) -> Result<Command<'a>, AllocError> {
-    command
-        .arg(
-            Arg::new(alloc, "quiet")
-                .short('q')
-                .long("quiet")
-                .help("Print replies and differences alone, without the lines")
-                .action(ArgAction::SetTrue),
-        )?
-        .arg(
-            Arg::new(alloc, "json")
-                .long("json")
-                .help("Print each line as an object of JSON, for programs")
-                .action(ArgAction::SetTrue),
-        )?
-        .arg(
-            Arg::new(alloc, "WHEN")
-                .long("color")
-                .help("Colours: always, never, or auto: on a terminal, if NO_COLOR isn't set")
-                .action(ArgAction::Set),
-        )
-}
 
 /// Whether the variable `NO_COLOR` is there and isn't empty.
 fn declines_colours(rt: &HostRuntime) -> bool {

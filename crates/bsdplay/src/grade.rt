@@ -109,29 +109,32 @@ impl<W: Write + Drop> Reports<W> {
 
 /// What hand-ins are graded by.
 #[derive(Drop)]
-struct Grader<'a> {
+struct Grader {
     marker: Marker,
-    /// The key, if there is one.
-    key: Option<&'a [u8]>,
     /// What is printed of a script.
     written: Vec<u8>,
 }
 
-impl<'a> Grader<'a> {
+impl Grader {
     /// Takes its memory.
-    fn new(rt: &HostRuntime, key: Option<&'a [u8]>) -> io::Result<Grader<'a>> {
+    fn new(rt: &HostRuntime) -> io::Result<Grader> {
         Ok(Grader {
             marker: Marker::new(rt.alloc())?,
-            key,
             written: Vec::new(rt.alloc()),
         })
     }
 
-    /// Plays a hand-in and marks it.
-    fn grade(&mut self, rt: &HostRuntime, name: &str, script: &[u8]) -> Verdict {
+    /// Plays a hand-in and marks it by the key, if there is one.
+    fn grade(
+        &mut self,
+        rt: &HostRuntime,
+        key: Option<&[u8]>,
+        name: &str,
+        script: &[u8],
+    ) -> Verdict {
         self.written.clear();
         let played = play_quietly(rt, script, name, &mut self.written);
-        let marks = match self.key {
+        let marks = match key {
             Some(key) => self.marker.marks_by(key, script),
             None => self.marker.own_marks(script),
         };
@@ -162,9 +165,8 @@ fn refuse_key(rt: &HostRuntime, name: &str, verdict: &Verdict, written: &[u8]) -
 }
 
 /// Whether a key passes itself; if not, it's said why.
-fn is_key(rt: &HostRuntime, name: &str, key: &[u8]) -> io::Result<bool> {
-    let mut grader = Grader::new(rt, None)?;
-    let verdict = grader.grade(rt, name, key);
+fn is_key(rt: &HostRuntime, grader: &mut Grader, name: &str, key: &[u8]) -> io::Result<bool> {
+    let verdict = grader.grade(rt, None, name, key);
     if verdict.is_passed() {
         return Ok(true);
     }
@@ -175,7 +177,8 @@ fn is_key(rt: &HostRuntime, name: &str, key: &[u8]) -> io::Result<bool> {
 /// Grades a hand-in and reports it. The answer is its status.
 fn grade_file<W: Write + Drop>(
     rt: &HostRuntime,
-    grader: &mut Grader<'_>,
+    grader: &mut Grader,
+    key: Option<&[u8]>,
     reports: &mut Reports<W>,
     name: &str,
 ) -> u8 {
@@ -192,7 +195,7 @@ fn grade_file<W: Write + Drop>(
             return UNREAD;
         }
     };
-    let verdict = grader.grade(rt, name, unmarked(file.as_slice()));
+    let verdict = grader.grade(rt, key, name, unmarked(file.as_slice()));
     let report = Report {
         name,
         word: word_of(&verdict),
@@ -211,7 +214,8 @@ fn grade_file<W: Write + Drop>(
 /// Grades all hand-ins and answers the greatest status.
 fn grade_all<W: Write + Drop>(
     rt: &HostRuntime,
-    grader: &mut Grader<'_>,
+    grader: &mut Grader,
+    key: Option<&[u8]>,
     reports: &mut Reports<W>,
     found: &ArgMatches<'_>,
 ) -> io::Result<u8> {
@@ -221,7 +225,7 @@ fn grade_all<W: Write + Drop>(
     };
     let (mut worst, mut all, mut passed) = (0, 0u64, 0u64);
     for name in names {
-        let status = grade_file(rt, grader, reports, name);
+        let status = grade_file(rt, grader, key, reports, name);
         all = all.saturating_add(1);
         if status == 0 {
             passed = passed.saturating_add(1);
@@ -234,36 +238,52 @@ fn grade_all<W: Write + Drop>(
     Ok(worst)
 }
 
-/// Grades by this key, or by what the hand-ins expect themselves.
-fn grade_by(rt: &HostRuntime, found: &ArgMatches<'_>, key: Option<&[u8]>) -> io::Result<u8> {
-    let mut grader = Grader::new(rt, key)?;
+/// Grades by this key, once it has passed itself, or by what the hand-ins expect themselves.
+fn grade_with(
+    rt: &HostRuntime,
+    grader: &mut Grader,
+    key: Option<(&str, &[u8])>,
+    found: &ArgMatches<'_>,
+) -> io::Result<u8> {
+    if let Some((name, key)) = key {
+        if !is_key(rt, grader, name, key)? {
+            return Ok(FAILED);
+        }
+    }
+    let key = key.map(|(_, key)| key);
     if !found.get_flag("csv") {
         let mut reports = Reports::Lines(rt.stdout());
-        return grade_all(rt, &mut grader, &mut reports, found);
+        return grade_all(rt, grader, key, &mut reports, found);
     }
     let mut table = Writer::from_writer(rt.stdout());
     if write_head(&mut table).is_err() {
         return Ok(UNREAD);
     }
-    grade_all(rt, &mut grader, &mut Reports::Table(table), found)
+    grade_all(rt, grader, key, &mut Reports::Table(table), found)
+}
+
+/// Grades by this key, or by none. What grading takes is let go at one place, since a proof walks through that at each.
+fn grade_by(
+    rt: &HostRuntime,
+    key: Option<(&str, &[u8])>,
+    found: &ArgMatches<'_>,
+) -> io::Result<u8> {
+    let mut grader = Grader::new(rt)?;
+    let status = grade_with(rt, &mut grader, key, found);
+    drop(grader);
+    status
 }
 
 /// Grades the hand-ins that the command line names.
 pub(crate) fn grade(rt: &HostRuntime, found: &ArgMatches<'_>) -> io::Result<u8> {
     let Some(name) = found.get_str("KEY") else {
-        return grade_by(rt, found, None);
+        return grade_by(rt, None, found);
     };
-    let file = match load(rt, name) {
-        Ok(file) => file,
+    match load(rt, name) {
+        Ok(file) => grade_by(rt, Some((name, unmarked(file.as_slice()))), found),
         Err(why) => {
             eprintln!(rt; "bsdplay: {name}: {why}: no hand-in is graded without its key")?;
-            return Ok(UNREAD);
+            Ok(UNREAD)
         }
-    };
-    let key = unmarked(file.as_slice());
-    if is_key(rt, name, key)? {
-        grade_by(rt, found, Some(key))
-    } else {
-        Ok(FAILED)
     }
 }

@@ -12,6 +12,7 @@ mod hand_in;
 mod help;
 mod hosts;
 mod one;
+mod options;
 mod strict;
 mod sweep;
 mod why;
@@ -19,12 +20,13 @@ mod why;
 use capture::print_capture;
 use choice::Ahead;
 use clap::{Arg, ArgAction, ArgMatches, Command};
-use form::{form_of, with_forms};
+use form::form_of;
 use grade::grade;
 use hand_in::unmarked;
 use help::LINES;
 use hosts::{play_captured, play_uncaptured, status_of};
 use one::play_one;
+use options::{OPTIONS, with_options};
 use play_script::{Form, Played, Silent, Style};
 use std::alloc::{AllocError, Global};
 use std::io::{IsTerminal, Read};
@@ -43,112 +45,20 @@ const LACKS: u8 = 1;
 /// The status if a script can't be opened, or something can't be printed.
 const UNREAD: u8 = 4;
 
-/// The options for scripts of many machines, and for captures that are written. Each is made as it's added, so that
-/// none is let go if memory is refused.
-fn with_wire<'a>(alloc: Global, command: Command<'a>) -> Result<Command<'a>, AllocError> {
-    command
-        .arg(
-            Arg::new(alloc, "seed").long("seed").help(
-                "The seed of the wire, if the script doesn't say one: 1 if it's left out",
-            ),
-        )?
-        .arg(
-            Arg::new(alloc, "seeds").long("seeds").help(
-                "A-B: play the script for each of these seeds, and list those that fail",
-            ),
-        )?
-        .arg(
-            Arg::new(alloc, "summary")
-                .long("summary")
-                .help("Tell at the end what was counted of each host")
-                .action(ArgAction::SetTrue),
-        )?
-        .arg(
-            Arg::new(alloc, "progress")
-                .long("progress")
-                .help("Tell each hundredth seed on standard error, even if it is no terminal")
-                .action(ArgAction::SetTrue),
-        )?
-        .arg(
-            Arg::new(alloc, "PCAP")
-                .long("pcap")
-                .help(
-                    "Write the packets that come and go, or what goes on the wire of many machines, to this file",
-                )
-                .action(ArgAction::Set),
-        )
-}
-
-/// The options for captures.
-fn with_captures<'a>(alloc: Global, command: Command<'a>) -> Result<Command<'a>, AllocError> {
-    command
-        .arg(
-            Arg::new(alloc, "CAPTURE")
-                .long("from-pcap")
-                .help(
-                    "Print the IPv4 packets of this capture as a script, and play nothing; '-': standard input",
-                )
-                .action(ArgAction::Set),
-        )?
-        .arg(
-            Arg::new(alloc, "N-M")
-                .long("records")
-                .help("With --from-pcap: the records from number N to M alone")
-                .action(ArgAction::Set),
-        )?
-        .arg(
-            Arg::new(alloc, "ticks")
-                .long("ticks")
-                .help("With --from-pcap: a tick for each half second between packets")
-                .action(ArgAction::SetTrue),
-        )
-}
-
-/// The options for teachers.
-fn with_grades<'a>(alloc: Global, command: Command<'a>) -> Result<Command<'a>, AllocError> {
-    command
-        .arg(
-            Arg::new(alloc, "strict")
-                .long("strict")
-                .help(
-                    "Each line that asks for something has to have an expectation that says something",
-                )
-                .action(ArgAction::SetTrue),
-        )?
-        .arg(
-            Arg::new(alloc, "grade")
-                .long("grade")
-                .help("Print one verdict for each FILE: passed, failed, empty or unread")
-                .action(ArgAction::SetTrue),
-        )?
-        .arg(
-            Arg::new(alloc, "KEY")
-                .long("key")
-                .help("With --grade: the solved script, whose replies and answers count")
-                .action(ArgAction::Set),
-        )?
-        .arg(
-            Arg::new(alloc, "csv")
-                .long("csv")
-                .help("With --grade: a table in CSV, for spreadsheets")
-                .action(ArgAction::SetTrue),
-        )?
-        .arg(
-            Arg::new(alloc, "SOLVED")
-                .long("blank")
-                .help("Print this key as an exercise, with ? in the place of replies and answers")
-                .action(ArgAction::Set),
-        )
-}
-
 /// The command line.
 fn command<'a>(alloc: Global) -> Result<Command<'a>, AllocError> {
     let command = Command::new(alloc, "bsdplay")
         .version("0.2.0")
         .about("Plays scripts of socket calls, packets and ticks, and says what came of each line")
-        .after_help(LINES);
-    let command = with_wire(alloc, with_forms(alloc, command)?)?;
-    with_captures(alloc, with_grades(alloc, command)?)?
+        .after_help(LINES)
+        .arg(
+            Arg::new(alloc, "quiet")
+                .short('q')
+                .long("quiet")
+                .help("Print replies and differences alone, without the lines")
+                .action(ArgAction::SetTrue),
+        )?;
+    with_options(alloc, command, &OPTIONS)?
         .arg(
             Arg::new(alloc, "FILE")
                 .help("Scripts, each played on a new machine; '-' or none: standard input")

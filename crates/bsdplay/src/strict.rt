@@ -4,13 +4,17 @@ use crate::hand_in::{load, unmarked};
 use play_grade::{Marker, first_line};
 use play_script::{Printer, ROOM, Style};
 use script_loop::Buffer;
+use std::alloc::{AllocError, Global};
 use std::io::{self, Write};
 
-/// Says of each line of a script that nothing is expected of it, where it asks for something. Whether there is one.
-pub(crate) fn tell_lacks(rt: &HostRuntime, script: &[u8], style: Style<'_>) -> io::Result<bool> {
-    let mut marker = Marker::new(rt.alloc())?;
-    let mut printer = Printer::new(rt.alloc(), style)?;
-    let mut text: Buffer<ROOM> = Buffer::new(rt.alloc())?;
+/// Says of each line of a script that nothing is expected of it, where it asks for something.
+fn tell_each(
+    rt: &HostRuntime,
+    script: &[u8],
+    marker: &mut Marker,
+    printer: &mut Printer,
+    text: &mut Buffer<ROOM>,
+) -> io::Result<()> {
     let mut left = script;
     for _ in 0..script.len().saturating_add(1) {
         let (line, more) = first_line(left);
@@ -18,7 +22,7 @@ pub(crate) fn tell_lacks(rt: &HostRuntime, script: &[u8], style: Style<'_>) -> i
         if marker.lacks(line) {
             text.clear();
             printer.put_fault(
-                &mut text,
+                text,
                 b"nothing is expected of this line, and --strict wants a reply behind =>",
             );
             rt.stdout().write_all(text.as_slice())?;
@@ -28,23 +32,44 @@ pub(crate) fn tell_lacks(rt: &HostRuntime, script: &[u8], style: Style<'_>) -> i
         };
         left = more;
     }
-    Ok(!printer.sound)
+    Ok(())
 }
 
-/// A key as an exercise has it.
-fn blank(rt: &HostRuntime, key: &[u8]) -> io::Result<Vec<u8>> {
+/// Says of each line of a script that nothing is expected of it, where it asks for something. Whether there is one.
+pub(crate) fn tell_lacks(rt: &HostRuntime, script: &[u8], style: Style<'_>) -> io::Result<bool> {
+    let mut text: Buffer<ROOM> = Buffer::new(rt.alloc())?;
+    let mut printer = Printer::new(rt.alloc(), style)?;
     let mut marker = Marker::new(rt.alloc())?;
-    let mut text = Vec::new(rt.alloc());
+    let told = tell_each(rt, script, &mut marker, &mut printer, &mut text);
+    let lacks = !printer.sound;
+    drop(marker);
+    told.map(|()| lacks)
+}
+
+/// Adds a key as an exercise has it.
+fn put_blank(marker: &mut Marker, key: &[u8], text: &mut Vec<u8>) -> Result<(), AllocError> {
     let mut left = key;
     for _ in 0..key.len() {
         if left.is_empty() {
             break;
         }
         let (line, more) = first_line(left);
-        marker.put_blank(line, &mut text)?;
+        marker.put_blank(line, text)?;
         left = more.unwrap_or_default();
     }
-    Ok(text)
+    Ok(())
+}
+
+/// A key as an exercise has it.
+fn blank(alloc: Global, key: &[u8]) -> Result<Vec<u8>, AllocError> {
+    let mut marker = Marker::new(alloc)?;
+    let mut text = Vec::new(alloc);
+    let put = put_blank(&mut marker, key, &mut text);
+    drop(marker);
+    match put {
+        Ok(()) => Ok(text),
+        Err(lacking) => Err(lacking),
+    }
 }
 
 /// Prints the exercise that belongs to a key.
@@ -57,6 +82,6 @@ pub(crate) fn print_blank(rt: &HostRuntime, name: &str) -> io::Result<u8> {
         }
     };
     rt.stdout()
-        .write_all(blank(rt, unmarked(file.as_slice()))?.as_slice())?;
+        .write_all(blank(rt.alloc(), unmarked(file.as_slice()))?.as_slice())?;
     Ok(0)
 }

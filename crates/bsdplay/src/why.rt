@@ -2,6 +2,7 @@
 ghost use Rattle.std.specs.Prelude.{◌≤◌, length, IfSome};
 
 use crate::capture::{BAD, report};
+use crate::options::{WHY_OPTIONS, with_options};
 use crate::{UNREAD, USAGE};
 use capture_file::{Fault, Record, Records, Why};
 use clap::{Arg, ArgAction, ArgMatches, Command};
@@ -18,57 +19,16 @@ use std::net::Ipv4Addr;
 /// The most bytes of a packet.
 const MOST_BYTES: usize = 65_535;
 
-/// The options for the machine.
-fn with_machine<'a>(alloc: Global, command: Command<'a>) -> Result<Command<'a>, AllocError> {
-    command
+/// The subcommand, with its options.
+pub(crate) fn why_command<'a>(alloc: Global) -> Result<Command<'a>, AllocError> {
+    let command = Command::new(alloc, "why")
+        .about("Say of each packet of a capture what became of it, and why it was dropped")
         .arg(
             Arg::new(alloc, "CAPTURE")
                 .help("A capture, pcap or pcapng, of any length; '-': standard input")
                 .action(ArgAction::Set),
-        )?
-        .arg(
-            Arg::new(alloc, "A")
-                .long("addr")
-                .help("The machine's address; without it the one to which most datagrams go")
-                .action(ArgAction::Set),
-        )?
-        .arg(
-            Arg::new(alloc, "PORT")
-                .long("port")
-                .help("The one port that's bound; without it each port to which a datagram goes")
-                .action(ArgAction::Set),
-        )
-}
-
-/// The options for what's printed.
-fn with_choice<'a>(alloc: Global, command: Command<'a>) -> Result<Command<'a>, AllocError> {
-    command
-        .arg(
-            Arg::new(alloc, "N-M")
-                .long("records")
-                .help("Print the records from number N to M alone; those before still come")
-                .action(ArgAction::Set),
-        )?
-        .arg(
-            Arg::new(alloc, "all")
-                .long("all")
-                .help("Let packets for other machines come too, which this one drops")
-                .action(ArgAction::SetTrue),
-        )?
-        .arg(
-            Arg::new(alloc, "json")
-                .long("json")
-                .help("Print an object of JSON for each record, and no table")
-                .action(ArgAction::SetTrue),
-        )
-}
-
-/// The subcommand, with its options.
-pub(crate) fn why_command<'a>(alloc: Global) -> Result<Command<'a>, AllocError> {
-    let command = Command::new(alloc, "why").about(
-        "Say of each packet of a capture what became of it, and why it was dropped",
-    );
-    with_choice(alloc, with_machine(alloc, command)?)
+        )?;
+    with_options(alloc, command, &WHY_OPTIONS)
 }
 
 /// What the options say.
