@@ -2,7 +2,7 @@
 use Rattle.std.proofs.Common.{◌≡◌, ◌<◌, ◌⊎◌, inl, inr, ℕ, zero, suc, Bool, true, false, List, [], ◌∷◌, ◌++◌, map, replicate, Option, Some, None, refl, sym, ap, ap₂, ◌∙◌, subst, arith}
 use Rattle.std.proofs.Math.Dec.{eqb-suc-zero}
 use Rattle.std.proofs.lemmas.Bool.{lt-ltb}
-use Rattle.std.specs.Prelude.{◌==◌, if◌then◌else◌, not, codes, is_some, nat_lt, MatchOption, length, option_map, slice_get, ◌&&◌, Result}
+use Rattle.std.specs.Prelude.{◌==◌, cond, if◌then◌else◌, not, bytes_eq, codes, is_some, nat_lt, length, option_map, slice_get, ◌&&◌, Result}
 use Rattle.ether_host.specs.View.{held_for}
 use Rattle.flat_ether.specs.Claims.{address_state}
 use Rattle.flat_ether.specs.Links.{LinkState}
@@ -13,6 +13,8 @@ use Rattle.flat_ether.specs.declared.tallies.Tallies.{Tallies}
 use Rattle.flat_ether.specs.declared.error.NetFault.{NetFault}
 use Rattle.flat_model.specs.Amounts.Choice.{Choice}
 use Rattle.flat_model.specs.Machine.Event.{Tick, Done}
+use Rattle.flat_model.specs.Scripts.Grammar.{words, IsHex}
+use Rattle.std.specs.List.{onto_first}
 use Rattle.flat_model.specs.declared.counters.Counters.{Counters}
 use Rattle.flat_model.specs.declared.errno.Errno.{Errno}
 use Rattle.net_stack.specs.Runs.{AreCalls}
@@ -21,10 +23,12 @@ use Rattle.segment.specs.Frames.{IsAskedError, IsHeard}
 use Rattle.segment.specs.Law.{Act, AreActs, AgesLink, AsksError, Calls, Ether, HearsFrame}
 use Rattle.segment.specs.Segment.{SegmentView, is_ether}
 use Rattle.play_wire.specs.Acts.{IsMissing, IsStackLine, Outcome, Told, Refused, call_turn}
-use Rattle.play_read.specs.Asks.{IsTicks}
-use Rattle.play_wire.specs.Inside.{HasCounted, HasNotCounted, IsAtHost, IsAtLink, IsAtStack, IsExchanged, IsKept, IsNotOther, IsNotShown, held_by, link_asked}
+use Rattle.play_wire.specs.Inside.{HasCounted, HasNotCounted, IsAtHost, IsAtLink, IsAtStack, IsExchanged, IsKept, ReadsOfLink, held_by, link_asks}
 use Rattle.play_wire.specs.LinkTexts.{error_text, heard_text, link_lines, neighbour_lines, neighbours_text, state_text}
-use Rattle.play_wire.specs.Links.{DoesLink, IsForStack, IsFrameLine, IsHostLine, IsTickLine, LinkAsk, Frame, LastError, Neighbours, Counts, Ticks, Packets, WritesLink, is_for_link, is_of_link, is_packet_line, ticks_at}
+use Rattle.play_wire.specs.Links.{DoesLink, IsForStack, IsHostLine, AsksLink, AsksOfLink, LinkAsk, Frame, LastError, Neighbours, Counts, Ticks, Packets, WritesLink, is_for_link, is_of_link, ticks_at}
+use Rattle.play_wire.specs.Verbs.{link_word_of, IsOneNumber, IsTickCount}
+use Rattle.play_wire.specs.declared.verb.LinkVerb.{LinkVerb}
+use Rattle.play_wire.specs.declared.verb.LinkVerb.TheVariants as verb
 use Rattle.play_wire.specs.declared.fault.Fault.TheVariants as fault
 use Rattle.play_wire.specs.declared.link_ask.LinkAsk.{LinkAsk as Asked}
 use Rattle.play_wire.specs.declared.tell_link.Counts.{Counts as HostCounts}
@@ -63,18 +67,70 @@ host_by_stack quiet quiet' place plain v v' w came (others, same, loud) (acts, d
 
 -- ---- what a line asks for
 
--- a line that asks a link for nothing
-pub asks_none : (plain : List ℕ)
-    → ((frame : List ℕ) → WritesLink plain (Frame frame) → ⊥) → ((fd : ℕ) → WritesLink plain (LastError fd) → ⊥)
-    → ((n : ℕ) → WritesLink plain (Ticks n) → ⊥) → (WritesLink plain Packets → ⊥)
-    → (WritesLink plain Neighbours → ⊥) → (WritesLink plain Counts → ⊥)
-    → (ask : LinkAsk) → WritesLink plain ask → ⊥
-asks_none plain frame error ticks packets neighbours counts (Frame it) writes = frame it writes
-asks_none plain frame error ticks packets neighbours counts (LastError fd) writes = error fd writes
-asks_none plain frame error ticks packets neighbours counts Neighbours writes = neighbours writes
-asks_none plain frame error ticks packets neighbours counts Counts writes = counts writes
-asks_none plain frame error ticks packets neighbours counts (Ticks n) writes = ticks n writes
-asks_none plain frame error ticks packets neighbours counts Packets writes = packets writes
+verb_at : List ℕ → Option LinkVerb
+verb_at word =
+    if bytes_eq word (codes "frame") then Some verb.Frame else
+    if bytes_eq word (codes "error") then Some verb.Error else
+    if bytes_eq word (codes "tick") then Some verb.Tick else
+    if bytes_eq word (codes "show") then Some verb.Show else
+    if bytes_eq word (codes "rx") then Some verb.Rx else
+    if bytes_eq word (codes "tx") then Some verb.Tx else None
+
+verb-at : (v : LinkVerb) → verb_at (link_word_of v) ≡ Some v
+unfolding verb_at
+verb-at verb.Frame = refl
+verb-at verb.Error = refl
+verb-at verb.Tick = refl
+verb-at verb.Show = refl
+verb-at verb.Rx = refl
+verb-at verb.Tx = refl
+
+same_verb : (v w : LinkVerb) → link_word_of v ≡ link_word_of w → v ≡ w
+same_verb v w e = let both : Some v ≡ Some w = sym (verb-at v) ∙ ap verb_at e ∙ verb-at w in cc both
+
+-- what a verb and the words after it ask for, the line asks for
+pub asks_as : (plain word : List ℕ) (v : LinkVerb) (args : List (List ℕ)) (asked : Option Asked)
+    → words plain ≡ word ∷ args → word ≡ link_word_of v → ReadsOfLink v args asked → AsksLink plain (link_asks asked)
+asks_as plain word v args (Some ask) cut is reads = (v, args, cut ∙ ap (λ (w : List ℕ). w ∷ args) is, reads)
+asks_as plain word v args None cut is none = λ ask h.
+    let all : word ∷ args ≡ link_word_of h.0 ∷ h.1 = sym cut ∙ h.2 in
+    let first : word ≡ link_word_of h.0 = cc all in
+    let rest : h.1 ≡ args = cc (sym all) in
+    let same : h.0 ≡ v = same_verb h.0 v (sym first ∙ is) in
+    none ask (subst (λ (w : LinkVerb). AsksOfLink w args ask) same
+    (subst (λ (xs : List (List ℕ)). AsksOfLink h.0 xs ask) rest h.3))
+
+-- a line that begins with no verb asks for nothing
+pub asks_none : (plain word : List ℕ) (args : List (List ℕ)) → words plain ≡ word ∷ args
+    → ((v : LinkVerb) → word ≡ link_word_of v → ⊥) → AsksLink plain None
+asks_none plain word args cut none = λ ask h.
+    let all : word ∷ args ≡ link_word_of h.0 ∷ h.1 = sym cut ∙ h.2 in
+    none h.0 (cc all)
+
+pub no_ticks : (args : List (List ℕ)) → ((n : ℕ) → IsTickCount args n → ⊥) → (ask : LinkAsk)
+    → AsksOfLink verb.Tick args ask → ⊥
+no_ticks args none (Ticks n) h = none n h
+no_ticks args none ask h = h
+
+pub no_error : (args : List (List ℕ)) → ((n : ℕ) → IsOneNumber 4294967295 args n → ⊥) → (ask : LinkAsk)
+    → AsksOfLink verb.Error args ask → ⊥
+no_error args none (LastError n) h = none n h
+no_error args none ask h = h
+
+pub no_shown : (args : List (List ℕ)) (word : List ℕ) → args ≡ word ∷ [] → (word ≡ codes "neighbours" → ⊥)
+    → (word ≡ codes "link" → ⊥) → (ask : LinkAsk) → AsksOfLink verb.Show args ask → ⊥
+no_shown args word cut first second Neighbours h =
+    let both : word ∷ [] ≡ codes "neighbours" ∷ [] = sym cut ∙ h in first (cc both)
+no_shown args word cut first second Counts h =
+    let both : word ∷ [] ≡ codes "link" ∷ [] = sym cut ∙ h in second (cc both)
+no_shown args word cut first second ask h = h
+
+pub no_frame : (args : List (List ℕ)) (word : List ℕ) → args ≡ word ∷ [] → ((frame : List ℕ) → IsHex word frame → ⊥)
+    → (ask : LinkAsk) → AsksOfLink verb.Frame args ask → ⊥
+no_frame args word cut none (Frame frame) h =
+    let both : h.0 ∷ [] ≡ word ∷ [] = sym h.1 ∙ cut in
+    none frame (subst (λ (w : List ℕ). IsHex w frame) (cc both) h.2)
+no_frame args word cut none ask h = h
 
 pub none_is : {X Y : Type 0} (f : X → Y) (x : Option X) → option_map f x ≡ None → x ≡ None
 none_is f None e = refl
@@ -106,55 +162,35 @@ link_there None link e = absurd (never e)
     never g = cc
 link_there (Some l) link e = refl
 
--- `tick` alone, or with a number
-pub tick_line : (plain : List ℕ) (n : Option ℕ) → (plain ≡ codes "tick" → ⊥)
-    → MatchOption n ((k : ℕ) → IsTicks plain k → ⊥) (IsTicks plain)
-    → MatchOption n ((k : ℕ) → IsTickLine plain k → ⊥) (IsTickLine plain)
-tick_line plain (Some k) more is = inr is
-tick_line plain None more none = λ k h. elim h [
-  | inl one ↦ more one.0
-  | inr is ↦ none k is
-]
+-- a line has a word at least
+words-some : (line : List ℕ) → words line ≡ [] → ⊥
+words-some [] e = cc
+words-some (x ∷ xs) e = elim (x == 32) as (λ b. cond b ([] ∷ words xs) (onto_first x (words xs)) ≡ [] → ⊥) [
+  | true ↦ λ same. cc
+  | false ↦ λ same. onto-some (words xs) same
+] e
+  where
+    onto-some : (ws : List (List ℕ)) → onto_first x ws ≡ [] → ⊥
+    onto-some [] same = cc
+    onto-some (w ∷ ws) same = cc
 
 -- a packet by name
-pub packet_spelled : (named : Bool) (packet words : List ℕ) → named ≡ true
-    → is_packet_line (if named then codes "rx " ++ packet else words) ≡ true
-packet_spelled true packet words e = refl
-packet_spelled false packet words e = absurd (never e)
+pub packet_spelled : (named : Bool) (packet line : List ℕ) → named ≡ true
+    → WritesLink (if named then codes "rx " ++ packet else line) Packets
+packet_spelled true packet line e = (verb.Rx, words packet, refl, words-some packet)
+packet_spelled false packet line e = absurd (never e)
   where
     never : false ≡ true → ⊥
     never g = cc
 
 -- words that name no packet
-pub ask_spelled : (named : Bool) (packet words plain : List ℕ) (ask : Option Asked) → named ≡ false → plain ≡ words
-    → MatchOption ask ((it : LinkAsk) → WritesLink plain it → ⊥) (λ it. WritesLink plain (link_asked it))
-    → MatchOption ask ((it : LinkAsk) → WritesLink (if named then codes "rx " ++ packet else words) it → ⊥)
-    (λ it. WritesLink (if named then codes "rx " ++ packet else words) (link_asked it))
-ask_spelled true packet words plain ask e same is = absurd (never e)
+pub ask_spelled : (named : Bool) (packet line plain : List ℕ) (ask : Option LinkAsk) → named ≡ false → plain ≡ line
+    → AsksLink plain ask → AsksLink (if named then codes "rx " ++ packet else line) ask
+ask_spelled true packet line plain ask e same is = absurd (never e)
   where
     never : true ≡ false → ⊥
     never g = cc
-ask_spelled false packet words plain ask e same is =
-    subst (λ (p : List ℕ). MatchOption ask ((it : LinkAsk) → WritesLink p it → ⊥)
-    (λ it. WritesLink p (link_asked it))) same is
-
--- what is neither an error, nor ticks, nor a packet, and what is shown
-pub other_or_none : (plain : List ℕ) (ask : Option Asked) → ((fd : ℕ) → WritesLink plain (LastError fd) → ⊥)
-    → ((n : ℕ) → WritesLink plain (Ticks n) → ⊥) → (WritesLink plain Packets → ⊥)
-    → MatchOption ask (IsNotShown plain) (λ it. WritesLink plain (link_asked it))
-    → MatchOption ask (IsNotOther plain) (λ it. WritesLink plain (link_asked it))
-other_or_none plain (Some it) error ticks packets is = is
-other_or_none plain None error ticks packets shown = (error, ticks, packets, shown)
-
--- what isn't a frame, and what else it is
-pub asks_or_none : (plain : List ℕ) (ask : Option Asked) → ((frame : List ℕ) → IsFrameLine plain frame → ⊥)
-    → MatchOption ask (IsNotOther plain) (λ it. WritesLink plain (link_asked it))
-    → MatchOption ask ((it : LinkAsk) → WritesLink plain it → ⊥) (λ it. WritesLink plain (link_asked it))
-asks_or_none plain (Some it) frame is = is
-asks_or_none plain None frame (error, ticks, packets, shown) =
-    asks_none plain frame error ticks packets shown.0 shown.1
-
--- ---- refusals
+ask_spelled false packet line plain ask e same is = subst (λ (p : List ℕ). AsksLink p ask) same is
 
 pub no_link : (place : ℕ) (ask : LinkAsk) (v : SegmentView) → slice_get v.links place ≡ None
     → IsAtLink place ask v (Refused fault.NoLink) v

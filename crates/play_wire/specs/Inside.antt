@@ -18,6 +18,7 @@ use Rattle.play_wire.specs.declared.fault.Fault.{Fault}
 use Rattle.play_wire.specs.declared.link_ask.LinkAsk.{LinkAsk}
 use Rattle.play_wire.specs.declared.link_ask.LinkAsk.TheVariants.{Frame, LastError, Neighbours, Counts, Ticks, Packets}
 use Rattle.play_wire.specs.declared.target.Target.{Target}
+use Rattle.play_wire.specs.declared.verb.LinkVerb.{LinkVerb}
 use Rattle.play_wire.specs.declared.verb.Verb.{Verb}
 use Rattle.play_wire.specs.declared.wire_ask.WireAsk.{WireAsk}
 use Rattle.play_wire.specs.declared.wire_ask.WireAsk.TheVariants as ask
@@ -99,16 +100,14 @@ room_asked Counts = 0
 room_asked (Ticks n) = 0
 room_asked Packets = 0
 
--- nothing of a link is shown
-abbrev pub IsNotShown : List ℕ → Type 0
-IsNotShown plain = (links.WritesLink plain links.Neighbours → ⊥) × (links.WritesLink plain links.Counts → ⊥)
+abbrev pub link_asks : Option LinkAsk → Option links.LinkAsk
+link_asks (Some ask) = Some (link_asked ask)
+link_asks None = None
 
--- nothing but a frame may be asked of a link
-abbrev pub IsNotOther : List ℕ → Type 0
-IsNotOther plain =
-    ((fd : ℕ) → links.WritesLink plain (links.LastError fd) → ⊥)
-    × ((n : ℕ) → links.WritesLink plain (links.Ticks n) → ⊥) × (links.WritesLink plain links.Packets → ⊥)
-    × IsNotShown plain
+-- the words after this one ask a link for this, or for nothing
+abbrev pub ReadsOfLink : LinkVerb → List (List ℕ) → Option LinkAsk → Type 0
+ReadsOfLink verb args (Some ask) = links.AsksOfLink verb args (link_asked ask)
+ReadsOfLink verb args None = (ask : links.LinkAsk) → links.AsksOfLink verb args ask → ⊥
 
 -- a line of a host, or one of a host that isn't there
 abbrev pub IsAtHost : Bool → ℕ → List ℕ → SegmentView → Outcome → SegmentView → Type 0

@@ -1,21 +1,23 @@
 -- What a line asks of the link of a host on an Ethernet, and what comes of it (this project's own).
-use Rattle.std.specs.Prelude.{◌≡◌, ◌⊎◌, ℕ, ◌||◌, Bool, true, false, List, [], ◌∷◌, ◌++◌, codes, bytes_eq, map, replicate, slice_get, take, Option, Some, None, Result}
+use Rattle.std.specs.Prelude.{◌≡◌, ◌≢◌, ◌⊎◌, ℕ, Bool, true, false, List, [], ◌∷◌, ◌++◌, codes, map, replicate, slice_get, Option, Some, None, Result}
 use Rattle.flat_ether.specs.Claims.{address_state}
 use Rattle.ether_host.specs.View.{held_for}
 use Rattle.flat_ether.specs.Links.{LinkState}
 use Rattle.flat_ether.specs.declared.error.NetFault.{NetFault}
 use Rattle.flat_model.specs.Machine.Event.{Tick, Done}
-use Rattle.flat_model.specs.Scripts.Grammar.{words, IsHex, IsNumber}
+use Rattle.flat_model.specs.Scripts.Grammar.{words, IsHex}
 use Rattle.flat_model.specs.declared.errno.Errno.{Errno}
 use Rattle.net_stack.specs.Stack.{StackView, state_of}
-use Rattle.play_read.specs.Asks.{IsTicks}
 use Rattle.segment.specs.Frames.{IsAskedError, IsHeard}
 use Rattle.segment.specs.Law.{Act, AreActs, AgesLink, AsksError, Calls, Ether, HearsFrame}
 use Rattle.segment.specs.Segment.{SegmentView}
 use Rattle.play_wire.specs.Acts.{IsStackLine, Outcome, Told, Refused, call_turn}
 use Rattle.play_wire.specs.LinkTexts.{error_text, heard_text, link_lines, neighbour_lines, neighbours_text, state_text}
+use Rattle.play_wire.specs.Verbs.{link_word_of, IsOneNumber, IsTickCount}
 use Rattle.play_wire.specs.declared.fault.Fault.{Fault}
 use Rattle.play_wire.specs.declared.fault.Fault.TheVariants as fault
+use Rattle.play_wire.specs.declared.verb.LinkVerb.{LinkVerb}
+use Rattle.play_wire.specs.declared.verb.LinkVerb.TheVariants as verb
 
 pub data LinkAsk : Type 0 where
   Frame : (frame : List ℕ) → LinkAsk  -- this frame comes
@@ -27,31 +29,26 @@ pub data LinkAsk : Type 0 where
 
 -- ---- what a line asks for
 
--- `NAME WORD`
-abbrev pub IsWordPair : List ℕ → List ℕ → List ℕ → Type 0
-IsWordPair plain name word = words plain ≡ name ∷ word ∷ []
-
-abbrev pub IsFrameLine : List ℕ → List ℕ → Type 0
-IsFrameLine plain frame = (word : List ℕ) × IsWordPair plain (codes "frame") word × IsHex word frame
-
-abbrev pub IsErrorLine : List ℕ → ℕ → Type 0
-IsErrorLine plain fd = (word : List ℕ) × IsWordPair plain (codes "error") word × IsNumber 4294967295 word fd
-
--- `tick`, or `tick N`
-abbrev pub IsTickLine : List ℕ → ℕ → Type 0
-IsTickLine plain n = ((plain ≡ codes "tick") × (n ≡ 1)) ⊎ IsTicks plain n
-
--- `rx` and what follows it, or `tx`
-abbrev pub is_packet_line : List ℕ → Bool
-is_packet_line plain = bytes_eq (codes "rx ") (take 3 plain) || bytes_eq plain (codes "tx")
+-- the words after this one ask for this
+abbrev pub AsksOfLink : LinkVerb → List (List ℕ) → LinkAsk → Type 0
+AsksOfLink verb.Frame args (Frame frame) = (word : List ℕ) × (args ≡ word ∷ []) × IsHex word frame
+AsksOfLink verb.Error args (LastError fd) = IsOneNumber 4294967295 args fd
+AsksOfLink verb.Tick args (Ticks n) = IsTickCount args n
+AsksOfLink verb.Show args Neighbours = args ≡ codes "neighbours" ∷ []
+AsksOfLink verb.Show args Counts = args ≡ codes "link" ∷ []
+-- whatever else stands behind `rx`
+AsksOfLink verb.Rx args Packets = args ≢ []
+AsksOfLink verb.Tx args Packets = args ≡ []
+AsksOfLink _ _ _ = ⊥
 
 abbrev pub WritesLink : List ℕ → LinkAsk → Type 0
-WritesLink plain (Frame frame) = IsFrameLine plain frame
-WritesLink plain (LastError fd) = IsErrorLine plain fd
-WritesLink plain Neighbours = plain ≡ codes "show neighbours"
-WritesLink plain Counts = plain ≡ codes "show link"
-WritesLink plain (Ticks n) = IsTickLine plain n
-WritesLink plain Packets = is_packet_line plain ≡ true
+WritesLink plain ask =
+    (verb : LinkVerb) × (args : List (List ℕ)) × (words plain ≡ link_word_of verb ∷ args) × AsksOfLink verb args ask
+
+-- what it asks for, if it asks for anything
+abbrev pub AsksLink : List ℕ → Option LinkAsk → Type 0
+AsksLink plain (Some ask) = WritesLink plain ask
+AsksLink plain None = (ask : LinkAsk) → ¬ WritesLink plain ask
 
 -- what only a link is asked for
 abbrev pub is_of_link : LinkAsk → Bool
@@ -127,7 +124,7 @@ IsLinkLine place plain v acts outcome w =
 -- a line that no link answers: it asks a link for nothing, or a host without one as a bare stack
 abbrev pub IsForStack : ℕ → List ℕ → SegmentView → Type 0
 IsForStack place plain v =
-    ((ask : LinkAsk) → WritesLink plain ask → ⊥)
+    AsksLink plain None
     ⊎ ((ask : LinkAsk) × WritesLink plain ask × (is_for_link (slice_get v.links place) ask ≡ false))
 
 -- A line of the host at a place leads from v to w by these acts, and comes out so. Nothing is told below a reply of its

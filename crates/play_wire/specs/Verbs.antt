@@ -1,6 +1,8 @@
--- The words that lines of the wire begin with, and the numbers that stand after them (this project's own).
+-- The words that lines of the wire, and of hosts' links, begin with, and numbers after them (this project's own).
 use Rattle.std.specs.Prelude.{◌≡◌, ◌⊎◌, ℕ, ◌<◌, List, [], ◌∷◌, codes}
 use Rattle.flat_model.specs.Scripts.Grammar.{IsNumber}
+use Rattle.play_wire.specs.declared.verb.LinkVerb.{LinkVerb}
+use Rattle.play_wire.specs.declared.verb.LinkVerb.TheVariants as link
 use Rattle.play_wire.specs.declared.verb.Verb.{Verb}
 use Rattle.play_wire.specs.declared.verb.Verb.TheVariants as verb
 
@@ -20,6 +22,14 @@ word_of verb.Reorder = codes "reorder"
 word_of verb.Delay = codes "delay"
 word_of verb.Show = codes "show"
 word_of verb.Summary = codes "summary"
+
+abbrev pub link_word_of : LinkVerb → List ℕ
+link_word_of link.Frame = codes "frame"
+link_word_of link.Error = codes "error"
+link_word_of link.Tick = codes "tick"
+link_word_of link.Show = codes "show"
+link_word_of link.Rx = codes "rx"
+link_word_of link.Tx = codes "tx"
 
 -- one number of at most `most`, and no other word
 abbrev pub IsOneNumber : ℕ → List (List ℕ) → ℕ → Type 0

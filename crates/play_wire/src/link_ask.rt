@@ -1,15 +1,18 @@
-//! What a line asks of a host's link.
-ghost use Rattle.std.specs.Prelude.{◌≡◌, ◌≤◌, ℕ, List, IfSome, MatchOption, codes, length, true, slice_get};
+//! What a line asks of a host's link: it's read once, and what it asks for is a value.
+ghost use Rattle.std.specs.Prelude.{◌≡◌, ◌≤◌, IfSome, MatchOption, length, true, slice_get};
 ghost use Rattle.params.specs.declared.TheConstants.{IP_MAX_PACKET};
 ghost use Rattle.play_script.specs.Views.{plain_line};
+ghost use Rattle.script_loop.specs.Left.{left};
 ghost use Rattle.segment.specs.Inside.{view};
-ghost use Rattle.play_wire.specs.Inside.{IsNotOther, IsNotShown, link_asked, room_asked};
+ghost use Rattle.play_wire.specs.Inside.{ReadsOfLink, link_asked, link_asks, room_asked};
 ghost use Rattle.play_wire.specs.Links as links;
-ghost use Rattle.play_wire.specs.Links.{IsErrorLine, IsForStack, IsFrameLine, IsWordPair, IsTickLine, WritesLink, is_for_link, is_packet_line};
+ghost use Rattle.play_wire.specs.Links.{AsksLink, IsForStack, WritesLink, is_for_link};
+ghost use Rattle.play_wire.specs.declared.verb.LinkVerb.TheVariants as verb;
 
-use play_read::ticks_of;
+use crate::verb::{LinkVerb, link_verb_of};
+use crate::wire_ask::{one_number, ticks_of};
 use play_script::{Line, bytes_of};
-use script_loop::{bytes, first_word, number, one};
+use script_loop::{bytes, first_word, is_end, one};
 use segment::Segment;
 
 /// What a line asks of a link. The bytes of a frame are borrowed from the room that the line was read into.
@@ -29,110 +32,103 @@ pub(crate) enum LinkAsk<'r> {
     Packets,
 }
 
-/// The bytes of a line `frame BYTES`, as they're written.
-fn frame_word(plain: &[u8]) -> Option<&[u8]>
-    ensures { MatchOption result ((word : List ℕ) → IsWordPair plain.now (codes "frame") word → ⊥)
-        (λ word. IsWordPair plain.now (codes "frame") word.now) }
-{
-    let (word, rest) = first_word(plain);
-    if word != b"frame".as_slice() {
-        return None;
-    }
-    one(rest)
-}
-
-/// The frame of a line `frame BYTES`.
-fn frame_in<'r>(plain: &[u8], room: &'r mut [u8]) -> Option<&'r [u8]>
+/// `frame BYTES`.
+fn frame_of<'r>(rest: Option<&[u8]>, room: &'r mut [u8]) -> Option<LinkAsk<'r>>
     requires { length room.old ≡ IP_MAX_PACKET }
-    ensures is { MatchOption result ((frame : List ℕ) → IsFrameLine plain.now frame → ⊥)
-        (λ frame. IsFrameLine plain.now frame.now) }
-    ensures fits { IfSome result (λ frame. length frame.now ≤ IP_MAX_PACKET) }
-{
-    let word = frame_word(plain)?;
-    let len = bytes(word, room)?;
-    Some(&room[..len])
-}
-
-/// The descriptor of a line `error FD`.
-fn error_in(plain: &[u8]) -> Option<u32>
-    ensures { MatchOption result ((fd : ℕ) → IsErrorLine plain.now fd → ⊥) (IsErrorLine plain.now) }
-{
-    let (word, rest) = first_word(plain);
-    if word != b"error".as_slice() {
-        return None;
-    }
-    number(one(rest)?, u32::MAX)
-}
-
-/// How many ticks a line asks for: those of `tick`, or `tick N`.
-pub(crate) fn ticks_in(plain: &[u8]) -> Option<u32>
-    ensures { MatchOption result ((n : ℕ) → IsTickLine plain.now n → ⊥) (IsTickLine plain.now) }
-{
-    if plain == b"tick".as_slice() {
-        return Some(1);
-    }
-    ticks_of(plain)
-}
-
-/// Whether a line brings or takes a packet.
-fn is_packet(plain: &[u8]) -> bool
-    ensures { result ≡ is_packet_line plain.now }
-{
-    plain.starts_with(b"rx ") || plain == b"tx".as_slice()
-}
-
-/// What a plain line asks of a link to show.
-fn shown_in(plain: &[u8]) -> Option<LinkAsk<'static>>
-    ensures is { MatchOption result (IsNotShown plain.now) (λ ask. WritesLink plain.now (link_asked ask)) }
+    ensures is { ReadsOfLink verb.Frame (left rest.entry) result }
     ensures fits { IfSome result (λ ask. room_asked ask ≤ IP_MAX_PACKET) }
 {
-    if plain == b"show neighbours".as_slice() {
+    let word = one(rest)?;
+    let len = bytes(word, room)?;
+    Some(LinkAsk::Frame(&room[..len]))
+}
+
+/// `error FD`.
+fn error_of(rest: Option<&[u8]>) -> Option<LinkAsk<'static>>
+    ensures is { ReadsOfLink verb.Error (left rest.entry) result }
+    ensures fits { IfSome result (λ ask. room_asked ask ≤ IP_MAX_PACKET) }
+{
+    Some(LinkAsk::LastError(one_number(rest, u32::MAX)?))
+}
+
+/// `tick` or `tick N`.
+fn link_ticks_of(rest: Option<&[u8]>) -> Option<LinkAsk<'static>>
+    ensures is { ReadsOfLink verb.Tick (left rest.entry) result }
+    ensures fits { IfSome result (λ ask. room_asked ask ≤ IP_MAX_PACKET) }
+{
+    Some(LinkAsk::Ticks(ticks_of(rest)?))
+}
+
+/// `show neighbours` or `show link`.
+fn shown_of(rest: Option<&[u8]>) -> Option<LinkAsk<'static>>
+    ensures is { ReadsOfLink verb.Show (left rest.entry) result }
+    ensures fits { IfSome result (λ ask. room_asked ask ≤ IP_MAX_PACKET) }
+{
+    let word = one(rest)?;
+    if word == b"neighbours".as_slice() {
         return Some(LinkAsk::Neighbours);
     }
-    if plain == b"show link".as_slice() {
+    if word == b"link".as_slice() {
         return Some(LinkAsk::Counts);
     }
     None
 }
 
-/// What a plain line asks of a link, but for a frame.
-fn other_in(plain: &[u8]) -> Option<LinkAsk<'static>>
-    ensures is { MatchOption result (IsNotOther plain.now) (λ ask. WritesLink plain.now (link_asked ask)) }
+/// A packet that comes, with its bytes or by name.
+fn coming(rest: Option<&[u8]>) -> Option<LinkAsk<'static>>
+    ensures is { ReadsOfLink verb.Rx (left rest.entry) result }
     ensures fits { IfSome result (λ ask. room_asked ask ≤ IP_MAX_PACKET) }
 {
-    match error_in(plain) {
-        Some(fd) => Some(LinkAsk::LastError(fd)),
-        None => match ticks_in(plain) {
-            Some(count) => Some(LinkAsk::Ticks(count)),
-            None => {
-                if is_packet(plain) {
-                    Some(LinkAsk::Packets)
-                } else {
-                    shown_in(plain)
-                }
-            }
-        },
+    if is_end(rest) {
+        None
+    } else {
+        Some(LinkAsk::Packets)
+    }
+}
+
+/// A packet that is taken.
+fn taken(rest: Option<&[u8]>) -> Option<LinkAsk<'static>>
+    ensures is { ReadsOfLink verb.Tx (left rest.entry) result }
+    ensures fits { IfSome result (λ ask. room_asked ask ≤ IP_MAX_PACKET) }
+{
+    if is_end(rest) {
+        Some(LinkAsk::Packets)
+    } else {
+        None
+    }
+}
+
+/// What a verb and the words after it ask of a link. The room has 65,535 bytes.
+fn form_of<'r>(verb: LinkVerb, rest: Option<&[u8]>, room: &'r mut [u8]) -> Option<LinkAsk<'r>>
+    requires { length room.old ≡ IP_MAX_PACKET }
+    ensures is { ReadsOfLink verb (left rest.entry) result }
+    ensures fits { IfSome result (λ ask. room_asked ask ≤ IP_MAX_PACKET) }
+{
+    match verb {
+        LinkVerb::Frame => frame_of(rest, room),
+        LinkVerb::Error => error_of(rest),
+        LinkVerb::Tick => link_ticks_of(rest),
+        LinkVerb::Show => shown_of(rest),
+        LinkVerb::Rx => coming(rest),
+        LinkVerb::Tx => taken(rest),
     }
 }
 
 /// What a plain line asks of a link. The room has 65,535 bytes.
 fn ask_in<'r>(plain: &[u8], room: &'r mut [u8]) -> Option<LinkAsk<'r>>
     requires { length room.old ≡ IP_MAX_PACKET }
-    ensures is { MatchOption result ((ask : links.LinkAsk) → WritesLink plain.now ask → ⊥)
-        (λ ask. WritesLink plain.now (link_asked ask)) }
+    ensures is { AsksLink plain.now (link_asks result) }
     ensures fits { IfSome result (λ ask. room_asked ask ≤ IP_MAX_PACKET) }
 {
-    match frame_in(plain, room) {
-        Some(frame) => Some(LinkAsk::Frame(frame)),
-        None => other_in(plain),
-    }
+    let (word, rest) = first_word(plain);
+    let verb = link_verb_of(word)?;
+    form_of(verb, rest, room)
 }
 
 /// What a line asks of a link, as `ask_in` has it.
 fn ask_of<'r>(line: &Line, room: &'r mut [u8]) -> Option<LinkAsk<'r>>
     requires { length room.old ≡ IP_MAX_PACKET }
-    ensures is { MatchOption result ((ask : links.LinkAsk) → WritesLink (plain_line line.now) ask → ⊥)
-        (λ ask. WritesLink (plain_line line.now) (link_asked ask)) }
+    ensures is { AsksLink (plain_line line.now) (link_asks result) }
     ensures fits { IfSome result (λ ask. room_asked ask ≤ IP_MAX_PACKET) }
 {
     if line.named {

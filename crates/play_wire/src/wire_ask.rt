@@ -53,7 +53,7 @@ pub(crate) enum WireAsk<'l> {
 }
 
 /// The one number that is left.
-fn one_number(rest: Option<&[u8]>, most: u32) -> Option<u32>
+pub(crate) fn one_number(rest: Option<&[u8]>, most: u32) -> Option<u32>
     ensures { MatchOption result ((n : ℕ) → IsOneNumber most (left rest.entry) n → ⊥)
         (IsOneNumber most (left rest.entry)) }
 {
@@ -92,7 +92,7 @@ fn carry_of(rest: Option<&[u8]>) -> Option<WireAsk<'static>>
 }
 
 /// How many ticks the words after `tick` ask for.
-fn ticks_of(rest: Option<&[u8]>) -> Option<u32>
+pub(crate) fn ticks_of(rest: Option<&[u8]>) -> Option<u32>
     ensures { MatchOption result ((n : ℕ) → IsTickCount (left rest.entry) n → ⊥) (IsTickCount (left rest.entry)) }
 {
     if is_end(rest) {

@@ -1,6 +1,11 @@
-use Rattle.play_wire.proofs.LinkLemmas.{asks_or_none}
+use Rattle.play_wire.proofs.LinkLemmas.{asks_as, asks_none}
 use Rattle.play_wire.proofs.link_ask.ask_in.Goals as goal
 
-pub returns-in-None-clause-is : goal.returns-in-None-clause-is
-returns-in-None-clause-is c =
-    asks_or_none c.args.plain.now c.other_in.result c.in-None.ensures.is c.other_in.ensures.is
+pub returns-clause-is : goal.returns-clause-is
+returns-clause-is c =
+    asks_as c.args.plain.now _ c.in_ok-verb.verb _ c.form_of.result c.first_word.ensures c.in_ok-verb.ensures
+    c.form_of.ensures.is
+
+pub returns-in_err-verb-clause-is : goal.returns-in_err-verb-clause-is
+returns-in_err-verb-clause-is c =
+    rw c.from_residual.ensures (asks_none c.args.plain.now _ _ c.first_word.ensures c.in_err-verb.ensures)
