@@ -1,3 +1,4 @@
+mod AddressLemmas
 mod ByteLemmas
 mod MarkLemmas
 mod NumberLemmas

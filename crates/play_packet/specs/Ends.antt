@@ -1,7 +1,7 @@
 -- The two ends of a packet, as words write them: `10.0.0.2:5000` of a datagram, else an address alone (this project's
 -- own).
-use Rattle.std.specs.Prelude.{ℕ, ◌+◌, ◌*◌, ◌==◌, List, take, drop, position, Option, Some, None, option_map, Result, Ok, Err}
-use Rattle.std.specs.Borrow.{Bor}
+use Rattle.std.specs.Prelude.{ℕ, ◌+◌, ◌-◌, ◌*◌, ◌^◌, ◌==◌, List, [], ◌∷◌, take, drop, position, if◌then◌else◌, bytes_eq, nat_lt, Option, Some, None, Result, Ok, Err}
+use Rattle.flat_model.specs.Scripts.Grammar.{address_text}
 use Rattle.flat_model.specs.declared.address.Addr.{Addr}
 use Rattle.play_line.specs.declared.fault.Fault.{Fault}
 use Rattle.play_line.specs.declared.fault.Fault.TheVariants.{NoAddress, NoEnd, NoPort}
@@ -9,24 +9,21 @@ use Rattle.play_packet.specs.Numbers.{number_in}
 use Rattle.play_packet.specs.declared.mark.Payload.{Payload}
 use Rattle.play_packet.specs.declared.mark.Payload.TheVariants.{Udp, Raw}
 
--- what is read next, if there was something
-abbrev pub and_next : {A B : Type 0} → Option A → (A → Option B) → Option B
-and_next None more = None
-and_next (Some a) more = more a
-
 abbrev pub first_place : ℕ → List ℕ → Option ℕ
 first_place sought text = position (λ byte. byte == sought) text
 
--- a number of 0 to 255 with a dot after it, and what stands after the dot
-abbrev pub octet_in : List ℕ → Option (ℕ × List ℕ)
-octet_in text = and_next (first_place 46 text) (λ at.
-    option_map (λ n. (n, drop (at + 1) text)) (number_in 255 (take at text)))
+-- the number that octets with dots between them make, after those in front and the digits of the next one
+abbrev pub octets_value : ℕ → ℕ → List ℕ → ℕ
+octets_value front octet [] = 256 * front + octet
+octets_value front octet (byte ∷ bytes) =
+    if byte == 46 then octets_value (256 * front + octet) 0 bytes
+    else octets_value front (10 * octet + (byte - 48)) bytes
 
--- four numbers with dots between them
+-- the address that a word writes just as it's printed
 abbrev pub address_in : List ℕ → Option ℕ
-address_in text =
-    and_next (octet_in text) (λ a. and_next (octet_in a.1) (λ b. and_next (octet_in b.1) (λ c.
-    option_map (λ d. 16777216 * a.0 + 65536 * b.0 + 256 * c.0 + d) (number_in 255 c.1))))
+address_in word =
+    let ip : ℕ = octets_value 0 0 word in
+    if bytes_eq word (address_text ip) then (if nat_lt ip (2 ^ 32) then Some ip else None) else None
 
 abbrev pub end_of : Option ℕ → Option ℕ → Result Addr Fault
 end_of None port = Err NoEnd
@@ -54,7 +51,3 @@ end_as Raw word = without_port (address_in word)
 abbrev pub missing_end : Payload → Fault
 missing_end Udp = NoEnd
 missing_end Raw = NoAddress
-
-abbrev pub octet_now : Option (ℕ × Bor (List ℕ)) → Option (ℕ × List ℕ)
-octet_now None = None
-octet_now (Some t) = Some (t.0, t.1.now)

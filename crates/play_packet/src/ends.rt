@@ -6,6 +6,7 @@ use crate::mark::Payload;
 use crate::numbers::number_in;
 use flat_model::Addr;
 use play_line::Fault;
+use request::address_of;
 
 /// Where a byte is first.
 fn place_of(sought: u8, text: &[u8]) -> Option<usize>
@@ -15,25 +16,11 @@ fn place_of(sought: u8, text: &[u8]) -> Option<usize>
     text.iter().position(|byte| *byte == sought)
 }
 
-/// A number of 0 to 255 with a dot after it, and what stands after the dot.
-fn octet_in(text: &[u8]) -> Option<(u32, &[u8])>
-    ensures is { ends.octet_now result ≡ ends.octet_in text.now }
-    ensures most { IfSome result (λ t. t.0 ≤ 255) }
+/// The address that the word writes just as it's printed.
+fn address_in(word: &[u8]) -> Option<u32>
+    ensures { result ≡ ends.address_in word.now }
 {
-    let at = place_of(b'.', text)?;
-    let octet = number_in(&text[..at], 255)?;
-    Some((octet, &text[at + 1..]))
-}
-
-/// The address that four numbers with dots between them write.
-fn address_in(text: &[u8]) -> Option<u32>
-    ensures { result ≡ ends.address_in text.now }
-{
-    let (a, rest) = octet_in(text)?;
-    let (b, rest) = octet_in(rest)?;
-    let (c, rest) = octet_in(rest)?;
-    let d = number_in(rest, 255)?;
-    Some(16_777_216 * a + 65_536 * b + 256 * c + d)
+    address_of(word)
 }
 
 /// The address and the port that a word writes, with a colon between them.
