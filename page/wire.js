@@ -1,23 +1,14 @@
 "use strict";
 // Scripts of many machines on one wire. The program plays them. Where the bytes lie at each machine the page finds out
 // by a script of its own for each: its lines, with a line `tx` for each packet that it gave to the wire, and a line
-// `rx` for each that came. It's held against what the program counts of the machine after each line, and shown if it
-// agrees.
-
-const LIMITED_BROADCAST = 0xffffffff, QUEUE_MOST = 50;
-// How often a line carries while it's looked into, and how often `carry all` does at most.
-const MOST_CARRIES = 20, MOST_OF_ALL = 1000;
+// `rx` for each that came, as the program says. It's held against what the program counts of the machine after each
+// line, and shown if it agrees.
 
 // A machine on the wire: its settings, and the lines of its own script so far.
 class WireHost {
   constructor(name, words) {
     const options = { ...DEFAULTS, ...settingsIn(words) };
     Object.assign(this, { name, options, config: configOf(options), lines: [] });
-  }
-
-  // Whether it's the destination of a packet that another one sent.
-  hears(packet) {
-    return !packet.isShort && [this.config.addr, this.config.bcast, LIMITED_BROADCAST].includes(packet.destination);
   }
 }
 
@@ -26,75 +17,48 @@ class WireHost {
 const CHANCE = /^(loss|reorder|delay) |^repeat .*[%./]/;
 const HOST_LINE = /^([A-Za-z]\w*): ?(.*)$/;
 
-// A line that carries, as its halves, with a look at the wire between them.
-function halvesOf(line) {
-  const [, isAll, count] = /^carry( all)?(?: (\d+))?$/.exec(line) || [];
-  if (!line.startsWith("carry")) return [line];
-  const most = +(count || (isAll ? MOST_OF_ALL : 1)), times = Math.min(most, MOST_CARRIES);
-  const halves = Array.from({ length: times }, () => ["collect", "show wire", "deliver"]).flat();
-  return most > times ? [...halves, `carry${isAll || ""} ${most - times}`] : halves;
+// What became of packets stands behind the line that moved them, each an object with the line's number.
+function partMoves(objects) {
+  const moves = new Map(objects.map(it => [it.number, []]));
+  for (const it of objects.filter(({ fate }) => fate)) moves.get(it.number).push(it);
+  return { lines: objects.filter(({ fate }) => !fate), moves };
 }
 
-// Plays the script once more, with lines that say after each one what is under way and what the machines counted.
-// Answers for each line the wire as it was in between and is then, and the machines' replies.
-function lookInto(engine, objects) {
+// What the machines counted after each line: the script is played once more, with lines that ask for it.
+function statesAfter(engine, objects) {
   const lines = [], places = [], names = [];
-  let isJoined = false;
   for (const it of objects) {
-    const isDone = !it.fault, { ticks, plain } = timedOf(isDone ? it.line : ""), [verb, name] = plain.split(" ");
-    const asked = isDone ? [...(ticks ? [`tick ${ticks}`] : []), ...halvesOf(plain)] : [];
+    const [verb, name] = it.fault ? [] : timedOf(it.line).plain.split(" ");
     if (verb === "host") names.push(name);
-    if (verb === "wire") isJoined = true;
-    const from = lines.length;
-    const states = names.flatMap(one => [`${one}: stat`, `${one}: mbstat`]);
-    lines.push(...asked, ...(isJoined ? ["show wire"] : []), ...states);
-    places.push({ from, asked: asked.length, isJoined, names: [...names] });
+    lines.push(it.fault ? "" : it.line);
+    places.push({ from: lines.length, names: [...names] });
+    lines.push(...names.flatMap(one => [`${one}: stat`, `${one}: mbstat`]));
   }
-  const told = new Map(engine.hosts(lines.map(line => line + "\n").join("")).objects.map(it => [it.number - 1, it]));
-  return places.map(place => viewsIn(told, place));
+  const { lines: told } = partMoves(engine.hosts(lines.map(line => line + "\n").join("")).objects);
+  const replies = new Map(told.map(it => [it.number - 1, it.reply]));
+  return places.map(({ from, names: all }) => new Map(all.map((name, i) =>
+    [name, { counters: countersIn(replies.get(from + 2 * i)), pool: usageIn(replies.get(from + 2 * i + 1)) }])));
 }
-
-function viewsIn(told, { from, asked, isJoined, names }) {
-  const flights = [], states = new Map(), first = from + asked + (isJoined ? 1 : 0);
-  for (let at = from; at < first; at++) {
-    const it = told.get(at);
-    if (it && it.line === "show wire") flights.push(linesOf(it.below).map(flightIn));
-  }
-  names.forEach((name, i) => {
-    const [stat, usage] = [told.get(first + 2 * i), told.get(first + 2 * i + 1)];
-    if (usage) states.set(name, { counters: countersIn(stat.reply), pool: usageIn(usage.reply) });
-  });
-  return { flights, states };
-}
-
-// A packet that is under way, by what `show wire` says.
-function flightIn(text) {
-  const [, from, source, destination, size, id] = /(\w+): (\S+) > (\S+), (\d+) bytes, id (\d+)/.exec(text) || [];
-  const [, offset] = /fragment at (\d+)/.exec(text) || [], [, wait] = /due after (\d+)/.exec(text) || [];
-  return { from, key: [source, destination, size, id, offset || 0].join(), wait: +(wait || 0) };
-}
-
-const keyOf = it => [dotted(it.source), dotted(it.destination), it.length, it.id, it.offset].join();
 
 // ---- the wire
 
 class WirePlay {
-  constructor(engine, runs) {
-    Object.assign(this, { engine, runs, hosts: new Map(), joined: [], flight: [], given: [], chances: [] });
+  constructor(runs) {
+    Object.assign(this, { runs, hosts: new Map(), joined: [], flight: [], chances: [], isWhole: true });
   }
 
-  // Plays a line. The step says how many lines of each machine's script came before it and after it.
-  play(it, i, views) {
+  // Plays a line, by which this became of packets. The step says how many lines of each machine's script came before it
+  // and after it.
+  play(it, i, moves, states) {
     const was = this.counts();
     this.moved = [];
-    this.flights = [...views.flights];
     const { ticks, plain: line } = timedOf(it.line || ""), [, name, plain] = HOST_LINE.exec(line) || [];
     if (ticks) this.act(`tick ${ticks}`);
     if (!it.fault && name) this.hosts.get(name).lines.push(...this.runs[i]);
-    if (!it.fault && !name) this.act(line);
+    if (!it.fault && !name) this.act(line, moves);
     const wire = { joined: this.joined, flight: this.flight, chances: this.chances };
-    return { host: it.fault ? null : name || null, plain, moved: this.moved, wire, was, now: this.counts(),
-      states: views.states };
+    return { host: it.fault ? null : name || null, plain, moved: this.moved, wire, was, now: this.counts(), states,
+      isWhole: this.isWhole };
   }
 
   counts() {
@@ -102,17 +66,14 @@ class WirePlay {
   }
 
   // A line of the wire itself, which the program could do.
-  act(line) {
-    const [verb, ...words] = line.split(" ");
+  act(line, moves = []) {
+    const [verb, ...words] = line.split(" "), at = words.map(Number);
     if (verb === "host") this.hosts.set(words[0], new WireHost(words[0], words.slice(1)));
     if (verb === "wire") this.joined = [...this.hosts.values()];
     if (verb === "tick") this.hosts.forEach(host => host.lines.push(...Array(+(words[0] || 1)).fill("tick")));
-    if (verb === "collect") this.collect();
-    if (verb === "deliver") this.deliver();
-    if (verb === "carry") while (this.flights.length > 1) this.carry();
-    if (verb === "drop") this.moved.push({ ...this.flight[+words[0]], fate: "dropped" });
-    if (["drop", "repeat", "swap"].includes(verb)) this.look();
+    if (["carry", "collect", "deliver"].includes(verb)) this.carry(moves);
     if (CHANCE.test(line)) this.chance(line);
+    else if (["drop", "repeat", "swap"].includes(verb)) this.byHand(verb, ...at);
   }
 
   // A chance that is set takes the place of the one before. One of nothing is none.
@@ -122,51 +83,34 @@ class WirePlay {
     this.chances = /^0*[.]?0*%?$|^0\/|^0-0$/.test(much) ? others : [...others, line];
   }
 
-  carry() {
-    this.collect();
-    this.deliver(this.flights.length === 1);
+  // What the program says of packets: so many went, one was lost, came to a machine, or is under way after the line.
+  carry(moves) {
+    const all = moves.map(it => (it.packet ? { ...it, packet: packetIn(`packet ${it.packet}`).packet } : it));
+    this.flight = all.filter(it => it.fate === "under way");
+    for (const it of all.filter(({ fate }) => fate !== "under way")) this.move(it);
   }
 
-  // What waits at each machine goes onto the wire, unless it's lost by chance.
-  collect() {
-    const before = this.flight.length, sent = [];
-    for (const host of this.hosts.values()) {
-      const asked = [...host.lines, ...Array(QUEUE_MOST).fill("tx"), ""].join("\n");
-      const replies = this.engine.run(host.config, asked).replies.slice(host.lines.length);
-      for (const reply of replies.filter(it => it.startsWith("packet "))) {
-        host.lines.push("tx");
-        sent.push({ from: host.name, packet: packetIn(reply).packet });
-      }
-    }
-    this.given.push(...sent);
-    this.look();
-    const kept = this.flight.slice(before).map(it => it.packet);
-    this.moved.push(...sent.filter(it => !kept.includes(it.packet)).map(it => ({ ...it, fate: "lost" })));
+  move({ from, to, packet, fate, cause, count = 1 }) {
+    if (fate === "more") this.isWhole = false;
+    if (GIVEN.includes(fate)) this.hosts.get(from).lines.push(...Array(count).fill("tx"));
+    if (to) this.hosts.get(to).lines.push(`rx ${hexOf(packet.bytes)}`);
+    if (to) this.moved.push({ from, to, packet, fate: "delivered", cause, place: this.hosts.get(to).lines.length - 1 });
+    else if (LEFT.includes(fate)) this.moved.push({ from, packet, fate });
   }
 
-  // What is due comes to the machines that it's for.
-  deliver(isLast = true) {
-    for (const it of this.flight.filter(({ wait }) => !wait)) this.bring(it);
-    this.flight = this.flight.filter(({ wait }) => wait).map(it => ({ ...it, wait: it.wait - 1 }));
-    if (isLast) this.look();
-  }
-
-  bring({ from, packet }) {
-    const to = this.joined.filter(host => host.name !== from && host.hears(packet));
-    if (!to.length) this.moved.push({ from, packet, fate: "nobody" });
-    for (const host of to) {
-      host.lines.push(`rx ${hexOf(packet.bytes)}`);
-      this.moved.push({ from, to: host.name, packet, fate: "delivered", place: host.lines.length - 1 });
-    }
-  }
-
-  // What is under way now, as the program says, with the bytes that the machines gave.
-  look() {
-    const flight = this.flights.shift() || [];
-    const bytesOf = it => this.given.findLast(one => one.from === it.from && keyOf(one.packet) === it.key);
-    this.flight = flight.map(it => ({ ...it, ...bytesOf(it) })).filter(it => it.packet);
+  // A packet is lost or goes twice by hand, or two change places.
+  byHand(verb, at, other) {
+    const it = this.flight[at], flight = [...this.flight];
+    if (!it) return;
+    if (verb === "drop") this.moved.push({ ...flight.splice(at, 1)[0], fate: "dropped" });
+    if (verb === "repeat") flight.push(it);
+    if (verb === "swap") [flight[at], flight[other]] = [flight[other], it];
+    this.flight = flight;
   }
 }
+
+// The fates of packets that a machine gave, and of those that left the wire and came to none.
+const GIVEN = ["sent", "sent twice", "lost", "no room"], LEFT = ["lost", "no room", "unheard"];
 
 // ---- the steps
 
@@ -183,9 +127,10 @@ const aloneText = text => linesOf(text).map(line => {
 }).join("");
 
 function traceHosts(engine, text) {
-  const { code, objects } = engine.hosts(text), all = linesOf(text), views = lookInto(engine, objects);
-  const wire = new WirePlay(engine, runLines(engine, DEFAULT_CONFIG, aloneText(text), aloneOf(objects)));
-  const played = objects.map((it, i) => wire.play(it, i, views[i]));
+  const { code, objects: told } = engine.hosts(text), { lines: objects, moves } = partMoves(told);
+  const states = statesAfter(engine, objects), all = linesOf(text);
+  const wire = new WirePlay(runLines(engine, DEFAULT_CONFIG, aloneText(text), aloneOf(objects)));
+  const played = objects.map((it, i) => wire.play(it, i, moves.get(it.number), states[i]));
   for (const host of wire.hosts.values()) host.steps = traceStack(engine, host.config, host.lines).steps;
   const steps = objects.map((it, i) => hostStep(it, i, all[it.number - 1], played, wire.hosts));
   return { code, steps, hosts: wire.hosts };
@@ -197,6 +142,7 @@ const stateOf = (step, name, hosts) =>
 
 // Whether a machine's own script says the same as the program, so that its bytes are known.
 function isFollowed(step, host) {
+  if (!step.isWhole) return false;
   const n = step.now.get(host.name), own = n ? host.steps[n - 1] : { counters: {}, pool: emptyPool(host.config) };
   const { counters, pool } = step.states.get(host.name) || {};
   return Boolean(pool && own) && JSON.stringify([counters, pool]) === JSON.stringify([own.counters, own.pool]);

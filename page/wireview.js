@@ -2,12 +2,13 @@
 // The right column of a script of several machines: the wire, the machines side by side, and the packets.
 
 // What became of a packet that left the wire: how it's marked, and in words.
-function fateOf({ fate, to, place }, hosts) {
+function fateOf({ fate, to, place, cause }, hosts) {
   if (fate === "dropped") return ["no", "It's lost by this line."];
-  if (fate === "nobody") return ["no", "No other machine on the wire has this address."];
+  if (fate === "unheard") return ["no", "No other machine on the wire has this address."];
   if (fate === "lost") return ["no", "It's lost on the wire."];
+  if (fate === "no room") return ["no", "It's lost: the wire has no room."];
   const step = hosts.get(to).steps[place], end = step.drops.find(it => ENDS.has(it.name));
-  if (end) return ["no", `${to} drops it, counted in ${end.name}: ${COUNTERS[end.name]}.`];
+  if (cause) return ["no", `${to} drops it${end ? `, counted in ${end.name}` : ""}: ${cause}.`];
   if (has(step, "ip.reassembled")) return ["yes", `${to} has all fragments now: the datagram is whole.`];
   if (step.packet.isFragment) return ["wait", `${to} keeps it: the datagram isn't whole yet.`];
   return ["yes", `${to} takes it.`];
@@ -71,7 +72,7 @@ function hostView(page, step, host) {
   const isChanged = n > (step.was.get(host.name) || 0);
   if (!isFollowed(step, host)) {
     return h("div", { class: "column" }, panel(title, poolBar("mbufs", pool.mbufs, []), h("p", { class: "faint" },
-      "What it holds isn't drawn: of this script the page can't work out what came to it, in which order.")),
+      "What it holds isn't drawn: a line moved more packets than the page follows.")),
     countersView({ counters, changed }, `Counters of ${host.name}`));
   }
   const around = [step.was.get(host.name) || 0, n].map(count => page.memoryOf(host, count));

@@ -395,7 +395,8 @@ function randomWire(below) {
     () => `rx udp 10.0.0.9:5 > ${ip()}:7 ${bytes()}`, () => "tick"];
   const wire = [() => "carry", () => "collect", () => "deliver", () => "carry 2", () => "show wire", () => "tick",
     () => `drop ${below(4)}`, () => `repeat ${below(4)}`, () => `swap ${below(4)} ${below(4)}`, () => "loss 20%",
-    () => "loss 0%", () => `repeat 10% from ${name()}`, () => `delay ${below(2)}-2`, () => "delay 0-0"];
+    () => "loss 0%", () => "reorder 50%", () => "carry all 3", () => `repeat 10% from ${name()}`,
+    () => `delay ${below(2)}-2`, () => "delay 0-0"];
   const first = ["host a", "host b --addr 10.0.0.2 --mtu 576", "host c --addr 10.0.0.3 --mtu 68 --mbufs 40",
     "wire a b c", ...["a", "b", "c"].flatMap(it => [`${it}: socket`, `${it}: bind 3 0.0.0.0 7`])];
   const more = Array.from({ length: 60 }, () => (below(3) ? `${name()}: ${any(calls)()}` : any(wire)()));

@@ -130,3 +130,11 @@ nothing_more (x ∷ xs) = ap (λ ys. x ∷ ys) (nothing_more xs)
 pub and_false : (b : Bool) → false ≡ (b && false)
 and_false true = refl
 and_false false = refl
+
+-- ---- the objects behind that of a line
+
+pub not_both : {A : Type 0} → (b : Bool) → b ≡ true → b ≡ false → A
+not_both b t f = absurd (never (sym f ∙ t))
+  where
+    never : false ≡ true → ⊥
+    never e = cc

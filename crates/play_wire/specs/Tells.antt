@@ -1,12 +1,12 @@
 -- What may be told of a line, and what it leads to (this project's own).
-use Rattle.std.specs.Prelude.{◌≡◌, ◌⊎◌, ℕ, ◌-◌, ◌&&◌, ◌||◌, zero, suc, Bool, true, false, List, [], ◌∷◌, ◌++◌, length, codes, decimal, if◌then◌else◌, nat_lt, slice_get, Option, Some, None, Result, Ok, Err}
+use Rattle.std.specs.Prelude.{◌≡◌, ◌⊎◌, ℕ, ◌-◌, ◌&&◌, ◌||◌, zero, suc, Bool, true, false, List, [], ◌∷◌, ◌++◌, length, take, bytes_eq, codes, decimal, if◌then◌else◌, nat_lt, slice_get, Option, Some, None, Result, Ok, Err}
 use Rattle.flat_model.specs.Amounts.Choice.{Choice}
 use Rattle.flat_model.specs.Machine.Count.{more_by}
 use Rattle.play_line.specs.Time.{TimedView, timed}
 use Rattle.play_line.specs.declared.fault.Slip.{Slip}
 use Rattle.play_script.specs.Lines.{Reading, Nothing, TooLong, Faulty, Asks, has_text, reading_part, shifted}
 use Rattle.play_text.specs.Texts.{fault_text, slip_text}
-use Rattle.play_text.specs.Forms.{is_quiet}
+use Rattle.play_text.specs.Forms.{is_json, is_quiet}
 use Rattle.play_text.specs.declared.form.Form.{Form}
 use Rattle.play_script.specs.Tells.{is_sound, told_text}
 use Rattle.segment.specs.Law.{Act, AreActs, Loses, Repeats, Seeds, Swaps}
@@ -55,10 +55,22 @@ IsParted line None part = part ≡ line
 
 -- ---- texts
 
+-- a line of the wire by which packets go or come
+abbrev pub moves_packets : List ℕ → Bool
+moves_packets plain =
+    bytes_eq (codes "carry") (take 5 plain) || bytes_eq plain (codes "collect") || bytes_eq plain (codes "deliver")
+
+-- Objects of JSON stand behind that of such a line, one for each thing that became of a packet. Which these are isn't
+-- said.
+abbrev pub has_objects : Form → Option (List ℕ) → List ℕ → Bool
+has_objects form (Some host) plain = false
+has_objects form None plain = is_json form && moves_packets plain
+
 -- what is told of a line
 abbrev pub IsText : WirePlay → Option (List ℕ) → List ℕ → List ℕ → Option (List ℕ) → Outcome → List ℕ → Type 0
 IsText now host shown plain wanted (Told told below) text =
-    text ≡ told_text now.form now.texts now.name now.number shown wanted told below
+    (objects : List ℕ) × (has_objects now.form host plain ≡ false → objects ≡ [])
+    × (text ≡ told_text now.form now.texts now.name now.number shown wanted told below ++ objects)
 IsText now host shown plain wanted (Refused reason) text =
     (what : List ℕ) × IsReason host plain reason what × (text ≡ fault_text now.form now.name now.number what)
 

@@ -50,7 +50,7 @@ fn carry_on<T: Sink + Drop>(
 }
 
 /// What waits for the links goes on the wire, and what is lost or goes twice is told.
-fn send<T: Sink + Drop>(
+pub(crate) fn send<T: Sink + Drop>(
     segment: &mut Segment,
     capture: &mut Capture<T>,
     names: &[Buffer<NAME>],
@@ -77,7 +77,7 @@ fn settle<T: Sink + Drop>(
 }
 
 /// What is due comes, and is told.
-fn bring(segment: &mut Segment, names: &[Buffer<NAME>], log: &mut Log)
+pub(crate) fn bring(segment: &mut Segment, names: &[Buffer<NAME>], log: &mut Log)
     ensures { AreLedTo (view segment.old) (view segment.new) }
 {
     deliver(segment, log);

@@ -19,6 +19,7 @@ mod link_count;
 mod link_line;
 mod log;
 mod names;
+mod objects;
 mod passed;
 mod player;
 mod runs;

@@ -1,24 +1,25 @@
 //! What plays a script of many machines line by line.
-ghost use Rattle.std.specs.Prelude.{◌≡◌, ◌-◌, ◌≤◌, ◌++◌, IfSome, List, Option, Some, false, length, slice_get, ℕ};
+ghost use Rattle.std.specs.Prelude.{◌≡◌, ◌-◌, ◌≤◌, ◌++◌, [], IfSome, List, Option, Some, false, length, slice_get, ℕ};
 ghost use Rattle.segment.specs.Inside.{view};
 ghost use Rattle.segment.specs.Law.{Act};
-ghost use Rattle.play_text.specs.Forms.{is_quiet};
+ghost use Rattle.play_text.specs.Forms.{is_json, is_quiet};
 ghost use Rattle.play_script.specs.Views.{expected_on, plain_line};
 ghost use Rattle.play_script.specs.Lines.{reading_part};
 ghost use Rattle.play_forms.specs.declared.text.TheConstants.{ADVICE};
 ghost use Rattle.play_wire.specs.Faults.{IsReason, player_of, wire_fault_words};
 ghost use Rattle.play_wire.specs.Inside.{came_of, named_by, play_with};
-ghost use Rattle.play_wire.specs.Tells.{WirePlay, IsDone, IsParted, Tells, TellsAsked, TellsPart};
+ghost use Rattle.play_wire.specs.Tells.{WirePlay, has_objects, moves_packets, IsDone, IsParted, Tells, TellsAsked, TellsPart};
 
 use crate::fault::Fault;
 use crate::host_line::answer_host;
 use crate::hosts::Hosts;
+use crate::log::Log;
 use crate::names::place_of;
 use crate::target::Target;
 use play_forms::Player as Advised;
 use play_line::{Timed, read_time};
 use play_packet::LineReader;
-use play_script::{Kind, Line, Printer, ROOM, Report, bytes_of, read_part, shift};
+use play_script::{Form, Kind, Line, Printer, ROOM, Report, bytes_of, read_part, shift};
 use script_loop::{Answers, Buffer, HELD, Sink};
 
 /// What plays a script.
@@ -93,6 +94,55 @@ fn tell_reason(report: &mut Report, target: &Target, line: &mut Line, fault: Fau
     }
 }
 
+/// Whether it's a form for programs.
+fn is_json(form: Form) -> bool
+    ensures { result ≡ is_json form }
+{
+    matches!(form, Form::Json)
+}
+
+/// Whether a line moves packets.
+fn moves_packets(plain: &[u8]) -> bool
+    ensures { result ≡ moves_packets plain.now }
+{
+    plain.starts_with(b"carry") || plain == b"collect".as_slice() || plain == b"deliver".as_slice()
+}
+
+/// Whether objects are printed behind that of a line.
+fn has_objects(form: Form, target: &Target, line: &Line) -> bool
+    ensures { result ≡ has_objects form (named_by target.now) (plain_line line.now) }
+{
+    if target.named {
+        return false;
+    }
+    if line.named {
+        return false;
+    }
+    let (json, moves) = (is_json(form), moves_packets(bytes_of(&line.words)));
+    json && moves
+}
+
+/// The objects that are printed behind that of a line.
+fn objects_of<'a>(form: Form, target: &Target, line: &Line, log: &'a Log) -> &'a [u8]
+    ensures { has_objects form (named_by target.now) (plain_line line.now) ≡ false → result.now ≡ [] }
+{
+    if has_objects(form, target, line) {
+        bytes_of(&log.objects)
+    } else {
+        &[]
+    }
+}
+
+/// Puts bytes after a text, if there is room for them.
+fn put_fitting(text: &mut Buffer<ROOM>, bytes: &[u8])
+    ensures { (added : List ℕ) × (bytes.now ≡ [] → added ≡ []) × (text.new ≡ text.old ++ added) }
+{
+    let fits = bytes.len() <= ROOM - text.len();
+    if fits {
+        text.append(bytes);
+    }
+}
+
 impl<T: Sink + Drop> Player<T> {
     /// Does what the line asks, and prints what is told of it.
     fn ask(&mut self, text: &mut Buffer<ROOM>)
@@ -106,7 +156,12 @@ impl<T: Sink + Drop> Player<T> {
     {
         self.report.quiet = self.printer.form.is_quiet();
         match answer_words(&mut self.hosts, &self.target, &self.line, &mut self.report) {
-            Ok(()) => self.printer.put_told(text, &self.line, &self.report),
+            Ok(()) => {
+                let log = &self.hosts.log;
+                let objects = objects_of(self.printer.form, &self.target, &self.line, log);
+                self.printer.put_told(text, &self.line, &self.report);
+                put_fitting(text, objects);
+            }
             Err(fault) => {
                 tell_reason(&mut self.report, &self.target, &mut self.line, fault);
                 self.printer.put_fault(text, bytes_of(&self.report.told));
@@ -164,6 +219,8 @@ impl<T: Sink + Drop> Answers<ROOM> for Player<T> {
     fn answer(&mut self, line: &[u8], text: &mut Buffer<ROOM>) {
         self.printer.next_line(line);
         self.hosts.capture.line = self.printer.number;
+        let (number, form) = (self.printer.number, self.printer.form);
+        self.hosts.log.set_line(number, form);
         match read_time(line) {
             Ok(timed) => self.answer_timed(line, timed, text),
             Err(slip) => self.printer.put_slip(text, slip),

@@ -102,10 +102,10 @@ fn add_sockets(text: &mut Buffer<SHOWN>, sockets: &[bool; SOCKETS]) {
     }
 }
 
-/// Puts why a packet was dropped after a text.
-fn add_causes(text: &mut Buffer<SHOWN>, drops: &[bool; CAUSES]) {
+/// Puts why a packet was dropped after a text, `first` in front of the first cause.
+fn add_causes<const N: usize>(text: &mut Buffer<N>, first: &'static [u8], drops: &[bool; CAUSES]) {
     let whys = causes();
-    let mut comma = b": ".as_slice();
+    let mut comma = first;
     for place in 0..CAUSES {
         if drops[place] {
             add(text, comma);
@@ -141,6 +141,29 @@ impl Verdict {
         }
     }
 
+    /// Whether the packet was dropped, or a copy of it.
+    pub(crate) fn is_dropped(&self) -> bool {
+        is_any(&self.drops)
+    }
+
+    /// Puts why it was dropped after a text, `first` in front of the first cause.
+    pub(crate) fn put_causes<const N: usize>(&self, text: &mut Buffer<N>, first: &'static [u8]) {
+        add_causes(text, first, &self.drops);
+    }
+
+    /// What came of the packet, in a word.
+    pub(crate) fn word(&self) -> &'static [u8] {
+        if is_any(&self.sockets) {
+            b"delivered"
+        } else if self.is_dropped() {
+            b"dropped"
+        } else if self.kept {
+            b"kept"
+        } else {
+            b"received"
+        }
+    }
+
     /// Puts what the host did after a text that ends with its name.
     pub(crate) fn put(&self, text: &mut Buffer<SHOWN>) {
         let (delivered, dropped) = (is_any(&self.sockets), is_any(&self.drops));
@@ -171,7 +194,7 @@ impl Verdict {
                     what
                 },
             );
-            add_causes(text, &self.drops);
+            add_causes(text, b": ", &self.drops);
         }
         if !delivered && !dropped {
             add(

@@ -9,10 +9,8 @@ ghost use Rattle.play_wire.specs.Tells.{DoesLine, DoesWire, IsWaited, TellsHalf,
 ghost use Rattle.play_wire.specs.declared.fault.Fault.TheVariants as fault;
 
 use crate::add::add;
-use crate::capture::collect;
-use crate::carries::{Bound, carry};
+use crate::carries::{Bound, bring, carry, send};
 use crate::fault::Fault;
-use crate::halves::deliver;
 use crate::hosts::Hosts;
 use crate::passed::{add_all, take_counts};
 use crate::show::tell_wire;
@@ -77,7 +75,6 @@ impl<T: Sink + Drop> Hosts<T> {
         ensures names { self.new.names ≡ self.old.names }
     {
         let names = self.names.as_slice();
-        self.log.begin(report.quiet);
         take_counts(
             &mut self.segment,
             &mut self.spare.stack,
@@ -125,8 +122,9 @@ impl<T: Sink + Drop> Hosts<T> {
         if !self.wired {
             return Err(Fault::NoWire);
         }
-        self.log.begin(true);
-        collect(&mut self.capture, &mut self.segment, &mut self.log);
+        let names = self.names.as_slice();
+        send(&mut self.segment, &mut self.capture, names, &mut self.log);
+        self.log.tell_left(&self.segment, names);
         report.tell_ok();
         Ok(())
     }
@@ -140,8 +138,9 @@ impl<T: Sink + Drop> Hosts<T> {
         if !self.wired {
             return Err(Fault::NoWire);
         }
-        self.log.begin(true);
-        deliver(&mut self.segment, &mut self.log);
+        let names = self.names.as_slice();
+        bring(&mut self.segment, names, &mut self.log);
+        self.log.tell_left(&self.segment, names);
         report.tell_ok();
         Ok(())
     }

@@ -1,4 +1,4 @@
 use Rattle.play_wire.proofs.hosts.Hosts.collect.Goals as goal
 
 pub returns-clause-collects : goal.returns-clause-collects
-returns-clause-collects g c = (c.collect.ensures.0, c.collect.ensures.1, (c.tell_ok.ensures.told, c.tell_ok.ensures.below))
+returns-clause-collects g c = (c.send.ensures.0, c.send.ensures.1, (c.tell_ok.ensures.told, c.tell_ok.ensures.below))

@@ -1,4 +1,5 @@
 use Rattle.std.proofs.Common.{◌≡◌, ◌++◌, ◌∙◌, Bool, List, ap, refl, subst, sym, ℕ}
+use Rattle.std.proofs.lemmas.List.{append_assoc}
 use Rattle.play_text.specs.Texts.{fault_text}
 use Rattle.play_wire.specs.Faults.{IsReason}
 use Rattle.play_script.specs.Tells.{told_text}
@@ -19,18 +20,20 @@ returns-in-Ok g c =
     let names = c.answer_words.new.hosts.names.items in
     let told = c.answer_words.new.report.told in
     let below = c.answer_words.new.report.below in
-    let wanted = expected_on now.line in (
+    let wanted = expected_on now.line in
+    let all = told_text p.form p.texts p.name p.number now.line.shown wanted told below in (
       did.0,
-      told_text p.form p.texts p.name p.number now.line.shown wanted told below,
+      all ++ c.put_fitting.ensures.0,
       (
         Told told below,
         segment,
         names,
         did.1,
-        refl,
+        (c.put_fitting.ensures.0, λ none. c.put_fitting.ensures.1 (c.objects_of-objects.ensures none), refl),
         ap (λ (q : Printer). play_with segment names q) c.put_told.ensures.printer,
       ),
-      c.put_told.ensures.text,
+      c.put_fitting.ensures.2 ∙ ap (λ t. t ++ c.put_fitting.ensures.0) c.put_told.ensures.text
+          ∙ append_assoc c.args.text.now all c.put_fitting.ensures.0,
     )
 
 pub returns-in-Err : goal.returns-in-Err
