@@ -1,6 +1,7 @@
 "use strict";
-// Packets as people read them: IP (RFC 791) and UDP (RFC 768). What the headers say, and which checksums would be
-// right, the program reads (crates/page); here is how the fields are drawn.
+// Packets as people read them: IP (RFC 791) and UDP (RFC 768), in frames of an Ethernet also ARP (RFC 826). What the
+// headers of a packet say, and which checksums would be right, the program reads (crates/page); here is how the fields
+// are drawn, and the headers of frames are read.
 
 const hexOf = bytes => Array.from(bytes, byte => byte.toString(16).padStart(2, "0")).join("");
 const bytesOf = hex => new Uint8Array((hex === "-" ? [] : hex.match(/../g) || []).map(digits => parseInt(digits, 16)));
@@ -132,6 +133,81 @@ class Packet {
     }
     const bytes = `bytes ${this.offset} to ${this.offset + this.carried.length - 1}`;
     return `${who}, fragment of datagram ${this.id}: ${bytes}, ${this.hasMore ? "more follow" : "the last"}`;
+  }
+}
+
+// ---- an Ethernet frame
+
+const MAC_BROADCAST = "ff:ff:ff:ff:ff:ff";
+const ETHER_HEADER = 14, ARP_BYTES = 28;
+const TYPES = { 0x0800: "IPv4", 0x0806: "ARP" };
+const word16 = (bytes, at) => 256 * bytes[at] + bytes[at + 1];
+const word32 = (bytes, at) => 65536 * word16(bytes, at) + word16(bytes, at + 2);
+const macAt = (bytes, at) => Array.from(bytes.subarray(at, at + 6), byte => hexOf([byte])).join(":");
+const macTold = mac => (mac === MAC_BROADCAST ? "all" : mac);
+
+// The fields of a frame (RFC 894) in their order, and behind them those of its packet or of its ARP packet (RFC 826).
+// `arp` or `packet` is what it has behind its header, if it's one of these.
+class Frame {
+  constructor(bytes) {
+    Object.assign(this, { bytes, length: bytes.length, fields: [], isShort: bytes.length < ETHER_HEADER });
+    if (this.isShort) {
+      this.add("no whole Ethernet header", 0, bytes.length, "data", "", 32);
+      return;
+    }
+    this.destination = macAt(bytes, 0);
+    this.source = macAt(bytes, 6);
+    this.type = word16(bytes, 12);
+    const name = TYPES[this.type];
+    this.add("Ethernet destination", 0, 6, "destination", macTold(this.destination), 32);
+    this.add("Ethernet source", 6, 6, "source", this.source, 32);
+    this.add("type", 12, 2, "other", `${hex16(this.type)}${name ? ` ${name}` : ""}`, 32);
+    this.addBody(bytes.subarray(ETHER_HEADER));
+  }
+
+  add(name, at, size, kind, value, bits, isWrong = false) {
+    this.fields.push({ name, at, size, kind, value: String(value), bits, isWrong, isRight: false, right: null });
+  }
+
+  addBody(body) {
+    if (this.type === 0x0800) {
+      this.packet = new Packet(body);
+      this.fields.push(...this.packet.fields.map(it => ({ ...it, at: it.at + ETHER_HEADER })));
+    } else if (this.type === 0x0806 && body.length >= ARP_BYTES) {
+      this.readArp(body);
+    } else if (body.length) {
+      this.add("data", ETHER_HEADER, body.length, "data", plural(body.length, "byte"), 32);
+    }
+  }
+
+  readArp(body) {
+    const at = ETHER_HEADER, operation = word16(body, 6);
+    this.arp = { operation, mac: macAt(body, 8), ip: word32(body, 14), target: word32(body, 24) };
+    const said = { 1: "1 request", 2: "2 reply" }[operation];
+    this.add("hardware type", at, 2, "other", word16(body, 0) === 1 ? "1 Ethernet" : word16(body, 0), 16,
+      word16(body, 0) !== 1);
+    this.add("protocol type", at + 2, 2, "other", hex16(word16(body, 2)), 16, word16(body, 2) !== 0x0800);
+    this.add("hardware length", at + 4, 1, "size", body[4], 8, body[4] !== 6);
+    this.add("protocol length", at + 5, 1, "size", body[5], 8, body[5] !== 4);
+    this.add("operation", at + 6, 2, "fragment", said || operation, 16, !said);
+    this.add("sender hardware address", at + 8, 6, "source", this.arp.mac, 32);
+    this.add("sender address", at + 14, 4, "source", dotted(this.arp.ip), 32);
+    this.add("target hardware address", at + 18, 6, "destination", macAt(body, 18), 32);
+    this.add("target address", at + 24, 4, "destination", dotted(this.arp.target), 32);
+    if (body.length > ARP_BYTES) {
+      this.add("padding", at + ARP_BYTES, body.length - ARP_BYTES, "behind", "", 32);
+    }
+  }
+
+  // In one line: who to whom, and what.
+  get tells() {
+    if (this.isShort) return `${plural(this.length, "byte")}, no whole Ethernet header`;
+    const who = `${this.source} → ${macTold(this.destination)}`;
+    if (this.packet) return `${who}: ${this.packet.tells}`;
+    if (!this.arp) return `${who}: type ${hex16(this.type)}, ${plural(this.length - ETHER_HEADER, "byte")}`;
+    const { operation, mac, ip, target } = this.arp;
+    if (operation === 1) return `${who}: ARP, who has ${dotted(target)}? Tell ${dotted(ip)}`;
+    return `${who}: ARP, ${operation === 2 ? `${dotted(ip)} is at ${mac}` : `operation ${operation}`}`;
   }
 }
 

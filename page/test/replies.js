@@ -12,7 +12,8 @@ const [file, examples, lessons, program, player] = process.argv.slice(2);
 const sources = ["engine", "packet", "play", "stack", "chains", "memory", "wire", "capture"]
   .map(name => fs.readFileSync(path.join(__dirname, "..", name + ".js"), "utf8"));
 const names = "Engine, configOf, optionsOf, readNotes, partsOf, linesOf, hexOf, hasHosts, DEFAULTS, DEFAULT_CONFIG";
-const ofChains = "usageIn, slotsIn, drawnChains, clustersIn, playChains", ofWire = "traceHosts, isFollowed";
+const ofChains = "usageIn, slotsIn, drawnChains, clustersIn, playChains";
+const ofWire = "traceHosts, isFollowed, Frame, bytesOf";
 const ofPlay = "tracePlay", ofMemory = "traceStack, Held, Memory, MOST_LINES";
 const ofCaptures = "captureScript";
 const code = sources.map(text => text.replace('"use strict";', "")).join("\n")
@@ -185,6 +186,60 @@ function tryHeaders(engine) {
     if (got !== wanted) return fault(`the headers of ${page.hexOf(bytes)}`, `${wanted} is right, and ${got} is told`);
   }
   return null;
+}
+
+// ---- frames
+
+// Frames, with their fields as RFC 826 and RFC 894 lay them out: the place, the name, and the value; a cross is for one
+// that no Ethernet has.
+const ETHER = ["0 Ethernet destination: all", "6 Ethernet source: 02:00:00:00:00:01", "12 type: 0x0806 ARP"];
+const ARP = ["14 hardware type: 1 Ethernet", "16 protocol type: 0x0800", "18 hardware length: 6",
+  "19 protocol length: 4"];
+const ENDS = ["22 sender hardware address: 02:00:00:00:00:01", "28 sender address: 10.0.0.1",
+  "32 target hardware address: 00:00:00:00:00:00", "38 target address: 10.0.0.2"];
+const ENDS_HEX = "0200000000010a0000010000000000000a000002";
+const PACKET = ["14 version: 4", "14 IHL: 5", "15 type of service: 0", "16 total length: 30", "18 identification: 1",
+  "20 flags: –", "20 fragment offset: 0", "22 time to live: 64", "23 protocol: 17 UDP", "24 header checksum: 0x66cc",
+  "26 source address: 10.0.0.1", "30 destination address: 10.0.0.2", "34 source port: 1024", "36 destination port: 7",
+  "38 UDP length: 10", "40 UDP checksum: 0x7f67", "42 data, 2 bytes: hi"];
+const PACKET_HEX = "4500001e00010000401166cc0a0000010a00000204000007000a7f676869";
+const FRAMES = [
+  [`ffffffffffff020000000001080600010800060400 01${ENDS_HEX}`, [...ETHER, ...ARP, "20 operation: 1 request", ...ENDS],
+    "02:00:00:00:00:01 → all: ARP, who has 10.0.0.2? Tell 10.0.0.1"],
+  [`ffffffffffff020000000001080600010800060400 02${ENDS_HEX}0000`,
+    [...ETHER, ...ARP, "20 operation: 2 reply", ...ENDS, "42 padding: "],
+    "02:00:00:00:00:01 → all: ARP, 10.0.0.1 is at 02:00:00:00:00:01"],
+  [`ffffffffffff020000000001080600060001050300 09${ENDS_HEX}`,
+    [...ETHER, "14 hardware type: 6 ✗", "16 protocol type: 0x0001 ✗", "18 hardware length: 5 ✗",
+      "19 protocol length: 3 ✗", "20 operation: 9 ✗", ...ENDS],
+    "02:00:00:00:00:01 → all: ARP, operation 9"],
+  ["0200000000020200000000018899 aa", ["0 Ethernet destination: 02:00:00:00:00:02", ETHER[1], "12 type: 0x8899",
+    "14 data: 1 byte"], "02:00:00:00:00:01 → 02:00:00:00:00:02: type 0x8899, 1 byte"],
+  [`0200000000020200000000010800 ${PACKET_HEX}`, ["0 Ethernet destination: 02:00:00:00:00:02", ETHER[1],
+    "12 type: 0x0800 IPv4", ...PACKET],
+    "02:00:00:00:00:01 → 02:00:00:00:00:02: 10.0.0.1:1024 → 10.0.0.2:7, 2 bytes"],
+  ["0200000000020200000000010800 45", ["0 Ethernet destination: 02:00:00:00:00:02", ETHER[1], "12 type: 0x0800 IPv4",
+    "14 no whole header: "], "02:00:00:00:00:01 → 02:00:00:00:00:02: 1 byte, no whole IP header"],
+  ["ffffffffffff0200000000", ["0 no whole Ethernet header: "], "11 bytes, no whole Ethernet header"],
+];
+
+function tryFrames() {
+  for (const [digits, wanted, said] of FRAMES) {
+    const hex = digits.replace(/ /g, ""), frame = new page.Frame(page.bytesOf(hex));
+    const got = frame.fields.map(it => `${it.at} ${it.name}: ${it.value}${it.isWrong ? " ✗" : ""}`);
+    const [is, right] = [got, wanted].map(all => all.join("; "));
+    if (is !== right) fault(`the frame ${hex}`, `${right} is right, and ${is} drawn`);
+    if (frame.tells !== said) fault(`the frame ${hex}`, `${said} is right, and ${frame.tells} said`);
+    for (let n = 0; n <= hex.length / 2; n++) tryWhole(page.bytesOf(hex.slice(0, 2 * n)));
+  }
+}
+
+// Each byte of a frame is of a field, and each field has its bytes.
+function tryWhole(bytes) {
+  const { fields } = new page.Frame(bytes);
+  const isOfNone = at => !fields.some(it => at >= it.at && at < it.at + it.size);
+  if (Array.from(bytes.keys()).some(isOfNone)) fault(`the frame ${page.hexOf(bytes)}`, "a byte is of no field");
+  if (fields.some(it => it.at + it.size > bytes.length)) fault(`the frame ${page.hexOf(bytes)}`, "a field isn't there");
 }
 
 // Each exercise, with all that is expected in it, comes as it's expected; and each other reply is found out.
@@ -554,6 +609,7 @@ async function main() {
   for (const script of exercises) tryExercise(engine, script);
   for (const script of exercises) tryMarks(engine, script);
   tryHeaders(engine);
+  tryFrames();
   for (const script of [...scriptsOf(path.join(examples, "play")), ...scriptsOf(path.join(examples, "play", "wire"))]) {
     if (!exercises.includes(script) && !OTHERS.includes(path.basename(script))) tryScript(engine, "run", script);
   }
