@@ -86,7 +86,7 @@ function runLines(engine, config, script, objects) {
   const sends = all.map(it => SEND.exec(it.plain)).filter(Boolean);
   const digits = digitsOf(engine, sends.map(it => it[2]));
   const own = (it, line) => {
-    if (it.fault || /^(show |--|rx pcap )/.test(line)) return [];
+    if (it.fault || /^(show |--|rx pcap |frame |error )/.test(line)) return [];
     const [, ticks] = /^tick (\d+)$/.exec(line) || [], send = SEND.exec(line);
     if (ticks) return Array(+ticks).fill("tick");
     if (send) return [`${send[1]} ${digits.shift()}`];

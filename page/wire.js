@@ -2,13 +2,27 @@
 // Scripts of many machines on one wire. The program plays them. Where the bytes lie at each machine the page finds out
 // by a script of its own for each: its lines, with a line `tx` for each packet that it gave to the wire, and a line
 // `rx` for each that came, as the program says. It's held against what the program counts of the machine after each
-// line, and shown if it agrees.
+// line, and shown if it agrees. A host on an Ethernet gives frames: what its own script gives goes to its link, where a
+// packet may wait for a hardware address.
+
+// The most packets of an output queue.
+const QUEUE_MOST = 50;
+// What `show link` says of a host on an Ethernet that sends.
+const CLAIMED = "uses its address";
 
 // A machine on the wire: its settings, and the lines of its own script so far.
 class WireHost {
   constructor(name, words) {
-    const options = { ...DEFAULTS, ...settingsIn(words) };
-    Object.assign(this, { name, options, config: configOf(options), lines: [] });
+    const at = words.findIndex(it => it.startsWith("--"));
+    const options = { ...DEFAULTS, ...settingsIn(at < 0 ? [] : words.slice(at)) };
+    const isEther = words[0] === "ether";
+    Object.assign(this, { name, options, config: configOf(options), lines: [], isEther });
+  }
+
+  // A packet or a frame comes. The answer is the place of its line, or nothing if the stack gets none.
+  hear(packet) {
+    const own = packet instanceof Frame ? packet.packet : packet;
+    return own ? this.lines.push(`rx ${hexOf(own.bytes) || "-"}`) - 1 : null;
   }
 }
 
@@ -24,27 +38,52 @@ function partMoves(objects) {
   return { lines: objects.filter(({ fate }) => !fate), moves };
 }
 
+// What a machine is asked after each line; on an Ethernet two things more.
+const ASKED = ["stat", "mbstat", "show neighbours", "show link"];
+const askedOf = ({ isEther }) => ASKED.slice(0, isEther ? 4 : 2);
+
 // What the machines counted after each line: the script is played once more, with lines that ask for it.
 function statesAfter(engine, objects) {
-  const lines = [], places = [], names = [];
+  const lines = [], places = [], hosts = [];
   for (const it of objects) {
-    const [verb, name] = it.fault ? [] : timedOf(it.line).plain.split(" ");
-    if (verb === "host") names.push(name);
+    const [verb, name, ...words] = it.fault ? [] : timedOf(it.line).plain.split(" ");
+    if (verb === "host") hosts.push(new WireHost(name, words));
     lines.push(it.fault ? "" : it.line);
-    places.push({ from: lines.length, names: [...names] });
-    lines.push(...names.flatMap(one => [`${one}: stat`, `${one}: mbstat`]));
+    places.push(hosts.map(host => {
+      const from = lines.length;
+      lines.push(...askedOf(host).map(asked => `${host.name}: ${asked}`));
+      return { host, from };
+    }));
   }
   const { lines: told } = partMoves(engine.hosts(lines.map(line => line + "\n").join("")).objects);
-  const replies = new Map(told.map(it => [it.number - 1, it.reply]));
-  return places.map(({ from, names: all }) => new Map(all.map((name, i) =>
-    [name, { counters: countersIn(replies.get(from + 2 * i)), pool: usageIn(replies.get(from + 2 * i + 1)) }])));
+  const at = new Map(told.map(it => [it.number - 1, it]));
+  const stateIn = ({ host, from }) => [host.name, stateOfAnswers(...askedOf(host).map((_, i) => at.get(from + i)))];
+  return places.map(all => new Map(all.map(stateIn)));
+}
+
+// What a machine answered: its counters and its pool; on an Ethernet also its neighbours, how far it is with its own
+// address, and its hardware address.
+function stateOfAnswers(stat, usage, neighbours, link) {
+  const state = { counters: countersIn(stat.reply), pool: usageIn(usage.reply) };
+  if (!link) return state;
+  const [mac] = link.below.trim().split(",");
+  return { ...state, neighbours: linesOf(neighbours.below).map(neighbourIn), address: link.reply, mac };
+}
+
+// A neighbour, by the program's line of it: where it is, or how it's asked for.
+function neighbourIn(text) {
+  const [, ip, mac, ticks] = /^ *(\S+) is at (\S+), (\d+) ticks? left/.exec(text) || [];
+  if (mac) return { ip, mac, ticks: +ticks };
+  const [, asked, ...counts] = /^ *(\S+) is asked for, (\d+) of (\d+) requests sent, (\d+)/.exec(text) || [];
+  const [tries, most, waiting] = counts.map(Number);
+  return { ip: asked, mac: null, tries, most, waiting };
 }
 
 // ---- the wire
 
 class WirePlay {
-  constructor(runs) {
-    Object.assign(this, { runs, hosts: new Map(), joined: [], flight: [], chances: [], isWhole: true });
+  constructor(engine, runs, frames) {
+    Object.assign(this, { engine, runs, frames, hosts: new Map(), joined: [], flight: [], chances: [], isWhole: true });
   }
 
   // Plays a line, by which this became of packets. The step says how many lines of each machine's script came before it
@@ -52,13 +91,16 @@ class WirePlay {
   play(it, i, moves, states) {
     const was = this.counts();
     this.moved = [];
+    this.states = states;
     const { ticks, plain: line } = timedOf(it.line || ""), [, name, plain] = HOST_LINE.exec(line) || [];
+    const frame = this.frames.get(it.number);
     if (ticks) this.act(`tick ${ticks}`);
     if (!it.fault && name) this.hosts.get(name).lines.push(...this.runs[i]);
+    if (frame && [MAC_BROADCAST, states.get(name).mac].includes(frame.destination)) this.hosts.get(name).hear(frame);
     if (!it.fault && !name) this.act(line, moves);
     const wire = { joined: this.joined, flight: this.flight, chances: this.chances };
-    return { host: it.fault ? null : name || null, plain, moved: this.moved, wire, was, now: this.counts(), states,
-      isWhole: this.isWhole };
+    return { host: it.fault ? null : name || null, plain, frame, moved: this.moved, wire, was, now: this.counts(),
+      states, isWhole: this.isWhole };
   }
 
   counts() {
@@ -71,6 +113,7 @@ class WirePlay {
     if (verb === "host") this.hosts.set(words[0], new WireHost(words[0], words.slice(1)));
     if (verb === "wire") this.joined = [...this.hosts.values()];
     if (verb === "tick") this.hosts.forEach(host => host.lines.push(...Array(+(words[0] || 1)).fill("tick")));
+    if (verb === "carry" || verb === "collect") this.giveToLinks();
     if (["carry", "collect", "deliver"].includes(verb)) this.carry(moves);
     if (CHANCE.test(line)) this.chance(line);
     else if (["drop", "repeat", "swap"].includes(verb)) this.byHand(verb, ...at);
@@ -83,18 +126,32 @@ class WirePlay {
     this.chances = /^0*[.]?0*%?$|^0\/|^0-0$/.test(much) ? others : [...others, line];
   }
 
+  // All that waits in the output queue of a host on an Ethernet goes to its link, once the host uses its address.
+  giveToLinks() {
+    const isReady = host => host.isEther && this.states.get(host.name).address === CLAIMED;
+    for (const host of [...this.hosts.values()].filter(isReady)) {
+      const asked = [...host.lines, ...Array(QUEUE_MOST).fill("tx"), ""].join("\n");
+      const replies = this.engine.run(host.config, asked).replies.slice(host.lines.length);
+      host.lines.push(...replies.filter(it => it.startsWith("packet ")).map(() => "tx"));
+    }
+  }
+
   // What the program says of packets: so many went, one was lost, came to a machine, or is under way after the line.
   carry(moves) {
-    const all = moves.map(it => (it.packet ? { ...it, packet: packetIn(`packet ${it.packet}`).packet } : it));
+    const packetOf = ({ from, packet }) => {
+      const bytes = bytesOf(packet);
+      return this.hosts.get(from).isEther ? new Frame(bytes) : new Packet(bytes);
+    };
+    const all = moves.map(it => (it.packet ? { ...it, packet: packetOf(it) } : it));
     this.flight = all.filter(it => it.fate === "under way");
     for (const it of all.filter(({ fate }) => fate !== "under way")) this.move(it);
   }
 
   move({ from, to, packet, fate, cause, count = 1 }) {
     if (fate === "more") this.isWhole = false;
-    if (GIVEN.includes(fate)) this.hosts.get(from).lines.push(...Array(count).fill("tx"));
-    if (to) this.hosts.get(to).lines.push(`rx ${hexOf(packet.bytes)}`);
-    if (to) this.moved.push({ from, to, packet, fate: "delivered", cause, place: this.hosts.get(to).lines.length - 1 });
+    const isGiven = GIVEN.includes(fate) && !this.hosts.get(from).isEther;
+    if (isGiven) this.hosts.get(from).lines.push(...Array(count).fill("tx"));
+    if (to) this.moved.push({ from, to, packet, fate: "delivered", cause, place: this.hosts.get(to).hear(packet) });
     else if (LEFT.includes(fate)) this.moved.push({ from, packet, fate });
   }
 
@@ -126,10 +183,18 @@ const aloneText = text => linesOf(text).map(line => {
   return (plain || "") + "\n";
 }).join("");
 
+// The frames that come by hand, by the numbers of their lines.
+function framesIn(engine, alone) {
+  const all = alone.filter(it => it.line.startsWith("frame "));
+  const digits = digitsOf(engine, all.map(it => it.line.slice("frame ".length)));
+  return new Map(all.map(({ number }, i) => [number, new Frame(bytesOf(digits[i]))]));
+}
+
 function traceHosts(engine, text) {
   const { code, objects: told } = engine.hosts(text), { lines: objects, moves } = partMoves(told);
   const states = statesAfter(engine, objects), all = linesOf(text);
-  const wire = new WirePlay(runLines(engine, DEFAULT_CONFIG, aloneText(text), aloneOf(objects)));
+  const alone = aloneOf(objects), runs = runLines(engine, DEFAULT_CONFIG, aloneText(text), alone);
+  const wire = new WirePlay(engine, runs, framesIn(engine, alone));
   const played = objects.map((it, i) => wire.play(it, i, moves.get(it.number), states[i]));
   for (const host of wire.hosts.values()) host.steps = traceStack(engine, host.config, host.lines).steps;
   const steps = objects.map((it, i) => hostStep(it, i, all[it.number - 1], played, wire.hosts));
@@ -152,6 +217,7 @@ function hostStep(it, i, text, played, hosts) {
   const step = { ...played[i], number: i + 1, line: it.line || partsOf(text).asked, ...answerOf(it),
     ...wantedOf(it, text) };
   const changed = changesOf(step, played[i - 1], hosts), drops = changed.filter(({ name }) => DROPS.has(name));
+  step.statesBefore = i ? played[i - 1].states : new Map();
   const used = at => ({ used: at ? sumOf([...at.states.values()].map(one => one.pool), "used") : 0 });
   const common = { changed, drops, before: used(played[i - 1]), pool: used(step) };
   const { ticks, plain } = timedOf(step.line), bad = step.column !== undefined;
@@ -166,7 +232,9 @@ function hostStep(it, i, text, played, hosts) {
   }
   const n = step.now.get(step.host), isRun = n > step.was.get(step.host) + ticks;
   const of = isRun ? hosts.get(step.host).steps[n - 1] : null;
-  const alone = of || { ...otherOf({ line: step.plain, isOk: step.isOk, reply: it.reply }), drops: [], changed: [] };
+  const { frame } = step, told = frame ? { packet: frame, tells: frame.tells } : {};
+  const other = { ...otherOf({ line: step.plain, isOk: step.isOk, reply: it.reply }), ...told };
+  const alone = of || { ...other, drops: [], changed: [] };
   return { ...alone, reply: it.reply, ...step, ...common, of, verb: `${step.host}: ${alone.verb}`,
     tells: alone.tells + whenOf(ticks) };
 }
@@ -194,6 +262,6 @@ const WIRE_TELLS = {
     : ["wire", `${numbered(w[0])} is there twice`]),
   drop: w => ["wire", `${numbered(w[0])} is lost`],
   swap: w => ["wire", `packets ${w[0]} and ${w[1]} on the wire change places`],
-  show: () => ["ask", "the packets on the wire"],
+  show: () => ["ask", "what is on the wire"],
   summary: () => ["ask", "what each machine sent and received"],
 };

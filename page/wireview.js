@@ -2,15 +2,16 @@
 // The right column of a script of several machines: the wire, the machines side by side, and the packets.
 
 // What became of a packet that left the wire: how it's marked, and in words.
-function fateOf({ fate, to, place, cause }, hosts) {
+function fateOf({ fate, to, place, cause, packet }, hosts, step) {
   if (fate === "dropped") return ["no", "It's lost by this line."];
   if (fate === "unheard") return ["no", "No other machine on the wire has this address."];
   if (fate === "lost") return ["no", "It's lost on the wire."];
   if (fate === "no room") return ["no", "It's lost: the wire has no room."];
-  const step = hosts.get(to).steps[place], end = step.drops.find(it => ENDS.has(it.name));
+  if (place === null) return heardOf(packet, to, hosts, step);
+  const own = hosts.get(to).steps[place], end = own.drops.find(it => ENDS.has(it.name));
   if (cause) return ["no", `${to} drops it${end ? `, counted in ${end.name}` : ""}: ${cause}.`];
-  if (has(step, "ip.reassembled")) return ["yes", `${to} has all fragments now: the datagram is whole.`];
-  if (step.packet.isFragment) return ["wait", `${to} keeps it: the datagram isn't whole yet.`];
+  if (has(own, "ip.reassembled")) return ["yes", `${to} has all fragments now: the datagram is whole.`];
+  if (own.packet.isFragment) return ["wait", `${to} keeps it: the datagram isn't whole yet.`];
   return ["yes", `${to} takes it.`];
 }
 
@@ -19,7 +20,7 @@ const SHOWN = { told: 12, drawn: 2 };
 
 function movedView(step, hosts) {
   const tell = it => {
-    const [kind, told] = fateOf(it, hosts);
+    const [kind, told] = fateOf(it, hosts, step);
     return h("li", { class: `verdict ${kind}` }, h("b", {}, it.to ? `${it.from} ⟶ ${it.to}` : `${it.from} ⟶`), " ",
       it.packet.tells, ". ", told);
   };
@@ -66,18 +67,20 @@ const heldAround = (page, step, host) =>
   [step.was.get(host.name) || 0, step.now.get(host.name)].map(n => page.heldOf(host, n));
 
 function hostView(page, step, host) {
-  const n = step.now.get(host.name), { pool, counters } = stateOf(step, host.name, page.hosts);
+  const n = step.now.get(host.name), { pool, counters, mac } = stateOf(step, host.name, page.hosts);
   const changed = step.changed.filter(it => it.host === host.name), [before, now] = heldAround(page, step, host);
-  const title = [`machine ${host.name} `, h("span", { class: "faint" }, host.options.addr)];
+  const title = [`machine ${host.name} `, h("span", { class: "faint" }, [host.options.addr, mac].filter(Boolean)
+    .join(", "))];
   const isChanged = n > (step.was.get(host.name) || 0);
   if (!isFollowed(step, host)) {
-    return h("div", { class: "column" }, panel(title, poolBar("mbufs", pool.mbufs, []), h("p", { class: "faint" },
-      "What it holds isn't drawn: a line moved more packets than the page follows.")),
+    return h("div", { class: "column" }, neighboursView(step, host), panel(title,
+      poolBar("mbufs", pool.mbufs, []), h("p", { class: "faint" },
+        "What it holds isn't drawn: a line moved more packets than the page follows.")),
     countersView({ counters, changed }, `Counters of ${host.name}`));
   }
   const around = [step.was.get(host.name) || 0, n].map(count => page.memoryOf(host, count));
-  return h("div", { class: "column" }, isChanged && memoryView(...around, `The mbufs of ${host.name}`),
-    machineView({ pool }, before, now, title),
+  return h("div", { class: "column" }, neighboursView(step, host),
+    isChanged && memoryView(...around, `The mbufs of ${host.name}`), machineView({ pool }, before, now, title),
     countersView({ counters, changed }, `Counters of ${host.name}`));
 }
 
@@ -85,8 +88,10 @@ function hostView(page, step, host) {
 function packetsOf(page, step, hosts) {
   if (step.host) {
     const [before, now] = heldAround(page, step, hosts.get(step.host));
-    return step.of ? packetsOfLine(step.of, before, now) : [];
+    const frame = step.frame && panel(null, packetView(step.frame, "The frame that comes"));
+    return [frame, ...(step.of ? packetsOfLine(step.of, before, now) : [])].filter(Boolean);
   }
+  if (step.wire.joined.some(it => it.isEther)) return framesOf(step, hosts);
   const checks = it => it.fate === "delivered"
     && panel(`The checks at ${it.to}, in their order`, checksOf(hosts.get(it.to).steps[it.place]));
   return step.moved.slice(0, SHOWN.drawn).map(it => h("div", { class: "column" }, checks(it),
@@ -97,11 +102,12 @@ function wireVerdicts(page, step, hosts) {
   if (step.kind === "bad") return [faultVerdict(step)];
   if (step.host) return step.of ? verdictsOf(step, ...heldAround(page, step, hosts.get(step.host))) : [];
   if (step.verb === "carry" && !step.moved.length) return [verdict("wait", "Nothing moved.")];
-  return [...step.now.keys()].map(name => {
+  const delivered = [...step.now.keys()].map(name => {
     const grown = grownIn(...heldAround(page, step, hosts.get(name))).map(it => `socket ${it.fd}`);
     return grown.length > 0
       && verdict("yes", `Delivered: it waits in the receive queue of ${grown.join(" and ")} of ${name}.`);
   });
+  return [...waitsOf(step), ...delivered];
 }
 
 function wireView(page, step) {

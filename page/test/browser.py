@@ -135,7 +135,8 @@ def scripts(examples, lessons):
     """Each script with its tab, and the replies that are wanted if they stand beside it; else it says them itself."""
     for it in sorted((examples / "chain").glob("*.txt")):
         yield "chain", it, pathlib.Path(f"{it}.stdout").read_text()
-    for tab, folder in (("run", examples / "play"), ("wire", examples / "play" / "wire")):
+    play = examples / "play"
+    for tab, folder in (("run", play), ("wire", play / "wire"), ("wire", play / "ether")):
         for it in sorted(it for it in folder.glob("*.txt") if it.name not in OTHERS):
             yield tab, it, None
     for tab in ("run", "chain", "wire"):
@@ -170,6 +171,8 @@ VIEWS = [
     ("wire", "14_fragments_and_one_that_is_lost", 10),
     ("wire", "14_fragments_and_one_that_is_lost", 22),
     ("wire", "15_a_broadcast_on_a_wire", 14),
+    ("wire", "16_a_packet_that_waits", 9),
+    ("wire", "16_a_packet_that_waits", 12),
 ]
 
 

@@ -243,7 +243,12 @@ function faultsOfNames() {
 }
 
 const faultsOfLayout = () =>
-  [faultsOfOverlap, faultsOfPicture, faultsOfWidth, faultsOfContrast, faultsOfNames].flatMap(look => look());
+  [faultsOfOverlap, faultsOfPicture, faultsOfWidth, faultsOfContrast, faultsOfNames, faultsOfHidden]
+    .flatMap(look => look());
+
+// What is hidden isn't seen, whatever the style says of its kind.
+const faultsOfHidden = () => [...document.querySelectorAll("[hidden]")].filter(it => it.getClientRects().length)
+  .map(it => `${nameOf(it)} is hidden, and seen`);
 
 // Arrow keys step, but in the script's own field; a link brings a script back; a packet that is made is put in.
 function faultsOfKeys() {

@@ -60,8 +60,10 @@ function tryScript(engine, command, script) {
     if (step.kind === "bad") fault(place, `it does nothing: ${said}`);
   });
   if (command !== "chain") tryPlayer(engine, script, text);
-  if (played.hosts) tryHosts(engine, script, played);
-  else if (played.own) tryOwn(script, played);
+  if (played.hosts) {
+    tryHosts(engine, script, played);
+    tryShown(script, played);
+  } else if (played.own) tryOwn(script, played);
   return { steps, notes };
 }
 
@@ -431,13 +433,41 @@ function tryHost(engine, name, host) {
 }
 
 // A packet that came is one that another machine gave, byte for byte, and it's for the machine that got it.
-function tryMoved(name, { from, to, packet, fate, place }, hosts) {
+function tryMoved(name, moved, hosts) {
+  const { from, to, packet, fate, place } = moved;
+  if (packet instanceof page.Frame) return tryFrame(name, moved, hosts);
   const hex = page.hexOf(packet.bytes), isGiven = hosts.get(from).steps.some(step => step.reply === `packet ${hex}`);
   if (!isGiven) fault(name, `${from} didn't give a packet that left the wire`);
   if (fate !== "delivered") return;
   const { config, lines } = hosts.get(to), isFor = [config.addr, config.bcast, 0xffffffff].includes(packet.destination);
   if (to === from || !isFor || lines[place] !== `rx ${hex}`) fault(name, `${to} got a packet that isn't for it`);
 }
+
+// Of a frame the packet is one that the machine gave, byte for byte, unless the link made it: of ICMP, or ARP.
+function tryFrame(name, { from, to, packet: { packet }, place }, hosts) {
+  if (!packet) return;
+  const hex = page.hexOf(packet.bytes), isGiven = hosts.get(from).steps.some(step => step.reply === `packet ${hex}`);
+  if (packet.protocol === 17 && !isGiven) fault(name, `${from} didn't give the packet of a frame`);
+  if (to && hosts.get(to).lines[place] !== `rx ${hex}`) fault(name, `${to} got another packet than its frame has`);
+}
+
+// What the page says of frames under way is what the program says.
+function tryShown(name, { steps }) {
+  const wordsOf = ({ source, destination, arp, packet }) => {
+    const { operation, mac, ip, target } = arp || {};
+    if (!arp) return packet ? packet.tells.replace(" → ", " > ").split(", ")[0] : "";
+    return `${source} > ${destination} ARP ${operation === 1 ? `who has ${dotted(target)}, tell ${dotted(ip)}`
+      : `${dotted(ip)} is at ${mac}`}`;
+  };
+  for (const { below, wire } of steps.filter(it => it.line === "show wire")) {
+    wire.flight.filter(it => it.packet instanceof page.Frame).forEach((it, i) => {
+      const isSame = below[i].includes(`${it.from}: `) && below[i].includes(wordsOf(it.packet));
+      if (!isSame) fault(name, `of a frame the program says ${below[i]}, and the page ${it.packet.tells}`);
+    });
+  }
+}
+
+const dotted = ip => [24, 16, 8, 0].map(shift => (ip >>> shift) & 255).join(".");
 
 // Random lines of three machines with different MTUs, on a wire that loses, repeats and delays.
 function randomWire(below) {
@@ -610,7 +640,8 @@ async function main() {
   for (const script of exercises) tryMarks(engine, script);
   tryHeaders(engine);
   tryFrames();
-  for (const script of [...scriptsOf(path.join(examples, "play")), ...scriptsOf(path.join(examples, "play", "wire"))]) {
+  const plays = ["play", "play/wire", "play/ether"].flatMap(it => scriptsOf(path.join(examples, it)));
+  for (const script of plays) {
     if (!exercises.includes(script) && !OTHERS.includes(path.basename(script))) tryScript(engine, "run", script);
   }
   tryLaid(engine);

@@ -1,0 +1,53 @@
+"use strict";
+// What is shown of hosts on an Ethernet alone: their neighbours, and frames.
+
+// What a link made of a frame that has no packet: of one of ARP, whether it knows the sender now (RFC 826, "Packet
+// Reception").
+function heardOf({ arp }, to, hosts, { states, statesBefore }) {
+  if (!arp) return ["wait", `${to} hears it.`];
+  const known = all => (all.get(to) || { neighbours: [] }).neighbours
+    .some(it => it.ip === dotted(arp.ip) && it.mac === arp.mac);
+  const isAsked = arp.operation === 1 && arp.target === hosts.get(to).config.addr;
+  const told = isAsked ? `${to} is the one that is asked` : `${to} hears it`;
+  if (!known(states)) return ["wait", `${told}, and keeps nothing.`];
+  return ["yes", `${told}, and ${known(statesBefore) ? "knew" : "knows now"} where ${dotted(arp.ip)} is.`];
+}
+
+const waitSaid = ({ waiting }) => `${plural(waiting, "packet")} ${waiting === 1 ? "waits" : "wait"}`;
+
+// Whom a host on an Ethernet knows, whom it asks for, and how many packets wait for each. What the line changed is
+// marked.
+function neighboursView(step, { name }) {
+  const { neighbours, address } = step.states.get(name) || {}, before = step.statesBefore.get(name) || {};
+  if (!neighbours) return null;
+  const isNew = it => !(before.neighbours || []).some(old =>
+    ["ip", "mac", "tries", "waiting"].every(part => old[part] === it[part]));
+  const about = it => (it.mac ? [h("code", {}, it.mac), h("small", {}, `${plural(it.ticks, "tick")} left`)]
+    : [h("span", {}, "asked for"), h("small", {}, `${it.tries} of ${plural(it.most, "request")} sent`),
+      h("small", { class: it.waiting ? "badge" : null }, waitSaid(it))]);
+  const tell = it => h("li", { class: `datagram of-${it.mac ? "queue" : "unfinished"}${isNew(it) ? " new" : ""}` },
+    h("b", {}, it.ip), about(it));
+  const isClaimed = address === CLAIMED;
+  return panel(`Neighbours of ${name}`, !isClaimed && h("p", { class: "faint" }, `${name} ${address}.`),
+    neighbours.length ? h("ul", { class: "queue", "aria-label": `neighbours of ${name}` }, neighbours.map(tell))
+      : h("p", { class: "faint" }, "It knows none, and asks for none."));
+}
+
+// The frames that passed, or else those that are under way; at most two. One that came to several hosts is drawn once.
+function framesOf(step, hosts) {
+  const isWatched = ["carry", "collect", "show"].includes(step.verb);
+  const all = step.moved.length ? step.moved : isWatched ? step.wire.flight : [];
+  const isFirst = (it, i) => all.findIndex(one => hexOf(one.packet.bytes) === hexOf(it.packet.bytes)) === i;
+  const checks = it => typeof it.place === "number"
+    && panel(`The checks at ${it.to}, in their order`, checksOf(hosts.get(it.to).steps[it.place]));
+  return all.filter(isFirst).slice(0, SHOWN.drawn).map(it => h("div", { class: "column" }, checks(it),
+    panel(null, packetView(it.packet, `A frame of ${it.from}`))));
+}
+
+// The packets that wait at a host for a hardware address, if they're others than before the line.
+function waitsOf({ states, statesBefore }) {
+  const waiting = (all, name) => ((all.get(name) || {}).neighbours || []).filter(it => it.waiting);
+  return [...states.keys()].flatMap(name => waiting(states, name)
+    .filter(it => !waiting(statesBefore, name).some(old => old.ip === it.ip && old.waiting === it.waiting))
+    .map(it => verdict("wait", `${waitSaid(it)} at ${name} until it knows the hardware address of ${it.ip}.`)));
+}
