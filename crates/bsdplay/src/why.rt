@@ -240,12 +240,13 @@ fn tell_records<S: Source, W: Write>(
 
 /// Prints what came of all packets: a table of the causes, and what's unfinished.
 fn tell_totals<W: Write>(judge: &mut Judge, out: &mut W) -> Result<(), End> {
-    put(out, judge.totals())?;
+    judge.tell_totals();
+    put(out, judge.text())?;
     for i in 0..u32::MAX {
-        let Some(line) = judge.unfinished(i) else {
+        if !judge.tell_unfinished(i) {
             break;
-        };
-        put(out, line)?;
+        }
+        put(out, judge.text())?;
     }
     Ok(())
 }

@@ -1,5 +1,5 @@
 -- One socket more.
-use Rattle.std.proofs.Common.{◌≡◌, ℕ, ◌+◌, List, [], ◌++◌, sym, ap, ◌∙◌, add-one, append_assoc}
+use Rattle.std.proofs.Common.{◌≡◌, ℕ, ◌+◌, List, ◌++◌, sym, ap, ◌∙◌, add-one, append_assoc}
 use Rattle.std.proofs.lemmas.List.{append-nil}
 use Rattle.params.specs.declared.TheConstants.{FIRST_DESCRIPTOR}
 use Rattle.flat_model.specs.Machine.State.{State}

@@ -1,3 +1,4 @@
 mod FateLemmas
 mod Steps
 mod Laying
+mod LackLemmas

@@ -6,7 +6,6 @@ use Rattle.flat_model.specs.Machine.Count.{counter_of}
 use Rattle.flat_model.specs.Machine.State.{State}
 use Rattle.flat_model.specs.Packets.Header.{u16_at, u32_at}
 use Rattle.flat_model.specs.Scripts.Grammar.{address_text}
-use Rattle.flat_model.specs.declared.counter.Counter.{Counter}
 use Rattle.flat_model.specs.declared.counter.Counter.TheVariants.{IpFragments, IpFragdropped, IpReassembled, Nobufs}
 use Rattle.flat_model.specs.declared.counters.Counters.{Counters}
 use Rattle.flat_model.specs.declared.counters.Why.{Why}

@@ -1,9 +1,10 @@
 -- What the judge of a capture's records does with its machine, and what it prints (this project's own).
-use Rattle.std.specs.Prelude.{◌≡◌, ℕ, ◌+◌, ◌-◌, ◌/◌, ◌*◌, ◌==◌, Bool, List, [], ◌∷◌, ◌++◌, codes, decimal, if◌then◌else◌, max, min, not, replicate}
-use Rattle.params.specs.declared.TheConstants.{LOOPBACK, MAX_CLUSTERS, MAX_MBUFS}
+use Rattle.std.specs.Prelude.{◌≡◌, ℕ, ◌+◌, ◌-◌, ◌/◌, ◌*◌, ◌==◌, ◌||◌, Bool, List, [], ◌∷◌, ◌++◌, length, nat_lt, codes, decimal, if◌then◌else◌, max, min, not, replicate}
+use Rattle.params.specs.declared.TheConstants.{IP_HEADER, LIMITED_BROADCAST, LOOPBACK, MAX_CLUSTERS, MAX_MBUFS}
 use Rattle.flat_model.specs.Machine.Count.{more_by}
 use Rattle.flat_model.specs.Machine.Event.{Event, Reply, Bind, Close, Comes, Done, Open, Receive, Tick}
-use Rattle.flat_model.specs.Machine.State.{State}
+use Rattle.flat_model.specs.Machine.State.{State, boot}
+use Rattle.flat_model.specs.Packets.Header.{u32_at}
 use Rattle.flat_model.specs.Scripts.Grammar.{address_text}
 use Rattle.flat_model.specs.declared.config.Config.{Config}
 use Rattle.flat_model.specs.declared.counters.Counters.{Counters}
@@ -11,7 +12,8 @@ use Rattle.net_stack.specs.Stack.{state_of}
 use Rattle.sock_calls.specs.Questions.{readable}
 use Rattle.stack_call.specs.Moves.{StackSteps}
 use Rattle.play_why.specs.Fates.{is_kept, record_text}
-use Rattle.play_why.specs.Verdicts.{judged}
+use Rattle.play_why.specs.Verdicts.{judged, none_dropped}
+use Rattle.play_why.specs.declared.fate.Layout.{Layout}
 use Rattle.play_why.specs.declared.judge.Arrival.{Arrival}
 use Rattle.play_why.specs.declared.judge.Judge.{Judge}
 use Rattle.play_why.specs.declared.judge.Totals.{Totals}
@@ -75,6 +77,27 @@ ticks_to time passed = min (ticks_due time - passed) 61
 
 -- ---- all records
 
+abbrev pub none_came : Totals
+none_came = record { packets = 0; delivered = 0; kept = 0; dropped = 0 }
+
+-- a judge to which no record came yet
+pub record IsNew (form : Layout) (address : ℕ) (judge : Judge) : Type 0 where
+  pub machine : state_of judge.machine ≡ boot (machine_for address (broadcast_of address))
+  pub layout : judge.layout ≡ form
+  pub ours : judge.ours ≡ address
+  pub broadcast : judge.broadcast ≡ broadcast_of address
+  pub text : judge.text ≡ []
+  pub verdicts : judge.verdicts ≡ none_dropped
+  pub totals : judge.totals ≡ none_came
+  pub ticks : judge.ticks ≡ 0
+
+-- A packet is for its machine: it goes to the machine's address, to the broadcast address of its network or to
+-- 255.255.255.255; or it's too short to say.
+abbrev pub is_for : Judge → List ℕ → Bool
+is_for judge p =
+    nat_lt (length p) IP_HEADER
+    || (u32_at 16 p == judge.ours || (u32_at 16 p == judge.broadcast || u32_at 16 p == LIMITED_BROADCAST))
+
 -- one packet more, which was delivered, kept as a fragment, or dropped
 abbrev pub totals_after : State → Counters → Counters → Totals → Totals
 totals_after here a b t =
@@ -118,3 +141,4 @@ pub record IsJudged (old : Judge) (r : Arrival) (new : Judge) : Type 0 where
   pub passed : new.ticks ≡ max old.ticks (ticks_due r.time)
   pub layout : new.layout ≡ old.layout
   pub ours : new.ours ≡ old.ours
+  pub broadcast : new.broadcast ≡ old.broadcast

@@ -3,3 +3,5 @@ pub mod Values
 pub mod Fates
 pub mod Verdicts
 pub mod Judged
+pub mod Lacks
+pub mod Shares

@@ -1,4 +1,7 @@
 //! The addresses to which the datagrams of a capture go.
+ghost use Rattle.std.specs.Prelude.{◌≡◌, [], IfOk, None};
+ghost use Rattle.play_why.specs.Shares as shares;
+
 use crate::sums::u32_at;
 use params::{FIRST_MULTICAST, IP_HEADER, PROTOCOL_UDP};
 use std::alloc::{AllocError, Global};
@@ -30,58 +33,99 @@ pub struct Busiest {
     pub all: u64,
 }
 
+/// Whether a packet carries UDP to the address of a host.
+fn goes_to_host(packet: &[u8]) -> bool
+    ensures { result ≡ shares.goes_to_host packet.now }
+{
+    IP_HEADER as usize <= packet.len()
+        && (packet[9] == PROTOCOL_UDP && u32_at(packet, 16) < FIRST_MULTICAST)
+}
+
+/// The busier one of an address and another.
+fn busier(all: u64, most: Option<Busiest>, share: Share) -> Option<Busiest>
+    ensures { result ≡ shares.busier all most share }
+{
+    let least = match most {
+        Some(before) => before.count,
+        None => 0,
+    };
+    if least < share.count {
+        Some(Busiest {
+            address: share.address,
+            count: share.count,
+            all,
+        })
+    } else {
+        most
+    }
+}
+
 impl Addresses {
     /// No datagram came yet. It takes no memory.
-    pub fn new(alloc: Global) -> Addresses {
+    pub fn new(alloc: Global) -> Addresses
+        ensures shares { result.shares.items ≡ [] }
+        ensures all { result.all ≡ 0 }
+    {
         Addresses {
             shares: Vec::new(alloc),
             all: 0,
         }
     }
 
-    /// Counts one more for an address that was counted before, and answers whether it was.
-    fn add(&mut self, address: u32) -> bool {
-        for share in &mut self.shares {
-            if share.address == address {
-                share.count = share.count.saturating_add(1);
-                return true;
+    /// Where an address stands that was counted before.
+    fn place_of(&self, address: u32) -> Option<usize>
+        ensures { result ≡ shares.share_place address self.now.shares.items }
+    {
+        self.shares
+            .as_slice()
+            .iter()
+            .position(|share| share.address == address)
+    }
+
+    /// Counts one more for an address, if it was counted before or there is room.
+    fn count(&mut self, address: u32) -> Result<(), AllocError>
+        ensures counted { IfOk result (λ done. self.new.shares.items
+            ≡ shares.share_counted address self.old.shares.items (shares.share_place address self.old.shares.items)) }
+        ensures all { self.new.all ≡ self.old.all }
+    {
+        match self.place_of(address) {
+            Some(at) => {
+                if let Some(share) = self.shares.get_mut(at) {
+                    share.count = share.count.saturating_add(1);
+                }
+                Ok(())
             }
+            None if self.shares.len() < MOST_ADDRESSES => {
+                self.shares.push(Share { address, count: 1 })?;
+                Ok(())
+            }
+            None => Ok(()),
         }
-        false
     }
 
     /// Counts a packet if it carries UDP to the address of a host: to one below 224.0.0.0. The addresses are the 256
     /// that come first. Refused if the host has no memory.
-    pub fn note(&mut self, packet: &[u8]) -> Result<(), AllocError> {
-        if packet.len() < IP_HEADER as usize || packet[9] != PROTOCOL_UDP {
-            return Ok(());
-        }
-        let address = u32_at(packet, 16);
-        if address >= FIRST_MULTICAST {
+    pub fn note(&mut self, packet: &[u8]) -> Result<(), AllocError>
+        ensures shares { IfOk result (λ done. self.new.shares.items
+            ≡ shares.shares_after packet.now self.old.shares.items) }
+        ensures all { self.new.all ≡ shares.all_after packet.now self.old.all }
+    {
+        if !goes_to_host(packet) {
             return Ok(());
         }
         self.all = self.all.saturating_add(1);
-        if !self.add(address) && self.shares.len() < MOST_ADDRESSES {
-            self.shares.push(Share { address, count: 1 })?;
-        }
-        Ok(())
+        self.count(u32_at(packet, 16))
     }
 
     /// The address to which most went, the first of several. `None` if none went to a host.
-    pub fn busiest(&self) -> Option<Busiest> {
-        let mut most: Option<Busiest> = None;
-        for share in &self.shares {
-            let least = match most {
-                Some(before) => before.count,
-                None => 0,
-            };
-            if least < share.count {
-                most = Some(Busiest {
-                    address: share.address,
-                    count: share.count,
-                    all: self.all,
-                });
-            }
+    pub fn busiest(&self) -> Option<Busiest>
+        ensures { result ≡ shares.busiest_after self.now.all None self.now.shares.items }
+    {
+        let mut most = None;
+        let mut rest = self.shares.as_slice();
+        'shares: while let [share, left @ ..] = rest {
+            most = busier(self.all, most, *share);
+            rest = left;
         }
         most
     }

@@ -1,14 +1,16 @@
 //! What judges the records of a capture, one after another.
-ghost use Rattle.std.specs.Prelude.{◌≡◌, ◌+◌, ◌≤◌, ◌++◌, IfOk, MatchResult, length, replicate};
+ghost use Rattle.std.specs.Prelude.{◌≡◌, ◌+◌, ◌≤◌, ◌++◌, IfOk, MatchResult, None, length, replicate};
 ghost use Rattle.params.specs.declared.TheConstants.{IP_MAX_PACKET};
 ghost use Rattle.flat_model.specs.Machine.Event.{Tick};
-ghost use Rattle.flat_model.specs.Machine.State.{boot};
+ghost use Rattle.flat_model.specs.Amounts.Choice.{Choice};
+ghost use Rattle.ip_reass.specs.Questions.{nth_unfinished};
 ghost use Rattle.net_stack.specs.Boots.{IsUnbooted};
 ghost use Rattle.net_stack.specs.Stack.{state_of};
 ghost use Rattle.play_why.specs.Fates.{IsSeen};
 ghost use Rattle.play_why.specs.Judged as judged;
-ghost use Rattle.play_why.specs.Judged.{IsJudged, IsOf, IsTick, Led};
-ghost use Rattle.play_why.specs.Verdicts.{none_dropped, verdicts_text};
+ghost use Rattle.play_why.specs.Judged.{IsJudged, IsNew, IsOf, IsTick, Led};
+ghost use Rattle.play_why.specs.Lacks.{IsLacking};
+ghost use Rattle.play_why.specs.Verdicts.{verdicts_text};
 
 use crate::FATE;
 use crate::arrive::{counted, tell_record};
@@ -196,8 +198,7 @@ impl Judge {
         port: Option<u16>,
     ) -> Result<Judge, BootFault>
         ensures { MatchResult result
-            (λ j. (state_of j.machine ≡ boot (judged.machine_for ours (judged.broadcast_of ours)))
-            × (j.layout ≡ layout) × (j.ours ≡ ours) × (j.verdicts ≡ none_dropped) × (j.ticks ≡ 0))
+            (IsNew layout ours)
             (IsUnbooted (judged.machine_for ours (judged.broadcast_of ours))) }
     {
         let broadcast = broadcast_of(ours);
@@ -250,14 +251,15 @@ impl Judge {
 
     /// Whether a packet is for this machine: it goes to its address, to the broadcast address of its network of 256
     /// addresses or to 255.255.255.255; or it's too short to say.
-    pub fn is_ours(&self, packet: &[u8]) -> bool {
+    pub fn is_ours(&self, packet: &[u8]) -> bool
+        ensures { result ≡ judged.is_for self.now packet.now }
+    {
         if packet.len() < IP_HEADER as usize {
             return true;
         }
         let destination = u32_at(packet, 16);
         destination == self.ours
-            || destination == self.broadcast
-            || destination == LIMITED_BROADCAST
+            || (destination == self.broadcast || destination == LIMITED_BROADCAST)
     }
 
     /// Lets a record's packet come at its time. What's told of it is then answered by `text`. Refused if the host has
@@ -294,29 +296,38 @@ impl Judge {
         Ok(())
     }
 
-    /// What's told of the last record, as [`tell_record`] puts it.
+    /// What the last report says: that of a record as [`tell_record`] puts it.
     pub fn text(&self) -> &[u8]
         ensures { result.now ≡ self.now.text }
     {
         self.text.as_slice()
     }
 
-    /// The lines of all packets: how many came, what became of them, and for each cause how many were dropped for it
-    /// and the first record.
-    pub fn totals(&mut self) -> &[u8]
-        ensures { result.now ≡ judged.totals_text self.old.ours self.old.totals ++ verdicts_text self.old.verdicts }
+    /// Reports on all packets, in lines: how many came, what became of them, and for each cause how many were dropped
+    /// for it and the first record. `text` answers the lines then.
+    pub fn tell_totals(&mut self)
+        ensures { self.new ≡ record (self.old) {
+          text =
+              judged.totals_text self.old.ours self.old.totals ++ verdicts_text self.old.verdicts;
+        } }
     {
         self.text.clear();
         self.totals.put(self.ours, &mut self.text);
         self.verdicts.put(&mut self.text);
-        self.text.as_slice()
     }
 
-    /// The line of the unfinished datagram at a place, with the bytes that lack, if there is one.
-    pub fn unfinished(&mut self, i: u32) -> Option<&[u8]> {
-        let datagram = self.machine.unfinished(i)?;
+    /// Reports on the unfinished datagram at a place, in a line with the bytes that lack, which `text` answers then.
+    /// Whether there is one; if not, nothing changes.
+    pub fn tell_unfinished(&mut self, i: u32) -> bool
+        ensures lacks { Choice result (IsLacking i (state_of self.old.machine) self.new.text)
+            ((nth_unfinished i (state_of self.old.machine).unfinished ≡ None) × (self.new.text ≡ self.old.text)) }
+        ensures rest { self.new ≡ record (self.old) { text = self.new.text } }
+    {
+        let Some(datagram) = self.machine.unfinished(i) else {
+            return false;
+        };
         let first = self.parts.first_of(datagram.key);
         put_lacks(&mut self.text, &self.machine, datagram, i, first);
-        Some(self.text.as_slice())
+        true
     }
 }

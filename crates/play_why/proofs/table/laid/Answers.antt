@@ -1,4 +1,4 @@
-use Rattle.std.proofs.Common.{◌≡◌, ℕ, suc, ◌<◌, Bool, List, drop, length, if◌then◌else◌, sym, ap, ◌∙◌, add-one, arith}
+use Rattle.std.proofs.Common.{ℕ, suc, ◌<◌, Bool, List, drop, length, if◌then◌else◌, sym, ap, ◌∙◌, add-one, arith}
 use Rattle.flat_model.specs.declared.counters.Why.{Why}
 use Rattle.play_records.specs.Tables.{once_more}
 use Rattle.play_records.specs.declared.count.Count.{Count}
