@@ -33,6 +33,10 @@ function neighboursView(step, { name }) {
       : h("p", { class: "faint" }, "It knows none, and asks for none."));
 }
 
+// A frame that comes by hand, with the checks of the packet that the stack got of it.
+const frameOfLine = ({ frame, of }) => [of && panel("The checks, in their order", checksOf(of)),
+  panel(null, packetView(frame, "The frame that comes"))].filter(Boolean);
+
 // The frames that passed, or else those that are under way; at most two. One that came to several hosts is drawn once.
 function framesOf(step, hosts) {
   const isWatched = ["carry", "collect", "show"].includes(step.verb);

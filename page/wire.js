@@ -232,9 +232,9 @@ function hostStep(it, i, text, played, hosts) {
   }
   const n = step.now.get(step.host), isRun = n > step.was.get(step.host) + ticks;
   const of = isRun ? hosts.get(step.host).steps[n - 1] : null;
-  const { frame } = step, told = frame ? { packet: frame, tells: frame.tells } : {};
-  const other = { ...otherOf({ line: step.plain, isOk: step.isOk, reply: it.reply }), ...told };
-  const alone = of || { ...other, drops: [], changed: [] };
+  const { frame } = step, other = otherOf({ line: step.plain, isOk: step.isOk, reply: it.reply });
+  const own = of || { ...other, packet: frame, drops: [], changed: [] };
+  const alone = frame ? { ...own, verb, tells: frame.tells } : own;
   return { ...alone, reply: it.reply, ...step, ...common, of, verb: `${step.host}: ${alone.verb}`,
     tells: alone.tells + whenOf(ticks) };
 }

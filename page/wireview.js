@@ -87,9 +87,9 @@ function hostView(page, step, host) {
 // The packets of a step as RFC 791 draws them: what came, was sent or passed the wire; at most two.
 function packetsOf(page, step, hosts) {
   if (step.host) {
+    if (step.frame) return frameOfLine(step);
     const [before, now] = heldAround(page, step, hosts.get(step.host));
-    const frame = step.frame && panel(null, packetView(step.frame, "The frame that comes"));
-    return [frame, ...(step.of ? packetsOfLine(step.of, before, now) : [])].filter(Boolean);
+    return step.of ? packetsOfLine(step.of, before, now) : [];
   }
   if (step.wire.joined.some(it => it.isEther)) return framesOf(step, hosts);
   const checks = it => it.fate === "delivered"
