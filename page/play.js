@@ -148,7 +148,9 @@ const counterNames = steps => [...new Set(steps.flatMap(it => it.changed).map(it
 
 // What the program says of a line: its reply with the lines below it, or what is wrong with it.
 const answerOf = it => (it.fault ? { says: it.fault, reply: it.fault, below: [], column: it.column, isOk: false }
-  : { says: it.reply, below: linesOf(it.below).map(line => line.trim()), isOk: !it.reply.startsWith("error ") });
+  : { says: it.reply, below: linesOf(it.below).map(lineBelow), isOk: !it.reply.startsWith("error ") });
+// What a packet became stands indented below the packet, as in what bsdplay prints.
+const lineBelow = line => line.replace(/^ {4}/, "");
 // Of a hand-in a line that is still open expects `?`.
 function wantedOf(it, text) {
   const { wanted } = partsOf(text);
