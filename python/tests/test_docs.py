@@ -65,7 +65,7 @@ def test_readme(capsys):
     text = (TOP / "README.md").read_text(encoding="utf-8")
     piece = re.search(r"^    import bsdudp\n(?:    .*\n)+", text, re.M)[0]
     exec(compile(textwrap.dedent(piece), "README.md", "exec"), {})
-    assert capsys.readouterr().out.startswith("(b'hi', ('10.0.0.1', 1024)) {")
+    assert capsys.readouterr().out == "(b'hi', ('10.0.0.1', 1024)) Counters(ip.total=1)\n"
 
 
 def test_sweep(tmp_path):
