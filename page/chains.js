@@ -127,3 +127,75 @@ function refusedIn(step, chains, clusters) {
   }
   return refused;
 }
+
+// ---- as a figure has them
+
+// The most lines of a script whose mbufs keep their numbers from line to line.
+const MOST_LINES = 600;
+// Of an mbuf's bytes so many are kept, to show what they are.
+const SHOWN_BYTES = 32;
+
+const lengthOf = mbufs => mbufs.reduce((n, it) => n + it.bytes.length, 0);
+
+// The lowest numbers that none of these has, and none of those before, one for each that has none.
+function number(all, before = []) {
+  const used = new Set([...before, ...all.map(it => it.n)]);
+  let next = 0;
+  for (const it of all) {
+    if (it.n !== undefined) continue;
+    while (used.has(next)) next++;
+    it.n = next;
+    used.add(next);
+  }
+}
+
+// The head of an mbuf, of which a chain's first one says how long the chain is.
+function headOf(it, next, pkthdr, clusters) {
+  const isFirst = pkthdr !== null && it.hasPacket;
+  return {
+    n: it.n, next: next ? next.n : null, nextpkt: null, len: it.bytes.length, data: it.start, type: 1,
+    pkthdr: isFirst ? pkthdr : null, rcvif: isFirst ? 0 : null,
+    cluster: it.cluster === null ? null : clusters.get(it.cluster).n, bytes: hexOf(it.bytes.subarray(0, SHOWN_BYTES)),
+  };
+}
+
+// The chains as a figure has them. Numbers are kept from the state before: an mbuf's by what it holds, a cluster's by an
+// mbuf that had it.
+function chainState(chains, before) {
+  const olds = before ? before.mine : new Map(), was = before ? [...olds.values()].flat() : [];
+  const own = ({ hasPacket, cluster, start, bytes }) => ({ hasPacket, start, bytes, cluster });
+  const mine = new Map([...chains].map(([slot, all]) => [slot, all.map(own)]));
+  const gone = [...olds].flatMap(([slot, its]) => (mine.has(slot) ? [] : its)), taken = new Set();
+  for (const [slot, news] of mine) keepChain([...(olds.get(slot) || []), ...gone], news, taken);
+  const all = [...mine.values()].flat(), named = new Map();
+  number(all, was.map(it => it.n));
+  for (const { cluster, oldCluster } of all) {
+    if (cluster === null) continue;
+    const it = named.get(cluster) || named.set(cluster, { count: 0 }).get(cluster);
+    it.count += 1;
+    if (oldCluster !== undefined) it.n = oldCluster;
+  }
+  number([...named.values()], was.map(it => it.number).filter(n => n !== undefined));
+  for (const it of all) if (it.cluster !== null) it.number = named.get(it.cluster).n;
+  const mbufs = [];
+  const slots = [...mine].map(([slot, its]) => {
+    const len = lengthOf(its);
+    its.forEach((it, k) => mbufs.push(headOf(it, its[k + 1], k ? null : len, named)));
+    return { slot, len, first: its[0].n };
+  });
+  const clusters = Object.fromEntries([...named.values()].map(it => [it.n, it.count]));
+  return { chains: slots, mbufs, clusters, mine, named };
+}
+
+// Those mbufs keep their numbers that have a byte in common with an old one at the same place.
+function keepChain(olds, news, taken) {
+  const last = ({ bytes }) => bytes[bytes.length - 1], end = it => it.start + it.bytes.length;
+  const isSame = (a, b) => (a.cluster === null) === (b.cluster === null) && a.bytes.length > 0 && b.bytes.length > 0
+    && (a.start === b.start ? a.bytes[0] === b.bytes[0] : end(a) === end(b) && last(a) === last(b));
+  for (const it of news) {
+    const old = olds.find(other => !taken.has(other) && isSame(other, it));
+    if (!old) continue;
+    taken.add(old);
+    Object.assign(it, { n: old.n, oldCluster: old.number });
+  }
+}

@@ -90,6 +90,13 @@ class Engine {
     return withReplies(this.serve(this.calls.bsdudp_page_run, machineOf(config), script));
   }
 
+  // The mbufs that a machine holds after a script of `bsdudp run`, as figure.js has them.
+  state(config, script) {
+    const { code, bytes } = this.serve(this.calls.bsdudp_page_state, machineOf(config), script);
+    if (code) throw new Error(FAULTS[code]);
+    return stateIn(linesOf(textOf(bytes)).map(line => JSON.parse(line)));
+  }
+
   // The outcome and the objects of a script of `bsdplay --json`, on one machine.
   play(config, script) {
     return withObjects(this.serve(this.calls.bsdudp_page_play, machineOf(config), script));
@@ -160,6 +167,22 @@ function withObjects({ code, bytes }) {
     ? textOf(Uint8Array.from(value, letter => letter.charCodeAt(0))) : value);
   return { code, objects: linesOf(textOf(bytes)).map(line => JSON.parse(line, (_, value) => decoded(value))) };
 }
+
+// A state by its objects: who holds mbufs, each in front of them, and then the clusters. All mbufs are of one type.
+function stateIn(objects) {
+  const state = { sockets: [], output: null, unfinished: [], clusters: {}, mbufs: [] };
+  for (const { socket, output, unfinished, cluster, mbuf, ...it } of objects) {
+    if (mbuf !== undefined) state.mbufs.push({ n: mbuf, type: MT_DATA, ...it, cluster });
+    else if (socket !== undefined) state.sockets.push({ fd: socket, ...it });
+    else if (output !== undefined) state.output = { len: output, ...it };
+    else if (unfinished !== undefined) state.unfinished.push({ mbuf: unfinished, ...it, source: dotted(it.source) });
+    else state.clusters[cluster] = it.references;
+  }
+  return state;
+}
+
+// The type of an mbuf that holds data (volume 2, figure 2.10).
+const MT_DATA = 1;
 
 // A machine as the module reads it.
 function machineOf({ addr, bcast, mbufs, clusters, mtu, id }) {

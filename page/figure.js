@@ -5,7 +5,7 @@
 //
 // A state has `mbufs`, each with its number, its fields and its first bytes; `clusters`, how often each is counted; and
 // who holds them: `sockets`, `output` and `unfinished`, or `chains`. Links are numbers of mbufs, and null is none
-// (memory.js).
+// (`state` of engine.js, `chainState` of chains.js).
 const MbufFigure = (() => {
   const MSIZE = 128, HEADER = 20, PKTHDR = 28, EXT = 32, MCLBYTES = 2048;
   const TYPES = { 1: "MT_DATA" };

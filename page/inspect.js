@@ -68,13 +68,8 @@ function captionOf({ sockets, output, unfinished }) {
   return [STACK_CAPTION, ...Object.keys(CAPTIONS).filter(name => held[name]).map(name => CAPTIONS[name])].join(" ");
 }
 
-function memoryView(before, after, title = "The mbufs after this line") {
-  if (!after) {
-    return panel(title, h("p", { class: "faint" }, "They aren't drawn: of this script the page can't work out where "
-      + "the bytes lie. The figures below are the program's."));
-  }
-  return figurePanel(title, { after, before, caption: captionOf(after), all: page.drawsAll });
-}
+const memoryView = (before, after, title = "The mbufs after this line") =>
+  figurePanel(title, { after, before, caption: captionOf(after), all: page.drawsAll });
 
 // ---- the stack
 
@@ -116,6 +111,27 @@ const worded = text => text.split("`").map((part, i) => (i % 2 ? h("code", {}, p
 function bothSums({ packet, wrongSum }, name) {
   const said = name.endsWith(".badsum") && packet && (wrongSum || packet.wrongSum);
   return said ? `: ${said}` : "";
+}
+
+const IP_HEADER = 20;
+
+// The same of a datagram that the last of these lines made whole, by its fragments; null if they overlap.
+function wrongSumOf(steps) {
+  const { packet, changed } = steps[steps.length - 1], fragments = new Map();
+  if (!packet || !packet.isFragment || !has({ changed }, "udp.badsum")) return null;
+  const keyOf = it => [it.source, it.destination, it.id].join();
+  for (const { kind, packet: it } of steps) {
+    if (kind === "in" && it.isFragment && it.carried.length && keyOf(it) === keyOf(packet)) fragments.set(it.offset, it);
+  }
+  const bytes = [...packet.bytes.subarray(0, IP_HEADER)];
+  let part = fragments.get(0);
+  while (part && part.hasMore) {
+    bytes.push(...part.carried);
+    part = fragments.get(bytes.length - IP_HEADER);
+  }
+  if (!part) return null;
+  const { udpSum, rightUdpSum } = headerOf(Uint8Array.from([...bytes, ...part.carried]));
+  return sumsSaid(hex16(udpSum), hex16(rightUdpSum));
 }
 
 // The checks of a packet in their order, up to the one that failed.
@@ -184,22 +200,21 @@ function piecesView({ key, pieces, end }, most) {
     h("small", {}, `bytes ${told} came; ${end ? `it has ${end}` : "its end isn't known yet"}`));
 }
 
-function unfinishedView(held) {
-  const { pieces } = held.unfinished, least = Math.min(...pieces.map(it => it.ticks));
+function unfinishedView({ pieces, owned }) {
+  const least = Math.min(...pieces.map(it => it.ticks));
   const most = Math.max(...pieces.map(it => it.end || Math.max(...it.pieces.map(piece => piece.to))));
   const until = pieces.length > 0 && `, dropped in ${plural(least, "tick")} unless whole by then`;
   return h("div", { class: "holder" }, h("b", {}, "unfinished datagrams"), " ",
-    h("span", { class: "faint" }, `${plural(held.unfinished.mbufs, "mbuf")}${until || ""}`),
+    h("span", { class: "faint" }, `${plural(owned.unfinished.mbufs, "mbuf")}${until || ""}`),
     pieces.slice(0, 6).map(it => piecesView(it, most)),
     pieces.length > 1 && h("p", { class: "faint" }, `All bars have one scale: the longest is ${plural(most, "byte")}.`),
     pieces.length > 6 && h("p", { class: "faint" }, `and ${pieces.length - 6} more`));
 }
 
 // Buffers by owner. What is left over is shared between owners, so no one of them gives it back alone.
-function ownersOf(held, name, used) {
-  const parts = [["receive queues", "queue", held.total(name)], ["output queue", "output", sumOf(held.output, name)],
-    ["unfinished datagrams", "unfinished", held.unfinished[name]]]
-      .map(([who, kind, count]) => ({ name: who, kind, count }));
+function ownersOf({ owned }, name, used) {
+  const parts = [["receive queues", "queue"], ["output queue", "output"], ["unfinished datagrams", "unfinished"]]
+    .map(([who, kind]) => ({ name: who, kind, count: owned[kind][name] }));
   const rest = Math.max(0, used - parts.reduce((n, it) => n + it.count, 0));
   return [...parts, { name: "shared between owners", kind: "shared", count: rest }];
 }
@@ -213,7 +228,7 @@ function machineView({ pool }, before, now, title = "The machine after this line
     h("p", { class: "legend" }, legend.map(it => h("span", { class: `of-${it.kind}` }, it.name))),
     pool.most > 1 && h("p", { class: "faint" }, `The most shared cluster is counted ${pool.most}.`),
     now.sockets.map(socket => socketView(socket, before)),
-    now.output.length > 0 && outputView(now.output, before), now.unfinished.mbufs > 0 && unfinishedView(now));
+    now.output.length > 0 && outputView(now.output, before), now.owned.unfinished.mbufs > 0 && unfinishedView(now));
 }
 
 function countersView(step, name = "counters") {
@@ -241,10 +256,8 @@ function packetsOfLine(step, before, now) {
 
 function stackView(page, step) {
   const now = page.heldAfter(step.number), before = page.heldAfter(step.number - 1);
-  const memory = memoryView(page.memoryAfter(step.number - 1), page.memoryAfter(step.number));
-  const ran = page.own[page.ranAfter(step.number) - 1], { addr, mtu } = page.options;
-  // of a datagram of fragments it's known by now which checksum would be right
-  if (step.packet && step.kind === "in" && ran.wrongSum) step.wrongSum = ran.wrongSum;
+  const memory = memoryView(before.state, now.state), { addr, mtu } = page.options;
+  if (step.packet && step.kind === "in") step.wrongSum = wrongSumOf(page.own.slice(0, page.ranAfter(step.number)));
   const about = packetsOfLine(step, before, now);
   const title = ["The machine after this line ", h("span", { class: "faint" }, `${addr}, MTU ${mtu}`)];
   const state = [machineView(step, before, now, title), countersView(step)];

@@ -15,7 +15,6 @@ const page = {
   drawsAll: false,
   held: new Map(),
   drawn: new Map(),
-  memories: new Map(),
   chains: [],
   // after how many lines of `bsdudp run` the n-th line ends
   ranAfter(n) {
@@ -32,17 +31,6 @@ const page = {
     const key = `${host.name} ${n}`;
     if (!this.held.has(key)) this.held.set(key, new Held(this.engine, host.config, host.lines.slice(0, n)));
     return this.held.get(key);
-  },
-  memory(name, config, steps) {
-    if (!this.memories.has(name)) this.memories.set(name, new Memory(this.engine, config, steps));
-    return this.memories.get(name);
-  },
-  // where the bytes lie after so many lines, or null
-  memoryAfter(n) {
-    return this.memory("", this.config, this.own).after(this.ranAfter(n));
-  },
-  memoryOf(host, n) {
-    return this.memory(host.name, host.config, host.steps).after(n);
   },
   // the chains after so many lines, mbuf by mbuf; those of a few places are kept
   drawnAfter(n) {
@@ -176,7 +164,6 @@ function replay(place) {
   page.config = configOf(page.options);
   page.held.clear();
   page.drawn.clear();
-  page.memories.clear();
   page.chains = [];
   const { code, ...traced } = page.config.wrong ? { code: 0, steps: [] } : PLAYS[page.mode].trace(page);
   Object.assign(page, { hosts: null, own: null, ends: null }, traced);

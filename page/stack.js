@@ -148,50 +148,47 @@ function refusalIn(reply) {
 
 // ---- what is held
 
-// What is held after so many lines: the same script once more, on a machine that is thrown away. The program shows its
-// sockets and unfinished datagrams. Then its queues are emptied, and what each datagram gives back to the pool is what
-// it held.
+// What is held after so many lines: the mbufs, by the program's state, and of what waits the bytes. The program gives them
+// out on a machine that is thrown away.
 class Held {
   constructor(engine, config, lines) {
-    this.ask = more => engine.run(config, [...lines, ...more, ""].join("\n")).replies.slice(lines.length);
-    const [sockets, unfinished] = shownAfter(engine, config, lines, ["sockets", "unfinished"]);
-    this.output = this.queueBy("tx", 51, reply => reply === "none" ? null : packetIn(reply));
-    this.sockets = sockets.map(socketIn).map(socket => ({ ...socket, queue: this.received(socket.fd) }));
-    this.unfinished = { ...this.leftBy(sockets.map(it => `close ${socketIn(it).fd}`)),
-      pieces: unfinished.map(piecesIn).filter(Boolean) };
-    this.total = name => this.sockets.reduce((n, socket) => n + sumOf(socket.queue, name), 0);
+    this.state = engine.state(config, lines.map(line => line + "\n").join(""));
+    const [sockets, unfinished] = shownAfter(engine, config, lines, ["sockets", "unfinished"]), { state } = this;
+    const chainsOf = chainsIn(state), trains = state.sockets.map(it => chainsOf(it.first));
+    const output = chainsOf(state.output.first);
+    const asked = [...state.sockets.flatMap(({ fd }, i) => trains[i].map(() => `recvfrom ${fd} 65535`)),
+      ...output.map(() => "tx")];
+    const replies = engine.run(config, [...lines, ...asked, ""].join("\n")).replies.slice(lines.length);
+    const queues = new Map(state.sockets.map(({ fd }, i) =>
+      [fd, trains[i].map(chain => ({ ...datagramIn(replies.shift()), ...buffersIn(chain) }))]));
+    this.sockets = sockets.map(socketIn).map(socket => ({ ...socket, queue: queues.get(socket.fd) }));
+    this.output = output.map(chain => ({ ...packetIn(replies.shift()), ...buffersIn(chain) }));
+    this.pieces = unfinished.map(piecesIn).filter(Boolean);
+    const late = state.unfinished.flatMap(it => [...chainsOf(it.mbuf), ...chainsOf(it.first)]);
+    this.owned = ownedBy({ queue: trains.flat(2), output: output.flat(), unfinished: late.flat() });
   }
+}
 
-  // What a line takes out of a queue, each time it's asked, with the buffers that come back.
-  queueBy(line, times, read) {
-    const more = ["mbstat"];
-    for (let i = 0; i < times; i++) more.push(line, "mbstat");
-    const replies = this.ask(more), queue = [];
-    let pool = usageIn(replies[0]);
-    for (let i = 0; i < times; i++) {
-      const it = read(replies[1 + 2 * i]);
-      if (!it) return queue;
-      const next = usageIn(replies[2 + 2 * i]);
-      const clusters = next.freeClusters - pool.freeClusters;
-      queue.push({ ...it, mbufs: next.free - pool.free, clusters, refs: pool.refs - next.refs });
-      pool = next;
-    }
-    return queue;
-  }
+// The mbufs from a first one on by their links, chain by chain.
+function chainsIn({ mbufs }) {
+  const at = new Map(mbufs.map(it => [it.n, it]));
+  const walk = (n, link) => {
+    const all = [];
+    for (let it = at.get(n); it; it = at.get(it[link])) all.push(it);
+    return all;
+  };
+  return first => walk(first, "nextpkt").map(it => walk(it.n, "next"));
+}
 
-  // A receive queue holds at most 325 datagrams. Most hold few, so few are asked for at first.
-  received(fd) {
-    for (let times = 4; ; times *= 4) {
-      const queue = this.queueBy(`recvfrom ${fd} 65535`, times, datagramIn);
-      if (queue.length < times || times > 325) return queue;
-    }
-  }
+const buffersIn = chain => ({ mbufs: chain.length, refs: chain.filter(it => it.cluster !== null).length });
 
-  // What is left once all else is gone belongs to unfinished datagrams.
-  leftBy(closing) {
-    const pool = usageIn(this.ask([...closing, ...Array(50).fill("tx"), "mbstat"]).pop());
-    return { mbufs: pool.used, clusters: pool.usedClusters };
-  }
+// How many buffers each owner has: its mbufs, and the clusters to which no other owner's mbuf refers.
+function ownedBy(owners) {
+  const clustersOf = mbufs => new Set(mbufs.map(it => it.cluster).filter(n => n !== null));
+  const all = Object.entries(owners).map(([name, mbufs]) => ({ name, mbufs, clusters: clustersOf(mbufs) }));
+  const isShared = (n, name) => all.some(it => it.name !== name && it.clusters.has(n));
+  return Object.fromEntries(all.map(({ name, mbufs, clusters }) =>
+    [name, { mbufs: mbufs.length, clusters: [...clusters].filter(n => !isShared(n, name)).length }]));
 }
 
 // The lines below each of these topics, after a script.

@@ -78,9 +78,8 @@ function hostView(page, step, host) {
         "What it holds isn't drawn: a line moved more packets than the page follows.")),
     countersView({ counters, changed }, `Counters of ${host.name}`));
   }
-  const around = [step.was.get(host.name) || 0, n].map(count => page.memoryOf(host, count));
-  return h("div", { class: "column" }, neighboursView(step, host),
-    isChanged && memoryView(...around, `The mbufs of ${host.name}`), machineView({ pool }, before, now, title),
+  const memory = isChanged && memoryView(before.state, now.state, `The mbufs of ${host.name}`);
+  return h("div", { class: "column" }, neighboursView(step, host), memory, machineView({ pool }, before, now, title),
     countersView({ counters, changed }, `Counters of ${host.name}`));
 }
 

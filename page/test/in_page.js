@@ -33,25 +33,20 @@ function revealAll() {
   select(page.at);
 }
 
-// The buffers of all owners are those that aren't free, but for those that owners share.
-function faultsOfOwners(i) {
-  const step = page.steps[i], held = page.heldAfter(step.number);
-  const own = held.total("mbufs") + sumOf(held.output, "mbufs") + held.unfinished.mbufs;
-  const faults = own === step.pool.used ? []
-    : [`line ${i + 1}: ${own} mbufs have an owner, and ${step.pool.used} are in use`];
-  return [...faults, ...faultsOfMemory(i, held)];
-}
+const mbufsOwned = ({ owned }) => Object.values(owned).reduce((n, it) => n + it.mbufs, 0);
 
-// Where the bytes lie is drawn, and of each datagram and packet that waits they are as many as the program says.
-function faultsOfMemory(i, held) {
-  const state = page.memoryAfter(page.steps[i].number), isDrawn = document.querySelector("#look .mbuf-figure");
-  const isSame = Boolean(state) === Boolean(isDrawn);
-  if (!isSame) return [`line ${i + 1}: mbufs are ${state ? "known, and not" : "unknown, and"} drawn`];
-  if (!state) return [];
+// The buffers of all owners are those that aren't free, where the bytes lie is drawn, and of each datagram and packet that
+// waits they are as many as the program says.
+function faultsOfOwners(i) {
+  const step = page.steps[i], held = page.heldAfter(step.number), { state } = held, faults = [];
+  if (mbufsOwned(held) !== step.pool.used) {
+    faults.push(`line ${i + 1}: ${mbufsOwned(held)} mbufs have an owner, and ${step.pool.used} are in use`);
+  }
+  if (!document.querySelector("#look .mbuf-figure")) faults.push(`line ${i + 1} has no figure`);
   const waits = held.sockets.reduce((n, it) => n + it.queue.reduce((m, one) => m + one.data.length + 16, 0), 0);
   const drawn = state.sockets.reduce((n, it) => n + it.cc, 0);
-  return waits === drawn && state.output.len === held.output.length ? []
-    : [`line ${i + 1}: ${drawn} bytes are drawn in sockets, and ${waits} wait; or packets`];
+  const isSame = waits === drawn && state.output.len === held.output.length;
+  return isSame ? faults : [...faults, `line ${i + 1}: ${drawn} bytes are drawn in sockets, and ${waits} wait; or packets`];
 }
 
 // The same of each machine on a wire; and each has a place in the view.
@@ -61,7 +56,7 @@ function faultsOfHosts(i) {
   const faults = shown === names.length ? [] : [`line ${i + 1}: ${shown} machines are shown of ${names.length}`];
   for (const [name, n] of step.now) {
     const host = page.hosts.get(name), held = page.heldOf(host, n), { pool } = stateOf(step, name, page.hosts);
-    const own = held.total("mbufs") + sumOf(held.output, "mbufs") + held.unfinished.mbufs;
+    const own = mbufsOwned(held);
     if (own !== pool.used) faults.push(`line ${i + 1}: at ${name} ${own} mbufs have an owner of ${pool.used} in use`);
   }
   return faults;

@@ -9,15 +9,15 @@ const child = require("child_process"), fs = require("fs"), os = require("os"), 
 const vm = require("vm");
 
 const [file, examples, lessons, program, player] = process.argv.slice(2);
-const sources = ["engine", "packet", "play", "stack", "chains", "memory", "wire", "capture"]
+const sources = ["engine", "packet", "play", "stack", "chains", "wire", "capture"]
   .map(name => fs.readFileSync(path.join(__dirname, "..", name + ".js"), "utf8"));
 const names = "Engine, configOf, optionsOf, readNotes, partsOf, linesOf, hexOf, hasHosts, DEFAULTS, DEFAULT_CONFIG";
 const ofChains = "usageIn, slotsIn, drawnChains, clustersIn, playChains";
 const ofWire = "traceHosts, isFollowed, Frame, bytesOf";
-const ofPlay = "tracePlay", ofMemory = "traceStack, Held, Memory, MOST_LINES";
+const ofPlay = "tracePlay", ofStates = "traceStack, Held, chainsIn";
 const ofCaptures = "captureScript";
 const code = sources.map(text => text.replace('"use strict";', "")).join("\n")
-  + `\n({ ${names}, ${ofChains}, ${ofWire}, ${ofPlay}, ${ofMemory}, ${ofCaptures} })`;
+  + `\n({ ${names}, ${ofChains}, ${ofWire}, ${ofPlay}, ${ofStates}, ${ofCaptures} })`;
 const page = vm.runInNewContext(code, { WebAssembly, TextEncoder, TextDecoder });
 
 let faults = 0;
@@ -258,7 +258,7 @@ function tryExercise(engine, script) {
 
 // ---- where the bytes lie
 
-// The mbufs after a script, read out of the native program's memory by a build of it that prints them: packet header,
+// The mbufs after a script, as they were read out of the native program's memory by a build of it that prints them: packet header,
 // place, length, and the cluster by its count; a "/" stands between the chains of a queue, and the queues are the
 // sockets', the output queue, and those of unfinished datagrams.
 const SENT = n => Array.from({ length: n }, (_, i) => (i & 255).toString(16).padStart(2, "0")).join("");
@@ -291,54 +291,85 @@ function wordsOf(state) {
   return [...state.sockets.map(it => trainOf(it.first)), trainOf(state.output.first), ...late].join(" ; ").trim();
 }
 
-function memoryOf(engine, config, lines) {
-  const { steps } = page.traceStack(engine, config, lines), all = new Map();
-  const held = n => all.get(n)
-    || all.set(n, new page.Held(engine, config, lines.slice(0, n))).get(n);
-  return { steps, held, memory: new page.Memory(engine, config, steps) };
-}
-
 function tryLaid(engine) {
   const config = page.DEFAULT_CONFIG, bare = text => text.replace(/^[; ]+|[; ]+$/g, "");
   for (const [lines, wanted] of LAID) {
-    const { own } = page.tracePlay(engine, lines.join("\n")), plain = own.map(it => it.line);
-    const state = memoryOf(engine, config, plain).memory.after(lines.length);
-    const got = state ? wordsOf(state) : "nothing", last = lines[lines.length - 1].slice(0, 60);
-    if (bare(got) !== bare(wanted)) fault(`the mbufs after ${last}`, `${wanted} is right, and ${got} drawn`);
+    const { own } = page.tracePlay(engine, lines.join("\n"));
+    const got = wordsOf(engine.state(config, own.map(it => it.line + "\n").join(""))), last = lines[lines.length - 1];
+    if (bare(got) !== bare(wanted)) {
+      fault(`the mbufs after ${last.slice(0, 60)}`, `${wanted} is right, and the state has ${got}`);
+    }
   }
 }
 
-// After each line of a script the mbufs are known, and of each datagram and packet that waits they have the bytes, and
-// are as many, as the program says.
-function tryMemory(engine, name, config, lines, isWhole) {
-  const { steps, held, memory } = memoryOf(engine, config, lines.slice(0, page.MOST_LINES));
-  let unknown = 0;
-  for (let n = 0; n <= steps.length; n++) {
-    const state = memory.after(n);
-    if (!state) unknown += 1;
-    else tryState(`${name}, after line ${n}`, memory, state, n === steps.length ? held(n) : null, steps[n - 1]);
+// After so many lines of a script the states are looked at, and after so many each what waits is read.
+const MOST_STATES = 600, READ_EACH = 20;
+
+// After each line of a script the state has the mbufs, the clusters and the references that the program counts; of what
+// waits, and of what is unfinished, it has the bytes, as the program's other answers have them.
+function tryStates(engine, name, config, lines) {
+  const { steps } = page.traceStack(engine, config, lines.slice(0, MOST_STATES));
+  for (let n = 1; n <= steps.length; n++) {
+    const some = lines.slice(0, n), isRead = n === steps.length || n % READ_EACH === 0;
+    const held = isRead ? new page.Held(engine, config, some) : null;
+    const state = isRead ? held.state : engine.state(config, some.map(line => line + "\n").join(""));
+    tryState(`${name}, after line ${n}`, state, steps[n - 1].pool, held);
   }
-  if (isWhole && unknown) fault(name, `after ${unknown} of its lines the mbufs aren't known`);
 }
 
-function tryState(name, memory, state, now, step) {
-  const clusters = new Map();
-  for (const it of state.mbufs) if (it.cluster !== null) clusters.set(it.cluster, (clusters.get(it.cluster) || 0) + 1);
+function tryState(name, state, pool, held) {
+  const { mbufs } = state, clusters = new Map(), chainsOf = page.chainsIn(state);
+  for (const it of mbufs) if (it.cluster !== null) clusters.set(it.cluster, (clusters.get(it.cluster) || 0) + 1);
   const countsOf = all => JSON.stringify(all.map(([n, count]) => [String(n), count]).sort());
-  const isCounted = countsOf(Object.entries(state.clusters)) === countsOf([...clusters]);
-  if (!isCounted) fault(name, "clusters are counted otherwise");
-  if (step && state.mbufs.length !== step.pool.used) fault(name, "other mbufs are drawn than are in use");
-  if (new Set(state.mbufs.map(it => it.n)).size !== state.mbufs.length) fault(name, "two mbufs have one number");
-  const isOutside = it => it.data + it.len > (it.cluster === null ? 128 : 2048);
-  if (state.mbufs.some(isOutside)) fault(name, "bytes lie outside their mbuf");
-  if (!now) return;
-  const bytes = mbufs => mbufs.map(it => page.hexOf(it.bytes)).join("");
-  const isSame = (queue, chains, skip) => queue.length === chains.length && queue.every((it, i) =>
-    it.mbufs === chains[i].length && it.refs === chains[i].filter(one => one.cluster !== null).length
-    && bytes(chains[i].slice(skip)) === page.hexOf(skip ? it.data : it.packet.bytes));
-  for (const { fd, queue } of now.sockets) {
-    const isDrawn = isSame(queue, memory.sockets.get(fd) || [], 1);
-    if (!isDrawn) fault(name, `other datagrams are drawn than wait in socket ${fd}`);
+  const counts = [...clusters.values()], refs = counts.reduce((n, it) => n + it, 0), say = what => fault(name, what);
+  if (countsOf(Object.entries(state.clusters)) !== countsOf([...clusters])) say("clusters are counted otherwise");
+  if (mbufs.length !== pool.used) say("the state has other mbufs than are in use");
+  if (clusters.size !== pool.usedClusters || refs !== pool.refs || Math.max(0, ...counts) !== pool.most) {
+    say("the state has other clusters than are in use");
+  }
+  if (new Set(mbufs.map(it => it.n)).size !== mbufs.length) say("two mbufs have one number");
+  if (mbufs.some(it => it.data + it.len > (it.cluster === null ? 128 : 2048))) say("bytes lie outside their mbuf");
+  const trains = [...state.sockets.map(it => it.first), state.output.first,
+    ...state.unfinished.flatMap(it => [it.mbuf, it.first])].map(first => chainsOf(first).filter(it => it.length));
+  const reached = new Set(trains.flat(2).map(it => it.n));
+  if (reached.size !== mbufs.length) say("an mbuf hangs on no queue");
+  if (state.output.last !== lastOf(chainsOf(state.output.first))) say("the last packet is another");
+  if (held) tryWaiting(say, held, chainsOf);
+}
+
+const lastOf = chains => (chains.length ? chains[chains.length - 1][0].n : null);
+
+// The first bytes of each mbuf of a chain, where its bytes stand in `whole`.
+function isBytesOf(whole, chain) {
+  let at = 0;
+  for (const it of chain) {
+    const shown = Math.min(it.len, 32);
+    if (page.hexOf(whole.subarray(at, at + shown)) !== it.bytes) return false;
+    at += it.len;
+  }
+  return at === whole.length;
+}
+
+function tryWaiting(say, { state, sockets, output, pieces }, chainsOf) {
+  for (const { fd, first, cc, mbcnt } of state.sockets) {
+    const { queue } = sockets.find(it => it.fd === fd) || { queue: [] }, chains = chainsOf(first), all = chains.flat();
+    const isSame = queue.length === chains.length && queue.every((it, i) => it.data && isBytesOf(it.data, chains[i].slice(1)));
+    if (!isSame) say(`other datagrams are in the state than wait in socket ${fd}`);
+    if (cc !== all.reduce((n, it) => n + it.len, 0)) say(`sb_cc of socket ${fd} is ${cc}`);
+    if (mbcnt !== all.reduce((n, it) => n + 128 + (it.cluster === null ? 0 : 2048), 0)) {
+      say(`sb_mbcnt of socket ${fd} is ${mbcnt}`);
+    }
+  }
+  const packets = chainsOf(state.output.first);
+  const isOutput = output.length === state.output.len && packets.length === output.length
+    && output.every((it, i) => isBytesOf(it.packet.bytes, packets[i]));
+  if (!isOutput) say("other packets are in the state than wait for the link");
+  const laid = state.unfinished.map(it => chainsOf(it.first).map(([head]) => [head.rcvif >> 1, head.pkthdr]));
+  const told = pieces.map(it => it.pieces.map(({ from, to }) => [from, to - from]));
+  // (`show unfinished` prints the first 32)
+  const isAll = laid.length === told.length || (told.length === 32 && laid.length > 32);
+  if (!isAll || JSON.stringify(laid.slice(0, told.length)) !== JSON.stringify(told)) {
+    say("other fragments are in the state than are shown");
   }
 }
 
@@ -615,16 +646,12 @@ function tryRandomDrawings(engine, folder) {
   }
 }
 
-// The examples of which the mbufs aren't known everywhere: fragments that come back by loopback find too few buffers.
-const UNKNOWN = ["no_mbuf_for_the_key.txt", "reclaimed_for_a_send.txt"];
-
-// After each line of each lesson and of each other example the mbufs are known.
-function tryAllMemory(engine) {
+// After each line of each lesson and of each example.
+function tryAllStates(engine) {
   for (const script of [...scriptsOf(examples), ...scriptsOf(path.join(lessons, "run"))]) {
     const text = fs.readFileSync(script, "utf8"), isLesson = script.startsWith(lessons);
     const { own, config } = isLesson ? page.tracePlay(engine, text) : { config: configOf(script) };
-    const lines = isLesson ? own.map(it => it.line) : page.linesOf(text);
-    tryMemory(engine, script, config, lines, !UNKNOWN.includes(path.basename(script)));
+    tryStates(engine, script, config, isLesson ? own.map(it => it.line) : page.linesOf(text));
   }
 }
 
@@ -645,7 +672,7 @@ async function main() {
     if (!exercises.includes(script) && !OTHERS.includes(path.basename(script))) tryScript(engine, "run", script);
   }
   tryLaid(engine);
-  tryAllMemory(engine);
+  tryAllStates(engine);
   tryCaptures(engine, path.join(examples, "play"));
   tryTshark(engine, path.join(examples, "play", "by_tcpdump.pcap"));
   tryRandomWires(engine);

@@ -17,9 +17,11 @@ ghost use Rattle.page.specs.Told.{Drawn, Told, machine_config, sizes_of};
 mod handed;
 mod headers;
 mod marks;
+mod mbufs;
 mod play;
 mod records;
 mod settings;
+mod state;
 
 use chain_script::{draw_slot, run_chains};
 use handed::{hand_over, number_of};
@@ -29,6 +31,7 @@ pub use marks::{PageMarks, bsdudp_page_marks};
 pub use play::{bsdudp_page_capture, bsdudp_page_hosts, bsdudp_page_play};
 pub use records::{PageCapture, bsdudp_page_records};
 pub use settings::{PageMachine, PagePool};
+pub use state::bsdudp_page_state;
 use std::alloc::Global;
 
 /// Serves a script of `bsdudp run` on a new machine, and puts the replies at the beginning of the room: `uint32_t

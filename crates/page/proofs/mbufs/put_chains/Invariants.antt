@@ -1,0 +1,10 @@
+use Rattle.std.proofs.Common.{◌≡◌, ◌++◌, drop}
+use Rattle.net_stack.specs.Questions.{chains_held}
+use Rattle.page.specs.States.{chain_objects}
+use Rattle.page.proofs.mbufs.put_chains.Given as goal
+
+-- the lines of the chains from here on are left
+abbrev pub invariant-chains : goal.invariant-chains
+invariant-chains l =
+    l.text.items ++ chain_objects l.stack.pool (drop l.i (chains_held l.stack l.holder))
+    ≡ l.fn.text.items ++ chain_objects l.stack.pool (chains_held l.stack l.holder)

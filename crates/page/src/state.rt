@@ -1,0 +1,119 @@
+//! The mbufs of a stack after a script.
+ghost use Rattle.std.specs.Prelude.{◌≡◌, IfOk, IfSome, vec_len, [], Some};
+ghost use Rattle.flat_model.specs.Machine.State.{State, boot};
+ghost use Rattle.flat_model.specs.Machine.Step.{Step};
+ghost use Rattle.chain_script.specs.Drawings.{served};
+ghost use Rattle.link_script.specs.Boots.{BootsRun};
+ghost use Rattle.link_script.specs.Says.{SaysBy};
+ghost use Rattle.net_stack.specs.Stack.{state_of};
+ghost use Rattle.script_loop.specs.Serves.{IsServed, Serves};
+ghost use Rattle.stack_call.specs.Moves.{StackSteps};
+ghost use Rattle.page.specs.Pictured.{IsStateText, Pictured};
+ghost use Rattle.page.specs.Told.{machine_config};
+
+use crate::handed::{hand_over, number_of};
+use crate::mbufs::put_state;
+use crate::settings::PageMachine;
+use link_script::{Caller, Config, RunFault, Sink, Source, booted};
+use net_stack::Stack;
+use script_loop::{LineBuffers, serve_script};
+use std::alloc::{AllocError, Global};
+
+/// The text of a stack; `AllocError` if the host refuses memory for it.
+fn picture_of(alloc: Global, stack: &Stack) -> Result<Vec<u8>, AllocError>
+    ensures { IfOk result (λ text. IsStateText (state_of stack.now) text.items) }
+{
+    stack.laws();
+    let mut text = Vec::new(alloc);
+    put_state(&mut text, stack)?;
+    Ok(text)
+}
+
+/// Serves a script on a stack, and spends it: its text as it's then, or `None` if the host refuses memory for that.
+fn serve_stack<R: Source, W: Sink>(
+    alloc: Global,
+    machine: Stack,
+    reader: &mut R,
+    writer: &mut W,
+) -> Result<Option<Vec<u8>>, RunFault>
+    ensures drawn { (new : State) × Serves (SaysBy StackSteps) (state_of machine) new
+        (R.remaining reader.old) (R.remaining reader.new) (W.contents writer.old) (W.contents writer.new)
+        (served result) × IfOk result (λ text. IfSome text (λ bytes. IsStateText new bytes.items)) }
+    ensures started { IsServed (served result) }
+{
+    let Ok(buffers) = LineBuffers::new(alloc) else {
+        let _ = machine.end();
+        return Err(RunFault::Memory);
+    };
+    let mut caller = Caller { machine, buffers };
+    let outcome = serve_script(alloc, &mut caller, reader, writer);
+    let text = picture_of(alloc, &caller.machine);
+    let Caller {
+        machine,
+        buffers: _buffers,
+    } = caller;
+    let _ = machine.end();
+    match outcome {
+        Ok(()) => Ok(text.ok()),
+        Err(fault) => Err(fault),
+    }
+}
+
+/// Serves a script on a new stack, as `link_script::run` does: the text of the stack as it's then.
+#[tactic(auto, unfolding(stack_call::specs::Moves::StackSteps))]
+fn picture<R: Source, W: Sink>(
+    alloc: Global,
+    config: Config,
+    reader: &mut R,
+    writer: &mut W,
+) -> Result<Option<Vec<u8>>, RunFault>
+    ensures booted { BootsRun config (served result) }
+    ensures drawn { (new : State) × Serves (SaysBy Step) (boot config) new
+        (R.remaining reader.old) (R.remaining reader.new) (W.contents writer.old) (W.contents writer.new)
+        (served result) × IfOk result (λ text. IfSome text (λ bytes. IsStateText new bytes.items)) }
+{
+    let machine = booted(alloc, config)?;
+    serve_stack(alloc, machine, reader, writer)
+}
+
+/// Serves a script of `bsdudp run` on a new machine, throws the replies away, and hands over the mbufs that the machine
+/// holds then, as objects of JSON, one in a line: `uint32_t bsdudp_page_state(const struct page_machine *, const
+/// uint8_t *script, size_t, uint8_t *room, size_t, size_t *len)`.
+///
+/// A holder stands in front of its mbufs, chain by chain: each open socket by its descriptor (`socket`, with `cc`,
+/// `mbcnt` and `first`), the output queue by its length (`output`, with `last` and `first`), and each unfinished
+/// datagram by the mbuf of its key (`unfinished`, with `id`, `source`, `ticks` and the `first` of its fragments). An
+/// mbuf has its number (`mbuf`), `next`, `nextpkt`, `len`, `data`, `pkthdr`, `rcvif`, `cluster`, and its first 32 bytes
+/// (`bytes`). Links are numbers of mbufs. Last come the clusters that mbufs refer to, each with its `references`.
+///
+/// Answers the outcome's number: 0 if all lines were answered, and else that of the fault. The lines are handed over as
+/// replies are. If there are none, `len` is 0 and the room as it was.
+///
+/// The faults: those of `bsdudp_page_run`. `Memory` comes too if the host refuses memory for the lines.
+#[unsafe(no_mangle)]
+pub extern "C" fn bsdudp_page_state(
+    alloc: Global,
+    machine: &PageMachine,
+    script: &[u8],
+    room: &mut [u8],
+    len: &mut usize,
+) -> u32
+    ensures pictured { Pictured (machine_config machine.now) script.now result len.new room.old room.new }
+{
+    let mut reader = script;
+    let mut replies = Vec::new(alloc);
+    match picture(alloc, machine.config(), &mut reader, &mut replies) {
+        Ok(Some(text)) => {
+            *len = hand_over(text.as_slice(), room);
+            number_of(Ok(()))
+        }
+        Ok(None) => {
+            *len = 0;
+            number_of(Err(RunFault::Memory))
+        }
+        Err(fault) => {
+            *len = 0;
+            number_of(Err(fault))
+        }
+    }
+}
