@@ -1,6 +1,6 @@
 -- Any number of hosts on one Ethernet: none of them sends UDP in another's name.
 use Rattle.std.proofs.Common.{◌≡◌, ◌≢◌, ◌⊎◌, inl, inr, ℕ, ◌/◌, ◌^◌, Bool, true, false, List, [], ◌∷◌, ◌++◌, Option, Some, None, refl, sym, ap, ◌∙◌}
-use Rattle.std.specs.Prelude.{◌==◌, ◌||◌, All, Contains, filter_map, if◌then◌else◌}
+use Rattle.std.specs.Prelude.{◌==◌, ◌||◌, filter_map, if◌then◌else◌}
 use Rattle.std.specs.List.{AllByRecursion as Each, cons_option}
 use Rattle.std.proofs.lemmas.Bool.{eqb-true, or_cases}
 use Rattle.std.proofs.lemmas.List.Elements.{All-contains, All-from_recursion, recursion_from_All}
@@ -11,7 +11,7 @@ use Rattle.flat_model.proofs.Laws.{each-append, each-weaker}
 use Rattle.flat_wire.specs.Wire.{ComesFrom, ip_source, packet_in, packet_out}
 use Rattle.flat_ether.specs.Frames.{body_of, is_heard, kind_of, packet_kind}
 use Rattle.flat_ether.specs.Hosts.{HostAct, AreHostActs, Ages, Asks_error, Calls, Clock, Comes_in, Goes_out, Host, host_up}
-use Rattle.flat_ether.specs.Laws.{AreAmongHosts, AreOnEthernet, IsFrameSent, IsInFrames, IsUnforged, IsOther, IsOwn, IsUdpFrame, MakesTurns, OtherHost, frames_in, frames_out, packet_if, packets_handed, packets_to}
+use Rattle.flat_ether.specs.Laws.{AreAmongHosts, AreOnEthernet, IsFrameSent, IsInFrames, IsUnforged, IsOwn, IsUdpFrame, MakesTurns, frames_in, frames_out, packet_if, packets_handed, packets_to}
 use Rattle.flat_ether.specs.declared.link.Link.{Link}
 use Rattle.flat_ether.specs.declared.link.FrameKind.{FrameKind}
 use Rattle.flat_ether.specs.declared.link.FrameKind.TheVariants.{Packet, Martian, Arp, Other}

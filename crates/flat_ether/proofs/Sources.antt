@@ -25,7 +25,7 @@ use Rattle.flat_model.specs.Runs.Consistent.{IsConsistent, IsSocket}
 use Rattle.flat_model.specs.declared.address.Addr.{Addr}
 use Rattle.flat_model.specs.declared.config.Config.{Config}
 use Rattle.flat_model.proofs.Laws.{by_choice, by_case, each-append, each-find, each-take, boot_is_consistent, step_is_consistent}
-use Rattle.flat_wire.specs.Wire.{given, ip_source, packet_out}
+use Rattle.flat_wire.specs.Wire.{given, packet_out}
 use Rattle.flat_ether.specs.Laws.{IsOwn}
 
 -- ---- what an arrival leaves as it was

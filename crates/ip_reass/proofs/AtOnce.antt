@@ -15,7 +15,7 @@ use Rattle.flat_model.specs.declared.counter.Counter.TheVariants.{IpFragments}
 use Rattle.flat_model.specs.declared.counters.Why.{Why}
 use Rattle.flat_model.specs.declared.counters.Why.TheVariants.{BadFragment}
 use Rattle.flat_model.proofs.Laws.{both-nothing}
-use Rattle.mbuf_chain.specs.Chain.{Entry, ChainView, PoolView, Adds, alone, chain_of, flat_bytes, free_clusters, held_mbufs, references, with_chain, without}
+use Rattle.mbuf_chain.specs.Chain.{Entry, ChainView, PoolView, Adds, alone, chain_of, flat_bytes, free_clusters, held_mbufs, with_chain, without}
 use Rattle.mbuf_chain.specs.Owners.{IsOwned, Moves, times_among}
 use Rattle.mbuf_chain.specs.Frames.{SameAt}
 use Rattle.mbuf_chain.specs.Steps.{joined, narrowed, one_mbuf, empty_entry}

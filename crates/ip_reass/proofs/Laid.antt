@@ -2,7 +2,7 @@
 use Rattle.std.proofs.Common.{◌≡◌, ℕ, zero, suc, ◌+◌, ◌-◌, ◌<◌, ◌≤◌, min, Bool, true, false, List, [], ◌∷◌, ◌++◌, length, count_by, Option, None, Some, refl, sym, ap, ◌∙◌, inl, inr, ◌⊎◌, arith, length-drop}
 use Rattle.std.specs.List.{range_with_len}
 use Rattle.std.proofs.lemmas.Bool.{cases_lt, le-leb, lt-leb, lt-ltb, le-ltb, and_from, and_left, and_right, cond-true, cond-false}
-use Rattle.flat_model.specs.Fragments.Overlay.{Held, Piece, Map, Fragment, stays, first_owned, is_covered, brought, cut_back, is_within, lies, overlay}
+use Rattle.flat_model.specs.Fragments.Overlay.{Held, Map, Fragment, stays, first_owned, is_covered, brought, cut_back, is_within, lies, overlay}
 use Rattle.flat_model.specs.Fragments.Overlay as flat
 use Rattle.flat_model.proofs.Laws.{count_cons}
 use Rattle.ip_reass.specs.Fragments.{end_of_fragment, own, map_of, Apart}

@@ -18,7 +18,6 @@ use Rattle.mbuf_chain.specs.Chain.{ChainView, Entry, PoolView, chain_of, entry_o
 use Rattle.mbuf_chain.specs.Owners.{IsOwned, Moves}
 use Rattle.mbuf_chain.proofs.Laws.Owners.{moves_adds, owned_after}
 use Rattle.chain_ops.specs.Stored.{stored_first}
-use Rattle.chain_ops.specs.Weights.{laid_entries}
 use Rattle.ledger.specs.Accounts.{item_at, entries_weight, IsAccounted}
 use Rattle.ledger.specs.Reserve.{Reserves}
 use Rattle.pcb_table.specs.Table.{machine}

@@ -1,5 +1,5 @@
 -- A list whose elements are those of another one by a function.
-use Rattle.std.proofs.Common.{◌≡◌, ℕ, suc, ◌<◌, List, [], ◌∷◌, length, get_or, map, refl, ap, ap₂, ◌∙◌, arith}
+use Rattle.std.proofs.Common.{◌≡◌, ℕ, suc, ◌<◌, List, [], ◌∷◌, length, get_or, map, refl, ap₂, arith}
 use Rattle.play_records.specs.declared.table.Row.{Row}
 use Rattle.play_records.specs.declared.table.Table.{Table}
 

@@ -1,6 +1,6 @@
 -- Events one after another.
-use Rattle.std.proofs.Common.{◌≡◌, ℕ, zero, suc, ◌-◌, ◌<◌, ◌≤◌, List, [], ◌∷◌, ◌++◌, drop, replicate, codes, bytes_eq, Option, None, refl, sym, arith, subst}
-use Rattle.flat_model.specs.Machine.Event.{Event, Reply, Tick, Done, Opened, Sent, Received, Given, Counted, Shown, Refused}
+use Rattle.std.proofs.Common.{◌≡◌, ℕ, zero, suc, ◌-◌, ◌<◌, ◌≤◌, replicate, None, refl, arith, subst}
+use Rattle.flat_model.specs.Machine.Event.{Event, Reply, Tick, Done}
 use Rattle.flat_model.specs.Machine.State.{State}
 use Rattle.play_script.specs.Deeds.{Does, moved_in}
 

@@ -1,5 +1,5 @@
 -- One socket more, and one packet more.
-use Rattle.std.proofs.Common.{◌≡◌, ℕ, ◌+◌, List, [], ◌++◌, get_or, Option, Some, refl, sym, ap, ◌∙◌, add-one, append_assoc, subst}
+use Rattle.std.proofs.Common.{◌≡◌, ℕ, ◌+◌, List, ◌++◌, get_or, Option, Some, sym, ap, ◌∙◌, add-one, append_assoc, subst}
 use Rattle.std.proofs.lemmas.List.{append-nil}
 use Rattle.flat_model.specs.Amounts.Weight.{Item}
 use Rattle.ip_out.specs.Questions.{nth_packet}

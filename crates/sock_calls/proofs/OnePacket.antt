@@ -5,7 +5,7 @@ use Rattle.std.proofs.lemmas.Bool.{cond-true, cond-false, le-leb, lt-leb, ne_eqb
 use Rattle.std.proofs.lemmas.List.{append-nil, drop-append-le, length-append, length-map}
 use Rattle.std.proofs.Math.Seq.{drop-append_seam}
 use Rattle.flat_model.specs.Amounts.Layout as flat
-use Rattle.flat_model.specs.Amounts.Layout.{Need, Room, Plain, Cluster, is_cluster, laid_on, need, need_bcast, need_of_part, sent}
+use Rattle.flat_model.specs.Amounts.Layout.{Room, Plain, Cluster, is_cluster, laid_on, need, need_bcast, need_of_part, sent}
 use Rattle.flat_model.specs.Machine.Send.{need_to}
 use Rattle.flat_model.specs.Machine.Sending as sending
 use Rattle.flat_model.specs.Machine.Sending.{is_looped, mtu_to}

@@ -9,7 +9,7 @@ use Rattle.std.proofs.lemmas.List.Elements.{All-from_recursion}
 use Rattle.flat_model.specs.declared.address.Addr.{Addr}
 use Rattle.flat_model.specs.Amounts.Weight.{Weight, Item, nothing, ◌⊕◌, times as bag_times}
 use Rattle.flat_model.specs.Amounts.Layout as flat
-use Rattle.flat_model.specs.Amounts.Layout.{Room, Plain, Cluster, filled, is_cluster, laid_on, need_of, next_room, or_empty, size_of, wire}
+use Rattle.flat_model.specs.Amounts.Layout.{Room, is_cluster, laid_on, need_of, wire}
 use Rattle.flat_model.specs.Packets.Header.{head_of, total_of, u16_at, udp_bytes}
 use Rattle.flat_model.specs.Sockets.Fits.{fits}
 use Rattle.flat_model.specs.Sockets.Lookup.{best, receivers}

@@ -1,5 +1,5 @@
-use Rattle.std.proofs.Common.{◌≡◌, ℕ, ◌+◌, ◌∷◌, [], List, length, sym, ap, subst, ◌∙◌, arith}
-use Rattle.mbuf_chain.specs.Chain.{Entry, PoolView}
+use Rattle.std.proofs.Common.{ℕ, List, length, sym, ap, ◌∙◌, arith}
+use Rattle.mbuf_chain.specs.Chain.{PoolView}
 use Rattle.mbuf_chain.proofs.Laws.Accounts.{held-adds}
 use Rattle.mbuf_chain.proofs.Laws.Owners.{live_adds}
 use Rattle.mbuf_chain.proofs.Laws.Steps.{apart, count_new, live_beside}

@@ -1,4 +1,4 @@
-use Rattle.std.proofs.Common.{ℕ, List, length, refl, sym, ap, ◌∙◌, arith}
+use Rattle.std.proofs.Common.{length, refl, sym, ap, ◌∙◌, arith}
 use Rattle.mbuf_chain.specs.Chain.{PoolView, string}
 use Rattle.mbuf_chain.proofs.Laws.Accounts.{held-adds}
 use Rattle.mbuf_chain.proofs.Laws.Owners.{live_adds}

@@ -1,4 +1,4 @@
-use Rattle.std.proofs.Common.{◌++◌, List, ℕ, length}
+use Rattle.std.proofs.Common.{◌++◌, length}
 use Rattle.net_stack.specs.Stack.{state_of}
 use Rattle.page.specs.States.{all_sockets, below, cluster_object, output_objects, unfinished_objects}
 use Rattle.page.proofs.Lines.{put_then}

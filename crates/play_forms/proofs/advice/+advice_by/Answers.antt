@@ -2,7 +2,7 @@ use Rattle.std.proofs.Common.{◌≡◌, ◌≤◌, ℕ, List, [], ◌∷◌, le
 use Rattle.script_loop.specs.Left.{left}
 use Rattle.std.specs.List.{slice_index_or}
 use Rattle.play_forms.specs.Advice as advice
-use Rattle.play_forms.specs.Advice.{Advice, AdvisesAfter}
+use Rattle.play_forms.specs.Advice.{AdvisesAfter}
 use Rattle.play_forms.specs.Table.{Takes}
 use Rattle.play_forms.specs.declared.argument.Argument.{Argument}
 use Rattle.play_forms.specs.declared.command.Command.{Command}

@@ -1,4 +1,4 @@
-use Rattle.std.proofs.Common.{◌≡◌, ℕ, List, Option, ap, ◌∙◌}
+use Rattle.std.proofs.Common.{ℕ, List, Option, ap, ◌∙◌}
 use Rattle.net_stack.specs.Stack.{state_of}
 use Rattle.request.specs.Replies.{packet_behind, reply_of}
 use Rattle.play_script.specs.Deeds.{below_text}

@@ -1,4 +1,4 @@
-use Rattle.std.proofs.Common.{ℕ, List, [], ◌++◌, codes, if◌then◌else◌, ap, ◌∙◌}
+use Rattle.std.proofs.Common.{ℕ, [], ◌++◌, codes, if◌then◌else◌, ap, ◌∙◌}
 use Rattle.std.specs.Fmt.{decimal}
 use Rattle.std.specs.Prelude.{nat_lt}
 use Rattle.play_show.specs.Unfinished.{unfinished_head, ranges_below, rest_text}

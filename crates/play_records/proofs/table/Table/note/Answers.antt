@@ -1,4 +1,4 @@
-use Rattle.std.proofs.Common.{◌≡◌, ◌<◌, length, sym, ap, ◌∙◌, arith}
+use Rattle.std.proofs.Common.{◌≡◌, length, sym, ap, ◌∙◌, arith}
 use Rattle.flat_model.specs.declared.counters.Why.TheVariants.{TooSmall}
 use Rattle.play_records.proofs.Laws.{mapped, table_of}
 use Rattle.play_records.specs.Tables.{never_for, drops_noted, row_after}

@@ -1,4 +1,4 @@
-use Rattle.std.proofs.Common.{[], ◌-◌, ◌++◌, ◌∙◌, List, ap, append-nil, codes, length, refl, sym, ℕ}
+use Rattle.std.proofs.Common.{[], ◌-◌, ◌++◌, ◌∙◌, ap, append-nil, codes, length, refl, sym}
 use Rattle.net_stack.specs.Stack.{state_of}
 use Rattle.play_line.specs.declared.fault.Slip.{Slip}
 use Rattle.play_text.specs.Texts.{fault_text, slip_text}

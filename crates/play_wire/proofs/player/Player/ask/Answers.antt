@@ -1,4 +1,4 @@
-use Rattle.std.proofs.Common.{◌≡◌, ◌++◌, ◌∙◌, Bool, List, ap, refl, subst, sym, ℕ}
+use Rattle.std.proofs.Common.{◌++◌, ◌∙◌, Bool, List, ap, refl, subst, sym, ℕ}
 use Rattle.std.proofs.lemmas.List.{append_assoc}
 use Rattle.play_text.specs.Texts.{fault_text}
 use Rattle.play_wire.specs.Faults.{IsReason}
