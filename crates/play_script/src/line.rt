@@ -71,7 +71,7 @@ impl Line {
     /// Spells its plain line out, in the place of its words, with the digits of a packet that they name.
     pub(crate) fn spell(&mut self, digits: &mut [u8])
         requires { length digits.old ≡ 2 * IP_MAX_PACKET }
-        ensures { self.new.words ≡ plain_line self.old }
+        ensures { self.new ≡ record (self.old) { words = plain_line self.old } }
     {
         if self.named {
             self.words.clear();

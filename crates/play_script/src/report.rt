@@ -57,7 +57,9 @@ pub struct Report {
 
 impl Report {
     /// Of no line.
-    pub fn new(alloc: Global, quiet: bool) -> Result<Report, AllocError> {
+    pub fn new(alloc: Global, quiet: bool) -> Result<Report, AllocError>
+        ensures { IfOk result (λ r. (r.quiet ≡ quiet) × (r.told ≡ []) × (r.below ≡ [])) }
+    {
         Ok(Report {
             quiet,
             told: Buffer::new(alloc)?,
@@ -72,6 +74,7 @@ impl Report {
     pub fn tell_ok(&mut self)
         ensures told { self.new.told ≡ codes "ok" }
         ensures below { self.new.below ≡ [] }
+        ensures quiet { self.new.quiet ≡ self.old.quiet }
     {
         self.told.clear();
         self.told.append(b"ok");
@@ -82,7 +85,9 @@ impl Report {
     pub fn tell_advice(&mut self, player: Player, line: &mut Line)
         ensures advised { IsAdvised player (plain_line line.old) self.new.told }
         ensures len { length self.new.told ≤ ADVICE }
+        ensures below { self.new.below ≡ self.old.below }
         ensures quiet { self.new.quiet ≡ self.old.quiet }
+        ensures line { line.new ≡ record (line.old) { words = plain_line line.old } }
     {
         line.spell(self.digits.as_mut_slice());
         put_advice(&mut self.told, player, bytes_of(&line.words));

@@ -56,15 +56,15 @@ impl Played {
     }
 }
 
-/// All memory for playing a script.
+/// All memory for playing a script. What has most pieces is taken last.
 #[derive(Drop)]
 struct Parts {
     room: Vec<u8>,
     bytes: Vec<u8>,
-    reader: LineReader,
+    printer: Printer,
     line: Line,
     report: Report,
-    printer: Printer,
+    reader: LineReader,
 }
 
 /// Takes all memory for playing a script.
@@ -76,10 +76,10 @@ fn parts_for(alloc: Global, style: Style<'_>) -> Result<Parts, AllocError>
     Ok(Parts {
         room: room_for(alloc, PACKET)?,
         bytes: room_for(alloc, PACKET)?,
-        reader: LineReader::new(alloc)?,
+        printer: Printer::new(alloc, style)?,
         line: Line::new(alloc)?,
         report: Report::new(alloc, style.form.is_quiet())?,
-        printer: Printer::new(alloc, style)?,
+        reader: LineReader::new(alloc)?,
     })
 }
 
