@@ -13,6 +13,7 @@ mod help;
 mod hosts;
 mod one;
 mod options;
+mod records;
 mod strict;
 mod sweep;
 mod why;

@@ -1,0 +1,176 @@
+//! The records of a capture, each of which a judge is given.
+ghost use Rattle.std.specs.Prelude.{◌≤◌, length, IfSome};
+
+use crate::why::Choice;
+use capture_file::{Fault, Record, Records};
+use pcap::ipv4_packet;
+use play_pcap::Range;
+use play_why::{Addresses, Arrival, Busiest, Judge};
+use script_loop::Source;
+use std::alloc::Global;
+use std::io::Write;
+
+/// The most bytes of a packet.
+const MOST_BYTES: usize = 65_535;
+
+/// The packet in a record of these bytes, if it has one that a machine takes.
+fn packet_in(record: Record, bytes: &[u8]) -> Option<&[u8]>
+    ensures { IfSome result (λ p. length p.now ≤ 65535) }
+{
+    match ipv4_packet(record.link?, bytes) {
+        Ok(packet) if packet.len() <= MOST_BYTES => Some(packet),
+        _ => None,
+    }
+}
+
+/// The address to which most datagrams of a capture go, and the fault by which the capture ended.
+pub(crate) fn busiest_of<S: Source>(
+    alloc: Global,
+    records: &mut Records<S>,
+) -> (Option<Busiest>, Option<Fault>) {
+    let mut addresses = Addresses::new(alloc);
+    for _ in 0..u64::MAX {
+        let record = match records.next_record() {
+            Ok(Some(record)) => record,
+            Ok(None) => break,
+            Err(fault) => return (addresses.busiest(), Some(fault)),
+        };
+        if let Some(packet) = packet_in(record, records.bytes()) {
+            if addresses.note(packet).is_err() {
+                break;
+            }
+        }
+    }
+    (addresses.busiest(), None)
+}
+
+/// How many records weren't for the machine.
+#[derive(Clone, Copy)]
+pub(crate) struct Others {
+    /// Packets for other machines.
+    pub(crate) elsewhere: u64,
+    /// Records without IPv4.
+    pub(crate) without: u64,
+}
+
+/// Why the records of a capture weren't all told.
+#[derive(Drop)]
+pub(crate) enum End {
+    Fault(Fault),
+    Memory,
+    Unwritten,
+}
+
+/// Writes what's told, and answers whether all was written.
+fn put<W: Write>(out: &mut W, bytes: &[u8]) -> Result<(), End> {
+    match out.write_all(bytes) {
+        Ok(()) => Ok(()),
+        Err(_) => Err(End::Unwritten),
+    }
+}
+
+/// Whether a record is to be printed.
+fn is_wanted(range: Option<Range>, number: u64) -> bool {
+    match range {
+        None => true,
+        Some(range) => u64::from(range.first) <= number && number <= u64::from(range.last),
+    }
+}
+
+/// Lets the packet of a record come, and prints what became of it, if the record is for the machine and wanted.
+fn tell_packet<W: Write>(
+    choice: Choice,
+    judge: &mut Judge,
+    arrival: &Arrival<'_>,
+    others: &mut Others,
+    out: &mut W,
+) -> Result<(), End>
+    requires { length arrival.now.packet.now ≤ 65535 }
+{
+    if !choice.all && !judge.is_ours(arrival.packet) {
+        others.elsewhere = others.elsewhere.saturating_add(1);
+        return Ok(());
+    }
+    if judge.tell(arrival).is_err() {
+        return Err(End::Memory);
+    }
+    if is_wanted(choice.range, arrival.number) {
+        put(out, judge.text())?;
+    }
+    Ok(())
+}
+
+/// When records came, from the first one on. A record without a time came with the one before it.
+#[derive(Clone, Copy)]
+struct Clock {
+    first: Option<u64>,
+    last: u64,
+}
+
+impl Clock {
+    /// How many nanoseconds after the first record this one came.
+    fn time_of(&mut self, record: Record) -> u64 {
+        let now = record.time.unwrap_or(self.last);
+        self.last = now;
+        match self.first {
+            Some(first) => now.saturating_sub(first),
+            None => {
+                self.first = Some(now);
+                0
+            }
+        }
+    }
+}
+
+/// Lets the packets of all records come, and prints what became of each.
+pub(crate) fn tell_records<S: Source, W: Write>(
+    records: &mut Records<S>,
+    choice: Choice,
+    judge: &mut Judge,
+    out: &mut W,
+) -> Result<Others, End> {
+    let mut others = Others {
+        elsewhere: 0,
+        without: 0,
+    };
+    let mut clock = Clock {
+        first: None,
+        last: 0,
+    };
+    for _ in 0..u64::MAX {
+        let record = match records.next_record() {
+            Ok(Some(record)) => record,
+            Ok(None) => break,
+            Err(fault) => return Err(End::Fault(fault)),
+        };
+        let time = clock.time_of(record);
+        let bytes = records.bytes();
+        match packet_in(record, bytes) {
+            None => others.without = others.without.saturating_add(1),
+            Some(packet) => {
+                let arrival = Arrival {
+                    number: record.number,
+                    time,
+                    original: record.original_len,
+                    captured: bytes.len().min(u32::MAX as usize) as u32,
+                    packet,
+                };
+                tell_packet(choice, judge, &arrival, &mut others, out)?;
+            }
+        }
+    }
+    Ok(others)
+}
+
+/// Prints what came of all packets: a table of the causes, and what's unfinished.
+pub(crate) fn tell_totals<W: Write>(judge: &mut Judge, out: &mut W) -> Result<(), End> {
+    judge.tell_totals();
+    put(out, judge.text())?;
+    for i in 0..u32::MAX {
+        if !judge.tell_unfinished(i) {
+            break;
+        }
+        put(out, judge.text())?;
+    }
+    Ok(())
+}
