@@ -25,8 +25,8 @@ use Rattle.play_why.specs.declared.blame.Blame.{Blame}
 use Rattle.play_why.specs.declared.blame.Blame.TheVariants.{Packet, Capture, Card}
 use Rattle.play_why.specs.declared.causes.Part.{Part}
 use Rattle.play_why.specs.declared.causes.Part.TheVariants.{Drop, Reason, Cause, Values, Fault}
-use Rattle.play_why.specs.declared.fate.Layout.{Layout}
-use Rattle.play_why.specs.declared.fate.Layout.TheVariants.{Lines, Objects}
+use Rattle.play_why.specs.declared.layout.Layout.{Layout}
+use Rattle.play_why.specs.declared.layout.Layout.TheVariants.{Lines, Objects}
 use Rattle.play_why.specs.declared.seen.Seen.{Seen}
 
 -- ---- the record

@@ -13,7 +13,7 @@ use Rattle.sock_calls.specs.Questions.{readable}
 use Rattle.stack_call.specs.Moves.{StackSteps}
 use Rattle.play_why.specs.Fates.{is_kept, record_text}
 use Rattle.play_why.specs.Verdicts.{judged, none_dropped}
-use Rattle.play_why.specs.declared.fate.Layout.{Layout}
+use Rattle.play_why.specs.declared.layout.Layout.{Layout}
 use Rattle.play_why.specs.declared.judge.Arrival.{Arrival}
 use Rattle.play_why.specs.declared.judge.Judge.{Judge}
 use Rattle.play_why.specs.declared.judge.Totals.{Totals}
@@ -81,11 +81,11 @@ abbrev pub none_came : Totals
 none_came = record { packets = 0; delivered = 0; kept = 0; dropped = 0 }
 
 -- a judge to which no record came yet
-pub record IsNew (form : Layout) (address : ℕ) (judge : Judge) : Type 0 where
-  pub machine : state_of judge.machine ≡ boot (machine_for address (broadcast_of address))
+pub record IsNew (form : Layout) (ours : ℕ) (judge : Judge) : Type 0 where
+  pub machine : state_of judge.host.stack ≡ boot (machine_for ours (broadcast_of ours))
   pub layout : judge.layout ≡ form
-  pub ours : judge.ours ≡ address
-  pub broadcast : judge.broadcast ≡ broadcast_of address
+  pub address : judge.host.address ≡ ours
+  pub broadcast : judge.broadcast ≡ broadcast_of ours
   pub text : judge.text ≡ []
   pub verdicts : judge.verdicts ≡ none_dropped
   pub totals : judge.totals ≡ none_came
@@ -96,7 +96,7 @@ pub record IsNew (form : Layout) (address : ℕ) (judge : Judge) : Type 0 where
 abbrev pub is_for : Judge → List ℕ → Bool
 is_for judge p =
     nat_lt (length p) IP_HEADER
-    || (u32_at 16 p == judge.ours || (u32_at 16 p == judge.broadcast || u32_at 16 p == LIMITED_BROADCAST))
+    || (u32_at 16 p == judge.host.address || (u32_at 16 p == judge.broadcast || u32_at 16 p == LIMITED_BROADCAST))
 
 -- one packet more, which was delivered, kept as a fragment, or dropped
 abbrev pub totals_after : State → Counters → Counters → Totals → Totals
@@ -131,14 +131,14 @@ pub record IsJudged (old : Judge) (r : Arrival) (new : Judge) : Type 0 where
   pub here : State
   pub seen : Seen
   pub is : IsOf r seen
-  pub ticks : Led IsTick (replicate (ticks_to r.time old.ticks) Tick) (state_of old.machine) ticked
+  pub ticks : Led IsTick (replicate (ticks_to r.time old.ticks) Tick) (state_of old.host.stack) ticked
   pub opens : LedBy IsOpening ticked ready
   pub comes : StackSteps ready (Comes r.packet.now) Done here
-  pub takes : LedBy IsTaking here (state_of new.machine)
-  pub tells : new.text ≡ record_text old.layout seen ready.counters here.counters here old.ours
+  pub takes : LedBy IsTaking here (state_of new.host.stack)
+  pub tells : new.text ≡ record_text old.layout seen ready.counters here.counters here old.host.address
   pub counts : new.verdicts ≡ judged seen ready.counters here.counters old.verdicts
   pub totals : new.totals ≡ totals_after here ready.counters here.counters old.totals
   pub passed : new.ticks ≡ max old.ticks (ticks_due r.time)
   pub layout : new.layout ≡ old.layout
-  pub ours : new.ours ≡ old.ours
+  pub address : new.host.address ≡ old.host.address
   pub broadcast : new.broadcast ≡ old.broadcast

@@ -7,10 +7,10 @@ ghost use Rattle.stack_call.specs.Moves.{StackSteps};
 ghost use Rattle.net_stack.specs.Stack.{state_of};
 
 use crate::FATE;
-use crate::causes::Around;
-use crate::fate::{Layout, put_record};
+use crate::host::Host;
+use crate::layout::{Layout, put_record};
 use crate::rooms::Rooms;
-use crate::seen::Seen;
+use crate::seen::{Fate, Seen};
 use flat_model::Counters;
 use net_stack::Stack;
 use request::Request;
@@ -34,29 +34,30 @@ fn comes(machine: &mut Stack, packet: &[u8], room: &mut [u8])
     let _reply = call(machine, Request::Packet(packet), room);
 }
 
-/// Lets the packet of a record come to a machine with this address, and puts what's told of the record into a buffer:
-/// its line, with a rule below it for each cause for which the packet was dropped, or an object of JSON. If a datagram
-/// waits in a socket before, it's taken for this packet's, as those that wait after it are.
+/// Lets the packet of a record come to a host, and puts what's told of the record into a buffer: its line, with a rule
+/// below it for each cause for which the packet was dropped, or an object of JSON. If a datagram waits in a socket
+/// before, it's taken for this packet's, as those that wait after it are.
 pub fn tell_record(
-    machine: &mut Stack,
+    host: &mut Host,
     layout: Layout,
-    ours: u32,
     seen: &Seen<'_>,
     rooms: &mut Rooms,
     text: &mut Buffer<FATE>,
 )
     requires { IsSeen seen.now }
-    ensures moves { StackSteps (state_of machine.old) (Comes seen.now.packet.now) Done (state_of machine.new) }
-    ensures text { text.new ≡ record_text layout seen.now (state_of machine.old).counters
-        (state_of machine.new).counters (state_of machine.new) ours }
+    ensures moves { StackSteps (state_of host.old.stack) (Comes seen.now.packet.now) Done (state_of host.new.stack) }
+    ensures address { host.new.address ≡ host.old.address }
+    ensures text { text.new ≡ record_text layout seen.now (state_of host.old.stack).counters
+        (state_of host.new.stack).counters (state_of host.new.stack) host.old.address }
 {
-    let before = counted(machine);
-    comes(machine, seen.packet, rooms.packet.as_mut_slice());
-    let after = counted(machine);
-    let around = Around {
+    let before = counted(&host.stack);
+    comes(&mut host.stack, seen.packet, rooms.packet.as_mut_slice());
+    let after = counted(&host.stack);
+    let fate = Fate {
+        seen,
         before: &before,
         after: &after,
-        ours,
+        host,
     };
-    put_record(text, layout, seen, around, machine, rooms);
+    put_record(text, layout, &fate, rooms);
 }

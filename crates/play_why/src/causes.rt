@@ -4,11 +4,11 @@ ghost use Rattle.play_why.specs.Fates as texts;
 ghost use Rattle.play_why.specs.Fates.{IsSeen};
 
 use crate::FATE;
-use crate::blame::{Blame, blame_of, datagram_of, put_reason};
-use crate::seen::Seen;
+use crate::blame::{Blame, blame_of, put_reason};
+use crate::seen::{Fate, Seen};
 use crate::sums::COVERED;
 use crate::values::put_values;
-use flat_model::{Counters, Why};
+use flat_model::Why;
 use play_records::{causes, rose, words_for};
 use script_loop::Buffer;
 
@@ -27,14 +27,6 @@ pub enum Part {
     Fault,
 }
 
-/// What was counted before and after a packet, and the machine's address.
-#[derive(Clone, Copy)]
-pub(crate) struct Around<'a> {
-    pub(crate) before: &'a Counters,
-    pub(crate) after: &'a Counters,
-    pub(crate) ours: u32,
-}
-
 /// What a cause is laid to, in a word.
 fn words_of_blame(blame: Blame) -> &'static str
     ensures is { result.now ≡ texts.blame_words blame }
@@ -47,29 +39,13 @@ fn words_of_blame(blame: Blame) -> &'static str
     }
 }
 
-/// Puts the values of a cause after the text.
-fn put_values_of(
-    text: &mut Buffer<FATE>,
-    seen: &Seen<'_>,
-    ours: u32,
-    why: Why,
-    covered: &mut Buffer<COVERED>,
-)
-    requires seen { IsSeen seen.now }
-    requires room { length text.old + 60 ≤ FATE }
-    ensures items { text.new ≡ text.old ++ texts.values_of seen.now ours why }
-    ensures len { length text.new ≤ length text.old + 60 }
-{
-    put_values(text, why, seen.packet, datagram_of(seen), ours, covered);
-}
-
 /// Puts after the text that a packet was dropped for a cause, with both values.
 #[tactic(auto, unfolding(crate::specs::Fates::drop_text))]
 fn put_drop(
     text: &mut Buffer<FATE>,
+    why: Why,
     seen: &Seen<'_>,
     ours: u32,
-    why: Why,
     covered: &mut Buffer<COVERED>,
 )
     requires seen { IsSeen seen.now }
@@ -80,28 +56,29 @@ fn put_drop(
     text.append(b" => dropped: ");
     text.append(words_for(why).as_bytes());
     text.append(b": ");
-    put_values_of(text, seen, ours, why, covered);
+    put_values(text, why, seen, ours, covered);
 }
 
 /// Puts a part of what's told of a cause after the text.
 fn put_part(
     text: &mut Buffer<FATE>,
     part: Part,
-    seen: &Seen<'_>,
-    ours: u32,
+    fate: &Fate<'_>,
     why: Why,
     covered: &mut Buffer<COVERED>,
 )
-    requires seen { IsSeen seen.now }
+    requires seen { IsSeen fate.now.seen.now }
     requires room { length text.old + 200 ≤ FATE }
-    ensures items { text.new ≡ text.old ++ texts.cause_part part seen.now ours why }
+    ensures items { text.new ≡ text.old ++ texts.cause_part part fate.now.seen.now fate.now.host.now.address why }
     ensures len { length text.new ≤ length text.old + 200 }
 {
+    let seen = fate.seen;
+    let ours = fate.host.address;
     match part {
-        Part::Drop => put_drop(text, seen, ours, why, covered),
+        Part::Drop => put_drop(text, why, seen, ours, covered),
         Part::Reason => put_reason(text, seen, why, blame_of(seen, why)),
         Part::Cause => text.append(words_for(why).as_bytes()),
-        Part::Values => put_values_of(text, seen, ours, why, covered),
+        Part::Values => put_values(text, why, seen, ours, covered),
         Part::Fault => text.append(words_of_blame(blame_of(seen, why)).as_bytes()),
     }
 }
@@ -110,19 +87,18 @@ fn put_part(
 fn put_part_if(
     text: &mut Buffer<FATE>,
     part: Part,
-    seen: &Seen<'_>,
-    around: Around<'_>,
+    fate: &Fate<'_>,
     why: Why,
     covered: &mut Buffer<COVERED>,
 )
-    requires seen { IsSeen seen.now }
+    requires seen { IsSeen fate.now.seen.now }
     requires room { length text.old + 200 ≤ FATE }
-    ensures items { text.new ≡ text.old
-        ++ texts.part_if part seen.now around.entry.before.now around.entry.after.now around.entry.ours why }
+    ensures items { text.new ≡ text.old ++ texts.part_if part fate.now.seen.now fate.now.before.now fate.now.after.now
+        fate.now.host.now.address why }
     ensures len { length text.new ≤ length text.old + 200 }
 {
-    if rose(why.counter(), around.before, around.after) {
-        put_part(text, part, seen, around.ours, why, covered);
+    if rose(why.counter(), fate.before, fate.after) {
+        put_part(text, part, fate, why, covered);
     }
 }
 
@@ -131,17 +107,16 @@ fn put_part_if(
 pub(crate) fn put_parts(
     text: &mut Buffer<FATE>,
     part: Part,
-    seen: &Seen<'_>,
-    around: Around<'_>,
+    fate: &Fate<'_>,
     covered: &mut Buffer<COVERED>,
 )
-    requires seen { IsSeen seen.now }
+    requires seen { IsSeen fate.now.seen.now }
     requires room { length text.old + 3600 ≤ FATE }
-    ensures items { text.new ≡ text.old
-        ++ texts.parts_text part seen.now around.entry.before.now around.entry.after.now around.entry.ours }
+    ensures items { text.new ≡ text.old ++ texts.parts_text part fate.now.seen.now fate.now.before.now
+        fate.now.after.now fate.now.host.now.address }
     ensures len { length text.new ≤ length text.old + 3600 }
 {
     for why in causes() {
-        put_part_if(text, part, seen, around, why, covered);
+        put_part_if(text, part, fate, why, covered);
     }
 }

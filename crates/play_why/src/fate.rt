@@ -6,16 +6,15 @@ ghost use Rattle.play_why.specs.Fates.{IsSeen};
 ghost use Rattle.net_stack.specs.Stack.{state_of};
 
 use crate::FATE;
-use crate::causes::{Around, Part, put_parts};
-use crate::rooms::Rooms;
-use crate::seen::Seen;
+use crate::causes::{Part, put_parts};
+use crate::seen::{Fate, Seen};
 use crate::sums::{COVERED, u32_at};
 use flat_model::{Counter, Counters, Errno};
 use flat_plain::u16_at;
 use net_stack::{NextDatagram, SocketName, Stack};
 use params::{FIRST_DESCRIPTOR, IP_HEADER, MAX_SOCKETS};
 use play_records::{put_time, rose};
-use play_text::Piece::{Address, Amount, Long, Number, Quoted, Text};
+use play_text::Piece::{Address, Amount, Long, Number, Text};
 use play_text::{put, put_if, put_packet};
 use script_loop::Buffer;
 
@@ -31,7 +30,7 @@ fn is_odd(packet: &[u8]) -> bool
 
 /// Puts what the headers of a packet say after the text, or at least its two addresses.
 #[tactic(auto, unfolding(crate::specs::Fates::ends_text))]
-fn put_ends(text: &mut Buffer<FATE>, packet: &[u8])
+pub(crate) fn put_ends(text: &mut Buffer<FATE>, packet: &[u8])
     requires packet { length packet.now ≤ IP_MAX_PACKET }
     requires room { length text.old + 180 ≤ FATE }
     ensures items { text.new ≡ text.old ++ texts.ends_text packet.now }
@@ -55,7 +54,7 @@ fn put_ends(text: &mut Buffer<FATE>, packet: &[u8])
 
 /// Puts the number, the time and the ends of a record into a buffer.
 #[tactic(auto, unfolding(crate::specs::Fates::head_text))]
-fn put_head(text: &mut Buffer<FATE>, seen: &Seen<'_>)
+pub(crate) fn put_head(text: &mut Buffer<FATE>, seen: &Seen<'_>)
     requires { length seen.now.packet.now ≤ IP_MAX_PACKET }
     ensures items { text.new ≡ texts.head_text seen.now }
     ensures len { length text.new ≤ 240 }
@@ -252,166 +251,16 @@ fn put_all_delivered(text: &mut Buffer<FATE>, machine: &Stack)
     }
 }
 
-/// How records are told.
-#[derive(Clone, Copy, Debug, PartialEq, Eq)]
-pub enum Layout {
-    /// As lines for people.
-    Lines,
-    /// As an object of JSON each, for programs.
-    Objects,
-}
-
 /// Puts what became of a packet after the text.
 #[tactic(auto, unfolding(crate::specs::Fates::became_text))]
-fn put_became(
-    text: &mut Buffer<FATE>,
-    seen: &Seen<'_>,
-    around: Around<'_>,
-    machine: &Stack,
-    covered: &mut Buffer<COVERED>,
-)
-    requires seen { IsSeen seen.now }
+pub(crate) fn put_became(text: &mut Buffer<FATE>, fate: &Fate<'_>, covered: &mut Buffer<COVERED>)
+    requires seen { IsSeen fate.now.seen.now }
     requires room { length text.old + 9680 ≤ FATE }
-    ensures items { text.new ≡ text.old ++ texts.became_text seen.now around.entry.before.now around.entry.after.now
-        (state_of machine.now) around.entry.ours }
+    ensures items { text.new ≡ text.old ++ texts.became_text fate.now.seen.now fate.now.before.now fate.now.after.now
+        (state_of fate.now.host.now.stack) fate.now.host.now.address }
     ensures len { length text.new ≤ length text.old + 9680 }
 {
-    put_fragment(text, seen, around.before, around.after);
-    put_all_delivered(text, machine);
-    put_parts(text, Part::Drop, seen, around, covered);
-}
-
-/// Puts the line of a record into a buffer, and below it a rule for each cause for which its packet was dropped.
-#[tactic(auto, unfolding(crate::specs::Fates::record_lines))]
-fn put_lines(
-    text: &mut Buffer<FATE>,
-    seen: &Seen<'_>,
-    around: Around<'_>,
-    machine: &Stack,
-    covered: &mut Buffer<COVERED>,
-)
-    requires { IsSeen seen.now }
-    ensures { text.new ≡ texts.record_lines seen.now around.entry.before.now around.entry.after.now
-        (state_of machine.now) around.entry.ours }
-{
-    put_head(text, seen);
-    put_became(text, seen, around, machine, covered);
-    text.append(b"\n");
-    put_parts(text, Part::Reason, seen, around, covered);
-}
-
-/// Puts a part of what's told of the causes after the text, as a member of an object.
-#[tactic(auto, unfolding(crate::specs::Fates::member))]
-fn put_member(
-    text: &mut Buffer<FATE>,
-    name: &[u8],
-    part: Part,
-    seen: &Seen<'_>,
-    around: Around<'_>,
-    rooms: &mut Rooms,
-)
-    requires seen { IsSeen seen.now }
-    requires name { length name.now ≤ 20 }
-    requires room { length text.old + 21700 ≤ FATE }
-    ensures items { text.new ≡ text.old ++ texts.member name.now part seen.now around.entry.before.now
-        around.entry.after.now around.entry.ours }
-    ensures len { length text.new ≤ length text.old + 21700 }
-{
-    let Rooms {
-        covered,
-        scratch,
-        ..
-    } = rooms;
-    scratch.clear();
-    put_parts(scratch, part, seen, around, covered);
-    put(text, &[Text(name), Quoted(scratch.as_slice())]);
-}
-
-/// Puts the number, the time and the packet of a record into a buffer, as the first members of an object.
-#[tactic(auto, unfolding(crate::specs::Fates::members_text))]
-fn put_members(text: &mut Buffer<FATE>, seen: &Seen<'_>, scratch: &mut Buffer<FATE>)
-    requires { length seen.now.packet.now ≤ IP_MAX_PACKET }
-    ensures items { text.new ≡ texts.members_text seen.now }
-    ensures len { length text.new ≤ 1300 }
-{
-    scratch.clear();
-    put_ends(scratch, seen.packet);
-    text.clear();
-    put(
-        text,
-        &[
-            Text(b"{\"number\":"),
-            Long(seen.number),
-            Text(b",\"time\":"),
-        ],
-    );
-    put_time(text, seen.time);
-    put(text, &[Text(b",\"packet\":"), Quoted(scratch.as_slice())]);
-}
-
-/// Puts what became of a packet after the text, as a member of an object.
-#[tactic(auto, unfolding(crate::specs::Fates::became_member))]
-fn put_became_member(
-    text: &mut Buffer<FATE>,
-    seen: &Seen<'_>,
-    around: Around<'_>,
-    machine: &Stack,
-    rooms: &mut Rooms,
-)
-    requires seen { IsSeen seen.now }
-    requires room { length text.old + 58200 ≤ FATE }
-    ensures items { text.new ≡ text.old ++ texts.became_member seen.now around.entry.before.now
-        around.entry.after.now (state_of machine.now) around.entry.ours }
-    ensures len { length text.new ≤ length text.old + 58200 }
-{
-    let Rooms {
-        covered,
-        scratch,
-        ..
-    } = rooms;
-    scratch.clear();
-    put_became(scratch, seen, around, machine, covered);
-    let became = scratch.as_slice();
-    let parts = &became[became.len().min(4)..];
-    put(text, &[Text(b",\"became\":"), Quoted(parts)]);
-}
-
-/// Puts a record into a buffer as an object.
-#[tactic(auto, unfolding(crate::specs::Fates::object_text))]
-fn put_object(
-    text: &mut Buffer<FATE>,
-    seen: &Seen<'_>,
-    around: Around<'_>,
-    machine: &Stack,
-    rooms: &mut Rooms,
-)
-    requires { IsSeen seen.now }
-    ensures { text.new ≡ texts.object_text seen.now around.entry.before.now around.entry.after.now
-        (state_of machine.now) around.entry.ours }
-{
-    put_members(text, seen, &mut rooms.scratch);
-    put_became_member(text, seen, around, machine, rooms);
-    put_member(text, b",\"cause\":", Part::Cause, seen, around, rooms);
-    put_member(text, b",\"values\":", Part::Values, seen, around, rooms);
-    put_member(text, b",\"fault\":", Part::Fault, seen, around, rooms);
-    text.append(b"}\n");
-}
-
-/// Puts a record into a buffer.
-pub(crate) fn put_record(
-    text: &mut Buffer<FATE>,
-    layout: Layout,
-    seen: &Seen<'_>,
-    around: Around<'_>,
-    machine: &Stack,
-    rooms: &mut Rooms,
-)
-    requires { IsSeen seen.now }
-    ensures { text.new ≡ texts.record_text layout seen.now around.entry.before.now around.entry.after.now
-        (state_of machine.now) around.entry.ours }
-{
-    match layout {
-        Layout::Lines => put_lines(text, seen, around, machine, &mut rooms.covered),
-        Layout::Objects => put_object(text, seen, around, machine, rooms),
-    }
+    put_fragment(text, fate.seen, fate.before, fate.after);
+    put_all_delivered(text, &fate.host.stack);
+    put_parts(text, Part::Drop, fate, covered);
 }

@@ -14,8 +14,10 @@ ghost use Rattle.play_why.specs.Verdicts.{verdicts_text};
 
 use crate::FATE;
 use crate::arrive::{counted, tell_record};
-use crate::fate::{Layout, is_kept};
+use crate::fate::is_kept;
+use crate::host::Host;
 use crate::lacks::put_lacks;
+use crate::layout::Layout;
 use crate::parts::Parts;
 use crate::ports::Ports;
 use crate::rooms::Rooms;
@@ -60,11 +62,10 @@ struct Totals {
     dropped: u64,
 }
 
-/// A machine to which the packets of a capture come, and what's told of each. It must be ended by `end`.
+/// A host to which the packets of a capture come, and what's told of each. It must be ended by `end`.
 pub struct Judge {
-    machine: Stack,
+    host: Host,
     layout: Layout,
-    ours: u32,
     broadcast: u32,
     ports: Ports,
     parts: Parts,
@@ -202,19 +203,21 @@ impl Judge {
             (IsUnbooted (judged.machine_for ours (judged.broadcast_of ours))) }
     {
         let broadcast = broadcast_of(ours);
-        let machine = Stack::boot(alloc, config_of(ours, broadcast))?;
+        let stack = Stack::boot(alloc, config_of(ours, broadcast))?;
         let (Ok(parts), Ok(rooms), Ok(text)) = (
             Parts::new(alloc),
             Rooms::new(alloc),
             Buffer::new(alloc),
         ) else {
-            let _ = machine.end();
+            let _ = stack.end();
             return Err(BootFault::Memory);
         };
         Ok(Judge {
-            machine,
+            host: Host {
+                stack,
+                address: ours,
+            },
             layout,
-            ours,
             broadcast,
             ports: Ports::new(alloc, port),
             parts,
@@ -231,12 +234,11 @@ impl Judge {
         })
     }
 
-    /// Spends the machine.
+    /// Spends the host's stack.
     pub fn end(self) {
         let Judge {
-            machine,
+            host,
             layout: _layout,
-            ours: _ours,
             broadcast: _broadcast,
             ports: _ports,
             parts: _parts,
@@ -246,7 +248,11 @@ impl Judge {
             totals: _totals,
             ticks: _ticks,
         } = self;
-        let _ = machine.end();
+        let Host {
+            stack,
+            address: _address,
+        } = host;
+        let _ = stack.end();
     }
 
     /// Whether a packet is for this machine: it goes to its address, to the broadcast address of its network of 256
@@ -258,7 +264,7 @@ impl Judge {
             return true;
         }
         let destination = u32_at(packet, 16);
-        destination == self.ours
+        destination == self.host.address
             || (destination == self.broadcast || destination == LIMITED_BROADCAST)
     }
 
@@ -272,26 +278,25 @@ impl Judge {
         let due = arrival.time / TICK;
         let count = due.saturating_sub(self.ticks).min(MOST_TICKS);
         let passed = self.ticks.max(due);
-        tick_all(&mut self.machine, count);
+        tick_all(&mut self.host.stack, count);
         self.ticks = passed;
-        self.parts.gather(&self.machine, packet);
-        self.ports.open_for(&mut self.machine, packet)?;
+        self.parts.gather(&self.host.stack, packet);
+        self.ports.open_for(&mut self.host.stack, packet)?;
         let seen = seen_by(&self.parts, arrival, packet);
-        let before = counted(&self.machine);
+        let before = counted(&self.host.stack);
         tell_record(
-            &mut self.machine,
+            &mut self.host,
             self.layout,
-            self.ours,
             &seen,
             &mut self.rooms,
             &mut self.text,
         );
-        let after = counted(&self.machine);
+        let after = counted(&self.host.stack);
         self.verdicts.note(&seen, &before, &after);
-        let totals = self.totals.after(&self.machine, &before, &after);
+        let totals = self.totals.after(&self.host.stack, &before, &after);
         self.totals = totals;
         self.ports
-            .drain(&mut self.machine, self.rooms.packet.as_mut_slice());
+            .drain(&mut self.host.stack, self.rooms.packet.as_mut_slice());
         remember(&mut self.parts, arrival.number, packet, &before, &after)?;
         Ok(())
     }
@@ -308,26 +313,26 @@ impl Judge {
     pub fn tell_totals(&mut self)
         ensures { self.new ≡ record (self.old) {
           text =
-              judged.totals_text self.old.ours self.old.totals ++ verdicts_text self.old.verdicts;
+              judged.totals_text self.old.host.address self.old.totals ++ verdicts_text self.old.verdicts;
         } }
     {
         self.text.clear();
-        self.totals.put(self.ours, &mut self.text);
+        self.totals.put(self.host.address, &mut self.text);
         self.verdicts.put(&mut self.text);
     }
 
     /// Reports on the unfinished datagram at a place, in a line with the bytes that lack, which `text` answers then.
     /// Whether there is one; if not, nothing changes.
     pub fn tell_unfinished(&mut self, i: u32) -> bool
-        ensures lacks { Choice result (IsLacking i (state_of self.old.machine) self.new.text)
-            ((nth_unfinished i (state_of self.old.machine).unfinished ≡ None) × (self.new.text ≡ self.old.text)) }
+        ensures lacks { Choice result (IsLacking i (state_of self.old.host.stack) self.new.text)
+            ((nth_unfinished i (state_of self.old.host.stack).unfinished ≡ None) × (self.new.text ≡ self.old.text)) }
         ensures rest { self.new ≡ record (self.old) { text = self.new.text } }
     {
-        let Some(datagram) = self.machine.unfinished(i) else {
+        let Some(datagram) = self.host.stack.unfinished(i) else {
             return false;
         };
         let first = self.parts.first_of(datagram.key);
-        put_lacks(&mut self.text, &self.machine, datagram, i, first);
+        put_lacks(&mut self.text, &self.host.stack, datagram, i, first);
         true
     }
 }

@@ -1,4 +1,6 @@
 //! A record of a capture, as it's judged.
+use crate::host::Host;
+use flat_model::Counters;
 
 /// A record with an IPv4 packet, and what is known of the fragments before it.
 #[derive(Clone, Copy)]
@@ -17,4 +19,13 @@ pub struct Seen<'a> {
     /// The records of the first other fragments of its datagram, and how many more there are.
     pub earlier: &'a [u64],
     pub more: u64,
+}
+
+/// What became of a record's packet: what its host had counted before it and after it, and the host after it.
+#[derive(Clone, Copy)]
+pub(crate) struct Fate<'a> {
+    pub(crate) seen: &'a Seen<'a>,
+    pub(crate) before: &'a Counters,
+    pub(crate) after: &'a Counters,
+    pub(crate) host: &'a Host,
 }

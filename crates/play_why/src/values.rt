@@ -1,9 +1,12 @@
 //! What stands in a packet that was dropped, and what would be right.
 ghost use Rattle.std.specs.Prelude.{◌≡◌, ◌≤◌, ◌+◌, ◌++◌, length};
 ghost use Rattle.params.specs.declared.TheConstants.{IP_HEADER, IP_MAX_PACKET, UDP_HEADER};
+ghost use Rattle.play_why.specs.Fates.{IsSeen};
 ghost use Rattle.play_why.specs.Values as texts;
 
 use crate::FATE;
+use crate::blame::datagram_of;
+use crate::seen::Seen;
 use crate::sums::{COVERED, right_header_sum, right_udp_sum, u32_at, word_digits};
 use flat_model::Why;
 use flat_plain::{head_of, u16_at};
@@ -197,23 +200,23 @@ fn is_of_udp(why: Why) -> bool
     )
 }
 
-/// Puts after the text what is wrong with a packet that ended for this cause, and what would be right. `datagram` is
-/// what it carries or makes whole, without an IP header.
+/// Puts after the text what is wrong with a packet that ended for this cause, and what would be right.
 #[tactic(auto, unfolding(crate::specs::Values::values_text))]
 pub(crate) fn put_values(
     text: &mut Buffer<FATE>,
     why: Why,
-    packet: &[u8],
-    datagram: &[u8],
+    seen: &Seen<'_>,
     ours: u32,
     covered: &mut Buffer<COVERED>,
 )
-    requires packet { length packet.now ≤ IP_MAX_PACKET }
-    requires datagram { length datagram.now ≤ IP_MAX_PACKET }
+    requires seen { IsSeen seen.now }
     requires room { length text.old + 60 ≤ FATE }
-    ensures items { text.new ≡ text.old ++ texts.values_text why packet.now datagram.now ours }
+    ensures items { text.new ≡ text.old ++ texts.values_text why seen.now.packet.now
+        (texts.datagram_of seen.now.packet.now seen.now.whole.now) ours }
     ensures len { length text.new ≤ length text.old + 60 }
 {
+    let packet = seen.packet;
+    let datagram = datagram_of(seen);
     if packet.len() < IP_HEADER as usize {
         put_short(text, packet.len() as u32, IP_HEADER);
     } else if !is_of_udp(why) {
