@@ -11,13 +11,12 @@ ghost use Rattle.play_wire.specs.Links.{IsForStack};
 use crate::fault::Fault;
 use crate::link_ask::link_ask;
 use crate::link_line::answer_link;
-use crate::spare::Spare;
+use crate::spare::{Counting, Spare};
 use crate::ticks::{exchange, tick_stack};
 use net_stack::Stack;
 use play_read::Ask;
-use play_script::{DROPS, Line, Report, moved_by_call};
+use play_script::{Line, Report, moved_by_call};
 use play_show::snapshot_of;
-use script_loop::Buffer;
 use segment::Segment;
 use stack_call::call;
 
@@ -87,40 +86,46 @@ fn answer_at(
     ensures { IsAtStack report.old.quiet place (plain_line line.now) (view segment.old)
         (came_of result report.new.told report.new.below) (view segment.new) }
 {
-    if exchange(segment, place, &mut spare.stack) {
+    if exchange(segment, place, &mut spare.counting.stack) {
         let outcome = answer_stack(
-            &mut spare.stack,
+            &mut spare.counting.stack,
             spare.bytes.as_mut_slice(),
             spare.room.as_mut_slice(),
             line,
             report,
         );
-        exchange(segment, place, &mut spare.stack);
+        exchange(segment, place, &mut spare.counting.stack);
         outcome
     } else {
         Err(Fault::NoHost)
     }
 }
 
-/// Does what a line asks of the link of the host at a place, and reports what is told of it. `None` if no link answers
-/// it, and then nothing has changed.
+/// A line of the host at a place.
+#[derive(Clone, Copy)]
+struct HostLine<'l> {
+    place: usize,
+    line: &'l Line,
+}
+
+/// Does what a line asks of the link of its host, and reports what is told of it. `None` if no link answers it, and
+/// then nothing has changed. The bytes that the line names stand in `bytes` then.
 fn answer_by_link(
     segment: &mut Segment,
-    spare: &mut Stack,
-    drops: &mut Buffer<DROPS>,
-    room: &mut [u8],
-    place: usize,
-    line: &Line,
+    counting: &mut Counting,
+    bytes: &mut [u8],
+    asked: HostLine<'_>,
     report: &mut Report,
 ) -> Option<Result<(), Fault>>
-    requires { length room.old ≡ IP_MAX_PACKET }
-    ensures { MatchOption result (IsForStack place (plain_line line.now) (view segment.old)
+    requires { length bytes.old ≡ IP_MAX_PACKET }
+    ensures { MatchOption result (IsForStack asked.entry.place (plain_line asked.entry.line.now) (view segment.old)
         × (view segment.new ≡ view segment.old) × (report.new.quiet ≡ report.old.quiet)) (λ came.
-        IsAtHost report.old.quiet place (plain_line line.now) (view segment.old)
+        IsAtHost report.old.quiet asked.entry.place (plain_line asked.entry.line.now) (view segment.old)
         (came_of came report.new.told report.new.below) (view segment.new)) }
 {
-    match link_ask(segment, place, line, room) {
-        Some(ask) => Some(answer_link(segment, spare, drops, place, ask, report)),
+    let HostLine { place, line } = asked;
+    match link_ask(segment, place, line, bytes) {
+        Some(ask) => Some(answer_link(segment, counting, place, ask, report)),
         None => None,
     }
 }
@@ -138,11 +143,9 @@ pub(crate) fn answer_host(
 {
     match answer_by_link(
         segment,
-        &mut spare.stack,
-        &mut spare.drops,
+        &mut spare.counting,
         spare.bytes.as_mut_slice(),
-        place,
-        line,
+        HostLine { place, line },
         report,
     ) {
         Some(came) => came,

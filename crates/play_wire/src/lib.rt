@@ -7,6 +7,7 @@ mod add;
 mod capture;
 mod carries;
 mod chance;
+mod event;
 mod fault;
 mod halves;
 mod host_line;

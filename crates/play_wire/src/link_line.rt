@@ -7,12 +7,12 @@ ghost use Rattle.play_wire.specs.Links as links;
 
 use crate::fault::Fault;
 use crate::link_ask::LinkAsk;
+use crate::spare::Counting;
 use crate::summary::counters_at;
 use crate::tell_link::{Counts, tell_error, tell_heard, tell_link, tell_neighbours};
 use crate::ticks::{age_link, exchange, tick_stack};
 use net_stack::Stack;
-use play_script::{DROPS, Report};
-use script_loop::Buffer;
+use play_script::Report;
 use segment::Segment;
 
 /// What the host at a place has counted. Nothing changes. `None` if there is no such host with a link.
@@ -30,11 +30,10 @@ fn counts_at(segment: &mut Segment, spare: &mut Stack, place: usize) -> Option<C
     Some(Counts { stack, link })
 }
 
-/// `frame BYTES`: a frame comes to the host at a place, which has to have a link. `drops` is room for the causes.
+/// `frame BYTES`: a frame comes to the host at a place, which has to have a link.
 fn hear(
     segment: &mut Segment,
-    spare: &mut Stack,
-    drops: &mut Buffer<DROPS>,
+    counting: &mut Counting,
     place: usize,
     frame: &[u8],
     report: &mut Report,
@@ -44,14 +43,14 @@ fn hear(
     ensures { IsAtLink place (links.Frame frame.now) (view segment.old)
         (came_of result report.new.told report.new.below) (view segment.new) }
 {
-    let Some(before) = counts_at(segment, spare, place) else {
+    let Some(before) = counts_at(segment, &mut counting.stack, place) else {
         return Err(Fault::NoHost);
     };
     segment.hear(place, frame);
-    match counts_at(segment, spare, place) {
+    match counts_at(segment, &mut counting.stack, place) {
         Some(after) => {
             report.below.clear();
-            tell_heard(&mut report.told, drops, &before, &after);
+            tell_heard(&mut report.told, &mut counting.drops, &before, &after);
             Ok(())
         }
         None => Err(Fault::NoHost),
@@ -146,8 +145,7 @@ fn tick(
 /// Does what a line asks of the link of the host at a place, which has one.
 fn answer_there(
     segment: &mut Segment,
-    spare: &mut Stack,
-    drops: &mut Buffer<DROPS>,
+    counting: &mut Counting,
     place: usize,
     ask: LinkAsk<'_>,
     report: &mut Report,
@@ -158,21 +156,19 @@ fn answer_there(
         (came_of result report.new.told report.new.below) (view segment.new) }
 {
     match ask {
-        LinkAsk::Frame(frame) => hear(segment, spare, drops, place, frame, report),
-        LinkAsk::LastError(fd) => ask_error(segment, spare, place, fd, report),
+        LinkAsk::Frame(frame) => hear(segment, counting, place, frame, report),
+        LinkAsk::LastError(fd) => ask_error(segment, &mut counting.stack, place, fd, report),
         LinkAsk::Neighbours => show_neighbours(segment, place, report),
         LinkAsk::Counts => show_link(segment, place, report),
-        LinkAsk::Ticks(count) => tick(segment, spare, place, count, report),
+        LinkAsk::Ticks(count) => tick(segment, &mut counting.stack, place, count, report),
         LinkAsk::Packets => Err(Fault::OnEthernet),
     }
 }
 
-/// Does what a line asks of the link of the host at a place, and reports what is told of it. `drops` is room for the
-/// causes.
+/// Does what a line asks of the link of the host at a place, and reports what is told of it.
 pub(crate) fn answer_link(
     segment: &mut Segment,
-    spare: &mut Stack,
-    drops: &mut Buffer<DROPS>,
+    counting: &mut Counting,
     place: usize,
     ask: LinkAsk<'_>,
     report: &mut Report,
@@ -182,7 +178,7 @@ pub(crate) fn answer_link(
         (came_of result report.new.told report.new.below) (view segment.new) }
 {
     match segment.link(place) {
-        Some(_) => answer_there(segment, spare, drops, place, ask, report),
+        Some(_) => answer_there(segment, counting, place, ask, report),
         None => Err(Fault::NoLink),
     }
 }

@@ -3,10 +3,10 @@ ghost use Rattle.std.specs.Prelude.{◌≤◌};
 ghost use Rattle.params.specs.declared.TheConstants.{MAX_MTU};
 
 use crate::add::{add, add_number};
+use crate::event::{Event, Happened, add_due, add_events, add_objects, add_packet, has_room};
 use crate::names::NAME;
 use crate::objects::{OBJECTS, Told, add_more, add_object, add_sent, has_room as has_room_for};
-use crate::passed::add_words;
-use crate::show::{add_frame, name_at};
+use crate::show::name_at;
 use crate::verdict::{Look, Verdict};
 use net_stack::Stack;
 use params::MAX_MTU;
@@ -28,9 +28,6 @@ const FATES: usize = 4096;
 /// The room for a packet of any link.
 const ROOM: usize = MAX_MTU as usize;
 
-/// Room for a packet or a fate in a line.
-const LINE: usize = 512;
-
 /// A packet or a frame that went or came.
 #[derive(Clone, Copy)]
 struct Packet {
@@ -51,26 +48,6 @@ impl Packet {
     fn bytes(&self) -> &[u8] {
         &self.room[..self.len]
     }
-}
-
-/// What became of a packet.
-#[derive(Clone, Copy)]
-enum Happened {
-    /// It was lost by chance.
-    Lost,
-    /// A copy of it found no room on the wire.
-    NoRoom,
-    /// It went twice.
-    Twice,
-    /// It came to the host at this place.
-    Came(usize, Verdict),
-}
-
-/// What became of the packet with this number.
-#[derive(Clone, Copy)]
-struct Event {
-    number: usize,
-    happened: Happened,
 }
 
 /// What passes on the wire by a line, and what is told of it.
@@ -101,99 +78,6 @@ pub(crate) struct Log {
     pub(crate) text: Buffer<SHOWN>,
     /// The same in objects.
     pub(crate) objects: Buffer<OBJECTS>,
-}
-
-/// Puts a packet or a frame after a text, as a line with its sender.
-fn add_packet(text: &mut Buffer<SHOWN>, name: &[u8], packet: &[u8], ether: bool) {
-    add(text, b"    ");
-    add(text, name);
-    add(text, b": ");
-    if ether {
-        add_frame(text, packet);
-    } else {
-        add_words(text, packet);
-    }
-    add(text, b"\n");
-}
-
-/// Puts what became of a packet after a text, as a line.
-fn add_event(text: &mut Buffer<SHOWN>, names: &[Buffer<NAME>], happened: &Happened) {
-    add(text, b"        ");
-    match happened {
-        Happened::Lost => add(text, b"lost"),
-        Happened::NoRoom => add(text, b"lost: the wire has no room"),
-        Happened::Twice => add(text, b"sent twice"),
-        Happened::Came(place, verdict) => {
-            add(text, name_at(names, *place));
-            verdict.put(text);
-        }
-    }
-    add(text, b"\n");
-}
-
-/// Puts what became of the packet with this number after a text, each in a line.
-fn add_events(text: &mut Buffer<SHOWN>, names: &[Buffer<NAME>], events: &[Event], number: usize) {
-    let mut any = false;
-    for event in events {
-        if event.number == number {
-            any = true;
-            if has_room(text) {
-                add_event(text, names, &event.happened);
-            }
-        }
-    }
-    if !any {
-        add(text, b"        no host received it\n");
-    }
-}
-
-/// Puts an object for each thing that became of a packet after the others.
-fn add_objects(
-    objects: &mut Buffer<OBJECTS>,
-    names: &[Buffer<NAME>],
-    events: &[Event],
-    at: usize,
-    told: Told<'_>,
-) {
-    let mut any = false;
-    for event in events {
-        if event.number == at {
-            any = true;
-            let (to, fate, verdict) = match &event.happened {
-                Happened::Lost => (None, b"lost".as_slice(), None),
-                Happened::NoRoom => (None, b"no room".as_slice(), None),
-                Happened::Twice => (None, b"sent twice".as_slice(), None),
-                Happened::Came(place, verdict) => (Some(*place), verdict.word(), Some(verdict)),
-            };
-            add_object(objects, names, &Told { to, fate, ..told }, verdict);
-        }
-    }
-    if !any {
-        add_object(objects, names, &told, None);
-    }
-}
-
-/// Puts when a packet is due after a text, as a line.
-fn add_due(text: &mut Buffer<SHOWN>, wait: u64) {
-    if wait == 0 {
-        add(text, b"        under way, due in the next carry\n");
-        return;
-    }
-    add(text, b"        under way, due after ");
-    add_number(text, wait);
-    add(
-        text,
-        if wait == 1 {
-            b" carry\n".as_slice()
-        } else {
-            b" carries\n"
-        },
-    );
-}
-
-/// Whether there is room for a line more.
-fn has_room(text: &Buffer<SHOWN>) -> bool {
-    text.len() <= SHOWN - LINE
 }
 
 impl Log {

@@ -6,7 +6,7 @@ use crate::add::{add, add_number};
 use crate::log::Log;
 use crate::names::NAME;
 use crate::show::name_at;
-use crate::spare::Spare;
+use crate::spare::Counting;
 use crate::summary::counters_at;
 use flat_model::Counters;
 use net_stack::Stack;
@@ -124,7 +124,7 @@ fn add_counts(
 pub(crate) fn add_all(
     log: &mut Log,
     segment: &mut Segment,
-    spare: &mut Spare,
+    counting: &mut Counting,
     names: &[Buffer<NAME>],
     counts: &[Counted],
 )
@@ -137,11 +137,11 @@ pub(crate) fn add_all(
     };
     for place in 0..counts.len() {
         let old = counts[place];
-        let new = counted_at(segment, &mut spare.stack, place);
+        let new = counted_at(segment, &mut counting.stack, place);
         let name = name_at(names, place);
         if log.missed {
             let by = Counter { name, unit };
-            add_counts(&mut log.text, &mut spare.drops, by, &old, &new);
+            add_counts(&mut log.text, &mut counting.drops, by, &old, &new);
         }
     }
 }

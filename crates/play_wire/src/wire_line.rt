@@ -54,7 +54,7 @@ impl<T: Sink + Drop> Hosts<T> {
         ensures moves { AreLedTo (view self.old.segment) (view self.new.segment) }
         ensures names { self.new.names ≡ self.old.names }
     {
-        tick_all(&mut self.segment, &mut self.spare.stack, count);
+        tick_all(&mut self.segment, &mut self.spare.counting.stack, count);
         self.capture.tick(count);
     }
 
@@ -77,7 +77,7 @@ impl<T: Sink + Drop> Hosts<T> {
         let names = self.names.as_slice();
         take_counts(
             &mut self.segment,
-            &mut self.spare.stack,
+            &mut self.spare.counting.stack,
             self.counts.as_mut_slice(),
         );
         carry(
@@ -91,7 +91,7 @@ impl<T: Sink + Drop> Hosts<T> {
         add_all(
             &mut self.log,
             &mut self.segment,
-            &mut self.spare,
+            &mut self.spare.counting,
             names,
             self.counts.as_slice(),
         );
@@ -165,7 +165,7 @@ impl<T: Sink + Drop> Hosts<T> {
         report.tell_ok();
         tell_summary(
             &mut self.segment,
-            &mut self.spare.stack,
+            &mut self.spare.counting.stack,
             self.names.as_slice(),
             &mut report.below,
         );

@@ -1,0 +1,130 @@
+//! What became of the packets of a line, in words and in objects.
+use crate::add::{add, add_number};
+use crate::names::NAME;
+use crate::objects::{OBJECTS, Told, add_object};
+use crate::passed::add_words;
+use crate::show::{add_frame, name_at};
+use crate::verdict::Verdict;
+use play_show::SHOWN;
+use script_loop::Buffer;
+
+/// Room for a packet or a fate in a line.
+const LINE: usize = 512;
+
+/// What became of a packet.
+#[derive(Clone, Copy)]
+pub(crate) enum Happened {
+    /// It was lost by chance.
+    Lost,
+    /// A copy of it found no room on the wire.
+    NoRoom,
+    /// It went twice.
+    Twice,
+    /// It came to the host at this place.
+    Came(usize, Verdict),
+}
+
+/// What became of the packet with this number.
+#[derive(Clone, Copy)]
+pub(crate) struct Event {
+    pub(crate) number: usize,
+    pub(crate) happened: Happened,
+}
+
+/// Puts a packet or a frame after a text, as a line with its sender.
+pub(crate) fn add_packet(text: &mut Buffer<SHOWN>, name: &[u8], packet: &[u8], ether: bool) {
+    add(text, b"    ");
+    add(text, name);
+    add(text, b": ");
+    if ether {
+        add_frame(text, packet);
+    } else {
+        add_words(text, packet);
+    }
+    add(text, b"\n");
+}
+
+/// Puts what became of a packet after a text, as a line.
+fn add_event(text: &mut Buffer<SHOWN>, names: &[Buffer<NAME>], happened: &Happened) {
+    add(text, b"        ");
+    match happened {
+        Happened::Lost => add(text, b"lost"),
+        Happened::NoRoom => add(text, b"lost: the wire has no room"),
+        Happened::Twice => add(text, b"sent twice"),
+        Happened::Came(place, verdict) => {
+            add(text, name_at(names, *place));
+            verdict.put(text);
+        }
+    }
+    add(text, b"\n");
+}
+
+/// Puts what became of the packet with this number after a text, each in a line.
+pub(crate) fn add_events(
+    text: &mut Buffer<SHOWN>,
+    names: &[Buffer<NAME>],
+    events: &[Event],
+    number: usize,
+) {
+    let mut any = false;
+    for event in events {
+        if event.number == number {
+            any = true;
+            if has_room(text) {
+                add_event(text, names, &event.happened);
+            }
+        }
+    }
+    if !any {
+        add(text, b"        no host received it\n");
+    }
+}
+
+/// Puts an object for each thing that became of a packet after the others.
+pub(crate) fn add_objects(
+    objects: &mut Buffer<OBJECTS>,
+    names: &[Buffer<NAME>],
+    events: &[Event],
+    at: usize,
+    told: Told<'_>,
+) {
+    let mut any = false;
+    for event in events {
+        if event.number == at {
+            any = true;
+            let (to, fate, verdict) = match &event.happened {
+                Happened::Lost => (None, b"lost".as_slice(), None),
+                Happened::NoRoom => (None, b"no room".as_slice(), None),
+                Happened::Twice => (None, b"sent twice".as_slice(), None),
+                Happened::Came(place, verdict) => (Some(*place), verdict.word(), Some(verdict)),
+            };
+            add_object(objects, names, &Told { to, fate, ..told }, verdict);
+        }
+    }
+    if !any {
+        add_object(objects, names, &told, None);
+    }
+}
+
+/// Puts when a packet is due after a text, as a line.
+pub(crate) fn add_due(text: &mut Buffer<SHOWN>, wait: u64) {
+    if wait == 0 {
+        add(text, b"        under way, due in the next carry\n");
+        return;
+    }
+    add(text, b"        under way, due after ");
+    add_number(text, wait);
+    add(
+        text,
+        if wait == 1 {
+            b" carry\n".as_slice()
+        } else {
+            b" carries\n"
+        },
+    );
+}
+
+/// Whether there is room for a line more.
+pub(crate) fn has_room(text: &Buffer<SHOWN>) -> bool {
+    text.len() <= SHOWN - LINE
+}
