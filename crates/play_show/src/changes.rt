@@ -76,6 +76,26 @@ fn put_moved(text: &mut Buffer<SHOWN>, packet: Option<&[u8]>, before: &Snapshot,
     }
 }
 
+/// Puts a line after the text for the socket at a place, if more datagrams wait in it than before.
+fn put_delivered(text: &mut Buffer<SHOWN>, place: u32, before: u32, after: u32)
+    requires place { place < MAX_SOCKETS }
+    requires room { length text.old + 40 ≤ SHOWN }
+    ensures items { text.new ≡ text.old ++ texts.delivered_line place before after }
+    ensures len { length text.new ≤ length text.old + 40 }
+{
+    // Not by `put_if`, which makes the pieces of each socket's text first: this stands in every line's way.
+    if before < after {
+        put(
+            text,
+            &[
+                Text(b"    delivered to socket "),
+                Number(FIRST_DESCRIPTOR + place),
+                Text(b"\n"),
+            ],
+        );
+    }
+}
+
 /// Puts a line after the text for each socket in which more datagrams wait than before.
 fn put_all_delivered(text: &mut Buffer<SHOWN>, before: &[u32; SOCKETS], after: &[u32; SOCKETS])
     requires { length text.old + 2560 ≤ SHOWN }
@@ -83,12 +103,7 @@ fn put_all_delivered(text: &mut Buffer<SHOWN>, before: &[u32; SOCKETS], after: &
     ensures len { length text.new ≤ length text.old + 2560 }
 {
     'places: for place in 0..SOCKETS {
-        let fd = FIRST_DESCRIPTOR + place as u32;
-        put_if(
-            text,
-            before[place] < after[place],
-            &[Text(b"    delivered to socket "), Number(fd), Text(b"\n")],
-        );
+        put_delivered(text, place as u32, before[place], after[place]);
     }
 }
 

@@ -8,7 +8,7 @@ places-init c = record { items = none_delivered c.args.text.now c.args.before.no
 pub places-preserved : goal.places-preserved
 places-preserved c = record {
   items =
-      one_more_place c.places.place c.args.text.now c.places.text c.put_if.new.text c.args.before.now c.args.after.now
-      c.places.invariant.items c.put_if.ensures.items;
-  len = omega (arith, c.put_if.ensures.len, c.places.invariant.len);
+      one_more_place c.places.place c.args.text.now c.places.text c.put_delivered.new.text c.args.before.now c.args.after.now
+      c.places.invariant.items c.put_delivered.ensures.items;
+  len = omega (arith, c.put_delivered.ensures.len, c.places.invariant.len);
 }
