@@ -5,7 +5,7 @@ import time
 
 import bsdudp
 import pytest
-from test_wire import scene
+from test_wire import lossy_run
 
 
 def squared(seed):
@@ -43,7 +43,7 @@ def test_progress(capsys):
 
 
 def test_cores(tmp_path, monkeypatch):
-    assert bsdudp.sweep(scene, range(20), "cores") == [scene(seed) for seed in range(20)]
+    assert bsdudp.sweep(lossy_run, range(20), "cores") == [lossy_run(seed) for seed in range(20)]
     monkeypatch.setenv("BSDUDP_TEST_MARK", str(tmp_path / "mark"))
     assert bsdudp.sweep(ends_its_worker, range(20), "cores") == [seed * seed for seed in range(20)]
     with pytest.raises(ValueError):
@@ -54,7 +54,7 @@ def test_cluster():
     distributed = pytest.importorskip("distributed")
     with distributed.LocalCluster(n_workers=2, threads_per_worker=1, dashboard_address=None) as cluster:
         with distributed.Client(cluster) as client:
-            assert bsdudp.sweep(scene, range(20), client) == [scene(seed) for seed in range(20)]
+            assert bsdudp.sweep(lossy_run, range(20), client) == [lossy_run(seed) for seed in range(20)]
             worker = next(iter(cluster.workers.values()))
             victim = client.run(os.getpid, workers=[worker.worker_address])[worker.worker_address]
             import threading

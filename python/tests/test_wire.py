@@ -66,7 +66,7 @@ def test_what_comes_was_sent(seed, loss, repeat, reorder, delay, sends):
         stack.end()
 
 
-def scene(seed):
+def lossy_run(seed):
     """How many of ten datagrams of three fragments come through."""
     with bsdudp.Stack("10.0.0.1") as one, bsdudp.Stack("10.0.0.2") as other:
         to = other.socket()
@@ -84,8 +84,8 @@ def scene(seed):
 
 
 def test_same_seed_same_choices():
-    assert scene(7) == scene(7)
-    assert len({scene(seed) for seed in range(5)}) > 1
+    assert lossy_run(7) == lossy_run(7)
+    assert len({lossy_run(seed) for seed in range(5)}) > 1
 
 
 def test_broadcast():

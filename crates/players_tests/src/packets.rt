@@ -356,16 +356,16 @@ fn put_named(text: &mut Buffer<LONGEST>, buffers: &mut LineBuffers, packet: &Buf
 
 /// A reader of lines, and room for a plain one and for a packet.
 #[derive(Drop)]
-struct Desk {
+struct PlainLines {
     reader: LineReader,
     words: Buffer<LONGEST>,
     packet: Buffer<PACKET>,
     buffers: LineBuffers,
 }
 
-impl Desk {
-    fn new(rt: &impl Abort, alloc: Global) -> Desk {
-        Desk {
+impl PlainLines {
+    fn new(rt: &impl Abort, alloc: Global) -> PlainLines {
+        PlainLines {
             reader: LineReader::new(alloc).expect(rt, "memory"),
             words: Buffer::new(alloc).expect(rt, "memory"),
             packet: Buffer::new(alloc).expect(rt, "memory"),
@@ -459,24 +459,24 @@ static LONG: [(&str, usize); 2] = [
 
 #[test]
 fn names_packets(rt: HostRuntime) {
-    let mut desk = Desk::new(&rt, rt.alloc());
-    desk.names_packets(&rt, rt.alloc());
+    let mut lines = PlainLines::new(&rt, rt.alloc());
+    lines.names_packets(&rt, rt.alloc());
 }
 
 #[test]
 fn leaves_other_lines(rt: HostRuntime) {
-    let mut desk = Desk::new(&rt, rt.alloc());
-    desk.leaves_other_lines(&rt);
+    let mut lines = PlainLines::new(&rt, rt.alloc());
+    lines.leaves_other_lines(&rt);
 }
 
 #[test]
 fn tells_what_is_wrong(rt: HostRuntime) {
-    let mut desk = Desk::new(&rt, rt.alloc());
-    desk.tells_what_is_wrong(&rt);
+    let mut lines = PlainLines::new(&rt, rt.alloc());
+    lines.tells_what_is_wrong(&rt);
 }
 
 #[test]
 fn takes_long_packets(rt: HostRuntime) {
-    let mut desk = Desk::new(&rt, rt.alloc());
-    desk.takes_long_packets(&rt);
+    let mut lines = PlainLines::new(&rt, rt.alloc());
+    lines.takes_long_packets(&rt);
 }
