@@ -8,7 +8,7 @@ from typing import Optional
 
 TOP = pathlib.Path(__file__).resolve().parent.parent
 # The heading of a version: its number, and the day of its release or that it has none yet.
-HEADING = re.compile(r"^## (\d+\.\d+\.\d+), (?:(\d{4}-\d\d-\d\d)|unreleased)$", re.M)
+HEADING = re.compile(r"## (\d+\.\d+\.\d+), (?:(\d{4}-\d\d-\d\d)|unreleased)")
 
 
 class NoVersion(Exception):
@@ -16,10 +16,12 @@ class NoVersion(Exception):
 
 
 def heading() -> re.Match[str]:
-    """The heading of the newest version."""
-    found = HEADING.search((TOP / "CHANGELOG.md").read_text(encoding="utf-8"))
+    """The heading of the newest version, which is the first of its kind."""
+    lines = (TOP / "CHANGELOG.md").read_text(encoding="utf-8").split("\n")
+    at, first = next(((at, it) for at, it in enumerate(lines, 1) if it.startswith("## ")), (1, ""))
+    found = HEADING.fullmatch(first)
     if not found:
-        raise NoVersion("CHANGELOG.md:1: no heading names a version, as `## 1.2.3, unreleased` or `## 1.2.3, 2026-01-31`")
+        raise NoVersion(f"CHANGELOG.md:{at}: no `## 1.2.3, unreleased` or `## 1.2.3, 2026-01-31`: {first}")
     return found
 
 
