@@ -1,5 +1,6 @@
 -- A key's lines as an exercise has them (this project's own).
-use Rattle.std.specs.Prelude.{ℕ, ◌==◌, ◌&&◌, Bool, List, [], ◌++◌, get_or, if◌then◌else◌, codes, Option, Some, None}
+use Rattle.std.specs.Prelude.{ℕ, ◌==◌, ◌&&◌, ◌≡◌, Bool, if◌then◌else◌, Option, Some, None}
+use Rattle.std.specs.Prelude.{List, [], ◌++◌, get_or, length, take, codes}
 use Rattle.play_script.specs.Lines.{Reading, Nothing, TooLong, Faulty, Asks}
 use Rattle.play_grade.specs.Asked.{is_question, asked_on}
 
@@ -21,3 +22,7 @@ blank_reading line (Asks shown plain wanted) = blank_asked line shown wanted
 -- a line without its answer, or nothing of one that is the key's alone
 abbrev pub blank_line : List ℕ → List ℕ
 blank_line line = if is_private line then [] else blank_reading line (asked_on line)
+
+-- a text is the beginning of another
+abbrev pub Starts : List ℕ → List ℕ → Type 0
+Starts part whole = take (length part) whole ≡ part

@@ -1,5 +1,5 @@
 //! Exercises that are made of a key.
-ghost use Rattle.std.specs.Prelude.{◌≡◌, ◌++◌, IfOk};
+ghost use Rattle.std.specs.Prelude.{◌≡◌, ◌++◌, IfOk, OnErr};
 ghost use Rattle.play_grade.specs.Blanks as blanks;
 
 use crate::marker::Marker;
@@ -14,25 +14,34 @@ fn is_private(line: &[u8]) -> bool
     line.len() >= 2 && line[0] == b'#' && line[1] == b'#'
 }
 
+/// Puts three pieces after the text, or a beginning of them if memory is lacking.
+fn put(text: &mut Vec<u8>, front: &[u8], middle: &[u8], end: &[u8]) -> Result<(), AllocError>
+    ensures items { IfOk result (λ u. text.new.items ≡ text.old.items ++ front.now ++ middle.now ++ end.now) }
+    ensures keeps { OnErr result (blanks.Starts text.old.items text.new.items) }
+    ensures part { OnErr result (blanks.Starts text.new.items (text.old.items ++ front.now ++ middle.now ++ end.now)) }
+{
+    text.extend_from_slice(front)?;
+    text.extend_from_slice(middle)?;
+    text.extend_from_slice(end)
+}
+
 impl Marker {
     /// Puts a line of a key after the text as an exercise has it: `?` stands in the place of what is expected, or of
-    /// the answer, and nothing is put for a comment that begins with `##`. If memory is lacking, a part of it was put.
+    /// the answer, and nothing is put for a comment that begins with `##`. If memory is lacking, its beginning was put.
     pub fn put_blank(&mut self, line: &[u8], text: &mut Vec<u8>) -> Result<(), AllocError>
-        ensures { IfOk result (λ u. text.new.items ≡ text.old.items ++ blanks.blank_line line.now) }
+        ensures items { IfOk result (λ u. text.new.items ≡ text.old.items ++ blanks.blank_line line.now) }
+        ensures keeps { OnErr result (blanks.Starts text.old.items text.new.items) }
+        ensures part { OnErr result (blanks.Starts text.new.items (text.old.items ++ blanks.blank_line line.now)) }
     {
         if is_private(line) {
             return Ok(());
         }
         let kind = self.asked.read(line, &mut self.reader);
         if matches!(kind, Kind::Asks) && self.asked.line.expects {
-            if is_question(line) {
-                text.extend_from_slice(b"#? ")?;
-            }
-            text.extend_from_slice(bytes_of(&self.asked.line.shown))?;
-            text.extend_from_slice(b" => ?\n")
+            let front: &[u8] = if is_question(line) { b"#? " } else { b"" };
+            put(text, front, bytes_of(&self.asked.line.shown), b" => ?\n")
         } else {
-            text.extend_from_slice(line)?;
-            text.extend_from_slice(b"\n")
+            put(text, b"", line, b"\n")
         }
     }
 }
