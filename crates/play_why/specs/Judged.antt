@@ -1,8 +1,8 @@
 -- What the judge of a capture's records does with its machine, and what it prints (this project's own).
-use Rattle.std.specs.Prelude.{◌≡◌, ℕ, ◌+◌, ◌-◌, ◌/◌, ◌*◌, ◌==◌, ◌||◌, Bool, List, [], ◌∷◌, ◌++◌, length, nat_lt, codes, decimal, if◌then◌else◌, max, min, not, replicate}
+use Rattle.std.specs.Prelude.{◌≡◌, ℕ, ◌+◌, ◌-◌, ◌/◌, ◌*◌, ◌==◌, ◌||◌, Bool, List, [], ◌∷◌, ◌++◌, length, nat_lt, codes, decimal, if◌then◌else◌, max, min, not, Option, replicate}
 use Rattle.params.specs.declared.TheConstants.{IP_HEADER, LIMITED_BROADCAST, LOOPBACK, MAX_CLUSTERS, MAX_MBUFS}
 use Rattle.flat_model.specs.Machine.Count.{more_by}
-use Rattle.flat_model.specs.Machine.Event.{Event, Reply, Bind, Close, Comes, Done, Open, Receive, Tick}
+use Rattle.flat_model.specs.Machine.Event.{Event, Reply, Comes, Done, Tick}
 use Rattle.flat_model.specs.Machine.State.{State, boot}
 use Rattle.flat_model.specs.Packets.Header.{u32_at}
 use Rattle.flat_model.specs.Scripts.Grammar.{address_text}
@@ -12,6 +12,7 @@ use Rattle.net_stack.specs.Stack.{state_of}
 use Rattle.sock_calls.specs.Questions.{readable}
 use Rattle.stack_call.specs.Moves.{StackSteps}
 use Rattle.play_why.specs.Fates.{is_kept, record_text}
+use Rattle.play_why.specs.Sockets.{BindsIf, Drains, IsUnbound, wanted_port}
 use Rattle.play_why.specs.Verdicts.{judged, none_dropped}
 use Rattle.play_why.specs.declared.layout.Layout.{Layout}
 use Rattle.play_why.specs.declared.judge.Arrival.{Arrival}
@@ -47,25 +48,10 @@ Led kind [] old new = new ≡ old
 Led kind (event ∷ events) old new =
     kind event × ((reply : Reply) × (mid : State) × StackSteps old event reply mid × Led kind events mid new)
 
-abbrev pub LedBy : (Event → Type 0) → State → State → Type 0
-LedBy kind old new = (events : List Event) × Led kind events old new
-
 -- half a second passes
 abbrev pub IsTick : Event → Type 0
 IsTick Tick = Unit {0}
 IsTick _ = ⊥
-
--- a port is bound, or closed for another one
-abbrev pub IsOpening : Event → Type 0
-IsOpening Open = Unit {0}
-IsOpening (Bind fd local) = Unit {0}
-IsOpening (Close fd) = Unit {0}
-IsOpening _ = ⊥
-
--- what was delivered is read
-abbrev pub IsTaking : Event → Type 0
-IsTaking (Receive fd most) = Unit {0}
-IsTaking _ = ⊥
 
 -- How many ticks are due at a time, in nanoseconds, and how many of them pass if some have passed: after 61 at once
 -- each unfinished datagram is gone.
@@ -80,12 +66,13 @@ ticks_to time passed = min (ticks_due time - passed) 61
 abbrev pub none_came : Totals
 none_came = record { packets = 0; delivered = 0; kept = 0; dropped = 0 }
 
--- a judge to which no record came yet
-pub record IsNew (form : Layout) (ours : ℕ) (judge : Judge) : Type 0 where
+-- a judge to which no record came yet, and that may bind this port alone, if there is one
+pub record IsNew (form : Layout) (ours : ℕ) (only : Option ℕ) (judge : Judge) : Type 0 where
   pub machine : state_of judge.host.stack ≡ boot (machine_for ours (broadcast_of ours))
   pub layout : judge.layout ≡ form
   pub address : judge.host.address ≡ ours
   pub broadcast : judge.broadcast ≡ broadcast_of ours
+  pub ports : IsUnbound only judge.ports
   pub text : judge.text ≡ []
   pub verdicts : judge.verdicts ≡ none_dropped
   pub totals : judge.totals ≡ none_came
@@ -122,9 +109,9 @@ pub record IsOf (r : Arrival) (seen : Seen) : Type 0 where
   pub captured : seen.captured ≡ r.captured
   pub packet : seen.packet.now ≡ r.packet.now
 
--- A record was judged. The ticks passed that were due at its time, and a port was perhaps bound; then its packet came.
--- What is printed of it is what became of it in this one step, and the verdicts count it. Then what it brought was
--- read.
+-- A record was judged. The ticks passed that were due at its time, and the port that it wants was bound; then its
+-- packet came. What is printed of it is what became of it in this one step, and the verdicts count it. Then each socket
+-- was read.
 pub record IsJudged (old : Judge) (r : Arrival) (new : Judge) : Type 0 where
   pub ticked : State
   pub ready : State
@@ -132,9 +119,9 @@ pub record IsJudged (old : Judge) (r : Arrival) (new : Judge) : Type 0 where
   pub seen : Seen
   pub is : IsOf r seen
   pub ticks : Led IsTick (replicate (ticks_to r.time old.ticks) Tick) (state_of old.host.stack) ticked
-  pub opens : LedBy IsOpening ticked ready
+  pub opens : BindsIf old.ports (wanted_port old.ports r.packet.now) new.ports ticked ready
   pub comes : StackSteps ready (Comes r.packet.now) Done here
-  pub takes : LedBy IsTaking here (state_of new.host.stack)
+  pub takes : Drains new.ports.bound.items here (state_of new.host.stack)
   pub tells : new.text ≡ record_text old.layout seen ready.counters here.counters here old.host.address
   pub counts : new.verdicts ≡ judged seen ready.counters here.counters old.verdicts
   pub totals : new.totals ≡ totals_after here ready.counters here.counters old.totals

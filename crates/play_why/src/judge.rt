@@ -199,7 +199,7 @@ impl Judge {
         port: Option<u16>,
     ) -> Result<Judge, BootFault>
         ensures { MatchResult result
-            (IsNew layout ours)
+            (IsNew layout ours port)
             (IsUnbooted (judged.machine_for ours (judged.broadcast_of ours))) }
     {
         let broadcast = broadcast_of(ours);

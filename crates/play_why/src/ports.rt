@@ -1,6 +1,11 @@
 //! The sockets of the machine: one for each port to which datagrams of a capture go.
+ghost use Rattle.std.specs.Prelude.{◌≡◌, IfOk, length, true};
+ghost use Rattle.params.specs.declared.TheConstants.{IP_MAX_PACKET};
+ghost use Rattle.flat_model.specs.Machine.Event.{Bind, Open};
+ghost use Rattle.flat_model.specs.Machine.Replies.{done_reply, opened_reply};
 ghost use Rattle.net_stack.specs.Stack.{state_of};
-ghost use Rattle.play_why.specs.Judged.{IsOpening, IsTaking, LedBy};
+ghost use Rattle.play_why.specs.Sockets as sockets;
+ghost use Rattle.stack_call.specs.Moves.{StackSteps};
 
 use flat_model::{Addr, Errno};
 use flat_plain::u16_at;
@@ -29,7 +34,9 @@ pub(crate) struct Ports {
 }
 
 /// The destination port of a packet that carries the front of a UDP datagram.
-fn port_in(packet: &[u8]) -> Option<u16> {
+fn port_in(packet: &[u8]) -> Option<u16>
+    ensures { result ≡ sockets.front_port packet.now }
+{
     if packet.len() < IP_UDP_HEADERS as usize || packet[0] != 69 || packet[9] != PROTOCOL_UDP {
         return None;
     }
@@ -42,7 +49,7 @@ fn port_in(packet: &[u8]) -> Option<u16> {
 /// A new socket.
 #[tactic(auto, unfolding(stack_call::specs::Moves::StackSteps))]
 fn open(machine: &mut Stack) -> Result<u32, Errno>
-    ensures { LedBy IsOpening (state_of machine.old) (state_of machine.new) }
+    ensures { StackSteps (state_of machine.old) Open (opened_reply result) (state_of machine.new) }
 {
     machine.socket()
 }
@@ -50,7 +57,8 @@ fn open(machine: &mut Stack) -> Result<u32, Errno>
 /// Binds a socket to a port.
 #[tactic(auto, unfolding(stack_call::specs::Moves::StackSteps))]
 fn bind(machine: &mut Stack, fd: u32, port: u16) -> Result<(), Errno>
-    ensures { LedBy IsOpening (state_of machine.old) (state_of machine.new) }
+    ensures { StackSteps (state_of machine.old) (Bind fd (record { ip = 0; port = port })) (done_reply result)
+        (state_of machine.new) }
 {
     machine.bind(fd, Addr { ip: 0, port })
 }
@@ -58,7 +66,7 @@ fn bind(machine: &mut Stack, fd: u32, port: u16) -> Result<(), Errno>
 /// Closes a socket.
 #[tactic(auto, unfolding(stack_call::specs::Moves::StackSteps))]
 fn close(machine: &mut Stack, fd: u32)
-    ensures { LedBy IsOpening (state_of machine.old) (state_of machine.new) }
+    ensures { sockets.ClosesSocket fd (state_of machine.old) (state_of machine.new) }
 {
     let _closed = machine.close(fd);
 }
@@ -66,14 +74,14 @@ fn close(machine: &mut Stack, fd: u32)
 /// Reads the next datagram of a socket.
 #[tactic(auto, unfolding(stack_call::specs::Moves::StackSteps))]
 fn take(machine: &mut Stack, fd: u32, room: &mut [u8])
-    ensures { LedBy IsTaking (state_of machine.old) (state_of machine.new) }
+    ensures { sockets.ReadsSocket fd (length room.old) (state_of machine.old) (state_of machine.new) }
 {
     let _taken = machine.recvfrom(fd, room);
 }
 
 /// A socket that is bound to a port. `None` if there can't be one.
 fn bound_to(machine: &mut Stack, port: u16) -> Option<Bound>
-    ensures { LedBy IsOpening (state_of machine.old) (state_of machine.new) }
+    ensures { sockets.TriesToBind port result (state_of machine.old) (state_of machine.new) }
 {
     let Ok(fd) = open(machine) else {
         return None;
@@ -89,7 +97,9 @@ fn bound_to(machine: &mut Stack, port: u16) -> Option<Bound>
 
 impl Ports {
     /// No port is bound yet. It takes no memory.
-    pub(crate) fn new(alloc: Global, only: Option<u16>) -> Ports {
+    pub(crate) fn new(alloc: Global, only: Option<u16>) -> Ports
+        ensures { sockets.IsUnbound only result }
+    {
         Ports {
             bound: Vec::new(alloc),
             next: 0,
@@ -98,87 +108,85 @@ impl Ports {
     }
 
     /// Whether a port is bound.
-    fn has(&self, port: u16) -> bool {
-        for bound in &self.bound {
+    fn has(&self, port: u16) -> bool
+        ensures { result ≡ sockets.is_bound port self.now.bound.items }
+    {
+        let mut rest = self.bound.as_slice();
+        'bound: while let [bound, left @ ..] = rest {
             if bound.port == port {
                 return true;
             }
+            rest = left;
         }
         false
     }
 
-    /// Closes the socket at a place.
-    fn close_at(&self, machine: &mut Stack, place: usize)
-        ensures { LedBy IsOpening (state_of machine.old) (state_of machine.new) }
+    /// Whether this port may be bound: it's the one that was asked for, or each one may.
+    fn may_bind(&self, port: u16) -> bool
+        ensures { result ≡ sockets.may_bind self.now.only port }
     {
-        match self.bound.get(place) {
-            Some(oldest) => close(machine, oldest.fd),
-            None => {}
+        match self.only {
+            Some(only) => only == port,
+            None => port != 0,
         }
     }
 
-    /// Closes the socket that was bound first, if there are 60, and answers its place.
-    fn make_room(&mut self, machine: &mut Stack) -> Option<usize>
-        ensures { LedBy IsOpening (state_of machine.old) (state_of machine.new) }
+    /// The port that a packet wants to be bound, if it isn't yet.
+    fn wanted(&self, packet: &[u8]) -> Option<u16>
+        ensures { result ≡ sockets.wanted_port self.now packet.now }
     {
-        if self.bound.len() < MOST_PORTS {
-            return None;
+        match port_in(packet) {
+            Some(port) if self.may_bind(port) && !self.has(port) => Some(port),
+            _ => None,
         }
+    }
+
+    /// Closes the socket that was bound first, and binds one to a port in its place.
+    fn bind_in_place(&mut self, machine: &mut Stack, port: u16)
+        requires { sockets.are_all_bound self.old ≡ true }
+        ensures { sockets.BindsFor self.old port self.new (state_of machine.old) (state_of machine.new) }
+    {
         let place = self.next % MOST_PORTS;
+        close(machine, self.bound[place].fd);
         self.next = place + 1;
-        self.close_at(machine, place);
-        Some(place)
+        if let Some(bound) = bound_to(machine, port) {
+            self.bound[place] = bound;
+        }
     }
 
-    /// Keeps a socket, at this place or behind the others.
-    fn put(&mut self, place: Option<usize>, bound: Bound) -> Result<(), AllocError> {
-        match place {
-            None => self.bound.push(bound)?,
-            Some(place) => {
-                if let Some(room) = self.bound.get_mut(place) {
-                    *room = bound;
-                }
-            }
+    /// Binds a socket to a port. If 60 are bound, the one that was bound first is closed for it.
+    fn bind(&mut self, machine: &mut Stack, port: u16) -> Result<(), AllocError>
+        ensures { IfOk result
+            (λ u. sockets.BindsFor self.old port self.new (state_of machine.old) (state_of machine.new)) }
+    {
+        if self.bound.len() >= MOST_PORTS {
+            self.bind_in_place(machine, port);
+        } else if let Some(bound) = bound_to(machine, port) {
+            self.bound.push(bound)?;
         }
         Ok(())
     }
 
-    /// Binds a socket to a port.
-    fn bind(&mut self, machine: &mut Stack, port: u16) -> Result<(), AllocError>
-        ensures { LedBy IsOpening (state_of machine.old) (state_of machine.new) }
-    {
-        let place = self.make_room(machine);
-        match bound_to(machine, port) {
-            Some(bound) => self.put(place, bound),
-            None => Ok(()),
-        }
-    }
-
-    /// Whether a port is to be bound: none is yet, and no other port alone is.
-    fn is_wanted(&self, port: u16) -> bool {
-        let may_be = match self.only {
-            Some(only) => only == port,
-            None => port != 0,
-        };
-        may_be && !self.has(port)
-    }
-
-    /// Binds a socket to the port that a packet goes to, unless there is one or another port alone is to be bound.
+    /// Binds a socket to the port that a packet wants to be bound.
     pub(crate) fn open_for(&mut self, machine: &mut Stack, packet: &[u8]) -> Result<(), AllocError>
-        ensures { LedBy IsOpening (state_of machine.old) (state_of machine.new) }
+        ensures { IfOk result (λ u. sockets.BindsIf self.old (sockets.wanted_port self.old packet.now) self.new
+            (state_of machine.old) (state_of machine.new)) }
     {
-        match port_in(packet) {
-            Some(port) if self.is_wanted(port) => self.bind(machine, port),
-            _ => Ok(()),
+        match self.wanted(packet) {
+            Some(port) => self.bind(machine, port),
+            None => Ok(()),
         }
     }
 
     /// Takes what waits out of all sockets.
     pub(crate) fn drain(&self, machine: &mut Stack, room: &mut [u8])
-        ensures { LedBy IsTaking (state_of machine.old) (state_of machine.new) }
+        requires { length room.old ≡ IP_MAX_PACKET }
+        ensures { sockets.Drains self.now.bound.items (state_of machine.old) (state_of machine.new) }
     {
-        for bound in &self.bound {
+        let mut rest = self.bound.as_slice();
+        'bound: while let [bound, left @ ..] = rest {
             take(machine, bound.fd, room);
+            rest = left;
         }
     }
 }

@@ -1,0 +1,111 @@
+-- The sockets of a judge's machine: one for each port to which the datagrams of a capture go (this project's own).
+use Rattle.std.specs.Prelude.{◌≡◌, ℕ, ◌+◌, ◌%◌, ◌==◌, ◌||◌, ◌&&◌, Bool, false, not, nat_lt, Option, Some, None}
+use Rattle.std.specs.Prelude.{List, [], ◌∷◌, ◌++◌, length, slice_index, slice_index_or, slice_set, if◌then◌else◌}
+use Rattle.params.specs.declared.TheConstants.{IP_MAX_PACKET, IP_UDP_HEADERS, PROTOCOL_UDP}
+use Rattle.flat_model.specs.Amounts.Choice.{Choice}
+use Rattle.flat_model.specs.Machine.Event.{Reply, Bind, Close, Done, Open, Opened, Receive, Refused}
+use Rattle.flat_model.specs.Machine.State.{State}
+use Rattle.flat_model.specs.Packets.Header.{u16_at}
+use Rattle.flat_model.specs.declared.errno.Errno.{Errno}
+use Rattle.stack_call.specs.Moves.{StackSteps}
+use Rattle.play_why.specs.declared.ports.TheConstants.{MOST_PORTS}
+use Rattle.play_why.specs.declared.ports.Bound.{Bound}
+use Rattle.play_why.specs.declared.ports.Ports.{Ports}
+
+-- ---- which port is to be bound
+
+-- the port to which the front of a UDP datagram goes, behind an IP header without options
+abbrev pub front_port : List ℕ → Option ℕ
+front_port p =
+    if nat_lt (length p) IP_UDP_HEADERS || (not (slice_index p 0 == 69) || (not (slice_index p 9 == PROTOCOL_UDP)
+    || not (u16_at 6 p % 8192 == 0))) then None
+    else Some (u16_at 22 p)
+
+-- a socket is bound to the port
+abbrev pub is_bound : ℕ → List Bound → Bool
+is_bound port [] = false
+is_bound port (b ∷ bs) = (b.port == port) || is_bound port bs
+
+-- the one port that was asked for, or else each
+abbrev pub may_bind : Option ℕ → ℕ → Bool
+may_bind (Some only) port = only == port
+may_bind None port = not (port == 0)
+
+abbrev pub wanted_of : Ports → Option ℕ → Option ℕ
+wanted_of ports None = None
+wanted_of ports (Some port) =
+    if may_bind ports.only port && not (is_bound port ports.bound.items) then Some port else None
+
+-- the port that a packet wants to be bound, if it isn't yet
+abbrev pub wanted_port : Ports → List ℕ → Option ℕ
+wanted_port ports p = wanted_of ports (front_port p)
+
+-- ---- how it's bound
+
+-- no port is bound yet
+pub record IsUnbound (port : Option ℕ) (ports : Ports) : Type 0 where
+  pub bound : ports.bound.items ≡ []
+  pub next : ports.next ≡ 0
+  pub only : ports.only ≡ port
+
+-- a socket is closed, whatever the machine replies
+abbrev pub ClosesSocket : ℕ → State → State → Type 0
+ClosesSocket fd old new = (reply : Reply) × StackSteps old (Close fd) reply new
+
+-- a new socket is bound to the port
+pub record BindsTo (port : ℕ) (b : Bound) (old new : State) : Type 0 where
+  pub between : State
+  pub port_is : b.port ≡ port
+  pub opens : StackSteps old Open (Opened b.fd) between
+  pub binds : StackSteps between (Bind b.fd (record { ip = 0; port = port })) Done new
+
+-- the machine refuses a socket, or to bind it, which is closed then
+pub data CantBind (port : ℕ) (old new : State) : Type 0 where
+  No_socket : (errno : Errno) → StackSteps old Open (Refused errno) new → CantBind port old new
+  Not_bound : (fd : ℕ) (errno : Errno) (opened kept : State) → StackSteps old Open (Opened fd) opened
+      → StackSteps opened (Bind fd (record { ip = 0; port = port })) (Refused errno) kept → ClosesSocket fd kept new
+      → CantBind port old new
+
+abbrev pub TriesToBind : ℕ → Option Bound → State → State → Type 0
+TriesToBind port (Some b) old new = BindsTo port b old new
+TriesToBind port None old new = CantBind port old new
+
+-- room for one more socket: if all are bound, the one that was bound first is closed
+abbrev pub are_all_bound : Ports → Bool
+are_all_bound ports = not (nat_lt (length ports.bound.items) MOST_PORTS)
+
+abbrev pub ClosesAt : List Bound → ℕ → State → State → Type 0
+ClosesAt bound place old new =
+    (oldest : Bound) × (slice_index_or bound place oldest ≡ oldest) × ClosesSocket oldest.fd old new
+
+-- the sockets with one more
+abbrev pub bound_after : Ports → Option Bound → List Bound
+bound_after ports None = ports.bound.items
+bound_after ports (Some b) =
+    if are_all_bound ports then slice_set ports.bound.items (ports.next % MOST_PORTS) b else ports.bound.items ++ b ∷ []
+
+-- a socket is bound to the port, if the machine lets it be
+pub record BindsFor (ports : Ports) (port : ℕ) (later : Ports) (old new : State) : Type 0 where
+  pub bound : Option Bound
+  pub room : State
+  pub closes : Choice (are_all_bound ports) (ClosesAt ports.bound.items (ports.next % MOST_PORTS) old room) (room ≡ old)
+  pub tries : TriesToBind port bound room new
+  pub bound_is : later.bound.items ≡ bound_after ports bound
+  pub next : later.next ≡ (if are_all_bound ports then ports.next % MOST_PORTS + 1 else ports.next)
+  pub only : later.only ≡ ports.only
+
+-- the wanted port is bound; if there is none, nothing changes
+abbrev pub BindsIf : Ports → Option ℕ → Ports → State → State → Type 0
+BindsIf ports None later old new = (later ≡ ports) × (new ≡ old)
+BindsIf ports (Some port) later old new = BindsFor ports port later old new
+
+-- ---- how they're read
+
+-- the next datagram of a socket is read, if it has one
+abbrev pub ReadsSocket : ℕ → ℕ → State → State → Type 0
+ReadsSocket fd most old new = (reply : Reply) × StackSteps old (Receive fd most) reply new
+
+-- each is read once, with room for any datagram
+abbrev pub Drains : List Bound → State → State → Type 0
+Drains [] old new = new ≡ old
+Drains (b ∷ bs) old new = (mid : State) × ReadsSocket b.fd IP_MAX_PACKET old mid × Drains bs mid new
