@@ -33,7 +33,7 @@ extern "C" {
 #endif
 
 /* The version of this header. */
-#define BSDUDP_VERSION "0.2.0"
+#define BSDUDP_VERSION "0.3.0"
 
 /* A stack, or none. Its members are the library's. Those of the core have the same places on every host. */
 struct bsdudp_core {

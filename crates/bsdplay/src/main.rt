@@ -49,7 +49,7 @@ const UNREAD: u8 = 4;
 /// The command line.
 fn command<'a>(alloc: Global) -> Result<Command<'a>, AllocError> {
     let command = Command::new(alloc, "bsdplay")
-        .version("0.2.0")
+        .version("0.3.0")
         .about("Plays scripts of socket calls, packets and ticks, and says what came of each line")
         .after_help(LINES)
         .arg(
