@@ -9,6 +9,8 @@ import subprocess
 import tempfile
 from typing import Dict, Iterator, Tuple
 
+from tools import crates
+
 TOP = pathlib.Path(__file__).resolve().parent.parent
 PROGRAMS = {name: TOP / f"crates/{name}/out/{name}" for name in ("bsdudp", "bsdplay")}
 CORE = TOP / "crates/libbsdudp/out/liblibbsdudp.a"
@@ -25,6 +27,13 @@ File = Tuple[bytes, bool]
 
 class Lacking(Exception):
     """What lacks, as one line for the reader."""
+
+
+def is_new(file: pathlib.Path, crate: str) -> bool:
+    """Whether a file is newer than each source of a crate and of those below it."""
+    used = [crate, *crates.below(crate, crates.uses())]
+    sources = (it for name in used for it in (TOP / "crates" / name).glob("s*/**/*") if it.is_file())
+    return file.exists() and max(it.stat().st_mtime for it in sources) < file.stat().st_mtime
 
 
 def files_below(folder: str) -> list[str]:

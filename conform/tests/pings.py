@@ -4,8 +4,11 @@ answered; each fault of FAULTS, in its replies or in whom it answers, has to be 
 import pathlib
 import sys
 
-from scapy.layers.inet import ICMP, IP
-from scapy.packet import Raw
+try:
+    from scapy.layers.inet import ICMP, IP
+    from scapy.packet import Raw
+except ImportError:  # its words are answered without scapy, too
+    IP = None
 
 from bsdudp_conform import cases
 from bsdudp_conform._addresses import HOST, PEER, is_host, text_of
@@ -125,6 +128,8 @@ def breaches(chosen, replies):
 
 def main():
     command_line.none(__doc__)
+    if IP is None:
+        sys.exit("pings.py: no python3-scapy")
     chosen = [it for it in cases.make(1, 0) if it.rule in RULES]
     faults = 0
     for replies in (right, free):

@@ -1,0 +1,39 @@
+"""Linux as the peer of capi/examples/tun_echo.c, plainly and over a wire that loses, repeats and reorders, each in a
+network namespace of its own; and the stored captures, by pcap.c and by tun_echo's device."""
+import subprocess
+
+import pytest
+
+from tests.cases import TOP
+from tests.conftest import in_part
+
+SOURCES = {"tun_echo": ("examples/tun_echo.c", []), "lossy": ("tests/lossy.c", ["lossy"])}
+
+
+def demand(*words):
+    done = subprocess.run(
+        list(map(str, words)), cwd=TOP / "capi", capture_output=True, text=True, check=False, timeout=900
+    )
+    if done.returncode:
+        pytest.fail((done.stdout + done.stderr).strip()[-1500:], pytrace=False)
+    return done.stdout + done.stderr
+
+
+@pytest.mark.slow
+@pytest.mark.needs("cc", "netns", "tun", "ip")
+@pytest.mark.parametrize("mtu", [1500, 576, 68])
+@pytest.mark.parametrize("name", SOURCES)
+def test_kernel(name, mtu, library, compiled):
+    source, words = SOURCES[name]
+    program = compiled(name, *library.threads(source))
+    demand("unshare", "-n", "tests/kernel.py", program, mtu, *words)
+
+
+@pytest.mark.slow
+@pytest.mark.needs("cc", "libpcap")
+@pytest.mark.parametrize("by_tun", [False, pytest.param(True, marks=pytest.mark.needs("netns", "tun", "ip"))])
+def test_captures(by_tun, library, compiled, pytestconfig):
+    words = ["tests/replay.py", compiled("pcap", *library.threads("examples/pcap.c"), "-lpcap")]
+    if by_tun:
+        words = ["unshare", "-n", *words, compiled("tun_echo", *library.threads("examples/tun_echo.c"))]
+    in_part(pytestconfig, demand(*words))

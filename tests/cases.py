@@ -1,0 +1,123 @@
+"""Cases: what a program is given, and what it answers. One that has nothing but words, a script and replies can also be
+tried by `rt try --cases`, without a proof and without a built program."""
+from __future__ import annotations
+
+import itertools
+import pathlib
+import re
+import subprocess
+import tempfile
+from typing import Iterable, Iterator, NamedTuple, Sequence
+
+import pytest
+
+TOP = pathlib.Path(__file__).resolve().parent.parent
+SHOWN = 200
+Row = "tuple[str, str]"
+
+
+class Case(NamedTuple):
+    """A run of a program. `place` is a file or a table that the replies stand in."""
+
+    name: str
+    words: Sequence[str]
+    script: bytes
+    replies: bytes
+    status: int = 0
+    said: bytes = b""
+    place: str = ""
+
+
+def each(cases: Iterable[Case]) -> pytest.MarkDecorator:
+    """Has a test tried with each of these cases, by their names."""
+    made = list(cases)
+    return pytest.mark.parametrize("case", made, ids=[it.name for it in made])
+
+
+def dialog(name: str, words: Sequence[str], rows: Sequence[tuple[str, str]]) -> Case:
+    """A case of lines, each with its reply."""
+    script, replies = ("".join(f"{it}\n" for it in column).encode() for column in zip(*rows))
+    return Case(name, words, script, replies)
+
+
+def of_folder(folder: str, command: str) -> Iterator[Case]:
+    """The scripts NAME.txt of a folder, with their words in NAME.txt.args and their replies in NAME.txt.stdout."""
+    for path in sorted((TOP / folder).glob("*.txt")):
+        args = path.with_name(f"{path.name}.args")
+        words = args.read_text(encoding="utf-8").splitlines() if args.exists() else []
+        replies = path.with_name(f"{path.name}.stdout")
+        place = str(path.relative_to(TOP))
+        assert replies.exists(), f"{place}: there are no replies {replies.name} beside it"
+        yield Case(f"{command}/{path.stem}", [command, *words], path.read_bytes(), replies.read_bytes(), place=place)
+
+
+def short(text: bytes) -> str:
+    """A text for a message."""
+    shown = text.decode(errors="backslashreplace")
+    return shown if len(shown) <= SHOWN else f"{shown[:SHOWN]}.. ({len(shown)} characters)"
+
+
+def other_line(wanted: bytes, came: bytes) -> tuple[int, str]:
+    """The number of the first line that came otherwise, from 0 on, and both of it for a message."""
+    rows = itertools.zip_longest(wanted.split(b"\n"), came.split(b"\n"), fillvalue=None)
+    at, both = next((n, it) for n, it in enumerate(rows) if it[0] != it[1])
+    one, other = ("(nothing)" if it is None else short(it) for it in both)
+    return at, f"\n    wanted: {one}\n    came:   {other}"
+
+
+def difference(case: Case, status: int, replies: bytes, said: bytes | None) -> str | None:
+    """What came out otherwise than the case has it, or None. The first other line is shown with what asked for it."""
+    where = f"bsdudp {' '.join(case.words)}" + (f" < {case.place}" if case.place.endswith(".txt") else "")
+    if replies != case.replies:
+        asked = case.script.split(b"\n")
+        at, both = other_line(case.replies, replies)
+        line = short(asked[at]) if at < len(asked) else ""
+        return f"{case.place or case.name}:{at + 1}: {line}{both}\n    ({where}; status {status})"
+    if status != case.status:
+        return f"{case.name}: {where}: status {status}, and not {case.status}; it says {short(said or b'')!r}"
+    if said is not None and said != case.said:
+        return f"{case.name}: {where}: it says {short(said)!r}, and not {short(case.said)!r}"
+    return None
+
+
+def run(program: pathlib.Path, case: Case) -> str | None:
+    """Plays a case by a built program."""
+    done = subprocess.run([program, *case.words], input=case.script, capture_output=True, check=False)
+    return difference(case, done.returncode, done.stdout, done.stderr)
+
+
+def tried(crate: str, cases: Iterable[Case]) -> dict[str, str]:
+    """Plays cases by `rt try --cases`, in one build. Returns the differences, by the cases' names. Standard error isn't
+    compared, since rt doesn't."""
+    with tempfile.TemporaryDirectory() as room:
+        known = written(pathlib.Path(room), cases)
+        done = subprocess.run(
+            ["rt", "try", "--cases", room],
+            cwd=TOP / "crates" / crate,
+            stdin=subprocess.DEVNULL,
+            capture_output=True,
+            check=False,
+        )
+    text, found = (done.stdout + done.stderr).decode(errors="replace"), {}
+    ended = dict(re.findall(r"(?m)^case=(\S+) (.*)$", text))
+    for name, case in known.items():
+        told = dict(it.split("=", 1) for it in ended.get(name, "").split() if "=" in it)
+        if not told:
+            found[case.name] = f"{case.name}: rt try doesn't name it: {text[-400:]}"
+        elif told.get("run") != "ended" or told.get("output") != "expected":
+            found[case.name] = f"{case.place or case.name}: other replies by `rt try`: {ended[name]}"
+        elif told.get("status") != str(case.status):
+            found[case.name] = f"{case.name}: status {told.get('status')}, and not {case.status}"
+    return found
+
+
+def written(folder: pathlib.Path, cases: Iterable[Case]) -> dict[str, Case]:
+    """Writes cases as the files that `rt try --cases` reads. Returns them by the names of their files."""
+    known = {}
+    for number, case in enumerate(cases):
+        name = f"{number}_" + re.sub(r"\W+", "_", case.name)
+        known[name] = case
+        (folder / name).write_bytes(case.script)
+        (folder / f"{name}.args").write_text("".join(f"{it}\n" for it in case.words), encoding="utf-8")
+        (folder / f"{name}.stdout").write_bytes(case.replies)
+    return known

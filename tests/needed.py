@@ -1,0 +1,105 @@
+"""What tests need beside Python and pytest: how each tool is found, and which package of Debian has it."""
+from __future__ import annotations
+
+import functools
+import importlib.util
+import os
+import shutil
+import subprocess
+from typing import Callable, NamedTuple
+
+
+class Tool(NamedTuple):
+    """Whether it's there, the packages of Debian that have it (none: the machine has it or not), and another word for
+    what's lacking then."""
+
+    is_there: Callable[[], bool]
+    package: str = ""
+    what: str = ""
+
+
+def command(*names: str) -> Callable[[], bool]:
+    return lambda: any(shutil.which(it) for it in names)
+
+
+def module(name: str) -> Callable[[], bool]:
+    return lambda: importlib.util.find_spec(name) is not None
+
+
+def includes(header: str) -> Callable[[], bool]:
+    """Whether the C compiler knows a header."""
+
+    def known() -> bool:
+        words = [os.environ.get("CC", "cc"), "-E", "-"]
+        text = f"#include <{header}>\n".encode()
+        return (
+            command(words[0])() and not subprocess.run(words, input=text, capture_output=True, check=False).returncode
+        )
+
+    return known
+
+
+def links(*words: str) -> Callable[[], bool]:
+    """Whether the C compiler makes a program by these words that can be run."""
+
+    def known() -> bool:
+        script = 'd=$(mktemp -d) && trap "rm -rf $d" EXIT && echo "int main(void){return 0;}" > $d/a.c &&'
+        script += f' {os.environ.get("CC", "cc")} {" ".join(words)} $d/a.c -o $d/a && $d/a'
+        return not subprocess.run(["sh", "-c", script], capture_output=True, check=False).returncode
+
+    return known
+
+
+def runs(*words: str) -> Callable[[], bool]:
+    """Whether a command ends with status 0."""
+
+    def known() -> bool:
+        return command(words[0])() and not subprocess.run(words, capture_output=True, check=False).returncode
+
+    return known
+
+
+has_namespace = runs("unshare", "-n", "true")
+has_overlay = runs("unshare", "-m", "sh", "-c", "mount -t tmpfs tmpfs /mnt && mkdir /mnt/a /mnt/b /mnt/c /mnt/d && "
+                   "mount -t overlay overlay -o lowerdir=/mnt/a,upperdir=/mnt/b,workdir=/mnt/c /mnt/d")  # fmt: skip
+
+
+TOOLS = {
+    "rt": Tool(command("rt"), "", "rt isn't on the path: install the Rattle toolchain"),
+    "git": Tool(command("git"), "git"),
+    "cc": Tool(command(os.environ.get("CC", "cc")), "gcc"),
+    "c++": Tool(command(os.environ.get("CXX", "c++")), "g++"),
+    "objdump": Tool(command("objdump"), "binutils"),
+    "tsan": Tool(links("-fsanitize=thread"), "gcc"),
+    "asan": Tool(links("-fsanitize=address,undefined"), "gcc"),
+    "pkg-config": Tool(command("pkg-config"), "pkg-config"),
+    "cmake": Tool(lambda: command("cmake")() and command("make")(), "cmake make"),
+    "libpcap": Tool(includes("pcap/pcap.h"), "libpcap-dev"),
+    "tshark": Tool(command("tshark"), "tshark"),
+    "editcap": Tool(command("editcap"), "wireshark-common"),
+    "tcpdump": Tool(command("tcpdump"), "tcpdump"),
+    "scapy": Tool(module("scapy"), "python3-scapy"),
+    "hypothesis": Tool(module("hypothesis"), "python3-hypothesis"),
+    "mypy": Tool(command("mypy"), "mypy"),
+    "groff": Tool(command("groff"), "groff-base"),
+    "node": Tool(command("node"), "nodejs"),
+    "chromium": Tool(command("chromium", "chromium-browser", "google-chrome"), "chromium"),
+    "wasm-opt": Tool(command("wasm-opt"), "binaryen"),
+    "wasm2c": Tool(command("wasm2c"), "wabt"),
+    "qemu-arm": Tool(command("qemu-system-arm"), "qemu-system-arm"),
+    "arm-none-eabi": Tool(command("arm-none-eabi-gcc"), "gcc-arm-none-eabi libnewlib-arm-none-eabi"),
+    "debootstrap": Tool(command("debootstrap"), "debootstrap"),
+    "ip": Tool(command("ip"), "iproute2"),
+    "root": Tool(lambda: os.geteuid() == 0, what="this user isn't root"),
+    "netns": Tool(has_namespace, what="no network namespace can be made here"),
+    "tun": Tool(lambda: os.access("/dev/net/tun", os.W_OK), what="/dev/net/tun can't be written here"),
+    "overlay": Tool(has_overlay, what="no file system can be mounted here"),
+    "x86-64": Tool(lambda: os.uname()[::4] == ("Linux", "x86_64"), what="this isn't Linux on x86-64"),
+}
+
+
+@functools.lru_cache(maxsize=None)
+def lacks(name: str) -> str:
+    """Why a test that needs this is skipped, or nothing. A name that isn't known is an error of the test."""
+    tool = TOOLS[name]
+    return "" if tool.is_there() else tool.what or f"no {name}: apt-get install {tool.package}"
