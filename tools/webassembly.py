@@ -88,7 +88,7 @@ def without_table(data):
 def lowered(module, kit, room, made):
     """The module whose addresses are 32 bits wide."""
     if not shutil.which("wasm-opt"):
-        raise Stop("wasm-opt is lacking: it's in Debian's package binaryen")
+        raise Stop("there is no wasm-opt: apt-get install binaryen")
     (room / "plain.wasm").write_bytes(without_table(compiled(module, kit, room, made).read_bytes()))
     features = [f"--enable-{it}" for it in FEATURES]
     run("wasm-opt", *features, "--memory64-lowering", *made[-1], room / "plain.wasm", "-o", room / "lowered.wasm")

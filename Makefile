@@ -1,0 +1,70 @@
+# What people type first; `make help` lists it. No rule has logic of its own: each calls a script that works by itself.
+.PHONY: help run play test prove lib install packages page setup clean
+.DEFAULT_GOAL := help
+SCRIPT ?= examples/first_datagram.txt
+PREFIX ?= $(HOME)/.local
+FOLDER ?= out
+# $(call need,COMMAND,WHERE IT COMES FROM) ends the rule with one line and status 2 if a command isn't there.
+need = command -v $(1) > /dev/null || { echo "make $@: there is no $(1): $(2)" >&2; exit 2; }
+rt = $(call need,rt,install the Rattle toolchain and put its folder bin on the path (README.md))
+python = $(call need,python3,apt-get install python3)
+cc = $(call need,$(or $(CC),cc),apt-get install gcc)
+
+help:
+	@echo "make run [SCRIPT=FILE]       play a script by bsdudp and show each line with its reply: half a minute, no proof"
+	@echo "make play SCRIPT=FILE        play a script by bsdplay, which says what happens to each packet"
+	@echo "make test [K=WORD]           run the tests that need no proof: 2 minutes; with K those with WORD in their name"
+	@echo "make prove                   run the gate: prove everything and run every test: 40 minutes on four idle cores"
+	@echo "make lib [FOLDER=out]        prove the C library and build it in FOLDER"
+	@echo "make install [PREFIX=..]     prove the C library and install it with its header below PREFIX"
+	@echo "make packages [FOLDER=out]   make the Debian packages of what make prove has built"
+	@echo "make page                    make the web page page/out/bsdudp.html"
+	@echo "make setup                   install Debian's packages for the whole gate (or print the command, if not root)"
+	@echo "make clean                   remove all that was built"
+
+run:
+	@$(python)
+	@tools/play "$(SCRIPT)"
+
+play:
+	@$(python)
+	@tools/play --people "$(SCRIPT)"
+
+test:
+	@$(python)
+	@.ci/quick $(if $(K),-k "$(K)")
+
+prove:
+	@$(python)
+	@$(rt)
+	@.ci/run
+
+lib:
+	@$(python)
+	@$(rt)
+	@$(cc)
+	@capi/build "$(FOLDER)"
+
+install:
+	@$(python)
+	@$(rt)
+	@$(cc)
+	@capi/install "$(PREFIX)"
+
+packages:
+	@$(python)
+	@$(call need,dpkg-deb,it is part of Debian)
+	@$(call need,dpkg-shlibdeps,apt-get install dpkg-dev)
+	@dist/deb "$(FOLDER)"
+
+page:
+	@$(python)
+	@$(rt)
+	@$(call need,wasm-opt,apt-get install binaryen)
+	@page/build
+
+setup:
+	@.ci/setup
+
+clean:
+	rm -rf out crates/*/out page/out portable/out

@@ -1,0 +1,114 @@
+"""README's commands on a machine that has nothing: an empty Debian 12 with the toolchain, what README's table names, and
+no network (tests/fresh/machine). Each optional tool is missing there, so nothing may fail for want of one."""
+import functools
+import re
+import shlex
+import subprocess
+
+import pytest
+
+from tests.cases import TOP
+
+pytestmark = [
+    pytest.mark.slow,
+    pytest.mark.needs("root", "overlay", "debootstrap", "git", "rt"),
+    pytest.mark.xdist_group("fresh"),
+]
+README = (TOP / "README.md").read_text(encoding="utf-8")
+SECONDS = 1800
+
+
+def machine(*words):
+    """How a command ends there, and what it prints."""
+    words = [TOP / "tests/fresh/machine", *words]
+    done = subprocess.run(words, stdin=subprocess.DEVNULL, capture_output=True, text=True, check=False, timeout=SECONDS)
+    if done.returncode == 77:
+        pytest.skip(done.stderr.strip())
+    return done.returncode, done.stdout, done.stderr
+
+
+def packages():
+    """What README says is to be installed."""
+    return ",".join(re.search(r"`apt-get install ([^`]+)`", README)[1].split())
+
+
+def blocks(kind):
+    """README's blocks of that kind below "Try it": the commands, or what they print."""
+    text = README.partition("## Try it\n")[2].partition("\n## ")[0]
+    if kind == "commands":
+        return re.findall(r"(?ms)^```sh\n(.*?)^```$", text)
+    return [re.sub("(?m)^    ", "", it) for it in re.findall(r"(?m)(?:^    .*\n)+", text)]
+
+
+@pytest.mark.parametrize("user", [[], ["--root"]], ids=["new", "root"])
+def test_readme(user):
+    """Its block, word for word, passes at the first try, and prints what README shows."""
+    (commands,) = blocks("commands")
+    played, summary = blocks("prints")
+    status, printed, said = machine(*user, "--with", packages(), f"set -e\n{commands}")
+    tail = f"status {status}:\n{printed[-3000:]}\n{said[-1000:]}"
+    assert status == 0, tail
+    assert printed.startswith(played), tail
+    last = printed.splitlines()[-1]
+    assert re.fullmatch(summary.strip().replace("N", r"\d+"), last), tail
+    skipped = sum(map(int, re.findall(r"(?m)^SKIPPED \[(\d+)\] ", printed)))
+    assert skipped == int(last.split()[-2]), f"the reasons above the last line count {skipped} skips: {tail}"
+    assert "Traceback" not in printed + said, tail
+
+
+# ---- what is missing -----------------------------------------------------------------------------------------------
+
+WITHOUT_PYTEST = packages().replace(",python3-pytest", "")
+# For each set of packages, commands and what their one line has to name.
+MISSING = {
+    WITHOUT_PYTEST.replace("python3,", ""): {
+        "make run": "apt-get install python3",
+        "make test": "apt-get install python3",
+        ".ci/run": "python3",
+    },
+    WITHOUT_PYTEST: {
+        "make test": "apt-get install -y python3-pytest",
+        "make lib": "apt-get install gcc",
+        "make install PREFIX=/tmp/it": "apt-get install gcc",
+        "make packages": "apt-get install dpkg-dev",
+        "make page": "apt-get install binaryen",
+        "capi/build /tmp/it": "apt-get install gcc",
+        "page/build": "apt-get install binaryen",
+    },
+}
+ROWS = [(installed, command, lacks) for installed, rows in MISSING.items() for command, lacks in rows.items()]
+EACH = """
+git clone -q "$REPOSITORY" it && cd it || exit 1
+for command in "${commands[@]}"; do
+    status=0
+    timeout 30 bash -c "$command" > /tmp/printed 2> /tmp/said < /dev/null || status=$?
+    printf '%s\\0%s\\0%s\\0' "$status" "$(cat /tmp/printed)" "$(cat /tmp/said)"
+done
+"""
+
+
+@functools.lru_cache(maxsize=None)
+def outcomes(installed):
+    """How each of these commands ends on one machine: its status, what it prints, and what it says of faults."""
+    commands = [*MISSING[installed], "make", "make help"]
+    words = " ".join(map(shlex.quote, commands))
+    status, printed, said = machine("--with", installed, f"commands=({words})\n{EACH}")
+    assert status == 0, said
+    parts = printed.split("\0")
+    return {it: (int(parts[3 * n]), *parts[3 * n + 1 : 3 * n + 3]) for n, it in enumerate(commands)}
+
+
+@pytest.mark.parametrize("installed, command, lacks", ROWS, ids=[f"{it[1]} with {it[0]}" for it in ROWS])
+def test_a_missing_tool_is_named_at_once(installed, command, lacks):
+    """In one line, which says how to install it, and before anything takes long."""
+    status, printed, said = outcomes(installed)[command]
+    said = re.sub(r"(?m)^make: \*\*\* .*\n?", "", said)
+    assert status in (1, 2) and not printed and lacks in said and len(said.splitlines()) == 1, f"{status}: {printed}{said}"
+
+
+@pytest.mark.parametrize("command", ["make", "make help"])
+def test_make_lists_its_targets(command):
+    status, printed, said = outcomes(WITHOUT_PYTEST)[command]
+    targets = re.findall(r"(?m)^([a-z]+):(?!=)", (TOP / "Makefile").read_text(encoding="utf-8"))
+    listed = re.findall(r"(?m)^make ([a-z]+)", printed)
+    assert status == 0 and not said and listed == [it for it in targets if it != "help"]
