@@ -18,7 +18,7 @@ Row = "tuple[str, str]"
 
 class Case(NamedTuple):
     """A run of a program. `place` is a file or a table that the replies stand in. A script for people, which bsdplay
-    plays, has its replies in it. `rt try` plays a case only if `by_rt` is set, since it takes half a second for each."""
+    plays, has its replies in it. `rt try` plays a case only if `by_rt` is set: it takes half a second for each."""
 
     name: str
     words: Sequence[str]
@@ -123,8 +123,8 @@ def tried_for_people(cases: Sequence[Case]) -> dict[str, str]:
 
 
 def tried(cases: Sequence[Case]) -> dict[str, str]:
-    """Plays cases by bsdudp, in one `rt try --cases`. Returns the differences, by the cases' names. Standard error isn't
-    compared, since rt doesn't."""
+    """Plays cases by bsdudp, in one `rt try --cases`. Returns the differences, by the cases' names. rt doesn't compare
+    standard error."""
     with tempfile.TemporaryDirectory() as room:
         known = written(pathlib.Path(room), cases)
         done = rt_try("bsdudp", "--cases", room)

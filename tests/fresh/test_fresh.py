@@ -1,5 +1,5 @@
-"""README's commands on a machine that has nothing: an empty Debian 12 with the toolchain, what README's table names, and
-no network (tests/fresh/machine). Each optional tool is missing there, so nothing may fail for want of one."""
+"""README's commands on a machine that has nothing: an empty Debian 12 with the toolchain, what README's table names,
+and no network (tests/fresh/machine). Each optional tool is missing there, so nothing may fail for want of one."""
 import functools
 import re
 import shlex
@@ -103,7 +103,8 @@ def test_a_missing_tool_is_named_at_once(installed, command, lacks):
     """In one line, which says how to install it, and before anything takes long."""
     status, printed, said = outcomes(installed)[command]
     said = re.sub(r"(?m)^make: \*\*\* .*\n?", "", said)
-    assert status in (1, 2) and not printed and lacks in said and len(said.splitlines()) == 1, f"{status}: {printed}{said}"
+    in_one_line = lacks in said and len(said.splitlines()) == 1
+    assert status in (1, 2) and not printed and in_one_line, f"status {status}: {printed}{said}"
 
 
 @pytest.mark.parametrize("command", ["make", "make help"])
