@@ -113,3 +113,15 @@ def test_make_lists_its_targets(command):
     targets = re.findall(r"(?m)^([a-z]+):(?!=)", (TOP / "Makefile").read_text(encoding="utf-8"))
     listed = re.findall(r"(?m)^make ([a-z]+)", printed)
     assert status == 0 and not said and listed == [it for it in targets if it != "help"]
+
+
+STUB = '#!/bin/sh\necho "0 passed, 1 failed"\nexit 1\n'
+
+
+def test_the_gate_reaches_its_proofs():
+    """Without CI set and without a tool beyond README's, .ci/run passes tests/docs and comes to `rt ci`, which is a stub
+    here."""
+    stub = f"mkdir ~/stub && printf %s {shlex.quote(STUB)} > ~/stub/rt && chmod +x ~/stub/rt && PATH=~/stub:$PATH"
+    status, printed, said = machine("--with", packages(), f'git clone -q "$REPOSITORY" it && cd it && {stub} .ci/run')
+    assert status == 1 and printed.endswith("\n0 passed, 1 failed\n"), f"status {status}: {printed}\n{said}"
+    assert re.search(r"(?m)^\d+ passed, 0 failed, \d+ skipped$", printed), printed[-2000:]
