@@ -4,3 +4,4 @@ pub mod Queues
 pub mod Ways
 pub mod Inside
 pub mod Questions
+pub mod Headed

@@ -3,6 +3,7 @@ ghost use Rattle.std.specs.Prelude.{◌≡◌, ℕ, List, [], ◌∷◌, ◌+◌
 ghost use Rattle.flat_model.specs.Packets.Checksum.{checksum};
 ghost use Rattle.flat_model.specs.Packets.Header.{u16_at, u32_at, two_bytes, four_bytes, head_fault};
 ghost use Rattle.mbuf_chain.specs.Chain.{IsLive, chain_of, string};
+ghost use Rattle.ip_out.specs.Headed.{IsFaultless, carried_of};
 ghost use Rattle.ip_out.specs.Headings.{flags_of, header_written, blank_bytes, bytes_with, head_bytes, head_in};
 
 use byteorder::{BigEndian, ByteOrder};
@@ -161,6 +162,7 @@ fn u32_at(bytes: &[u8], at: usize) -> u32
 }
 
 /// What the first 20 bytes of a packet say.
+#[inline(always)]
 fn head_in(bytes: &[u8]) -> IpHead
     requires { length bytes.now ≡ IP_HEADER }
     ensures { result ≡ head_in bytes.now }
@@ -181,19 +183,19 @@ fn head_in(bytes: &[u8]) -> IpHead
 }
 
 /// The first test that a packet of `len` bytes fails, of which these are the first 20.
+#[inline(always)]
 fn fault_in(bytes: &[u8; IP_HEADER as usize], len: u32) -> Option<Why>
     requires few { IP_HEADER ≤ len }
     ensures { (packet : List ℕ) → length packet ≡ len → bytes.now ≡ take IP_HEADER packet
         → result ≡ head_fault packet }
 {
-    if bytes[0] / 16 != VERSION {
-        return Some(Why::BadVersion);
-    }
-    let words = bytes[0] % 16;
-    if words < HEADER_WORDS {
-        return Some(Why::BadHeaderLength);
-    }
-    if words > HEADER_WORDS {
+    if bytes[0] != VERSION_AND_LENGTH {
+        if bytes[0] / 16 != VERSION {
+            return Some(Why::BadVersion);
+        }
+        if bytes[0] % 16 < HEADER_WORDS {
+            return Some(Why::BadHeaderLength);
+        }
         return Some(Why::Options);
     }
     if sum_head(bytes) != u16::MAX {
@@ -276,5 +278,53 @@ pub fn read_head(pool: &Pool, chain: &Chain) -> Result<IpHead, Why>
     match first.split_first_chunk() {
         Some((bytes, _)) => head_or_fault(bytes, len),
         None => read_cut(pool, chain, len),
+    }
+}
+
+/// A packet whose IP header `read_packet` has read in place and found without a fault. The value proves it, so no caller
+/// tests the header again.
+#[derive(Clone, Copy, Drop)]
+pub struct Headed<'a> {
+    /// The bytes as received. There may be more of them than the header's total length.
+    pub packet: &'a [u8],
+    /// The tests that the header has passed.
+    pub ghost is_headed: { IsFaultless packet.now },
+}
+
+/// Reads the IP header of a packet of at most 65,535 bytes in place. Returns the first test that fails, in the order of
+/// `read_head`.
+#[inline(always)]
+pub fn read_packet(packet: &[u8]) -> Result<Headed<'_>, Why>
+    requires { length packet.now ≤ IP_MAX_PACKET }
+    ensures ok { IfOk result (λ h. h.packet.now ≡ packet.now) }
+    ensures err { IfErr result (λ why. head_fault packet.now ≡ Some why) }
+{
+    let Some((bytes, _)) = packet.split_first_chunk() else {
+        return Err(Why::TooSmall);
+    };
+    match fault_in(bytes, packet.len() as u32) {
+        Some(why) => Err(why),
+        None => Ok(Headed { packet }),
+    }
+}
+
+impl<'a> Headed<'a> {
+    /// All fields of its header.
+    // Inlined, so that the compiler reads only the fields that the caller uses.
+    #[inline(always)]
+    pub fn head(&self) -> IpHead
+        ensures { result ≡ head_in self.now.packet.now }
+    {
+        let (bytes, _) = self.packet.split_at(IP_HEADER as usize);
+        head_in(bytes)
+    }
+
+    /// The bytes after its header, up to its total length.
+    #[inline(always)]
+    pub fn carried(&self) -> &'a [u8]
+        ensures { result.now ≡ carried_of self.now.packet.now }
+    {
+        let total = u16_at(self.packet, 2) as usize;
+        &self.packet[IP_HEADER as usize..total]
     }
 }

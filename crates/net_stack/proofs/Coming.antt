@@ -26,7 +26,7 @@ use Rattle.ip_reass.specs.Table.{TableView, IsReady, held_all, unfinished}
 use Rattle.sock_calls.proofs.Laws.{keeps_trans, laid_weight, bag_of_times, free_each}
 use Rattle.sock_calls.specs.Sockets.{SocksView, IsSocks, queued_chains, with_net}
 use Rattle.sock_calls.specs.Delivery.{NetView, KeepsParts, state_at}
-use Rattle.net_stack.specs.Inside.Arrivals.{HasCome, IsArrived, IsLaidOut}
+use Rattle.net_stack.specs.Inside.Arrivals.{HasCome, IsArrived, IsAsked, IsLaidOut}
 use Rattle.net_stack.proofs.Aside.{Aside, aside, aside_keeps, counters_accounts, net_seen, BesideSocks, beside_socks}
 
 -- ---- how it came shows in its first mbuf
@@ -76,14 +76,6 @@ came_by_wire v cs xs entries number bytes =
 
 -- ---- the event
 
--- the pool was asked for the packet's buffers
-pub record IsAsked (p : PoolView) (r : TableView) (a : Counters) (need : Need) (answer : Bool) (q : PoolView)
-    (t : TableView) (b : Counters) : Type 0 where
-  pub reserves : (s : State) (held : Weight) → s.unfinished ≡ unfinished p r.datagrams → s.counters ≡ a
-      → IsAccounted p s held
-      → Reserves s held need answer (record s { unfinished = unfinished q t.datagrams; counters = b }) q
-  pub moves : Moves p (held_all p r.datagrams) q (held_all q t.datagrams)
-
 -- the sockets then
 pub asked_socks : {p q : PoolView} {s : SocksView} {r t : TableView} {a b : Counters} {need : Need} {answer : Bool}
     → IsSocks p s → IsOwned p (held_all p r.datagrams ++ queued_chains p s.queues) → IsAsked p r a need answer q t b
@@ -92,7 +84,7 @@ asked_socks {p} {q} {s} {r} {t} socks owned is =
     beside_socks (held_all p r.datagrams) [] (held_all q t.datagrams) owned socks is.moves
 
 -- what the parts keep then, whatever was counted
-asked_keeps : {p q : PoolView} {s : SocksView} {r t : TableView} {a b : Counters} {need : Need} {answer : Bool}
+pub asked_keeps : {p q : PoolView} {s : SocksView} {r t : TableView} {a b : Counters} {need : Need} {answer : Bool}
     (d : Counters) → IsSocks p s → IsOwned p (held_all p r.datagrams ++ queued_chains p s.queues)
     → IsAsked p r a need answer q t b → KeepsParts (net_seen p s r a) [] (net_seen q s t d) []
 asked_keeps {p} {q} {s} {r} {t} {a} {b} d socks owned is =

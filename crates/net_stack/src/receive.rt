@@ -1,6 +1,6 @@
 //! A packet from the wire.
-ghost use Rattle.std.specs.Prelude.{◌≡◌, ◌≤◌, None, true, false, length};
-ghost use Rattle.flat_model.specs.Amounts.Layout.{wire};
+ghost use Rattle.std.specs.Prelude.{◌≡◌, ◌≤◌, None, length, true, is_some, IfSome, IfNone};
+ghost use Rattle.flat_model.specs.Amounts.Layout.{need_of, wire};
 ghost use Rattle.flat_model.specs.Machine.Arrival as flat;
 ghost use Rattle.flat_model.specs.Packets.Header.{head_fault};
 ghost use Rattle.mbuf_chain.specs.Owners.{IsOwned};
@@ -11,7 +11,8 @@ ghost use Rattle.ip_reass.specs.AtOnce.{fits_at_once};
 ghost use Rattle.ip_reass.specs.Table.{IsReady};
 ghost use Rattle.sock_calls.specs.Sockets.{IsSocks};
 ghost use Rattle.sock_calls.specs.Delivery.{chains_at};
-ghost use Rattle.net_stack.specs.Inside.Arrivals.{HasCome, IsLaidOut, is_ours_or_all};
+ghost use Rattle.sock_calls.specs.Whole.{HasSpace};
+ghost use Rattle.net_stack.specs.Inside.Arrivals.{EndsFor, HasCome, IsAsked, IsLaidOut, is_ours_or_all};
 ghost use Rattle.net_stack.specs.Inside.Hosts.{KeepsOutput, arrival_view};
 
 use crate::arrive::{is_for_us, is_fragment};
@@ -19,14 +20,14 @@ use crate::host::Host;
 use chain_ops::theorems::stored_layout;
 use chain_ops::{from_wire, wire_need};
 use flat_model::{Counter, Why};
-use ip_out::{IpHead, parse_head};
+use ip_out::{Headed, IpHead, read_packet};
 use ip_reass::{Arrival, fits_at_once};
-use ledger::reserve;
+use ledger::{are_free, reserve};
 use mbuf_chain::{Chain, Pool};
-use params::IP_MAX_PACKET;
-use udp::read;
+use params::{IP_MAX_PACKET, MCLBYTES, MHLEN, MINCLSIZE};
+use sock_calls::{Space, Taken};
 
-/// Puts a packet into a chain of its own. Its buffers have to be free.
+/// Copies a packet into a new chain. Its buffers have to be free.
 fn put_packet(pool: &mut Pool, packet: &[u8]) -> Chain
     requires most { length packet.now ≤ IP_MAX_PACKET }
     requires free { Has pool.old (wire (length packet.now)) }
@@ -39,31 +40,164 @@ fn put_packet(pool: &mut Pool, packet: &[u8]) -> Chain
     }
 }
 
+/// The space for a packet of `len` bytes, if it takes one mbuf or cluster, this is free, and a second mbuf is free for the
+/// sender's address.
+#[inline(always)]
+fn one_space(pool: &Pool, len: u32) -> Option<Space>
+    ensures space { IfSome result (λ space. HasSpace pool.now len space) }
+    ensures free { IfSome result (λ space. Has pool.now (wire len)) }
+{
+    if len <= MHLEN {
+        if are_free(pool, 2, 0) {
+            return Some(Space::InMbuf);
+        }
+        return None;
+    }
+    if len >= MINCLSIZE && len <= MCLBYTES && are_free(pool, 2, 1) {
+        return Some(Space::InCluster);
+    }
+    None
+}
+
 impl Host {
-    /// Takes a packet from the wire that is one whole datagram for one socket, and answers whether it did: it's stored
-    /// once, in that socket's queue. Else nothing changes.
+    /// Tests whether the pool has the buffers for a packet of `len` bytes. If not, frees all unfinished datagrams and
+    /// tests again. `None`: there are still too few.
     #[inline(always)]
-    fn take_whole(&mut self, packet: &[u8]) -> bool
+    fn make_space(&mut self, len: u32) -> Option<Space>
+        requires reass { IsReady self.old.pool self.old.reass }
+        requires most { len ≤ IP_MAX_PACKET }
+        ensures asked { IsAsked self.old.pool self.old.reass self.old.net.counters (need_of (wire len))
+            (is_some result) self.new.pool self.new.reass self.new.net.counters }
+        ensures space { IfSome result (λ space. HasSpace self.new.pool len space) }
+        ensures free { IfSome result (λ space. Has self.new.pool (wire len)) }
+        ensures reass { IsReady self.new.pool self.new.reass }
+        ensures socks { self.new.socks ≡ self.old.socks }
+        ensures output { KeepsOutput self.old.net self.new.net }
+    {
+        if let Some(space) = one_space(&self.pool, len) {
+            return Some(space);
+        }
+        if self.ask(len) {
+            return Some(Space::InMore);
+        }
+        None
+    }
+
+    /// The same test for a packet of any length. Returns whether the buffers are free.
+    #[inline(never)]
+    fn ask(&mut self, len: u32) -> bool
+        requires reass { IsReady self.old.pool self.old.reass }
+        requires most { len ≤ IP_MAX_PACKET }
+        ensures asked { IsAsked self.old.pool self.old.reass self.old.net.counters (need_of (wire len)) result
+            self.new.pool self.new.reass self.new.net.counters }
+        ensures free { result ≡ true → Has self.new.pool (wire len) }
+        ensures reass { IsReady self.new.pool self.new.reass }
+        ensures socks { self.new.socks ≡ self.old.socks }
+        ensures output { KeepsOutput self.old.net self.new.net }
+    {
+        let need = wire_need(len);
+        reserve(
+            &mut self.pool,
+            &mut self.reass,
+            &mut self.net.counters,
+            need.mbufs,
+            need.clusters,
+        )
+    }
+
+    /// A packet of at most 65,535 bytes comes from the wire and arrives. If the pool has too few buffers for it, all
+    /// unfinished datagrams are freed, and if there are still too few, the packet is dropped and counted.
+    ///
+    /// The packet is read in place, and stored only once its receiver is known. A packet that is dropped takes no buffer.
+    pub(crate) fn come_in(&mut self, packet: &[u8])
         requires socks { IsSocks self.old.pool self.old.socks }
         requires reass { IsReady self.old.pool self.old.reass }
         requires owned { IsOwned self.old.pool (chains_at (arrival_view self.old)) }
-        ensures came { result ≡ true → HasCome (arrival_view self.old) packet.now (arrival_view self.new) }
-        ensures reass { result ≡ true → IsReady self.new.pool self.new.reass }
-        ensures output { result ≡ true → KeepsOutput self.old.net self.new.net }
-        ensures same { result ≡ false → self.new ≡ self.old }
+        requires most { length packet.now ≤ IP_MAX_PACKET }
+        ensures came { HasCome (arrival_view self.old) packet.now (arrival_view self.new) }
+        ensures reass { IsReady self.new.pool self.new.reass }
+        ensures output { KeepsOutput self.old.net self.new.net }
     {
-        let Some(checked) = read(packet) else {
-            return false;
+        let Some(space) = self.make_space(packet.len() as u32) else {
+            self.net.counters.count_ended(Why::NoBufs);
+            return;
         };
-        if !self.socks.take_whole(&mut self.pool, &checked) {
-            return false;
-        }
-        self.net.counters.count(Counter::IpTotal);
-        true
+        self.come_into(space, packet);
     }
 
-    /// A fragment for this machine comes from the wire, as a packet for which `fits_at_once` answered true, and is laid
-    /// at once. If it makes its datagram whole, that arrives.
+    /// A packet comes, and the pool has this space for it.
+    #[inline(always)]
+    fn come_into(&mut self, space: Space, packet: &[u8])
+        requires socks { IsSocks self.old.pool self.old.socks }
+        requires reass { IsReady self.old.pool self.old.reass }
+        requires owned { IsOwned self.old.pool (chains_at (arrival_view self.old)) }
+        requires most { length packet.now ≤ IP_MAX_PACKET }
+        requires space { HasSpace self.old.pool (length packet.now) space }
+        requires free { Has self.old.pool (wire (length packet.now)) }
+        ensures came { HasCome (arrival_view self.old) packet.now (arrival_view self.new) }
+        ensures reass { IsReady self.new.pool self.new.reass }
+        ensures output { KeepsOutput self.old.net self.new.net }
+    {
+        match read_packet(packet) {
+            Err(why) => self.end_packet(packet, why),
+            Ok(headed) => self.pass(space, packet, headed),
+        }
+    }
+
+    /// Drops a packet for this cause and counts it.
+    #[inline(always)]
+    fn end_packet(&mut self, packet: &[u8], why: Why)
+        requires socks { IsSocks self.old.pool self.old.socks }
+        requires reass { IsReady self.old.pool self.old.reass }
+        requires owned { IsOwned self.old.pool (chains_at (arrival_view self.old)) }
+        requires free { Has self.old.pool (wire (length packet.now)) }
+        requires ends { EndsFor (arrival_view self.old) packet.now why }
+        ensures came { HasCome (arrival_view self.old) packet.now (arrival_view self.new) }
+        ensures reass { IsReady self.new.pool self.new.reass }
+        ensures output { KeepsOutput self.old.net self.new.net }
+    {
+        let _packet = packet;
+        self.net.counters.count(Counter::IpTotal);
+        self.net.counters.count_ended(why);
+    }
+
+    /// A packet comes whose header has no fault: forwarding is refused, a fragment goes to the reassembly, and a whole
+    /// datagram to its socket.
+    #[inline(always)]
+    fn pass(&mut self, space: Space, packet: &[u8], headed: Headed<'_>)
+        requires socks { IsSocks self.old.pool self.old.socks }
+        requires reass { IsReady self.old.pool self.old.reass }
+        requires owned { IsOwned self.old.pool (chains_at (arrival_view self.old)) }
+        requires most { length packet.now ≤ IP_MAX_PACKET }
+        requires space { HasSpace self.old.pool (length packet.now) space }
+        requires free { Has self.old.pool (wire (length packet.now)) }
+        requires same { headed.packet.now ≡ packet.now }
+        ensures came { HasCome (arrival_view self.old) packet.now (arrival_view self.new) }
+        ensures reass { IsReady self.new.pool self.new.reass }
+        ensures output { KeepsOutput self.old.net self.new.net }
+    {
+        let head = headed.head();
+        if !is_for_us(&self.socks, head.dst) {
+            self.end_packet(packet, Why::CantForward);
+            return;
+        }
+        if is_fragment(&head) {
+            if fits_at_once(&self.pool, &head, packet) {
+                self.lay_fragment(packet, head);
+            } else {
+                self.come_by_chain(packet);
+            }
+            return;
+        }
+        match self.socks.take(&mut self.pool, space, headed) {
+            Taken::Stored => self.net.counters.count(Counter::IpTotal),
+            Taken::Ended(why) => self.end_packet(packet, why),
+            Taken::Left => self.come_by_chain(packet),
+        }
+    }
+
+    /// A fragment for this machine comes from the wire, and `fits_at_once` is true for it. It's stored without its header.
+    /// If it completes its datagram, that arrives.
     fn lay_fragment(&mut self, packet: &[u8], head: IpHead)
         requires socks { IsSocks self.old.pool self.old.socks }
         requires reass { IsReady self.old.pool self.old.reass }
@@ -95,75 +229,18 @@ impl Host {
         }
     }
 
-    /// Takes a packet from the wire that is a fragment for this machine and can be laid at once, and answers whether it
-    /// did. Else nothing changes.
-    #[inline(always)]
-    fn take_fragment_at_once(&mut self, packet: &[u8]) -> bool
-        requires socks { IsSocks self.old.pool self.old.socks }
-        requires reass { IsReady self.old.pool self.old.reass }
-        requires owned { IsOwned self.old.pool (chains_at (arrival_view self.old)) }
-        requires most { length packet.now ≤ IP_MAX_PACKET }
-        ensures came { result ≡ true → HasCome (arrival_view self.old) packet.now (arrival_view self.new) }
-        ensures reass { result ≡ true → IsReady self.new.pool self.new.reass }
-        ensures output { result ≡ true → KeepsOutput self.old.net self.new.net }
-        ensures same { result ≡ false → self.new ≡ self.old }
-    {
-        let Ok(head) = parse_head(packet) else {
-            return false;
-        };
-        if !is_fragment(&head) || !is_for_us(&self.socks, head.dst) {
-            return false;
-        }
-        if !fits_at_once(&self.pool, &head, packet) {
-            return false;
-        }
-        self.lay_fragment(packet, head);
-        true
-    }
-
-    /// A packet comes from the wire and arrives. Mostly it's one whole datagram for one socket, which is stored once;
-    /// any other goes by a chain of its own. At most 65,535 bytes.
-    pub(crate) fn come_in(&mut self, packet: &[u8])
-        requires socks { IsSocks self.old.pool self.old.socks }
-        requires reass { IsReady self.old.pool self.old.reass }
-        requires owned { IsOwned self.old.pool (chains_at (arrival_view self.old)) }
-        requires most { length packet.now ≤ IP_MAX_PACKET }
-        ensures came { HasCome (arrival_view self.old) packet.now (arrival_view self.new) }
-        ensures reass { IsReady self.new.pool self.new.reass }
-        ensures output { KeepsOutput self.old.net self.new.net }
-    {
-        if self.take_whole(packet) {
-            return;
-        }
-        if self.take_fragment_at_once(packet) {
-            return;
-        }
-        self.come_by_chain(packet);
-    }
-
-    /// A packet comes from the wire and arrives; if the pool has too few buffers for it, all unfinished datagrams are
-    /// given back, and if it has too few then, the packet is lost and counted. At most 65,535 bytes.
+    /// A packet of at most 65,535 bytes is copied into a new chain, and arrives. Its buffers have to be free.
     #[inline(never)]
     fn come_by_chain(&mut self, packet: &[u8])
         requires socks { IsSocks self.old.pool self.old.socks }
         requires reass { IsReady self.old.pool self.old.reass }
         requires owned { IsOwned self.old.pool (chains_at (arrival_view self.old)) }
         requires most { length packet.now ≤ IP_MAX_PACKET }
+        requires free { Has self.old.pool (wire (length packet.now)) }
         ensures came { HasCome (arrival_view self.old) packet.now (arrival_view self.new) }
         ensures reass { IsReady self.new.pool self.new.reass }
         ensures output { KeepsOutput self.old.net self.new.net }
     {
-        let need = wire_need(packet.len() as u32);
-        if !reserve(
-            &mut self.pool,
-            &mut self.reass,
-            &mut self.net.counters,
-            need.mbufs,
-            need.clusters,
-        ) {
-            self.net.counters.count_ended(Why::NoBufs);
-            return;
-        }
         let chain = put_packet(&mut self.pool, packet);
         self.arrive(chain);
     }

@@ -346,6 +346,25 @@ impl Pcbs {
         fault.is_none()
     }
 
+    /// The peer of the socket that has this block, if the peer is another machine, so that packets to it leave by the
+    /// link. `None`: take the general path; the result is the same.
+    #[inline(always)]
+    pub fn peer_by_link(&self, block: &Block) -> Option<Addr>
+        ensures peer { IfSome result (λ a. block.now.peer ≡ Some a) }
+        ensures other { IfSome result (λ a.
+            (a.ip ≢ self.now.addr) × (a.ip ≢ self.now.bcast) × (a.ip ≢ LOOPBACK)) }
+    {
+        match block.peer {
+            Some(peer) => {
+                if self.interface.is_ours(peer.ip) {
+                    return None;
+                }
+                Some(peer)
+            }
+            None => None,
+        }
+    }
+
     /// The address that an open socket's packets to an address come from: its local address if set, or else
     /// 127.0.0.1 for 127.0.0.1 and the machine's address for every other.
     pub fn source_for(&self, fd: u32, ip: u32) -> u32

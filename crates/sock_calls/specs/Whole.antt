@@ -1,28 +1,81 @@
--- A packet from the wire that is one whole datagram for one socket, stored at once in its queue (`ipintr`, `udp_input`
--- and `sbappendaddr` of volume 2, chapters 8, 23 and 16; to say it by what a pool shows is this project's own).
-use Rattle.std.specs.Prelude.{◌≡◌, ℕ, Bool, if◌then◌else◌, List}
-use Rattle.flat_model.specs.Amounts.Layout.{Room, Plain, Cluster}
-use Rattle.flat_model.specs.Amounts.Weight.{Weight, nothing}
-use Rattle.flat_model.specs.Machine.State.{State}
-use Rattle.flat_model.specs.Machine.Ledger.{exact_ledger}
-use Rattle.flat_model.specs.Machine.Arrival.{counts_packet}
-use Rattle.flat_model.specs.Machine.Step.{ComesIn}
-use Rattle.mbuf_chain.specs.Chain.{PoolView}
+-- A packet from the wire that carries a whole datagram: it's stored in the queue of the one socket that matches it, or
+-- dropped (`ipintr`, `udp_input` and `sbappendaddr` of volume 2, chapters 8, 23 and 16; stating it by what a pool shows
+-- is this project's own).
+use Rattle.std.specs.Prelude.{◌≡◌, ℕ, ◌+◌, ◌≤◌, Bool, true, false, if◌then◌else◌, List, [], ◌∷◌, length}
+use Rattle.params.specs.declared.TheConstants.{MCLBYTES, MHLEN}
+use Rattle.flat_model.specs.Amounts.Layout.{Room as LaidRoom, Plain, Cluster, laid_on, need_of, weight_of, wire}
+use Rattle.flat_model.specs.Amounts.Weight.{Item, Weight, nothing}
+use Rattle.flat_model.specs.Packets.Header.{head_of}
+use Rattle.flat_model.specs.Machine.State.{State, ends}
+use Rattle.flat_model.specs.Machine.Ledger.{AreTaken, exact_ledger}
+use Rattle.flat_model.specs.Machine.Arrival.{WholeArrives}
+use Rattle.flat_model.specs.declared.counters.Why.{Why}
+use Rattle.mbuf_chain.specs.Chain.{PoolView, free_clusters, held_mbufs}
 use Rattle.mbuf_chain.specs.Owners.{Moves}
+use Rattle.chain_ops.specs.Stored.{Has}
 use Rattle.ledger.specs.Accounts.{IsAccounted}
+use Rattle.ip_out.specs.Headed.{carried_of}
+use Rattle.sock_calls.specs.declared.taking.Space.{Space}
+use Rattle.sock_calls.specs.declared.taking.Space.TheVariants.{InMbuf, InCluster, InMore}
+use Rattle.sock_calls.specs.declared.taking.Taken.{Taken}
+use Rattle.sock_calls.specs.declared.taking.Taken.TheVariants.{Stored, Ended, Left}
 use Rattle.sock_calls.specs.Sockets.{SocksView, IsSocks, queued_chains, with_sockets}
 
--- n bytes in one mbuf, in a cluster or in its own room
-abbrev pub one_room : Bool → ℕ → Room
+-- ---- the buffers of a packet
+
+-- n bytes in one mbuf: in a cluster or in the mbuf itself
+abbrev pub one_room : Bool → ℕ → LaidRoom
 one_room is_large n = if is_large then Cluster n else Plain n
 
--- The packet came from the wire, and no chain but one of a receive queue is another. It's one step of the machine,
--- whatever else that holds, but for the counter of packets, which is the caller's; the pool accounts for what it holds.
-pub record ComesWhole (p : PoolView) (s : SocksView) (packet : List ℕ) (q : PoolView) (t : SocksView) : Type 0 where
+-- A packet of n bytes takes one mbuf, with or without a cluster. These are free, and so is a second mbuf.
+pub record HasOne (p : PoolView) (n : ℕ) (is_large : Bool) : Type 0 where
+  pub room : wire n ≡ one_room is_large n ∷ []
+  pub mbufs : held_mbufs p + 2 ≤ p.mbufs
+  pub clusters : (if is_large then 1 else 0) ≤ free_clusters p
+  pub fits : n ≤ (if is_large then MCLBYTES else MHLEN)
+
+-- the free space in the pool for a packet of n bytes
+abbrev pub HasSpace : PoolView → ℕ → Space → Type 0
+HasSpace p n InMbuf = HasOne p n false
+HasSpace p n InCluster = HasOne p n true
+HasSpace p n InMore = Has p (wire n)
+
+-- ---- what happens to it
+
+-- the bytes that a packet carries, in the mbufs of a packet from the wire
+abbrev pub carried_item : List ℕ → List ℕ → Item
+carried_item clusters packet = record {
+  bytes = carried_of packet;
+  weight = weight_of (laid_on clusters (wire (length packet)));
+}
+
+-- the bytes that a packet carries arrive as a whole datagram
+abbrev pub ArrivesWhole : List ℕ → Item → State → State → Type 0
+ArrivesWhole packet item old new =
+    WholeArrives exact_ledger nothing (head_of packet).source (head_of packet).destination (head_of packet).protocol item
+    old new
+
+-- The packet was put into the queue of the socket that matches it, and only chains of receive queues changed. That is one
+-- step of the machine, whatever else the machine holds, and the pool accounts for what the sockets hold.
+pub record StoresWhole (p : PoolView) (s : SocksView) (packet : List ℕ) (q : PoolView) (t : SocksView) : Type 0 where
   pub step : (rest : State) → IsAccounted p (with_sockets p s rest) nothing
-      → ComesIn exact_ledger packet (with_sockets p s rest) (with_sockets q t (counts_packet rest))
+      → (clusters : List ℕ)
+      × AreTaken exact_ledger (with_sockets p s rest) (need_of (wire (length packet))).clusters clusters
+      × ArrivesWhole packet (carried_item clusters packet) (with_sockets p s rest) (with_sockets q t rest)
   pub accounts : (rest : State) (held : Weight) → IsAccounted p (with_sockets p s rest) held
       → IsAccounted q (with_sockets q t rest) held
   pub ready : IsSocks q t
   pub pcbs : t.pcbs ≡ s.pcbs
   pub moves : Moves p (queued_chains p s.queues) q (queued_chains q t.queues)
+
+-- The packet is dropped for this cause, whatever buffers it would take.
+abbrev pub EndsWhole : PoolView → SocksView → List ℕ → Why → Type 0
+EndsWhole p s packet why =
+    (rest : State) (w : Weight) → ArrivesWhole packet (record { bytes = carried_of packet; weight = w })
+    (with_sockets p s rest) (ends why (with_sockets p s rest))
+
+-- the result of `take`; if the packet wasn't stored, nothing has changed
+abbrev pub TakesWhole : PoolView → SocksView → List ℕ → PoolView → SocksView → Taken → Type 0
+TakesWhole p s packet q t Stored = StoresWhole p s packet q t
+TakesWhole p s packet q t (Ended why) = (q ≡ p) × (t ≡ s) × EndsWhole p s packet why
+TakesWhole p s packet q t Left = (q ≡ p) × (t ≡ s)

@@ -9,21 +9,18 @@ ghost use Rattle.pcb_table.specs.Table.{IsDescriptor, IsOpen};
 ghost use Rattle.ledger.specs.Accounts.{item_at};
 ghost use Rattle.sockbuf.specs.SockBuf.{IsSockBuf, datagram_from};
 ghost use Rattle.sockbuf.specs.Stored.{IsTaken, stored_datagram};
-ghost use Rattle.flat_model.specs.Amounts.Layout.{wire};
 ghost use Rattle.sock_calls.specs.Sockets.{IsSocks, StepsAt, from_three, queue_at, queues_of, queued_chains};
 ghost use Rattle.sock_calls.specs.Delivery.{seen, IsAppended, IsOffered, IsDelivered};
 ghost use Rattle.sock_calls.specs.Inside.Parts.{socks_of};
-ghost use Rattle.sock_calls.specs.Whole.{ComesWhole, one_room};
 
 use crate::parts::Parts;
 use crate::queues::ReceiveQueues;
 use crate::sockets::place_of;
 use chain_ops::{Extent, m_copym};
 use flat_model::{Addr, Counters, Why};
-use ledger::{Waiting, are_free, reserve};
+use ledger::{Waiting, reserve};
 use mbuf_chain::{Chain, Pool};
-use params::{IP_UDP_HEADERS, MCLBYTES, MHLEN, MINCLSIZE, PACKET_START};
-use udp::{Checked, hearer};
+use params::{IP_UDP_HEADERS, MCLBYTES, MHLEN, PACKET_START};
 
 /// A datagram without its headers, and who sent it.
 pub(crate) struct Datagram {
@@ -33,7 +30,7 @@ pub(crate) struct Datagram {
 
 impl ReceiveQueues {
     /// Whether a datagram of `len` bytes fits into a descriptor's queue.
-    fn fits_at(&self, fd: u32, len: u32) -> bool
+    pub(crate) fn fits_at(&self, fd: u32, len: u32) -> bool
         requires { IsDescriptor fd }
         ensures { (p : PoolView) → ((k : ℕ) → IsSockBuf p (queue_at (from_three self.now) k))
             → result ≡ flat.fits (queues_of p (from_three self.now) fd) len }
@@ -63,7 +60,14 @@ impl ReceiveQueues {
     /// Stores bytes as a datagram of one mbuf at the end of a descriptor's queue, where they'd stand in a packet. They
     /// have to fit, and the buffers have to be free.
     #[inline(always)]
-    fn store_at(&mut self, pool: &mut Pool, fd: u32, sender: Addr, is_large: bool, bytes: &[u8])
+    pub(crate) fn store_at(
+        &mut self,
+        pool: &mut Pool,
+        fd: u32,
+        sender: Addr,
+        is_large: bool,
+        bytes: &[u8],
+    )
         requires each { (k : ℕ) → IsSockBuf pool.old (queue_at (from_three self.old) k) }
         requires descriptor { IsDescriptor fd }
         requires owned { IsOwned pool.old (queued_chains pool.old (from_three self.old)) }
@@ -85,21 +89,6 @@ impl ReceiveQueues {
     }
 }
 
-/// Whether a packet of `len` bytes takes one mbuf with a cluster; `None` where it takes more mbufs than one.
-#[inline(always)]
-fn one_room(len: u32) -> Option<bool>
-    ensures room { IfSome result (λ is_large. wire len ≡ one_room is_large len ∷ []) }
-    ensures fits { IfSome result (λ is_large. len ≤ (if is_large then MCLBYTES else MHLEN)) }
-{
-    if len <= MHLEN {
-        return Some(false);
-    }
-    if len < MINCLSIZE || len > MCLBYTES {
-        return None;
-    }
-    Some(true)
-}
-
 /// A copy of a chain, which shares its clusters. So many mbufs have to be free.
 fn copy_whole(pool: &mut Pool, chain: &Chain) -> Chain
     requires live { IsLive pool.old chain.now }
@@ -114,35 +103,6 @@ fn copy_whole(pool: &mut Pool, chain: &Chain) -> Chain
 }
 
 impl Parts {
-    /// Puts a packet that was read into the queue of the one socket that hears it, stored at once behind an mbuf with
-    /// its sender's address, and answers whether. Else nothing changes: the packet takes more mbufs than one, or
-    /// buffers are wanted, or nobody hears it, or it doesn't fit into the queue.
-    // Inlined, as `deliver` is.
-    #[inline(always)]
-    pub(crate) fn take_whole(&mut self, pool: &mut Pool, packet: &Checked<'_>) -> bool
-        requires { IsSocks pool.old (socks_of self.old) }
-        ensures came { result ≡ true → ComesWhole pool.old (socks_of self.old) packet.now.packet.now
-            pool.new (socks_of self.new) }
-        ensures same { result ≡ false → (pool.new ≡ pool.old) × (socks_of self.new ≡ socks_of self.old) }
-    {
-        let len = packet.packet.len() as u32;
-        let Some(is_large) = one_room(len) else {
-            return false;
-        };
-        if !are_free(pool, 2, u32::from(is_large)) {
-            return false;
-        }
-        let Some(fd) = hearer(&mut self.pcbs, packet) else {
-            return false;
-        };
-        let data = packet.data();
-        if !self.queues.fits_at(fd, data.len() as u32) {
-            return false;
-        }
-        self.queues.store_at(pool, fd, packet.from, is_large, data);
-        true
-    }
-
     /// Puts a datagram into the queue of an open socket, with an mbuf for the sender's address, if both fit; else it's
     /// freed and counted, as one at a full queue or as one that lacks buffers (volume 2, chapter 16).
     // Inlined, since most datagrams have one receiver.

@@ -51,9 +51,9 @@ fn broadcast_fault(to_all: bool, allowed: bool, mtu: u16, len: usize) -> Option<
     None
 }
 
-/// The address that is given, if a send of at most 9,216 bytes to it by the socket of a block goes by the link to
-/// another machine: `send_target` answers it then. `None` says nothing. A question of speed alone, in which no test
-/// comes twice.
+/// The address given, or else the peer's, if a send of at most 9,216 bytes to it by the socket of a block leaves by the
+/// link to another machine: then `send_target` returns the same address. `None`: take the general path; the result is
+/// the same. No test is made twice.
 #[inline(always)]
 pub(crate) fn link_target(pcbs: &Pcbs, block: &Block, to: Option<Addr>) -> Option<Addr>
     requires { block_at block.now.fd pcbs.now ≡ Some block.now }
@@ -63,7 +63,7 @@ pub(crate) fn link_target(pcbs: &Pcbs, block: &Block, to: Option<Addr>) -> Optio
         (a.ip ≢ pcbs.now.addr) × (a.ip ≢ pcbs.now.bcast) × (a.ip ≢ LOOPBACK)) }
 {
     let Some(address) = to else {
-        return None;
+        return pcbs.peer_by_link(block);
     };
     if !pcbs.goes_by_link(block, address) {
         return None;

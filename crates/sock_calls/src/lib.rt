@@ -17,7 +17,9 @@ mod queues;
 mod receive;
 mod send;
 mod sockets;
+mod taking;
 
 pub use net::Net;
 pub use questions::{NextDatagram, SocketName};
 pub use sockets::Socks;
+pub use taking::{Space, Taken};

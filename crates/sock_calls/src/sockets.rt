@@ -10,7 +10,7 @@ ghost use Rattle.mbuf_chain.specs.Owners.{IsOwned, Moves};
 ghost use Rattle.pcb_table.specs.Table.{IsDescriptor};
 ghost use Rattle.sockbuf.specs.SockBuf.{chains_of};
 ghost use Rattle.sock_calls.specs.Delivery.{seen, IsInput};
-ghost use Rattle.sock_calls.specs.Whole.{ComesWhole};
+ghost use Rattle.sock_calls.specs.Whole.{HasSpace, TakesWhole};
 ghost use Rattle.sock_calls.specs.Outgoing.{sending, CanSend, IsSent};
 ghost use Rattle.sock_calls.specs.Questions.{bytes_queued_at, memory_queued_at, next_datagram, readable, socket_name};
 ghost use Rattle.sock_calls.specs.Sockets.{AreEmpty, IsSocks, IsCalled, queue_at, queued_chains, with_sockets};
@@ -24,16 +24,17 @@ use crate::questions::{
 };
 use crate::queues::ReceiveQueues;
 use crate::receive::refusal;
+use crate::taking::{Space, Taken};
 use arrayvec::ArrayVec;
 use flat_model::{Addr, Counters, Errno, Opt};
-use ip_out::IpHead;
+use ip_out::{Headed, IpHead};
 use ledger::Waiting;
 use mbuf_chain::{Chain, MbufHeads, Pool};
 use params::{FIRST_DESCRIPTOR, IP_MAX_PACKET, MAX_SOCKETS};
 use pcb_table::{Pcbs, SOCKETS};
 use std::alloc::{AllocError, Global};
 use std::marker::Model;
-use udp::{Checked, Outcome};
+use udp::Outcome;
 
 /// The place of a descriptor's queue.
 pub(crate) fn place_of(fd: u32) -> usize
@@ -303,15 +304,17 @@ impl Socks {
         Ok(())
     }
 
-    /// A packet from the wire that was read: it's stored and put into the queue of the one socket that hears it, and
-    /// the answer is whether. Else nothing changes, and the packet has to come by `input`.
+    /// A packet from the wire that carries a whole datagram, and for which the pool has this space. If it takes one mbuf
+    /// and one socket matches it, it's stored in that socket's queue (`Stored`). A packet that has a fault, that no
+    /// socket matches or that doesn't fit into the queue is dropped (`Ended`). Broadcasts and packets that take several
+    /// mbufs are left to `input` (`Left`). Only `Stored` changes anything.
     #[inline(always)]
-    pub fn take_whole(&mut self, pool: &mut Pool, packet: &Checked<'_>) -> bool
-        requires { IsSocks pool.old self.old }
-        ensures came { result ≡ true → ComesWhole pool.old self.old packet.now.packet.now pool.new self.new }
-        ensures same { result ≡ false → (pool.new ≡ pool.old) × (self.new ≡ self.old) }
+    pub fn take(&mut self, pool: &mut Pool, space: Space, packet: Headed<'_>) -> Taken
+        requires socks { IsSocks pool.old self.old }
+        requires space { HasSpace pool.old (length packet.packet.now) space }
+        ensures { TakesWhole pool.old self.old packet.entry.packet.now pool.new self.new result }
     {
-        self.parts.take_whole(pool, packet)
+        self.parts.take(pool, space, packet)
     }
 
     /// A whole datagram without its IP header, which said `head`: it's put into the queues of all sockets that hear it,

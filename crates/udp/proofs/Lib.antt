@@ -1,6 +1,6 @@
 pub mod Laws
 mod Hearing
-mod Reading
 mod Cutting
 mod Summing
 mod Building
+mod Reading

@@ -6,6 +6,7 @@ ghost use Rattle.mbuf_chain.specs.Chain.{IsLive, chain_of, string, with_chain, w
 ghost use Rattle.mbuf_chain.specs.Owners.{Moves};
 ghost use Rattle.pcb_table.specs.Table.{packet_key};
 ghost use Rattle.udp.specs.Datagrams.{AreHearers, IsUdpInput, outcome_chains, without_header};
+ghost use Rattle.udp.specs.Checked.{is_to_all};
 ghost use Rattle.udp.specs.Inside.{broadcasts, header_in, unheard};
 
 use crate::header::{Header, read_header};
@@ -54,8 +55,9 @@ fn examine(pool: &Pool, chain: &Chain, src: u32, dst: u32) -> Result<Header, Why
 }
 
 /// Whether the address is one of the two broadcast addresses.
-pub(crate) fn is_broadcast(pcbs: &Pcbs, ip: u32) -> bool
-    ensures { result ≡ broadcasts pcbs.now ip }
+#[inline(always)]
+pub fn is_broadcast(pcbs: &Pcbs, ip: u32) -> bool
+    ensures { result ≡ is_to_all pcbs.now ip }
 {
     ip == pcbs.bcast() || ip == LIMITED_BROADCAST
 }

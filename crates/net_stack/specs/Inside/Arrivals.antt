@@ -2,20 +2,25 @@
 -- is this project's own).
 use Rattle.std.specs.Prelude.{◌≡◌, ℕ, List, [], ◌∷◌, length, count_by, Bool, true, false, ◌==◌, ◌||◌}
 use Rattle.flat_model.specs.Amounts.Weight.{Weight, ◌⊕◌, nothing}
-use Rattle.flat_model.specs.Machine.State.{State, limited_broadcast, loopback}
+use Rattle.flat_model.specs.Machine.State.{State, ends, limited_broadcast, loopback}
 use Rattle.flat_model.specs.Machine.Ledger.{exact_ledger}
-use Rattle.flat_model.specs.Machine.Arrival.{Origin, FragmentArrives, Arrives, AllArrive}
-use Rattle.flat_model.specs.Amounts.Layout.{is_cluster, laid_on, wire}
+use Rattle.flat_model.specs.Machine.Arrival.{Origin, By_wire, FragmentArrives, Arrives, AllArrive, counts_packet}
+use Rattle.flat_model.specs.declared.counters.Counters.{Counters}
+use Rattle.flat_model.specs.declared.counters.Why.{Why}
+use Rattle.flat_model.specs.Amounts.Layout.{Need, is_cluster, laid_on, wire}
 use Rattle.flat_model.specs.Machine.Step.{ComesIn}
 use Rattle.mbuf_chain.specs.Chain.{PoolView, alone, chain_of, string}
 use Rattle.chain_ops.specs.Makes.{Makes}
 use Rattle.chain_ops.specs.Stored.{AreFree, stored_first}
 use Rattle.chain_ops.specs.Weights.{laid_entries}
+use Rattle.mbuf_chain.specs.Owners.{Moves}
 use Rattle.mbuf_chain.specs.Train.{TrainView, numbers}
-use Rattle.ledger.specs.Accounts.{item_at, weight_at, weight_owned}
+use Rattle.ledger.specs.Accounts.{IsAccounted, item_at, weight_at, weight_owned}
+use Rattle.ledger.specs.Reserve.{Reserves}
 use Rattle.ip_out.specs.Packets.{train_packets}
 use Rattle.ip_out.specs.declared.head.IpHead.{IpHead}
 use Rattle.ip_reass.specs.Arrivals.{CameBy, carried_at, flat_head}
+use Rattle.ip_reass.specs.Table.{TableView, held_all, unfinished}
 use Rattle.sock_calls.specs.Delivery.{NetView, IsAccountedAt, KeepsParts, state_at}
 
 -- an address that a machine with these two addresses hears
@@ -67,3 +72,17 @@ pub record HasCome (v : NetView) (packet : List ℕ) (u : NetView) : Type 0 wher
   pub step : (rest : State) → IsAccountedAt v rest nothing
       → ComesIn exact_ledger packet (state_at v rest) (state_at u rest)
   pub parts : KeepsParts v [] u []
+
+-- the pool was tested for a packet's buffers, and if they weren't free, the unfinished datagrams were freed
+pub record IsAsked (p : PoolView) (r : TableView) (a : Counters) (need : Need) (answer : Bool) (q : PoolView)
+    (t : TableView) (b : Counters) : Type 0 where
+  pub reserves : (s : State) (held : Weight) → s.unfinished ≡ unfinished p r.datagrams → s.counters ≡ a
+      → IsAccounted p s held
+      → Reserves s held need answer (record s { unfinished = unfinished q t.datagrams; counters = b }) q
+  pub moves : Moves p (held_all p r.datagrams) q (held_all q t.datagrams)
+
+-- a packet whose buffers are free is dropped for this cause, whichever buffers these are
+abbrev pub EndsFor : NetView → List ℕ → Why → Type 0
+EndsFor v packet why =
+    (rest : State) (w : Weight) → Arrives exact_ledger (By_wire (length packet)) nothing
+    (record { bytes = packet; weight = w }) (state_at v rest) (ends why (counts_packet (state_at v rest)))
