@@ -24,7 +24,7 @@ use clap::{Arg, ArgAction, ArgMatches, Command};
 use form::form_of;
 use grade::grade;
 use hand_in::unmarked;
-use help::LINES;
+use help::lines;
 use hosts::{play_captured, play_uncaptured, status_of};
 use one::play_one;
 use options::{OPTIONS, with_options};
@@ -47,11 +47,11 @@ const LACKS: u8 = 1;
 const UNREAD: u8 = 4;
 
 /// The command line.
-fn command<'a>(alloc: Global) -> Result<Command<'a>, AllocError> {
+fn command<'a>(alloc: Global, lines: &'a str) -> Result<Command<'a>, AllocError> {
     let command = Command::new(alloc, "bsdplay")
         .version("0.3.0")
         .about("Plays scripts of socket calls, packets and ticks, and says what came of each line")
-        .after_help(LINES)
+        .after_help(lines)
         .arg(
             Arg::new(alloc, "quiet")
                 .short('q')
@@ -310,7 +310,8 @@ fn serve(rt: &HostRuntime) -> io::Result<u8> {
         eprintln!(rt; "bsdplay: the command line can't be read")?;
         return Ok(USAGE);
     };
-    match command(rt.alloc())?.try_get_matches_from(words.as_slice()) {
+    let lines = lines(rt.alloc())?;
+    match command(rt.alloc(), lines.as_str())?.try_get_matches_from(words.as_slice()) {
         Ok(found) => match found.subcommand() {
             Some((_, chosen)) => print_why(rt, chosen),
             None => serve_found(rt, &found),

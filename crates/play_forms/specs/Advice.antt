@@ -1,9 +1,9 @@
 -- What a line that asks for nothing could have been (this project's own).
-use Rattle.std.specs.Prelude.{◌≡◌, ◌⊎◌, ℕ, Bool, true, false, List, [], ◌∷◌, ◌++◌, length, take, codes, bytes_eq, nat_le, if◌then◌else◌, Option, Some, None}
+use Rattle.std.specs.Prelude.{◌≡◌, ◌⊎◌, ℕ, Bool, true, false, List, [], ◌∷◌, codes, bytes_eq, if◌then◌else◌, Option, Some, None}
 use Rattle.std.specs.List.{find}
 use Rattle.flat_model.specs.Scripts.Grammar.{words}
 use Rattle.play_forms.specs.Near.{has_name, nearest}
-use Rattle.play_forms.specs.Table.{Takes, arguments_of, form_of, host_commands, hosted_commands, label_of, name_of, wire_commands}
+use Rattle.play_forms.specs.Table.{Takes, arguments_of, host_commands, hosted_commands, wire_commands}
 use Rattle.play_forms.specs.declared.advice.Player.{Player}
 use Rattle.play_forms.specs.declared.advice.Player.TheVariants.{Machine, Host, Wire}
 use Rattle.play_forms.specs.declared.argument.Argument.{Argument}
@@ -83,55 +83,3 @@ AdvisesWords player ((byte ∷ bytes) ∷ rest) advice =
 -- what is wrong with a plain line, which has one space between each two words
 abbrev pub Advises : Player → List ℕ → Advice → Type 0
 Advises player plain advice = AdvisesWords player (words plain) advice
-
--- ---- in words
-
-abbrev pub quoted : List ℕ → List ℕ
-quoted text = codes "`" ++ text ++ codes "`"
-
--- a word, of which 32 bytes are printed at most
-abbrev pub cut : List ℕ → List ℕ
-cut word = if nat_le (length word) 32 then word else take 32 word ++ codes ".."
-
--- the command that was meant
-abbrev pub meant_text : Command → List ℕ
-meant_text near = codes " (`" ++ name_of near ++ codes "`?)"
-
-abbrev pub near_text : Option Command → List ℕ
-near_text None = []
-near_text (Some near) = meant_text near
-
--- how the lines of a command are written
-abbrev pub formed : Command → List ℕ
-formed asked = codes ": `" ++ form_of asked ++ codes "`"
-
-abbrev pub wrong_text : List ℕ → Argument → Command → List ℕ
-wrong_text word wanted asked = quoted (cut word) ++ codes " is no " ++ label_of wanted ++ formed asked
-
-abbrev pub host_text : Command → List ℕ
-host_text asked = quoted (cut (name_of asked)) ++ codes " is asked of a host: `NAME: " ++ form_of asked ++ codes "`"
-
-abbrev pub missing_text : Argument → Command → List ℕ
-missing_text wanted asked = label_of wanted ++ codes " is missing: `" ++ form_of asked ++ codes "`"
-
-abbrev pub too_many_text : Command → List ℕ
-too_many_text asked = codes " is one word too many: `" ++ form_of asked ++ codes "`"
-
-abbrev pub more_text : List ℕ → Command → List ℕ
-more_text word asked = quoted (cut word) ++ too_many_text asked
-
-abbrev pub otherwise_text : Command → List ℕ
-otherwise_text asked = codes "it's written otherwise: `" ++ form_of asked ++ codes "`"
-
-abbrev pub advice_text : Advice → List ℕ
-advice_text Empty = codes "no command stands in front of `=>`"
-advice_text (Unknown word near) = quoted (cut word) ++ codes " is no command" ++ near_text near
-advice_text (OfHost asked) = host_text asked
-advice_text (Wrong word wanted asked) = wrong_text word wanted asked
-advice_text (Missing wanted asked) = missing_text wanted asked
-advice_text (More word asked) = more_text word asked
-advice_text (Otherwise asked) = otherwise_text asked
-
--- what is said of a plain line that asks for nothing
-abbrev pub IsAdvised : Player → List ℕ → List ℕ → Type 0
-IsAdvised player plain text = (advice : Advice) × Advises player plain advice × (text ≡ advice_text advice)

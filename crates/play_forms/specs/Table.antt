@@ -7,115 +7,58 @@ use Rattle.play_forms.specs.declared.argument.Argument.TheVariants as argument
 use Rattle.play_forms.specs.declared.command.Command.{Command}
 use Rattle.play_forms.specs.declared.command.Command.TheVariants as command
 
+-- the word that a line begins with, and the words after it, one by one; `None` if they aren't looked at one by one
+pub record Line : Type 0 where
+  pub name : List ℕ
+  pub arguments : Option (List Argument)
+
+abbrev row : List ℕ → List Argument → Line
+row name arguments = record { name = name; arguments = Some arguments }
+
+abbrev own : List ℕ → Line
+own name = record { name = name; arguments = None }
+
+abbrev pub line_of : Command → Line
+line_of command.Socket = row (codes "socket") []
+line_of command.Bind = row (codes "bind") (argument.Fd ∷ argument.Addr ∷ argument.Port ∷ [])
+line_of command.Connect = row (codes "connect") (argument.Fd ∷ argument.Addr ∷ argument.Port ∷ [])
+line_of command.SendTo = row (codes "sendto") (argument.Fd ∷ argument.Addr ∷ argument.Port ∷ argument.Bytes ∷ [])
+line_of command.Send = row (codes "send") (argument.Fd ∷ argument.Bytes ∷ [])
+line_of command.RecvFrom = row (codes "recvfrom") (argument.Fd ∷ argument.Len ∷ [])
+line_of command.Close = row (codes "close") (argument.Fd ∷ [])
+line_of command.SetSockOpt = row (codes "setsockopt") (argument.Fd ∷ argument.Option ∷ argument.Switch ∷ [])
+line_of command.Rx = row (codes "rx") (argument.Bytes ∷ [])
+line_of command.RxPcap = own (codes "rx")
+line_of command.RxUdp = own (codes "rx")
+line_of command.RxRaw = own (codes "rx")
+line_of command.Tx = row (codes "tx") []
+line_of command.Tick = row (codes "tick") (argument.Count ∷ [])
+line_of command.Stat = row (codes "stat") []
+line_of command.MbStat = row (codes "mbstat") []
+line_of command.Show = row (codes "show") (argument.Topic ∷ [])
+line_of command.Frame = row (codes "frame") (argument.Bytes ∷ [])
+line_of command.LastError = row (codes "error") (argument.Fd ∷ [])
+line_of command.ShowOfHost = row (codes "show") (argument.HostTopic ∷ [])
+line_of command.Host = own (codes "host")
+line_of command.Wire = own (codes "wire")
+line_of command.Carry = own (codes "carry")
+line_of command.Collect = own (codes "collect")
+line_of command.Deliver = own (codes "deliver")
+line_of command.Loss = own (codes "loss")
+line_of command.Repeat = own (codes "repeat")
+line_of command.Reorder = own (codes "reorder")
+line_of command.Delay = own (codes "delay")
+line_of command.Seed = own (codes "seed")
+line_of command.Drop = own (codes "drop")
+line_of command.Swap = own (codes "swap")
+line_of command.ShowWire = own (codes "show")
+line_of command.Summary = own (codes "summary")
+
 abbrev pub name_of : Command → List ℕ
-name_of command.Socket = codes "socket"
-name_of command.Bind = codes "bind"
-name_of command.Connect = codes "connect"
-name_of command.SendTo = codes "sendto"
-name_of command.Send = codes "send"
-name_of command.RecvFrom = codes "recvfrom"
-name_of command.Close = codes "close"
-name_of command.SetSockOpt = codes "setsockopt"
-name_of command.Rx = codes "rx"
-name_of command.RxPcap = codes "rx"
-name_of command.RxUdp = codes "rx"
-name_of command.RxRaw = codes "rx"
-name_of command.Tx = codes "tx"
-name_of command.Tick = codes "tick"
-name_of command.Stat = codes "stat"
-name_of command.MbStat = codes "mbstat"
-name_of command.Show = codes "show"
-name_of command.Frame = codes "frame"
-name_of command.LastError = codes "error"
-name_of command.ShowOfHost = codes "show"
-name_of command.Host = codes "host"
-name_of command.Wire = codes "wire"
-name_of command.Carry = codes "carry"
-name_of command.Collect = codes "collect"
-name_of command.Deliver = codes "deliver"
-name_of command.Loss = codes "loss"
-name_of command.Repeat = codes "repeat"
-name_of command.Reorder = codes "reorder"
-name_of command.Delay = codes "delay"
-name_of command.Seed = codes "seed"
-name_of command.Drop = codes "drop"
-name_of command.Swap = codes "swap"
-name_of command.ShowWire = codes "show"
-name_of command.Summary = codes "summary"
+name_of asked = (line_of asked).name
 
--- how a line is written: words in small letters stand as they are, and what stands in brackets may be left out
-abbrev pub form_of : Command → List ℕ
-form_of command.Socket = codes "socket"
-form_of command.Bind = codes "bind FD ADDR PORT"
-form_of command.Connect = codes "connect FD ADDR PORT"
-form_of command.SendTo = codes "sendto FD ADDR PORT BYTES"
-form_of command.Send = codes "send FD BYTES"
-form_of command.RecvFrom = codes "recvfrom FD LEN"
-form_of command.Close = codes "close FD"
-form_of command.SetSockOpt = codes "setsockopt FD OPT ON"
-form_of command.Rx = codes "rx BYTES"
-form_of command.RxPcap = codes "rx pcap FILE [N-M] [ticks]"
-form_of command.RxUdp = codes "rx udp ADDR:PORT > ADDR:PORT BYTES [FIELDS]"
-form_of command.RxRaw = codes "rx raw ADDR > ADDR BYTES [FIELDS]"
-form_of command.Tx = codes "tx"
-form_of command.Tick = codes "tick [N]"
-form_of command.Stat = codes "stat"
-form_of command.MbStat = codes "mbstat"
-form_of command.Show = codes "show WHAT"
-form_of command.Frame = codes "frame BYTES"
-form_of command.LastError = codes "error FD"
-form_of command.ShowOfHost = codes "show WHAT"
-form_of command.Host = codes "host NAME [ether LINK ..] [--SETTING VALUE ..]"
-form_of command.Wire = codes "wire NAME .."
-form_of command.Carry = codes "carry [all] [N]"
-form_of command.Collect = codes "collect"
-form_of command.Deliver = codes "deliver"
-form_of command.Loss = codes "loss CHANCE [from NAME]"
-form_of command.Repeat = codes "repeat PLACE or repeat CHANCE [from NAME]"
-form_of command.Reorder = codes "reorder CHANCE [from NAME]"
-form_of command.Delay = codes "delay A-B [from NAME]"
-form_of command.Seed = codes "seed N"
-form_of command.Drop = codes "drop PLACE"
-form_of command.Swap = codes "swap PLACE PLACE"
-form_of command.ShowWire = codes "show wire"
-form_of command.Summary = codes "summary"
-
--- The words after the first one, one by one. `None` if they aren't looked at one by one.
 abbrev pub arguments_of : Command → Option (List Argument)
-arguments_of command.Socket = Some []
-arguments_of command.Bind = Some (argument.Fd ∷ argument.Addr ∷ argument.Port ∷ [])
-arguments_of command.Connect = Some (argument.Fd ∷ argument.Addr ∷ argument.Port ∷ [])
-arguments_of command.SendTo = Some (argument.Fd ∷ argument.Addr ∷ argument.Port ∷ argument.Bytes ∷ [])
-arguments_of command.Send = Some (argument.Fd ∷ argument.Bytes ∷ [])
-arguments_of command.RecvFrom = Some (argument.Fd ∷ argument.Len ∷ [])
-arguments_of command.Close = Some (argument.Fd ∷ [])
-arguments_of command.SetSockOpt = Some (argument.Fd ∷ argument.Option ∷ argument.Switch ∷ [])
-arguments_of command.Rx = Some (argument.Bytes ∷ [])
-arguments_of command.RxPcap = None
-arguments_of command.RxUdp = None
-arguments_of command.RxRaw = None
-arguments_of command.Tx = Some []
-arguments_of command.Tick = Some (argument.Count ∷ [])
-arguments_of command.Stat = Some []
-arguments_of command.MbStat = Some []
-arguments_of command.Show = Some (argument.Topic ∷ [])
-arguments_of command.Frame = Some (argument.Bytes ∷ [])
-arguments_of command.LastError = Some (argument.Fd ∷ [])
-arguments_of command.ShowOfHost = Some (argument.HostTopic ∷ [])
-arguments_of command.Host = None
-arguments_of command.Wire = None
-arguments_of command.Carry = None
-arguments_of command.Collect = None
-arguments_of command.Deliver = None
-arguments_of command.Loss = None
-arguments_of command.Repeat = None
-arguments_of command.Reorder = None
-arguments_of command.Delay = None
-arguments_of command.Seed = None
-arguments_of command.Drop = None
-arguments_of command.Swap = None
-arguments_of command.ShowWire = None
-arguments_of command.Summary = None
+arguments_of asked = (line_of asked).arguments
 
 -- what a machine is asked
 abbrev pub host_commands : List Command
@@ -178,19 +121,6 @@ wire_commands =
     ∷ []
 
 -- ---- arguments
-
--- what an argument may be, after its name in forms
-abbrev pub label_of : Argument → List ℕ
-label_of argument.Fd = codes "FD (0 to 4294967295)"
-label_of argument.Addr = codes "ADDR (as 10.0.0.2)"
-label_of argument.Port = codes "PORT (0 to 65535)"
-label_of argument.Len = codes "LEN (1 to 65535)"
-label_of argument.Count = codes "N (1 to 65535)"
-label_of argument.Option = codes "OPT (broadcast or reuseport)"
-label_of argument.Switch = codes "ON (1 or 0)"
-label_of argument.Bytes = codes "BYTES (digits, \"text\" or @N)"
-label_of argument.Topic = codes "WHAT (sockets, unfinished, queue, counters or pool)"
-label_of argument.HostTopic = codes "WHAT (sockets, unfinished, queue, counters, pool, neighbours, link)"
 
 abbrev pub is_topic : List ℕ → Bool
 is_topic word =

@@ -27,7 +27,7 @@ pub enum Player {
 
 /// What is wrong with a line.
 #[derive(Clone, Copy)]
-pub(crate) enum Advice<'l> {
+pub enum Advice<'l> {
     /// It has no word.
     Empty,
     /// Its first word is no command. The one that it's near to.
@@ -70,38 +70,9 @@ fn advice_by<'l>(asked: Command, wanted: &[Argument], rest: Option<&'l [u8]>) ->
 fn advice_after<'l>(asked: Command, rest: Option<&'l [u8]>) -> Advice<'l>
     ensures { AdvisesArguments asked (arguments_of asked) (left rest.entry) (advice_of result) }
 {
-    match asked {
-        Command::Socket | Command::Tx | Command::Stat | Command::MbStat => {
-            advice_by(asked, &[], rest)
-        }
-        Command::Bind | Command::Connect => {
-            advice_by(asked, &[Argument::Fd, Argument::Addr, Argument::Port], rest)
-        }
-        Command::SendTo => advice_by(
-            asked,
-            &[
-                Argument::Fd,
-                Argument::Addr,
-                Argument::Port,
-                Argument::Bytes,
-            ],
-            rest,
-        ),
-        Command::Send => advice_by(asked, &[Argument::Fd, Argument::Bytes], rest),
-        Command::RecvFrom => advice_by(asked, &[Argument::Fd, Argument::Len], rest),
-        Command::Close | Command::LastError => advice_by(asked, &[Argument::Fd], rest),
-        Command::SetSockOpt => {
-            advice_by(
-                asked,
-                &[Argument::Fd, Argument::Option, Argument::Switch],
-                rest,
-            )
-        }
-        Command::Rx | Command::Frame => advice_by(asked, &[Argument::Bytes], rest),
-        Command::Tick => advice_by(asked, &[Argument::Count], rest),
-        Command::Show => advice_by(asked, &[Argument::Topic], rest),
-        Command::ShowOfHost => advice_by(asked, &[Argument::HostTopic], rest),
-        _ => Advice::Otherwise(asked),
+    match asked.row().arguments {
+        Some(wanted) => advice_by(asked, wanted, rest),
+        None => Advice::Otherwise(asked),
     }
 }
 
@@ -158,7 +129,7 @@ fn unknown<'l>(player: Player, word: &'l [u8]) -> Advice<'l>
 }
 
 /// The command of the player that has this name.
-fn command_of(player: Player, word: &[u8]) -> Option<Command>
+pub fn command_of(player: Player, word: &[u8]) -> Option<Command>
     ensures { result ≡ find (near.has_name word.now) (advice.commands_of player) }
 {
     match player {
@@ -168,8 +139,9 @@ fn command_of(player: Player, word: &[u8]) -> Option<Command>
     }
 }
 
-/// What is wrong with a plain line, which has one space between each two words.
-pub(crate) fn advice_on<'l>(player: Player, plain: &'l [u8]) -> Advice<'l>
+/// What is wrong with a plain line that asks the player for nothing, which has one space between each two words: the
+/// word that is wrong, and the command that was meant.
+pub fn advice_on<'l>(player: Player, plain: &'l [u8]) -> Advice<'l>
     ensures { Advises player plain.now (advice_of result) }
 {
     let (word, rest) = first_word(plain);

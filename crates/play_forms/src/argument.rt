@@ -1,6 +1,6 @@
 //! The words after a command.
-ghost use Rattle.std.specs.Prelude.{◌≡◌, ◌≤◌, length, MatchBool};
-ghost use Rattle.play_forms.specs.Table.{IsCount, Takes, is_host_topic, is_topic, label_of};
+ghost use Rattle.std.specs.Prelude.{◌≡◌, MatchBool};
+ghost use Rattle.play_forms.specs.Table.{IsCount, Takes, is_host_topic, is_topic};
 ghost use Rattle.play_forms.specs.declared.argument.Argument.TheVariants as argument;
 
 use request::address_of;
@@ -77,10 +77,7 @@ fn is_switch(word: &[u8]) -> bool
 
 impl Argument {
     /// Its name in forms, and in brackets what it may be.
-    pub(crate) fn label(self) -> &'static str
-        ensures is { result.now ≡ label_of self }
-        ensures short { length result.now ≤ 67 }
-    {
+    pub(crate) fn label(self) -> &'static str {
         match self {
             Argument::Fd => "FD (0 to 4294967295)",
             Argument::Addr => "ADDR (as 10.0.0.2)",

@@ -1,7 +1,12 @@
-//! The commands, and how their lines are written.
-ghost use Rattle.std.specs.Prelude.{◌≡◌, ◌≤◌, length};
+//! The commands, and the one table of their lines.
+ghost use Rattle.std.specs.Prelude.{◌≡◌, None, Some, option_map};
 ghost use Rattle.play_forms.specs.Table as table;
-ghost use Rattle.play_forms.specs.Table.{form_of, name_of};
+ghost use Rattle.play_forms.specs.Table.{arguments_of, name_of};
+
+use crate::argument::Argument;
+use crate::argument::Argument::{
+    Addr, Bytes, Count, Fd, HostTopic, Len, Option as Opt, Port, Switch, Topic,
+};
 
 /// What a line begins with.
 #[derive(Clone, Copy)]
@@ -42,90 +47,90 @@ pub enum Command {
     Summary,
 }
 
-impl Command {
-    /// The word that its lines begin with.
-    pub fn name(self) -> &'static str
-        ensures is { result.now ≡ name_of self }
-        ensures short { length result.now ≤ 16 }
-    {
-        match self {
-            Command::Socket => "socket",
-            Command::Bind => "bind",
-            Command::Connect => "connect",
-            Command::SendTo => "sendto",
-            Command::Send => "send",
-            Command::RecvFrom => "recvfrom",
-            Command::Close => "close",
-            Command::SetSockOpt => "setsockopt",
-            Command::Rx => "rx",
-            Command::RxPcap => "rx",
-            Command::RxUdp => "rx",
-            Command::RxRaw => "rx",
-            Command::Tx => "tx",
-            Command::Tick => "tick",
-            Command::Stat => "stat",
-            Command::MbStat => "mbstat",
-            Command::Show => "show",
-            Command::Frame => "frame",
-            Command::LastError => "error",
-            Command::ShowOfHost => "show",
-            Command::Host => "host",
-            Command::Wire => "wire",
-            Command::Carry => "carry",
-            Command::Collect => "collect",
-            Command::Deliver => "deliver",
-            Command::Loss => "loss",
-            Command::Repeat => "repeat",
-            Command::Reorder => "reorder",
-            Command::Delay => "delay",
-            Command::Seed => "seed",
-            Command::Drop => "drop",
-            Command::Swap => "swap",
-            Command::ShowWire => "show",
-            Command::Summary => "summary",
-        }
-    }
+/// A row of the table of all lines.
+#[derive(Clone, Copy)]
+pub struct Row {
+    /// The word that a line begins with.
+    pub name: &'static str,
+    /// How it's written: words in small letters stand as they are, and what stands in brackets may be left out.
+    pub form: &'static str,
+    /// What its other words are, one by one. `None` if they aren't looked at one by one.
+    pub(crate) arguments: Option<&'static [Argument]>,
+}
 
-    /// How its lines are written.
-    pub fn form(self) -> &'static str
-        ensures is { result.now ≡ form_of self }
-        ensures short { length result.now ≤ 46 }
+/// A line whose words are looked at one by one.
+fn by_words(name: &'static str, form: &'static str, arguments: &'static [Argument]) -> Row
+    ensures name { result.name.now ≡ name.now }
+    ensures arguments { option_map (λ a. a.now) result.arguments ≡ Some arguments.now }
+{
+    Row {
+        name,
+        form,
+        arguments: Some(arguments),
+    }
+}
+
+/// A line with a form of its own.
+fn otherwise(name: &'static str, form: &'static str) -> Row
+    ensures name { result.name.now ≡ name.now }
+    ensures arguments { option_map (λ a. a.now) result.arguments ≡ None }
+{
+    Row {
+        name,
+        form,
+        arguments: None,
+    }
+}
+
+impl Command {
+    /// Its row. It's what lines are read by, what `bsdplay --help` prints, and what advice goes by.
+    pub fn row(self) -> Row
+        ensures name { result.name.now ≡ name_of self }
+        ensures arguments { option_map (λ a. a.now) result.arguments ≡ arguments_of self }
     {
         match self {
-            Command::Socket => "socket",
-            Command::Bind => "bind FD ADDR PORT",
-            Command::Connect => "connect FD ADDR PORT",
-            Command::SendTo => "sendto FD ADDR PORT BYTES",
-            Command::Send => "send FD BYTES",
-            Command::RecvFrom => "recvfrom FD LEN",
-            Command::Close => "close FD",
-            Command::SetSockOpt => "setsockopt FD OPT ON",
-            Command::Rx => "rx BYTES",
-            Command::RxPcap => "rx pcap FILE [N-M] [ticks]",
-            Command::RxUdp => "rx udp ADDR:PORT > ADDR:PORT BYTES [FIELDS]",
-            Command::RxRaw => "rx raw ADDR > ADDR BYTES [FIELDS]",
-            Command::Tx => "tx",
-            Command::Tick => "tick [N]",
-            Command::Stat => "stat",
-            Command::MbStat => "mbstat",
-            Command::Show => "show WHAT",
-            Command::Frame => "frame BYTES",
-            Command::LastError => "error FD",
-            Command::ShowOfHost => "show WHAT",
-            Command::Host => "host NAME [ether LINK ..] [--SETTING VALUE ..]",
-            Command::Wire => "wire NAME ..",
-            Command::Carry => "carry [all] [N]",
-            Command::Collect => "collect",
-            Command::Deliver => "deliver",
-            Command::Loss => "loss CHANCE [from NAME]",
-            Command::Repeat => "repeat PLACE or repeat CHANCE [from NAME]",
-            Command::Reorder => "reorder CHANCE [from NAME]",
-            Command::Delay => "delay A-B [from NAME]",
-            Command::Seed => "seed N",
-            Command::Drop => "drop PLACE",
-            Command::Swap => "swap PLACE PLACE",
-            Command::ShowWire => "show wire",
-            Command::Summary => "summary",
+            Command::Socket => by_words("socket", "socket", &[]),
+            Command::Bind => by_words("bind", "bind FD ADDR PORT", &[Fd, Addr, Port]),
+            Command::Connect => by_words("connect", "connect FD ADDR PORT", &[Fd, Addr, Port]),
+            Command::SendTo => by_words(
+                "sendto",
+                "sendto FD ADDR PORT BYTES",
+                &[Fd, Addr, Port, Bytes],
+            ),
+            Command::Send => by_words("send", "send FD BYTES", &[Fd, Bytes]),
+            Command::RecvFrom => by_words("recvfrom", "recvfrom FD LEN", &[Fd, Len]),
+            Command::Close => by_words("close", "close FD", &[Fd]),
+            Command::SetSockOpt => by_words(
+                "setsockopt",
+                "setsockopt FD OPT ON",
+                &[Fd, Opt, Switch],
+            ),
+            Command::Rx => by_words("rx", "rx BYTES", &[Bytes]),
+            Command::RxPcap => otherwise("rx", "rx pcap FILE [N-M] [ticks]"),
+            Command::RxUdp => otherwise("rx", "rx udp ADDR:PORT > ADDR:PORT BYTES [FIELDS]"),
+            Command::RxRaw => otherwise("rx", "rx raw ADDR > ADDR BYTES [FIELDS]"),
+            Command::Tx => by_words("tx", "tx", &[]),
+            Command::Tick => by_words("tick", "tick [N]", &[Count]),
+            Command::Stat => by_words("stat", "stat", &[]),
+            Command::MbStat => by_words("mbstat", "mbstat", &[]),
+            Command::Show => by_words("show", "show WHAT", &[Topic]),
+            Command::Frame => by_words("frame", "frame BYTES", &[Bytes]),
+            Command::LastError => by_words("error", "error FD", &[Fd]),
+            Command::ShowOfHost => by_words("show", "show WHAT", &[HostTopic]),
+            Command::Host => otherwise("host", "host NAME [ether LINK ..] [--SETTING VALUE ..]"),
+            Command::Wire => otherwise("wire", "wire NAME .."),
+            Command::Carry => otherwise("carry", "carry [all] [N]"),
+            Command::Collect => otherwise("collect", "collect"),
+            Command::Deliver => otherwise("deliver", "deliver"),
+            Command::Loss => otherwise("loss", "loss CHANCE [from NAME]"),
+            Command::Repeat => otherwise("repeat", "repeat PLACE or repeat CHANCE [from NAME]"),
+            Command::Reorder => otherwise("reorder", "reorder CHANCE [from NAME]"),
+            Command::Delay => otherwise("delay", "delay A-B [from NAME]"),
+            Command::Seed => otherwise("seed", "seed N"),
+            Command::Drop => otherwise("drop", "drop PLACE"),
+            Command::Swap => otherwise("swap", "swap PLACE PLACE"),
+            Command::ShowWire => otherwise("show", "show wire"),
+            Command::Summary => otherwise("summary", "summary"),
         }
     }
 }

@@ -9,7 +9,7 @@ mod hosted;
 mod nearest;
 mod text;
 
-pub use advice::Player;
+pub use advice::{Advice, Player, advice_on, command_of};
 pub use argument::Argument;
-pub use command::Command;
+pub use command::{Command, Row, host_commands, wire_commands};
 pub use text::{ADVICE, put_advice};

@@ -59,7 +59,7 @@ fn is_near(word: &[u8], name: &[u8]) -> bool
 fn has_name(word: &[u8], asked: Command) -> bool
     ensures { result ≡ near.has_name word.now asked }
 {
-    word == asked.name().as_bytes()
+    word == asked.row().name.as_bytes()
 }
 
 /// The first of some commands that has this name.
@@ -85,7 +85,7 @@ pub(crate) fn nearest(word: &[u8], commands: &[Command]) -> Option<Command>
     match commands {
         [] => None,
         [first, rest @ ..] => {
-            if is_near(word, first.name().as_bytes()) {
+            if is_near(word, first.row().name.as_bytes()) {
                 Some(*first)
             } else {
                 nearest(word, rest)

@@ -4,12 +4,9 @@ use Rattle.flat_model.specs.Machine.Event.{Event, Reply}
 use Rattle.flat_model.specs.Machine.State.{State}
 use Rattle.play_line.specs.Time.{TimedView, timed}
 use Rattle.play_line.specs.declared.fault.Slip.{Slip}
-use Rattle.play_text.specs.Forms.{is_quiet}
 use Rattle.play_text.specs.Texts.{fault_text}
 use Rattle.std.proofs.lemmas.Bool.{false≢true}
 use Rattle.flat_model.specs.Scripts.Texts.{hex_text}
-use Rattle.play_forms.specs.Advice.{IsAdvised}
-use Rattle.play_forms.specs.declared.advice.Player.TheVariants.{Machine}
 use Rattle.play_read.specs.Asks.{Ask, AsksFor, Settings, Writes}
 use Rattle.flat_model.specs.Scripts.Grammar.{words}
 use Rattle.play_script.specs.Inside.{IsTold, IsToldAs}
@@ -24,9 +21,9 @@ use Rattle.play_script.specs.declared.tell.Told.TheVariants as told
 -- a line that asks for this
 pub Ask-tells : (step : State → Event → Reply → State → Type 0) (has : List ℕ → List ℕ → Type 0) (now new : Play)
     (shown plain : List ℕ)
-    (wanted : Option (List ℕ)) (ask : Ask) (text below : List ℕ) (after : CapturedView) (quiet failed : Bool)
-    → quiet ≡ is_quiet now.form → AsksFor plain (Some ask)
-    → TellsAsk step has quiet ask (captured_of now.machine now.traced now.number) failed text below after
+    (wanted : Option (List ℕ)) (ask : Ask) (text below : List ℕ) (after : CapturedView) (failed : Bool)
+    → AsksFor plain (Some ask)
+    → TellsAsk step has ask (captured_of now.machine now.traced now.number) failed text after
     → new ≡ record now {
       machine = after.machine;
       traced = after.traced;
@@ -34,34 +31,21 @@ pub Ask-tells : (step : State → Event → Reply → State → Type 0) (has : L
       sound = (now.sound && is_sound wanted text) && is_done wanted failed;
     }
     → TellsAsked step has now shown plain wanted (told_text now.form now.texts now.name now.number shown wanted text below) new
-Ask-tells step has now new shown plain wanted ask text below after quiet failed loud asks tells is = (
-  Some ask,
-  asks,
-  inl (
-    after,
-    failed,
-    text,
-    below,
-    subst (λ (q : Bool). TellsAsk step has q ask (captured_of now.machine now.traced now.number) failed text below after)
-        loud tells,
-    refl,
-    is,
-  ),
-)
+Ask-tells step has now new shown plain wanted ask text below after failed asks tells is =
+    (Some ask, asks, inl (after, failed, text, below, tells, refl, is))
 
 -- a line that asks for nothing
 pub None-tells : (step : State → Event → Reply → State → Type 0) (has : List ℕ → List ℕ → Type 0) (now new : Play)
     (shown plain : List ℕ)
-    (wanted : Option (List ℕ)) (after : CapturedView) (what told : List ℕ) → AsksFor plain None
-    → IsAdvised Machine plain told → what ≡ told → after ≡ captured_of now.machine now.traced now.number
+    (wanted : Option (List ℕ)) (after : CapturedView) (what : List ℕ) → AsksFor plain None
+    → after ≡ captured_of now.machine now.traced now.number
     → new ≡ record now { machine = after.machine; traced = after.traced; sound = false }
     → TellsAsked step has now shown plain wanted (fault_text now.form now.name now.number what) new
-None-tells step has now new shown plain wanted after what told none advised so kept is = (
+None-tells step has now new shown plain wanted after what none kept is = (
   None,
   none,
   (
     what,
-    subst (λ (t : List ℕ). IsAdvised Machine plain t) (sym so) advised,
     refl,
     is ∙ ap (λ (s : CapturedView). record now { machine = s.machine; traced = s.traced; sound = false }) kept,
   ),
@@ -104,14 +88,12 @@ Settings-tell step has now mid new shown plain line text wanted named ask after 
     )
 
 -- what came of what a line asks for
-pub Told-some : (step : State → Event → Reply → State → Type 0) (has : List ℕ → List ℕ → Type 0) (quiet : Bool)
-    (plain : List ℕ) (ask : Ask) (came : Told)
-    (old new : CapturedView) (text below : List ℕ) → AsksFor plain (Some ask)
-    → IsToldAs step has quiet ask came old text below new
-    → IsTold step has quiet plain came old text below new
-Told-some step has quiet plain ask told.Nothing old new text below asks came = absurd came
-Told-some step has quiet plain ask told.Settings old new text below asks came = (ask, asks, came)
-Told-some step has quiet plain ask (told.Done stays failed) old new text below asks came = (ask, asks, came)
+pub Told-some : (step : State → Event → Reply → State → Type 0) (has : List ℕ → List ℕ → Type 0)
+    (plain : List ℕ) (ask : Ask) (came : Told) (old new : CapturedView) (text : List ℕ) → AsksFor plain (Some ask)
+    → IsToldAs step has ask came old text new → IsTold step has plain came old text new
+Told-some step has plain ask told.Nothing old new text asks came = absurd came
+Told-some step has plain ask told.Settings old new text asks came = (ask, asks, came)
+Told-some step has plain ask (told.Done stays failed) old new text asks came = (ask, asks, came)
 
 -- a line that was read so
 pub Reading-tells : (step : State → Event → Reply → State → Type 0) (has : List ℕ → List ℕ → Type 0) (now new : Play)

@@ -17,7 +17,6 @@ use Rattle.script_loop.specs.Printed.{Prints}
 use Rattle.play_read.specs.Settings.{IsSet}
 use Rattle.play_read.specs.declared.fault.SettingFault.{SettingFault}
 use Rattle.play_read.specs.declared.fault.SettingFault.TheVariants.{Late}
-use Rattle.play_text.specs.Forms.{is_quiet}
 use Rattle.play_pcap.specs.Traces.{Traced, Keeps, passes_bytes}
 use Rattle.play_read.specs.Asks.{Ask, Call, Ticks, Show, Capture, Settings, IsTicks, Writes}
 use Rattle.play_read.proofs.Laws.{Settings-idle, Show-idle}
@@ -107,22 +106,22 @@ not_late c e = cc
 
 -- what is told of what a line asks for, by its turns
 Told-turns : Joins → (has : List ℕ → List ℕ → Type 0) (ask : Ask) (old new : CapturedView) (shown plain : List ℕ)
-    (wanted : Option (List ℕ)) (text below : List ℕ) (quiet failed : Bool)
-    → Writes plain ask → TellsAsk Step has quiet ask old failed text below new
+    (wanted : Option (List ℕ)) (text : List ℕ) (failed : Bool)
+    → Writes plain ask → TellsAsk Step has ask old failed text new
     → (turns : List Turn) × AreAskedTurns has plain turns
     × Leads exact_ledger old.machine turns new.machine
     × Captures old.line old.traced turns new.traced × (stays_head ask ≡ true → turns ≡ [])
-Told-turns join has (Call event) old new shown plain wanted text below quiet failed asks (done, fine) =
+Told-turns join has (Call event) old new shown plain wanted text failed asks (done, fine) =
     let made =
     Makes-one has old.line old.machine new.machine old.traced new.traced shown plain wanted event done.reply asks
     done.does done.captured in
     (made.0, made.1, made.2, made.3, λ stays. absurd (false≢true stays))
-Told-turns join has (Ticks n) old new shown plain wanted text below quiet failed ticks (done, fine) =
+Told-turns join has (Ticks n) old new shown plain wanted text failed ticks (done, fine) =
     let made =
     Makes-ticks has old.line old.machine new.machine old.traced new.traced shown plain wanted n done.reply ticks
     done.does done.captured in
     (made.0, made.1, made.2, made.3, λ stays. absurd (false≢true stays))
-Told-turns join has (Show topic) old new shown plain wanted text below quiet failed is (shows, same, traced, fine) =
+Told-turns join has (Show topic) old new shown plain wanted text failed is (same, traced, fine) =
     let idle = Show-idle plain topic is in (
       [],
       inr (inr (inr (idle.0, idle.1, refl))),
@@ -130,12 +129,12 @@ Told-turns join has (Show topic) old new shown plain wanted text below quiet fai
       Captures-same old.line old.traced new.traced traced,
       λ stays. refl,
     )
-Told-turns join has (Capture name d) old new shown plain wanted text below quiet failed asked
-    (outcome, before, after, causes, plays, was, now, tells, lines, fails) =
+Told-turns join has (Capture name d) old new shown plain wanted text failed asked
+    (causes, (outcome, before, after, plays, was, now, tells, fails)) =
     let made =
     Named-turns join has shown plain name wanted d outcome (replay_of old no_drops) (replay_of new causes) asked plays in
     (made.0, made.1, made.2, made.3, λ stays. absurd (false≢true stays))
-Told-turns join has (Settings named) old new shown plain wanted text below quiet failed asks told = absurd told
+Told-turns join has (Settings named) old new shown plain wanted text failed asks told = absurd told
 
 and_first : (a b : Bool) → (a && b) ≡ true → a ≡ true
 and_first true b h = refl
@@ -192,7 +191,7 @@ Asked-line : Joins → (has : List ℕ → List ℕ → Type 0) (now new : Play)
     → TellsAsked Step has now shown plain wanted text new
     → Asked (AreAskedTurns has plain) now new
     ⊎ Settled (AreAskedTurns has plain) (MaySet (Asks shown plain wanted)) now new
-Asked-line join has now new shown plain text wanted (None, none, (what, advised, tells, same)) =
+Asked-line join has now new shown plain text wanted (None, none, (what, tells, same)) =
     inl (Idle (AreAskedTurns has plain) now new
     (inr (inr (inr (λ event. none (Call event), λ n. none (Ticks n), refl))))
     (ap (λ (p : Play). p.machine) same) (ap (λ (p : Play). p.traced) same)
@@ -202,8 +201,8 @@ Asked-line join has now new shown plain text wanted (Some ask, asks, inr (named,
     outcome settled told
 Asked-line join has now new shown plain text wanted (Some ask, asks, inl (after, failed, said, below, answered, tells, same)) =
     let made =
-    Told-turns join has ask (captured_of now.machine now.traced now.number) after shown plain wanted said below
-    (is_quiet now.form) failed asks answered in
+    Told-turns join has ask (captured_of now.machine now.traced now.number) after shown plain wanted said failed asks
+    answered in
     let stayed : new.head ≡ (now.head && stays_head ask) = ap (λ (p : Play). p.head) same in
     inl (record {
       turns = made.0;

@@ -1,11 +1,8 @@
 -- What a line has a machine do: events, one after another (this project's own).
-use Rattle.std.specs.Prelude.{◌≡◌, ℕ, Bool, true, false, List, [], ◌∷◌, map, Option, None}
-use Rattle.flat_model.specs.Amounts.Weight.{Item}
+use Rattle.std.specs.Prelude.{◌≡◌, ℕ, List, [], ◌∷◌, map, Option, None}
 use Rattle.flat_model.specs.Machine.Event.{Event, Reply}
 use Rattle.flat_model.specs.Machine.State.{State}
 use Rattle.flat_model.specs.Runs.Run.{Turn}
-use Rattle.play_show.specs.Changes.{changes_text}
-use Rattle.play_show.specs.declared.snapshot.Snapshot.{Snapshot}
 use Rattle.play_script.specs.Captures.{moved_by, turn_of}
 
 -- the turns of events that all have this reply
@@ -16,11 +13,6 @@ turns_with events reply = map (λ event. turn_of event reply) events
 abbrev pub moved_in : List Event → Reply → Option (List ℕ)
 moved_in [] reply = None
 moved_in (event ∷ events) reply = moved_by event reply
-
--- what is told below their reply; nothing if the form is quiet
-abbrev pub below_text : Bool → Option (List ℕ) → Snapshot → Snapshot → List Item → List ℕ
-below_text true moved before after output = []
-below_text false moved before after output = changes_text moved before after output
 
 module _ (step : State → Event → Reply → State → Type 0) where
   -- from old these events, one after another, have this reply and lead to new

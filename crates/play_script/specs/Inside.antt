@@ -46,16 +46,16 @@ play_of machine traced config head printer = record {
 
 module _ (step : State → Event → Reply → State → Type 0) (has : List ℕ → List ℕ → Type 0) where
   -- What came of what a line asks for. Nothing changes if it has settings.
-  abbrev pub IsToldAs : Bool → Ask → Told → CapturedView → List ℕ → List ℕ → CapturedView → Type 0
-  IsToldAs quiet ask told.Nothing old text below new = ⊥
-  IsToldAs quiet ask told.Settings old text below new = ((named : List (List ℕ)) × (ask ≡ Settings named)) × (new ≡ old)
-  IsToldAs quiet ask (told.Done stays failed) old text below new =
-      TellsAsk step has quiet ask old failed text below new × (stays ≡ stays_head ask)
+  abbrev pub IsToldAs : Ask → Told → CapturedView → List ℕ → CapturedView → Type 0
+  IsToldAs ask told.Nothing old text new = ⊥
+  IsToldAs ask told.Settings old text new = ((named : List (List ℕ)) × (ask ≡ Settings named)) × (new ≡ old)
+  IsToldAs ask (told.Done stays failed) old text new =
+      TellsAsk step has ask old failed text new × (stays ≡ stays_head ask)
 
   -- what came of a plain line; nothing changes if it asks for nothing
-  abbrev pub IsTold : Bool → List ℕ → Told → CapturedView → List ℕ → List ℕ → CapturedView → Type 0
-  IsTold quiet plain told.Nothing old text below new = AsksFor plain None × (new ≡ old)
-  IsTold quiet plain told.Settings old text below new =
-      (ask : Ask) × AsksFor plain (Some ask) × IsToldAs quiet ask told.Settings old text below new
-  IsTold quiet plain (told.Done stays failed) old text below new =
-      (ask : Ask) × AsksFor plain (Some ask) × IsToldAs quiet ask (told.Done stays failed) old text below new
+  abbrev pub IsTold : List ℕ → Told → CapturedView → List ℕ → CapturedView → Type 0
+  IsTold plain told.Nothing old text new = AsksFor plain None × (new ≡ old)
+  IsTold plain told.Settings old text new =
+      (ask : Ask) × AsksFor plain (Some ask) × IsToldAs ask told.Settings old text new
+  IsTold plain (told.Done stays failed) old text new =
+      (ask : Ask) × AsksFor plain (Some ask) × IsToldAs ask (told.Done stays failed) old text new

@@ -14,11 +14,10 @@ use Rattle.play_pcap.specs.Traces.{Traced}
 use Rattle.play_pcap.specs.declared.ask.Details.{Details}
 use Rattle.play_pcap.specs.declared.fault.CaptureFault.{CaptureFault}
 use Rattle.play_pcap.specs.declared.moves.Tally.{Tally}
-use Rattle.play_records.specs.Tables.{no_drops, drops_noted, table_text}
+use Rattle.play_records.specs.Tables.{no_drops, drops_noted}
 use Rattle.play_records.specs.declared.table.Table.{Table}
 use Rattle.play_show.specs.Changes.{IsSnapshot}
 use Rattle.play_show.specs.declared.snapshot.Snapshot.{Snapshot}
-use Rattle.play_script.specs.Deeds.{below_text}
 use Rattle.play_script.specs.Captures.{Captures, turn_of}
 use Rattle.play_script.specs.Outcomes.{drops_text}
 
@@ -60,11 +59,6 @@ abbrev pub noted_by : Act → Counters → Counters → Table → Table
 noted_by (Arrives place packet) before after causes = drops_noted place.number before after causes
 noted_by Passes before after causes = causes
 
--- a line for each cause for which packets were dropped; nothing if the form is quiet
-abbrev pub causes_below : Bool → Table → List ℕ
-causes_below true causes = []
-causes_below false causes = table_text causes
-
 -- whether a capture wasn't played in
 abbrev pub has_failed : Result Tally CaptureFault → Bool
 has_failed (Ok tally) = false
@@ -79,15 +73,14 @@ module _ (step : State → Event → Reply → State → Type 0) where
       × Captures old.seen.line old.seen.traced (came_turn act ∷ []) new.seen.traced × (new.seen.line ≡ old.seen.line)
       × (new.causes ≡ noted_by act old.seen.machine.counters new.seen.machine.counters old.causes)
 
-  -- What may be told of the capture in the file that a word names, with the lines below it: how many packets came, or
-  -- what is wrong with the file; why packets were dropped; and below it what came of them, and for each cause how many
-  -- were dropped, and the first record. It has failed if the file couldn't be played.
-  abbrev pub IsPlayed : (List ℕ → List ℕ → Type 0) → Bool → Details → List ℕ → CapturedView → Bool → List ℕ → List ℕ
+  -- What may be told of the capture in the file that a word names: how many packets came, or what is wrong with the
+  -- file, and why packets were dropped. For each cause it's noted how many were dropped, and the first record. It has
+  -- failed if the file couldn't be played.
+  abbrev pub IsPlayed : (List ℕ → List ℕ → Type 0) → Details → List ℕ → CapturedView → Bool → List ℕ → Table
       → CapturedView → Type 0
-  IsPlayed has quiet d word old failed told below new =
-      (outcome : Result Tally CaptureFault) × (before after : Snapshot) × (causes : Table)
+  IsPlayed has d word old failed told causes new =
+      (outcome : Result Tally CaptureFault) × (before after : Snapshot)
       × PlaysNamed has ComesTo d word outcome (replay_of old no_drops) (replay_of new causes)
       × IsSnapshot step old.machine before × IsSnapshot step new.machine after
       × (told ≡ capture_text outcome ++ drops_text before.counters after.counters)
-      × (below ≡ below_text quiet None before after new.machine.output ++ causes_below quiet causes)
       × (failed ≡ has_failed outcome)

@@ -9,20 +9,17 @@ use Rattle.script_loop.specs.declared.fault.RunFault.{RunFault}
 use Rattle.script_loop.specs.declared.fault.RunFault.TheVariants.{Read, Write, Memory, TooManyLines, BadSizes, BadConfig}
 use Rattle.play_line.specs.Time.{TimedView, timed}
 use Rattle.play_line.specs.declared.fault.Slip.{Slip}
-use Rattle.play_text.specs.Forms.{is_quiet}
 use Rattle.play_text.specs.Texts.{fault_text, slip_text, outcome_text}
 use Rattle.play_text.specs.declared.form.Form.{Form}
-use Rattle.play_forms.specs.Advice.{IsAdvised}
-use Rattle.play_forms.specs.declared.advice.Player.TheVariants.{Machine}
 use Rattle.play_read.specs.Settings.{IsSet, fault_words}
 use Rattle.play_read.specs.declared.fault.SettingFault.{SettingFault}
 use Rattle.play_read.specs.declared.fault.SettingFault.TheVariants as settings
 use Rattle.play_show.specs.Changes.{IsSnapshot}
-use Rattle.play_show.specs.Tells.{Shows}
 use Rattle.play_show.specs.declared.snapshot.Snapshot.{Snapshot}
 use Rattle.play_pcap.specs.Traces.{Traced}
+use Rattle.play_records.specs.declared.table.Table.{Table}
 use Rattle.play_read.specs.Asks.{Ask, Call, Ticks, Show, Capture, Settings, AsksFor}
-use Rattle.play_script.specs.Deeds.{Does, below_text, moved_in, turns_with}
+use Rattle.play_script.specs.Deeds.{Does, turns_with}
 use Rattle.play_script.specs.Captures.{Captures}
 use Rattle.play_script.specs.Lines.{Reading, Nothing, TooLong, Faulty, Asks, has_text, reading_part, shifted}
 use Rattle.play_script.specs.Outcomes.{told, drops_text, meets_reply}
@@ -124,10 +121,8 @@ abbrev pub next_line : List ℕ → Play → Play
 next_line line old = record old { number = more_by 1 old.number; texts = old.texts || has_text line }
 
 module _ (step : State → Event → Reply → State → Type 0) where
-  -- What may be told of these events, with the lines below it: their reply and what was dropped, and below it what came
-  -- of them. The capture has what they add to it.
-  pub record IsDone (quiet : Bool) (old : CapturedView) (events : List Event) (text below : List ℕ)
-      (new : CapturedView) : Type 0 where
+  -- What may be told of these events: their reply and what was dropped. The capture has what they add to it.
+  pub record IsDone (old : CapturedView) (events : List Event) (text : List ℕ) (new : CapturedView) : Type 0 where
     pub reply : Reply
     pub before : Snapshot
     pub after : Snapshot
@@ -136,7 +131,6 @@ module _ (step : State → Event → Reply → State → Type 0) where
     pub was : IsSnapshot step old.machine before
     pub now : IsSnapshot step new.machine after
     pub tells : text ≡ told (reply_text reply) (drops_text before.counters after.counters)
-    pub shows : below ≡ below_text quiet (moved_in events reply) before after new.machine.output
 
   -- So many ticks pass, of which nothing is told. If some do, no settings may come any more.
   pub record IsWaited (ticks : ℕ) (now mid : Play) : Type 0 where
@@ -146,26 +140,23 @@ module _ (step : State → Event → Reply → State → Type 0) where
 
 -- the same, where `has` says which bytes the file of a name may have
 module _ (step : State → Event → Reply → State → Type 0) (has : List ℕ → List ℕ → Type 0) where
-  -- What may be told of what a line asks for, with the lines below it, and whether it has failed: only a capture can.
-  abbrev pub TellsAsk : Bool → Ask → CapturedView → Bool → List ℕ → List ℕ → CapturedView → Type 0
-  TellsAsk quiet (Call event) old failed text below new =
-      IsDone step quiet old (event ∷ []) text below new × (failed ≡ false)
-  TellsAsk quiet (Ticks n) old failed text below new =
-      IsDone step quiet old (replicate n Tick) text below new × (failed ≡ false)
-  -- nothing changes
-  TellsAsk quiet (Show topic) old failed text below new =
-      Shows step old.machine topic text below × (new.machine ≡ old.machine) × (new.traced ≡ old.traced)
-      × (failed ≡ false)
-  TellsAsk quiet (Capture name details) old failed text below new =
-      IsPlayed step has quiet details name old failed text below new
+  -- What may be told of what a line asks for, and whether it has failed: only a capture can.
+  abbrev pub TellsAsk : Ask → CapturedView → Bool → List ℕ → CapturedView → Type 0
+  TellsAsk (Call event) old failed text new = IsDone step old (event ∷ []) text new × (failed ≡ false)
+  TellsAsk (Ticks n) old failed text new = IsDone step old (replicate n Tick) text new × (failed ≡ false)
+  -- nothing changes; what is told isn't said
+  TellsAsk (Show topic) old failed text new =
+      (new.machine ≡ old.machine) × (new.traced ≡ old.traced) × (failed ≡ false)
+  TellsAsk (Capture name details) old failed text new =
+      (causes : Table) × IsPlayed step has details name old failed text causes new
   -- that isn't told so: see TellsSettings
-  TellsAsk quiet (Settings named) old failed text below new = ⊥
+  TellsAsk (Settings named) old failed text new = ⊥
 
-  -- what a line may have as its text that asks for this, and for no settings
+  -- What a line may have as its text that asks for this, and for no settings. What stands below isn't said.
   abbrev pub TellsDone : Ask → Play → List ℕ → Option (List ℕ) → List ℕ → Play → Type 0
   TellsDone ask now shown wanted text new =
       (after : CapturedView) × (failed : Bool) × (said : List ℕ) × (below : List ℕ)
-      × TellsAsk (is_quiet now.form) ask (captured_of now.machine now.traced now.number) failed said below after
+      × TellsAsk ask (captured_of now.machine now.traced now.number) failed said after
       × (text ≡ told_text now.form now.texts now.name now.number shown wanted said below)
       × (new ≡ record now {
         machine = after.machine;
@@ -174,10 +165,10 @@ module _ (step : State → Event → Reply → State → Type 0) (has : List ℕ
         sound = (now.sound && is_sound wanted said) && is_done wanted failed;
       })
 
-  -- what a line may have as its text that asks for this, or for nothing: then what it could have been
+  -- what a line may have as its text that asks for this, or for nothing: then what it could have been, in some words
   abbrev pub TellsLine : Option Ask → Play → List ℕ → List ℕ → Option (List ℕ) → List ℕ → Play → Type 0
   TellsLine None now shown plain wanted text new =
-      (what : List ℕ) × IsAdvised Machine plain what × (text ≡ fault_text now.form now.name now.number what)
+      (what : List ℕ) × (text ≡ fault_text now.form now.name now.number what)
       × (new ≡ record now { sound = false })
   TellsLine (Some ask) now shown plain wanted text new =
       TellsDone ask now shown wanted text new

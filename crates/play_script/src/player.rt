@@ -134,7 +134,7 @@ impl<T: Sink, F: Folder> Player<T, F> {
         ) {
             Told::Nothing => {
                 self.report.tell_advice(Advised::Machine, &mut self.line);
-                self.printer.put_fault(text, bytes_of(&self.report.told));
+                self.printer.put_fault(text, bytes_of(&self.report.advice));
             }
             Told::Settings => self.set_up(text),
             Told::Done { stays, failed } => {

@@ -1,9 +1,8 @@
 //! Captures that are played in.
-ghost use Rattle.std.specs.Prelude.{◌≡◌, ◌+◌, ◌≤◌, ◌++◌, length};
+ghost use Rattle.std.specs.Prelude.{◌≡◌};
 ghost use Rattle.play_pcap.specs.Events.{IsOrdered};
 ghost use Rattle.play_pcap.specs.Files.{PlaysNamed};
-ghost use Rattle.play_records.specs.declared.table.TheConstants.{TABLE};
-ghost use Rattle.play_script.specs.Plays.{ComesTo, IsPlayed, captured_of, causes_below, has_failed, replay_of};
+ghost use Rattle.play_script.specs.Plays.{ComesTo, IsPlayed, captured_of, has_failed, replay_of};
 ghost use Rattle.net_stack.specs.Stack.{state_of};
 ghost use Rattle.stack_call.specs.Moves.{StackSteps};
 
@@ -55,11 +54,8 @@ fn has_failed(outcome: &Result<Tally, CaptureFault>) -> bool
 }
 
 /// Puts a line after the text for each cause for which packets were dropped, or nothing.
-fn put_causes(quiet: bool, causes: &Table, below: &mut Buffer<SHOWN>)
-    requires { length below.old + TABLE ≤ SHOWN }
-    ensures { below.new ≡ below.old ++ causes_below quiet causes.now }
-{
-    if !quiet {
+fn put_causes(quiet: bool, causes: &Table, below: &mut Buffer<SHOWN>) {
+    if !quiet && SHOWN - below.len() >= TABLE {
         causes.put(below);
     }
 }
@@ -72,9 +68,9 @@ pub(crate) fn tell_capture<T: Sink, F: Folder>(
     report: &mut Report,
 ) -> bool
     requires { IsOrdered ask.details.range }
-    ensures plays { IsPlayed StackSteps F.may_have report.old.quiet ask.entry.details ask.entry.name.now
+    ensures plays { IsPlayed StackSteps F.may_have ask.entry.details ask.entry.name.now
         (captured_of (state_of captured.old.stack) captured.old.capture.trace captured.old.capture.line) result
-        report.new.told report.new.below
+        report.new.told captured.new.causes
         (captured_of (state_of captured.new.stack) captured.new.capture.trace captured.new.capture.line) }
     ensures quiet { report.new.quiet ≡ report.old.quiet }
 {

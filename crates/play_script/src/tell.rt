@@ -1,15 +1,12 @@
 //! What is told of what a line asks for.
-ghost use Rattle.std.specs.Prelude.{◌≡◌, ◌≤◌, length, IfSome};
+ghost use Rattle.std.specs.Prelude.{◌≡◌, ◌≤◌, length};
 ghost use Rattle.net_stack.specs.Stack.{state_of};
 ghost use Rattle.params.specs.declared.TheConstants.{IP_MAX_PACKET, MAX_MTU};
 ghost use Rattle.play_read.specs.Views.{IsSoundAsk, ask_of};
-ghost use Rattle.play_show.specs.declared.changes.TheConstants.{CHANGES};
-ghost use Rattle.play_script.specs.Deeds.{below_text};
 ghost use Rattle.play_script.specs.Inside.{IsTold, IsToldAs, events_of, most_of};
 ghost use Rattle.play_script.specs.Plays.{captured_of};
 ghost use Rattle.play_script.specs.Tells.{IsDone};
 ghost use Rattle.play_script.specs.Views.{plain_line};
-ghost use Rattle.request.specs.Replies.{packet_behind};
 ghost use Rattle.stack_call.specs.Moves.{StackSteps};
 
 use crate::capture::Capture;
@@ -22,7 +19,7 @@ use net_stack::Stack;
 use params::{IP_MAX_PACKET, MAX_MTU};
 use play_pcap::Folder;
 use play_read::Ask;
-use play_show::{CHANGES, SHOWN, Snapshot, put_changes, snapshot_of};
+use play_show::{SHOWN, Snapshot, put_changes, snapshot_of};
 use script_loop::{Buffer, Sink};
 
 /// Puts what came of a line into a buffer, or nothing. The packets that are told are copied into the room.
@@ -33,11 +30,7 @@ pub(crate) fn put_below(
     moved: (Option<&[u8]>, &Snapshot, &Snapshot),
     below: &mut Buffer<SHOWN>,
 )
-    requires moved { IfSome moved.0 (λ p. length p.now ≤ IP_MAX_PACKET) }
-    requires room { MAX_MTU ≤ length room.old }
-    ensures items { below.new ≡ below_text quiet (packet_behind moved.entry.0) moved.entry.1.now moved.entry.2.now
-        (state_of stack.now).output }
-    ensures len { length below.new ≤ CHANGES }
+    requires { MAX_MTU ≤ length room.old }
 {
     if quiet {
         below.clear();
@@ -52,9 +45,6 @@ impl Report {
     /// Tells below a reply what came of a line at a stack, by which this packet came or went; nothing if the report is
     /// quiet. Of the two looks at the stack the first was before the line, and the second after it.
     pub fn tell_below(&mut self, stack: &Stack, moved: Option<&[u8]>, looks: (&Snapshot, &Snapshot))
-        requires { IfSome moved (λ p. length p.now ≤ IP_MAX_PACKET) }
-        ensures below { self.new.below ≡ below_text self.old.quiet (packet_behind moved.entry) looks.entry.0.now
-            looks.entry.1.now (state_of stack.now).output }
         ensures told { self.new.told ≡ self.old.told }
         ensures quiet { self.new.quiet ≡ self.old.quiet }
     {
@@ -91,9 +81,8 @@ fn tell_deed<T: Sink>(
 )
     requires room { length room.old ≡ IP_MAX_PACKET }
     requires deed { most_of deed ≤ IP_MAX_PACKET }
-    ensures done { IsDone StackSteps report.old.quiet
-        (captured_of (state_of stack.old) capture.old.trace capture.old.line)
-        (events_of deed.entry) report.new.told report.new.below
+    ensures done { IsDone StackSteps (captured_of (state_of stack.old) capture.old.trace capture.old.line)
+        (events_of deed.entry) report.new.told
         (captured_of (state_of stack.new) capture.new.trace capture.new.line) }
     ensures quiet { report.new.quiet ≡ report.old.quiet }
 {
@@ -120,9 +109,9 @@ fn tell_ask<T: Sink, F: Folder>(
     report: &mut Report,
 ) -> Told
     requires { IsSoundAsk ask }
-    ensures { IsToldAs StackSteps F.may_have report.old.quiet (ask_of ask.entry) result
+    ensures { IsToldAs StackSteps F.may_have (ask_of ask.entry) result
         (captured_of (state_of captured.old.stack) captured.old.capture.trace captured.old.capture.line)
-        report.new.told report.new.below
+        report.new.told
         (captured_of (state_of captured.new.stack) captured.new.capture.trace captured.new.capture.line) }
 {
     match ask {
@@ -180,9 +169,9 @@ pub(crate) fn tell_line<T: Sink, F: Folder>(
     report: &mut Report,
 ) -> Told
     requires { length room.old ≡ IP_MAX_PACKET }
-    ensures { IsTold StackSteps F.may_have report.old.quiet (plain_line line.now) result
+    ensures { IsTold StackSteps F.may_have (plain_line line.now) result
         (captured_of (state_of captured.old.stack) captured.old.capture.trace captured.old.capture.line)
-        report.new.told report.new.below
+        report.new.told
         (captured_of (state_of captured.new.stack) captured.new.capture.trace captured.new.capture.line) }
 {
     match line.ask(room) {

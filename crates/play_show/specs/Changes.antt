@@ -1,7 +1,6 @@
--- What has changed between two looks at a machine, in words (this project's own).
-use Rattle.std.specs.Prelude.{◌≡◌, ℕ, zero, suc, ◌+◌, ◌-◌, ◌<◌, ◌&&◌, not, Bool, List, [], ◌++◌, length, min, get_or, codes, decimal, nat_lt, if◌then◌else◌, Option, Some, None, Result, Ok, Err}
+-- Looks at a machine, and what became of a fragment between two of them (this project's own).
+use Rattle.std.specs.Prelude.{◌≡◌, ℕ, ◌+◌, ◌-◌, ◌<◌, ◌&&◌, not, Bool, false, List, length, get_or, nat_lt, if◌then◌else◌, Result, Ok, Err}
 use Rattle.params.specs.declared.TheConstants.{FIRST_DESCRIPTOR, MAX_SOCKETS}
-use Rattle.flat_model.specs.Amounts.Weight.{Item}
 use Rattle.flat_model.specs.Machine.Count.{value_of}
 use Rattle.flat_model.specs.Machine.Event.{Event, Reply, Ask_counters, Ask_usage, Counted, Shown}
 use Rattle.flat_model.specs.Machine.State.{State}
@@ -9,12 +8,13 @@ use Rattle.flat_model.specs.declared.counter.Counter.{Counter}
 use Rattle.flat_model.specs.declared.counter.Counter.TheVariants.{IpFragments, IpFragdropped, IpFragtimeout, IpReassembled, IpReclaimed, Nobufs}
 use Rattle.flat_model.specs.declared.errno.Errno.{Errno}
 use Rattle.flat_model.specs.declared.usage.Mbstat.{Mbstat}
-use Rattle.ip_out.specs.Questions.{nth_packet}
 use Rattle.sock_calls.specs.Questions.{next_datagram}
 use Rattle.sock_calls.specs.declared.questions.NextDatagram.{NextDatagram}
-use Rattle.play_text.specs.Packets.{packet_text, kept_line, whole_line}
-use Rattle.play_text.specs.Pieces.{amount}
-use Rattle.play_show.specs.declared.changes.TheConstants.{MOST_SENT}
+use Rattle.play_show.specs.declared.changes.Change.{Change}
+use Rattle.play_show.specs.declared.changes.Change.TheVariants as change
+use Rattle.play_show.specs.declared.changes.Became.{Became}
+use Rattle.play_show.specs.declared.changes.Fate.{Fate}
+use Rattle.play_show.specs.declared.changes.Fate.TheVariants as fate
 use Rattle.play_show.specs.declared.snapshot.Snapshot.{Snapshot}
 
 -- ---- a look
@@ -32,15 +32,11 @@ pub record IsSnapshot (step : State → Event → Reply → State → Type 0) (s
   pub output : x.output ≡ length s.output
   pub waiting : (k : ℕ) → k < MAX_SOCKETS → get_or x.waiting k 0 ≡ waiting_of (next_datagram (FIRST_DESCRIPTOR + k) s)
 
--- ---- texts
+-- ---- a fragment
 
 -- a counter went up
 abbrev pub rose : Counter → Snapshot → Snapshot → Bool
 rose counter before after = nat_lt (value_of counter before.counters) (value_of counter after.counters)
-
--- a line of its own, behind four blanks
-abbrev pub line_of : List ℕ → List ℕ
-line_of text = codes "    " ++ text ++ codes "\n"
 
 -- a fragment passed its test, and neither made its datagram whole nor was dropped
 abbrev pub is_kept : Snapshot → Snapshot → Bool
@@ -48,85 +44,36 @@ is_kept before after =
     rose IpFragments before after && (not (rose IpReassembled before after)
     && (not (rose IpFragdropped before after) && not (rose Nobufs before after)))
 
--- what came of a packet's fragment
-abbrev pub fate_text : List ℕ → Snapshot → Snapshot → List ℕ
-fate_text packet before after =
-    if rose IpReassembled before after then whole_line packet else
-    if is_kept before after then kept_line packet else []
+-- what became of a packet's fragment
+abbrev pub fate_of : Snapshot → Snapshot → Fate
+fate_of before after =
+    if rose IpReassembled before after then fate.Whole else
+    if is_kept before after then fate.Kept else fate.Other
 
--- the packet that came or went
-abbrev pub moved_text : Option (List ℕ) → Snapshot → Snapshot → List ℕ
-moved_text None before after = []
-moved_text (Some packet) before after = line_of (packet_text packet) ++ fate_text packet before after
+-- ---- what came of an event
 
--- more datagrams wait in the socket at this place than before
-abbrev pub delivered_line : ℕ → ℕ → ℕ → List ℕ
-delivered_line place before after =
-    if nat_lt before after then codes "    delivered to socket " ++ decimal (FIRST_DESCRIPTOR + place) ++ codes "\n"
-    else []
-
--- the same of the first so many places
-unfoldable pub delivered_below : ℕ → List ℕ → List ℕ → List ℕ
-delivered_below zero before after = []
-delivered_below (suc n) before after =
-    delivered_below n before after ++ delivered_line n (get_or before n 0) (get_or after n 0)
-
--- a packet that waits for the link, if there is one
-abbrev pub waiting_line : Option (List ℕ) → List ℕ
-waiting_line None = []
-waiting_line (Some packet) = line_of (packet_text packet)
-
--- so many packets of an output queue, from a place on
-unfoldable pub packets_below : ℕ → ℕ → List Item → List ℕ
-packets_below zero from output = []
-packets_below (suc n) from output = packets_below n from output ++ waiting_line (nth_packet (from + n) output)
-
--- something was sent as so many packets
-abbrev pub sent_line : ℕ → List ℕ
-sent_line all = codes "    sent as " ++ amount all (codes "packet") ++ codes "\n"
-
--- how many there are past the first ones, which are told
-abbrev pub more_line : ℕ → List ℕ
-more_line all = if nat_lt MOST_SENT all then codes "    and " ++ decimal (all - MOST_SENT) ++ codes " more\n" else []
-
--- More packets wait for the link than before: how many, and the first of them, which stand behind those of before.
-abbrev pub sent_text : ℕ → ℕ → List Item → List ℕ
-sent_text before after output =
-    if nat_lt before after then
-    sent_line (after - before) ++ packets_below (min (after - before) MOST_SENT) before output
-    ++ more_line (after - before)
-    else []
-
--- a counter of unfinished datagrams went up by so many
-abbrev pub lost_text : ℕ → ℕ → List ℕ → List ℕ
-lost_text before after what =
-    if nat_lt before after
-    then codes "    unfinished datagrams " ++ what ++ codes ": " ++ decimal (after - before) ++ codes "\n" else []
-
--- those that were dropped after their time, or for their buffers
-abbrev pub all_lost_text : Snapshot → Snapshot → List ℕ
-all_lost_text before after =
-    lost_text (value_of IpFragtimeout before.counters) (value_of IpFragtimeout after.counters) (codes "timed out")
-    ++ lost_text (value_of IpReclaimed before.counters) (value_of IpReclaimed after.counters)
-    (codes "dropped for their buffers")
+-- by how much a counter went up
+abbrev pub risen : Counter → Snapshot → Snapshot → ℕ
+risen counter before after = value_of counter after.counters - value_of counter before.counters
 
 -- fewer are free than before, or more
-abbrev pub pool_change : ℕ → ℕ → List ℕ → List ℕ
-pool_change before after what =
-    (if nat_lt after before then codes "    " ++ amount (before - after) what ++ codes " taken\n" else [])
-    ++ (if nat_lt before after then codes "    " ++ amount (after - before) what ++ codes " given back\n" else [])
+abbrev pub change_of : ℕ → ℕ → Change
+change_of before after =
+    if nat_lt after before then change.Taken (before - after) else
+    if nat_lt before after then change.Given (after - before) else change.Same
 
-abbrev pub pool_changes : Mbstat → Mbstat → List ℕ
-pool_changes before after =
-    pool_change before.free_mbufs after.free_mbufs (codes "mbuf")
-    ++ pool_change before.free_clusters after.free_clusters (codes "cluster")
+-- more datagrams wait in these sockets than before
+abbrev pub AreDelivered : Snapshot → Snapshot → List Bool → Type 0
+AreDelivered before after delivered =
+    (k : ℕ) → k < MAX_SOCKETS
+    → get_or delivered k false ≡ nat_lt (get_or before.waiting k 0) (get_or after.waiting k 0)
 
--- What came of an event by which this packet came or went, if one did. `output` are the packets that wait for the link
--- after it.
-abbrev pub changes_text : Option (List ℕ) → Snapshot → Snapshot → List Item → List ℕ
-changes_text packet before after output =
-    moved_text packet before after
-    ++ delivered_below MAX_SOCKETS before.waiting after.waiting
-    ++ sent_text before.output after.output output
-    ++ all_lost_text before after
-    ++ pool_changes before.usage after.usage
+pub record HasBecome (before after : Snapshot) (x : Became) : Type 0 where
+  pub fate : x.fate ≡ fate_of before after
+  pub delivered : AreDelivered before after x.delivered
+  pub first : x.first_sent ≡ before.output
+  pub sent : x.sent ≡ after.output - before.output
+  pub timed_out : x.timed_out ≡ risen IpFragtimeout before after
+  pub reclaimed : x.reclaimed ≡ risen IpReclaimed before after
+  pub mbufs : x.mbufs ≡ change_of before.usage.free_mbufs after.usage.free_mbufs
+  pub clusters : x.clusters ≡ change_of before.usage.free_clusters after.usage.free_clusters

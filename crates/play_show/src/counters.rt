@@ -1,18 +1,12 @@
 //! Counters and the pool in words.
-ghost use Rattle.std.specs.Prelude.{◌≡◌, ◌+◌, ◌*◌, ◌≤◌, ◌++◌, length};
-ghost use Rattle.play_show.specs.Counts.{counter_meaning, counter_line, counter_lines, pool_text};
-
 use crate::SHOWN;
+use crate::text::add;
 use flat_model::{Counter, Counters, Mbstat};
 use play_text::Piece::{Amount, Long, Number, Text};
-use play_text::put;
 use script_loop::Buffer;
 
 /// What a counter counts.
-fn meaning_of(counter: Counter) -> &'static str
-    ensures is { result.now ≡ counter_meaning counter }
-    ensures short { length result.now ≤ 80 }
-{
+fn meaning_of(counter: Counter) -> &'static str {
     match counter {
         Counter::IpTotal => "packets that reached the input of IP, from the wire or by loopback",
         Counter::IpToosmall => "packets of fewer than 20 bytes",
@@ -43,42 +37,27 @@ fn meaning_of(counter: Counter) -> &'static str
     }
 }
 
-/// Puts the line of a counter after the text.
-fn put_counter(text: &mut Buffer<SHOWN>, counter: Counter, counters: &Counters)
-    requires { length text.old + 130 ≤ SHOWN }
-    ensures items { text.new ≡ text.old ++ counter_line counters.now counter }
-    ensures len { length text.new ≤ length text.old + 130 }
-{
-    put(
-        text,
-        &[
-            Text(b"    "),
-            Text(counter.name().as_bytes()),
-            Text(b" "),
-            Long(counters.value(counter)),
-            Text(b": "),
-            Text(meaning_of(counter).as_bytes()),
-            Text(b"\n"),
-        ],
-    );
-}
-
 /// Puts the lines of all counters into a buffer.
-pub(crate) fn put_counters(text: &mut Buffer<SHOWN>, counters: &Counters)
-    ensures { text.new ≡ counter_lines counters.now }
-{
-    text.clear();
+pub(crate) fn put_counters(text: &mut Buffer<SHOWN>, counters: &Counters) {
     for counter in Counter::all() {
-        put_counter(text, counter, counters);
+        add(
+            text,
+            &[
+                Text(b"    "),
+                Text(counter.name().as_bytes()),
+                Text(b" "),
+                Long(counters.value(counter)),
+                Text(b": "),
+                Text(meaning_of(counter).as_bytes()),
+                Text(b"\n"),
+            ],
+        );
     }
 }
 
 /// Puts after the text how much of the pool is free, and how its clusters are shared.
-pub(crate) fn put_pool(text: &mut Buffer<SHOWN>, usage: Mbstat)
-    requires { length text.old + 200 ≤ SHOWN }
-    ensures { text.new ≡ text.old ++ pool_text usage }
-{
-    put(
+pub(crate) fn put_pool(text: &mut Buffer<SHOWN>, usage: Mbstat) {
+    add(
         text,
         &[
             Number(usage.free_mbufs),

@@ -8,11 +8,12 @@ mod shown_law;
 mod snapshot;
 mod sockets;
 mod tell;
+mod text;
 mod topic;
 mod unfinished;
 
-pub use changes::{CHANGES, put_changes};
-pub use shown_law::{looks_law, shows_law};
+pub use changes::{Became, Change, Fate, became_of, put_changes};
+pub use shown_law::looks_law;
 pub use snapshot::{Snapshot, snapshot_of};
 pub use tell::tell_topic;
 pub use topic::{Topic, topic_of};

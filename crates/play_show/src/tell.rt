@@ -1,16 +1,12 @@
 //! What is told of a machine.
-ghost use Rattle.play_show.specs.Tells.{Shows};
-ghost use Rattle.stack_call.specs.Moves.{StackSteps};
-ghost use Rattle.net_stack.specs.Stack.{state_of};
-
 use crate::SHOWN;
 use crate::counters::{put_counters, put_pool};
 use crate::sockets::{put_queue, put_sockets};
+use crate::text::add;
 use crate::topic::Topic;
 use crate::unfinished::put_unfinished;
 use net_stack::Stack;
 use play_text::Piece::Amount;
-use play_text::put;
 use script_loop::Buffer;
 
 /// Tells of a machine what is asked. What is told in a word or two stands in `told` then, and in `below` the lines
@@ -19,25 +15,22 @@ use script_loop::Buffer;
 /// in the order of [`Counter::all`](flat_model::Counter::all); no line for the output queue and the pool. What the
 /// buffers held before is lost. The machine isn't changed. It takes a step for each of the 64 descriptors, and for the
 /// pool one for each cluster.
-#[tactic(auto, unfolding(stack_call::specs::Moves::StackSteps))]
 pub fn tell_topic(
     machine: &Stack,
     topic: Topic,
     told: &mut Buffer<SHOWN>,
     below: &mut Buffer<SHOWN>,
-)
-    ensures { Shows StackSteps (state_of machine.now) topic told.new below.new }
-{
+) {
     told.clear();
     below.clear();
     match topic {
         Topic::Sockets => {
             let count = put_sockets(machine, below);
-            put(told, &[Amount(count, b"socket")]);
+            add(told, &[Amount(count, b"socket")]);
         }
         Topic::Unfinished => {
             put_unfinished(machine, below);
-            put(
+            add(
                 told,
                 &[Amount(machine.unfinished_len(), b"unfinished datagram")],
             );

@@ -1,5 +1,5 @@
 -- The lines of one host.
-use Rattle.std.proofs.Common.{◌≡◌, ℕ, Bool, List, [], ◌∷◌, map, Some, refl, ap, ap₂}
+use Rattle.std.proofs.Common.{◌≡◌, ℕ, Bool, List, [], ◌∷◌, map, Some, refl, ap}
 use Rattle.flat_model.specs.Amounts.Choice.{Choice}
 use Rattle.flat_model.specs.Machine.Event.{Event, Reply, Counted}
 use Rattle.flat_model.specs.Machine.Step.{Step}
@@ -10,8 +10,6 @@ use Rattle.flat_model.proofs.Laws.{in_range}
 use Rattle.net_stack.specs.Stack.{StackView, state_of}
 use Rattle.play_read.specs.Asks.{Call, Writes}
 use Rattle.play_show.specs.declared.snapshot.Snapshot.{Snapshot}
-use Rattle.play_script.specs.Captures.{moved_by}
-use Rattle.play_script.specs.Deeds.{below_text}
 use Rattle.play_script.specs.Outcomes.{told, drops_text}
 use Rattle.segment.specs.Law.{Calls}
 use Rattle.segment.specs.Segment.{SegmentView}
@@ -29,28 +27,27 @@ unfolding counts_of
 counted_is a b e = ap (λ r. counts_of r a) e
 
 -- a call whose reply was told, and what came of it
-pub answered_by_call : (quiet : Bool) (plain : List ℕ) (s t : StackView) (text below : List ℕ) (event : Event)
+pub answered_by_call : (plain : List ℕ) (s t : StackView) (text below : List ℕ) (event : Event)
     (reply : Reply) (before after : Snapshot)
     → Writes plain (Call event) → Step (state_of s) event reply (state_of t) → AreLooks s t before after
     → text ≡ told (reply_text reply) (drops_text before.counters after.counters)
-    → below ≡ below_text quiet (moved_by event reply) before after (state_of t).output
-    → (turns : List Turn) × IsLineAnswered quiet plain s turns (Told text below) t
-answered_by_call quiet plain s t text below event reply before after asks step looks is under = (
+    → (turns : List Turn) × IsLineAnswered plain s turns (Told text below) t
+answered_by_call plain s t text below event reply before after asks step looks is = (
   call_turn event reply ∷ [],
   (
     Some (Call event),
     asks,
     (in_range plain event asks.form, t, step, refl),
-    (reply, before, after, refl, looks, ap₂ Told is under),
+    (reply, before, after, refl, looks, (below, ap (λ (t : List ℕ). Told t below) is)),
   ),
 )
 
 -- a line of a host, on its stack while that is handed over
-pub host_line : (quiet : Bool) (place : ℕ) (plain : List ℕ) (v mid w : SegmentView) (spare s t other : StackView)
+pub host_line : (place : ℕ) (plain : List ℕ) (v mid w : SegmentView) (spare s t other : StackView)
     (came : Outcome) (turns : List Turn) (b : Bool)
-    → IsExchanged place v spare mid s → IsLineAnswered quiet plain s turns came t
+    → IsExchanged place v spare mid s → IsLineAnswered plain s turns came t
     → Choice b (IsExchanged place mid t w other) (IsKept place mid w)
-    → IsStackLine quiet place plain v (map (Calls place) turns) came w
-host_line quiet place plain v mid w spare s t other came turns b first answered back =
+    → IsStackLine place plain v (map (Calls place) turns) came w
+host_line place plain v mid w spare s t other came turns b first answered back =
     let put = put_back place v mid w spare s t other b first back in
     record { turns = turns; before = s; after = t; here = put.0; answered = answered; acts_are = refl; leads = put.1 }

@@ -26,9 +26,12 @@ use Rattle.play_wire.specs.Acts.{IsMissing, IsStackLine, Outcome, Told, Refused,
 use Rattle.play_wire.specs.Inside.{HasCounted, HasNotCounted, IsAtHost, IsAtLink, IsAtStack, IsExchanged, IsKept, ReadsOfLink, held_by, link_asks}
 use Rattle.play_wire.specs.LinkTexts.{error_text, heard_text, link_lines, neighbour_lines, neighbours_text, state_text}
 use Rattle.play_wire.specs.Links.{DoesLink, IsForStack, IsHostLine, AsksLink, AsksOfLink, LinkAsk, Frame, LastError, Neighbours, Counts, Ticks, Packets, WritesLink, is_for_link, is_of_link, ticks_at}
-use Rattle.play_wire.specs.Verbs.{link_word_of, IsOneNumber, IsTickCount}
-use Rattle.play_wire.specs.declared.verb.LinkVerb.{LinkVerb}
-use Rattle.play_wire.specs.declared.verb.LinkVerb.TheVariants as verb
+use Rattle.play_wire.specs.Verbs.{IsOneNumber, IsTickCount}
+use Rattle.play_forms.specs.Near.{has_name}
+use Rattle.play_forms.specs.Table.{hosted_commands}
+use Rattle.play_forms.specs.declared.command.Command.{Command}
+use Rattle.play_forms.specs.declared.command.Command.TheVariants as command
+use Rattle.std.specs.List.{find}
 use Rattle.play_wire.specs.declared.fault.Fault.TheVariants as fault
 use Rattle.play_wire.specs.declared.link_ask.LinkAsk.{LinkAsk as Asked}
 use Rattle.play_wire.specs.declared.tell_link.Counts.{Counts as HostCounts}
@@ -36,89 +39,70 @@ use Rattle.play_wire.proofs.ActLemmas.{acts_append, calls_are_acts, get_set, put
 
 -- ---- a line of a host
 
-by_link : (quiet : Bool) (place : ℕ) (plain : List ℕ) (ask : LinkAsk) (v w : SegmentView) (came : Outcome) (acts : List Act)
+by_link : (place : ℕ) (plain : List ℕ) (ask : LinkAsk) (v w : SegmentView) (came : Outcome) (acts : List Act)
     → WritesLink plain ask → is_for_link (slice_get v.links place) ask ≡ true
     → DoesLink place ask (slice_get v.links place) v acts came w ⊎ IsMissing place v acts came w
-    → IsHostLine quiet place plain v acts came w ⊎ IsMissing place v acts came w
-by_link quiet place plain ask v w came acts writes there (inl does) = inl (inr (ask, writes, there, does))
-by_link quiet place plain ask v w came acts writes there (inr missing) = inr missing
+    → IsHostLine place plain v acts came w ⊎ IsMissing place v acts came w
+by_link place plain ask v w came acts writes there (inl does) = inl (inr (ask, writes, there, does))
+by_link place plain ask v w came acts writes there (inr missing) = inr missing
 
-pub host_by_link : (quiet : Bool) (place : ℕ) (plain : List ℕ) (ask : LinkAsk) (v w : SegmentView) (came : Outcome)
+pub host_by_link : (place : ℕ) (plain : List ℕ) (ask : LinkAsk) (v w : SegmentView) (came : Outcome)
     → WritesLink plain ask → is_for_link (slice_get v.links place) ask ≡ true → IsAtLink place ask v came w
-    → IsAtHost quiet place plain v came w
-host_by_link quiet place plain ask v w came writes there (acts, did) =
-    (acts, by_link quiet place plain ask v w came acts writes there did)
+    → IsAtHost place plain v came w
+host_by_link place plain ask v w came writes there (acts, did) =
+    (acts, by_link place plain ask v w came acts writes there did)
 
-by_stack : (quiet : Bool) (place : ℕ) (plain : List ℕ) (v w : SegmentView) (came : Outcome) (acts : List Act)
-    → IsForStack place plain v → IsStackLine quiet place plain v acts came w ⊎ IsMissing place v acts came w
-    → IsHostLine quiet place plain v acts came w ⊎ IsMissing place v acts came w
-by_stack quiet place plain v w came acts others (inl is) = inl (inl (others, is))
-by_stack quiet place plain v w came acts others (inr missing) = inr missing
+by_stack : (place : ℕ) (plain : List ℕ) (v w : SegmentView) (came : Outcome) (acts : List Act)
+    → IsForStack place plain v → IsStackLine place plain v acts came w ⊎ IsMissing place v acts came w
+    → IsHostLine place plain v acts came w ⊎ IsMissing place v acts came w
+by_stack place plain v w came acts others (inl is) = inl (inl (others, is))
+by_stack place plain v w came acts others (inr missing) = inr missing
 
-pub host_by_stack : (quiet quiet' : Bool) (place : ℕ) (plain : List ℕ) (v v' w : SegmentView) (came : Outcome)
-    → IsForStack place plain v × (v' ≡ v) × (quiet' ≡ quiet) → IsAtStack quiet' place plain v' came w
-    → IsAtHost quiet place plain v came w
-host_by_stack quiet quiet' place plain v v' w came (others, same, loud) (acts, did) =
-    let here : IsStackLine quiet' place plain v acts came w ⊎ IsMissing place v acts came w =
-    subst (λ (x : SegmentView). IsStackLine quiet' place plain x acts came w ⊎ IsMissing place x acts came w) same did in
-    let so : IsStackLine quiet place plain v acts came w ⊎ IsMissing place v acts came w =
-    subst (λ (q : Bool). IsStackLine q place plain v acts came w ⊎ IsMissing place v acts came w) loud here in
-    (acts, by_stack quiet place plain v w came acts others so)
+pub host_by_stack : (place : ℕ) (plain : List ℕ) (v v' w : SegmentView) (came : Outcome)
+    → IsForStack place plain v × (v' ≡ v) → IsAtStack place plain v' came w
+    → IsAtHost place plain v came w
+host_by_stack place plain v v' w came (others, same) (acts, did) =
+    let so : IsStackLine place plain v acts came w ⊎ IsMissing place v acts came w =
+    subst (λ (x : SegmentView). IsStackLine place plain x acts came w ⊎ IsMissing place x acts came w) same did in
+    (acts, by_stack place plain v w came acts others so)
 
 -- ---- what a line asks for
 
-verb_at : List ℕ → Option LinkVerb
-verb_at word =
-    if bytes_eq word (codes "frame") then Some verb.Frame else
-    if bytes_eq word (codes "error") then Some verb.Error else
-    if bytes_eq word (codes "tick") then Some verb.Tick else
-    if bytes_eq word (codes "show") then Some verb.Show else
-    if bytes_eq word (codes "rx") then Some verb.Rx else
-    if bytes_eq word (codes "tx") then Some verb.Tx else None
+-- what a command and the words after it ask for, the line asks for
+pub asks_as : (plain word : List ℕ) (c : Command) (args : List (List ℕ)) (asked : Option Asked)
+    → words plain ≡ word ∷ args → find (has_name word) hosted_commands ≡ Some c → ReadsOfLink c args asked
+    → AsksLink plain (link_asks asked)
+asks_as plain word c args (Some ask) cut is reads = (c, word, args, cut, is, reads)
+asks_as plain word c args None cut is none = λ ask h.
+    let all : h.1 ∷ h.2 ≡ word ∷ args = sym h.3 ∙ cut in
+    let first : h.1 ≡ word = cc all in
+    let rest : h.2 ≡ args = cc all in
+    let both : Some h.0 ≡ Some c = sym h.4 ∙ ap (λ (w : List ℕ). find (has_name w) hosted_commands) first ∙ is in
+    let same : h.0 ≡ c = cc both in
+    none ask (subst (λ (x : Command). AsksOfLink x args ask) same
+    (subst (λ (xs : List (List ℕ)). AsksOfLink h.0 xs ask) rest h.5))
 
-verb-at : (v : LinkVerb) → verb_at (link_word_of v) ≡ Some v
-unfolding verb_at
-verb-at verb.Frame = refl
-verb-at verb.Error = refl
-verb-at verb.Tick = refl
-verb-at verb.Show = refl
-verb-at verb.Rx = refl
-verb-at verb.Tx = refl
-
-same_verb : (v w : LinkVerb) → link_word_of v ≡ link_word_of w → v ≡ w
-same_verb v w e = let both : Some v ≡ Some w = sym (verb-at v) ∙ ap verb_at e ∙ verb-at w in cc both
-
--- what a verb and the words after it ask for, the line asks for
-pub asks_as : (plain word : List ℕ) (v : LinkVerb) (args : List (List ℕ)) (asked : Option Asked)
-    → words plain ≡ word ∷ args → word ≡ link_word_of v → ReadsOfLink v args asked → AsksLink plain (link_asks asked)
-asks_as plain word v args (Some ask) cut is reads = (v, args, cut ∙ ap (λ (w : List ℕ). w ∷ args) is, reads)
-asks_as plain word v args None cut is none = λ ask h.
-    let all : word ∷ args ≡ link_word_of h.0 ∷ h.1 = sym cut ∙ h.2 in
-    let first : word ≡ link_word_of h.0 = cc all in
-    let rest : h.1 ≡ args = cc (sym all) in
-    let same : h.0 ≡ v = same_verb h.0 v (sym first ∙ is) in
-    none ask (subst (λ (w : LinkVerb). AsksOfLink w args ask) same
-    (subst (λ (xs : List (List ℕ)). AsksOfLink h.0 xs ask) rest h.3))
-
--- a line that begins with no verb asks for nothing
+-- a line that begins with no command asks for nothing
 pub asks_none : (plain word : List ℕ) (args : List (List ℕ)) → words plain ≡ word ∷ args
-    → ((v : LinkVerb) → word ≡ link_word_of v → ⊥) → AsksLink plain None
+    → find (has_name word) hosted_commands ≡ None → AsksLink plain None
 asks_none plain word args cut none = λ ask h.
-    let all : word ∷ args ≡ link_word_of h.0 ∷ h.1 = sym cut ∙ h.2 in
-    none h.0 (cc all)
+    let all : h.1 ∷ h.2 ≡ word ∷ args = sym h.3 ∙ cut in
+    let first : h.1 ≡ word = cc all in
+    let both : Some h.0 ≡ None = sym h.4 ∙ ap (λ (w : List ℕ). find (has_name w) hosted_commands) first ∙ none in
+    cc both
 
 pub no_ticks : (args : List (List ℕ)) → ((n : ℕ) → IsTickCount args n → ⊥) → (ask : LinkAsk)
-    → AsksOfLink verb.Tick args ask → ⊥
+    → AsksOfLink command.Tick args ask → ⊥
 no_ticks args none (Ticks n) h = none n h
 no_ticks args none ask h = h
 
 pub no_error : (args : List (List ℕ)) → ((n : ℕ) → IsOneNumber 4294967295 args n → ⊥) → (ask : LinkAsk)
-    → AsksOfLink verb.Error args ask → ⊥
+    → AsksOfLink command.LastError args ask → ⊥
 no_error args none (LastError n) h = none n h
 no_error args none ask h = h
 
 pub no_shown : (args : List (List ℕ)) (word : List ℕ) → args ≡ word ∷ [] → (word ≡ codes "neighbours" → ⊥)
-    → (word ≡ codes "link" → ⊥) → (ask : LinkAsk) → AsksOfLink verb.Show args ask → ⊥
+    → (word ≡ codes "link" → ⊥) → (ask : LinkAsk) → AsksOfLink command.ShowOfHost args ask → ⊥
 no_shown args word cut first second Neighbours h =
     let both : word ∷ [] ≡ codes "neighbours" ∷ [] = sym cut ∙ h in first (cc both)
 no_shown args word cut first second Counts h =
@@ -126,7 +110,7 @@ no_shown args word cut first second Counts h =
 no_shown args word cut first second ask h = h
 
 pub no_frame : (args : List (List ℕ)) (word : List ℕ) → args ≡ word ∷ [] → ((frame : List ℕ) → IsHex word frame → ⊥)
-    → (ask : LinkAsk) → AsksOfLink verb.Frame args ask → ⊥
+    → (ask : LinkAsk) → AsksOfLink command.Frame args ask → ⊥
 no_frame args word cut none (Frame frame) h =
     let both : h.0 ∷ [] ≡ word ∷ [] = sym h.1 ∙ cut in
     none frame (subst (λ (w : List ℕ). IsHex w frame) (cc both) h.2)
@@ -177,7 +161,7 @@ words-some (x ∷ xs) e = elim (x == 32) as (λ b. cond b ([] ∷ words xs) (ont
 -- a packet by name
 pub packet_spelled : (named : Bool) (packet line : List ℕ) → named ≡ true
     → WritesLink (if named then codes "rx " ++ packet else line) Packets
-packet_spelled true packet line e = (verb.Rx, words packet, refl, words-some packet)
+packet_spelled true packet line e = (command.Rx, codes "rx", words packet, refl, refl, words-some packet)
 packet_spelled false packet line e = absurd (never e)
   where
     never : false ≡ true → ⊥

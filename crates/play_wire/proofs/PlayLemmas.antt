@@ -1,7 +1,6 @@
 -- A line, and what it does.
 use Rattle.std.proofs.Common.{◌≡◌, ◌⊎◌, inl, inr, ℕ, zero, suc, ◌&&◌, Bool, true, false, List, [], ◌∷◌, ◌++◌, arith, Option, Some, refl, sym, ap, ◌∙◌, subst, append-nil}
 use Rattle.std.specs.Prelude.{codes, slice_get, None, MatchResult, Result, Ok, Err}
-use Rattle.play_text.specs.Forms.{is_quiet}
 use Rattle.play_text.specs.Texts.{if_there}
 use Rattle.play_line.specs.Time.{TimedView, timed}
 use Rattle.play_line.specs.declared.fault.Slip.{Slip}
@@ -59,18 +58,14 @@ by_hand v w act seen there came did same told = (
 
 pub done_by_host : (play : WirePlay) (named : Bool) (host words plain : List ℕ) (came : Outcome) (v w : SegmentView)
     (old : List (List ℕ)) (place : ℕ)
-    → (quiet : Bool)
-    → play.segment ≡ v → play.names ≡ old → is_quiet play.form ≡ quiet → named ≡ true
+    → play.segment ≡ v → play.names ≡ old → named ≡ true
     → slice_get old place ≡ Some host → words ≡ plain
-    → (acts : List Act) × (IsHostLine quiet place words v acts came w ⊎ IsMissing place v acts came w)
+    → (acts : List Act) × (IsHostLine place words v acts came w ⊎ IsMissing place v acts came w)
     → (acts : List Act) × IsDone play (if_there named host) plain acts came w old
-done_by_host play named host words plain came v w old place quiet e f loud is there same (acts, did) =
-    let line = λ (q : Bool) (ws : List ℕ) (x : SegmentView).
-    IsHostLine q place ws x acts came w ⊎ IsMissing place x acts came w in
-    let read : line quiet plain v = subst (λ (ws : List ℕ). line quiet ws v) same did in
-    let here : line quiet plain play.segment = subst (λ (x : SegmentView). line quiet plain x) (sym e) read in
-    let mine : line (is_quiet play.form) plain play.segment =
-    subst (λ (q : Bool). line q plain play.segment) (sym loud) here in
+done_by_host play named host words plain came v w old place e f is there same (acts, did) =
+    let line = λ (ws : List ℕ) (x : SegmentView). IsHostLine place ws x acts came w ⊎ IsMissing place x acts came w in
+    let read : line plain v = subst (λ (ws : List ℕ). line ws v) same did in
+    let mine : line plain play.segment = subst (λ (x : SegmentView). line plain x) (sym e) read in
     let named_so : slice_get play.names place ≡ Some host =
     subst (λ (xs : List (List ℕ)). slice_get xs place ≡ Some host) (sym f) there in (
       acts,

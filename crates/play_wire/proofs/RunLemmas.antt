@@ -11,7 +11,6 @@ use Rattle.segment.specs.Segment.{SegmentView}
 use Rattle.play_wire.specs.Acts.{Outcome, IsStackLine}
 use Rattle.play_wire.specs.Links.{DoesAtLink, DoesLink, IsHostLine, LinkAsk, Frame, LastError, Neighbours, Counts, Ticks, Packets}
 use Rattle.play_wire.specs.Runs.{AreToldBy, IsLawful, IsPlayed}
-use Rattle.play_text.specs.Forms.{is_quiet}
 use Rattle.play_text.specs.declared.form.Form.{Form}
 use Rattle.play_wire.specs.Tells.{WirePlay, Tells, TellsPart, TellsTimed, IsDone, IsWaited, next_wire_line, wire_started}
 use Rattle.play_wire.proofs.ActLemmas.{acts_append, calls_are_acts}
@@ -19,9 +18,9 @@ use Rattle.play_wire.proofs.ActLemmas.{acts_append, calls_are_acts}
 none_are : (v w : SegmentView) (acts : List Act) → acts ≡ [] → w ≡ v → AreActs v acts w
 none_are v w acts none same = subst (λ (xs : List Act). AreActs v xs w) (sym none) same
 
-stack_acts : (quiet : Bool) (place : ℕ) (plain : List ℕ) (v w : SegmentView) (acts : List Act) (came : Outcome)
-    → IsStackLine quiet place plain v acts came w → AreActs v acts w
-stack_acts quiet place plain v w acts came is =
+stack_acts : (place : ℕ) (plain : List ℕ) (v w : SegmentView) (acts : List Act) (came : Outcome)
+    → IsStackLine place plain v acts came w → AreActs v acts w
+stack_acts place plain v w acts came is =
     subst (λ (xs : List Act). AreActs v xs w) (sym is.acts_are)
     (subst (λ (x : SegmentView). AreActs v (map (Calls place) is.turns) x) (sym is.leads)
     (calls_are_acts place v is.turns is.before is.after is.here is.answered.2))
@@ -46,10 +45,10 @@ link_acts : (place : ℕ) (v w : SegmentView) (acts : List Act) (came : Outcome)
 link_acts place v w acts came ask None (none, refused, same) = none_are v w acts none same
 link_acts place v w acts came ask (Some link) does = at_link_acts place v w acts came ask link does
 
-host_acts : (quiet : Bool) (place : ℕ) (plain : List ℕ) (v w : SegmentView) (acts : List Act) (came : Outcome)
-    → IsHostLine quiet place plain v acts came w → AreActs v acts w
-host_acts quiet place plain v w acts came (inl (others, is)) = stack_acts quiet place plain v w acts came is
-host_acts quiet place plain v w acts came (inr (ask, writes, for_link, does)) =
+host_acts : (place : ℕ) (plain : List ℕ) (v w : SegmentView) (acts : List Act) (came : Outcome)
+    → IsHostLine place plain v acts came w → AreActs v acts w
+host_acts place plain v w acts came (inl (others, is)) = stack_acts place plain v w acts came is
+host_acts place plain v w acts came (inr (ask, writes, for_link, does)) =
     link_acts place v w acts came ask (slice_get v.links place) does
 
 done_acts : (now : WirePlay) (host : Option (List ℕ)) (plain : List ℕ) (acts : List Act) (came : Outcome)
@@ -57,7 +56,7 @@ done_acts : (now : WirePlay) (host : Option (List ℕ)) (plain : List ℕ) (acts
     → IsDone now host plain acts came segment names → AreActs now.segment acts segment
 done_acts now None plain acts came segment names done = done.0
 done_acts now (Some host) plain acts came segment names (same, inl (place, named, inl is)) =
-    host_acts (is_quiet now.form) place plain now.segment segment acts came is
+    host_acts place plain now.segment segment acts came is
 done_acts now (Some host) plain acts came segment names (same, inl (place, named, inr missing)) =
     none_are now.segment segment acts missing.1 missing.3
 done_acts now (Some host) plain acts came segment names (same, inr (none, kept, refused)) =

@@ -1,92 +1,51 @@
 -- What a line asks of the wire.
-use Rattle.std.proofs.Common.{◌≡◌, ◌<◌, ◌^◌, ℕ, Bool, true, false, if◌then◌else◌, List, [], ◌∷◌, ◌++◌, codes, bytes_eq, Option, Some, None, inl, inr, refl, sym, ap, ap₂, ◌∙◌, subst, arith}
+use Rattle.std.proofs.Common.{◌≡◌, ◌<◌, ◌^◌, ℕ, Bool, true, false, if◌then◌else◌, List, [], ◌∷◌, ◌++◌, codes, Option, Some, None, inl, inr, refl, sym, ap, ap₂, ◌∙◌, subst, arith}
 use Rattle.std.proofs.lemmas.Bool.{false≢true}
 use Rattle.std.proofs.lemmas.Fmt.{decimal_injective, decimal_is_IsNumeral}
 use Rattle.std.specs.Prelude.{◌↔◌, IsTrue}
+use Rattle.std.specs.List.{find}
 use Rattle.std.specs.Str.Parse.{IsNumeral, digits_value, without_leading_plus}
 use Rattle.flat_model.specs.Scripts.Grammar.{words, IsNumber}
 use Rattle.play_wire.specs.Inside.{ReadsAfter, wire_asks}
-use Rattle.play_wire.specs.Verbs.{word_of, IsOneNumber, IsTickCount}
+use Rattle.play_wire.specs.Verbs.{IsOneNumber, IsTickCount}
 use Rattle.play_wire.specs.Wires.{WireAsk, Host, Wire, Carry, Collect, Deliver, Tick, Seed, Drop, Repeat, Swap, Impair, Show, Summary, AsksAfter, AsksWire, IsBound, IsSeed, WritesWire}
 use Rattle.play_wire.specs.declared.carries.Bound.{Bound}
 use Rattle.play_wire.specs.declared.carries.Bound.TheVariants.{Times, Quiet}
-use Rattle.play_wire.specs.declared.verb.Verb.{Verb}
-use Rattle.play_wire.specs.declared.verb.Verb.TheVariants as verb
+use Rattle.play_forms.specs.Near.{has_name}
+use Rattle.play_forms.specs.Table.{wire_commands}
+use Rattle.play_forms.specs.declared.command.Command.{Command}
+use Rattle.play_forms.specs.declared.command.Command.TheVariants as command
 use Rattle.play_wire.specs.declared.wire_ask.WireAsk.{WireAsk as Asked}
 
 -- ---- the first word
 
-verb_at : List ℕ → Option Verb
-verb_at word =
-    if bytes_eq word (codes "host") then Some verb.Host else
-    if bytes_eq word (codes "wire") then Some verb.Wire else
-    if bytes_eq word (codes "carry") then Some verb.Carry else
-    if bytes_eq word (codes "collect") then Some verb.Collect else
-    if bytes_eq word (codes "deliver") then Some verb.Deliver else
-    if bytes_eq word (codes "tick") then Some verb.Tick else
-    if bytes_eq word (codes "seed") then Some verb.Seed else
-    if bytes_eq word (codes "drop") then Some verb.Drop else
-    if bytes_eq word (codes "repeat") then Some verb.Repeat else
-    if bytes_eq word (codes "swap") then Some verb.Swap else
-    if bytes_eq word (codes "loss") then Some verb.Loss else
-    if bytes_eq word (codes "reorder") then Some verb.Reorder else
-    if bytes_eq word (codes "delay") then Some verb.Delay else
-    if bytes_eq word (codes "show") then Some verb.Show else
-    if bytes_eq word (codes "summary") then Some verb.Summary else None
+-- what a command and the words after it ask for, the line asks for
+pub asks_as : (plain word : List ℕ) (c : Command) (args : List (List ℕ)) (asked : Option Asked)
+    → words plain ≡ word ∷ args → find (has_name word) wire_commands ≡ Some c → ReadsAfter c args asked
+    → AsksWire plain (wire_asks asked)
+asks_as plain word c args (Some ask) cut is reads = (c, word, args, cut, is, reads)
+asks_as plain word c args None cut is none = λ ask h.
+    let all : h.1 ∷ h.2 ≡ word ∷ args = sym h.3 ∙ cut in
+    let first : h.1 ≡ word = cc all in
+    let rest : h.2 ≡ args = cc all in
+    let both : Some h.0 ≡ Some c = sym h.4 ∙ ap (λ (w : List ℕ). find (has_name w) wire_commands) first ∙ is in
+    let same : h.0 ≡ c = cc both in
+    none ask (subst (λ (x : Command). AsksAfter x args ask) same
+    (subst (λ (xs : List (List ℕ)). AsksAfter h.0 xs ask) rest h.5))
 
-verb-at : (v : Verb) → verb_at (word_of v) ≡ Some v
-unfolding verb_at
-verb-at verb.Host = refl
-verb-at verb.Wire = refl
-verb-at verb.Carry = refl
-verb-at verb.Collect = refl
-verb-at verb.Deliver = refl
-verb-at verb.Tick = refl
-verb-at verb.Seed = refl
-verb-at verb.Drop = refl
-verb-at verb.Repeat = refl
-verb-at verb.Swap = refl
-verb-at verb.Loss = refl
-verb-at verb.Reorder = refl
-verb-at verb.Delay = refl
-verb-at verb.Show = refl
-verb-at verb.Summary = refl
-
-same_verb : (v w : Verb) → word_of v ≡ word_of w → v ≡ w
-same_verb v w e = let both : Some v ≡ Some w = sym (verb-at v) ∙ ap verb_at e ∙ verb-at w in cc both
-
-no_rx : verb_at (codes "rx") ≡ None
-unfolding verb_at
-no_rx = refl
-
-not_rx : (v : Verb) → word_of v ≡ codes "rx" → ⊥
-not_rx v e = let both : Some v ≡ None = sym (verb-at v) ∙ ap verb_at e ∙ no_rx in cc both
-
--- what a verb and the words after it ask for, the line asks for
-pub asks_as : (plain word : List ℕ) (v : Verb) (args : List (List ℕ)) (asked : Option Asked)
-    → words plain ≡ word ∷ args → word ≡ word_of v → ReadsAfter v args asked → AsksWire plain (wire_asks asked)
-asks_as plain word v args (Some ask) cut is reads = (v, args, cut ∙ ap (λ (w : List ℕ). w ∷ args) is, reads)
-asks_as plain word v args None cut is none = λ ask h.
-    let all : word ∷ args ≡ word_of h.0 ∷ h.1 = sym cut ∙ h.2 in
-    let first : word ≡ word_of h.0 = cc all in
-    let rest : h.1 ≡ args = cc (sym all) in
-    let same : h.0 ≡ v = same_verb h.0 v (sym first ∙ is) in
-    none ask (subst (λ (w : Verb). AsksAfter w args ask) same
-    (subst (λ (xs : List (List ℕ)). AsksAfter h.0 xs ask) rest h.3))
-
--- a line that begins with no verb asks for nothing
+-- a line that begins with no command asks for nothing
 pub asks_none : (plain word : List ℕ) (args : List (List ℕ)) → words plain ≡ word ∷ args
-    → ((v : Verb) → word ≡ word_of v → ⊥) → AsksWire plain None
+    → find (has_name word) wire_commands ≡ None → AsksWire plain None
 asks_none plain word args cut none = λ ask h.
-    let all : word ∷ args ≡ word_of h.0 ∷ h.1 = sym cut ∙ h.2 in
-    none h.0 (cc all)
+    let all : h.1 ∷ h.2 ≡ word ∷ args = sym h.3 ∙ cut in
+    let first : h.1 ≡ word = cc all in
+    let both : Some h.0 ≡ None = sym h.4 ∙ ap (λ (w : List ℕ). find (has_name w) wire_commands) first ∙ none in
+    cc both
 
 -- nor does a packet by name
 pub packet_asks_none : (named : Bool) (packet line : List ℕ) → named ≡ true
     → AsksWire (if named then codes "rx " ++ packet else line) None
-packet_asks_none true packet line e = λ ask h.
-    let all : codes "rx" ∷ words packet ≡ word_of h.0 ∷ h.1 = h.2 in
-    not_rx h.0 (cc all)
+packet_asks_none true packet line e = asks_none (codes "rx " ++ packet) (codes "rx") (words packet) refl refl
 packet_asks_none false packet line e = absurd (never e)
   where
     never : false ≡ true → ⊥
@@ -171,17 +130,17 @@ no_tick_number args some none n (inl h) = some h.0
 no_tick_number args some none n (inr h) = none n h.0
 
 pub no_tick : (args : List (List ℕ)) → ((n : ℕ) → IsTickCount args n → ⊥) → (ask : WireAsk)
-    → AsksAfter verb.Tick args ask → ⊥
+    → AsksAfter command.Tick args ask → ⊥
 no_tick args none (Tick n) h = none n h
 no_tick args none ask h = h
 
 pub no_seed : (args : List (List ℕ)) → ((n : ℕ) → IsSeed args n → ⊥) → (ask : WireAsk)
-    → AsksAfter verb.Seed args ask → ⊥
+    → AsksAfter command.Seed args ask → ⊥
 no_seed args none (Seed n) h = none n h
 no_seed args none ask h = h
 
 pub no_drop : (args : List (List ℕ)) → ((n : ℕ) → IsOneNumber 65535 args n → ⊥) → (ask : WireAsk)
-    → AsksAfter verb.Drop args ask → ⊥
+    → AsksAfter command.Drop args ask → ⊥
 no_drop args none (Drop n) h = none n h
 no_drop args none ask h = h
 
@@ -220,65 +179,68 @@ bound_all_alone args word more cut is none =
 
 -- ---- one thing
 
-one_after : (v : Verb) (args : List (List ℕ)) (a b : WireAsk) → AsksAfter v args a → AsksAfter v args b → a ≡ b
-one_after verb.Host args (Host m s) (Host n t) h k = ap₂ Host (h.0 ∙ sym k.0) (h.1 ∙ sym k.1)
-one_after verb.Host args (Host m s) b h k = absurd k
-one_after verb.Host args a b h k = absurd h
-one_after verb.Wire args (Wire m) (Wire n) h k = ap Wire (h ∙ sym k)
-one_after verb.Wire args (Wire m) b h k = absurd k
-one_after verb.Wire args a b h k = absurd h
-one_after verb.Carry args (Carry m) (Carry n) h k = ap Carry (bound-same m n args h k)
-one_after verb.Carry args (Carry m) b h k = absurd k
-one_after verb.Carry args a b h k = absurd h
-one_after verb.Collect args Collect Collect h k = refl
-one_after verb.Collect args Collect b h k = absurd k
-one_after verb.Collect args a b h k = absurd h
-one_after verb.Deliver args Deliver Deliver h k = refl
-one_after verb.Deliver args Deliver b h k = absurd k
-one_after verb.Deliver args a b h k = absurd h
-one_after verb.Tick args (Tick m) (Tick n) h k = ap Tick (ticks-same m n args h k)
-one_after verb.Tick args (Tick m) b h k = absurd k
-one_after verb.Tick args a b h k = absurd h
-one_after verb.Seed args (Seed m) (Seed n) h k = ap Seed (seed-same m n args h k)
-one_after verb.Seed args (Seed m) b h k = absurd k
-one_after verb.Seed args a b h k = absurd h
-one_after verb.Drop args (Drop m) (Drop n) h k = ap Drop (one-same 65535 m n args (omega arith) h k)
-one_after verb.Drop args (Drop m) b h k = absurd k
-one_after verb.Drop args a b h k = absurd h
-one_after verb.Swap args (Swap l m) (Swap n o) h k =
+one_after : (v : Command) (args : List (List ℕ)) (a b : WireAsk) → AsksAfter v args a → AsksAfter v args b → a ≡ b
+one_after command.Host args (Host m s) (Host n t) h k = ap₂ Host (h.0 ∙ sym k.0) (h.1 ∙ sym k.1)
+one_after command.Host args (Host m s) b h k = absurd k
+one_after command.Host args a b h k = absurd h
+one_after command.Wire args (Wire m) (Wire n) h k = ap Wire (h ∙ sym k)
+one_after command.Wire args (Wire m) b h k = absurd k
+one_after command.Wire args a b h k = absurd h
+one_after command.Carry args (Carry m) (Carry n) h k = ap Carry (bound-same m n args h k)
+one_after command.Carry args (Carry m) b h k = absurd k
+one_after command.Carry args a b h k = absurd h
+one_after command.Collect args Collect Collect h k = refl
+one_after command.Collect args Collect b h k = absurd k
+one_after command.Collect args a b h k = absurd h
+one_after command.Deliver args Deliver Deliver h k = refl
+one_after command.Deliver args Deliver b h k = absurd k
+one_after command.Deliver args a b h k = absurd h
+one_after command.Tick args (Tick m) (Tick n) h k = ap Tick (ticks-same m n args h k)
+one_after command.Tick args (Tick m) b h k = absurd k
+one_after command.Tick args a b h k = absurd h
+one_after command.Seed args (Seed m) (Seed n) h k = ap Seed (seed-same m n args h k)
+one_after command.Seed args (Seed m) b h k = absurd k
+one_after command.Seed args a b h k = absurd h
+one_after command.Drop args (Drop m) (Drop n) h k = ap Drop (one-same 65535 m n args (omega arith) h k)
+one_after command.Drop args (Drop m) b h k = absurd k
+one_after command.Drop args a b h k = absurd h
+one_after command.Swap args (Swap l m) (Swap n o) h k =
     let both : h.0 ∷ h.1 ∷ [] ≡ k.0 ∷ k.1 ∷ [] = sym h.2 ∙ k.2 in
     ap₂ Swap (number-same 65535 l n h.0 k.0 (omega arith) (cc both) h.3 k.3)
     (number-same 65535 m o h.1 k.1 (omega arith) (cc both) h.4 k.4)
-one_after verb.Swap args (Swap l m) b h k = absurd k
-one_after verb.Swap args a b h k = absurd h
-one_after verb.Loss args (Impair l u) (Impair m w) h k = ap₂ Impair (h.0 ∙ sym k.0) (h.1 ∙ sym k.1)
-one_after verb.Loss args (Impair l u) b h k = absurd k
-one_after verb.Loss args a b h k = absurd h
-one_after verb.Reorder args (Impair l u) (Impair m w) h k = ap₂ Impair (h.0 ∙ sym k.0) (h.1 ∙ sym k.1)
-one_after verb.Reorder args (Impair l u) b h k = absurd k
-one_after verb.Reorder args a b h k = absurd h
-one_after verb.Delay args (Impair l u) (Impair m w) h k = ap₂ Impair (h.0 ∙ sym k.0) (h.1 ∙ sym k.1)
-one_after verb.Delay args (Impair l u) b h k = absurd k
-one_after verb.Delay args a b h k = absurd h
-one_after verb.Show args Show Show h k = refl
-one_after verb.Show args Show b h k = absurd k
-one_after verb.Show args a b h k = absurd h
-one_after verb.Summary args Summary Summary h k = refl
-one_after verb.Summary args Summary b h k = absurd k
-one_after verb.Summary args a b h k = absurd h
-one_after verb.Repeat args (Repeat m) (Repeat n) h k = ap Repeat (one-same 65535 m n args (omega arith) h k)
-one_after verb.Repeat args (Repeat m) (Impair l u) h k = absurd (k.0 m h)
-one_after verb.Repeat args (Repeat m) b h k = absurd k
-one_after verb.Repeat args (Impair l u) (Repeat m) h k = absurd (h.0 m k)
-one_after verb.Repeat args (Impair l u) (Impair m w) h k = ap₂ Impair (h.1 ∙ sym k.1) (h.2 ∙ sym k.2)
-one_after verb.Repeat args (Impair l u) b h k = absurd k
-one_after verb.Repeat args a b h k = absurd h
+one_after command.Swap args (Swap l m) b h k = absurd k
+one_after command.Swap args a b h k = absurd h
+one_after command.Loss args (Impair l u) (Impair m w) h k = ap₂ Impair (h.0 ∙ sym k.0) (h.1 ∙ sym k.1)
+one_after command.Loss args (Impair l u) b h k = absurd k
+one_after command.Loss args a b h k = absurd h
+one_after command.Reorder args (Impair l u) (Impair m w) h k = ap₂ Impair (h.0 ∙ sym k.0) (h.1 ∙ sym k.1)
+one_after command.Reorder args (Impair l u) b h k = absurd k
+one_after command.Reorder args a b h k = absurd h
+one_after command.Delay args (Impair l u) (Impair m w) h k = ap₂ Impair (h.0 ∙ sym k.0) (h.1 ∙ sym k.1)
+one_after command.Delay args (Impair l u) b h k = absurd k
+one_after command.Delay args a b h k = absurd h
+one_after command.ShowWire args Show Show h k = refl
+one_after command.ShowWire args Show b h k = absurd k
+one_after command.ShowWire args a b h k = absurd h
+one_after command.Summary args Summary Summary h k = refl
+one_after command.Summary args Summary b h k = absurd k
+one_after command.Summary args a b h k = absurd h
+one_after command.Repeat args (Repeat m) (Repeat n) h k = ap Repeat (one-same 65535 m n args (omega arith) h k)
+one_after command.Repeat args (Repeat m) (Impair l u) h k = absurd (k.0 m h)
+one_after command.Repeat args (Repeat m) b h k = absurd k
+one_after command.Repeat args (Impair l u) (Repeat m) h k = absurd (h.0 m k)
+one_after command.Repeat args (Impair l u) (Impair m w) h k = ap₂ Impair (h.1 ∙ sym k.1) (h.2 ∙ sym k.2)
+one_after command.Repeat args (Impair l u) b h k = absurd k
+one_after command.Repeat args a b h k = absurd h
+one_after _ args a b h k = absurd h
 
 pub one_ask : (plain : List ℕ) (a b : WireAsk) → WritesWire plain a → WritesWire plain b → a ≡ b
 one_ask plain a b h k =
-    let all : word_of h.0 ∷ h.1 ≡ word_of k.0 ∷ k.1 = sym h.2 ∙ k.2 in
-    let names : word_of h.0 ≡ word_of k.0 = cc all in
-    let rest : h.1 ≡ k.1 = cc all in
-    let same : h.0 ≡ k.0 = same_verb h.0 k.0 names in
-    one_after k.0 k.1 a b (subst (λ (v : Verb). AsksAfter v k.1 a) same
-    (subst (λ (xs : List (List ℕ)). AsksAfter h.0 xs a) rest h.3)) k.3
+    let all : h.1 ∷ h.2 ≡ k.1 ∷ k.2 = sym h.3 ∙ k.3 in
+    let first : h.1 ≡ k.1 = cc all in
+    let rest : h.2 ≡ k.2 = cc all in
+    let both : Some h.0 ≡ Some k.0 =
+    sym h.4 ∙ ap (λ (w : List ℕ). find (has_name w) wire_commands) first ∙ k.4 in
+    let same : h.0 ≡ k.0 = cc both in
+    one_after k.0 k.2 a b (subst (λ (x : Command). AsksAfter x k.2 a) same
+    (subst (λ (xs : List (List ℕ)). AsksAfter h.0 xs a) rest h.5)) k.5

@@ -7,11 +7,8 @@ use Rattle.flat_model.specs.Scripts.Texts.{reply_text}
 use Rattle.net_stack.specs.Runs.{AreCalls}
 use Rattle.net_stack.specs.Stack.{StackView, state_of}
 use Rattle.play_show.specs.Changes.{IsSnapshot}
-use Rattle.play_show.specs.Tells.{Shows}
 use Rattle.play_show.specs.declared.snapshot.Snapshot.{Snapshot}
 use Rattle.play_read.specs.Asks.{Ask, Call, Ticks, Show, Capture, Settings, AsksFor}
-use Rattle.play_script.specs.Captures.{moved_by}
-use Rattle.play_script.specs.Deeds.{below_text}
 use Rattle.play_script.specs.Outcomes.{told, drops_text}
 use Rattle.segment.specs.Law.{Act, Calls, AreActs}
 use Rattle.segment.specs.Segment.{SegmentView}
@@ -39,38 +36,39 @@ with_stack_at place s v = record v { stacks = slice_set v.stacks place s }
 abbrev pub AreLooks : StackView → StackView → Snapshot → Snapshot → Type 0
 AreLooks s t before after = IsSnapshot Step (state_of s) before × IsSnapshot Step (state_of t) after
 
--- What a line asks for, or nothing, is these calls, which lead a stack from s to t, and comes out so. Nothing is told
--- below a reply if `quiet`.
-abbrev pub Does : Bool → Option Ask → StackView → List Turn → Outcome → StackView → Type 0
--- The reply is told, and the causes for which packets were dropped; and below it, as on one machine, what came of it.
-Does quiet (Some (Call event)) s turns outcome t =
+-- this is told, with some lines below it
+abbrev pub IsTold : List ℕ → Outcome → Type 0
+IsTold text outcome = (below : List ℕ) × (outcome ≡ Told text below)
+
+-- What a line asks for, or nothing, is these calls, which lead a stack from s to t, and comes out so. What stands below
+-- a reply isn't said.
+abbrev pub Does : Option Ask → StackView → List Turn → Outcome → StackView → Type 0
+-- The reply is told, and the causes for which packets were dropped.
+Does (Some (Call event)) s turns outcome t =
     (reply : Reply) × (before after : Snapshot) × (turns ≡ call_turn event reply ∷ []) × AreLooks s t before after
-    × (outcome ≡ Told (told (reply_text reply) (drops_text before.counters after.counters))
-    (below_text quiet (moved_by event reply) before after (state_of t).output))
-Does quiet (Some (Ticks n)) s turns outcome t =
-    (before after : Snapshot) × (turns ≡ replicate n (call_turn Tick Done)) × AreLooks s t before after
-    × (outcome ≡ Told (codes "ok") (below_text quiet None before after (state_of t).output))
-Does quiet (Some (Show topic)) s turns outcome t =
-    (text below : List ℕ) × Shows Step (state_of s) topic text below × (turns ≡ []) × (outcome ≡ Told text below)
+    × IsTold (told (reply_text reply) (drops_text before.counters after.counters)) outcome
+Does (Some (Ticks n)) s turns outcome t = (turns ≡ replicate n (call_turn Tick Done)) × IsTold (codes "ok") outcome
+-- what is told isn't said
+Does (Some (Show topic)) s turns outcome t = (text : List ℕ) × (turns ≡ []) × IsTold text outcome
 -- no capture is played in
-Does quiet (Some (Capture name details)) s turns outcome t = (turns ≡ []) × (outcome ≡ Refused fault.NoCapture)
+Does (Some (Capture name details)) s turns outcome t = (turns ≡ []) × (outcome ≡ Refused fault.NoCapture)
 -- a host has the settings of its line `host`
-Does quiet (Some (Settings named)) s turns outcome t = (turns ≡ []) × (outcome ≡ Refused fault.NoSettings)
-Does quiet None s turns outcome t = (turns ≡ []) × (outcome ≡ Refused fault.Nothing)
+Does (Some (Settings named)) s turns outcome t = (turns ≡ []) × (outcome ≡ Refused fault.NoSettings)
+Does None s turns outcome t = (turns ≡ []) × (outcome ≡ Refused fault.Nothing)
 
 -- a line leads a stack from s to t, and comes out so
-abbrev pub IsLineAnswered : Bool → List ℕ → StackView → List Turn → Outcome → StackView → Type 0
-IsLineAnswered quiet plain s turns outcome t =
-    (ask : Option Ask) × AsksFor plain ask × AreCalls s turns t × Does quiet ask s turns outcome t
+abbrev pub IsLineAnswered : List ℕ → StackView → List Turn → Outcome → StackView → Type 0
+IsLineAnswered plain s turns outcome t =
+    (ask : Option Ask) × AsksFor plain ask × AreCalls s turns t × Does ask s turns outcome t
 
 -- a line that the stack of the host at a place answers leads from v to w by these acts, and comes out so
-pub record IsStackLine (quiet : Bool) (place : ℕ) (plain : List ℕ) (v : SegmentView) (acts : List Act)
+pub record IsStackLine (place : ℕ) (plain : List ℕ) (v : SegmentView) (acts : List Act)
     (outcome : Outcome) (w : SegmentView) : Type 0 where
   pub turns : List Turn
   pub before : StackView
   pub after : StackView
   pub here : slice_get v.stacks place ≡ Some before
-  pub answered : IsLineAnswered quiet plain before turns outcome after
+  pub answered : IsLineAnswered plain before turns outcome after
   pub acts_are : acts ≡ map (Calls place) turns
   pub leads : w ≡ with_stack_at place after v
 

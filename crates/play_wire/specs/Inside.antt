@@ -18,8 +18,7 @@ use Rattle.play_wire.specs.declared.fault.Fault.{Fault}
 use Rattle.play_wire.specs.declared.link_ask.LinkAsk.{LinkAsk}
 use Rattle.play_wire.specs.declared.link_ask.LinkAsk.TheVariants.{Frame, LastError, Neighbours, Counts, Ticks, Packets}
 use Rattle.play_wire.specs.declared.target.Target.{Target}
-use Rattle.play_wire.specs.declared.verb.LinkVerb.{LinkVerb}
-use Rattle.play_wire.specs.declared.verb.Verb.{Verb}
+use Rattle.play_forms.specs.declared.command.Command.{Command}
 use Rattle.play_wire.specs.declared.wire_ask.WireAsk.{WireAsk}
 use Rattle.play_wire.specs.declared.wire_ask.WireAsk.TheVariants as ask
 use Rattle.play_wire.specs.declared.tell_link.Counts.{Counts as HostCounts}
@@ -76,9 +75,9 @@ wire_asks (Some ask) = Some (wire_asked ask)
 wire_asks None = None
 
 -- the words after this one ask for this, or for nothing
-abbrev pub ReadsAfter : Verb → List (List ℕ) → Option WireAsk → Type 0
-ReadsAfter verb args (Some ask) = AsksAfter verb args (wire_asked ask)
-ReadsAfter verb args None = (ask : wires.WireAsk) → AsksAfter verb args ask → ⊥
+abbrev pub ReadsAfter : Command → List (List ℕ) → Option WireAsk → Type 0
+ReadsAfter asked args (Some ask) = AsksAfter asked args (wire_asked ask)
+ReadsAfter asked args None = (ask : wires.WireAsk) → AsksAfter asked args ask → ⊥
 
 -- ---- links
 
@@ -105,19 +104,19 @@ link_asks (Some ask) = Some (link_asked ask)
 link_asks None = None
 
 -- the words after this one ask a link for this, or for nothing
-abbrev pub ReadsOfLink : LinkVerb → List (List ℕ) → Option LinkAsk → Type 0
-ReadsOfLink verb args (Some ask) = links.AsksOfLink verb args (link_asked ask)
-ReadsOfLink verb args None = (ask : links.LinkAsk) → links.AsksOfLink verb args ask → ⊥
+abbrev pub ReadsOfLink : Command → List (List ℕ) → Option LinkAsk → Type 0
+ReadsOfLink asked args (Some ask) = links.AsksOfLink asked args (link_asked ask)
+ReadsOfLink asked args None = (ask : links.LinkAsk) → links.AsksOfLink asked args ask → ⊥
 
 -- a line of a host, or one of a host that isn't there
-abbrev pub IsAtHost : Bool → ℕ → List ℕ → SegmentView → Outcome → SegmentView → Type 0
-IsAtHost quiet place plain v came w =
-    (acts : List Act) × (IsHostLine quiet place plain v acts came w ⊎ IsMissing place v acts came w)
+abbrev pub IsAtHost : ℕ → List ℕ → SegmentView → Outcome → SegmentView → Type 0
+IsAtHost place plain v came w =
+    (acts : List Act) × (IsHostLine place plain v acts came w ⊎ IsMissing place v acts came w)
 
 -- the same of what its stack is asked
-abbrev pub IsAtStack : Bool → ℕ → List ℕ → SegmentView → Outcome → SegmentView → Type 0
-IsAtStack quiet place plain v came w =
-    (acts : List Act) × (IsStackLine quiet place plain v acts came w ⊎ IsMissing place v acts came w)
+abbrev pub IsAtStack : ℕ → List ℕ → SegmentView → Outcome → SegmentView → Type 0
+IsAtStack place plain v came w =
+    (acts : List Act) × (IsStackLine place plain v acts came w ⊎ IsMissing place v acts came w)
 
 -- the same of what its link is asked
 abbrev pub IsAtLink : ℕ → links.LinkAsk → SegmentView → Outcome → SegmentView → Type 0

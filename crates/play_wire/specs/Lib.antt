@@ -1,4 +1,3 @@
-pub mod Faults
 pub mod Acts
 pub mod LinkTexts
 pub mod Links

@@ -1,5 +1,6 @@
 -- What a line asks of the link of a host on an Ethernet, and what comes of it (this project's own).
 use Rattle.std.specs.Prelude.{◌≡◌, ◌≢◌, ◌⊎◌, ℕ, Bool, true, false, List, [], ◌∷◌, ◌++◌, codes, map, replicate, slice_get, Option, Some, None, Result}
+use Rattle.std.specs.List.{find}
 use Rattle.flat_ether.specs.Claims.{address_state}
 use Rattle.ether_host.specs.View.{held_for}
 use Rattle.flat_ether.specs.Links.{LinkState}
@@ -13,11 +14,13 @@ use Rattle.segment.specs.Law.{Act, AreActs, AgesLink, AsksError, Calls, Ether, H
 use Rattle.segment.specs.Segment.{SegmentView}
 use Rattle.play_wire.specs.Acts.{IsStackLine, Outcome, Told, Refused, call_turn}
 use Rattle.play_wire.specs.LinkTexts.{error_text, heard_text, link_lines, neighbour_lines, neighbours_text, state_text}
-use Rattle.play_wire.specs.Verbs.{link_word_of, IsOneNumber, IsTickCount}
+use Rattle.play_wire.specs.Verbs.{IsOneNumber, IsTickCount}
 use Rattle.play_wire.specs.declared.fault.Fault.{Fault}
 use Rattle.play_wire.specs.declared.fault.Fault.TheVariants as fault
-use Rattle.play_wire.specs.declared.verb.LinkVerb.{LinkVerb}
-use Rattle.play_wire.specs.declared.verb.LinkVerb.TheVariants as verb
+use Rattle.play_forms.specs.Near.{has_name}
+use Rattle.play_forms.specs.Table.{hosted_commands}
+use Rattle.play_forms.specs.declared.command.Command.{Command}
+use Rattle.play_forms.specs.declared.command.Command.TheVariants as command
 
 pub data LinkAsk : Type 0 where
   Frame : (frame : List ℕ) → LinkAsk  -- this frame comes
@@ -30,20 +33,21 @@ pub data LinkAsk : Type 0 where
 -- ---- what a line asks for
 
 -- the words after this one ask for this
-abbrev pub AsksOfLink : LinkVerb → List (List ℕ) → LinkAsk → Type 0
-AsksOfLink verb.Frame args (Frame frame) = (word : List ℕ) × (args ≡ word ∷ []) × IsHex word frame
-AsksOfLink verb.Error args (LastError fd) = IsOneNumber 4294967295 args fd
-AsksOfLink verb.Tick args (Ticks n) = IsTickCount args n
-AsksOfLink verb.Show args Neighbours = args ≡ codes "neighbours" ∷ []
-AsksOfLink verb.Show args Counts = args ≡ codes "link" ∷ []
+abbrev pub AsksOfLink : Command → List (List ℕ) → LinkAsk → Type 0
+AsksOfLink command.Frame args (Frame frame) = (word : List ℕ) × (args ≡ word ∷ []) × IsHex word frame
+AsksOfLink command.LastError args (LastError fd) = IsOneNumber 4294967295 args fd
+AsksOfLink command.Tick args (Ticks n) = IsTickCount args n
+AsksOfLink command.ShowOfHost args Neighbours = args ≡ codes "neighbours" ∷ []
+AsksOfLink command.ShowOfHost args Counts = args ≡ codes "link" ∷ []
 -- whatever else stands behind `rx`
-AsksOfLink verb.Rx args Packets = args ≢ []
-AsksOfLink verb.Tx args Packets = args ≡ []
+AsksOfLink command.Rx args Packets = args ≢ []
+AsksOfLink command.Tx args Packets = args ≡ []
 AsksOfLink _ _ _ = ⊥
 
 abbrev pub WritesLink : List ℕ → LinkAsk → Type 0
 WritesLink plain ask =
-    (verb : LinkVerb) × (args : List (List ℕ)) × (words plain ≡ link_word_of verb ∷ args) × AsksOfLink verb args ask
+    (asked : Command) × (word : List ℕ) × (args : List (List ℕ)) × (words plain ≡ word ∷ args)
+    × (find (has_name word) hosted_commands ≡ Some asked) × AsksOfLink asked args ask
 
 -- what it asks for, if it asks for anything
 abbrev pub AsksLink : List ℕ → Option LinkAsk → Type 0
@@ -127,9 +131,8 @@ IsForStack place plain v =
     AsksLink plain None
     ⊎ ((ask : LinkAsk) × WritesLink plain ask × (is_for_link (slice_get v.links place) ask ≡ false))
 
--- A line of the host at a place leads from v to w by these acts, and comes out so. Nothing is told below a reply of its
--- stack if `quiet`.
-abbrev pub IsHostLine : Bool → ℕ → List ℕ → SegmentView → List Act → Outcome → SegmentView → Type 0
-IsHostLine quiet place plain v acts outcome w =
-    (IsForStack place plain v × IsStackLine quiet place plain v acts outcome w)
+-- A line of the host at a place leads from v to w by these acts, and comes out so.
+abbrev pub IsHostLine : ℕ → List ℕ → SegmentView → List Act → Outcome → SegmentView → Type 0
+IsHostLine place plain v acts outcome w =
+    (IsForStack place plain v × IsStackLine place plain v acts outcome w)
     ⊎ IsLinkLine place plain v acts outcome w

@@ -6,14 +6,13 @@ use Rattle.play_line.specs.Time.{TimedView, timed}
 use Rattle.play_line.specs.declared.fault.Slip.{Slip}
 use Rattle.play_script.specs.Lines.{Reading, Nothing, TooLong, Faulty, Asks, has_text, reading_part, shifted}
 use Rattle.play_text.specs.Texts.{fault_text, slip_text}
-use Rattle.play_text.specs.Forms.{is_json, is_quiet}
+use Rattle.play_text.specs.Forms.{is_json}
 use Rattle.play_text.specs.declared.form.Form.{Form}
 use Rattle.play_script.specs.Tells.{is_sound, told_text}
 use Rattle.segment.specs.Law.{Act, AreActs, Loses, Repeats, Seeds, Swaps}
 use Rattle.segment.specs.Chances.{seeded}
 use Rattle.segment.specs.Segment.{SegmentView, is_quiet_segment, no_hosts}
 use Rattle.play_wire.specs.Acts.{IsMissing, Outcome, Told, Refused}
-use Rattle.play_wire.specs.Faults.{IsReason}
 use Rattle.play_wire.specs.Links.{IsHostLine}
 use Rattle.play_wire.specs.Wires.{WireAsk, AsksWire, Host, Wire, Carry, Collect, Deliver, Tick, Seed, Drop, Repeat, Swap, Show}
 use Rattle.play_wire.specs.declared.fault.Fault.TheVariants as fault
@@ -72,7 +71,7 @@ IsText now host shown plain wanted (Told told below) text =
     (objects : List ℕ) × (has_objects now.form host plain ≡ false → objects ≡ [])
     × (text ≡ told_text now.form now.texts now.name now.number shown wanted told below ++ objects)
 IsText now host shown plain wanted (Refused reason) text =
-    (what : List ℕ) × IsReason host plain reason what × (text ≡ fault_text now.form now.name now.number what)
+    (what : List ℕ) × (text ≡ fault_text now.form now.name now.number what)
 
 -- it did something, and what is told is what was expected
 abbrev pub sound_of : Option (List ℕ) → Outcome → Bool
@@ -138,7 +137,7 @@ abbrev pub IsDone : WirePlay → Option (List ℕ) → List ℕ → List Act →
 IsDone now (Some host) plain acts outcome segment names =
     (names ≡ now.names)
     × (((place : ℕ) × (slice_get now.names place ≡ Some host)
-    × (IsHostLine (is_quiet now.form) place plain now.segment acts outcome segment
+    × (IsHostLine place plain now.segment acts outcome segment
     ⊎ IsMissing place now.segment acts outcome segment))
     ⊎ ((acts ≡ []) × (segment ≡ now.segment) × (outcome ≡ Refused fault.NoHost)))
 IsDone now None plain acts outcome segment names =

@@ -1,12 +1,15 @@
 -- What a line asks of the wire (this project's own).
 use Rattle.std.specs.Prelude.{◌≡◌, ◌⊎◌, ◌<◌, ◌^◌, ℕ, List, [], ◌∷◌, codes, drop, get_or, Option, Some, None}
+use Rattle.std.specs.List.{find}
 use Rattle.std.specs.Str.Parse.{IsNumeral, digits_value, without_leading_plus}
 use Rattle.flat_model.specs.Scripts.Grammar.{words, IsNumber}
-use Rattle.play_wire.specs.Verbs.{word_of, IsOneNumber, IsTickCount}
+use Rattle.play_wire.specs.Verbs.{IsOneNumber, IsTickCount}
 use Rattle.play_wire.specs.declared.carries.Bound.{Bound}
 use Rattle.play_wire.specs.declared.carries.Bound.TheVariants.{Times, Quiet}
-use Rattle.play_wire.specs.declared.verb.Verb.{Verb}
-use Rattle.play_wire.specs.declared.verb.Verb.TheVariants as verb
+use Rattle.play_forms.specs.Near.{has_name}
+use Rattle.play_forms.specs.Table.{wire_commands}
+use Rattle.play_forms.specs.declared.command.Command.{Command}
+use Rattle.play_forms.specs.declared.command.Command.TheVariants as command
 
 pub data WireAsk : Type 0 where
   Host : (name : List ℕ) (settings : List (List ℕ)) → WireAsk  -- a host of this name joins, with this link and settings
@@ -19,7 +22,7 @@ pub data WireAsk : Type 0 where
   Drop : (at : ℕ) → WireAsk  -- a packet under way is lost
   Repeat : (at : ℕ) → WireAsk  -- it goes twice
   Swap : (at other : ℕ) → WireAsk  -- two change places
-  Impair : (kind : Verb) (words : List (List ℕ)) → WireAsk  -- a chance or a delay is set, by these words
+  Impair : (kind : Command) (words : List (List ℕ)) → WireAsk  -- a chance or a delay is set, by these words
   Show : WireAsk  -- what is under way is shown
   Summary : WireAsk  -- what was counted of each host is told
 
@@ -41,32 +44,33 @@ ArePlaces args at other =
     (first second : List ℕ) × (args ≡ first ∷ second ∷ []) × IsNumber 65535 first at × IsNumber 65535 second other
 
 -- the words after this one ask for this
-abbrev pub AsksAfter : Verb → List (List ℕ) → WireAsk → Type 0
+abbrev pub AsksAfter : Command → List (List ℕ) → WireAsk → Type 0
 -- a name that is missing is an empty word
-AsksAfter verb.Host args (Host name settings) = (name ≡ get_or args 0 []) × (settings ≡ drop 1 args)
-AsksAfter verb.Wire args (Wire names) = names ≡ args
-AsksAfter verb.Carry args (Carry bound) = IsBound args bound
-AsksAfter verb.Collect args Collect = args ≡ []
-AsksAfter verb.Deliver args Deliver = args ≡ []
-AsksAfter verb.Tick args (Tick n) = IsTickCount args n
-AsksAfter verb.Seed args (Seed seed) = IsSeed args seed
-AsksAfter verb.Drop args (Drop at) = IsOneNumber 65535 args at
-AsksAfter verb.Swap args (Swap at other) = ArePlaces args at other
-AsksAfter verb.Repeat args (Repeat at) = IsOneNumber 65535 args at
+AsksAfter command.Host args (Host name settings) = (name ≡ get_or args 0 []) × (settings ≡ drop 1 args)
+AsksAfter command.Wire args (Wire names) = names ≡ args
+AsksAfter command.Carry args (Carry bound) = IsBound args bound
+AsksAfter command.Collect args Collect = args ≡ []
+AsksAfter command.Deliver args Deliver = args ≡ []
+AsksAfter command.Tick args (Tick n) = IsTickCount args n
+AsksAfter command.Seed args (Seed seed) = IsSeed args seed
+AsksAfter command.Drop args (Drop at) = IsOneNumber 65535 args at
+AsksAfter command.Swap args (Swap at other) = ArePlaces args at other
+AsksAfter command.Repeat args (Repeat at) = IsOneNumber 65535 args at
 -- what is no place is a chance
-AsksAfter verb.Repeat args (Impair kind words) =
-    ((at : ℕ) → ¬ IsOneNumber 65535 args at) × (kind ≡ verb.Repeat) × (words ≡ args)
-AsksAfter verb.Loss args (Impair kind words) = (kind ≡ verb.Loss) × (words ≡ args)
-AsksAfter verb.Reorder args (Impair kind words) = (kind ≡ verb.Reorder) × (words ≡ args)
-AsksAfter verb.Delay args (Impair kind words) = (kind ≡ verb.Delay) × (words ≡ args)
-AsksAfter verb.Show args Show = args ≡ codes "wire" ∷ []
-AsksAfter verb.Summary args Summary = args ≡ []
+AsksAfter command.Repeat args (Impair kind words) =
+    ((at : ℕ) → ¬ IsOneNumber 65535 args at) × (kind ≡ command.Repeat) × (words ≡ args)
+AsksAfter command.Loss args (Impair kind words) = (kind ≡ command.Loss) × (words ≡ args)
+AsksAfter command.Reorder args (Impair kind words) = (kind ≡ command.Reorder) × (words ≡ args)
+AsksAfter command.Delay args (Impair kind words) = (kind ≡ command.Delay) × (words ≡ args)
+AsksAfter command.ShowWire args Show = args ≡ codes "wire" ∷ []
+AsksAfter command.Summary args Summary = args ≡ []
 AsksAfter _ _ _ = ⊥
 
 -- the line asks for this
 abbrev pub WritesWire : List ℕ → WireAsk → Type 0
 WritesWire plain ask =
-    (verb : Verb) × (args : List (List ℕ)) × (words plain ≡ word_of verb ∷ args) × AsksAfter verb args ask
+    (asked : Command) × (word : List ℕ) × (args : List (List ℕ)) × (words plain ≡ word ∷ args)
+    × (find (has_name word) wire_commands ≡ Some asked) × AsksAfter asked args ask
 
 -- what it asks for, if it asks for anything
 abbrev pub AsksWire : List ℕ → Option WireAsk → Type 0

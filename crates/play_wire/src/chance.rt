@@ -1,5 +1,5 @@
 //! The chances that a line sets.
-use crate::verb::Verb;
+use play_forms::Command;
 use script_loop::number;
 use segment::Chances;
 
@@ -122,12 +122,12 @@ fn delay_in(word: &[u8]) -> Option<Part> {
 }
 
 /// What a line of this kind sets to this value.
-pub(crate) fn part_in(kind: Verb, value: &[u8]) -> Option<Part> {
+pub(crate) fn part_in(kind: Command, value: &[u8]) -> Option<Part> {
     match kind {
-        Verb::Loss => Some(Part::Loss(chance_in(value)?)),
-        Verb::Repeat => Some(Part::Repeat(chance_in(value)?)),
-        Verb::Reorder => Some(Part::Reorder(chance_in(value)?)),
-        Verb::Delay => delay_in(value),
+        Command::Loss => Some(Part::Loss(chance_in(value)?)),
+        Command::Repeat => Some(Part::Repeat(chance_in(value)?)),
+        Command::Reorder => Some(Part::Reorder(chance_in(value)?)),
+        Command::Delay => delay_in(value),
         _ => None,
     }
 }

@@ -1,6 +1,5 @@
 //! Why a line of many machines does nothing.
-ghost use Rattle.std.specs.Prelude.{◌≡◌, ◌≤◌, length};
-ghost use Rattle.play_wire.specs.Faults.{wire_fault_words};
+ghost use Rattle.std.specs.Prelude.{◌≤◌, length};
 
 use net_stack::BootFault;
 use play_read::SettingFault;
@@ -60,8 +59,7 @@ pub(crate) enum Fault {
 impl Fault {
     /// Why, in words.
     pub(crate) fn words(self) -> &'static str
-        ensures is { result.now ≡ wire_fault_words self }
-        ensures short { length result.now ≤ 80 }
+        ensures { length result.now ≤ 80 }
     {
         match self {
             Fault::Nothing => "",

@@ -22,8 +22,7 @@ use stack_call::call;
 
 /// Reports `ok`, and leaves what stands below it.
 fn tell_done(report: &mut Report)
-    ensures told { report.new.told ≡ codes "ok" }
-    ensures below { report.new.below ≡ report.old.below }
+    ensures { report.new.told ≡ codes "ok" }
 {
     report.told.clear();
     report.told.append(b"ok");
@@ -41,7 +40,7 @@ fn answer_stack(
 ) -> Result<(), Fault>
     requires bytes { length bytes.old ≡ IP_MAX_PACKET }
     requires room { length room.old ≡ IP_MAX_PACKET }
-    ensures { (turns : List Turn) × IsLineAnswered report.old.quiet (plain_line line.now) stack.old turns
+    ensures { (turns : List Turn) × IsLineAnswered (plain_line line.now) stack.old turns
         (came_of result report.new.told report.new.below) stack.new }
 {
     let Some(ask) = line.ask(bytes) else {
@@ -83,7 +82,7 @@ fn answer_at(
     line: &Line,
     report: &mut Report,
 ) -> Result<(), Fault>
-    ensures { IsAtStack report.old.quiet place (plain_line line.now) (view segment.old)
+    ensures { IsAtStack place (plain_line line.now) (view segment.old)
         (came_of result report.new.told report.new.below) (view segment.new) }
 {
     if exchange(segment, place, &mut spare.counting.stack) {
@@ -119,8 +118,8 @@ fn answer_by_link(
 ) -> Option<Result<(), Fault>>
     requires { length bytes.old ≡ IP_MAX_PACKET }
     ensures { MatchOption result (IsForStack asked.entry.place (plain_line asked.entry.line.now) (view segment.old)
-        × (view segment.new ≡ view segment.old) × (report.new.quiet ≡ report.old.quiet)) (λ came.
-        IsAtHost report.old.quiet asked.entry.place (plain_line asked.entry.line.now) (view segment.old)
+        × (view segment.new ≡ view segment.old)) (λ came.
+        IsAtHost asked.entry.place (plain_line asked.entry.line.now) (view segment.old)
         (came_of came report.new.told report.new.below) (view segment.new)) }
 {
     let HostLine { place, line } = asked;
@@ -138,7 +137,7 @@ pub(crate) fn answer_host(
     line: &Line,
     report: &mut Report,
 ) -> Result<(), Fault>
-    ensures { IsAtHost report.old.quiet place (plain_line line.now) (view segment.old)
+    ensures { IsAtHost place (plain_line line.now) (view segment.old)
         (came_of result report.new.told report.new.below) (view segment.new) }
 {
     match answer_by_link(

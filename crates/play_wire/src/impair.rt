@@ -7,7 +7,7 @@ use crate::chance::{Part, part_in};
 use crate::fault::Fault;
 use crate::hosts::Hosts;
 use crate::names::place_of;
-use crate::verb::Verb;
+use play_forms::Command;
 use script_loop::{Sink, first_word, one};
 use segment::Segment;
 
@@ -31,7 +31,7 @@ fn set_all(segment: &mut Segment, part: Part)
 
 impl<T: Sink + Drop> Hosts<T> {
     /// `loss C`, `repeat C`, `reorder C`, `delay A-B`: of what all hosts send, or, with `from NAME`, of what one sends.
-    pub(crate) fn impair(&mut self, kind: Verb, rest: Option<&[u8]>) -> Result<(), Fault>
+    pub(crate) fn impair(&mut self, kind: Command, rest: Option<&[u8]>) -> Result<(), Fault>
         ensures moves { AreLedTo (view self.old.segment) (view self.new.segment) }
         ensures names { self.new.names ≡ self.old.names }
     {

@@ -30,7 +30,6 @@ mod summary;
 mod target;
 mod tell_link;
 mod ticks;
-mod verb;
 mod verdict;
 mod wire_ask;
 mod wire_line;

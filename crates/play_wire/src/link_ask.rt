@@ -7,10 +7,10 @@ ghost use Rattle.segment.specs.Inside.{view};
 ghost use Rattle.play_wire.specs.Inside.{ReadsOfLink, link_asked, link_asks, room_asked};
 ghost use Rattle.play_wire.specs.Links as links;
 ghost use Rattle.play_wire.specs.Links.{AsksLink, IsForStack, WritesLink, is_for_link};
-ghost use Rattle.play_wire.specs.declared.verb.LinkVerb.TheVariants as verb;
+ghost use Rattle.play_forms.specs.declared.command.Command.TheVariants as command;
 
-use crate::verb::{LinkVerb, link_verb_of};
 use crate::wire_ask::{one_number, ticks_of};
+use play_forms::{Command, Player, command_of};
 use play_script::{Line, bytes_of};
 use script_loop::{bytes, first_word, is_end, one};
 use segment::Segment;
@@ -35,7 +35,7 @@ pub(crate) enum LinkAsk<'r> {
 /// `frame BYTES`.
 fn frame_of<'r>(rest: Option<&[u8]>, room: &'r mut [u8]) -> Option<LinkAsk<'r>>
     requires { length room.old ≡ IP_MAX_PACKET }
-    ensures is { ReadsOfLink verb.Frame (left rest.entry) result }
+    ensures is { ReadsOfLink command.Frame (left rest.entry) result }
     ensures fits { IfSome result (λ ask. room_asked ask ≤ IP_MAX_PACKET) }
 {
     let word = one(rest)?;
@@ -45,7 +45,7 @@ fn frame_of<'r>(rest: Option<&[u8]>, room: &'r mut [u8]) -> Option<LinkAsk<'r>>
 
 /// `error FD`.
 fn error_of(rest: Option<&[u8]>) -> Option<LinkAsk<'static>>
-    ensures is { ReadsOfLink verb.Error (left rest.entry) result }
+    ensures is { ReadsOfLink command.LastError (left rest.entry) result }
     ensures fits { IfSome result (λ ask. room_asked ask ≤ IP_MAX_PACKET) }
 {
     Some(LinkAsk::LastError(one_number(rest, u32::MAX)?))
@@ -53,7 +53,7 @@ fn error_of(rest: Option<&[u8]>) -> Option<LinkAsk<'static>>
 
 /// `tick` or `tick N`.
 fn link_ticks_of(rest: Option<&[u8]>) -> Option<LinkAsk<'static>>
-    ensures is { ReadsOfLink verb.Tick (left rest.entry) result }
+    ensures is { ReadsOfLink command.Tick (left rest.entry) result }
     ensures fits { IfSome result (λ ask. room_asked ask ≤ IP_MAX_PACKET) }
 {
     Some(LinkAsk::Ticks(ticks_of(rest)?))
@@ -61,7 +61,7 @@ fn link_ticks_of(rest: Option<&[u8]>) -> Option<LinkAsk<'static>>
 
 /// `show neighbours` or `show link`.
 fn shown_of(rest: Option<&[u8]>) -> Option<LinkAsk<'static>>
-    ensures is { ReadsOfLink verb.Show (left rest.entry) result }
+    ensures is { ReadsOfLink command.ShowOfHost (left rest.entry) result }
     ensures fits { IfSome result (λ ask. room_asked ask ≤ IP_MAX_PACKET) }
 {
     let word = one(rest)?;
@@ -76,7 +76,7 @@ fn shown_of(rest: Option<&[u8]>) -> Option<LinkAsk<'static>>
 
 /// A packet that comes, with its bytes or by name.
 fn coming(rest: Option<&[u8]>) -> Option<LinkAsk<'static>>
-    ensures is { ReadsOfLink verb.Rx (left rest.entry) result }
+    ensures is { ReadsOfLink command.Rx (left rest.entry) result }
     ensures fits { IfSome result (λ ask. room_asked ask ≤ IP_MAX_PACKET) }
 {
     if is_end(rest) {
@@ -88,7 +88,7 @@ fn coming(rest: Option<&[u8]>) -> Option<LinkAsk<'static>>
 
 /// A packet that is taken.
 fn taken(rest: Option<&[u8]>) -> Option<LinkAsk<'static>>
-    ensures is { ReadsOfLink verb.Tx (left rest.entry) result }
+    ensures is { ReadsOfLink command.Tx (left rest.entry) result }
     ensures fits { IfSome result (λ ask. room_asked ask ≤ IP_MAX_PACKET) }
 {
     if is_end(rest) {
@@ -98,19 +98,47 @@ fn taken(rest: Option<&[u8]>) -> Option<LinkAsk<'static>>
     }
 }
 
-/// What a verb and the words after it ask of a link. The room has 65,535 bytes.
-fn form_of<'r>(verb: LinkVerb, rest: Option<&[u8]>, room: &'r mut [u8]) -> Option<LinkAsk<'r>>
+/// What a command and the words after it ask of a link. The room has 65,535 bytes.
+fn form_of<'r>(asked: Command, rest: Option<&[u8]>, room: &'r mut [u8]) -> Option<LinkAsk<'r>>
     requires { length room.old ≡ IP_MAX_PACKET }
-    ensures is { ReadsOfLink verb (left rest.entry) result }
+    ensures is { ReadsOfLink asked (left rest.entry) result }
     ensures fits { IfSome result (λ ask. room_asked ask ≤ IP_MAX_PACKET) }
 {
-    match verb {
-        LinkVerb::Frame => frame_of(rest, room),
-        LinkVerb::Error => error_of(rest),
-        LinkVerb::Tick => link_ticks_of(rest),
-        LinkVerb::Show => shown_of(rest),
-        LinkVerb::Rx => coming(rest),
-        LinkVerb::Tx => taken(rest),
+    match asked {
+        Command::Frame => frame_of(rest, room),
+        Command::LastError => error_of(rest),
+        Command::Tick => link_ticks_of(rest),
+        Command::ShowOfHost => shown_of(rest),
+        Command::Rx => coming(rest),
+        Command::Tx => taken(rest),
+        Command::Socket
+        | Command::Bind
+        | Command::Connect
+        | Command::SendTo
+        | Command::Send
+        | Command::RecvFrom
+        | Command::Close
+        | Command::SetSockOpt
+        | Command::RxPcap
+        | Command::RxUdp
+        | Command::RxRaw
+        | Command::Stat
+        | Command::MbStat
+        | Command::Show
+        | Command::Host
+        | Command::Wire
+        | Command::Carry
+        | Command::Collect
+        | Command::Deliver
+        | Command::Loss
+        | Command::Repeat
+        | Command::Reorder
+        | Command::Delay
+        | Command::Seed
+        | Command::Drop
+        | Command::Swap
+        | Command::ShowWire
+        | Command::Summary => None,
     }
 }
 
@@ -121,8 +149,10 @@ fn ask_in<'r>(plain: &[u8], room: &'r mut [u8]) -> Option<LinkAsk<'r>>
     ensures fits { IfSome result (λ ask. room_asked ask ≤ IP_MAX_PACKET) }
 {
     let (word, rest) = first_word(plain);
-    let verb = link_verb_of(word)?;
-    form_of(verb, rest, room)
+    match command_of(Player::Host, word) {
+        Some(asked) => form_of(asked, rest, room),
+        None => None,
+    }
 }
 
 /// What a line asks of a link, as `ask_in` has it.

@@ -2,11 +2,9 @@
 ghost use Rattle.std.specs.Prelude.{◌≡◌, ◌-◌, ◌≤◌, ◌++◌, [], IfSome, List, Option, Some, false, length, slice_get, ℕ};
 ghost use Rattle.segment.specs.Inside.{view};
 ghost use Rattle.segment.specs.Law.{Act};
-ghost use Rattle.play_text.specs.Forms.{is_json, is_quiet};
+ghost use Rattle.play_text.specs.Forms.{is_json};
 ghost use Rattle.play_script.specs.Views.{expected_on, plain_line};
 ghost use Rattle.play_script.specs.Lines.{reading_part};
-ghost use Rattle.play_forms.specs.declared.text.TheConstants.{ADVICE};
-ghost use Rattle.play_wire.specs.Faults.{IsReason, player_of, wire_fault_words};
 ghost use Rattle.play_wire.specs.Inside.{came_of, named_by, play_with};
 ghost use Rattle.play_wire.specs.Tells.{WirePlay, has_objects, moves_packets, IsDone, IsParted, Tells, TellsAsked, TellsPart};
 
@@ -47,7 +45,6 @@ fn answer_words<T: Sink + Drop>(
     report: &mut Report,
 ) -> Result<(), Fault>
     ensures { (play : WirePlay) → play.segment ≡ view hosts.old.segment → play.names ≡ hosts.old.names.items
-        → is_quiet play.form ≡ report.old.quiet
         → (acts : List Act) × IsDone play (named_by target.now) (plain_line line.now) acts
         (came_of result report.new.told report.new.below) (view hosts.new.segment) hosts.new.names.items }
 {
@@ -63,34 +60,19 @@ fn answer_words<T: Sink + Drop>(
     }
 }
 
-/// Who is asked by a line: the host that it names, or else the wire.
-fn advised_by(target: &Target) -> Advised
-    ensures { result ≡ player_of (named_by target.now) }
-{
-    if target.named {
+/// Reports why a line did nothing: what it could have been, if it asks for nothing.
+fn tell_reason(report: &mut Report, target: &Target, line: &mut Line, fault: Fault) {
+    let player = if target.named {
         Advised::Host
     } else {
         Advised::Wire
-    }
-}
-
-/// Reports a reason in words.
-fn tell_words(report: &mut Report, fault: Fault)
-    ensures told { report.new.told ≡ wire_fault_words fault }
-    ensures len { length report.new.told ≤ ADVICE }
-{
-    report.told.clear();
-    report.told.append(fault.words().as_bytes());
-}
-
-/// Reports why a line did nothing: what it could have been, if it asks for nothing.
-fn tell_reason(report: &mut Report, target: &Target, line: &mut Line, fault: Fault)
-    ensures reason { IsReason (named_by target.now) (plain_line line.old) fault report.new.told }
-    ensures len { length report.new.told ≤ ADVICE }
-{
+    };
     match fault {
-        Fault::Nothing => report.tell_advice(advised_by(target), line),
-        _ => tell_words(report, fault),
+        Fault::Nothing => report.tell_advice(player, line),
+        _ => {
+            report.advice.clear();
+            report.advice.append(fault.words().as_bytes());
+        }
     }
 }
 
@@ -164,7 +146,7 @@ impl<T: Sink + Drop> Player<T> {
             }
             Err(fault) => {
                 tell_reason(&mut self.report, &self.target, &mut self.line, fault);
-                self.printer.put_fault(text, bytes_of(&self.report.told));
+                self.printer.put_fault(text, bytes_of(&self.report.advice));
             }
         }
     }

@@ -4,11 +4,11 @@ ghost use Rattle.script_loop.specs.Left.{left};
 ghost use Rattle.play_wire.specs.Inside.{ReadsAfter, wire_asked, wire_asks};
 ghost use Rattle.play_wire.specs.Verbs.{IsOneNumber, IsTickCount};
 ghost use Rattle.play_wire.specs.Wires.{AsksWire, IsBound, IsSeed};
-ghost use Rattle.play_wire.specs.declared.verb.Verb.TheVariants as verb;
+ghost use Rattle.play_forms.specs.declared.command.Command.TheVariants as command;
 
 use crate::carries::Bound;
 use crate::link::value_in;
-use crate::verb::{Verb, verb_of};
+use play_forms::{Command, Player, command_of};
 use script_loop::{first_word, is_end, number, one, two};
 use std::str;
 
@@ -45,7 +45,7 @@ pub(crate) enum WireAsk<'l> {
     /// Two of them change places.
     Swap(usize, usize),
     /// A chance or a delay is set, by these words.
-    Impair(Verb, Option<&'l [u8]>),
+    Impair(Command, Option<&'l [u8]>),
     /// What is under way is shown.
     Show,
     /// What was counted of each host is told.
@@ -86,7 +86,7 @@ fn bound_of(rest: Option<&[u8]>) -> Option<Bound>
 }
 
 fn carry_of(rest: Option<&[u8]>) -> Option<WireAsk<'static>>
-    ensures { ReadsAfter verb.Carry (left rest.entry) result }
+    ensures { ReadsAfter command.Carry (left rest.entry) result }
 {
     Some(WireAsk::Carry(bound_of(rest)?))
 }
@@ -103,7 +103,7 @@ pub(crate) fn ticks_of(rest: Option<&[u8]>) -> Option<u32>
 }
 
 fn tick_of(rest: Option<&[u8]>) -> Option<WireAsk<'static>>
-    ensures { ReadsAfter verb.Tick (left rest.entry) result }
+    ensures { ReadsAfter command.Tick (left rest.entry) result }
 {
     Some(WireAsk::Tick(ticks_of(rest)?))
 }
@@ -123,19 +123,19 @@ fn seed_in(rest: Option<&[u8]>) -> Option<u64>
 }
 
 fn seed_of(rest: Option<&[u8]>) -> Option<WireAsk<'static>>
-    ensures { ReadsAfter verb.Seed (left rest.entry) result }
+    ensures { ReadsAfter command.Seed (left rest.entry) result }
 {
     Some(WireAsk::Seed(seed_in(rest)?))
 }
 
 fn drop_of(rest: Option<&[u8]>) -> Option<WireAsk<'static>>
-    ensures { ReadsAfter verb.Drop (left rest.entry) result }
+    ensures { ReadsAfter command.Drop (left rest.entry) result }
 {
     Some(WireAsk::Drop(one_number(rest, MOST)? as usize))
 }
 
 fn swap_of(rest: Option<&[u8]>) -> Option<WireAsk<'static>>
-    ensures { ReadsAfter verb.Swap (left rest.entry) result }
+    ensures { ReadsAfter command.Swap (left rest.entry) result }
 {
     let (first, second) = two(rest)?;
     let at = number(first, MOST)?;
@@ -145,16 +145,16 @@ fn swap_of(rest: Option<&[u8]>) -> Option<WireAsk<'static>>
 
 /// `repeat I` by hand, or `repeat C`, which is a chance.
 fn repeat_of(rest: Option<&[u8]>) -> WireAsk<'_>
-    ensures { ReadsAfter verb.Repeat (left rest.entry) (Some result) }
+    ensures { ReadsAfter command.Repeat (left rest.entry) (Some result) }
 {
     match one_number(rest, MOST) {
         Some(at) => WireAsk::Repeat(at as usize),
-        None => WireAsk::Impair(Verb::Repeat, rest),
+        None => WireAsk::Impair(Command::Repeat, rest),
     }
 }
 
 fn show_of(rest: Option<&[u8]>) -> Option<WireAsk<'static>>
-    ensures { ReadsAfter verb.Show (left rest.entry) result }
+    ensures { ReadsAfter command.ShowWire (left rest.entry) result }
 {
     let word = one(rest)?;
     if word == b"wire".as_slice() {
@@ -165,30 +165,49 @@ fn show_of(rest: Option<&[u8]>) -> Option<WireAsk<'static>>
 }
 
 fn host_of(rest: Option<&[u8]>) -> WireAsk<'_>
-    ensures { ReadsAfter verb.Host (left rest.entry) (Some result) }
+    ensures { ReadsAfter command.Host (left rest.entry) (Some result) }
 {
     let (name, settings) = value_in(rest);
     WireAsk::Host(name, settings)
 }
 
-/// What a verb and the words after it ask for.
-fn form_of<'l>(verb: Verb, rest: Option<&'l [u8]>) -> Option<WireAsk<'l>>
-    ensures { ReadsAfter verb (left rest.entry) result }
+/// What a command and the words after it ask for.
+fn form_of<'l>(asked: Command, rest: Option<&'l [u8]>) -> Option<WireAsk<'l>>
+    ensures { ReadsAfter asked (left rest.entry) result }
 {
-    match verb {
-        Verb::Host => Some(host_of(rest)),
-        Verb::Wire => Some(WireAsk::Wire(rest)),
-        Verb::Carry => carry_of(rest),
-        Verb::Collect => alone(rest, WireAsk::Collect),
-        Verb::Deliver => alone(rest, WireAsk::Deliver),
-        Verb::Tick => tick_of(rest),
-        Verb::Seed => seed_of(rest),
-        Verb::Drop => drop_of(rest),
-        Verb::Repeat => Some(repeat_of(rest)),
-        Verb::Swap => swap_of(rest),
-        Verb::Loss | Verb::Reorder | Verb::Delay => Some(WireAsk::Impair(verb, rest)),
-        Verb::Show => show_of(rest),
-        Verb::Summary => alone(rest, WireAsk::Summary),
+    match asked {
+        Command::Host => Some(host_of(rest)),
+        Command::Wire => Some(WireAsk::Wire(rest)),
+        Command::Carry => carry_of(rest),
+        Command::Collect => alone(rest, WireAsk::Collect),
+        Command::Deliver => alone(rest, WireAsk::Deliver),
+        Command::Tick => tick_of(rest),
+        Command::Seed => seed_of(rest),
+        Command::Drop => drop_of(rest),
+        Command::Repeat => Some(repeat_of(rest)),
+        Command::Swap => swap_of(rest),
+        Command::Loss | Command::Reorder | Command::Delay => Some(WireAsk::Impair(asked, rest)),
+        Command::ShowWire => show_of(rest),
+        Command::Summary => alone(rest, WireAsk::Summary),
+        Command::Socket
+        | Command::Bind
+        | Command::Connect
+        | Command::SendTo
+        | Command::Send
+        | Command::RecvFrom
+        | Command::Close
+        | Command::SetSockOpt
+        | Command::Rx
+        | Command::RxPcap
+        | Command::RxUdp
+        | Command::RxRaw
+        | Command::Tx
+        | Command::Stat
+        | Command::MbStat
+        | Command::Show
+        | Command::Frame
+        | Command::LastError
+        | Command::ShowOfHost => None,
     }
 }
 
@@ -198,6 +217,8 @@ pub(crate) fn wire_ask_of(plain: &[u8]) -> Option<WireAsk<'_>>
     ensures { AsksWire plain.now (wire_asks result) }
 {
     let (word, rest) = first_word(plain);
-    let verb = verb_of(word)?;
-    form_of(verb, rest)
+    match command_of(Player::Wire, word) {
+        Some(asked) => form_of(asked, rest),
+        None => None,
+    }
 }

@@ -1,7 +1,6 @@
 use Rattle.std.proofs.Common.{List, ℕ, ◌++◌, ap, ap₂, ◌∙◌}
 use Rattle.play_pcap.specs.Told.{capture_text}
 use Rattle.play_script.proofs.PlayLemmas.{Played-begun}
-use Rattle.play_script.specs.Plays.{causes_below}
 use Rattle.play_script.proofs.replay.tell_capture.Goals as goal
 
 pub returns-clause-plays : goal.returns-clause-plays
@@ -9,7 +8,6 @@ returns-clause-plays g c = (
   c.play_in-outcome.result,
   c.snapshot_of-before.result,
   c.snapshot_of-after.result,
-  c.play_in-outcome.new.captured.causes,
   Played-begun g.F.Folder.may_have c.args.ask.details c.args.ask.name.now c.play_in-outcome.result _ _ _
       c.new-captured.ensures c.play_in-outcome.ensures,
   c.snapshot_of-before.ensures,
@@ -17,8 +15,5 @@ returns-clause-plays g c = (
   c.append.ensures.items ∙ ap₂ (λ (a b : List ℕ). a ++ b)
       (c.put_outcome.ensures.items ∙ ap (λ (t : List ℕ). t ++ capture_text c.play_in-outcome.result) c.clear.ensures)
       (c.bytes_of.ensures.is ∙ c.put_drops.ensures),
-  c.put_causes.ensures
-      ∙ ap (λ (t : List ℕ). t ++ causes_below c.args.report.now.quiet c.play_in-outcome.new.captured.causes)
-      c.put_below.ensures.items,
   c.has_failed.ensures,
 )

@@ -6,6 +6,5 @@ use Rattle.play_script.proofs.tell.tell_line.Goals as goal
 
 pub returns-in-Some : goal.returns-in-Some
 returns-in-Some g c =
-    Told-some StackSteps g.F.Folder.may_have c.args.report.now.quiet (plain_line c.args.line.now) (ask_of c.in-Some.ask)
-    c.tell_ask.result _ _
-    c.tell_ask.new.report.told c.tell_ask.new.report.below c.in-Some.ensures.asks c.tell_ask.ensures
+    Told-some StackSteps g.F.Folder.may_have (plain_line c.args.line.now) (ask_of c.in-Some.ask)
+    c.tell_ask.result _ _ c.tell_ask.new.report.told c.in-Some.ensures.asks c.tell_ask.ensures

@@ -10,7 +10,7 @@ pub returns-then-exchange : goal.returns-then-exchange
 returns-then-exchange c =
     let said = c.answer_stack-outcome.ensures in (
       map (Calls c.args.place) said.0,
-      inl (host_line c.args.report.now.quiet c.args.place (plain_line c.args.line.now) (view c.args.segment.now) (view c.exchange.new.segment)
+      inl (host_line c.args.place (plain_line c.args.line.now) (view c.args.segment.now) (view c.exchange.new.segment)
           (view c.exchange-then-exchange.new.segment) c.args.spare.now.counting.stack c.exchange.new.stack
           c.answer_stack-outcome.new.stack
           c.exchange-then-exchange.new.stack

@@ -7,10 +7,10 @@ use Rattle.play_wire.proofs.host_line.answer_by_link.Goals as goal
 
 pub returns-in-Some : goal.returns-in-Some
 returns-in-Some c =
-    host_by_link c.args.report.now.quiet c.args.asked.place (plain_line c.args.asked.line.now) (link_asked c.in-Some.ask)
+    host_by_link c.args.asked.place (plain_line c.args.asked.line.now) (link_asked c.in-Some.ask)
     (view c.args.segment.now) (view c.answer_link.new.segment)
     (came_of c.answer_link.result c.answer_link.new.report.told c.answer_link.new.report.below)
     c.in-Some.ensures.none c.in-Some.ensures.link c.answer_link.ensures
 
 pub returns-in-None : goal.returns-in-None
-returns-in-None c = (c.in-None.ensures.none, refl, refl)
+returns-in-None c = (c.in-None.ensures.none, refl)

@@ -1,4 +1,4 @@
-use Rattle.std.proofs.Common.{None, Some, [], List, Option, ℕ, ap, ap₂, refl, replicate, subst, ◌∙◌}
+use Rattle.std.proofs.Common.{None, Some, [], List, ℕ, ap, refl, replicate, subst}
 use Rattle.flat_model.specs.Machine.Event.{Tick, Done}
 use Rattle.flat_model.specs.Scripts.Grammar.{words}
 use Rattle.request.specs.Replies.{reply_of}
@@ -8,8 +8,6 @@ use Rattle.play_read.specs.Asks as asks
 use Rattle.play_read.specs.Asks.{AsksFor}
 use Rattle.play_read.specs.Views.{ask_of}
 use Rattle.play_read.specs.declared.ask.Ask.{Ask}
-use Rattle.net_stack.specs.Stack.{state_of}
-use Rattle.play_script.specs.Deeds.{below_text}
 use Rattle.play_script.specs.Views.{plain_line}
 use Rattle.play_wire.specs.Acts.{Told, call_turn}
 use Rattle.play_wire.proofs.HostLemmas.{answered_by_call}
@@ -22,14 +20,10 @@ returns-in-Call c =
     subst (λ (a : Ask). AsksFor (plain_line c.args.line.now) (Some (ask_of a))) c.in-Call.is c.in-Some.ensures.asks in
     let before = c.snapshot_of-before.result in
     let after = c.snapshot_of-after.result in
-    let output = (state_of c.call-reply.new.stack).output in
-    answered_by_call c.args.report.now.quiet (plain_line c.args.line.now) c.args.stack.now c.call-reply.new.stack
+    answered_by_call (plain_line c.args.line.now) c.args.stack.now c.call-reply.new.stack
     c.tell_reply.new.self.told c.tell_reply.new.self.below
     (event_of c.in-Call.request) (reply_of c.call-reply.result) before after asked c.call-reply.ensures.step
     (c.snapshot_of-before.ensures, c.snapshot_of-after.ensures) c.tell_reply.ensures.told
-    (c.tell_reply.ensures.below ∙ c.tell_below.ensures.below
-    ∙ ap (λ (m : Option (List ℕ)). below_text c.args.report.now.quiet m before after output)
-    c.moved_by_call-moved.ensures.packet)
 
 pub returns-in-Ticks : goal.returns-in-Ticks
 unfolding StackSteps
@@ -43,11 +37,11 @@ returns-in-Ticks c =
         asked,
         c.tick_stack.ensures,
         (
-          c.snapshot_of-before-in-Ticks.result,
-          c.snapshot_of-after-in-Ticks.result,
           refl,
-          (c.snapshot_of-before-in-Ticks.ensures, c.snapshot_of-after-in-Ticks.ensures),
-          ap₂ Told c.tell_done.ensures.told (c.tell_done.ensures.below ∙ c.tell_below-in-Ticks.ensures.below),
+          (
+            c.tell_done.new.report.below,
+            ap (λ (t : List ℕ). Told t c.tell_done.new.report.below) c.tell_done.ensures,
+          ),
         ),
       ),
     )
@@ -62,7 +56,7 @@ returns-in-Show c =
         Some (asks.Show c.in-Show.topic),
         asked,
         refl,
-        (c.tell_topic.new.self.told, c.tell_topic.new.self.below, c.tell_topic.ensures.shows, refl, refl),
+        (c.tell_topic.new.self.told, refl, (c.tell_topic.new.self.below, refl)),
       ),
     )
 

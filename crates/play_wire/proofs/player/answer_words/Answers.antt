@@ -8,29 +8,29 @@ use Rattle.play_wire.proofs.WireLemmas.{packet_asks_none}
 use Rattle.play_wire.proofs.player.answer_words.Goals as goal
 
 pub returns-in-Some : goal.returns-in-Some
-returns-in-Some g c play e f loud =
+returns-in-Some g c play e f =
     done_by_host play c.args.target.now.named c.args.target.now.host (plain_line c.args.line.now)
     (plain_line c.args.line.now)
     (came_of c.answer_host.result c.answer_host.new.report.told c.answer_host.new.report.below)
     (view c.args.hosts.now.segment)
     (view c.answer_host.new.segment) c.args.hosts.now.names.items c.in-Some.place
-    c.args.report.now.quiet e f loud c.if-target.true c.in-Some.ensures
+    e f c.if-target.true c.in-Some.ensures
     refl c.answer_host.ensures
 
 pub returns-in-None : goal.returns-in-None
-returns-in-None g c play e f loud =
+returns-in-None g c play e f =
     done_by_none play c.args.target.now.named c.args.target.now.host (plain_line c.args.line.now)
     (view c.args.hosts.now.segment)
     c.args.hosts.now.names.items e f c.if-target.true
 
 pub returns-then-line : goal.returns-then-line
-returns-then-line g c play e f loud =
+returns-then-line g c play e f =
     done_by_nobody play c.args.target.now.named c.args.target.now.host (plain_line c.args.line.now)
     (view c.args.hosts.now.segment) c.args.hosts.now.names.items e f c.if-target.false
     (packet_asks_none c.args.line.now.named (hex_text c.args.line.now.packet) c.args.line.now.words c.if-line.true)
 
 pub returns-else-line : goal.returns-else-line
-returns-else-line g c play e f loud = rw c.if-line.false
+returns-else-line g c play e f = rw c.if-line.false
     (done_by_wire play c.args.target.now.named c.args.target.now.host c.bytes_of.result.now c.args.line.now.words
     (came_of c.answer_wire.result c.answer_wire.new.report.told c.answer_wire.new.report.below)
     (view c.args.hosts.now.segment)

@@ -30,8 +30,8 @@ returns-in-Done g c =
           (play_of (state_of now.captured.stack) now.captured.capture.trace now.config now.head now.printer)
           (playing c.both-head.result c.put_told.new.self c.both-sound.result) now.line.shown (plain_line now.line) wanted
           done.0 text below
-          (captured_of (state_of after.stack) after.capture.trace after.capture.line) c.is_quiet-self.result
-          c.in-Done.failed c.is_quiet-self.ensures done.1 done.2.0
+          (captured_of (state_of after.stack) after.capture.trace after.capture.line)
+          c.in-Done.failed done.1 done.2.0
           (ap₂ (λ (h : Bool) (p : Printer). playing h p c.both-sound.result) head c.put_told.ensures.printer
           ∙ ap (λ (s : Bool). playing (now.head && stays_head done.0) now.printer s) sound),
       c.put_told.ensures.text,
@@ -63,8 +63,8 @@ returns-in-Nothing g c =
       None-tells StackSteps g.F.Folder.may_have
           (play_of (state_of now.captured.stack) now.captured.capture.trace now.config now.head now.printer)
           (playing c.put_fault.new.self) now.line.shown (plain_line now.line) (expected_on now.line)
-          (captured_of (state_of after.stack) after.capture.trace after.capture.line) c.bytes_of.result.now
-          c.tell_advice.new.self.told done.0 c.tell_advice.ensures.advised c.bytes_of.ensures.is done.1
+          (captured_of (state_of after.stack) after.capture.trace after.capture.line) c.bytes_of.result.now done.0
+          done.1
           (ap playing c.put_fault.ensures.printer),
       c.put_fault.ensures.text,
     )

@@ -1,13 +1,12 @@
-use Rattle.std.proofs.Common.{◌++◌, ◌∙◌, Bool, List, ap, refl, subst, sym, ℕ}
+use Rattle.std.proofs.Common.{◌++◌, ◌∙◌, Bool, ap, refl}
 use Rattle.std.proofs.lemmas.List.{append_assoc}
 use Rattle.play_text.specs.Texts.{fault_text}
-use Rattle.play_wire.specs.Faults.{IsReason}
 use Rattle.play_script.specs.Tells.{told_text}
-use Rattle.play_script.specs.Views.{expected_on, plain_line}
+use Rattle.play_script.specs.Views.{expected_on}
 use Rattle.play_script.specs.declared.printer.Printer.{Printer}
 use Rattle.segment.specs.Inside.{view}
 use Rattle.play_wire.specs.Acts.{Told, Refused}
-use Rattle.play_wire.specs.Inside.{named_by, play_with}
+use Rattle.play_wire.specs.Inside.{play_with}
 use Rattle.play_wire.proofs.PlayLemmas.{and_false}
 use Rattle.play_wire.proofs.player.Player.ask.Goals as goal
 
@@ -15,7 +14,7 @@ pub returns-in-Ok : goal.returns-in-Ok
 returns-in-Ok g c =
     let now = c.args.self.now in
     let p = play_with (view now.hosts.segment) now.hosts.names.items now.printer in
-    let did = c.in-Ok.ensures p refl refl (sym c.is_quiet-self.ensures) in
+    let did = c.in-Ok.ensures p refl refl in
     let segment = view c.answer_words.new.hosts.segment in
     let names = c.answer_words.new.hosts.names.items in
     let told = c.answer_words.new.report.told in
@@ -40,10 +39,9 @@ pub returns-in-Err : goal.returns-in-Err
 returns-in-Err g c =
     let now = c.args.self.now in
     let p = play_with (view now.hosts.segment) now.hosts.names.items now.printer in
-    let did = c.in-Err.ensures p refl refl (sym c.is_quiet-self.ensures) in
+    let did = c.in-Err.ensures p refl refl in
     let segment = view c.answer_words.new.hosts.segment in
-    let names = c.answer_words.new.hosts.names.items in
-    let host = named_by now.target in (
+    let names = c.answer_words.new.hosts.names.items in (
       did.0,
       fault_text p.form p.name p.number c.bytes_of.result.now,
       (
@@ -51,13 +49,7 @@ returns-in-Err g c =
         segment,
         names,
         did.1,
-        (
-          c.bytes_of.result.now,
-          subst (λ (t : List ℕ). IsReason host (plain_line now.line) c.in-Err.fault t)
-              (sym c.bytes_of.ensures.is)
-              c.tell_reason.ensures.reason,
-          refl,
-        ),
+        (c.bytes_of.result.now, refl),
         ap (λ (q : Printer). play_with segment names q) c.put_fault.ensures.printer
             ∙ ap (λ (b : Bool). record p { segment = segment; names = names; sound = b }) (and_false now.printer.sound),
       ),
