@@ -1,0 +1,146 @@
+"""Golden files: everything that bsdplay prints for a script. The test compares it, tools/goldens writes it."""
+from __future__ import annotations
+
+import difflib
+import json
+import pathlib
+import re
+import subprocess
+import tempfile
+from typing import Iterable, Iterator, NamedTuple
+
+TOP = pathlib.Path(__file__).resolve().parent.parent
+PLAY = TOP / "examples/play"
+# Command lines that have a golden file: NAME.args has a word a line, NAME.status the status if it isn't 0.
+LINES = TOP / "tests/bsdplay/goldens"
+# A failure shows so many differences, and so many characters of a line.
+SHOWN, WIDEST = 6, 160
+
+
+class Golden(NamedTuple):
+    """A command line and the file with its output. A word that is the path of a file is relative to the top."""
+
+    name: str
+    words: list[str]
+    file: pathlib.Path
+    status: int
+
+
+class Output(NamedTuple):
+    """What a run printed, and its status."""
+
+    text: bytes
+    status: int
+
+
+def scripts() -> list[pathlib.Path]:
+    """The scripts for people."""
+    return [it for folder in ("", "wire", "ether") for it in sorted((PLAY / folder).glob("*.txt"))]
+
+
+def each() -> Iterator[Golden]:
+    """The plain output of each script for people, and then the command lines of `LINES`."""
+    for script in scripts():
+        path = str(script.relative_to(TOP))
+        yield Golden(str(script.relative_to(PLAY)), [path], script.with_name(f"{script.name}.stdout"), 0)
+    for args in sorted(LINES.glob("*.args")):
+        status = args.with_suffix(".status")
+        yield Golden(
+            args.stem,
+            args.read_text(encoding="utf-8").splitlines(),
+            args.with_suffix(".stdout"),
+            int(status.read_text(encoding="utf-8")) if status.exists() else 0,
+        )
+
+
+def left_over() -> list[str]:
+    """The golden files that no command line has."""
+    known = {it.file for it in each()}
+    found = [*PLAY.rglob("*.stdout"), *LINES.glob("*.stdout"), *LINES.glob("*.status")]
+    return [str(it.relative_to(TOP)) for it in found if it.with_suffix(".stdout") not in known]
+
+
+def played(program: pathlib.Path, golden: Golden) -> Output:
+    """Runs a built bsdplay."""
+    words = [str(program), *golden.words]
+    done = subprocess.run(words, cwd=TOP, stdin=subprocess.DEVNULL, capture_output=True, check=False)
+    return Output(done.stdout, done.returncode)
+
+
+def tried(goldens: Iterable[Golden]) -> dict[str, Output]:
+    """Runs the bsdplay that `rt try` compiles and doesn't prove: one build for all. A run that stops has no output."""
+    known = {re.sub(r"\W+", "_", it.name): it for it in goldens}
+    with tempfile.TemporaryDirectory() as room:
+        for name, golden in known.items():
+            (pathlib.Path(room) / name).touch()
+            words = (str(TOP / it) if (TOP / it).is_file() else it for it in golden.words)
+            (pathlib.Path(room) / f"{name}.args").write_text("".join(f"{it}\n" for it in words), encoding="utf-8")
+        done = subprocess.run(
+            ["rt", "try", "--cases", room],
+            cwd=TOP / "crates/bsdplay", stdin=subprocess.DEVNULL, capture_output=True, check=False,
+        )  # fmt: skip
+    text = done.stdout.replace(f"{TOP}/".encode(), b"")
+    blocks = re.split(rb"(?m)^== (\w+)\n", text)
+    said = done.stderr.decode(errors="replace")
+    status_of = dict(re.findall(r"(?m)^case=(\w+) run=ended status=(\d+) ", said))
+    found = {
+        known[name].name: Output(printed, int(status_of[name]))
+        for name, printed in zip((it.decode() for it in blocks[1::2]), blocks[2::2])
+        if name in known and name in status_of
+    }
+    if not found:
+        raise RuntimeError(f"rt try plays nothing: {said[-1000:]}")
+    return found
+
+
+def text_lines(text: bytes) -> list[str]:
+    """The lines of an output, for a message."""
+    return text.decode("utf-8", "backslashreplace").splitlines()
+
+
+def asked(lines: list[str], at: int) -> str:
+    """Which line of the script an output's line is about."""
+    for line in reversed(lines[: at + 1]):
+        if line.startswith('{"number":'):
+            return f"line {json.loads(line)['number']} of the script"
+        if plain := re.match(r"(\d+)  (.*?)(?: => .*)?$", line):
+            return f"line {plain[1]} of the script: {plain[2]}"
+        if fault := re.match(r"\S+?:(\d+):", line):
+            return f"line {fault[1]} of the script"
+    return "in front of the first line"
+
+
+def shown(lines: list[str]) -> list[str]:
+    """Lines for a message, each cut to what can be read."""
+    cut = [it if len(it) <= WIDEST else f"{it[:WIDEST]}.. ({len(it)} characters)" for it in lines[:SHOWN]]
+    more = len(lines) - SHOWN
+    return (cut or ["(nothing)"]) + [f"and {more} more lines"] * (more > 0)
+
+
+def differences(wanted: bytes, came: bytes) -> Iterator[str]:
+    """Each place where an output differs: the script's line, what was wanted and what came."""
+    old, new = text_lines(wanted), text_lines(came)
+    for what, at, to, begin, end in difflib.SequenceMatcher(None, old, new, autojunk=False).get_opcodes():
+        if what != "equal":
+            parts = (("wanted:", old[at:to]), ("came:  ", new[begin:end]))
+            yield "\n".join([f"  {asked(old, at)}", *(f"    {label} {it}" for label, of in parts for it in shown(of))])
+    if old == new and wanted != came:
+        yield "  the ends of lines, or bytes that aren't UTF-8"
+
+
+def fault(golden: Golden, output: Output | None) -> str | None:
+    """What came otherwise than the golden file has it, or None."""
+    called = f"bsdplay {' '.join(golden.words)}"
+    if output is None:
+        return f"{called}: it stopped before its end"
+    place = golden.file.relative_to(TOP)
+    if not golden.file.exists():
+        return f"{called}: there is no {place}; tools/goldens {golden.name} writes it"
+    if output.status != golden.status:
+        return f"{called}: status {output.status}, wanted {golden.status}"
+    found = list(differences(golden.file.read_bytes(), output.text))
+    if not found:
+        return None
+    more = [f"  and {len(found) - SHOWN} more differences"] * (len(found) > SHOWN)
+    hint = f"  If this is what it should print: tools/goldens {golden.name}"
+    return "\n".join([f"{called}: other output than {place}", *found[:SHOWN], *more, hint])
