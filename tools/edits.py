@@ -1,10 +1,15 @@
-"""Wrong bodies: files NAME.edit in must-fail/ and wrong-bodies/ of a crate. Each has lines `file: PATH`, and below it
-pairs of `old: TEXT` and `new: TEXT`. The old text stands in the file exactly once; later pairs apply to what earlier
-ones made."""
+"""Wrong bodies: files NAME.edit in must-fail/, wrong-bodies/ and wrong-texts/ of a crate. Each has lines `file: PATH`, and
+below it pairs of `old: TEXT` and `new: TEXT`. The old text stands in the file exactly once; later pairs apply to what
+earlier ones made."""
 from __future__ import annotations
 
 import pathlib
-from typing import NamedTuple
+import re
+from typing import Iterator, NamedTuple
+
+
+FOLDERS = ("must-fail", "wrong-bodies", "wrong-texts")
+NAME = re.compile(r"[A-Za-z0-9_-][A-Za-z0-9_.-]*\.edit")
 
 
 class Refused(Exception):
@@ -56,3 +61,19 @@ def applied(pairs: list[Pair], crate: pathlib.Path, texts: dict[str, str] | None
             raise Refused(f"this stands in {path} {found} times: {old}")
         made[path] = made[path].replace(old, new)
     return made
+
+
+def faults(crate: pathlib.Path) -> Iterator[tuple[pathlib.Path, str]]:
+    """The files in FOLDERS of a crate's folder that don't apply, each with the reason."""
+    known: dict[str, pathlib.Path] = {}
+    for path in (it for folder in FOLDERS for it in sorted(crate.glob(f"{folder}/**/*"))):
+        if path.parent.parent != crate or not NAME.fullmatch(path.name):
+            yield path, "this folder has only files NAME.edit"
+            continue
+        other = known.setdefault(path.name, path)
+        if other != path:
+            yield path, f"{other.relative_to(crate)} has the same name"
+        try:
+            applied(pairs_of(path), crate)
+        except Refused as why:
+            yield path, f"it doesn't apply: {why}"

@@ -1,0 +1,130 @@
+"""What pages say of the crates: which there are and which each stands on, libraries of the toolchain, files with raw
+pointers, calls that other crates make, wrong bodies that the prover refuses; callers in READMEs."""
+import functools
+import re
+import subprocess
+import sys
+
+import pytest
+
+from tests.docs.pages import TOP, Fault, in_code, lines, none_of, read, sources_of, table
+from tools import crates, edits
+
+ARCHITECTURE = "docs/architecture.md"
+
+
+# ---- which there are -----------------------------------------------------------------------------------------------
+
+
+def lists() -> dict[str, list[str]]:
+    """The crates, in the order of each file that lists them all."""
+    return {
+        "crates.txt": list(crates.uses()),
+        "crates/README.md": re.findall(r"\[(\w+)\]\(\1/README\.md\)", read("crates/README.md")),
+        ARCHITECTURE: [name for row in layers() for name in in_code(row.cells[0])],
+    }
+
+
+def layers() -> list:
+    return table(ARCHITECTURE, "What each layer shows", "Crate", "Stands on", "What its contract shows")[1]
+
+
+@pytest.mark.parametrize("path", ["crates.txt", "crates/README.md", ARCHITECTURE])
+def test_each_crate_has_a_line(path):
+    """Each crate stands there once; in the first two below none that uses it."""
+    used, names = crates.uses(), lists()[path]
+    there = sorted(it.parent.name for it in TOP.glob("crates/*/src"))
+    faults = [Fault(f"{path}:1", "this crate is missing", it) for it in there if it not in names]
+    odd = dict.fromkeys(it for it in names if names.count(it) > 1 or it not in there)
+    faults += [Fault(f"{path}:1", f"the crate {it} is listed twice, or there is no such crate") for it in odd]
+    if path != ARCHITECTURE:
+        below = [(it, low) for it in names for low in used.get(it, []) if low in names[names.index(it) :]]
+        faults += [Fault(f"{path}:1", f"{it} uses {low}, so it has to follow it") for it, low in below]
+    none_of(faults)
+
+
+def test_layers_name_what_they_use():
+    """docs/architecture.md names no crate below another one that it doesn't use."""
+    used = crates.uses()
+    none_of(
+        Fault(row.place, f"{name} doesn't use {it}")
+        for row in layers()
+        for name in in_code(row.cells[0])
+        for it in in_code(row.cells[1])
+        if it in used and it not in used.get(name, [])
+    )
+
+
+def test_libraries_that_are_trusted():
+    """docs/proved.md names each library of the toolchain that a crate uses, and no other."""
+    path, used = "docs/proved.md", crates.uses()
+    wanted = {it for uses in used.values() for it in uses if it not in used}
+    told = {it for it in in_code(read(path).partition("## Trusted")[2]) if re.fullmatch(r"[a-z_0-9]+", it)} - {"std"}
+    faults = [Fault(f"{path}:1", "under 'Trusted' a library is missing", it) for it in sorted(wanted - told)]
+    none_of(faults + [Fault(f"{path}:1", f"under 'Trusted': no crate uses {it}") for it in sorted(told - wanted)])
+
+
+# ---- what their code has -------------------------------------------------------------------------------------------
+
+
+def test_raw_pointers():
+    """docs/security.md and docs/proved.md name each file that has raw pointers."""
+    faults = []
+    for path in sources_of("*"):
+        if re.search(r"\*(?:mut|const) |\bunsafe \{", re.sub(r"//[^\n]*", "", read(path))):
+            if f"`{path}`" not in read("docs/security.md"):
+                faults.append(Fault("docs/security.md:1", "a file with raw pointers isn't named", path))
+            if path.rpartition("/")[2] not in read("docs/proved.md"):
+                faults.append(Fault("docs/proved.md:1", "a file with raw pointers isn't named", path))
+    none_of(faults)
+
+
+@functools.lru_cache(maxsize=None)
+def sources() -> dict[str, str]:
+    """The code of each crate."""
+    return {name: "\n".join(map(read, sources_of(name))) for name in crates.uses()}
+
+
+def test_calls_on_the_way_of_a_packet():
+    """docs/architecture.md names calls that their crates have, and that another crate of the stack makes."""
+    faults, stack, before = [], sources(), read(ARCHITECTURE).partition("## The way of a packet")[0]
+    text = read(ARCHITECTURE).partition("## The way of a packet")[2].partition("\n## ")[0]
+    callers = [name for name in stack if not re.search(r"_tests$|^bench_|^callers$", name)]
+    for it in re.finditer(rf"\b({'|'.join(stack)})::(\w+)((?:, \w+(?=[:\s,`]))*)", text):
+        place = f"{ARCHITECTURE}:{before.count(chr(10)) + text.count(chr(10), 0, it.start()) + 1}"
+        for name in [it[2], *re.findall(r"\w+", it[3])]:
+            if not name.islower() or name in stack:
+                continue
+            if not re.search(rf"pub fn {name}\b", stack[it[1]]):
+                faults.append(Fault(place, f"{it[1]} has no call {name}"))
+            elif not any(re.search(rf"\b{name}\(", stack[who]) for who in callers if who != it[1]):
+                faults.append(Fault(place, f"no crate of the stack calls {it[1]}::{name}"))
+    none_of(faults)
+
+
+# ---- wrong bodies --------------------------------------------------------------------------------------------------
+
+
+def test_bodies_that_are_refused():
+    """Each wrong body that docs/security.md calls refused stands in must-fail/."""
+    none_of(
+        Fault(place, f"no must-fail/ has {name}.edit")
+        for place, line in lines("docs/security.md")
+        for name in in_code(line.partition("Refused:")[2])
+        if not list(TOP.glob(f"crates/*/must-fail/{name}.edit"))
+    )
+
+
+@pytest.mark.parametrize("crate", sorted(it.name for it in TOP.glob("crates/*")))
+def test_wrong_bodies_apply(crate):
+    """Each wrong body of a crate still applies: its file is there, and has each text that it replaces exactly once."""
+    none_of(Fault(f"{path.relative_to(TOP)}:1", why) for path, why in edits.faults(TOP / "crates" / crate))
+
+
+# ---- callers -------------------------------------------------------------------------------------------------------
+
+
+def test_callers_of_readmes():
+    """The caller in a crate's README is a file of crates/callers, which the gate proves."""
+    done = subprocess.run([sys.executable, TOP / "tools/callers"], capture_output=True, text=True, check=False)
+    assert done.returncode == 0 and not done.stderr + done.stdout, done.stderr + done.stdout

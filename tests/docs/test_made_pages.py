@@ -1,0 +1,47 @@
+"""The pages that programs make: manual pages, which groff reads without a warning, and the contract of `sendto` with
+all its definitions."""
+import subprocess
+import sys
+
+import pytest
+
+from tests.docs.pages import TOP
+
+PAGES = ["bsdudp.1", "bsdplay.1", "bsdudp-conform.1", "bsdudp.3"]
+
+
+@pytest.fixture(scope="session")
+def manual(once):
+    """A folder with the manual pages."""
+
+    def make(folder):
+        subprocess.run([sys.executable, TOP / "dist/man", folder], check=True)
+        made = subprocess.run([sys.executable, TOP / "dist/man3"], capture_output=True, check=True)
+        (folder / "bsdudp.3").write_bytes(made.stdout)
+
+    return once("manual", make)
+
+
+@pytest.mark.parametrize("page", PAGES)
+def test_manual_page(page, manual):
+    """It can be made, and has what each manual page has."""
+    text = (manual / page).read_text(encoding="utf-8")
+    assert text.startswith(".TH") and ".SH NAME" in text, f"{page}: {text[:200]}"
+
+
+@pytest.mark.needs("groff")
+@pytest.mark.parametrize("page", PAGES)
+def test_groff(page, manual):
+    words = ["groff", "-man", "-ww", "-z", manual / page]
+    done = subprocess.run(words, capture_output=True, text=True, check=False)
+    said = (done.stdout + done.stderr).replace(f"{manual}/", "")
+    assert done.returncode == 0 and not said, f"status {done.returncode}: {said}"
+
+
+def test_contract_of_sendto(tmp_path):
+    """`tools/sendto FILE` can write its page: each word of the contract leads to a definition."""
+    page = tmp_path / "sendto.md"
+    words = [sys.executable, TOP / "tools/sendto", page]
+    done = subprocess.run(words, capture_output=True, text=True, check=False)
+    assert done.returncode == 0 and not done.stdout + done.stderr, done.stdout + done.stderr
+    assert "## Index" in page.read_text(encoding="utf-8")

@@ -1,0 +1,138 @@
+"""The names in pages: each name of code is one, each item of a crate or a type is defined there. How many definitions
+share a name, and how wide lines of code are."""
+import functools
+import re
+
+import pytest
+
+from tests.docs.pages import OF_THE_PAST, TOP, Fault, documents, in_code, lines, none_of, read, sources_of
+from tools import crates
+
+FOLDERS = [".ci", "bench", "capi", "conform", "crates", "dist", "examples", "page", "portable", "python", "simulators"]
+FOLDERS += ["tests", "tools"]
+# Of these the text has no names of code: pages name what they name themselves.
+NO_CODE = (".md", ".png", ".edit", ".pcap", ".pyc")
+# What pages name of others: Linux, an RTOS, Python's sockets.
+NAMES_OF_OTHERS = {
+    "rp_filter",
+    *(f"k_{it}" for it in ("msgq_put", "msgq_get", "mutex_lock", "event_post", "event_wait", "event_clear")),
+    *("get_inheritable", "set_inheritable", "recvmsg_into", "sendmsg_afalg"),
+}
+# What looks like items of a crate: what find_package(bsdudp) defines, and calls of ns-3.
+ITEMS_OF_OTHERS = {f"bsdudp::{it}" for it in ("bsdudp", "static", "shared")}
+ITEMS_OF_OTHERS |= {"Config::Connect", "Config::SetDefault", "Packet::Print"}
+# These also name functions of volume 2, or what was decided against.
+OF_OTHERS = {*OF_THE_PAST, *(f"docs/{it}.md" for it in ("DECISIONS", "behaviour", "book", "glossary"))}
+IMPORT = re.compile(r"\s*(?:ghost |pub )?(?:use|open) ")
+DEFINED = re.compile(r"(?:(?:abbrev|unfoldable) pub|pub (?:record|data)|pub)\s+([^\s:(){}]+)\s")
+NAMES_TWICE = 60
+WIDEST = 120
+
+
+# ---- names in pages ------------------------------------------------------------------------------------------------
+
+
+@functools.lru_cache(maxsize=None)
+def words_of_code() -> frozenset[bytes]:
+    """Each word of the code, of the scripts, and of the names of files."""
+    letters = b"_0123456789abcdefghijklmnopqrstuvwxyzABCDEFGHIJKLMNOPQRSTUVWXYZ"
+    between = bytes(it if it in letters else ord(" ") for it in range(256))
+    words: set[bytes] = set()
+    for path in [TOP / "crates.txt", *(it for folder in FOLDERS for it in sorted((TOP / folder).rglob("*")))]:
+        inside = path.relative_to(TOP).parts
+        if {"out", "__pycache__"} & set(inside) or not path.is_file() or path.name == "test_names.py":
+            continue
+        words.update(" ".join([*inside, path.stem.removeprefix("test_")]).encode().translate(between).split())
+        if path.suffix not in NO_CODE:
+            words.update(path.read_bytes().translate(between).split())
+    return frozenset(words)
+
+
+@pytest.mark.parametrize("path", [it for it in documents() if it not in OF_OTHERS])
+def test_names_of_code(path):
+    """Every name with an underscore, and what stands before its `::`, is one of the code."""
+    known, faults = words_of_code(), []
+    for place, line in lines(path):
+        for code in in_code(line):
+            names = code.split("::") if re.fullmatch(r"(?:\w+::)*[a-z]+(?:_[a-z0-9]+)+", code) else []
+            unknown = [it for it in names if it.encode() not in known and it not in NAMES_OF_OTHERS]
+            faults += [Fault(place, f"the code has no '{it}'") for it in unknown]
+    none_of(faults)
+
+
+@functools.lru_cache(maxsize=None)
+def homes() -> dict[str, list[str]]:
+    """The crate of each crate's name, and the crates that define each type."""
+    found = {name: [name] for name in crates.uses()}
+    for name in crates.uses():
+        for it in re.findall(r"\b(?:struct|enum|trait) (\w+)", source(name)):
+            found.setdefault(it, []).append(name)
+    return found
+
+
+@functools.lru_cache(maxsize=None)
+def source(crate: str) -> str:
+    return "\n".join(map(read, sources_of(crate)))
+
+
+@functools.lru_cache(maxsize=None)
+def is_defined(crate: str, item: str) -> bool:
+    """Whether a crate defines an item, a variant, a field or a module with this name, or passes it on."""
+    one = rf"\b(?:fn|struct|enum|trait|const|type|mod|static) {item}\b|\bpub use [^;]*\b{item}\b"
+    one += rf"|(?m:^ +{item}\b)" if item[0].isupper() else rf"|(?m:^ +(?:pub(?:\(\w+\))? )?{item}:)"
+    return re.search(one, source(crate)) is not None
+
+
+@pytest.mark.parametrize("path", documents())
+def test_items_of_crates(path):
+    """What a page names as `CRATE::ITEM` or `TYPE::ITEM`, of a crate here or a type of one, is defined there."""
+    faults = []
+    for place, line in lines(path):
+        for found in re.finditer(r"`&?(\w+)(?:::\w+)*::(\w+)(?:\([^`]*)?`", line):
+            first, last = found.groups()
+            if f"{first}::{last}" in ITEMS_OF_OTHERS or first not in homes():
+                continue
+            if not any(is_defined(it, last) for it in homes()[first]):
+                faults.append(Fault(place, f"there is no {found[0].strip('`')}"))
+    none_of(faults)
+
+
+# ---- names and lines of the code -----------------------------------------------------------------------------------
+
+
+def test_definitions_share_few_names():
+    """At most so many names are those of definitions in two or more modules of specs/."""
+    where: dict[str, list[str]] = {}
+    for path in sorted((TOP / "crates").glob("*/specs/**/*.antt")):
+        if "declared" not in path.parts:
+            text = path.read_text(encoding="utf-8").splitlines()
+            for name in {it[1] for line in text if (it := DEFINED.match(line)) and it[1] != "mod"}:
+                where.setdefault(name, []).append(str(path.relative_to(TOP)))
+    twice = {name: paths for name, paths in sorted(where.items()) if len(paths) > 1}
+    if len(twice) > NAMES_TWICE:
+        none_of(
+            Fault(f"{paths[1]}:1", f"{paths[0]} defines `{name}`, too: {len(twice)} names do, and {NAMES_TWICE} may")
+            for name, paths in twice.items()
+        )
+
+
+def wide_lines(folder: str, kind: str) -> list[Fault]:
+    """Lines that are too wide, apart from imports, which rt fmt doesn't break."""
+    return [
+        Fault(f"{path.relative_to(TOP)}:{number}", f"the line has {len(line)} characters, and {WIDEST} is the most")
+        for path in sorted((TOP / "crates").glob(f"*/{folder}/**/{kind}"))
+        for number, line in enumerate(path.read_text(encoding="utf-8").splitlines(), 1)
+        if len(line) > WIDEST and not IMPORT.match(line)
+    ]
+
+
+def test_widths_of_code():
+    none_of(wide_lines("src", "*.rt") + wide_lines("specs", "*.antt"))
+
+
+def test_widths_of_proofs():
+    """In proofs rt fmt joins some lines that were broken: fewer than one in a thousand may be wide."""
+    wide = wide_lines("proofs", "*.antt")
+    paths = (TOP / "crates").glob("*/proofs/**/*.antt")
+    if len(wide) * 1000 > sum(len(path.read_text(encoding="utf-8").splitlines()) for path in paths):
+        none_of(wide)

@@ -1,0 +1,124 @@
+"""The numbers in pages that a program can count or that two tables share, and the chart that is drawn of one."""
+import re
+import subprocess
+import sys
+
+import pytest
+
+from tests.docs.definitions import SPECS
+from tests.docs.pages import TOP, Fault, cell_of, documents, lines, none_of, number, read, sources_of, table
+from tools import crates
+
+PERFORMANCE = "docs/performance.md"
+LENGTHS = ["2 bytes", "1,472", "9,000"]
+ALONE = ("A datagram from one stack to another", ["Datagram", *LENGTHS])
+BESIDE = ("Beside lwIP", ["", *LENGTHS, "seven fragments"])
+
+
+# ---- what is counted -----------------------------------------------------------------------------------------------
+
+
+def functions() -> int:
+    """The functions that are written out with a body: not those that a derive writes, and not those of tests."""
+    head = re.compile(r'(?m)^( *)(?:pub(?:\(\w+\))? )?(?:const )?(?:unsafe )?(?:extern "C" )?fn \w+')
+    count = 0
+    for path in sources_of("*"):
+        folders = path.split("/")
+        root = TOP.joinpath(*folders[:3], "lib.rt")
+        tests = re.findall(r"#\[cfg\(test\)\]\n *mod (\w+);", root.read_text("utf-8")) if root.exists() else []
+        if folders[3].removesuffix(".rt") in tests or "tests" in path.removesuffix(".rt").split("/"):
+            continue
+        text = read(path)
+        for it in head.finditer(text):
+            # A function of a trait may have no body, and ends with a semicolon.
+            end = re.compile(rf"(?m)(;|\{{\}}| \{{|^{it[1]}\{{)$").search(text, it.end())
+            count += end is not None and end[1] != ";"
+    return count
+
+
+def wrong_bodies(*folders: str) -> int:
+    return sum(1 for folder in folders for _ in TOP.glob(f"crates/*/{folder}/*.edit"))
+
+
+def exports() -> int:
+    """The exports of the C library's core apart from boot, end, and the two that docs/proved.md names."""
+    code = "".join(map(read, sources_of("libbsdudp")))
+    named = set(re.findall(r'extern "C" fn bsdudp_core_(\w+)', code))
+    return len(named - {"boot", "end", "rx", "sendto"})
+
+
+def deepest() -> int:
+    """The most bytes of the call stack that a call of the C library takes, apart from boot and end."""
+    rows = table("docs/embedding.md", "Code and stack", "Call", "Bytes")[1]
+    return max(number(row.cells[1]) for row in rows if not re.search(r"_(boot|boot_in|end)\b|other", row.cells[0]))
+
+
+def lines_of_definitions() -> int:
+    return sum(len(path.read_text(encoding="utf-8").splitlines()) for path in SPECS.rglob("*.antt"))
+
+
+# What a page says, and the number that it should have. Behind `some` it may be rounded to a hundredth.
+COUNTED = [
+    ("README.md", "functions in N crates are proved", lambda: len(crates.uses())),
+    ("README.md", "some N functions", functions),
+    ("README.md", "some N wrong bodies", lambda: wrong_bodies("must-fail", "wrong-bodies")),
+    ("README.md", "refuse the N likeliest", lambda: wrong_bodies("must-fail")),
+    ("README.md", "some N lines of definitions", lines_of_definitions),
+    (
+        "README.md",
+        "from one stack to another takes N instructions",
+        lambda: cell_of(PERFORMANCE, *ALONE, "from one stack to another", 1),
+    ),
+    ("README.md", "lwIP takes N as Debian", lambda: cell_of(PERFORMANCE, *BESIDE, "lwIP `-O2`", 1)),
+    ("README.md", "and N at its best", lambda: cell_of(PERFORMANCE, *BESIDE, "the same, pools for its heap", 1)),
+    ("docs/proved.md", "`bsdudp_core_sendto` and N more", exports),
+    ("docs/security.md", "take at most N bytes each", deepest),
+]
+
+
+@pytest.mark.parametrize("path, words, count", COUNTED, ids=[f"{path} {words}" for path, words, _ in COUNTED])
+def test_number(path, words, count):
+    is_round, text = words.startswith("some "), read(path)
+    pattern = words.replace("some ", "[Ss]ome ").replace(" ", r"\s+").replace("N", r"([\d,]+)", 1)
+    found = re.search(pattern, text)
+    if not found:
+        none_of([Fault(f"{path}:1", f"the page has no text '{words}'")])
+    said, right = number(found[1]), count()
+    if abs(said - right) * 100 > (right if is_round else 0):
+        line = text.count("\n", 0, found.start()) + 1
+        none_of([Fault(f"{path}:{line}", f"the number in '{' '.join(found[0].split())}'", f"{right:,}", f"{said:,}")])
+
+
+def test_lengths_of_files():
+    """Each 'one file of N lines, `PATH`' in a page of docs/ is right."""
+    faults = []
+    for path in documents():
+        for place, line in lines(path) if path.startswith("docs/") else ():
+            for told, name in re.findall(r"one file of (\d+) lines, `([^`]+)`", line):
+                length = len(read(name).splitlines()) if (TOP / name).is_file() else 0
+                if int(told) != length:
+                    faults.append(Fault(place, f"the lines of {name}", str(length), told))
+    none_of(faults)
+
+
+# ---- the tables of docs/performance.md -----------------------------------------------------------------------------
+
+
+def test_costs_that_stand_twice():
+    """What a datagram costs beside lwIP is what it costs alone, to a hundredth: other code stands beside it."""
+    place = table(PERFORMANCE, BESIDE[0], *BESIDE[1])[0]
+    faults = []
+    for at, size in enumerate(LENGTHS, 1):
+        one = cell_of(PERFORMANCE, *ALONE, "from one stack to another", at)
+        other = cell_of(PERFORMANCE, *BESIDE, "ours", at)
+        if abs(one - other) * 100 > one:
+            about = f"the instructions of a datagram of {size}, which another table has, too"
+            faults.append(Fault(place, about, f"{one:,}", f"{other:,}"))
+    none_of(faults)
+
+
+def test_chart():
+    """docs/cost.svg is what bench/chart draws of docs/performance.md."""
+    words = [sys.executable, TOP / "bench/chart", "--check"]
+    done = subprocess.run(words, check=False, capture_output=True, text=True)
+    assert done.returncode == 0 and not done.stderr, f"docs/cost.svg:1: {done.stderr or 'bench/chart --check failed'}"
