@@ -281,8 +281,8 @@ pub fn read_head(pool: &Pool, chain: &Chain) -> Result<IpHead, Why>
     }
 }
 
-/// A packet whose IP header `read_packet` has read in place and found without a fault. The value proves it, so no caller
-/// tests the header again.
+/// A packet whose IP header `read_packet` has read in place and found without a fault. The value proves it, so no
+/// caller tests the header again.
 #[derive(Clone, Copy, Drop)]
 pub struct Headed<'a> {
     /// The bytes as received. There may be more of them than the header's total length.

@@ -40,8 +40,8 @@ fn put_packet(pool: &mut Pool, packet: &[u8]) -> Chain
     }
 }
 
-/// The space for a packet of `len` bytes, if it takes one mbuf or cluster, this is free, and a second mbuf is free for the
-/// sender's address.
+/// The space for a packet of `len` bytes, if it takes one mbuf or cluster, this is free, and a second mbuf is free for
+/// the sender's address.
 #[inline(always)]
 fn one_space(pool: &Pool, len: u32) -> Option<Space>
     ensures space { IfSome result (λ space. HasSpace pool.now len space) }
@@ -108,7 +108,7 @@ impl Host {
     /// A packet of at most 65,535 bytes comes from the wire and arrives. If the pool has too few buffers for it, all
     /// unfinished datagrams are freed, and if there are still too few, the packet is dropped and counted.
     ///
-    /// The packet is read in place, and stored only once its receiver is known. A packet that is dropped takes no buffer.
+    /// The packet is read in place, and stored only once its receiver is known. A dropped packet takes no buffer.
     pub(crate) fn come_in(&mut self, packet: &[u8])
         requires socks { IsSocks self.old.pool self.old.socks }
         requires reass { IsReady self.old.pool self.old.reass }
@@ -196,8 +196,8 @@ impl Host {
         }
     }
 
-    /// A fragment for this machine comes from the wire, and `fits_at_once` is true for it. It's stored without its header.
-    /// If it completes its datagram, that arrives.
+    /// A fragment for this machine comes from the wire, and `fits_at_once` is true for it. It's stored without its
+    /// header. If it completes its datagram, that arrives.
     fn lay_fragment(&mut self, packet: &[u8], head: IpHead)
         requires socks { IsSocks self.old.pool self.old.socks }
         requires reass { IsReady self.old.pool self.old.reass }

@@ -52,11 +52,11 @@ carried_item clusters packet = record {
 -- the bytes that a packet carries arrive as a whole datagram
 abbrev pub ArrivesWhole : List ℕ → Item → State → State → Type 0
 ArrivesWhole packet item old new =
-    WholeArrives exact_ledger nothing (head_of packet).source (head_of packet).destination (head_of packet).protocol item
-    old new
+    WholeArrives exact_ledger nothing (head_of packet).source (head_of packet).destination (head_of packet).protocol
+    item old new
 
--- The packet was put into the queue of the socket that matches it, and only chains of receive queues changed. That is one
--- step of the machine, whatever else the machine holds, and the pool accounts for what the sockets hold.
+-- The packet was put into the queue of the socket that matches it, and only chains of receive queues changed. That is
+-- one step of the machine, whatever else the machine holds, and the pool accounts for what the sockets hold.
 pub record StoresWhole (p : PoolView) (s : SocksView) (packet : List ℕ) (q : PoolView) (t : SocksView) : Type 0 where
   pub step : (rest : State) → IsAccounted p (with_sockets p s rest) nothing
       → (clusters : List ℕ)

@@ -304,10 +304,10 @@ impl Socks {
         Ok(())
     }
 
-    /// A packet from the wire that carries a whole datagram, and for which the pool has this space. If it takes one mbuf
-    /// and one socket matches it, it's stored in that socket's queue (`Stored`). A packet that has a fault, that no
-    /// socket matches or that doesn't fit into the queue is dropped (`Ended`). Broadcasts and packets that take several
-    /// mbufs are left to `input` (`Left`). Only `Stored` changes anything.
+    /// A packet from the wire that carries a whole datagram, and for which the pool has this space. If it takes one
+    /// mbuf and one socket matches it, it's stored in that socket's queue (`Stored`). A packet that has a fault, that
+    /// no socket matches or that doesn't fit into the queue is dropped (`Ended`). Broadcasts and packets that take
+    /// several mbufs are left to `input` (`Left`). Only `Stored` changes anything.
     #[inline(always)]
     pub fn take(&mut self, pool: &mut Pool, space: Space, packet: Headed<'_>) -> Taken
         requires socks { IsSocks pool.old self.old }

@@ -62,9 +62,9 @@ fn examine(carried: &[u8], from: u32, to: u32) -> Result<Header, Why>
     Ok(header)
 }
 
-/// Reads the datagram in a packet in place. Returns the first test that fails: the protocol isn't UDP (`NoProtocol`); the
-/// packet carries fewer than 8 bytes (`UdpHeaderDrops`); the UDP length is above the number of bytes carried, or below 8
-/// (`UdpBadLength`); the checksum isn't 0 and is wrong (`UdpBadSum`).
+/// Reads the datagram in a packet in place. Returns the first test that fails: the protocol isn't UDP (`NoProtocol`);
+/// the packet carries fewer than 8 bytes (`UdpHeaderDrops`); the UDP length is above the number of bytes carried, or
+/// below 8 (`UdpBadLength`); the checksum isn't 0 and is wrong (`UdpBadSum`).
 #[inline(always)]
 pub fn read(packet: Headed<'_>) -> Result<Checked<'_>, Why>
     ensures packet { IfOk result (λ c. c.packet.now ≡ packet.entry.packet.now) }
