@@ -67,6 +67,7 @@ has_overlay = runs("unshare", "-m", "sh", "-c", "mount -t tmpfs tmpfs /mnt && mk
 TOOLS = {
     "rt": Tool(command("rt"), "", "rt isn't on the path: install the Rattle toolchain"),
     "git": Tool(command("git"), "git"),
+    "make": Tool(command("make"), "make"),
     "cc": Tool(command(os.environ.get("CC", "cc")), "gcc"),
     "c++": Tool(command(os.environ.get("CXX", "c++")), "g++"),
     "objdump": Tool(command("objdump"), "binutils"),

@@ -1,0 +1,112 @@
+"""Runs commands of pages as a reader types them: those of SESSIONS in tests/docs/commands.py, in an empty folder, with
+the built programs on the path. What the page shows as their output has to be printed. Commands of `rt` take a proof or
+minutes, so of these only the words are tried."""
+import itertools
+import pathlib
+import re
+import shutil
+import subprocess
+
+import pytest
+
+from tests.docs.commands import SESSIONS, is_of_rt, of_documents
+from tests.docs.pages import TOP, Fault, none_of, read
+
+SECONDS = 600
+# Kit 13f has these, and is newer than the kit that README names.
+OF_OTHER_KITS = {"--anew"}
+
+
+def played(session, room, programs):
+    """The statuses of the commands in an empty folder of a reader's home, and what they print."""
+    home, path = room / "home", room / "path"
+    for folder in (home, path):
+        folder.mkdir()
+    for name, program in programs.items():
+        (path / name).symlink_to(program)
+    for name, it in session.given.items():
+        file = home / name
+        file.parent.mkdir(parents=True, exist_ok=True)
+        if "\n" in it:
+            file.write_text(it, encoding="utf-8")
+        elif (TOP / it).is_dir():
+            file.symlink_to(TOP / it)
+        else:
+            shutil.copy(programs.get(it, TOP / it), file)
+    script = "".join(f"{it}\necho $? >> {room}/statuses\n" for it in session.commands)
+    for text, other in session.instead.items():
+        script = script.replace(text, other)
+    environment = {"PATH": f"{path}:/usr/bin:/bin", "HOME": str(home), "PYTHONDONTWRITEBYTECODE": "1"}
+    words = ["bash", "-c", f"set -o pipefail\n{script}"]
+    streams = {"stdin": subprocess.DEVNULL, "stdout": subprocess.PIPE, "stderr": subprocess.STDOUT}
+    done = subprocess.run(words, cwd=home, env=environment, text=True, check=False, timeout=SECONDS, **streams)
+    statuses = map(int, (room / "statuses").read_text(encoding="utf-8").split())
+    return dict(zip(session.commands, statuses)), done.stdout
+
+
+def shown(session):
+    """What the page shows as the output: the block behind a text, or the comments behind a line of a block."""
+    behind = read(session.page).partition(session.shown)[2]
+    assert session.shown and behind, f"{session.page}:1: it has no text '{session.shown}'"
+    if session.shown.startswith("#"):
+        block = "\n".join(re.findall(r"(?m)^    # (.*)$", behind.split("\n\n")[0]))
+    else:
+        block = re.search(r"(?m)(?:^    .*\n|^\n(?=    ))+", behind)[0]
+    return [it for it in block.replace(";\n", "; ").split("\n") if it.strip()]
+
+
+def plain(line):
+    """A line without what pages and programs lay out otherwise."""
+    return " ".join(line.replace("=>", " ").split())
+
+
+def missing(wanted, printed):
+    """The first of these lines that isn't among those that were printed, behind the one before it."""
+    rest = iter([plain(it) for it in printed])
+    return next((it for it in wanted if not any(line.endswith(plain(it)) for line in rest)), None)
+
+
+@pytest.mark.parametrize("name", [
+    pytest.param(it, marks=[pytest.mark.needs(*SESSIONS[it].needs), *[pytest.mark.slow] * bool(SESSIONS[it].needs)])
+    for it in SESSIONS
+])
+def test_session(name, tmp_path, bsdudp, bsdplay):
+    session = SESSIONS[name]
+    statuses, printed = played(session, tmp_path, {"bsdudp": bsdudp, "bsdplay": bsdplay})
+    for command in session.commands:
+        wanted, came = session.statuses.get(command, 0), statuses.get(command)
+        assert came == wanted, f"{session.page}: `{command}`: status {came}, and not {wanted}: {printed[-2000:]}"
+    for lines in ([shown(session)] if session.shown else []) + [session.prints]:
+        line = missing(lines, printed.splitlines())
+        assert line is None, f"{session.page}: '{line}' isn't printed, or not in the page's order: {printed[-3000:]}"
+
+
+@pytest.mark.needs("rt")
+def test_rt_knows_its_words():
+    """Each command of `rt` and each of its options that a page names is one that `rt --help` names, too."""
+    about = ""
+    rattle = pathlib.Path(shutil.which("rt")).resolve().with_name("rattle")
+    for words in (["rt"], [rattle, "check"]):  # rt gives rattle its flags
+        said = subprocess.run([*words, "--help"], capture_output=True, text=True, check=False)
+        about += said.stdout + said.stderr
+    names = {it for words in re.findall(r"(?m)^(?:usage:)? +rt ([a-z|-]+)", about) for it in words.split("|")}
+    faults = []
+    for it in of_documents():
+        if not is_of_rt(it.text):
+            continue
+        place, words = re.match(r"(?:cd (\S+) && )?rt (.*)", it.text).groups()
+        words = list(itertools.takewhile(lambda word: word != "--", words.split()))
+        if place and not (TOP / place).is_dir():
+            faults.append(Fault(it.place, f"`{it.text}`: there is no folder {place}"))
+        if words[0] not in names | {"--help"}:
+            faults.append(Fault(it.place, f"`{it.text}`: rt --help has no command {words[0]}"))
+        unknown = {word for word in words[1:] if word.startswith("--") and word not in about} - OF_OTHER_KITS
+        faults += [Fault(it.place, f"`{it.text}`: rt --help has no option {one}") for one in sorted(unknown)]
+    none_of(faults)
+
+
+@pytest.mark.needs("rt")
+def test_readme_names_the_kit():
+    kit = subprocess.run(["rt", "version"], capture_output=True, text=True, check=True).stdout.strip()
+    wanted = re.search(r"`rt version` prints `([^`]+)`", read("README.md"))[1]
+    assert kit.startswith(f"{wanted} ") and f"`{kit}`" in read("README.md"), f"README.md names another kit than {kit}"

@@ -1,0 +1,300 @@
+"""What tries each command that pages ask their readers to type.
+
+These have no row: a script by itself (test_help.py runs each), `make ..`, `pytest ..` and Debian's packages
+(test_commands.py), and `rt ..` (tests/commands/test_pages.py)."""
+from __future__ import annotations
+
+import fnmatch
+import re
+from typing import Iterator, Mapping, NamedTuple, Sequence
+
+from tests.docs.pages import OF_THE_PAST, TOP, Command, commands, documents, is_script, read
+
+# Pages, and how many lines of each the gate has tried: all, or the first screen.
+WHOLE = ("README.md", "CONTRIBUTING.md")
+SCREEN = 40
+
+
+class Row(NamedTuple):
+    """A subject of the tests and what its files have of the command. It's a folder of tests/, NAME of a test_NAME.py, a
+    script of .ci/, or a folder that has a folder tests/."""
+
+    subject: str
+    part: str
+
+
+# A `*` in a command stands for any text.
+ROWS = {
+    # README's block, on an empty machine
+    'git clone -q "$REPOSITORY" bsdudp': Row("fresh", 'blocks("commands")'),
+    "cd bsdudp": Row("fresh", 'blocks("commands")'),
+    # what is installed
+    "dist/deb FOLDER": Row("deb", "dist/deb"),
+    "apt install ./bsdudp_*.deb ./libbsdudp*.deb ./python3-bsdudp_*.deb": Row("deb", "dpkg -i"),
+    "man bsdudp": Row("made_pages", "bsdudp.1"),
+    "man bsdplay": Row("made_pages", "bsdplay.1"),
+    "dist/build FOLDER": Row("dist", "dist/build"),
+    "./install ~/.local": Row("dist", 'install"'),
+    "python3 -m venv bench && . bench/bin/activate": Row("dist", "venv"),
+    "pip install share/bsdudp/bsdudp-*.whl": Row("dist", "bin/pip"),
+    "python3 first.py": Row("dist", "first.py"),
+    # the C library
+    "capi/install *": Row("capi", "capi/install"),
+    "cc first.c $(pkg-config --cflags --libs bsdudp) && ./a.out": Row("dist", "pkg-config"),
+    "cc program.c -I PREFIX/include PREFIX/lib/libbsdudp.a && ./a.out": Row("capi", "lines[0]"),
+    "export PKG_CONFIG_PATH=PREFIX/lib/pkgconfig LD_LIBRARY_PATH=PREFIX/lib": Row("capi", "lines[1:3]"),
+    "cc program.c $(pkg-config --cflags --libs bsdudp) && ./a.out": Row("capi", "lines[1:3]"),
+    "export BSDUDP_LIBRARY=~/.local/lib/libbsdudp.so.0 PYTHONPATH=$PWD/python": Row("python", "BSDUDP_LIBRARY"),
+    "portable/core cortex-m3 FOLDER": Row("core", "portable/core"),
+    "portable/core targets": Row("core", "targets"),
+    "portable/build FOLDER": Row("portable", "portable/build"),
+    # ns-3, and a host on an Ethernet
+    "export PKG_CONFIG_PATH=~/.local/lib/pkgconfig": Row("ns3", "lib/pkgconfig"),
+    "cmake -S simulators/ns3 -B ~/ns3-bsdudp -DCMAKE_INSTALL_PREFIX=~/.local": Row("ns3", "simulators/ns3"),
+    "cmake --build ~/ns3-bsdudp -j 4 && cmake --install ~/ns3-bsdudp": Row("ns3", "--install"),
+    "./tap_host tap0 &": Row("capi", "tap_host"),
+    "ip addr add 10.0.0.2/24 dev tap0": Row("capi", "ip addr add 10.0.0.2/24"),
+    "ip link set tap0 up": Row("capi", "ip link set"),
+    "ping 10.0.0.1": Row("capi", '"ping"'),
+    "unshare -n": Row("capi", "unshare -n"),
+    # the programs
+    "tools/sendto FILE": Row("made_pages", '"tools/sendto", page'),
+    "tools/callers write": Row("crates", "tools/callers"),
+    ".ci/wrong-bodies --gate *": Row("run", ".ci/wrong-bodies --gate"),
+}
+class Session(NamedTuple):
+    """Commands of a page that tests/commands/test_pages.py runs, one after another in an empty folder, with the built
+    programs on the path."""
+
+    page: str
+    commands: Sequence[str]
+    # Files and folders in the empty one, each with what of this repository it is, or its text.
+    given: Mapping[str, str] = {}
+    # What a reader writes in the place of a text.
+    instead: Mapping[str, str] = {}
+    # The page's text in front of the block that shows what is printed, in this order.
+    shown: str = ""
+    # What else is printed, in this order.
+    prints: Sequence[str] = ()
+    # The commands that don't end with status 0, with theirs.
+    statuses: Mapping[str, int] = {}
+    needs: Sequence[str] = ()
+
+
+EXAMPLES = {"examples": "examples"}
+KEY = "examples/play/exercise_04_fragments_out.txt"
+SESSIONS = {
+    "installed": Session(
+        "README.md",
+        [
+            "bsdplay /usr/share/doc/bsdudp/examples/play/why_dropped.txt",
+            "bsdplay why /usr/share/doc/bsdudp/examples/play/faults.pcap",
+        ],
+        instead={"/usr/share/doc/bsdudp": str(TOP)},
+        prints=[
+            "dropped wrong version",
+            "The machine is 10.0.0.1, to which 12 of 12 datagrams go; --addr takes another.",
+        ],
+    ),
+    "a capture": Session("README.md", ["bsdplay why capture.pcapng"], {"capture.pcapng": "examples/play/faults.pcap"}),
+    "why": Session(
+        "docs/why.md",
+        ["bsdplay why capture.pcap"],
+        {"capture.pcap": "examples/play/faults.pcap"},
+        shown="Some lines of",
+    ),
+    "play": Session("docs/play.md", ["bsdplay examples/play/why_dropped.txt"], EXAMPLES, shown="prints of these lines"),
+    "tour for people": Session(
+        "docs/tour.md",
+        ["bsdplay examples/first_datagram.txt"],
+        EXAMPLES,
+        shown="`first_datagram.txt`, and its replies:",
+    ),
+    "tour": Session(
+        "docs/tour.md",
+        ["bsdudp run < examples/first_datagram.txt"],
+        EXAMPLES,
+        prints=["ok 3", "ok", "ok", "from 10.0.0.2 5000 6869"],
+    ),
+    "replies": Session(
+        "docs/recipes.md",
+        [
+            "bsdudp run < script.txt | paste script.txt - | expand -t 72",
+            "bsdudp run < script.txt | paste script.txt - | grep -n '? line$'",
+            'for script in *.txt; do echo "== $script"; bsdudp run < "$script"; done',
+        ],
+        {"script.txt": "examples/refusals.txt"},
+        prints=["socket ok 3", "hello ? line", "7:hello ? line", "== script.txt", "error 9 EBADF", "? line"],
+    ),
+    "on the path": Session(
+        "docs/recipes.md",
+        [
+            "install -D -m755 crates/bsdudp/out/bsdudp crates/bsdplay/out/bsdplay -t ~/.local/bin",
+            "dist/man ~/.local/share/man/man1",
+            'export PATH="$HOME/.local/bin:$PATH"',
+        ],
+        {f"crates/{it}/out/{it}": it for it in ("bsdudp", "bsdplay")} | {"dist": "dist"},
+    ),
+    "for another machine": Session(
+        "docs/tour.md",
+        [
+            "bsdudp run --addr 10.0.0.3 < examples/another_address.txt",
+            "bsdudp chain < examples/chain/shared_cluster.txt",
+        ],
+        EXAMPLES,
+        prints=["from 10.0.0.2 5000 6869", "len 328 P28 C300x2"],
+    ),
+    "a reader of the crate": Session(
+        "crates/bsdplay/README.md",
+        [
+            "bsdplay --quiet first.txt second.txt",
+            "bsdplay --pcap captured.pcap examples/play/captured.txt",
+            "bsdplay --seeds 1-1000 examples/play/wire/lost_by_chance.txt",
+            "bsdplay --json < script.txt",
+            "bsdplay --from-pcap capture.pcap --records 3-17 --ticks > script.txt",
+            "bsdplay why capture.pcap --addr 10.0.0.1",
+        ],
+        EXAMPLES
+        | {name: "examples/play/first_datagram.txt" for name in ("first.txt", "second.txt")}
+        | {"script.txt": "examples/play/why_dropped.txt", "capture.pcap": "capi/tests/captures/ethernet.pcap"},
+        statuses={"bsdplay --seeds 1-1000 examples/play/wire/lost_by_chance.txt": 1},
+    ),
+    "chains": Session(
+        "crates/bsdudp/README.md",
+        ["bsdudp chain --mbufs 8 --clusters 2 < script.txt"],
+        {"script.txt": "user 0 61\nmbstat\n"},
+        prints=["ok", "mbufs 7/8 clusters 2/2 refs 0 most 0"],
+    ),
+    "from a capture": Session(
+        "docs/recipes.md",
+        ["bsdplay --from-pcap capture.pcap > packets.txt"],
+        {"capture.pcap": "examples/play/faults.pcap"},
+    ),
+    "Wireshark": Session(
+        "docs/recipes.md",
+        [
+            "bsdudp run < script.txt | sed -n 's/^packet //p' | "
+            """awk '{ printf "000000"; for (i = 1; i <= length($0); i += 2) printf " %s", substr($0, i, 2); """
+            """print "" }' > dump.txt""",
+            "text2pcap -q -l 101 dump.txt packets.pcap",
+            "tshark -r packets.pcap -V -o ip.check_checksum:TRUE -o udp.check_checksum:TRUE",
+        ],
+        {"script.txt": "socket\nsendto 3 10.0.0.2 7 6869\ntx\n"},
+        prints=["[Header checksum status: Good]", "[Checksum Status: Good]"],
+        needs=["tshark", "editcap"],
+    ),
+    "comments": Session(
+        "docs/recipes.md",
+        [r"sed -e 's/\r$//' -e 's/[[:space:]]*#.*//' -e '/^$/d' mine.txt | bsdudp run"],
+        {"mine.txt": "# mine\nsocket # the first\r\n\nbind 3 0.0.0.0 7\n"},
+        prints=["ok 3", "ok"],
+    ),
+    "side by side": Session(
+        "examples/README.md",
+        ["paste first_datagram.txt first_datagram.txt.stdout"],
+        {name: f"examples/{name}" for name in ("first_datagram.txt", "first_datagram.txt.stdout")},
+        prints=["socket ok 3", "recvfrom 3 100 from 10.0.0.2 5000 6869"],
+    ),
+    "a course": Session(
+        "docs/play-teaching.md",
+        [
+            "mkdir -p course/hand-ins && cd course",
+            "cp .../examples/play/exercise_04_fragments_out.txt key.txt",
+            "bsdplay --strict key.txt",
+            "bsdplay --blank key.txt > exercise_04.txt",
+            "bsdplay --grade --key key.txt hand-ins/*.txt",
+            "bsdplay --grade --key key.txt --csv hand-ins/*.txt > grades.csv",
+        ],
+        {
+            "course/hand-ins/ann.txt": KEY,
+            "course/hand-ins/ben.txt": read(KEY).replace("ok 1400", "ok").replace("30\n", "?\n"),
+        },
+        instead={".../": f"{TOP}/"},
+        shown="# and hands the file in: as hand-ins/ann.txt, hand-ins/ben.txt, ..",
+        statuses={
+            "bsdplay --grade --key key.txt hand-ins/*.txt": 1,
+            "bsdplay --grade --key key.txt --csv hand-ins/*.txt > grades.csv": 1,
+        },
+    ),
+    "a judge": Session(
+        "docs/conform.md",
+        [
+            "bsdudp-conform template mine",
+            "cc -Imine mine/template.c YOUR_STACK.. -o adapter",
+            "bsdudp-conform run --report out -- ./adapter",
+        ],
+        # All cases take most of a minute.
+        instead={
+            "bsdudp-conform": f"{TOP}/conform/bsdudp-conform",
+            "YOUR_STACK..": "",
+            "--report out": "--report out --only udp.data",
+        },
+        shown="it reports that no datagram comes:",
+        statuses={"bsdudp-conform run --report out -- ./adapter": 1},
+        needs=["scapy", "cc"],
+    ),
+}
+ROWS |= {command: Row("commands", "SESSIONS") for it in SESSIONS.values() for command in it.commands}
+# No test runs these, for this reason.
+UNTRIED = {
+    "pip install scapy": "it takes the network; Debian's package is tried",
+    "nc -u 10.0.0.1 7": "a test of tap_host sends the same datagrams by a socket",
+    "tcpdump -e -i tap0": "it shows what a test of tap_host reads by tshark",
+    "tcpdump -s 60": "it takes a network card",
+    "bench/run.sh NAME": "measurements are made by hand",
+    "bench/run.sh stack": "measurements are made by hand",
+    ".ci/wrong-bodies --all *": "it takes hours, before a version",
+    ".ci/wrong-bodies --all": "it takes hours, before a version",
+    ".ci/wrong-bodies [CRATE ..]": "it takes hours, before a version",
+}
+# What names a program with an option, and isn't to be typed.
+NAMES = {"bsdudp run", "bsdudp chain", "bsdplay --grade"}
+
+
+def of_pages() -> Iterator[Command]:
+    """The commands that need a test: those of README.md, CONTRIBUTING.md and the first screen of each page of docs/."""
+    for path in WHOLE:
+        yield from commands(path)
+    for page in sorted((TOP / "docs").glob("*.md")):
+        yield from commands(f"docs/{page.name}", SCREEN)
+
+
+def of_documents() -> Iterator[Command]:
+    """The commands of all pages, apart from those that say what was so in the past."""
+    for path in documents():
+        if path not in OF_THE_PAST:
+            yield from commands(path)
+
+
+def is_of(text: str, pattern: str) -> bool:
+    """Whether a row's text stands for a command."""
+    return text == pattern or ("*" in pattern and fnmatch.fnmatchcase(text, pattern.replace("[", "[[]")))
+
+
+def row_of(text: str) -> str | None:
+    """The row, the reason or the name that a command has, by its text."""
+    return next((it for it in [*ROWS, *UNTRIED, *NAMES] if is_of(text, it)), None)
+
+
+def is_of_make(text: str) -> bool:
+    return re.match(r"make( |$)", text) is not None
+
+
+def is_of_rt(text: str) -> bool:
+    return re.match(r"(cd \S+ && )?rt ", text) is not None
+
+
+def is_of_pytest(text: str) -> bool:
+    return re.match(r"(/usr/bin/python3 -m )?pytest( |$)", text) is not None
+
+
+def packages_of(text: str) -> list[str]:
+    """The packages that a command installs by name."""
+    found = re.fullmatch(r"apt-get install((?: [a-z0-9+.-]+)+)", text)
+    return found[1].split() if found else []
+
+
+def has_way(text: str) -> bool:
+    """Whether something tries a command, or it says why nothing does."""
+    known = (is_script, is_of_make, is_of_rt, is_of_pytest, packages_of, row_of)
+    return any(is_known(text) for is_known in known)
