@@ -45,13 +45,13 @@ def played(session, room, programs):
 
 
 def shown(session):
-    """What the page shows as the output: the block behind a text, or the comments behind a line of a block."""
-    behind = read(session.page).partition(session.shown)[2]
-    assert session.shown and behind, f"{session.page}:1: it has no text '{session.shown}'"
+    """What the page shows as the output: the block after a text, or the comments after a line of a block."""
+    rest = read(session.page).partition(session.shown)[2]
+    assert session.shown and rest, f"{session.page}:1: it has no text '{session.shown}'"
     if session.shown.startswith("#"):
-        block = "\n".join(re.findall(r"(?m)^    # (.*)$", behind.split("\n\n")[0]))
+        block = "\n".join(re.findall(r"(?m)^    # (.*)$", rest.split("\n\n")[0]))
     else:
-        block = re.search(r"(?m)(?:^    .*\n|^\n(?=    ))+", behind)[0]
+        block = re.search(r"(?m)(?:^    .*\n|^\n(?=    ))+", rest)[0]
     return [it for it in block.replace(";\n", "; ").split("\n") if it.strip()]
 
 
@@ -61,7 +61,7 @@ def plain(line):
 
 
 def missing(wanted, printed):
-    """The first of these lines that isn't among those that were printed, behind the one before it."""
+    """The first of these lines that wasn't printed after the one before it."""
     rest = iter([plain(it) for it in printed])
     return next((it for it in wanted if not any(line.endswith(plain(it)) for line in rest)), None)
 

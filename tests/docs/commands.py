@@ -23,7 +23,7 @@ class Row(NamedTuple):
     part: str
 
 
-# A `*` in a command stands for any text.
+# A `*` in a command matches any text.
 ROWS = {
     # README's block, on an empty machine
     'git clone -q "$REPOSITORY" bsdudp': Row("fresh", 'blocks("commands")'),
@@ -70,9 +70,9 @@ class Session(NamedTuple):
     commands: Sequence[str]
     # Files and folders in the empty one, each with what of this repository it is, or its text.
     given: Mapping[str, str] = {}
-    # What a reader writes in the place of a text.
+    # What a reader writes instead of a text.
     instead: Mapping[str, str] = {}
-    # The page's text in front of the block that shows what is printed, in this order.
+    # The page's text before the block that shows the output, in this order.
     shown: str = ""
     # What else is printed, in this order.
     prints: Sequence[str] = ()
@@ -267,7 +267,7 @@ def of_documents() -> Iterator[Command]:
 
 
 def is_of(text: str, pattern: str) -> bool:
-    """Whether a row's text stands for a command."""
+    """Whether a row's text matches a command."""
     return text == pattern or ("*" in pattern and fnmatch.fnmatchcase(text, pattern.replace("[", "[[]")))
 
 

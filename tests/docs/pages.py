@@ -14,7 +14,7 @@ SHOWN = 30
 
 
 class Fault(NamedTuple):
-    """Where something is wrong, what, and what is wanted and came, if that says more."""
+    """The place of a fault, what is wrong, and what is wanted and came, if that says more."""
 
     place: str
     about: str
@@ -47,13 +47,13 @@ def lines(path: str) -> Iterator[tuple[str, str]]:
 
 
 def in_code(text: str) -> list[str]:
-    """What stands between backticks."""
+    """The code in a text, between backticks."""
     return re.findall(r"`([^`]+)`", text)
 
 
 # ---- commands ------------------------------------------------------------------------------------------------------
 
-# What a command can begin with, apart from a script of this repository and what is called as ./NAME.
+# The programs by which a command is known. Scripts of this repository and ./NAME are commands, too.
 PROGRAMS = set(
     "bsdudp bsdplay bsdudp-conform rt make git python3 /usr/bin/python3 pytest pip mypy node cc c++ gcc g++ cmake "
     "arm-none-eabi-gcc qemu-system-arm pkg-config apt apt-get dpkg dpkg-deb install cd cp mkdir cat echo printf paste "
@@ -75,7 +75,7 @@ def is_script(word: str) -> bool:
 
 
 def is_command(text: str) -> bool:
-    """Whether code is a command: of programs beside this repository's scripts only with words behind the name."""
+    """Whether code is a command: of programs beside this repository's scripts only if words follow the name."""
     words = re.sub(r"^([A-Z_]+=\S*\s+)+", "", text).split()
     if not words:
         return False
@@ -87,8 +87,8 @@ def is_command(text: str) -> bool:
 
 
 def commands(path: str, most: int | None = None) -> Iterator[Command]:
-    """The commands in blocks of code and in the text of a page, or of so many lines of it, in their order. What stands
-    behind a command as a comment or in a second column is left out; a command in several lines is one."""
+    """The commands in blocks of code and in the text of a page, or of so many lines of it, in their order, without
+    comments and second columns. A command in several lines is one."""
     fence, paragraph, begin, more = None, "", 0, ""
     text = read(path).split("\n")
     for number, line in enumerate([*text[:most], ""], 1):
@@ -175,7 +175,7 @@ def pieces(path: str, pattern: str, text: str | None = None) -> list:
 
 
 def part(path: str, begin: str, end: str) -> str:
-    """What stands in a file between two texts."""
+    """The part of a file between two texts."""
     _, there, rest = read(path).partition(begin)
     if not there or end not in rest:
         unread(f"{path}:1", f"there is no text between '{begin}' and '{end}'")

@@ -91,7 +91,7 @@ def test_causes_of_bsdplay():
 
 
 def test_each_counter_that_a_page_names_is_one():
-    """What has a number behind it, as udp.data:1, is a case of bsdudp-conform."""
+    """A name with a number, such as udp.data:1, is a case of bsdudp-conform."""
     names = {name for _, name in named_counters()}
     name = re.compile(r"(?<![\w.])(?:ip|udp|out)\.[a-z]+\b(?![.\w]*:\d)")
     pages = [it for it in documents() if re.fullmatch(r"README\.md|docs/.*|crates/\w+/README\.md", it)]

@@ -1,4 +1,4 @@
-"""What pages say of the crates: which there are and which each stands on, libraries of the toolchain, files with raw
+"""What pages say of the crates: which there are and which each uses, libraries of the toolchain, files with raw
 pointers, calls that other crates make, wrong bodies that the prover refuses; callers in READMEs."""
 import functools
 import re
@@ -31,7 +31,7 @@ def layers() -> list:
 
 @pytest.mark.parametrize("path", ["crates.txt", "crates/README.md", ARCHITECTURE])
 def test_each_crate_has_a_line(path):
-    """Each crate stands there once; in the first two below none that uses it."""
+    """Each crate is listed once; in the first two files, after the crates that it uses."""
     used, names = crates.uses(), lists()[path]
     there = sorted(it.parent.name for it in TOP.glob("crates/*/src"))
     faults = [Fault(f"{path}:1", "this crate is missing", it) for it in there if it not in names]
@@ -44,7 +44,7 @@ def test_each_crate_has_a_line(path):
 
 
 def test_layers_name_what_they_use():
-    """docs/architecture.md names no crate below another one that it doesn't use."""
+    """docs/architecture.md lists under "Stands on" only what a crate uses."""
     used = crates.uses()
     none_of(
         Fault(row.place, f"{name} doesn't use {it}")
@@ -102,11 +102,11 @@ def test_calls_on_the_way_of_a_packet():
     none_of(faults)
 
 
-# ---- wrong bodies --------------------------------------------------------------------------------------------------
+# ---- mutants -------------------------------------------------------------------------------------------------------
 
 
 def test_bodies_that_are_refused():
-    """Each wrong body that docs/security.md calls refused stands in must-fail/."""
+    """Each mutant that docs/security.md calls refused is in must-fail/."""
     none_of(
         Fault(place, f"no must-fail/ has {name}.edit")
         for place, line in lines("docs/security.md")
@@ -117,7 +117,7 @@ def test_bodies_that_are_refused():
 
 @pytest.mark.parametrize("crate", sorted(it.name for it in TOP.glob("crates/*")))
 def test_wrong_bodies_apply(crate):
-    """Each wrong body of a crate still applies: its file is there, and has each text that it replaces exactly once."""
+    """Each mutant of a crate still applies: its file has each text that it replaces exactly once."""
     none_of(Fault(f"{path.relative_to(TOP)}:1", why) for path, why in edits.faults(TOP / "crates" / crate))
 
 

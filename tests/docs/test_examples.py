@@ -17,7 +17,7 @@ def test_each_example_has_a_line():
 
 
 def quoted():
-    """Each script that the tour names as a paragraph begins, with the block of lines and replies behind it."""
+    """Each script that the tour names as a paragraph begins, with the block of lines and replies after it."""
     for found in re.finditer(r"(?m)^`([\w/]+\.txt)`((?:.|\n)*?)(?=^## |^`[\w/]+\.txt`|\Z)", read(TOUR)):
         line = read(TOUR).count("\n", 0, found.start()) + 1
         rows = [(line + n, it) for n, it in enumerate(found[0].split("\n")) if re.match(r"    (?!bsd)\S", it)]

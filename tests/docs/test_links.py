@@ -11,7 +11,7 @@ from tests.docs.pages import OF_THE_PAST, TOP, Fault, documents, in_code, lines,
 LINK = re.compile(r"\]\(([^)#:\s]*)(?:#([^)\s]*))?\)")
 FOLDERS = "bench|capi|conform|crates|dist|docs|examples|page|portable|python|simulators|tests|tools|.ci"
 PATH = re.compile(rf"(?:^| )((?:{FOLDERS})/[\w./-]+)(?= |$)")
-# A word in capitals stands for a name, and what is built is in a folder out/.
+# A word in capitals is a placeholder, and what is built is in a folder out/.
 NO_PATH = re.compile(r"[A-Z]{4}|/out/")
 
 
@@ -30,7 +30,7 @@ def anchors(path: str) -> frozenset[str]:
 
 @pytest.mark.parametrize("path", documents())
 def test_links(path):
-    """Each link leads to a file, and what stands behind # is a heading there."""
+    """Each link leads to a file, and the anchor after # to a heading there."""
     faults = []
     for place, line in lines(path):
         for to, anchor in LINK.findall(re.sub(r"`[^`]*`", "", line)):

@@ -57,7 +57,7 @@ def lines_of_definitions() -> int:
     return sum(len(path.read_text(encoding="utf-8").splitlines()) for path in SPECS.rglob("*.antt"))
 
 
-# What a page says, and the number that it should have. Behind `some` it may be rounded to a hundredth.
+# What a page says, and the number that is right. After `some` it may be rounded to a hundredth.
 COUNTED = [
     ("README.md", "functions in N crates are proved", lambda: len(crates.uses())),
     ("README.md", "some N functions", functions),
@@ -105,7 +105,7 @@ def test_lengths_of_files():
 
 
 def test_costs_that_stand_twice():
-    """What a datagram costs beside lwIP is what it costs alone, to a hundredth: other code stands beside it."""
+    """A datagram costs the same in the table with lwIP and in the table without it, to a hundredth."""
     place = table(PERFORMANCE, BESIDE[0], *BESIDE[1])[0]
     faults = []
     for at, size in enumerate(LENGTHS, 1):

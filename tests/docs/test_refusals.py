@@ -8,7 +8,7 @@ from tests.docs.definitions import CALLS, ERRNO, calls_refused, errno_numbers, e
 from tests.docs.pages import Entry, Fault, in_code, in_order, none_of, part, read, table
 
 ORDER = ["socket", "bind", "connect", "sendto", "send", "recvfrom", "setsockopt", "close"]
-# Where each name stands once more, and where each name stands with its number.
+# Other files that list each name, and files that list each name with its number.
 NAMES = {
     "page/stack.js": ("const ERRORS = {", "\n};", r'"?(E[A-Z]+(?: \w+)?)"?: "'),
     "portable/tests/run.c": ("names[][2] = {", "};", r'"(E[^"]+)"'),
@@ -77,7 +77,7 @@ def test_refusals_of_a_send():
 
 @pytest.mark.parametrize("path", NAMES)
 def test_names_elsewhere(path):
-    """Every name of a refusal stands there once more."""
+    """The file lists every name of a refusal."""
     begin, end, pattern = NAMES[path]
     errnos = errno_texts()
     told = sorted(re.findall(pattern, part(path, begin, end)))
@@ -87,7 +87,7 @@ def test_names_elsewhere(path):
 
 @pytest.mark.parametrize("path", NUMBERS)
 def test_numbers_elsewhere(path):
-    """Every name of a refusal stands there once more with its number. Python's module errno has one name for two."""
+    """The file lists every name of a refusal with its number. Python's module errno has one name for two."""
     found = re.finditer(NUMBERS[path], read(path))
     pairs = {(it["name"].replace("EAGAIN", "EWOULDBLOCK"), int(it["number"])) for it in found}
     names = {variant: texts[0].split(" ")[0] for variant, texts in errno_texts().items()}
