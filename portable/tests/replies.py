@@ -1,26 +1,20 @@
 #!/usr/bin/env python3
 """Plays all scripts of examples/ by a driver of run.c, and compares its replies with those beside the scripts, byte for
-byte. Then it plays random scripts by the driver and by the program `bsdudp`, and compares these. Several drivers, with a word + between them, play the
-same scripts. It says what is answered otherwise, and then exits with 1."""
+byte. Then it plays random scripts by the driver and by the program `bsdudp`, and compares these. Several drivers, with
+a word + between them, play the same scripts. It says what is answered otherwise, and then exits with 1."""
 import argparse
 import concurrent.futures
 import itertools
 import os
 import pathlib
-import random
 import subprocess
 import sys
 
 sys.dont_write_bytecode = True
 TOP = pathlib.Path(__file__).resolve().parent.parent.parent
-sys.path[:0] = [str(TOP), str(TOP / "python/tests")]
-from packets import damaged, fragment, udp  # noqa: E402
+sys.path.insert(0, str(TOP))
+from tests.random_scripts import FIRST, lines_of, random_script  # noqa: E402
 from tools import command_line  # noqa: E402
-
-FIRST, LINES, LONGEST = 1, 150, 4000
-ADDRESSES = ["10.0.0.1", "10.0.0.2", "10.0.0.255", "127.0.0.1", "0.0.0.0", "255.255.255.255", "127.0.0.2", "224.0.0.1"]
-PORTS = [7, 7, 7, 7, 7, 7, 0, 9, 1024, 1025, 5000, 65535]
-LENGTHS = [0, 1, 2, 28, 72, 73, 100, 101, 207, 208, 1472, 1473, 2048, 4096, 9216, 9217]
 
 
 def examples():
@@ -29,61 +23,6 @@ def examples():
         words = path.with_name(path.name + ".args")
         options = words.read_text().split() if words.exists() else []
         yield path.name, options, path.read_bytes(), path.with_name(path.name + ".stdout").read_bytes()
-
-
-def mixed(rng, lines):
-    """Lines of all examples in random order. In every eighth one a word is that of another line."""
-    for _ in range(LINES):
-        words = rng.choice(lines).split(" ")
-        if rng.randrange(8) == 0:
-            words[rng.randrange(len(words))] = rng.choice(rng.choice(lines).split(" "))
-        yield " ".join(words)
-
-
-def octets(rng):
-    length = rng.choice(LENGTHS) if rng.randrange(2) else rng.randrange(200)
-    return rng.randbytes(length)
-
-
-def hexed(data):
-    return data.hex() or "-"
-
-
-def packet(rng):
-    """A packet from the link: whole, a fragment, or damaged."""
-    to = rng.choice(ADDRESSES[:1] * 4 + ADDRESSES)
-    whole = udp("10.0.0.2", to, rng.choice(PORTS), rng.choice(PORTS), octets(rng), rng.randrange(4))
-    kind = rng.randrange(12)
-    if kind < 3:
-        return fragment(whole, rng.randrange(100), rng.randrange(100))
-    return damaged(whole, rng.randrange(68), rng.randrange(8)) if kind == 3 else whole
-
-
-def calls(rng):
-    """Random calls, most of which do something."""
-    sockets = [lambda fd: "socket", lambda fd: f"bind {fd} {rng.choice(ADDRESSES[:5])} {rng.choice(PORTS)}"]
-    sockets += [lambda fd: f"connect {fd} {rng.choice(ADDRESSES)} {rng.choice(PORTS)}", lambda fd: f"close {fd}"]
-    sockets += [lambda fd: f"setsockopt {fd} {rng.choice(['broadcast', 'reuseport'])} {rng.randrange(2)}"]
-    traffic = [lambda fd: f"sendto {fd} {rng.choice(ADDRESSES)} {rng.choice(PORTS)} {hexed(octets(rng))}"]
-    traffic += [lambda fd: f"send {fd} {hexed(octets(rng))}", lambda fd: f"rx {hexed(packet(rng))}"]
-    traffic += [lambda fd: f"recvfrom {fd} {rng.choice([1, 2, 40, 9216, 65535])}", lambda fd: "tx", lambda fd: "tx"]
-    others = [lambda fd: "stat", lambda fd: "mbstat", lambda fd: "tick"]
-    yield from ("socket", "bind 3 0.0.0.0 7", "socket")
-    for _ in range(LINES):
-        kind = rng.randrange(20)
-        if kind == 0:
-            yield from ["tick"] * rng.choice([1, 60])
-        yield rng.choice(sockets if kind < 4 else others if kind < 6 else traffic)(rng.choice([3, 3, 3, 4, 4, 5, 6, 7]))
-
-
-def random_script(seed, lines):
-    """A script of that number: its options and its text."""
-    rng = random.Random(seed)
-    options = ["--mtu", str(rng.choice([68, 576, 1500, 1500, 4352])), "--id", str(rng.randrange(65536))]
-    options += ["--mbufs", str(rng.choice([1 + rng.randrange(100), 512]))]
-    options += ["--clusters", str(rng.choice([rng.randrange(20), 64]))]
-    chosen = mixed(rng, lines) if seed % 2 else calls(rng)
-    return options, "".join(f"{line}\n" for line in [*chosen, "stat", "mbstat"]).encode()
 
 
 def heard(driver, scripts):
@@ -102,7 +41,7 @@ def chosen(count, program):
     """All scripts of examples/, and so many random ones, each with its name and options; and the replies to them."""
     told = list(examples())
     scripts = [(f"examples/{name}", options, script) for name, options, script, _ in told]
-    lines = [line for _, _, script, _ in told for line in script.decode().split("\n") if line and len(line) < LONGEST]
+    lines = lines_of(script for _, _, script, _ in told)
     mixed_up = [(f"random script {seed}", *random_script(seed, lines)) for seed in range(FIRST, FIRST + count)]
 
     def answered(script):
