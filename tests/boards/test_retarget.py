@@ -1,12 +1,7 @@
-#!/usr/bin/env python3
-"""What tools/retarget.py makes of each form of a line that it knows, and which forms it refuses. Silent if all is well;
-else it says the first that is otherwise, and exits with 1."""
-import pathlib
-import sys
+"""What tools/retarget.py makes of each form of a line that it knows, and which forms it refuses."""
+import pytest
 
-sys.dont_write_bytecode = True
-sys.path.insert(0, str(pathlib.Path(__file__).resolve().parent.parent.parent))
-from tools import command_line, retarget  # noqa: E402
+from tools import retarget
 
 # A line of a function, and the lines that stand for it. %1 is the first name that's made, %2 the second.
 KNOWN = [
@@ -130,26 +125,23 @@ def named(line):
     return line.replace("%narrow.", "%")
 
 
-def refused(text, number):
-    try:
+@pytest.mark.parametrize("line", SAME)
+def test_stays(line):
+    assert rewritten(function(f"  {line}"))[1:-1] == [f"  {line}"]
+
+
+@pytest.mark.parametrize("line, wanted", KNOWN)
+def test_rewritten(line, wanted):
+    assert [named(it) for it in rewritten(function(f"  {line}"))[1:-1]] == [f"  {it}" for it in wanted]
+
+
+@pytest.mark.parametrize("line, wanted", OUTSIDE)
+def test_outside_of_functions(line, wanted):
+    assert rewritten(line) == [wanted or line]
+
+
+@pytest.mark.parametrize("text", [*map(function, REFUSED), *(f"\n{it}\n" for it in REFUSED_OUTSIDE)])
+def test_refused(text):
+    """By the number of its line."""
+    with pytest.raises(retarget.Stop, match="^line 2: "):
         rewritten(text)
-    except retarget.Stop as why:
-        return str(why).startswith(f"line {number}: ")
-    return False
-
-
-def main():
-    command_line.none(__doc__)
-    faults = [f"refused: {line}" for line in SAME if rewritten(function(f"  {line}"))[1:-1] != [f"  {line}"]]
-    for line, wanted in KNOWN:
-        got = [named(it) for it in rewritten(function(f"  {line}"))[1:-1]]
-        if got != [f"  {it}" for it in wanted]:
-            faults.append(f"{line}: became {got}")
-    faults += [f"not refused: {line}" for line in REFUSED if not refused(function(f"  {line}"), 2)]
-    faults += [f"otherwise: {line}" for line, wanted in OUTSIDE if rewritten(line) != [wanted or line]]
-    faults += [f"not refused: {line}" for line in REFUSED_OUTSIDE if not refused(f"\n{line}\n", 2)]
-    if faults:
-        sys.exit(f"retarget.py: {faults[0]}")
-
-
-main()

@@ -1,0 +1,12 @@
+"""What stands in for functions of the core on processors without vectors: portable/c/plain.c beside plain
+definitions."""
+import pytest
+
+from tests.boards.conftest import CC, SANITIZED
+from tests.cases import TOP
+
+
+@pytest.mark.needs("cc", "asan")
+def test_stand_ins(compiled, runs):
+    sources = [TOP / "portable/tests/plain.c", TOP / "portable/c/plain.c"]
+    runs(compiled("plain", CC, "-std=gnu99", "-Wall", "-Wextra", "-Werror", "-O1", *SANITIZED, *sources))
