@@ -26,6 +26,10 @@ class Golden(NamedTuple):
     status: int
 
 
+class Stop(Exception):
+    """Why nothing could be played."""
+
+
 class Output(NamedTuple):
     """What a run printed, and its status."""
 
@@ -89,7 +93,7 @@ def tried(goldens: Iterable[Golden]) -> dict[str, Output]:
         if name in known and name in status_of
     }
     if not found:
-        raise RuntimeError(f"rt try plays nothing: {said[-1000:]}")
+        raise Stop(f"rt try plays nothing (status {done.returncode}): {said[-1000:].strip()}")
     return found
 
 
