@@ -83,7 +83,8 @@ def tried(goldens: Iterable[Golden]) -> dict[str, Output]:
             ["rt", "try", "--cases", room],
             cwd=TOP / "crates/bsdplay", stdin=subprocess.DEVNULL, capture_output=True, check=False,
         )  # fmt: skip
-    text = done.stdout.replace(f"{TOP}/".encode(), b"")
+    # rt gives the program another name
+    text = done.stdout.replace(f"{TOP}/".encode(), b"").replace(b"Usage: program ", b"Usage: bsdplay ")
     blocks = re.split(rb"(?m)^== (\w+)\n", text)
     said = done.stderr.decode(errors="replace")
     status_of = dict(re.findall(r"(?m)^case=(\w+) run=ended status=(\d+) ", said))
