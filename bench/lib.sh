@@ -32,9 +32,30 @@ counted() { # PROGRAM ARGUMENT..
         valgrind --tool=callgrind --callgrind-out-file=/dev/null "$@" 2>&1 | sed -n 's/.*Collected : //p'
 }
 
+# The instructions of each row and column that were counted last, as counts["ROW|COLUMN"].
+declare -A counts
+# Set once a row takes more instructions than it may: run.sh ends with 1 then.
+over_limit=
+
+# Says which rows take more instructions than bench/limits allows.
+check_limits() { # SUBJECT
+    local subject row column most
+    while IFS='|' read -r subject row column most; do
+        [ "$subject" = "$1" ] || continue
+        if [ "${counts[$row|$column]:--}" = - ]; then
+            echo "bench/limits: $subject has no row $row with $column" >&2
+            over_limit=1
+        elif [ "${counts[$row|$column]}" -gt "$most" ]; then
+            echo "$subject, $row, $column: ${counts[$row|$column]} instructions, and $most are allowed" >&2
+            over_limit=1
+        fi
+    done < <(grep -v '^#' "$bench/limits")
+}
+
 # The instructions of each turn, as the difference of 101 turns and one; `-` if the row doesn't have the column.
 print_instructions() { # WORK
     local each column columns row rows once more status
+    counts=()
     each="$("$1/bench" each)"
     mapfile -t columns < <("$1/bench" columns)
     printf '%-40s' 'instructions'
@@ -53,20 +74,24 @@ print_instructions() { # WORK
             [ "$status" = 0 ] || { echo "$row: status $status" >&2; return 1; }
             once="$(counted "$1/bench" turns "$row" "$column" 1)"
             more="$(counted "$1/bench" turns "$row" "$column" 101)"
-            printf ' %12d' $(((more - once) / (100 * each)))
+            counts[$row|$column]=$(((more - once) / (100 * each)))
+            printf ' %12d' "${counts[$row|$column]}"
         done
         echo
     done
 }
 
-# Both tables of a subject whose program is built.
-print_tables() { # WORK
-    if command -v valgrind > /dev/null; then print_instructions "$1"; fi
+# Both tables of a subject whose program is built. Its instructions are held against bench/limits.
+print_tables() { # WORK SUBJECT
+    if command -v valgrind > /dev/null; then
+        print_instructions "$1"
+        check_limits "$2"
+    fi
     "$1/bench"
 }
 
 # Measures a subject that has no measure.sh of its own.
 measure() { # WORK SUBJECT
     build_bench "$1" "$2" "$(crate_of "$2")"
-    print_tables "$1"
+    print_tables "$1" "$2"
 }

@@ -1,4 +1,4 @@
-/* Packets for the subjects that let fragments arrive. */
+/* Packets for the subjects that let some arrive. */
 #ifndef BSDUDP_PACKETS_H
 #define BSDUDP_PACKETS_H
 
@@ -7,7 +7,7 @@
 #include <string.h>
 
 /* Packets that are handed over together lie so far apart. */
-enum { PACKETS_APART = 1500, PACKET_HEADER = 20 };
+enum { PACKETS_APART = 1500, PACKET_HEADER = 20, DATAGRAM_HEADER = 8, RECEIVER_HOST = 2, BROADCAST_HOST = 255 };
 
 static inline void put_two(uint8_t *to, uint32_t value)
 {
@@ -15,21 +15,52 @@ static inline void put_two(uint8_t *to, uint32_t value)
     to[1] = (uint8_t)value;
 }
 
+/* The checksum of RFC 1071 over these bytes and a sum so far. */
+static inline uint32_t checksum_of(const uint8_t *from, size_t len, uint32_t sum)
+{
+    for (size_t at = 0; at < len; at++)
+        sum += at % 2 ? from[at] : (uint32_t)from[at] << 8;
+    while (sum > 65535)
+        sum = (sum & 65535) + (sum >> 16);
+    return 65535 - sum;
+}
+
+/* The IP header of a packet from 10.0.0.1 to 10.0.0.`host` that carries `size` bytes of a datagram from `offset` on. */
+static inline void put_header(uint8_t *to, uint8_t host, uint8_t protocol, uint32_t offset, uint32_t size, bool more)
+{
+    static const uint8_t header[PACKET_HEADER] = {0x45, 0, 0, 0, 0, 1, 0, 0, 64, 0, 0, 0, 10, 0, 0, 1, 10, 0, 0, 0};
+    memcpy(to, header, PACKET_HEADER);
+    to[9] = protocol;
+    to[19] = host;
+    put_two(to + 2, PACKET_HEADER + size);
+    put_two(to + 6, offset / 8 + (more ? 0x2000 : 0));
+    put_two(to + 10, checksum_of(to, PACKET_HEADER, 0));
+}
+
 /* The packet from 10.0.0.1 to 10.0.0.2 of a datagram's bytes from `offset` on, of `size` bytes. */
 static inline void put_packet(uint8_t *to, uint8_t protocol, uint32_t offset, uint32_t size, bool more)
 {
-    static const uint8_t header[PACKET_HEADER] = {0x45, 0, 0, 0, 0, 1, 0, 0, 64, 0, 0, 0, 10, 0, 0, 1, 10, 0, 0, 2};
-    uint32_t sum = 0;
-    memcpy(to, header, PACKET_HEADER);
-    to[9] = protocol;
-    put_two(to + 2, PACKET_HEADER + size);
-    put_two(to + 6, offset / 8 + (more ? 0x2000 : 0));
-    for (int at = 0; at < PACKET_HEADER; at += 2)
-        sum += (uint32_t)to[at] << 8 | to[at + 1];
-    sum = (sum & 0xffff) + (sum >> 16);
-    put_two(to + 10, 65535 - ((sum & 0xffff) + (sum >> 16)));
+    put_header(to, RECEIVER_HOST, protocol, offset, size, more);
     for (uint32_t at = 0; at < size; at++)
         to[PACKET_HEADER + at] = (uint8_t)(offset + at);
+}
+
+/* The packet of a UDP datagram from 10.0.0.1, port 7, to a port of 10.0.0.`host`. Returns its length. */
+static inline size_t put_datagram(uint8_t *to, uint8_t host, uint16_t port, const uint8_t *bytes, size_t len)
+{
+    uint32_t size = DATAGRAM_HEADER + (uint32_t)len;
+    uint8_t *datagram = to + PACKET_HEADER;
+    put_header(to, host, 17, 0, size, false);
+    put_two(datagram, 7);
+    put_two(datagram + 2, port);
+    put_two(datagram + 4, size);
+    put_two(datagram + 6, 0);
+    memcpy(datagram + DATAGRAM_HEADER, bytes, len);
+    /* the pseudo-header: both addresses, the protocol and the length; their sum isn't complemented yet */
+    uint32_t sum = 17 + size + (65535 - checksum_of(to + 12, 8, 0));
+    sum = checksum_of(datagram, size, sum);
+    put_two(datagram + 6, sum == 0 ? 65535 : sum);
+    return PACKET_HEADER + size;
 }
 
 /* Fragment `at` of a datagram of `len` bytes that is cut into pieces of `each`. */

@@ -1,5 +1,5 @@
 #!/usr/bin/env bash
-# Measures the subject that is named, or each of them. A subject is a folder beside this file; its measure.sh says how,
+# Measures the subject that is named, or each of them. Ends with 1 if a row takes more instructions than it may. A subject is a folder beside this file; its measure.sh says how,
 # or else lib.sh.
 set -euo pipefail
 source "$(dirname "$0")/../tools/script.bash"
@@ -23,3 +23,4 @@ for subject in "${subjects[@]}"; do
         measure "$work" "$subject"
     fi
 done
+[ -z "$over_limit" ] || exit 1

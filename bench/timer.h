@@ -17,7 +17,7 @@
 #include <string.h>
 #include <time.h>
 
-enum { TIMER_MOST_COLUMNS = 8, TIMER_MOST_ROWS = 16 };
+enum { TIMER_MOST_COLUMNS = 8, TIMER_MOST_ROWS = 24 };
 
 /* Fewer turns than take that many nanoseconds aren't timed. */
 #define TIMER_SHORTEST 100000.0

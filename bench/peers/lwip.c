@@ -174,6 +174,29 @@ uint32_t EXPORT(send_and_receive)(const uint8_t *bytes, size_t len, uint32_t tim
     return memcmp(room, bytes, len) == 0 ? well : 0;
 }
 
+/*
+ * A packet comes so many times and is read if it's for the socket; `before` packets come first, and nobody reads these.
+ * Returns how many were read, or how many came. What waits is freed at the end.
+ */
+uint32_t EXPORT(receive)(const uint8_t *packet, size_t len, uint32_t before, bool is_read, uint32_t times)
+{
+    static u8_t room[MOST];
+    ip_addr_t from;
+    u16_t port;
+    uint32_t well = 0;
+    start();
+    for (uint32_t k = 0; k < before; k++)
+        rx(packet, (u16_t)len);
+    for (uint32_t k = 0; k < times; k++) {
+        rx(packet, (u16_t)len);
+        if (!is_read || received(room, MOST, &from, &port) >= 0)
+            well++;
+    }
+    while (received(room, MOST, &from, &port) >= 0)
+        ;
+    return well;
+}
+
 /* How many of the buffers for packets are free. */
 static unsigned free_buffers(void)
 {

@@ -16,19 +16,22 @@ build_lwip() { # WORK NAME FLAG..
         -o "$library" "${files[@]}"
 }
 
+# The flags of its best build: for speed, with a sum of its user's, and with pools in the place of its heap.
+lwip_fast=(-O3 -march=x86-64-v2 -flto -DLWIP_NOASSERT)
+lwip_best=("${lwip_fast[@]}" -DPEERS_SUM -DPEERS_POOLS)
+
 # lwIP as Debian compiles it, with the fastest of its own sums there, compiled for speed, with a sum of its user's, and
 # with pools in the place of its heap, which is its best.
 measure_peers() { # WORK
-    local best=(-O3 -march=x86-64-v2 -flto -DLWIP_NOASSERT)
     if ! lwip_sources "$1"; then
         echo "skipped: lwIP's sources can't be had by apt-get"
         return
     fi
     build_lwip "$1" lwip_O2 -O2
     build_lwip "$1" lwip_O2_sum3 -O2 -DLWIP_CHKSUM_ALGORITHM=3
-    build_lwip "$1" lwip_O3 "${best[@]}"
-    build_lwip "$1" lwip_O3_sse2 "${best[@]}" -DPEERS_SUM
-    build_lwip "$1" lwip_O3_pools "${best[@]}" -DPEERS_SUM -DPEERS_POOLS
+    build_lwip "$1" lwip_O3 "${lwip_fast[@]}"
+    build_lwip "$1" lwip_O3_sse2 "${lwip_fast[@]}" -DPEERS_SUM
+    build_lwip "$1" lwip_O3_pools "${lwip_best[@]}"
     build_bench "$1" peers "bench_stack bench_c" "$bench/peers/sum.c" "$1"/liblwip_*.so
-    print_tables "$1"
+    print_tables "$1" peers
 }

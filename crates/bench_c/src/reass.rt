@@ -11,7 +11,7 @@ ghost use Rattle.ip_reass.specs.Table.{IsReady, held_all};
 use byteorder::{BigEndian, ByteOrder};
 use chain_ops::from_wire;
 use flat_model::Counters;
-use ip_out::{IpHead, parse_head, read_head};
+use ip_out::{IpHead, read_head, read_packet};
 use ip_reass::{Arrival, Reass, fits_at_once};
 use mbuf_chain::{Chain, Pool};
 use mbuf_pool::{Sizes, Store};
@@ -80,10 +80,13 @@ fn head_at_once(pool: &Pool, packet: &[u8], id: u16) -> Option<IpHead>
     requires short { length packet.now ≤ IP_MAX_PACKET }
     ensures { IfSome result (λ head. fits_at_once pool.now head packet.now ≡ true) }
 {
-    let Ok(head) = parse_head(packet) else {
+    let Ok(headed) = read_packet(packet) else {
         return None;
     };
-    let head = IpHead { id, ..head };
+    let head = IpHead {
+        id,
+        ..headed.head()
+    };
     if fits_at_once(pool, &head, packet) {
         Some(head)
     } else {

@@ -2,12 +2,14 @@
 -- are the flat machine's.
 use Rattle.std.specs.Prelude.{◌≡◌, ℕ, ◌<◌, ◌≤◌, ◌-◌, Bool, true, false, ◌⊎◌, List, [], ◌∷◌, length, take, drop, count_by, Option, Some, None, if◌then◌else◌}
 use Rattle.std.specs.List.{AllByRecursion}
-use Rattle.params.specs.declared.TheConstants.{MBUF_HEADER, MHLEN, MCLBYTES}
+use Rattle.params.specs.declared.TheConstants.{MBUF_HEADER, MHLEN, MCLBYTES, MINCLSIZE}
 use Rattle.mbuf_chain.specs.Chain.{Entry, PoolView, references, free_clusters}
 use Rattle.mbuf_chain.specs.Owners.{times_among}
 use Rattle.flat_model.specs.Amounts.Layout.{Room, Plain, Cluster, filled, or_empty, is_cluster}
 use Rattle.chain_ops.specs.Makes.{LacksMbufs, HasMbufs}
 use Rattle.chain_ops.specs.Rooms.{room_low, at_end}
+use Rattle.chain_ops.specs.declared.store.Space.{Space}
+use Rattle.chain_ops.specs.declared.store.Space.TheVariants.{InMbuf, InCluster, InMore}
 
 -- clusters of the pool to which nothing refers, each once
 pub record AreFree (p : PoolView) (cs : List ℕ) : Type 0 where
@@ -41,6 +43,12 @@ stored_first large ends (c ∷ cs) (Cluster n ∷ rooms) xs =
 -- with 0
 abbrev pub rooms_for : ℕ → ℕ → List Room
 rooms_for large n = or_empty (filled n (MCLBYTES - large) MHLEN n)
+
+-- where n bytes go, if a first cluster takes them from its byte `large` on
+abbrev pub IsLaidIn : ℕ → ℕ → Space → Type 0
+IsLaidIn large n InMbuf = (n ≤ MHLEN) × (rooms_for large n ≡ Plain n ∷ [])
+IsLaidIn large n InCluster = (MINCLSIZE ≤ n) × (n ≤ MCLBYTES - large) × (rooms_for large n ≡ Cluster n ∷ [])
+IsLaidIn large n InMore = MHLEN < n
 
 -- more buffers are needed than are free, or not
 abbrev pub Lacks : PoolView → List Room → Type 0

@@ -25,4 +25,4 @@ pub use cursor::{Cursor, advance, copy_at, cursor_at};
 pub use prepend::m_prepend;
 pub use pullup::{Refusal, m_pullup};
 pub use split::m_split;
-pub use store::{from_user, from_wire, next_room, wire_need};
+pub use store::{Space, from_user, from_wire, next_room, space_for, wire_need};

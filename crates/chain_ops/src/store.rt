@@ -5,7 +5,7 @@ ghost use Rattle.mbuf_chain.specs.Steps.{one_mbuf};
 ghost use Rattle.flat_model.specs.Amounts.Layout.{user, wire, is_cluster, need_of, next_room, size_of};
 ghost use Rattle.chain_ops.specs.Makes.{Makes};
 ghost use Rattle.chain_ops.specs.Rooms.{room_low};
-ghost use Rattle.chain_ops.specs.Stored.{AreFree, IsClusterTaken, Lacks, Has, rooms_for, stored_first, first_start};
+ghost use Rattle.chain_ops.specs.Stored.{AreFree, IsClusterTaken, IsLaidIn, Lacks, Has, rooms_for, stored_first, first_start};
 
 use crate::prepend::at_end;
 use crate::step::room_low;
@@ -15,6 +15,33 @@ use mbuf_pool::NoBufs;
 use params::{
     CLUSTER_LEADING_SPACE, IP_MAX_PACKET, MBUF_HEADER, MCLBYTES, MHLEN, MINCLSIZE, MLEN, MSIZE,
 };
+
+/// Where the bytes of a packet or of a send go. `space_for` alone decides it.
+#[derive(Clone, Copy, Debug, PartialEq, Eq, Drop)]
+pub enum Space {
+    /// Into one mbuf with a packet header: at most 100 bytes.
+    InMbuf,
+    /// Into one cluster: 208 bytes at least.
+    InCluster,
+    /// Into several mbufs.
+    InMore,
+}
+
+/// Where `n` bytes go, if a first cluster takes them from its byte `large` on: 0 for a packet from the wire,
+/// `CLUSTER_LEADING_SPACE` for a send.
+#[inline(always)]
+pub fn space_for(large: u32, n: u32) -> Space
+    requires { large ≤ CLUSTER_LEADING_SPACE }
+    ensures { IsLaidIn large n result }
+{
+    if n <= MHLEN {
+        return Space::InMbuf;
+    }
+    if n < MINCLSIZE || n > MCLBYTES - large {
+        return Space::InMore;
+    }
+    Space::InCluster
+}
 
 /// A chain of one mbuf with bytes in a cluster of its own, from `start` on.
 #[inline(always)]
@@ -138,15 +165,14 @@ fn store(pool: &mut Pool, bytes: &[u8], large: u32, ends: bool) -> Result<Chain,
     ensures err { OnErr result (Lacks pool.old (rooms_for large (length bytes.now))) }
     ensures same { OnErr result (pool.new ≡ pool.old) }
 {
-    if bytes.len() <= MHLEN as usize {
-        let start = first_start(ends, bytes.len());
-        return pool.new_plain_with(true, start, bytes);
+    match space_for(large, bytes.len() as u32) {
+        Space::InMbuf => {
+            let start = first_start(ends, bytes.len());
+            pool.new_plain_with(true, start, bytes)
+        }
+        Space::InCluster => pool.new_cluster_with(true, large, bytes),
+        Space::InMore => store_rooms(pool, bytes, large, ends),
     }
-    let len = bytes.len() as u32;
-    if len < MINCLSIZE || len > MCLBYTES - large {
-        return store_rooms(pool, bytes, large, ends);
-    }
-    pool.new_cluster_with(true, large, bytes)
 }
 
 /// A chain with packet header of bytes to send, at most 65,535: clusters as long as 208 bytes or more are left,
@@ -192,13 +218,25 @@ pub fn wire_need(n: u32) -> Need
     requires { n ≤ IP_MAX_PACKET }
     ensures { result ≡ need_of (wire n) }
 {
-    // A short packet takes one mbuf, and so does an empty one.
-    if n <= MHLEN {
-        return Need {
+    match space_for(0, n) {
+        Space::InMbuf => Need {
             mbufs: 1,
             clusters: 0,
-        };
+        },
+        Space::InCluster => Need {
+            mbufs: 1,
+            clusters: 1,
+        },
+        Space::InMore => count_rooms(n),
     }
+}
+
+/// `wire_need` of more than 100 bytes, counted mbuf by mbuf.
+fn count_rooms(n: u32) -> Need
+    requires many { MHLEN < n }
+    requires most { n ≤ IP_MAX_PACKET }
+    ensures { result ≡ need_of (wire n) }
+{
     let mut mbufs = 0;
     let mut clusters = 0;
     let mut small = MHLEN;

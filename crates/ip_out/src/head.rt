@@ -226,20 +226,6 @@ fn head_or_fault(bytes: &[u8; IP_HEADER as usize], len: u32) -> Result<IpHead, W
     }
 }
 
-/// What the header of a packet says that isn't stored yet, or the first test that it fails: `read_head` of its bytes.
-/// It has at most 65,535.
-#[inline(always)]
-pub fn parse_head(packet: &[u8]) -> Result<IpHead, Why>
-    requires { length packet.now ≤ IP_MAX_PACKET }
-    ensures ok { IfOk result (λ head. (head_fault packet.now ≡ None) × (head ≡ head_in packet.now)) }
-    ensures err { IfErr result (λ why. head_fault packet.now ≡ Some why) }
-{
-    match packet.split_first_chunk() {
-        Some((bytes, _)) => head_or_fault(bytes, packet.len() as u32),
-        None => Err(Why::TooSmall),
-    }
-}
-
 /// `read_head` of a packet of `len` bytes whose header lies in more than one mbuf.
 fn read_cut(pool: &Pool, chain: &Chain, len: u32) -> Result<IpHead, Why>
     requires live { IsLive pool.now chain.now }

@@ -10,8 +10,8 @@ mod waiting;
 mod ways;
 
 pub use head::{
-    DONT_FRAGMENT, Headed, IpHead, MAX_OFFSET, VERSION_AND_LENGTH, parse_head, read_head,
-    read_packet, write_head,
+    DONT_FRAGMENT, Headed, IpHead, MAX_OFFSET, VERSION_AND_LENGTH, read_head, read_packet,
+    write_head,
 };
 pub use needs::{need, need_bcast};
 pub use queue::Queue;

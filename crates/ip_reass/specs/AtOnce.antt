@@ -46,12 +46,16 @@ as_stored packet k = stored_by (nat_le MINCLSIZE (length packet)) packet k
 abbrev pub TakesFree : PoolView → List ℕ → ℕ → Type 0
 TakesFree p packet k = MINCLSIZE ≤ length packet → (k < p.clusters) × (references p k ≡ 0)
 
--- whether a packet whose header says h is laid at once: it takes one cluster or two mbufs, is as long as its header
--- says, is no fragment that none can be, and a cluster and two mbufs are free
-abbrev pub fits_at_once : PoolView → IpHead → List ℕ → Bool
-fits_at_once p h packet =
+-- whether a packet whose header says h can be laid at once: it takes one cluster or two mbufs, is as long as its header
+-- says, and isn't a malformed fragment
+abbrev pub can_be_laid : IpHead → List ℕ → Bool
+can_be_laid h packet =
     (nat_lt MHLEN (length packet) && nat_le (length packet) MCLBYTES) && (h.total == length packet)
-    && not (is_bad_fragment (flat_head h) (length packet - IP_HEADER)) && are_free p 2 1
+    && not (is_bad_fragment (flat_head h) (length packet - IP_HEADER))
+
+-- and a cluster and two mbufs are free
+abbrev pub fits_at_once : PoolView → IpHead → List ℕ → Bool
+fits_at_once p h packet = can_be_laid h packet && are_free p 2 1
 
 -- From p, ds and c to q, es and d a packet arrived as a fragment whose header says h: by the step, the layout and the
 -- cause that its chain would have had, in a cluster that was free in p if it takes one. Whatever becomes of what is in

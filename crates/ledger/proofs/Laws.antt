@@ -7,5 +7,7 @@ pub use Rattle.ledger.proofs.Weights.{owned_mbufs, owned_bag}
 pub use Rattle.ledger.proofs.Accounts.{accounted_all, accounted_as, free_mbufs_are, free_clusters_are, test_is}
 -- A test that passed: so many are free.
 pub use Rattle.ledger.proofs.Accounts.{enough_mbufs, enough_clusters}
+-- As many free clusters as a step takes, if so many are free.
+pub use Rattle.ledger.proofs.Picked.{some_free}
 -- A step of an owner: mbufs held and references change as those of its chains, and with them the accounts.
 pub use Rattle.ledger.proofs.Moved.{sum_moved, held_moved, references_moved, accounted_after}

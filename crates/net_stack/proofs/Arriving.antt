@@ -1,7 +1,7 @@
 -- A packet arrives: each way on which it ends.
 use Rattle.std.proofs.Common.{◌≡◌, ◌⊎◌, ℕ, suc, ◌-◌, ◌<◌, ◌≤◌, min, Bool, true, false, List, [], ◌∷◌, ◌++◌, length, take, drop, None, Some, is_some, refl, sym, ap, ◌∙◌, subst, arith, inl, inr}
 use Rattle.std.specs.Prelude.{◌/◌, ◌%◌, ◌==◌, not, nat_lt, slice_index, slice_index_or}
-use Rattle.std.specs.List.{cons_option, AllByRecursion as Each}
+use Rattle.std.specs.List.{AllByRecursion as Each}
 use Rattle.std.proofs.lemmas.Bool.{true≢false, ltb-false, cases_lt}
 use Rattle.std.proofs.lemmas.Option.{none-some, same_Some}
 use Rattle.std.proofs.lemmas.List.{length-take}
@@ -32,25 +32,9 @@ use Rattle.ip_reass.specs.Arrivals.{CameBy, carried_at, flat_head}
 use Rattle.ip_reass.specs.Arrivals as reass
 use Rattle.sock_calls.specs.Sockets.{SocksView, IsSocks, queued_chains, with_sockets, with_net}
 use Rattle.sock_calls.specs.Delivery.{NetView, state_at, KeepsParts, IsInput}
-use Rattle.sock_calls.proofs.Laws.{keeps_trans}
+use Rattle.sock_calls.proofs.Laws.{keeps_trans, only_weighs, without_weighs}
 use Rattle.net_stack.specs.Inside.Arrivals.{is_ours_or_all, IsFragmentTaken, IsArrived}
 use Rattle.net_stack.proofs.Aside.{Aside, aside, aside_keeps, as_held, net_seen, BesideSocks, beside_socks}
-
--- ---- trims leave weights
-
-pub only_weighs : (n : ℕ) (es : List Entry) → entries_weight (only_first n es) ≡ entries_weight es
-only_weighs n [] = refl
-only_weighs n (e ∷ es) =
-    let later : entries_weight (only_first (n - length e.bytes) es) ≡ entries_weight es =
-    only_weighs (n - length e.bytes) es in
-    λ i. record { mbufs = suc (later i).mbufs; bag = cons_option e.cluster (later i).bag }
-
-pub without_weighs : (n : ℕ) (es : List Entry) → entries_weight (without_first n es) ≡ entries_weight es
-without_weighs n [] = refl
-without_weighs n (e ∷ es) =
-    let later : entries_weight (without_first (n - length e.bytes) es) ≡ entries_weight es =
-    without_weighs (n - length e.bytes) es in
-    λ i. record { mbufs = suc (later i).mbufs; bag = cons_option e.cluster (later i).bag }
 
 -- ---- a chain with other entries
 

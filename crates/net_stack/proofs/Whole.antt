@@ -1,11 +1,11 @@
 -- A packet that was read where it lies: it's stored at once for the one socket that hears it, or ends.
 use Rattle.std.proofs.Common.{◌≡◌, ℕ, ◌+◌, ◌-◌, ◌<◌, ◌≤◌, Bool, true, false, cond, None, zero, suc, List, [], ◌∷◌, ◌++◌, length, refl, sym, ap, ◌∙◌, subst, arith, inl, inr}
-use Rattle.std.specs.Prelude.{count_by, ◌==◌, ◌&&◌, nat_le}
-use Rattle.std.specs.List.{AllByRecursion as Each, range_with_len}
-use Rattle.std.proofs.lemmas.Bool.{true≢false, false≢true, le-leb, eqb-true}
+use Rattle.std.specs.Prelude.{count_by, ◌&&◌, nat_le}
+use Rattle.std.specs.List.{AllByRecursion as Each}
+use Rattle.std.proofs.lemmas.Bool.{true≢false, false≢true, le-leb}
 use Rattle.std.proofs.lemmas.Option.{none-some}
 use Rattle.std.proofs.lemmas.List.Elements.{All-from_recursion, recursion_from_All}
-use Rattle.flat_model.specs.Amounts.Weight.{Weight, Item, nothing, ◌⊕◌, times as bag_times}
+use Rattle.flat_model.specs.Amounts.Weight.{Weight, Item, nothing, ◌⊕◌}
 use Rattle.flat_model.specs.Amounts.Layout as flat
 use Rattle.flat_model.specs.Amounts.Layout.{Need, is_cluster, laid_on, need_of, wire}
 use Rattle.flat_model.specs.Packets.Header.{head_fault, head_of}
@@ -18,19 +18,18 @@ use Rattle.flat_model.specs.Machine.Arrival.{By_wire, Arrives, counts_packet, is
 use Rattle.flat_model.specs.declared.counter.Counter.TheVariants.{IpTotal}
 use Rattle.flat_model.specs.declared.counters.Counters.{Counters}
 use Rattle.flat_model.specs.declared.counters.Why.{Why}
-use Rattle.flat_model.proofs.Laws.{count_cons}
 use Rattle.mbuf_chain.specs.Chain.{PoolView, free_clusters, held_mbufs}
 use Rattle.mbuf_chain.specs.Owners.{times_among, IsOwned}
 use Rattle.mbuf_chain.proofs.Laws.Owners.{times-append, live_at_most, moves_beside, moves_none, same_beside}
 use Rattle.chain_ops.specs.Stored.{Has}
 use Rattle.ledger.specs.Accounts.{IsAccounted}
 use Rattle.ledger.specs.Reserve.{Reserves, are_free}
-use Rattle.ledger.proofs.Laws.{free_clusters_are, test_is}
+use Rattle.ledger.proofs.Laws.{some_free, test_is}
 use Rattle.ip_out.specs.Headed.{carried_of}
 use Rattle.ip_reass.specs.Table.{TableView, IsReady, held_all, unfinished}
 use Rattle.sock_calls.specs.Sockets.{SocksView, IsSocks, queued_chains, with_net, with_sockets}
 use Rattle.sock_calls.specs.Delivery.{NetView, KeepsParts, state_at}
-use Rattle.sock_calls.specs.Whole.{ArrivesWhole, EndsWhole, HasOne, StoresWhole, carried_item}
+use Rattle.sock_calls.specs.Whole.{ArrivesWhole, DeliversWhole, EndsWhole, HasOne, StoresWhole, carried_item}
 use Rattle.sock_calls.proofs.Laws.{keeps_trans}
 use Rattle.net_stack.specs.Inside.Arrivals.{EndsFor, HasCome, IsAsked}
 use Rattle.net_stack.proofs.Aside.{Aside, aside, aside_keeps, counters_accounts, net_seen}
@@ -38,96 +37,6 @@ use Rattle.net_stack.proofs.Arriving.{passes}
 use Rattle.net_stack.proofs.Coming.{asked_keeps, asked_socks}
 use Rattle.net_stack.proofs.Lifted.{ReassKept, reass_kept}
 use Rattle.pcb_table.specs.Table.{machine}
-
--- ---- some numbers that pass a test, if so many do
-
-record Picked (f : ℕ → Bool) (at len n : ℕ) : Type 0 where
-  found : List ℕ
-  number : length found ≡ n
-  within : Each (λ (c : ℕ). c < at + len) found
-  passed : Each (λ (c : ℕ). f c ≡ true) found
-  once : (c : ℕ) → bag_times c found ≤ 1
-  above : (c : ℕ) → c < at → bag_times c found ≡ 0
-
-each_more : (at len : ℕ) (xs : List ℕ) → Each (λ (c : ℕ). c < at + 1 + len) xs → Each (λ (c : ℕ). c < at + suc len) xs
-each_more at len [] h = tt
-each_more at len (x ∷ xs) h = (omega (arith, h.0), each_more at len xs h.1)
-
-apart : (x c : ℕ) → c < x → (b : Bool) → (x == c) ≡ b → (x == c) ≡ false
-apart x c lt true e = absurd (omega (arith, lt, eqb-true x c e))
-apart x c lt false e = e
-
-many : (f : ℕ → Bool) (at len n c : ℕ) (rest : Picked f (at + 1) len n) (b : Bool) → (at == c) ≡ b
-    → bag_times c (at ∷ rest.found) ≤ 1
-many f at len n c rest true e = omega (
-  arith,
-  count_cons (λ (j : ℕ). j == c) at rest.found,
-  ap (λ (b : Bool). cond {A = ℕ} b 1 0) e,
-  rest.above c (omega (arith, eqb-true at c e)),
-)
-many f at len n c rest false e = omega (
-  arith,
-  count_cons (λ (j : ℕ). j == c) at rest.found,
-  ap (λ (b : Bool). cond {A = ℕ} b 1 0) e,
-  rest.once c,
-)
-
-picked_here : (f : ℕ → Bool) (at len n : ℕ) → f at ≡ true → Picked f (at + 1) len n → Picked f at (suc len) (suc n)
-picked_here f at len n e rest = record {
-  found = at ∷ rest.found;
-  number = omega (arith, rest.number);
-  within = (omega arith, each_more at len rest.found rest.within);
-  passed = (e, rest.passed);
-  once = λ c. many f at len n c rest (at == c) refl;
-  above = λ c lt. omega (
-    arith,
-    count_cons (λ (j : ℕ). j == c) at rest.found,
-    rest.above c (omega (arith, lt)),
-    ap (λ (b : Bool). cond {A = ℕ} b 1 0) (apart at c lt (at == c) refl),
-  );
-}
-
-picked_later : (f : ℕ → Bool) (at len n : ℕ) → Picked f (at + 1) len n → Picked f at (suc len) n
-picked_later f at len n rest = record {
-  found = rest.found;
-  number = rest.number;
-  within = each_more at len rest.found rest.within;
-  passed = rest.passed;
-  once = rest.once;
-  above = λ c lt. rest.above c (omega (arith, lt));
-}
-
-pick : (f : ℕ → Bool) (at len n : ℕ) → n ≤ count_by f (range_with_len at len) → Picked f at len n
-pick f at len zero h = record {
-  found = [];
-  number = refl;
-  within = tt;
-  passed = tt;
-  once = λ c. omega arith;
-  above = λ c lt. refl;
-}
-pick f at zero (suc n) h = absurd (omega (arith, h))
-pick f at (suc len) (suc n) h = go (f at) refl (λ le. pick f (at + 1) len n le) (λ le. pick f (at + 1) len (suc n) le)
-  where
-    go : (b : Bool) → f at ≡ b → (n ≤ count_by f (range_with_len (at + 1) len) → Picked f (at + 1) len n)
-        → (suc n ≤ count_by f (range_with_len (at + 1) len) → Picked f (at + 1) len (suc n))
-        → Picked f at (suc len) (suc n)
-    go true e this that =
-        let here : cond {A = ℕ} (f at) 1 0 ≡ 1 = ap (λ (b : Bool). cond {A = ℕ} b 1 0) e in
-        picked_here f at len n e
-        (this (omega (arith, h, here, count_cons f at (range_with_len (at + 1) len))))
-    go false e this that =
-        let here : cond {A = ℕ} (f at) 1 0 ≡ 0 = ap (λ (b : Bool). cond {A = ℕ} b 1 0) e in
-        picked_later f at len (suc n)
-        (that (omega (arith, h, here, count_cons f at (range_with_len (at + 1) len))))
-
-each_free : (s : State) (xs : List ℕ) → Each (λ (c : ℕ). c < 0 + s.config.clusters) xs
-    → Each (λ (c : ℕ). (state.count_of s nothing c == 0) ≡ true) xs → Each (IsFree s nothing) xs
-each_free s [] h g = tt
-each_free s (x ∷ xs) h g = (
-  record { exists = omega (arith, h.0); free = eqb-true (state.count_of s nothing x) 0 g.0 },
-  each_free s xs h.1 g.1,
-)
 
 -- what is free of one state is of another that holds the same
 free_as : (x y : State) → y.config.clusters ≡ x.config.clusters
@@ -138,21 +47,6 @@ free_as x y size same (c ∷ cs) h = (
   record { exists = omega (arith, size, h.0.exists); free = same c ∙ h.0.free },
   free_as x y size same cs h.1,
 )
-
--- clusters that a step may take, where so many are free
-pub some_free : (p : PoolView) (s : State) (n : ℕ) → IsAccounted p s nothing → n ≤ free_clusters p
-    → (cs : List ℕ) × AreTaken exact_ledger s n cs
-some_free p s n acc enough =
-    let picked : Picked (λ (c : ℕ). state.count_of s nothing c == 0) 0 s.config.clusters n =
-    pick (λ (c : ℕ). state.count_of s nothing c == 0) 0 s.config.clusters n
-    (omega (arith, enough, free_clusters_are p s nothing acc)) in (
-      picked.found,
-      record {
-        number = picked.number;
-        distinct = picked.once;
-        free = All-from_recursion (IsFree s nothing) picked.found (each_free s picked.found picked.within picked.passed);
-      },
-    )
 
 -- ---- its buffers are free
 
@@ -353,3 +247,38 @@ module _ {p q : PoolView} {s t : SocksView} {r : TableView} {packet : List ℕ}
           ));
     };
   }
+
+-- it was delivered by a chain of its own, or dropped
+pub came_delivered : (p : PoolView) (s : SocksView) (r : TableView) (a : Counters) {b : Counters} {packet : List ℕ}
+    {u : NetView}
+    → b ≡ counts_more IpTotal 1 a → Has p (wire (length packet)) → head_fault packet ≡ None
+    → ((rest : State) → is_for_us (with_net p s (unfinished p r.datagrams) a rest).config (head_of packet).destination
+    ≡ true)
+    → is_fragment (head_of packet) ≡ false → DeliversWhole (net_seen p s r b) packet u
+    → HasCome (net_seen p s r a) packet u
+came_delivered p s r a {b} {packet} {u} is_b has none ours whole is = record {
+  step = λ rest acc.
+      let old : State = with_net p s (unfinished p r.datagrams) a rest in
+      let counts : State = with_net p s (unfinished p r.datagrams) b rest in
+      let same : counts ≡ counts_packet old = λ i. with_net p s (unfinished p r.datagrams) (is_b i) rest in
+      let done = is.step rest (counters_accounts b acc) in
+      comes_in packet acc has (
+        done.0,
+        record {
+          number = done.1.number;
+          distinct = done.1.distinct;
+          free = All-from_recursion (IsFree old nothing) done.0
+              (free_as counts old refl (λ c. refl) done.0
+              (recursion_from_All (IsFree counts nothing) done.0 done.1.free));
+        },
+        whole_passes (net_seen p s r a) packet rest (state_at u rest)
+            (flat.weight_of (laid_on done.0 (wire (length packet)))) none (ours rest) whole
+            (subst (λ (m : State). ArrivesWhole packet (carried_item done.0 packet) m (state_at u rest)) same done.2),
+      );
+  parts = record {
+    accounts = λ rest held acc. is.parts.accounts rest held (counters_accounts b acc);
+    ready = is.parts.ready;
+    pcbs = is.parts.pcbs;
+    moves = is.parts.moves;
+  };
+}

@@ -37,7 +37,7 @@ pub(crate) fn is_fragment(head: &IpHead) -> bool
 
 impl Host {
     /// A fragment for this machine arrives, and if it makes its datagram whole, that arrives.
-    fn take_fragment(&mut self, chain: Chain, head: IpHead)
+    pub(crate) fn take_fragment(&mut self, chain: Chain, head: IpHead)
         requires socks { IsSocks self.old.pool self.old.socks }
         requires reass { IsReady self.old.pool self.old.reass }
         requires owned { IsOwned self.old.pool (chain ∷ chains_at (arrival_view self.old)) }
@@ -65,7 +65,7 @@ impl Host {
         }
     }
 
-    /// A packet arrives, by loopback or from the wire, and its chain is spent: `ipintr` of volume 2, chapter 8.
+    /// A packet arrives by loopback, and its chain is spent: `ipintr` of volume 2, chapter 8.
     ///
     /// It is counted; then, in this order, a packet whose header is refused ends, for the first test that it fails, and
     /// one for another machine, `CantForward`, since packets aren't forwarded. What is longer than the total length

@@ -1,31 +1,34 @@
 //! A packet from the wire.
-ghost use Rattle.std.specs.Prelude.{◌≡◌, ◌≤◌, None, length, true, is_some, IfSome, IfNone};
+ghost use Rattle.std.specs.Prelude.{◌≡◌, ℕ, ◌≤◌, ◌∷◌, None, length, true, false, is_some, IfSome};
 ghost use Rattle.flat_model.specs.Amounts.Layout.{need_of, wire};
 ghost use Rattle.flat_model.specs.Machine.Arrival as flat;
 ghost use Rattle.flat_model.specs.Packets.Header.{head_fault};
+ghost use Rattle.mbuf_chain.specs.Chain.{PoolView, chain_of, string};
 ghost use Rattle.mbuf_chain.specs.Owners.{IsOwned};
-ghost use Rattle.chain_ops.specs.Stored.{Has};
+ghost use Rattle.chain_ops.specs.declared.store.Space.TheVariants.{InCluster, InMbuf};
+ghost use Rattle.chain_ops.specs.Stored.{Has, IsLaidIn};
 ghost use Rattle.ip_out.specs.Headings.{head_in};
 ghost use Rattle.ip_reass.specs.Arrivals.{flat_head};
 ghost use Rattle.ip_reass.specs.AtOnce.{fits_at_once};
 ghost use Rattle.ip_reass.specs.Table.{IsReady};
 ghost use Rattle.sock_calls.specs.Sockets.{IsSocks};
 ghost use Rattle.sock_calls.specs.Delivery.{chains_at};
-ghost use Rattle.sock_calls.specs.Whole.{HasSpace};
-ghost use Rattle.net_stack.specs.Inside.Arrivals.{EndsFor, HasCome, IsAsked, IsLaidOut, is_ours_or_all};
+ghost use Rattle.sock_calls.specs.Whole.{HasOne, HasSpace};
+ghost use Rattle.udp.specs.Checked.{is_to_all};
+ghost use Rattle.net_stack.specs.Inside.Arrivals.{EndsFor, HasCome, IsArrived, IsAsked, IsLaidOut, IsWholeForUs, is_ours_or_all};
 ghost use Rattle.net_stack.specs.Inside.Hosts.{KeepsOutput, arrival_view};
 
 use crate::arrive::{is_for_us, is_fragment};
 use crate::host::Host;
 use chain_ops::theorems::stored_layout;
-use chain_ops::{from_wire, wire_need};
+use chain_ops::{Space, from_wire, space_for, trim_back, wire_need};
 use flat_model::{Counter, Why};
 use ip_out::{Headed, IpHead, read_packet};
-use ip_reass::{Arrival, fits_at_once};
+use ip_reass::{Arrival, can_be_laid, fits_at_once};
 use ledger::{are_free, reserve};
 use mbuf_chain::{Chain, Pool};
-use params::{IP_MAX_PACKET, MCLBYTES, MHLEN, MINCLSIZE};
-use sock_calls::{Space, Taken};
+use params::IP_MAX_PACKET;
+use udp::{Checked, read};
 
 /// Copies a packet into a new chain. Its buffers have to be free.
 fn put_packet(pool: &mut Pool, packet: &[u8]) -> Chain
@@ -40,23 +43,73 @@ fn put_packet(pool: &mut Pool, packet: &[u8]) -> Chain
     }
 }
 
-/// The space for a packet of `len` bytes, if it takes one mbuf or cluster, this is free, and a second mbuf is free for
+/// The space in one mbuf for a packet of `len` bytes, if this mbuf is free, and a second one for the sender's address.
+#[inline(always)]
+fn space_in_mbuf(pool: &Pool, len: u32) -> Option<Space>
+    requires { IsLaidIn 0 len InMbuf }
+    ensures space { IfSome result (λ space. HasSpace pool.now len space) }
+    ensures free { IfSome result (λ space. Has pool.now (wire len)) }
+{
+    if are_free(pool, 2, 0) {
+        Some(Space::InMbuf)
+    } else {
+        None
+    }
+}
+
+/// The same in one cluster.
+#[inline(always)]
+fn space_in_cluster(pool: &Pool, len: u32) -> Option<Space>
+    requires { IsLaidIn 0 len InCluster }
+    ensures space { IfSome result (λ space. HasSpace pool.now len space) }
+    ensures free { IfSome result (λ space. Has pool.now (wire len)) }
+{
+    if are_free(pool, 2, 1) {
+        Some(Space::InCluster)
+    } else {
+        None
+    }
+}
+
+/// The space for a packet of `len` bytes, if it takes one mbuf or cluster, this is free, and so is a second mbuf for
 /// the sender's address.
 #[inline(always)]
 fn one_space(pool: &Pool, len: u32) -> Option<Space>
     ensures space { IfSome result (λ space. HasSpace pool.now len space) }
     ensures free { IfSome result (λ space. Has pool.now (wire len)) }
 {
-    if len <= MHLEN {
-        if are_free(pool, 2, 0) {
-            return Some(Space::InMbuf);
-        }
-        return None;
+    match space_for(0, len) {
+        Space::InMbuf => space_in_mbuf(pool, len),
+        Space::InCluster => space_in_cluster(pool, len),
+        Space::InMore => None,
     }
-    if len >= MINCLSIZE && len <= MCLBYTES && are_free(pool, 2, 1) {
-        return Some(Space::InCluster);
+}
+
+/// Whether a packet with this space takes a cluster; `None` if it takes several mbufs.
+#[inline(always)]
+fn one_mbuf(space: Space) -> Option<bool>
+    ensures { (p : PoolView) (n : ℕ) → HasSpace p n space → IfSome result (λ is_large. HasOne p n is_large) }
+{
+    match space {
+        Space::InMbuf => Some(false),
+        Space::InCluster => Some(true),
+        Space::InMore => None,
     }
-    None
+}
+
+/// Whether a fragment can be stored without its header, as `fits_at_once` says. If its space is a cluster, the pool has
+/// been tested already.
+#[inline(always)]
+fn can_lay(pool: &Pool, space: Space, head: &IpHead, packet: &[u8]) -> bool
+    requires offset { head.now.offset ≤ IP_MAX_PACKET }
+    requires space { HasSpace pool.now (length packet.now) space }
+    ensures { result ≡ true → fits_at_once pool.now head.now packet.now ≡ true }
+{
+    match space {
+        Space::InMbuf => false,
+        Space::InCluster => can_be_laid(head, packet),
+        Space::InMore => fits_at_once(pool, head, packet),
+    }
 }
 
 impl Host {
@@ -77,7 +130,7 @@ impl Host {
         if let Some(space) = one_space(&self.pool, len) {
             return Some(space);
         }
-        if self.ask(len) {
+        if self.reserve_buffers(len) {
             return Some(Space::InMore);
         }
         None
@@ -85,7 +138,7 @@ impl Host {
 
     /// The same test for a packet of any length. Returns whether the buffers are free.
     #[inline(never)]
-    fn ask(&mut self, len: u32) -> bool
+    fn reserve_buffers(&mut self, len: u32) -> bool
         requires reass { IsReady self.old.pool self.old.reass }
         requires most { len ≤ IP_MAX_PACKET }
         ensures asked { IsAsked self.old.pool self.old.reass self.old.net.counters (need_of (wire len)) result
@@ -108,7 +161,9 @@ impl Host {
     /// A packet of at most 65,535 bytes comes from the wire and arrives. If the pool has too few buffers for it, all
     /// unfinished datagrams are freed, and if there are still too few, the packet is dropped and counted.
     ///
-    /// The packet is read in place, and stored only once its receiver is known. A dropped packet takes no buffer.
+    /// It is read in place, and stored only once its receiver is known. A packet that is dropped takes no buffer.
+    // What comes back by loopback and what the reassembly makes whole lie in chains already. They go through `arrive`
+    // and `Socks::input`, which read a chain however it's cut: so both ways are there.
     pub(crate) fn come_in(&mut self, packet: &[u8])
         requires socks { IsSocks self.old.pool self.old.socks }
         requires reass { IsReady self.old.pool self.old.reass }
@@ -122,12 +177,12 @@ impl Host {
             self.net.counters.count_ended(Why::NoBufs);
             return;
         };
-        self.come_into(space, packet);
+        self.come_with_space(space, packet);
     }
 
     /// A packet comes, and the pool has this space for it.
     #[inline(always)]
-    fn come_into(&mut self, space: Space, packet: &[u8])
+    fn come_with_space(&mut self, space: Space, packet: &[u8])
         requires socks { IsSocks self.old.pool self.old.socks }
         requires reass { IsReady self.old.pool self.old.reass }
         requires owned { IsOwned self.old.pool (chains_at (arrival_view self.old)) }
@@ -139,14 +194,14 @@ impl Host {
         ensures output { KeepsOutput self.old.net self.new.net }
     {
         match read_packet(packet) {
-            Err(why) => self.end_packet(packet, why),
+            Err(why) => self.drop_packet(packet, why),
             Ok(headed) => self.pass(space, packet, headed),
         }
     }
 
     /// Drops a packet for this cause and counts it.
     #[inline(always)]
-    fn end_packet(&mut self, packet: &[u8], why: Why)
+    fn drop_packet(&mut self, packet: &[u8], why: Why)
         requires socks { IsSocks self.old.pool self.old.socks }
         requires reass { IsReady self.old.pool self.old.reass }
         requires owned { IsOwned self.old.pool (chains_at (arrival_view self.old)) }
@@ -178,21 +233,97 @@ impl Host {
     {
         let head = headed.head();
         if !is_for_us(&self.socks, head.dst) {
-            self.end_packet(packet, Why::CantForward);
+            self.drop_packet(packet, Why::CantForward);
             return;
         }
         if is_fragment(&head) {
-            if fits_at_once(&self.pool, &head, packet) {
+            if can_lay(&self.pool, space, &head, packet) {
                 self.lay_fragment(packet, head);
             } else {
-                self.come_by_chain(packet);
+                self.store_fragment(packet, head);
             }
             return;
         }
-        match self.socks.take(&mut self.pool, space, headed) {
-            Taken::Stored => self.net.counters.count(Counter::IpTotal),
-            Taken::Ended(why) => self.end_packet(packet, why),
-            Taken::Left => self.come_by_chain(packet),
+        self.take(space, packet, headed);
+    }
+
+    /// A packet comes that carries a whole datagram for this machine.
+    #[inline(always)]
+    fn take(&mut self, space: Space, packet: &[u8], headed: Headed<'_>)
+        requires socks { IsSocks self.old.pool self.old.socks }
+        requires reass { IsReady self.old.pool self.old.reass }
+        requires owned { IsOwned self.old.pool (chains_at (arrival_view self.old)) }
+        requires most { length packet.now ≤ IP_MAX_PACKET }
+        requires space { HasSpace self.old.pool (length packet.now) space }
+        requires free { Has self.old.pool (wire (length packet.now)) }
+        requires same { headed.packet.now ≡ packet.now }
+        requires whole { IsWholeForUs self.old.socks.pcbs packet.now }
+        ensures came { HasCome (arrival_view self.old) packet.now (arrival_view self.new) }
+        ensures reass { IsReady self.new.pool self.new.reass }
+        ensures output { KeepsOutput self.old.net self.new.net }
+    {
+        let Some(is_large) = one_mbuf(space) else {
+            self.deliver(packet, headed);
+            return;
+        };
+        let head = headed.head();
+        if self.socks.is_broadcast(head.dst) {
+            self.deliver(packet, headed);
+            return;
+        }
+        match read(headed) {
+            Err(why) => self.drop_packet(packet, why),
+            Ok(datagram) => self.store(is_large, packet, datagram),
+        }
+    }
+
+    /// A packet comes that carries a whole datagram for one socket, and takes one mbuf, with a cluster if `is_large`.
+    #[inline(always)]
+    fn store(&mut self, is_large: bool, packet: &[u8], datagram: Checked<'_>)
+        requires socks { IsSocks self.old.pool self.old.socks }
+        requires reass { IsReady self.old.pool self.old.reass }
+        requires owned { IsOwned self.old.pool (chains_at (arrival_view self.old)) }
+        requires one { HasOne self.old.pool (length packet.now) is_large }
+        requires free { Has self.old.pool (wire (length packet.now)) }
+        requires same { datagram.packet.now ≡ packet.now }
+        requires whole { IsWholeForUs self.old.socks.pcbs packet.now }
+        requires lone { is_to_all self.old.socks.pcbs datagram.to.ip ≡ false }
+        ensures came { HasCome (arrival_view self.old) packet.now (arrival_view self.new) }
+        ensures reass { IsReady self.new.pool self.new.reass }
+        ensures output { KeepsOutput self.old.net self.new.net }
+    {
+        match self.socks.take(&mut self.pool, is_large, &datagram) {
+            Ok(()) => self.net.counters.count(Counter::IpTotal),
+            Err(why) => self.drop_packet(packet, why),
+        }
+    }
+
+    /// A packet comes that carries a whole datagram for this machine, and takes several mbufs or is a broadcast: its
+    /// data are stored in a chain of their own. Its buffers have to be free.
+    #[inline(never)]
+    fn deliver(&mut self, packet: &[u8], headed: Headed<'_>)
+        requires socks { IsSocks self.old.pool self.old.socks }
+        requires reass { IsReady self.old.pool self.old.reass }
+        requires owned { IsOwned self.old.pool (chains_at (arrival_view self.old)) }
+        requires most { length packet.now ≤ IP_MAX_PACKET }
+        requires free { Has self.old.pool (wire (length packet.now)) }
+        requires same { headed.packet.now ≡ packet.now }
+        requires whole { IsWholeForUs self.old.socks.pcbs packet.now }
+        ensures came { HasCome (arrival_view self.old) packet.now (arrival_view self.new) }
+        ensures reass { IsReady self.new.pool self.new.reass }
+        ensures output { KeepsOutput self.old.net self.new.net }
+    {
+        match read(headed) {
+            Err(why) => self.drop_packet(packet, why),
+            Ok(datagram) => {
+                self.net.counters.count(Counter::IpTotal);
+                self.socks.deliver(
+                    &mut self.pool,
+                    &mut self.reass,
+                    &mut self.net.counters,
+                    &datagram,
+                );
+            }
         }
     }
 
@@ -229,19 +360,43 @@ impl Host {
         }
     }
 
-    /// A packet of at most 65,535 bytes is copied into a new chain, and arrives. Its buffers have to be free.
+    /// A fragment for this machine comes from the wire, is copied into a new chain, and arrives. Its buffers have to be
+    /// free.
     #[inline(never)]
-    fn come_by_chain(&mut self, packet: &[u8])
+    fn store_fragment(&mut self, packet: &[u8], head: IpHead)
         requires socks { IsSocks self.old.pool self.old.socks }
         requires reass { IsReady self.old.pool self.old.reass }
         requires owned { IsOwned self.old.pool (chains_at (arrival_view self.old)) }
         requires most { length packet.now ≤ IP_MAX_PACKET }
         requires free { Has self.old.pool (wire (length packet.now)) }
+        requires faultless { head_fault packet.now ≡ None }
+        requires says { head ≡ head_in packet.now }
+        requires fragment { flat.is_fragment (flat_head head) ≡ true }
+        requires ours { is_ours_or_all self.old.socks.pcbs.addr self.old.socks.pcbs.bcast head.dst ≡ true }
         ensures came { HasCome (arrival_view self.old) packet.now (arrival_view self.new) }
         ensures reass { IsReady self.new.pool self.new.reass }
         ensures output { KeepsOutput self.old.net self.new.net }
     {
         let chain = put_packet(&mut self.pool, packet);
-        self.arrive(chain);
+        self.arrive_fragment(chain, head);
+    }
+
+    /// A fragment for this machine, whose header was read already, arrives from the wire in a chain: see `arrive`.
+    fn arrive_fragment(&mut self, chain: Chain, head: IpHead)
+        requires socks { IsSocks self.old.pool self.old.socks }
+        requires reass { IsReady self.old.pool self.old.reass }
+        requires owned { IsOwned self.old.pool (chain ∷ chains_at (arrival_view self.old)) }
+        requires headed { (chain_of self.old.pool chain).front.header ≡ true }
+        requires faultless { head_fault (string (chain_of self.old.pool chain)) ≡ None }
+        requires says { head ≡ head_in (string (chain_of self.old.pool chain)) }
+        requires fragment { flat.is_fragment (flat_head head) ≡ true }
+        requires ours { is_ours_or_all self.old.socks.pcbs.addr self.old.socks.pcbs.bcast head.dst ≡ true }
+        ensures arrived { IsArrived (arrival_view self.old) chain (arrival_view self.new) }
+        ensures reass { IsReady self.new.pool self.new.reass }
+        ensures output { KeepsOutput self.old.net self.new.net }
+    {
+        self.net.counters.count(Counter::IpTotal);
+        trim_back(&mut self.pool, &chain, u32::from(head.total));
+        self.take_fragment(chain, head);
     }
 }

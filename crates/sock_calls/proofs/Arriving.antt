@@ -53,7 +53,7 @@ kept_weight {p} {q} {c} {d} is =
     ∙ sym (laid_weight _) ∙ data_weight _ (chain_of p c) ∙ laid_weight (chain_of p c).entries
 
 -- ---- the sockets that hear it
-sockets_are : (f : Queues) (t : Table) (found : List Block) → Each (λ (b : Block). block_at b.fd t ≡ Some b) found
+pub sockets_are : (f : Queues) (t : Table) (found : List Block) → Each (λ (b : Block). block_at b.fd t ≡ Some b) found
     → map (socket_with f) found ≡ sockets_named f t (map (λ b. b.fd) found)
 sockets_are f t [] hs = refl
 sockets_are f t (b ∷ bs) hs = let here : socket_with f b ≡ socket_named f t b.fd =

@@ -80,7 +80,7 @@ copy_came p q c d ys s o r m =
     }
 
 -- the accounts then: the copy is in hand too
-copy_accounts : {p q : PoolView} {s : State} {held : Weight} (d : ℕ) → IsAccounted p s held → Moves p [] q (d ∷ [])
+pub copy_accounts : {p q : PoolView} {s : State} {held : Weight} (d : ℕ) → IsAccounted p s held → Moves p [] q (d ∷ [])
     → IsAccounted q s (held ⊕ weight_at q d)
 copy_accounts {p} {q} {s} {held} d b m =
     let w : Weight = weight_at q d in

@@ -14,6 +14,7 @@ mod Made
 mod Queueing
 mod Going
 mod Whole
+mod Storing
 mod OnePacket
 mod Tested
 mod Asked

@@ -72,7 +72,7 @@ bag p false (Some c) n h = absurd h
 -- ---- what a checked packet comes to
 
 -- It arrives as what becomes of its data, whatever buffers it takes.
-arrives_as : (packet : List ℕ) (end : ℕ) (from to : Addr) (w : Weight) (old new : State) → IsChecked packet end from to
+pub arrives_as : (packet : List ℕ) (end : ℕ) (from to : Addr) (w : Weight) (old new : State) → IsChecked packet end from to
     → GoesTo exact_ledger nothing from (record { bytes = drop 28 (take end packet); weight = w }) to.ip
     (hearers old to.ip (packet_key to.ip to.port from)) old new
     → ArrivesWhole packet (record { bytes = carried_of packet; weight = w }) old new

@@ -4,3 +4,4 @@ pub mod Putting
 pub mod Delivering
 pub mod Parts
 pub mod Asked
+pub mod Storing

@@ -1,7 +1,7 @@
 -- A packet from the wire that carries a whole datagram: it's stored in the queue of the one socket that matches it, or
 -- dropped (`ipintr`, `udp_input` and `sbappendaddr` of volume 2, chapters 8, 23 and 16; stating it by what a pool shows
 -- is this project's own).
-use Rattle.std.specs.Prelude.{◌≡◌, ℕ, ◌+◌, ◌≤◌, Bool, true, false, if◌then◌else◌, List, [], ◌∷◌, length}
+use Rattle.std.specs.Prelude.{◌≡◌, ℕ, ◌+◌, ◌≤◌, Bool, true, false, if◌then◌else◌, List, [], ◌∷◌, length, Result, Ok, Err}
 use Rattle.params.specs.declared.TheConstants.{MCLBYTES, MHLEN}
 use Rattle.flat_model.specs.Amounts.Layout.{Room as LaidRoom, Plain, Cluster, laid_on, need_of, weight_of, wire}
 use Rattle.flat_model.specs.Amounts.Weight.{Item, Weight, nothing}
@@ -15,11 +15,10 @@ use Rattle.mbuf_chain.specs.Owners.{Moves}
 use Rattle.chain_ops.specs.Stored.{Has}
 use Rattle.ledger.specs.Accounts.{IsAccounted}
 use Rattle.ip_out.specs.Headed.{carried_of}
-use Rattle.sock_calls.specs.declared.taking.Space.{Space}
-use Rattle.sock_calls.specs.declared.taking.Space.TheVariants.{InMbuf, InCluster, InMore}
-use Rattle.sock_calls.specs.declared.taking.Taken.{Taken}
-use Rattle.sock_calls.specs.declared.taking.Taken.TheVariants.{Stored, Ended, Left}
+use Rattle.chain_ops.specs.declared.store.Space.{Space}
+use Rattle.chain_ops.specs.declared.store.Space.TheVariants.{InMbuf, InCluster, InMore}
 use Rattle.sock_calls.specs.Sockets.{SocksView, IsSocks, queued_chains, with_sockets}
+use Rattle.sock_calls.specs.Delivery.{IsAccountedAt, KeepsParts, NetView, state_at}
 
 -- ---- the buffers of a packet
 
@@ -34,7 +33,8 @@ pub record HasOne (p : PoolView) (n : ℕ) (is_large : Bool) : Type 0 where
   pub clusters : (if is_large then 1 else 0) ≤ free_clusters p
   pub fits : n ≤ (if is_large then MCLBYTES else MHLEN)
 
--- the free space in the pool for a packet of n bytes
+-- The free space in the pool for a packet of n bytes. `InMbuf` and `InCluster` leave a second mbuf for the sender's
+-- address; `InMore` is any packet whose buffers are free.
 abbrev pub HasSpace : PoolView → ℕ → Space → Type 0
 HasSpace p n InMbuf = HasOne p n false
 HasSpace p n InCluster = HasOne p n true
@@ -74,8 +74,16 @@ EndsWhole p s packet why =
     (rest : State) (w : Weight) → ArrivesWhole packet (record { bytes = carried_of packet; weight = w })
     (with_sockets p s rest) (ends why (with_sockets p s rest))
 
--- the result of `take`; if the packet wasn't stored, nothing has changed
-abbrev pub TakesWhole : PoolView → SocksView → List ℕ → PoolView → SocksView → Taken → Type 0
-TakesWhole p s packet q t Stored = StoresWhole p s packet q t
-TakesWhole p s packet q t (Ended why) = (q ≡ p) × (t ≡ s) × EndsWhole p s packet why
-TakesWhole p s packet q t Left = (q ≡ p) × (t ≡ s)
+-- It was delivered to all sockets that match it, a copy to each but the last, or dropped, with all that is counted for
+-- that: one step of the machine, which takes clusters that were free.
+pub record DeliversWhole (v : NetView) (packet : List ℕ) (u : NetView) : Type 0 where
+  pub step : (rest : State) → IsAccountedAt v rest nothing
+      → (clusters : List ℕ)
+      × AreTaken exact_ledger (state_at v rest) (need_of (wire (length packet))).clusters clusters
+      × ArrivesWhole packet (carried_item clusters packet) (state_at v rest) (state_at u rest)
+  pub parts : KeepsParts v [] u []
+
+-- the result of `take`: the packet was stored, or it's dropped for a cause, and nothing has changed
+abbrev pub TakesWhole : PoolView → SocksView → List ℕ → PoolView → SocksView → Result Unit Why → Type 0
+TakesWhole p s packet q t (Ok done) = StoresWhole p s packet q t
+TakesWhole p s packet q t (Err why) = (q ≡ p) × (t ≡ s) × EndsWhole p s packet why

@@ -183,6 +183,8 @@ impl Parts {
 
     /// Puts a datagram into the queues of all these sockets: a copy of it into each but the last, and itself into that.
     /// If one lacks something, its own part ends alone (volume 2, chapter 23).
+    // Inlined: out of line it costs 30 instructions a delivery.
+    #[inline(always)]
     pub(crate) fn deliver_all<R: Waiting>(
         &mut self,
         pool: &mut Pool,

@@ -22,4 +22,3 @@ mod taking;
 pub use net::Net;
 pub use questions::{NextDatagram, SocketName};
 pub use sockets::Socks;
-pub use taking::{Space, Taken};

@@ -10,7 +10,10 @@ ghost use Rattle.mbuf_chain.specs.Owners.{IsOwned, Moves};
 ghost use Rattle.pcb_table.specs.Table.{IsDescriptor};
 ghost use Rattle.sockbuf.specs.SockBuf.{chains_of};
 ghost use Rattle.sock_calls.specs.Delivery.{seen, IsInput};
-ghost use Rattle.sock_calls.specs.Whole.{HasSpace, TakesWhole};
+ghost use Rattle.sock_calls.specs.Whole.{DeliversWhole, HasOne, TakesWhole};
+ghost use Rattle.udp.specs.Checked.{is_to_all};
+ghost use Rattle.chain_ops.specs.Stored.{Has};
+ghost use Rattle.flat_model.specs.Amounts.Layout.{wire};
 ghost use Rattle.sock_calls.specs.Outgoing.{sending, CanSend, IsSent};
 ghost use Rattle.sock_calls.specs.Questions.{bytes_queued_at, memory_queued_at, next_datagram, readable, socket_name};
 ghost use Rattle.sock_calls.specs.Sockets.{AreEmpty, IsSocks, IsCalled, queue_at, queued_chains, with_sockets};
@@ -24,17 +27,16 @@ use crate::questions::{
 };
 use crate::queues::ReceiveQueues;
 use crate::receive::refusal;
-use crate::taking::{Space, Taken};
 use arrayvec::ArrayVec;
-use flat_model::{Addr, Counters, Errno, Opt};
-use ip_out::{Headed, IpHead};
+use flat_model::{Addr, Counters, Errno, Opt, Why};
+use ip_out::IpHead;
 use ledger::Waiting;
 use mbuf_chain::{Chain, MbufHeads, Pool};
 use params::{FIRST_DESCRIPTOR, IP_MAX_PACKET, MAX_SOCKETS};
 use pcb_table::{Pcbs, SOCKETS};
 use std::alloc::{AllocError, Global};
 use std::marker::Model;
-use udp::Outcome;
+use udp::{Checked, Outcome, is_broadcast};
 
 /// The place of a descriptor's queue.
 pub(crate) fn place_of(fd: u32) -> usize
@@ -304,17 +306,52 @@ impl Socks {
         Ok(())
     }
 
-    /// A packet from the wire that carries a whole datagram, and for which the pool has this space. If it takes one
-    /// mbuf and one socket matches it, it's stored in that socket's queue (`Stored`). A packet that has a fault, that
-    /// no socket matches or that doesn't fit into the queue is dropped (`Ended`). Broadcasts and packets that take
-    /// several mbufs are left to `input` (`Left`). Only `Stored` changes anything.
+    /// Whether an address is one of the two broadcast addresses.
     #[inline(always)]
-    pub fn take(&mut self, pool: &mut Pool, space: Space, packet: Headed<'_>) -> Taken
-        requires socks { IsSocks pool.old self.old }
-        requires space { HasSpace pool.old (length packet.packet.now) space }
-        ensures { TakesWhole pool.old self.old packet.entry.packet.now pool.new self.new result }
+    pub fn is_broadcast(&self, ip: u32) -> bool
+        ensures { result ≡ is_to_all self.now.pcbs ip }
     {
-        self.parts.take(pool, space, packet)
+        is_broadcast(&self.parts.pcbs, ip)
+    }
+
+    /// A packet from the wire that carries a whole datagram for one socket, no broadcast, and takes one mbuf, with a
+    /// cluster if `is_large`. These are free, and so is a second mbuf. The packet is stored in the queue of the socket
+    /// that matches it. Refused, and then nothing changes: `UdpNoPort` if no socket matches; `UdpFullSocket` if the
+    /// datagram doesn't fit into the queue. The caller counts the cause.
+    #[inline(always)]
+    pub fn take(&mut self, pool: &mut Pool, is_large: bool, packet: &Checked<'_>) -> Result<(), Why>
+        requires socks { IsSocks pool.old self.old }
+        requires one { HasOne pool.old (length packet.now.packet.now) is_large }
+        requires lone { is_to_all self.old.pcbs packet.now.to.ip ≡ false }
+        ensures { TakesWhole pool.old self.old packet.now.packet.now pool.new self.new result }
+    {
+        self.parts.take(pool, is_large, packet)
+    }
+
+    /// A packet of at most 65,535 bytes from the wire that carries a whole datagram, and whose buffers are free: its
+    /// data are stored in a chain of their own and put into the queues of all sockets that match, a copy into each but
+    /// the last, or it's dropped and counted (`udp_input` of volume 2, chapter 23). If a buffer is needed and none is
+    /// free, all that waits for fragments is freed first.
+    pub fn deliver<R: Waiting>(
+        &mut self,
+        pool: &mut Pool,
+        waiting: &mut R,
+        counters: &mut Counters,
+        packet: &Checked<'_>,
+    )
+        requires ready { IsSocks pool.old self.old }
+        requires waits { R.is_ready pool.old waiting.old }
+        requires owned { IsOwned pool.old (R.owned pool.old waiting.old ++ queued_chains pool.old self.old.queues) }
+        requires most { length packet.now.packet.now ≤ IP_MAX_PACKET }
+        requires free { Has pool.old (wire (length packet.now.packet.now)) }
+        ensures delivered { DeliversWhole
+            (seen pool.old self.old (R.unfinished pool.old waiting.old) (R.owned pool.old waiting.old) counters.old)
+            packet.now.packet.now
+            (seen pool.new self.new (R.unfinished pool.new waiting.new) (R.owned pool.new waiting.new) counters.new) }
+        ensures waits { R.is_ready pool.new waiting.new }
+    {
+        self.parts
+            .deliver_packet(pool, waiting, counters, &mut self.hearers, packet);
     }
 
     /// A whole datagram without its IP header, which said `head`: it's put into the queues of all sockets that hear it,

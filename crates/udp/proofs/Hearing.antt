@@ -9,9 +9,9 @@ use Rattle.pcb_table.specs.declared.block.Block.{Block}
 use Rattle.pcb_table.specs.Found.{Finds}
 use Rattle.pcb_table.specs.Table.{Table, block_at, sockets_with}
 use Rattle.udp.specs.Datagrams.{AreHearers}
-use Rattle.udp.specs.Inside.{broadcasts}
+use Rattle.udp.specs.Checked.{is_to_all}
 
-module _ (t : Table) (destination : ℕ) (q : LookupKey) (one : broadcasts t destination ≡ false) where
+module _ (t : Table) (destination : ℕ) (q : LookupKey) (one : is_to_all t destination ≡ false) where
   -- one is found
   pub one_hearer : (fd : ℕ) (fds : List ℕ) → Finds (best q) t (Some fd) → fds ≡ fd ∷ [] → AreHearers t destination q fds
   one_hearer fd fds finds is = record {

@@ -4,7 +4,7 @@ use Rattle.params.specs.declared.TheConstants.{IP_UDP_HEADERS, LIMITED_BROADCAST
 use Rattle.flat_model.specs.Packets.Header.{Head, head_of, udp_bytes, udp_fault, u16_at}
 use Rattle.flat_model.specs.declared.address.Addr.{Addr}
 use Rattle.flat_model.specs.declared.counters.Why.{Why}
-use Rattle.flat_model.specs.declared.counters.Why.TheVariants.{NoProtocol}
+use Rattle.flat_model.specs.declared.counters.Why.TheVariants.{NoProtocol, UdpNoPort, UdpNoPortBroadcast}
 use Rattle.ip_out.specs.Headed.{IsFaultless, carried_of}
 use Rattle.pcb_table.specs.Table.{Table}
 
@@ -31,3 +31,7 @@ pub record IsChecked (packet : List ℕ) (end : ℕ) (from to : Addr) : Type 0 w
 -- one of the machine's two broadcast addresses
 abbrev pub is_to_all : Table → ℕ → Bool
 is_to_all t ip = (ip == t.bcast) || (ip == LIMITED_BROADCAST)
+
+-- why a datagram for this address is dropped that no socket matches
+abbrev pub unmatched : Table → ℕ → Why
+unmatched t ip = if is_to_all t ip then UdpNoPortBroadcast else UdpNoPort

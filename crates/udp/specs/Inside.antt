@@ -1,13 +1,9 @@
 -- What the crate's own functions say of a header and of the blocks (this project's own).
-use Rattle.std.specs.Prelude.{ℕ, ◌==◌, ◌||◌, Bool, ◌++◌, if◌then◌else◌, List, take}
-use Rattle.params.specs.declared.TheConstants.{LIMITED_BROADCAST}
+use Rattle.std.specs.Prelude.{ℕ, ◌==◌, ◌||◌, Bool, ◌++◌, List, take}
 use Rattle.flat_model.specs.Packets.Checksum.{folded_sum}
 use Rattle.flat_model.specs.Packets.Header.{pseudo_header, two_bytes, u16_at}
-use Rattle.flat_model.specs.declared.counters.Why.{Why}
-use Rattle.flat_model.specs.declared.counters.Why.TheVariants.{UdpNoPort, UdpNoPortBroadcast}
 use Rattle.mbuf_chain.specs.Chain.{ChainView}
 use Rattle.chain_ops.specs.Trims.{only_first}
-use Rattle.pcb_table.specs.Table.{Table}
 use Rattle.udp.specs.declared.header.Header.{Header}
 
 -- what a datagram's header says (RFC 768)
@@ -25,10 +21,3 @@ has_right_sum src dst s =
 -- a chain with no more than its first n bytes
 abbrev pub cut_chain : ℕ → ChainView → ChainView
 cut_chain n v = record v { entries = only_first n v.entries }
-
--- one of the machine's two broadcast addresses
-abbrev pub broadcasts : Table → ℕ → Bool
-broadcasts t ip = (ip == t.bcast) || (ip == LIMITED_BROADCAST)
-
-abbrev pub unheard : Table → ℕ → Why
-unheard t ip = if broadcasts t ip then UdpNoPortBroadcast else UdpNoPort

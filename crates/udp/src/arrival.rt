@@ -6,8 +6,8 @@ ghost use Rattle.mbuf_chain.specs.Chain.{IsLive, chain_of, string, with_chain, w
 ghost use Rattle.mbuf_chain.specs.Owners.{Moves};
 ghost use Rattle.pcb_table.specs.Table.{packet_key};
 ghost use Rattle.udp.specs.Datagrams.{AreHearers, IsUdpInput, outcome_chains, without_header};
-ghost use Rattle.udp.specs.Checked.{is_to_all};
-ghost use Rattle.udp.specs.Inside.{broadcasts, header_in, unheard};
+ghost use Rattle.udp.specs.Checked.{is_to_all, unmatched};
+ghost use Rattle.udp.specs.Inside.{header_in};
 
 use crate::header::{Header, read_header};
 use crate::sums::is_right;
@@ -73,14 +73,14 @@ fn find_all(
     source: Addr,
     hearers: &mut ArrayVec<u32, SOCKETS>,
 )
-    requires { broadcasts pcbs.now destination ≡ true }
+    requires { is_to_all pcbs.now destination ≡ true }
     ensures { AreHearers pcbs.now destination (packet_key destination port source) hearers.new.items }
 {
     *hearers = pcbs.receivers(destination, port, source);
 }
 
 /// Puts into `hearers` who hears a datagram: many for a broadcast, else the best match.
-fn find_hearers(
+pub(crate) fn find_hearers(
     pcbs: &mut Pcbs,
     destination: u32,
     port: u16,
@@ -169,9 +169,9 @@ fn drop_for(pool: &mut Pool, chain: Chain, why: Why) -> Outcome
     Outcome::Drop(why)
 }
 
-/// How a datagram is counted that nobody hears.
-fn no_port(pcbs: &Pcbs, destination: u32) -> Why
-    ensures { result ≡ unheard pcbs.now destination }
+/// The cause that counts a datagram for this address that no socket matches.
+pub fn no_port(pcbs: &Pcbs, destination: u32) -> Why
+    ensures { result ≡ unmatched pcbs.now destination }
 {
     if is_broadcast(pcbs, destination) {
         Why::UdpNoPortBroadcast

@@ -2,14 +2,19 @@
 ghost use Rattle.std.specs.Prelude.{◌≡◌, ◌+◌, ◌≤◌, None, Some, length, take, drop, IfOk, IfErr};
 ghost use Rattle.flat_model.specs.Packets.Header.{udp_fault};
 ghost use Rattle.udp.specs.Checked.{IsChecked, datagram_fault};
+ghost use Rattle.pcb_table.specs.Table.{packet_key};
+ghost use Rattle.udp.specs.Datagrams.{AreHearers};
 ghost use Rattle.udp.specs.Inside.{has_right_sum, header_in};
 
+use crate::arrival::find_hearers;
 use crate::header::{Header, header_of};
 use crate::sums::pseudo_sum;
+use arrayvec::ArrayVec;
 use flat_model::{Addr, Why};
 use in_cksum::Sum;
 use ip_out::Headed;
 use params::{IP_HEADER, IP_UDP_HEADERS, PROTOCOL_UDP, UDP_HEADER};
+use pcb_table::{Pcbs, SOCKETS};
 
 /// A packet that carries a UDP datagram, both without a fault, as `read` found. The value proves it, so no caller tests
 /// the packet again.
@@ -104,4 +109,21 @@ impl<'a> Checked<'a> {
     {
         &self.packet[IP_UDP_HEADERS as usize..self.end as usize]
     }
+}
+
+/// Puts the descriptors of the sockets that match a packet into `matching`: for a broadcast all, the youngest first,
+/// else the best match. What was there goes. No control block changes.
+pub fn matching_sockets(
+    pcbs: &mut Pcbs,
+    packet: &Checked<'_>,
+    matching: &mut ArrayVec<u32, SOCKETS>,
+)
+    ensures found { AreHearers pcbs.old packet.now.to.ip
+        (packet_key packet.now.to.ip packet.now.to.port packet.now.from) matching.new.items }
+    ensures blocks { pcbs.new ≡ pcbs.old }
+{
+    // Popping the usual single entry takes fewer steps than clearing an array.
+    let _ = matching.pop();
+    matching.clear();
+    find_hearers(pcbs, packet.to.ip, packet.to.port, packet.from, matching);
 }

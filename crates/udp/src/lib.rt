@@ -11,7 +11,7 @@ mod departure;
 mod header;
 mod sums;
 
-pub use arrival::{Outcome, input, is_broadcast};
-pub use checked::{Checked, read};
+pub use arrival::{Outcome, input, is_broadcast, no_port};
+pub use checked::{Checked, matching_sockets, read};
 pub use departure::{build, header_for};
 pub use sums::check;

@@ -4,7 +4,9 @@ use Rattle.std.specs.Prelude.{◌≡◌, ℕ, List, [], ◌∷◌, length, count
 use Rattle.flat_model.specs.Amounts.Weight.{Weight, ◌⊕◌, nothing}
 use Rattle.flat_model.specs.Machine.State.{State, ends, limited_broadcast, loopback}
 use Rattle.flat_model.specs.Machine.Ledger.{exact_ledger}
-use Rattle.flat_model.specs.Machine.Arrival.{Origin, By_wire, FragmentArrives, Arrives, AllArrive, counts_packet}
+use Rattle.flat_model.specs.Packets.Header.{head_of}
+use Rattle.flat_model.specs.Machine.Arrival.{Origin, By_wire, FragmentArrives, Arrives, AllArrive, counts_packet, is_fragment}
+use Rattle.pcb_table.specs.Table.{Table}
 use Rattle.flat_model.specs.declared.counters.Counters.{Counters}
 use Rattle.flat_model.specs.declared.counters.Why.{Why}
 use Rattle.flat_model.specs.Amounts.Layout.{Need, is_cluster, laid_on, wire}
@@ -86,3 +88,8 @@ abbrev pub EndsFor : NetView → List ℕ → Why → Type 0
 EndsFor v packet why =
     (rest : State) (w : Weight) → Arrives exact_ledger (By_wire (length packet)) nothing
     (record { bytes = packet; weight = w }) (state_at v rest) (ends why (counts_packet (state_at v rest)))
+
+-- a packet for the machine with these control blocks, that is no fragment
+pub record IsWholeForUs (t : Table) (packet : List ℕ) : Type 0 where
+  pub ours : is_ours_or_all t.addr t.bcast (head_of packet).destination ≡ true
+  pub whole : is_fragment (head_of packet) ≡ false

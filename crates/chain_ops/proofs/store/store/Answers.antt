@@ -8,10 +8,10 @@ use Rattle.chain_ops.proofs.Laws.Makes.{makes_new}
 use Rattle.chain_ops.proofs.Stored.{few_rooms, few_stored, none_free}
 use Rattle.chain_ops.proofs.store.store.Goals as goal
 
-pub returns-then-bytes-clause-ok : goal.returns-then-bytes-clause-ok
-returns-then-bytes-clause-ok c =
+pub returns-in-InMbuf-clause-ok : goal.returns-in-InMbuf-clause-ok
+returns-in-InMbuf-clause-ok c =
     let size : ℕ = length c.args.bytes.now in
-    let rooms = few_rooms c.args.large size c.requires.large (omega arith) in
+    let rooms = few_rooms c.args.large size c.requires.large (omega (arith, c.in-InMbuf.ensures.0)) in
     IfOk-weaker c.new_plain_with.result _ _ (λ d a.
     let m = makes_new a in (
       [],
@@ -26,14 +26,14 @@ returns-then-bytes-clause-ok c =
         front = m.front;
         entries =
             m.entries ∙ few_stored c.args.large c.args.ends c.first_start-start.result c.args.bytes.now c.requires.large
-            (omega arith) c.first_start-start.ensures.value;
+            (omega (arith, c.in-InMbuf.ensures.0)) c.first_start-start.ensures.value;
       },
     )) c.new_plain_with.ensures.ok
 
-pub returns-then-bytes-clause-enough : goal.returns-then-bytes-clause-enough
-returns-then-bytes-clause-enough c =
+pub returns-in-InMbuf-clause-enough : goal.returns-in-InMbuf-clause-enough
+returns-in-InMbuf-clause-enough c =
     let size : ℕ = length c.args.bytes.now in
-    let rooms = few_rooms c.args.large size c.requires.large (omega arith) in
+    let rooms = few_rooms c.args.large size c.requires.large (omega (arith, c.in-InMbuf.ensures.0)) in
     on_ok_weaker c.new_plain_with.result (λ less. (
       omega (arith, less, ap (λ (rs : List Room). length rs) rooms),
       omega (
@@ -43,25 +43,25 @@ returns-then-bytes-clause-enough c =
       ),
     )) c.new_plain_with.ensures.free
 
-pub returns-clause-ok : goal.returns-clause-ok
-returns-clause-ok c =
+pub returns-in-InCluster-clause-ok : goal.returns-in-InCluster-clause-ok
+returns-in-InCluster-clause-ok c =
     IfOk-weaker c.new_cluster_with.result _ _
     (λ d a. filled_one c.args.pool.now c.new_cluster_with.new.self d a.0 c.args.large c.args.ends c.args.bytes.now
-    c.requires.large (omega arith) (omega arith) a.1 a.2 a.3)
+    c.requires.large (omega (arith, c.in-InCluster.ensures.0)) (omega (arith, c.in-InCluster.ensures.1)) a.1 a.2 a.3)
     c.new_cluster_with.ensures.ok
 
-pub returns-clause-err : goal.returns-clause-err
-returns-clause-err c =
+pub returns-in-InCluster-clause-err : goal.returns-in-InCluster-clause-err
+returns-in-InCluster-clause-err c =
     on_err_weaker c.new_cluster_with.result
-    (lacks c.args.large (length c.args.bytes.now) c.requires.large (omega arith) (omega arith) c.args.pool.now)
+    (lacks c.args.large (length c.args.bytes.now) c.requires.large (omega (arith, c.in-InCluster.ensures.0)) (omega (arith, c.in-InCluster.ensures.1)) c.args.pool.now)
     c.new_cluster_with.ensures.err
 
 both : {T E P Q R : Type 0} (r : Result T E) → (P → Q → R) → OnOk r P → OnOk r Q → OnOk r R
 both (Ok x) f p q = f p q
 both (Err e) f p q = tt
 
-pub returns-clause-enough : goal.returns-clause-enough
-returns-clause-enough c =
+pub returns-in-InCluster-clause-enough : goal.returns-in-InCluster-clause-enough
+returns-in-InCluster-clause-enough c =
     both c.new_cluster_with.result
-    (has c.args.large (length c.args.bytes.now) c.requires.large (omega arith) (omega arith) c.args.pool.now)
+    (has c.args.large (length c.args.bytes.now) c.requires.large (omega (arith, c.in-InCluster.ensures.0)) (omega (arith, c.in-InCluster.ensures.1)) c.args.pool.now)
     c.new_cluster_with.ensures.free c.new_cluster_with.ensures.cluster

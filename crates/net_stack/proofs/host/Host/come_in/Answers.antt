@@ -18,13 +18,13 @@ returns-in_default-clause-came c =
     (lost c.args.packet.now c.requires.socks c.requires.owned c.in_default.ensures.asked refl refl
     c.count_ended.ensures)
 
-pub come_into-requires-clause-socks : goal.come_into-requires-clause-socks
-come_into-requires-clause-socks c =
+pub come_with_space-requires-clause-socks : goal.come_with_space-requires-clause-socks
+come_with_space-requires-clause-socks c =
     subst (λ (s : SocksView). IsSocks c.make_space.new.self.pool s) (sym c.in-Some.ensures.socks)
     (asked_socks c.requires.socks c.requires.owned c.in-Some.ensures.asked).socks.ready
 
-pub come_into-requires-clause-owned : goal.come_into-requires-clause-owned
-come_into-requires-clause-owned c =
+pub come_with_space-requires-clause-owned : goal.come_with_space-requires-clause-owned
+come_with_space-requires-clause-owned c =
     let u = c.make_space.new.self in
     subst (λ (s : SocksView). IsOwned u.pool (held_all u.pool u.reass.datagrams ++ queued_chains u.pool s.queues))
     (sym c.in-Some.ensures.socks)
@@ -35,4 +35,4 @@ returns-clause-came c =
     let u = c.make_space.new.self in
     again c.requires.socks c.requires.owned c.in-Some.ensures.asked c.in-Some.ensures.free
     (subst (λ (s : SocksView). HasCome (net_seen u.pool s u.reass u.net.counters) c.args.packet.now
-    (arrival_view c.come_into.new.self)) c.in-Some.ensures.socks c.come_into.ensures.came)
+    (arrival_view c.come_with_space.new.self)) c.in-Some.ensures.socks c.come_with_space.ensures.came)

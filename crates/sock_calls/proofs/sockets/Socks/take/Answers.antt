@@ -6,5 +6,5 @@ use Rattle.sock_calls.proofs.sockets.Socks.take.Goals as goal
 
 pub returns : goal.returns
 returns c =
-    subst (λ (s : SocksView). TakesWhole c.args.pool.now s c.args.packet.packet.now c.take.new.pool
+    subst (λ (s : SocksView). TakesWhole c.args.pool.now s c.args.packet.now.packet.now c.take.new.pool
     (socks_of c.take.new.self) c.take.result) c.self.view_is c.take.ensures

@@ -1,0 +1,177 @@
+/*
+ * What one packet or one send costs, by its size and by what happens to it: a packet that is delivered beside one that
+ * is dropped for each cause, broadcasts, and sends. lwIP does the same work where it can.
+ */
+#include "packets.h"
+#include "timer.h"
+
+enum { MOST = 9000, MTU = 1500, LARGE_MTU = 4352, PORT = 7, OTHER_PORT = 99, FILLS = 600 };
+
+/* crates/bench_packets/src/lib.rt */
+uint32_t bsdudp_exchange(const uint8_t *bytes, size_t len, uint16_t mtu, bool is_connected, uint32_t times);
+uint32_t bsdudp_loop_back(const uint8_t *bytes, size_t len, uint32_t times);
+uint32_t bsdudp_send_refused(const uint8_t *bytes, size_t len, bool is_connected, uint32_t times);
+uint32_t bsdudp_receive(const uint8_t *packet, size_t len, uint8_t sockets, uint32_t before, bool is_read, uint32_t times);
+
+/* bench/peers/lwip.c, if measure.sh has its sources. */
+#ifdef PACKETS_LWIP
+uint32_t lwip_receive(const uint8_t *packet, size_t len, uint32_t before, bool is_read, uint32_t times);
+#endif
+
+static const size_t LENS[] = {2, 72, 150, 207, 208, 1472, 4000, MOST};
+static const char *const COLUMNS[] = {"2 bytes", "72", "150", "207", "208", "1,472", "4,000", "9,000"};
+
+static uint8_t bytes[MOST];
+static uint8_t packet[PACKET_HEADER + DATAGRAM_HEADER + MOST];
+
+static size_t packet_of(int column, uint8_t host, uint16_t port)
+{
+    return put_datagram(packet, host, port, bytes, LENS[column]);
+}
+
+static bool exchanged(int column, uint64_t turns)
+{
+    return bsdudp_exchange(bytes, LENS[column], MTU, false, (uint32_t)turns) == turns;
+}
+
+static bool exchanged_on_a_larger_link(int column, uint64_t turns)
+{
+    return bsdudp_exchange(bytes, LENS[column], LARGE_MTU, false, (uint32_t)turns) == turns;
+}
+
+static bool exchanged_by_a_connected_socket(int column, uint64_t turns)
+{
+    return bsdudp_exchange(bytes, LENS[column], MTU, true, (uint32_t)turns) == turns;
+}
+
+static bool looped(int column, uint64_t turns)
+{
+    return bsdudp_loop_back(bytes, LENS[column], (uint32_t)turns) == turns;
+}
+
+static bool refused(int column, uint64_t turns)
+{
+    return bsdudp_send_refused(bytes, LENS[column], false, (uint32_t)turns) == turns;
+}
+
+static bool refused_to_a_connected_socket(int column, uint64_t turns)
+{
+    return bsdudp_send_refused(bytes, LENS[column], true, (uint32_t)turns) == turns;
+}
+
+/* The packet is read by all of so many sockets. */
+static bool is_read(size_t len, uint8_t sockets, uint64_t turns)
+{
+    return bsdudp_receive(packet, len, sockets, 0, true, (uint32_t)turns) == sockets * turns;
+}
+
+static bool is_dropped(size_t len, uint32_t before, uint64_t turns)
+{
+    return bsdudp_receive(packet, len, 1, before, false, (uint32_t)turns) == turns;
+}
+
+static bool received(int column, uint64_t turns)
+{
+    return is_read(packet_of(column, RECEIVER_HOST, PORT), 1, turns);
+}
+
+static bool no_port(int column, uint64_t turns)
+{
+    return is_dropped(packet_of(column, RECEIVER_HOST, OTHER_PORT), 0, turns);
+}
+
+static bool full_queue(int column, uint64_t turns)
+{
+    return is_dropped(packet_of(column, RECEIVER_HOST, PORT), FILLS, turns);
+}
+
+static bool wrong_checksum(int column, uint64_t turns)
+{
+    size_t len = packet_of(column, RECEIVER_HOST, PORT);
+    packet[len - 1] ^= 0xff;
+    return is_dropped(len, 0, turns);
+}
+
+static bool wrong_header_checksum(int column, uint64_t turns)
+{
+    size_t len = packet_of(column, RECEIVER_HOST, PORT);
+    packet[8] ^= 0xff;
+    return is_dropped(len, 0, turns);
+}
+
+static bool for_another_host(int column, uint64_t turns)
+{
+    return is_dropped(packet_of(column, RECEIVER_HOST + 1, PORT), 0, turns);
+}
+
+static bool broadcast_to_none(int column, uint64_t turns)
+{
+    return is_dropped(packet_of(column, BROADCAST_HOST, OTHER_PORT), 0, turns);
+}
+
+static bool broadcast_to_one(int column, uint64_t turns)
+{
+    return is_read(packet_of(column, BROADCAST_HOST, PORT), 1, turns);
+}
+
+static bool broadcast_to_three(int column, uint64_t turns)
+{
+    return is_read(packet_of(column, BROADCAST_HOST, PORT), 3, turns);
+}
+
+#ifdef PACKETS_LWIP
+static bool lwip_received(int column, uint64_t turns)
+{
+    return lwip_receive(packet, packet_of(column, RECEIVER_HOST, PORT), 0, true, (uint32_t)turns) == turns;
+}
+
+static bool lwip_no_port(int column, uint64_t turns)
+{
+    return lwip_receive(packet, packet_of(column, RECEIVER_HOST, OTHER_PORT), 0, false, (uint32_t)turns) == turns;
+}
+
+static bool lwip_full_queue(int column, uint64_t turns)
+{
+    return lwip_receive(packet, packet_of(column, RECEIVER_HOST, PORT), FILLS, false, (uint32_t)turns) == turns;
+}
+
+static bool lwip_wrong_checksum(int column, uint64_t turns)
+{
+    size_t len = packet_of(column, RECEIVER_HOST, PORT);
+    packet[len - 1] ^= 0xff;
+    return lwip_receive(packet, len, 0, false, (uint32_t)turns) == turns;
+}
+#endif
+
+static const Row ROWS[] = {
+    {"sendto, tx, rx, recvfrom", exchanged, 0},
+    {"the same on a link of 4,352 bytes", exchanged_on_a_larger_link, 0},
+    {"the same by a connected socket", exchanged_by_a_connected_socket, 0},
+    {"sendto by loopback, recvfrom", looped, 0},
+    {"rx, recvfrom", received, 0},
+    {"rx: no such port", no_port, 0},
+    {"rx: full receive queue", full_queue, 0},
+    {"rx: wrong UDP checksum", wrong_checksum, 0},
+    {"rx: wrong header checksum", wrong_header_checksum, 0},
+    {"rx: another destination", for_another_host, 0},
+    {"rx: broadcast, no socket", broadcast_to_none, 0},
+    {"rx: broadcast, recvfrom of one", broadcast_to_one, 0},
+    {"rx: broadcast, recvfrom of three", broadcast_to_three, 0},
+    {"sendto, output queue full", refused, 0},
+    {"sendto, connected, output queue full", refused_to_a_connected_socket, 0},
+#ifdef PACKETS_LWIP
+    {"lwIP: input, receive", lwip_received, 0},
+    {"lwIP: no such port", lwip_no_port, 0},
+    {"lwIP: full receive queue", lwip_full_queue, 0},
+    {"lwIP: wrong UDP checksum", lwip_wrong_checksum, 0},
+#endif
+};
+
+static const Table TABLE = {"a packet or a send", 1, COLUMNS, COUNT_OF(COLUMNS), ROWS, COUNT_OF(ROWS)};
+
+int main(int argc, char **argv)
+{
+    for (size_t at = 0; at < MOST; at++)
+        bytes[at] = (uint8_t)(at * 7 + at / 256 + 3);
+    return bench_main(argc, argv, &TABLE);
+}

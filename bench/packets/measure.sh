@@ -1,0 +1,29 @@
+# Packets and sends, with lwIP's best build beside them. LWIP names a folder that has lwIP's sources already.
+
+. "$bench/peers/measure.sh"
+
+measure_packets() { # WORK
+    local more=()
+    if lwip_sources "$1"; then
+        build_lwip "$1" lwip "${lwip_best[@]}"
+        more=(-DPACKETS_LWIP "$1/liblwip.so")
+    else
+        echo "lwIP's sources can't be had by apt-get: lwIP is left out"
+    fi
+    build_bench "$1" packets bench_packets "${more[@]}"
+    print_tables "$1" packets
+    check_drops
+}
+
+# Says which drops cost as much as the delivery of a packet of that size.
+check_drops() {
+    local row column
+    for row in "${!counts[@]}"; do
+        column=${row##*|}
+        [[ $row = "rx: "* && $row != *recvfrom* ]] || continue
+        if [ "${counts[$row]}" -ge "${counts[rx, recvfrom|$column]}" ]; then
+            echo "packets, $row: dropping a packet costs no less than receiving it" >&2
+            over_limit=1
+        fi
+    done
+}

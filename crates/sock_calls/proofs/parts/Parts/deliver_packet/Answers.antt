@@ -1,0 +1,80 @@
+use Rattle.std.proofs.Common.{◌≡◌, ◌<◌, ◌≤◌, ◌∷◌, ◌++◌, [], ℕ, List, length, All, refl, sym, ap, subst, ◌∙◌, arith, rules}
+use Rattle.std.proofs.lemmas.Grind.{common_steps}
+use Rattle.flat_model.specs.Amounts.Weight.{times}
+use Rattle.mbuf_chain.specs.Owners.{IsOwned}
+use Rattle.pcb_table.specs.Table.{Table, IsOpen}
+use Rattle.udp.specs.Checked.{unmatched}
+use Rattle.sock_calls.specs.Sockets.{IsSocks, from_three, queued_chains}
+use Rattle.sock_calls.specs.Delivery.{seen}
+use Rattle.sock_calls.specs.Inside.Parts.{socks_of}
+use Rattle.sock_calls.specs.Whole.{DeliversWhole}
+use Rattle.sock_calls.proofs.Arriving.{all_open}
+use Rattle.sock_calls.proofs.Storing.{beside_data, delivers_to, unmatched_ends}
+use Rattle.sock_calls.proofs.parts.Parts.deliver_packet.Goals as goal
+
+pub deliver_all-requires-clause-socks : goal.deliver_all-requires-clause-socks
+deliver_all-requires-clause-socks g c =
+    let p = c.args.pool.now in
+    let q = c.store_data-chain.new.pool in
+    let x = beside_data p q c.store_data-chain.result (g.R.Reclaim.owned p c.args.waiting.now) (socks_of c.args.self.now)
+    c.requires.owned c.requires.socks c.store_data-chain.ensures.moves in
+    subst (λ (t : Table). IsSocks q (record { pcbs = t; queues = from_three c.args.self.now.queues }))
+    (sym c.matching_sockets.ensures.blocks) x.socks.ready
+
+pub deliver_all-requires-clause-opened : goal.deliver_all-requires-clause-opened
+deliver_all-requires-clause-opened g c =
+    subst (λ (l : List ℕ). All (λ (fd : ℕ). IsOpen fd c.matching_sockets.new.pcbs) l) (sym c.as_slice-fds.ensures.value)
+    (subst (λ (t : Table). All (λ (fd : ℕ). IsOpen fd t) c.matching_sockets.new.matching.items)
+    (sym c.matching_sockets.ensures.blocks)
+    (all_open c.args.self.now.pcbs _ _ c.matching_sockets.new.matching.items c.matching_sockets.ensures.found))
+
+pub deliver_all-requires-clause-distinct : goal.deliver_all-requires-clause-distinct
+deliver_all-requires-clause-distinct g c =
+    λ fd. subst (λ (l : List ℕ). times fd l ≤ 1) (sym c.as_slice-fds.ensures.value) (c.matching_sockets.ensures.found.once fd)
+
+pub deliver_all-requires-clause-waits : goal.deliver_all-requires-clause-waits
+deliver_all-requires-clause-waits g c =
+    let p = c.args.pool.now in
+    let q = c.store_data-chain.new.pool in
+    let w = c.args.waiting.now in
+    let x = beside_data p q c.store_data-chain.result (g.R.Reclaim.owned p w) (socks_of c.args.self.now)
+    c.requires.owned c.requires.socks c.store_data-chain.ensures.moves in
+    g.met.R.Reclaim.ready_same p q w x.same c.requires.waits
+
+pub deliver_all-requires-clause-owned : goal.deliver_all-requires-clause-owned
+deliver_all-requires-clause-owned g c =
+    let p = c.args.pool.now in
+    let q = c.store_data-chain.new.pool in
+    let w = c.args.waiting.now in
+    let x = beside_data p q c.store_data-chain.result (g.R.Reclaim.owned p w) (socks_of c.args.self.now)
+    c.requires.owned c.requires.socks c.store_data-chain.ensures.moves in
+    subst (λ (zs : List ℕ). IsOwned q (c.store_data-chain.result
+    ∷ (zs ++ queued_chains q (from_three c.args.self.now.queues))))
+    (sym (g.met.R.Reclaim.owned_same p q w x.same)) x.owned
+
+pub returns-then-is_empty-clause-delivered : goal.returns-then-is_empty-clause-delivered
+returns-then-is_empty-clause-delivered g c =
+    let p = c.args.pool.now in
+    let w = c.args.waiting.now in
+    let us = g.R.Waiting.unfinished p w in
+    let xs = g.R.Reclaim.owned p w in
+    let bs = from_three c.args.self.now.queues in
+    subst (λ (t : Table). DeliversWhole (seen p (socks_of c.args.self.now) us xs c.args.counters.now)
+    c.args.packet.now.packet.now (seen p (record { pcbs = t; queues = bs }) us xs c.count_ended.new.self))
+    (sym c.matching_sockets.ensures.blocks)
+    (unmatched_ends c.no_port-why.result c.requires.socks c.args.packet.now.is_checked c.matching_sockets.ensures.found
+    (first_of (search rules, grind (arith, common_steps))) c.requires.free
+    (c.no_port-why.ensures ∙ ap (λ (t : Table). unmatched t c.args.packet.now.to.ip) c.matching_sockets.ensures.blocks)
+    c.count_ended.ensures)
+
+pub returns-clause-delivered : goal.returns-clause-delivered
+returns-clause-delivered g c =
+    let p = c.args.pool.now in
+    let q = c.store_data-chain.new.pool in
+    let w = c.args.waiting.now in
+    let x = beside_data p q c.store_data-chain.result (g.R.Reclaim.owned p w) (socks_of c.args.self.now)
+    c.requires.owned c.requires.socks c.store_data-chain.ensures.moves in
+    delivers_to c.requires.socks c.requires.owned c.args.packet.now.is_checked c.matching_sockets.ensures.found
+    (first_of (search rules, grind (arith, common_steps))) c.store_data-chain.ensures
+    (g.met.R.Waiting.unfinished_same p q w x.same) (g.met.R.Reclaim.owned_same p q w x.same)
+    c.matching_sockets.ensures.blocks c.as_slice-fds.ensures.value c.deliver_all.ensures.delivered
