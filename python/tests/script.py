@@ -6,7 +6,7 @@ import bsdudp
 from bsdudp import _counters
 from conftest import PROGRAM
 
-# 4.4BSD's numbers, as docs/script.md has them.
+# 4.4BSD's numbers, as docs/scripts.md has them.
 NUMBERS = {
     "EBADF": 9,
     "EACCES": 13,

@@ -202,7 +202,7 @@ def in_order(place: str, what: str, entries: Sequence[Entry], wanted: Sequence[s
 
 # They say what was so in the past.
 OF_THE_PAST = ("CHANGELOG.md", "docs/gate-times.md")
-FOLDERS = ("", "bench/", "capi/", "conform/", "crates/", "crates/*/", "docs/", "examples/", "page/", "portable/")
+FOLDERS = ("", "bench/", "capi/", "conform/", "crates/", "crates/*/", "docs/", "docs/maintain/", "examples/", "page/", "portable/")
 FOLDERS += ("python/", "simulators/", "simulators/*/", "tests/", "tools/*/")
 
 

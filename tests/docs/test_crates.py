@@ -59,7 +59,8 @@ def test_libraries_that_are_trusted():
     """docs/proved.md names each library of the toolchain that a crate uses, and no other."""
     path, used = "docs/proved.md", crates.uses()
     wanted = {it for uses in used.values() for it in uses if it not in used}
-    told = {it for it in in_code(read(path).partition("## Trusted")[2]) if re.fullmatch(r"[a-z_0-9]+", it)} - {"std"}
+    _, rows = table(path, "Trusted", "What", "Who relies on it")
+    told = {it for it in in_code(rows[0].cells[0]) if re.fullmatch(r"[a-z_0-9]+", it)} - {"std"}
     faults = [Fault(f"{path}:1", "under 'Trusted' a library is missing", it) for it in sorted(wanted - told)]
     none_of(faults + [Fault(f"{path}:1", f"under 'Trusted': no crate uses {it}") for it in sorted(told - wanted)])
 
@@ -68,13 +69,11 @@ def test_libraries_that_are_trusted():
 
 
 def test_raw_pointers():
-    """docs/security.md and docs/proved.md name each file that has raw pointers."""
+    """docs/proved.md names each file that has raw pointers."""
     faults = []
     for path in sources_of("*"):
         if re.search(r"\*(?:mut|const) |\bunsafe \{", re.sub(r"//[^\n]*", "", read(path))):
-            if f"`{path}`" not in read("docs/security.md"):
-                faults.append(Fault("docs/security.md:1", "a file with raw pointers isn't named", path))
-            if path.rpartition("/")[2] not in read("docs/proved.md"):
+            if f"`{path}`" not in read("docs/proved.md"):
                 faults.append(Fault("docs/proved.md:1", "a file with raw pointers isn't named", path))
     none_of(faults)
 

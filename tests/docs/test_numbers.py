@@ -49,7 +49,7 @@ def exports() -> int:
 
 def deepest() -> int:
     """The most bytes of the call stack that a call of the C library takes, apart from boot and end."""
-    rows = table("docs/embedding.md", "Code and stack", "Call", "Bytes")[1]
+    rows = table("docs/memory.md", "Call stack", "Call", "x86-64", "Cortex-M3, painted", "Cortex-M3, bound")[1]
     return max(number(row.cells[1]) for row in rows if not re.search(r"_(boot|boot_in|end)\b|other", row.cells[0]))
 
 
@@ -57,13 +57,13 @@ def lines_of_definitions() -> int:
     return sum(len(path.read_text(encoding="utf-8").splitlines()) for path in SPECS.rglob("*.antt"))
 
 
-# What a page says, and the number that is right. After `some` it may be rounded to a hundredth.
+# What a page says, and the number that is right. After `about` it may be rounded to a hundredth.
 COUNTED = [
     ("README.md", "functions in N crates are proved", lambda: len(crates.uses())),
-    ("README.md", "some N functions", functions),
-    ("README.md", "some N wrong bodies", lambda: wrong_bodies("must-fail", "wrong-bodies")),
-    ("README.md", "refuse the N likeliest", lambda: wrong_bodies("must-fail")),
-    ("README.md", "some N lines of definitions", lines_of_definitions),
+    ("README.md", "about N functions", functions),
+    ("README.md", "about N mutants", lambda: wrong_bodies("must-fail", "wrong-bodies")),
+    ("README.md", "rejects the N likeliest", lambda: wrong_bodies("must-fail")),
+    ("README.md", "about N lines of definitions", lines_of_definitions),
     (
         "README.md",
         "from one stack to another takes N instructions",
@@ -78,8 +78,8 @@ COUNTED = [
 
 @pytest.mark.parametrize("path, words, count", COUNTED, ids=[f"{path} {words}" for path, words, _ in COUNTED])
 def test_number(path, words, count):
-    is_round, text = words.startswith("some "), read(path)
-    pattern = words.replace("some ", "[Ss]ome ").replace(" ", r"\s+").replace("N", r"([\d,]+)", 1)
+    is_round, text = words.startswith("about "), read(path)
+    pattern = words.replace("about ", "[Aa]bout ").replace(" ", r"\s+").replace("N", r"([\d,]+)", 1)
     found = re.search(pattern, text)
     if not found:
         none_of([Fault(f"{path}:1", f"the page has no text '{words}'")])
