@@ -1,4 +1,5 @@
 """The numbers in pages that a program can count or that two tables share, and the chart that is drawn of one."""
+import functools
 import re
 import subprocess
 import sys
@@ -57,6 +58,13 @@ def lines_of_definitions() -> int:
     return sum(len(path.read_text(encoding="utf-8").splitlines()) for path in SPECS.rglob("*.antt"))
 
 
+@functools.lru_cache(maxsize=None)
+def walk() -> list[int]:
+    """The functions, files and crates of a packet's walk from `rx` to the queue of a socket."""
+    said = subprocess.run([TOP / "tools/walk"], check=True, capture_output=True, text=True).stdout
+    return [number(it) for it in re.findall(r"\d+", said)]
+
+
 # What a page says, and the number that is right. After `about` it may be rounded to a hundredth.
 COUNTED = [
     ("README.md", "functions in N crates are proved", lambda: len(crates.uses())),
@@ -71,6 +79,9 @@ COUNTED = [
     ),
     ("README.md", "lwIP takes N as Debian", lambda: cell_of(PERFORMANCE, *BESIDE, "lwIP `-O2`", 1)),
     ("README.md", "and N at its best", lambda: cell_of(PERFORMANCE, *BESIDE, "the same, pools for its heap", 1)),
+    ("docs/architecture.md", "passes through N functions in", lambda: walk()[0]),
+    ("docs/architecture.md", "functions in N files of", lambda: walk()[1]),
+    ("docs/architecture.md", "files of N crates", lambda: walk()[2]),
     ("docs/proved.md", "`bsdudp_core_sendto` and N more", exports),
     ("docs/security.md", "take at most N bytes each", deepest),
 ]
