@@ -60,6 +60,7 @@ def runs(*words: str) -> Callable[[], bool]:
 
 
 has_namespace = runs("unshare", "-n", "true")
+has_veth = runs("unshare", "-n", "ip", "link", "add", "w0", "type", "veth", "peer", "name", "w1")
 has_overlay = runs("unshare", "-m", "sh", "-c", "mount -t tmpfs tmpfs /mnt && mkdir /mnt/a /mnt/b /mnt/c /mnt/d && "
                    "mount -t overlay overlay -o lowerdir=/mnt/a,upperdir=/mnt/b,workdir=/mnt/c /mnt/d")  # fmt: skip
 
@@ -78,6 +79,7 @@ TOOLS = {
     "libpcap": Tool(includes("pcap/pcap.h"), "libpcap-dev"),
     "tshark": Tool(command("tshark"), "tshark"),
     "editcap": Tool(command("editcap"), "wireshark-common"),
+    "mergecap": Tool(command("mergecap"), "wireshark-common"),
     "tcpdump": Tool(command("tcpdump"), "tcpdump"),
     "scapy": Tool(module("scapy"), "python3-scapy"),
     "hypothesis": Tool(module("hypothesis"), "python3-hypothesis"),
@@ -89,10 +91,12 @@ TOOLS = {
     "wasm2c": Tool(command("wasm2c"), "wabt"),
     "qemu-arm": Tool(command("qemu-system-arm"), "qemu-system-arm"),
     "arm-none-eabi": Tool(command("arm-none-eabi-gcc"), "gcc-arm-none-eabi libnewlib-arm-none-eabi"),
+    "dpkg-source": Tool(command("dpkg-source"), "dpkg-dev"),
     "debootstrap": Tool(command("debootstrap"), "debootstrap"),
     "ip": Tool(command("ip"), "iproute2"),
     "root": Tool(lambda: os.geteuid() == 0, what="this user isn't root"),
     "netns": Tool(has_namespace, what="no network namespace can be made here"),
+    "veth": Tool(has_veth, what="no pair of veth interfaces can be made here"),
     "tun": Tool(lambda: os.access("/dev/net/tun", os.W_OK), what="/dev/net/tun can't be written here"),
     "overlay": Tool(has_overlay, what="no file system can be mounted here"),
     "x86-64": Tool(lambda: os.uname()[::4] == ("Linux", "x86_64"), what="this isn't Linux on x86-64"),
