@@ -1,28 +1,38 @@
-#!/usr/bin/env python3
 """Is the judge fair, and does it see? Each machine that the RFCs permit, one setting changed at a time, has to pass
 every case without an alarm; each fault of plants.txt, planted in the reference machine, has to be seen in some case."""
-import concurrent.futures
-import os
+import functools
 import pathlib
 import sys
 import types
+
+import pytest
 
 from bsdudp_conform import _machine, _read, _reassembly, cases
 from bsdudp_conform._case import Answer, Receive
 from bsdudp_conform._freedom import SETTINGS, Path
 from bsdudp_conform._verdict import FAULT, MUST, NEVER, verdict
 
-sys.dont_write_bytecode = True
-sys.path.insert(0, str(pathlib.Path(__file__).resolve().parent.parent.parent))
-from tools import command_line  # noqa: E402
-
 MODULES = {"read": _read, "reassembly": _reassembly, "machine": _machine}
 ABILITIES = frozenset({"out", "send", "mtu", "sockets", "connect"})
 GRAVE = (FAULT, NEVER, MUST)
-CASES = [case for case in cases.make(1) if case.size[1] < 300_000 and len(case.steps) < 2_000]
-# The settings for which the machine asks in each case, with all at their defaults. Another value of one changes nothing
-# before it's asked for, so whatever isn't asked for here leaves the case as it is.
-ASKED = {}
+pytestmark = [pytest.mark.slow, pytest.mark.needs("scapy")]
+
+
+@functools.lru_cache(maxsize=None)
+def chosen():
+    """The cases that are tried, from the shortest on."""
+    made = (it for it in cases.make(1) if it.size[1] < 300_000 and len(it.steps) < 2_000)
+    return sorted(made, key=lambda case: case.size)
+
+
+@functools.lru_cache(maxsize=None)
+def asked():
+    """The settings for which the machine asks in each case, with all at their defaults. Another value of one changes
+    nothing before it's asked for, so whatever isn't asked for here leaves the case as it is."""
+    paths = {case.name: Noting({}) for case in chosen()}
+    for case in chosen():
+        _machine.play(case, paths[case.name])
+    return {name: path.noted for name, path in paths.items()}
 
 
 class Noting(Path):
@@ -49,8 +59,8 @@ def alarm(name):
     for value in setting.permitted:
         if value == setting.default and name != next(iter(SETTINGS)):
             continue  # the machine with all defaults is tried once
-        for case in CASES:
-            if name not in ASKED[case.name] and value != setting.default:
+        for case in chosen():
+            if name not in asked()[case.name] and value != setting.default:
                 continue  # it answers as the machine with all defaults does
             events = _machine.play(case, Path({name: value})).events
             for it in breaches(case, events):
@@ -76,7 +86,7 @@ def planted(where, texts):
             for old, new in zip(texts[::2], texts[1::2]):
                 old, new = old.replace("\\n", "\n"), new.replace("\\n", "\n")
                 if source.count(old) != 1:
-                    raise SystemExit(f"conform/tests/plants.txt: {old!r} stands in {name} {source.count(old)} times")
+                    pytest.fail(f"plants.txt: {old!r} stands in {name} {source.count(old)} times", pytrace=False)
                 source = source.replace(old, new)
         it = made[name] = types.ModuleType(module.__name__)
         it.__dict__.update({"__package__": "bsdudp_conform", "__file__": module.__file__})
@@ -100,46 +110,26 @@ def reread(case, read):
     return tuple(steps)
 
 
-def unseen(plant):
-    """The plant's name if no case tells it."""
-    name, where, texts = plant
+def is_seen(where, texts):
+    """Whether a case tells a plant."""
     made = planted(where, texts)
-    for case in sorted(CASES, key=lambda case: case.size):
+    for case in chosen():
         machine = made["machine"].Machine(Path({}), case.mtu)
         it = types.SimpleNamespace(steps=reread(case, made["read"].read))
         try:
             machine.play(it)
         except Exception:
-            return None
+            return True
         if breaches(case, machine.events):
-            return None
-    return name
+            return True
+    return False
 
 
-def main():
-    parser = command_line.parser(__doc__)
-    parser.add_argument("--count", action="store_true", help="prints how many were tried")
-    counts = parser.parse_args().count
-    faults = 0
-    plants = list(edits())
-    for case in CASES:
-        path = Noting({})
-        _machine.play(case, path)
-        ASKED[case.name] = path.noted
-    with concurrent.futures.ProcessPoolExecutor(os.cpu_count()) as pool:
-        alarms, missed = pool.map(alarm, SETTINGS), pool.map(unseen, plants)
-        for line in filter(None, alarms):
-            print(f"conform: a false alarm: {line}", file=sys.stderr)
-            faults = 1
-        for name in filter(None, missed):
-            print(f"conform: a fault isn't seen: {name}", file=sys.stderr)
-            faults = 1
-    if counts:
-        print(
-            f"{sum(len(it.permitted) for it in SETTINGS.values())} machines, {len(plants)} plants, {len(CASES)} cases"
-        )
-    return faults
+@pytest.mark.parametrize("name", SETTINGS)
+def test_permitted_machines_pass(name):
+    assert alarm(name) is None
 
 
-if __name__ == "__main__":
-    sys.exit(main())
+@pytest.mark.parametrize("name, where, texts", [pytest.param(*it, id=it[0]) for it in edits()])
+def test_planted_fault_is_seen(name, where, texts):
+    assert is_seen(where, texts), f"no case tells the fault: {name}"

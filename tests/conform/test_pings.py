@@ -1,14 +1,14 @@
-#!/usr/bin/env python3
 """The law of pings: a stack that answers as scapy makes a reply raises no alarm, also if it answers what may be
 answered; each fault of FAULTS, in its replies or in whom it answers, has to be seen."""
-import pathlib
-import sys
+import functools
+
+import pytest
 
 try:
     from scapy.layers.inet import ICMP, IP
     from scapy.packet import Raw
-except ImportError:  # its words are answered without scapy, too
-    IP = None
+except ImportError:  # then all is skipped
+    pass
 
 from bsdudp_conform import cases
 from bsdudp_conform._addresses import HOST, PEER, is_host, text_of
@@ -19,12 +19,9 @@ from bsdudp_conform._machine import Machine
 from bsdudp_conform._read import fold
 from bsdudp_conform._verdict import verdict
 
-sys.dont_write_bytecode = True
-sys.path.insert(0, str(pathlib.Path(__file__).resolve().parent.parent.parent))
-from tools import command_line  # noqa: E402
-
 ABILITIES = frozenset({"out", "ping", "send", "mtu"})
 RULES = ("icmp.echo", "icmp.silent")
+pytestmark = pytest.mark.needs("scapy")
 
 
 def is_request(header, data):
@@ -120,28 +117,22 @@ def answer(case, replies):
     return Answer((*machine.events, *out))
 
 
-def breaches(chosen, replies):
-    for case in chosen:
+@functools.lru_cache(maxsize=None)
+def chosen():
+    return [it for it in cases.make(1, 0) if it.rule in RULES]
+
+
+def breaches(replies):
+    for case in chosen():
         for it in verdict(case, answer(case, replies), ABILITIES):
             yield f"{case.name}, {case.title}: {it.what}"
 
 
-def main():
-    command_line.none(__doc__)
-    if IP is None:
-        sys.exit("pings.py: no python3-scapy")
-    chosen = [it for it in cases.make(1, 0) if it.rule in RULES]
-    faults = 0
-    for replies in (right, free):
-        for line in breaches(chosen, replies):
-            print(f"conform: a false alarm at {replies.__doc__ or 'a right stack'}: {line}", file=sys.stderr)
-            faults = 1
-    for name, replies in FAULTS.items():
-        if next(breaches(chosen, replies), None) is None:
-            print(f"conform: a fault in pings isn't seen: {name}", file=sys.stderr)
-            faults = 1
-    return faults
+@pytest.mark.parametrize("replies", [right, free])
+def test_no_false_alarm(replies):
+    assert not list(breaches(replies))
 
 
-if __name__ == "__main__":
-    sys.exit(main())
+@pytest.mark.parametrize("name", FAULTS)
+def test_fault_is_seen(name):
+    assert next(breaches(FAULTS[name]), None)
