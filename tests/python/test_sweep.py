@@ -1,11 +1,14 @@
 """The same results in the same order, in this process, on all cores and on a cluster of which a worker ends."""
+import importlib
 import os
 import pathlib
+import threading
 import time
 
-import bsdudp
 import pytest
-from test_wire import lossy_run
+
+from tests.python.package import bsdudp
+from tests.python.test_wire import lossy_run
 
 
 def squared(seed):
@@ -50,15 +53,14 @@ def test_cores(tmp_path, monkeypatch):
         bsdudp.sweep(fails, range(3), "cores")
 
 
+@pytest.mark.needs("distributed")
 def test_cluster():
-    distributed = pytest.importorskip("distributed")
+    distributed = importlib.import_module("distributed")
     with distributed.LocalCluster(n_workers=2, threads_per_worker=1, dashboard_address=None) as cluster:
         with distributed.Client(cluster) as client:
             assert bsdudp.sweep(lossy_run, range(20), client) == [lossy_run(seed) for seed in range(20)]
             worker = next(iter(cluster.workers.values()))
             victim = client.run(os.getpid, workers=[worker.worker_address])[worker.worker_address]
-            import threading
-
             threading.Timer(0.3, os.kill, (victim, 9)).start()
             assert bsdudp.sweep(slow, range(60), client) == [seed * seed for seed in range(60)]
             assert bsdudp.sweep(squared, range(5), cluster.scheduler_address) == [0, 1, 4, 9, 16]

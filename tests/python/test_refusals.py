@@ -2,11 +2,14 @@
 import array
 import copy
 import errno
+import importlib
 import pickle
+import resource
 import socket as host
 
-import bsdudp
 import pytest
+
+from tests.python.package import bsdudp
 
 
 def refused(number, call, *arguments):
@@ -23,9 +26,7 @@ def stack():
 
 
 def test_package_and_library_are_one_version():
-    from bsdudp._library import LIBRARY
-
-    assert LIBRARY.version == bsdudp.__version__
+    assert bsdudp._library.LIBRARY.version == bsdudp.__version__
 
 
 def test_nothing_waits(stack):
@@ -143,13 +144,17 @@ def test_arguments(stack):
         stack.rx("hi")
     with pytest.raises(ValueError):
         stack.rx(bytes(65536))
-    scapy = pytest.importorskip("scapy.all")
-    with pytest.raises(ValueError):
-        stack.rx(scapy.Ether() / scapy.ARP())
     with pytest.raises(ValueError):
         stack.tick(-1)
     with pytest.raises(ValueError):
         it.recvfrom(-1)
+
+
+@pytest.mark.needs("scapy")
+def test_a_frame_of_scapy(stack):
+    scapy = importlib.import_module("scapy.all")
+    with pytest.raises(ValueError):
+        stack.rx(scapy.Ether() / scapy.ARP())
 
 
 def test_after_close_and_end(stack):
@@ -225,8 +230,9 @@ class Seven:
         return 7
 
 
+@pytest.mark.needs("numpy")
 def test_numbers_by_index():
-    numpy = pytest.importorskip("numpy")
+    numpy = importlib.import_module("numpy")
     for seven in (Seven(), numpy.int64(7), numpy.uint16(7)):
         with bsdudp.Stack(mtu=numpy.int32(576), mbufs=numpy.uint16(64), clusters=seven, first_id=seven) as stack:
             it = stack.socket()
@@ -348,7 +354,6 @@ def test_why(stack):
 
 
 def test_memory_does_not_grow(stack):
-    resource = pytest.importorskip("resource")
     it = stack.socket()
     it.bind(("", 7))
 

@@ -1,20 +1,21 @@
-"""Several threads on one stack: each method is refused to a second one, or is as if it were alone. What a method makes of
-several calls of the library is one thing."""
+"""Several threads on one stack: each method is refused to a second one, or is as if it were alone. What a method makes
+of several calls of the library is one thing."""
 import contextlib
 import ctypes
-import pathlib
 import sys
 import threading
 from collections import Counter
 
-import bsdudp
 import pytest
-from packets import udp
+
+from tests.cases import TOP
+from tests.packets import HERE, datagram
+from tests.python.package import bsdudp
 
 THREADS = 3
 DATAGRAMS = 4_000
 HOME = "127.0.0.1"
-PACKAGE = str(pathlib.Path(bsdudp.__file__).parent)
+PACKAGE = str(TOP / "python/bsdudp")
 PR_SET_TIMERSLACK, PR_GET_TIMERSLACK = 29, 30
 
 
@@ -235,7 +236,7 @@ def test_many_threads():
 
 def test_lives():
     """Stacks of several threads begin and end at once. A large pool takes a while to begin."""
-    packet = udp("10.0.0.9", "10.0.0.1", 5000, 7, b"hello")
+    packet = datagram(b"hello", between=("10.0.0.9", HERE), ident=77)
 
     def run():
         for at in range(60):

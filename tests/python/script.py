@@ -1,10 +1,9 @@
 """A stack whose calls are written down as lines of `bsdudp run`, with the replies that its answers stand for."""
 import errno
+import socket as host
 import subprocess
 
-import bsdudp
-from bsdudp import _counters
-from conftest import PROGRAM
+from tests.python.package import bsdudp
 
 # 4.4BSD's numbers, as docs/script.md has them.
 NUMBERS = {
@@ -85,8 +84,6 @@ class Scripted:
         self._say(f"recvfrom {fd} {length}", call)
 
     def setsockopt(self, fd, name, on):
-        import socket as host
-
         option = {"broadcast": host.SO_BROADCAST, "reuseport": host.SO_REUSEPORT}[name]
         call = lambda: self._of(fd).setsockopt(host.SOL_SOCKET, option, on) or "ok"  # noqa: E731
         self._say(f"setsockopt {fd} {name} {on}", call)
@@ -125,13 +122,14 @@ class Scripted:
 
     def mbstat(self):
         def call():
-            it: _counters.MbStat = self.stack.mbstat
+            it = self.stack.mbstat
             return f"mbufs {it.free_mbufs}/{it.mbufs} clusters {it.free_clusters}/{it.clusters} refs {it.refs} most {it.most}"
 
         self._say("mbstat", call)
 
-    def check(self):
+    def check(self, program):
         """Plays the script by the program, and compares its replies."""
         script = "".join(f"{line}\n" for line in self.lines)
-        played = subprocess.run([PROGRAM, "run", *self.options], input=script, capture_output=True, text=True, check=True)
+        words = [program, "run", *self.options]
+        played = subprocess.run(words, input=script, capture_output=True, text=True, check=True)
         assert played.stdout.splitlines() == self.replies

@@ -1,9 +1,10 @@
-"""Random calls on a stack answer what the program replies to the same script."""
+"""Random calls on a stack, and the same as a script of the program."""
 from hypothesis import HealthCheck, settings
 from hypothesis import strategies as st
 from hypothesis.stateful import RuleBasedStateMachine, initialize, rule
-from packets import damaged, fragment, udp
-from script import Scripted
+
+from tests.packets import HERE, PEER, damaged, datagram, fragment
+from tests.python.script import Scripted
 
 fds = st.integers(3, 8)
 addresses = st.sampled_from(
@@ -18,7 +19,9 @@ data = st.one_of(
 
 
 class Calls(RuleBasedStateMachine):
-    """The calls of a script, drawn at random."""
+    """The calls of a script, drawn at random. `program` is the path of bsdudp."""
+
+    program = None
 
     @initialize(
         mtu=st.sampled_from([68, 576, 1500, 4352]), mbufs=st.sampled_from([8, 40, 512]), clusters=st.sampled_from([0, 4, 64])
@@ -61,16 +64,16 @@ class Calls(RuleBasedStateMachine):
 
     @rule(to=addresses, port=ports, octets=data)
     def rx(self, to, port, octets):
-        self.it.rx(udp("10.0.0.2", to, 5000, port, octets))
+        self.it.rx(datagram(octets, (5000, port), (PEER, to), ident=77))
 
     @rule(octets=data, first=st.integers(0, 100), count=st.integers(0, 100), ident=st.integers(0, 3))
     def rx_fragment(self, octets, first, count, ident):
-        whole = udp("10.0.0.2", "10.0.0.1", 5000, 7, octets, ident)
+        whole = datagram(octets, (5000, 7), (PEER, HERE), ident=ident)
         self.it.rx(fragment(whole, first, count))
 
     @rule(octets=st.binary(max_size=40), at=st.integers(0, 67), bit=st.integers(0, 7))
     def rx_damaged(self, octets, at, bit):
-        self.it.rx(damaged(udp("10.0.0.2", "10.0.0.1", 5000, 7, octets), at, bit))
+        self.it.rx(damaged(datagram(octets, ident=77), at, bit))
 
     @rule()
     def tx(self):
@@ -100,11 +103,11 @@ class Calls(RuleBasedStateMachine):
         if hasattr(self, "it"):
             self.it.stat()
             self.it.mbstat()
-            self.it.check()
+            self.it.check(self.program)
             self.it.stack.end()
 
 
-TestCalls = Calls.TestCase
-TestCalls.settings = settings(
-    max_examples=500, stateful_step_count=40, deadline=None, derandomize=True, suppress_health_check=list(HealthCheck)
-)
+SETTINGS = settings(
+    max_examples=500, stateful_step_count=40, deadline=None, derandomize=True, database=None,
+    suppress_health_check=list(HealthCheck),
+)  # fmt: skip

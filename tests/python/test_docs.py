@@ -9,9 +9,10 @@ import subprocess
 import sys
 import textwrap
 
-import bsdudp
 import pytest
-from conftest import TOP
+
+from tests.cases import TOP
+from tests.python.package import bsdudp
 
 PAGE = (TOP / "docs/python.md").read_text(encoding="utf-8")
 PIECES = re.findall(r"```python\n(.*?)```", PAGE, re.S)
@@ -49,15 +50,13 @@ def test_socket_methods():
     assert {name for name in re.findall(r"`(\w+)`", there)} - {"with", "__index__"} == methods
 
 
+@pytest.mark.needs("scapy")
 def test_pieces(tmp_path, monkeypatch):
     monkeypatch.chdir(tmp_path)
     names = {"__name__": "__reader__"}
     for piece in PIECES:
-        if "__main__" in piece:
-            continue
-        if "scapy" in piece:
-            pytest.importorskip("scapy.all")
-        run(piece, names)
+        if "__main__" not in piece:
+            run(piece, names)
 
 
 def test_readme(capsys):

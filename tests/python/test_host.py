@@ -1,11 +1,12 @@
 """`bsdudp.Host`: what it takes as arguments and frames, and what it tells. What its frames say is tried by
-.ci/ethernet."""
+tests/capi/test_ethernet.py."""
 import errno
+import importlib
 import ipaddress
 
 import pytest
 
-import bsdudp
+from tests.python.package import bsdudp
 
 ALL, HEAD = "ffffffffffff", "0806 0001 0800 0604"
 REQUEST = bytes.fromhex(f"{ALL} 020000000002 {HEAD} 0001 020000000002 0a000002 000000000000 0a000001")
@@ -139,8 +140,9 @@ def test_frames_are_bytes_or_have_an_ethernet_layer():
     host.receive(bytes(65549))
 
 
+@pytest.mark.needs("scapy")
 def test_scapys_frames():
-    layers = pytest.importorskip("scapy.layers.l2")
+    layers = importlib.import_module("scapy.layers.l2")
     host = bsdudp.Host()
     asked = layers.ARP(op=1, hwsrc="02:00:00:00:00:02", psrc="10.0.0.2", pdst="10.0.0.1")
     host.receive(layers.Ether(dst="ff:ff:ff:ff:ff:ff", src="02:00:00:00:00:02") / asked)

@@ -1,19 +1,21 @@
-"""Random wires: what was received was sent, whole, to that address and port; every pool is full again at the end."""
-import bsdudp
+"""Wires: the numbers that their choices are made of, what comes through, captures and refusals."""
+import importlib
+import socket as host
+
 import pytest
-from bsdudp._pcg import Pcg32, limit_of
-from hypothesis import given, settings
-from hypothesis import strategies as st
+
+from tests.python.package import bsdudp
 
 
 def test_numbers():
     """The numbers of PCG's own demonstration program, for the state 42 and the stream 54."""
-    random = Pcg32(42, 54)
+    random = bsdudp._pcg.Pcg32(42, 54)
     wanted = [0xA15C02B7, 0x7B47F409, 0xBA1D3330, 0x83D2F293, 0xBFA4784B, 0xCBED606E]
     assert [random.next_u32() for _ in range(6)] == wanted
 
 
 def test_limits():
+    limit_of = bsdudp._pcg.limit_of
     assert limit_of("loss", 0.5) == 1 << 31
     assert limit_of("loss", 1) == 1 << 32
     assert limit_of("loss", "0.05") == (1 << 32) // 20
@@ -22,48 +24,9 @@ def test_limits():
             limit_of("loss", wrong)
 
 
-@settings(max_examples=60, deadline=None, derandomize=True)
-@given(
-    seed=st.integers(0, 2**64 - 1),
-    loss=st.sampled_from([0, 0.05, 0.3, 1]),
-    repeat=st.sampled_from([0, 0.1, 1]),
-    reorder=st.sampled_from([0, 0.2, 1]),
-    delay=st.sampled_from([(0, 0), (0, 3), (2, 5)]),
-    sends=st.lists(st.tuples(st.integers(0, 2), st.integers(0, 2), st.integers(0, 9_216)), max_size=20),
-)
-def test_what_comes_was_sent(seed, loss, repeat, reorder, delay, sends):
-    stacks = [bsdudp.Stack(f"10.0.0.{at + 1}", mtu=(576, 1500, 296)[at], first_id=at * 1000) for at in range(3)]
-    sockets = []
-    for stack in stacks:
-        it = stack.socket()
-        it.bind(("", 7))
-        sockets.append(it)
-    wire = bsdudp.Wire(stacks, loss, repeat, reorder, delay, seed)
-    sent, received = set(), []
-    for number, (source, to, length) in enumerate(sends):
-        data = bytes((number + at) % 251 for at in range(length))
-        sockets[source].sendto(data, (stacks[to].addr, 7))
-        sent.add((stacks[source].addr, to, data))
-        wire.carry()
-        for at, it in enumerate(sockets):
-            while it.waiting:
-                data, (sender, port) = it.recvfrom()
-                received.append((sender, at, data))
-                assert port == 7
-    assert wire.run()
-    for at, it in enumerate(sockets):
-        while it.waiting:
-            data, (sender, _) = it.recvfrom()
-            received.append((sender, at, data))
-    assert set(received) <= sent
-    if not loss and not reorder and delay[0] == delay[1]:
-        assert set(received) == sent
-    for stack, it in zip(stacks, sockets):
-        it.close()
-        stack.tick(60)
-        usage = stack.mbstat
-        assert (usage.free_mbufs, usage.free_clusters) == (usage.mbufs, usage.clusters)
-        stack.end()
+@pytest.mark.needs("hypothesis")
+def test_what_comes_was_sent():
+    importlib.import_module("tests.python.random_wires").what_comes_was_sent()
 
 
 def lossy_run(seed):
@@ -95,8 +58,6 @@ def test_broadcast():
         it = stack.socket()
         it.bind(("", 7))
         sockets.append(it)
-    import socket as host
-
     sockets[0].setsockopt(host.SOL_SOCKET, host.SO_BROADCAST, 1)
     sockets[0].sendto(b"all", ("10.0.0.255", 7))
     wire = bsdudp.Wire(stacks)
@@ -136,8 +97,9 @@ def test_tick():
         assert other.unfinished == [] and other.counters["ip.fragtimeout"] == 1
 
 
+@pytest.mark.needs("scapy")
 def test_pcap(tmp_path):
-    scapy = pytest.importorskip("scapy.all")
+    scapy = importlib.import_module("scapy.all")
     with bsdudp.Stack("10.0.0.1") as one, bsdudp.Stack("10.0.0.2") as other:
         wire = bsdudp.Wire([one, other])
         with pytest.raises(RuntimeError):

@@ -1,14 +1,10 @@
-"""The wire of `bsdplay` makes the same choices as this package's, by the same seed, and its capture has what went. Left
-out without the program, whose path BSDPLAY tells."""
-import os
+"""The wire of `bsdplay` makes the same choices as this package's, by the same seed, and its capture has what went."""
 import re
 import struct
 import subprocess
 
-import bsdudp
-import pytest
+from tests.python.package import bsdudp
 
-PROGRAM = os.environ.get("BSDPLAY")
 HOSTS = [("a", "10.0.0.1", 576), ("b", "10.0.0.2", 1500), ("c", "10.0.0.3", 296)]
 ROUNDS = 40
 LENGTHS = [3, 700, 1, 2_500, 0, 9_000]
@@ -33,11 +29,11 @@ def script():
     return "\n".join(lines + ["carry all", "summary"]) + "\n"
 
 
-def flights_of_program(tmp_path):
+def flights_of_program(program, tmp_path):
     """What is under way after each round, and what was counted of each host, as the program tells it."""
     path = tmp_path / "choices.txt"
     path.write_text(script())
-    command = [PROGRAM, "--quiet", "--pcap", tmp_path / "wire.pcap", path]
+    command = [program, "--quiet", "--pcap", tmp_path / "wire.pcap", path]
     told = subprocess.run(command, capture_output=True, text=True, check=True).stdout
     flights, counts = [], []
     for line in told.splitlines():
@@ -64,9 +60,8 @@ def packets_of(path):
     return packets
 
 
-@pytest.mark.skipif(not PROGRAM, reason="BSDPLAY doesn't name the program")
-def test_the_same_choices(tmp_path):
-    flights, counts = flights_of_program(tmp_path)
+def test_the_same_choices(tmp_path, bsdplay):
+    flights, counts = flights_of_program(bsdplay, tmp_path)
     stacks = [bsdudp.Stack(addr, mtu=mtu) for _, addr, mtu in HOSTS]
     sockets = []
     for stack in stacks:
