@@ -1,15 +1,14 @@
-#!/usr/bin/env python3
 """Adapters that answer nonsense, die, hang or flood: each costs the cases it was in, is named, and the run goes on."""
-import pathlib
+import functools
 import sys
 import tempfile
+
+import pytest
 
 from bsdudp_conform import _adapter, cases
 from bsdudp_conform._judge import judge
 
-sys.dont_write_bytecode = True
-sys.path.insert(0, str(pathlib.Path(__file__).resolve().parent.parent.parent))
-from tools import command_line  # noqa: E402
+pytestmark = pytest.mark.needs("scapy")
 
 HEAD = """
 import os, sys, time
@@ -44,43 +43,36 @@ BAD = {
 NONSENSE = "import time; print('nonsense', flush=True); print('end', flush=True); time.sleep(9)"
 
 
-def told(body, chosen):
+REFUSED = [(["/nonexistent"], "can't be run"), (["true"], "it ended with status 0")]
+REFUSED += [([sys.executable, "-c", NONSENSE], "it answers")]
+
+
+@functools.lru_cache(maxsize=None)
+def chosen():
+    return [it for it in cases.make(1, 0) if it.rule == "ip.version"]
+
+
+def told(body):
     """What is said of the case in which an adapter is bad, and how many others have a fault."""
     with tempfile.NamedTemporaryFile("w", suffix=".py") as file:
         file.write(HEAD % body)
         file.flush()
-        judged = judge([sys.executable, file.name], chosen, timeout=1, progress=False)
+        judged = judge([sys.executable, file.name], chosen(), timeout=1, progress=False)
     faults = {name: it.fault for name, it in judged.answers.items() if it.fault}
     return faults.pop("ip.version:3", ""), faults, len(judged.answers)
 
 
-def main():
-    command_line.none(__doc__)
-    status = 0
-    _adapter.MOST_BYTES = 4 << 20
-    chosen = [it for it in cases.make(1, 0) if it.rule == "ip.version"]
-    for body, wanted in BAD.items():
-        fault, others, answers = told(body, chosen)
-        if wanted and (wanted not in fault or others or answers != len(chosen)):
-            print(
-                f"conform: an adapter that does {body}: {fault!r} is said of it, and of others {others}",
-                file=sys.stderr,
-            )
-            status = 1
-    for words, wanted in (
-        (["/nonexistent"], "can't be run"),
-        (["true"], "it ended with status 0"),
-        ([sys.executable, "-c", NONSENSE], "it answers"),
-    ):
-        try:
-            judge(words, chosen, timeout=1, progress=False)
-            fault = ""
-        except _adapter.Fault as it:
-            fault = str(it)
-        if wanted not in fault:
-            print(f"conform: the adapter {words}: {fault!r} is said of it", file=sys.stderr)
-            status = 1
-    return status
+@pytest.mark.slow
+@pytest.mark.parametrize("body", BAD)
+def test_bad_adapter(body, monkeypatch):
+    monkeypatch.setattr(_adapter, "MOST_BYTES", 4 << 20)
+    fault, others, answers = told(body)
+    if BAD[body]:
+        assert BAD[body] in fault and not others and answers == len(chosen())
 
 
-sys.exit(main())
+@pytest.mark.parametrize("words, wanted", REFUSED)
+def test_no_adapter(words, wanted):
+    with pytest.raises(_adapter.Fault) as fault:
+        judge(words, chosen(), timeout=1, progress=False)
+    assert wanted in str(fault.value)
