@@ -1,23 +1,20 @@
-#!/usr/bin/env python3
-"""Sees in what is built that nothing asks for host memory after boot. It reads the LLVM modules of both static
-libraries, in which nothing is inlined yet and each function stands under its own name, and follows what functions name.
+"""Nothing asks for host memory after boot. This reads the LLVM modules of both static libraries, in which nothing is
+inlined yet and each function stands under its own name, and follows what functions name.
 
 What a function names it may reach, whether it calls it, takes its address or reads it: another function, or a constant
-and what stands in that, such as a table of functions. In libbsdudp each export but the two that boot may reach no function outside
-the module but LLVM's own and the one that gives memory back, and nothing that calls by an address or an assembler's
-text: who is called there can't be seen. In the page's library the same holds of what serves a script when memory was
-taken, and of what ends it. It's silent where all is well; else it tells each way from an export to such a function.
-portable/module makes the modules, if .ci/modules hasn't."""
+and what stands in that, such as a table of functions. In libbsdudp each export but the two that boot may reach no
+function outside the module but LLVM's own and the one that gives memory back, and nothing that calls by an address or
+an assembler's text: who is called there can't be seen. In the page's library the same holds of what serves a script
+when memory was taken, and of what ends it."""
 import pathlib
 import re
-import sys
 import tempfile
 
-sys.dont_write_bytecode = True
-TOP = pathlib.Path(__file__).resolve().parent.parent
-sys.path.insert(0, str(TOP))
-from tools import command_line, llvm  # noqa: E402
+import pytest
 
+from tools import llvm
+
+pytestmark = [pytest.mark.slow, pytest.mark.needs("rt", "wasm-opt"), pytest.mark.xdist_group("modules")]
 BOOTS = ("bsdudp_core_boot", "bsdudp_core_ether_boot")
 HARMLESS = re.compile(r"llvm\.(?!coro\.)|rattle_dealloc$")
 # What is called in the page's library after memory was taken, and by that the answer to a line. Each has to be there.
@@ -56,13 +53,11 @@ def plain(name):
 class Module:
     """What each function and constant names, which are exports, which aren't in it, and who calls by an address."""
 
-    def __init__(self, crate, folder):
-        kit = llvm.keep(crate, TOP / folder)
+    def __init__(self, path):
         with tempfile.TemporaryDirectory() as room:
-            text = llvm.readable(TOP / folder / f"{crate}.bc", kit, pathlib.Path(room))
-        if "\nmodule asm" in text:
-            sys.exit(f".ci/growth: {crate} has an assembler's text of its own")
-        self.crate, self.names, self.exports, self.outside, self.blind = crate, {}, [], set(), set()
+            text = llvm.readable(path, llvm.toolchain_of(path.stem), pathlib.Path(room))
+        assert "\nmodule asm" not in text, f"{path.stem} has an assembler's text of its own"
+        self.crate, self.names, self.exports, self.outside, self.blind = path.stem, {}, [], set(), set()
         inside = None
         for line in text.split("\n"):
             named = [it[1] or it[2] for it in NAME.finditer(line) if it[0][0] == "@"]
@@ -82,7 +77,9 @@ class Module:
 
     def called(self, name):
         """The functions of this name, for whatever types."""
-        return [it for it in self.names if plain(it) == name] or sys.exit(f".ci/growth: {self.crate} has no {name}")
+        found = [it for it in self.names if plain(it) == name]
+        assert found, f"{self.crate} has no {name}"
+        return found
 
     def reached(self, root):
         """Each name that is reached from one, with the name by which it's reached first."""
@@ -104,24 +101,33 @@ class Module:
                     yield f"{self.crate}: after boot {' > '.join(map(plain, way))}, which {said}"
 
 
-def main():
-    command_line.none(__doc__)
-    core, page = Module("libbsdudp", "portable/out"), Module("page", "page/out")
-    for boot in BOOTS:
-        if not any(core.faults(core.called(boot))) or len(core.exports) <= len(BOOTS):
-            sys.exit(f".ci/growth: {boot} asks for no memory, or is alone, so nothing is seen of what an export does")
-    serve = page.called(SERVE)
-    for answer in SERVED:
-        if not any(plain(it) == answer for root in serve for it in page.reached(root)):
-            sys.exit(f".ci/growth: no {SERVE} of the page reaches {answer}")
-    faults = [*core.faults(it for it in core.exports if it not in BOOTS)]
-    faults += page.faults([*serve, *(it for name in ENDS for it in page.called(name))])
-    print(*faults, sep="\n", end="\n" if faults else "", file=sys.stderr)
-    return 1 if faults else 0
+@pytest.fixture(scope="module")
+def of_library(module):
+    return Module(module("libbsdudp"))
 
 
-if __name__ == "__main__":
-    try:
-        sys.exit(main())
-    except llvm.Stop as why:
-        sys.exit(f".ci/growth: {why}")
+@pytest.fixture(scope="module")
+def of_page(module):
+    return Module(module("page"))
+
+
+@pytest.mark.parametrize("boot", BOOTS)
+def test_boot_is_seen_to_ask(boot, of_library):
+    """Else nothing would be seen of what an export does."""
+    assert any(of_library.faults(of_library.called(boot)))
+
+
+def test_no_export_asks_but_boot(of_library):
+    others = [it for it in of_library.exports if it not in BOOTS]
+    assert others, "boot is alone"
+    assert not list(of_library.faults(others))
+
+
+@pytest.mark.parametrize("answer", SERVED)
+def test_page_serves_by(answer, of_page):
+    """What is looked at of the page leads to each answer to a line."""
+    assert any(plain(it) == answer for root in of_page.called(SERVE) for it in of_page.reached(root))
+
+
+def test_page_asks_for_nothing_once_it_serves(of_page):
+    assert not list(of_page.faults([*of_page.called(SERVE), *(it for name in ENDS for it in of_page.called(name))]))
