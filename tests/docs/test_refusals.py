@@ -16,7 +16,7 @@ NAMES = {
 }
 NUMBERS = {
     "capi/include/bsdudp.h": r"BSDUDP_(?P<name>E[A-Z]+) = (?P<number>\d+)",
-    "python/tests/script.py": r'"(?P<name>E[A-Z]+)": (?P<number>\d+),',
+    "tests/python/script.py": r'"(?P<name>E[A-Z]+)": (?P<number>\d+),',
     "python/bsdudp/_library.py": r'(?m)^    (?P<number>\d+): Refusal\("(?P<name>E[A-Z]+)"',
 }
 
