@@ -212,7 +212,7 @@ SESSIONS = {
         },
     ),
     "a judge": Session(
-        "docs/conform.md",
+        "docs/judge.md",
         [
             "bsdudp-conform template mine",
             "cc -Imine mine/template.c YOUR_STACK.. -o adapter",
@@ -235,6 +235,7 @@ UNTRIED = {
     "pip install scapy": "it takes the network; Debian's package is tried",
     "nc -u 10.0.0.1 7": "a test of tap_host sends the same datagrams by a socket",
     "tcpdump -e -i tap0": "it shows what a test of tap_host reads by tshark",
+    "conform/stacks FOLDER": "tests/conform judges the same stacks, one by one",
     "tcpdump -s 60": "it takes a network card",
     "bench/run.sh NAME": "measurements are made by hand",
     "bench/run.sh stack": "measurements are made by hand",
