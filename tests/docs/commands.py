@@ -237,7 +237,6 @@ UNTRIED = {
     "tcpdump -e -i tap0": "it shows what a test of tap_host reads by tshark",
     "conform/stacks FOLDER": "tests/conform judges the same stacks, one by one",
     "tcpdump -s 60": "it takes a network card",
-    "bench/run.sh NAME": "measurements are made by hand",
     "bench/run.sh stack": "measurements are made by hand",
     "grep -rnw IsUnshared crates/*/specs": "it looks for a word",
     ".ci/wrong-bodies --all *": "it takes hours, before a version",

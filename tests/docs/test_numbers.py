@@ -13,7 +13,7 @@ from tools import crates
 PERFORMANCE = "docs/performance.md"
 LENGTHS = ["2 bytes", "1,472", "9,000"]
 ALONE = ("A datagram from one stack to another", ["Datagram", *LENGTHS])
-BESIDE = ("Beside lwIP", ["", *LENGTHS, "seven fragments"])
+BESIDE = ("Compared with lwIP", ["", *LENGTHS, "seven fragments"])
 
 
 # ---- what is counted -----------------------------------------------------------------------------------------------
