@@ -10,7 +10,7 @@ import pytest
 from tests.docs.pages import TOP, Fault, in_code, lines, none_of, read, sources_of, table
 from tools import crates, edits
 
-ARCHITECTURE = "docs/architecture.md"
+ARCHITECTURE = "docs/maintain/architecture.md"
 
 
 # ---- which there are -----------------------------------------------------------------------------------------------
@@ -44,7 +44,7 @@ def test_each_crate_has_a_line(path):
 
 
 def test_layers_name_what_they_use():
-    """docs/architecture.md lists under "Stands on" only what a crate uses."""
+    """The architecture lists under "Stands on" only what a crate uses."""
     used = crates.uses()
     none_of(
         Fault(row.place, f"{name} doesn't use {it}")
@@ -85,7 +85,7 @@ def sources() -> dict[str, str]:
 
 
 def test_calls_on_the_way_of_a_packet():
-    """docs/architecture.md names calls that their crates have, and that another crate of the stack makes."""
+    """The architecture names calls that their crates have, and that another crate of the stack makes."""
     faults, stack, before = [], sources(), read(ARCHITECTURE).partition("## The way of a packet")[0]
     text = read(ARCHITECTURE).partition("## The way of a packet")[2].partition("\n## ")[0]
     callers = [name for name in stack if not re.search(r"_tests$|^bench_|^callers$", name)]

@@ -79,9 +79,9 @@ COUNTED = [
     ),
     ("README.md", "lwIP takes N as Debian", lambda: cell_of(PERFORMANCE, *BESIDE, "lwIP `-O2`", 1)),
     ("README.md", "and N at its best", lambda: cell_of(PERFORMANCE, *BESIDE, "the same, pools for its heap", 1)),
-    ("docs/architecture.md", "passes through N functions in", lambda: walk()[0]),
-    ("docs/architecture.md", "functions in N files of", lambda: walk()[1]),
-    ("docs/architecture.md", "files of N crates", lambda: walk()[2]),
+    ("docs/maintain/architecture.md", "passes through N functions in", lambda: walk()[0]),
+    ("docs/maintain/architecture.md", "functions in N files of", lambda: walk()[1]),
+    ("docs/maintain/architecture.md", "files of N crates", lambda: walk()[2]),
     ("docs/proved.md", "`bsdudp_core_sendto` and N more", exports),
     ("docs/security.md", "take at most N bytes each", deepest),
 ]
