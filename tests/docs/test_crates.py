@@ -26,7 +26,7 @@ def lists() -> dict[str, list[str]]:
 
 
 def layers() -> list:
-    return table(ARCHITECTURE, "What each layer shows", "Crate", "Stands on", "What its contract shows")[1]
+    return table(ARCHITECTURE, "What each layer shows", "Crate", "Uses", "What its contract shows")[1]
 
 
 @pytest.mark.parametrize("path", ["crates.txt", "crates/README.md", ARCHITECTURE])
@@ -44,7 +44,7 @@ def test_each_crate_has_a_line(path):
 
 
 def test_layers_name_what_they_use():
-    """The architecture lists under "Stands on" only what a crate uses."""
+    """The architecture lists under "Uses" only what a crate uses."""
     used = crates.uses()
     none_of(
         Fault(row.place, f"{name} doesn't use {it}")
@@ -86,8 +86,8 @@ def sources() -> dict[str, str]:
 
 def test_calls_on_the_way_of_a_packet():
     """The architecture names calls that their crates have, and that another crate of the stack makes."""
-    faults, stack, before = [], sources(), read(ARCHITECTURE).partition("## The way of a packet")[0]
-    text = read(ARCHITECTURE).partition("## The way of a packet")[2].partition("\n## ")[0]
+    faults, stack, before = [], sources(), read(ARCHITECTURE).partition("## The path of a packet")[0]
+    text = read(ARCHITECTURE).partition("## The path of a packet")[2].partition("\n## ")[0]
     callers = [name for name in stack if not re.search(r"_tests$|^bench_|^callers$", name)]
     for it in re.finditer(rf"\b({'|'.join(stack)})::(\w+)((?:, \w+(?=[:\s,`]))*)", text):
         place = f"{ARCHITECTURE}:{before.count(chr(10)) + text.count(chr(10), 0, it.start()) + 1}"
