@@ -36,6 +36,9 @@ COVERED = "            del self.pieces[place]\n        self.pieces.insert"
 DATA = "        data: bytes | None = packet"
 RECEIVERS = "        for it in self.receivers("
 ADDRESS = "            address = "
+KNOWN = """        it = self.unfinished.setdefault(key, Unfinished(self.now))
+        self.known = it.known = getattr(it, "known", None) or [(one, one.peer) for one in self.sockets]
+"""
 
 # A fault, pairs of old and new text of small_stack.py, and the rule that has to name it.
 FAULTS = [
@@ -117,6 +120,40 @@ FAULTS = [
         "a peer's address is compared by its last byte",
         [(PEER, "(it.peer is None or it.peer[0] % 256 == sender[0] % 256 and it.peer[1] == sender[1])]")],
         "socket.connected",
+    ),
+    (
+        "a broadcast's copies have the first 100 bytes alone",
+        [("data[8:length], it.number)", "data[8 : length if destination == HOST or not it.number else 108], it.number)")],
+        "socket.several",
+    ),
+    (
+        "a peer isn't compared for a broadcast",
+        [(PEER, "(it.peer in (None, sender) or destination != HOST)]")],
+        "socket.connected",
+    ),
+    (
+        "sockets and peers are those of the time when the first of the fragments came",
+        [
+            ("        it = self.unfinished.setdefault(key, Unfinished(self.now))\n", KNOWN),
+            ("for it in self.sockets if", "for it, peer in (self.known if cut else [(it, it.peer) for it in self.sockets]) if"),
+            (PEER, "peer in (None, sender)]"),
+        ],
+        "socket.",
+    ),
+    (
+        "source and identification are compared by their sum",
+        [("((source, destination, id, protocol),", "((source + id, destination, 0, protocol),")],
+        "frag.key",
+    ),
+    (
+        "protocol and identification are compared by their exclusive or",
+        [("((source, destination, id, protocol),", "((source, destination, id ^ protocol, 0),")],
+        "frag.key",
+    ),
+    (
+        "of several datagrams that expire at once the first alone is freed",
+        [("if self.now - it.born >= LIFE_MS]:", "if self.now - it.born >= LIFE_MS][:1]:")],
+        "frag.time.drop",
     ),
 ]
 

@@ -10,9 +10,9 @@ from .._case import Case
 from ._addresses import add_addresses
 from ._builder import Builder
 from ._datagrams import add_datagrams
-from ._fragments import add_fragments
+from ._fragments import add_fragments, add_keys_of_one_sum
 from ._headers import add_headers
-from ._limits import add_ends_of_another, add_limits
+from ._limits import add_ends_of_another, add_ends_of_several, add_limits
 from ._mixes import add_mixes, add_runs
 from ._overlaps import add_overlaps, add_overlaps_without_checksum
 from ._pings import add_pings
@@ -32,6 +32,8 @@ def make(seed: int = 1, mixes: int = MIXES) -> List[Case]:
         add_overlaps_without_checksum(to)
         add_ends_of_another(to)
         add_peers(to)
+        add_ends_of_several(to)
+        add_keys_of_one_sum(to)
     add_mixes(to, mixes)
     return to.cases
 

@@ -5,7 +5,7 @@ from typing import Any, Dict, List
 
 from .._addresses import BROADCAST, HOST, PEER, PEER2, ZERO_BROADCAST, address
 from .._case import Connect, Open, Send, Step
-from .._packets import packet, pieces, udp
+from .._packets import even_cuts, packet, pieces, udp
 from ._builder import Builder, Given, both_ways
 from ._datagrams import data_with_sum_zero
 from ._fragments import PATTERNS, in_pattern
@@ -135,6 +135,43 @@ def add_connected_anew(to: Builder) -> None:
     to.add("socket.connected", name, [joined, one, anew, other])
 
 
+def add_sockets_between_fragments(to: Builder) -> None:
+    """A datagram's socket is looked up once the datagram is whole."""
+    for way, (one, other) in both_ways(cut(to, dport=OTHER_PORT)):
+        name = f"a socket is bound between two fragments for its port, {way}"
+        to.add("socket.ports", name, [one, Open(1, OTHER_PORT), other])
+    for way, (one, other) in both_ways(cut(to, source=PEER2)):
+        name = f"a socket is connected between two fragments of a stranger, {way}"
+        to.add("socket.connected", name, [one, Connect(0, PEER, 5000), other])
+
+
+def add_broadcasts(to: Builder) -> None:
+    """A broadcast of a stranger, and broadcasts of more bytes than one buffer may hold for several sockets."""
+    joined, second = Connect(0, PEER, 5000), Open(1, 7)
+    for name, sender in {"another address": {"source": PEER2}, "another port": {"sport": 5001}}.items():
+        stranger = at(to, destination=BROADCAST, **sender)
+        to.add("socket.connected", f"a stranger's broadcast: {name}", [joined, stranger])
+        to.add("socket.connected", f"a stranger's broadcast: {name}; a second socket", [second, joined, stranger])
+    for count in (2, 3):
+        opened = [Open(number, 7) for number in range(1, count)]
+        for size in (200, 500, 1400, 3000):
+            data = udp(to.data(size), destination=BROADCAST)
+            made = pieces(data, even_cuts(len(data), 1480), destination=BROADCAST, id=to.id)
+            to.add("socket.several", f"{count} sockets on the port, a broadcast of {size} bytes", [*opened, *made])
+
+
+def add_sends_of_two(to: Builder) -> None:
+    """Sends by two sockets: the ports are each socket's own, the identifications are the host's."""
+    second = Open(1, OTHER_PORT)
+    for rule, length in (("send.bytes", 10), ("send.cut", 2000)):
+        one, other = (Send(number, PEER, 5000, to.data(length)) for number in (0, 1))
+        to.add(rule, f"{length} bytes by a second socket", [second, other])
+        to.add(rule, f"{length} bytes by each of two sockets, in turn", [second, one, other, one, other])
+    for length in (2000, 4000):
+        one, other = (Send(number, PEER, 5000, to.data(length)) for number in (0, 1))
+        to.add("send.id", f"cut sends of {length} bytes by two sockets, in turn", [second, one, other, one, other])
+
+
 def add_several(to: Builder) -> None:
     second: Step = Open(1, 7)
     to.add("socket.several", "two sockets on the port", [second, at(to)])
@@ -167,6 +204,9 @@ def add_peers(to: Builder) -> None:
     add_ports_of_fragments(to)
     add_strangers(to)
     add_connected_anew(to)
+    add_sockets_between_fragments(to)
+    add_broadcasts(to)
+    add_sends_of_two(to)
 
 
 def add_sends(to: Builder) -> None:
