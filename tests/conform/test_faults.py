@@ -1,23 +1,20 @@
 """Faults of reassembly and of sockets, each planted in small_stack.py: the judge has to name it by its own rule, and in
 nothing says of the stack without a fault."""
 import functools
-import os
 import pathlib
 import sys
 
 import pytest
 
-from tests.cases import TOP
-
-sys.path.insert(0, str(TOP / "conform"))
-
-from bsdudp_conform import cases  # noqa: E402
-from bsdudp_conform._judge import judge  # noqa: E402
+from bsdudp_conform import cases
+from bsdudp_conform._judge import judge
+from tests.conform.conftest import PATHS
 
 pytestmark = [pytest.mark.slow, pytest.mark.needs("scapy")]
 STACK = pathlib.Path(__file__).with_name("small_stack.py")
 RULES = ("frag.hole", "frag.overlap", "frag.time", "frag.key", "udp.ports", "udp.source", "socket.")
 PEER = "it.peer in (None, sender)]"
+FOUND = f"found = [it for it in self.sockets if it.port == port and {PEER}"
 EXPIRED = """for key in [key for key, it in self.unfinished.items() if self.now - it.born >= LIFE_MS]:
             del self.unfinished[key]"""
 WITH_THE_NEXT = """old = [key for key, it in self.unfinished.items() if self.now - it.born >= LIFE_MS]
@@ -123,7 +120,7 @@ FAULTS = [
     ),
     (
         "a broadcast's copies have the first 100 bytes alone",
-        [("data[8:length], it.number)", "data[8 : length if destination == HOST or not it.number else 108], it.number)")],
+        [("data[8:length], it.number)", "data[8 : 108 if it.number and destination != HOST else length], it.number)")],
         "socket.several",
     ),
     (
@@ -135,8 +132,8 @@ FAULTS = [
         "sockets and peers are those of the time when the first of the fragments came",
         [
             ("        it = self.unfinished.setdefault(key, Unfinished(self.now))\n", KNOWN),
-            ("for it in self.sockets if", "for it, peer in (self.known if cut else [(it, it.peer) for it in self.sockets]) if"),
-            (PEER, "peer in (None, sender)]"),
+            (FOUND, "found = [it for it, peer in self.known if it.port == port and peer in (None, sender)]"),
+            (DATA, f"        self.known = [(it, it.peer) for it in self.sockets]\n{DATA}"),
         ],
         "socket.",
     ),
@@ -177,8 +174,7 @@ def broken(edits, room):
 
 @pytest.fixture(autouse=True)
 def for_adapters(monkeypatch):
-    folders = [str(TOP / "conform"), os.environ.get("PYTHONPATH", "")]
-    monkeypatch.setenv("PYTHONPATH", os.pathsep.join(filter(None, folders)))
+    monkeypatch.setenv("PYTHONPATH", PATHS)
 
 
 def test_the_stack_without_a_fault_breaks_nothing(tmp_path):

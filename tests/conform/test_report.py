@@ -1,21 +1,16 @@
 """What the judge says of a deviation: how many cases have it, and who it says sent a datagram."""
 import functools
 import re
-import sys
 
 import pytest
 
-from tests.cases import TOP
-
-sys.path.insert(0, str(TOP / "conform"))
-
-from bsdudp_conform._addresses import PEER, PEER2  # noqa: E402
-from bsdudp_conform._case import Answer, Case, Connect, Got, Receive  # noqa: E402
-from bsdudp_conform._html import html  # noqa: E402
-from bsdudp_conform._judge import Deviation, Judged  # noqa: E402
-from bsdudp_conform._packets import packet, pieces, udp  # noqa: E402
-from bsdudp_conform._report import text  # noqa: E402
-from bsdudp_conform._verdict import verdict  # noqa: E402
+from bsdudp_conform._addresses import PEER, PEER2
+from bsdudp_conform._case import Answer, Case, Connect, Got, Receive
+from bsdudp_conform._html import html
+from bsdudp_conform._judge import Deviation, Judged
+from bsdudp_conform._packets import packet, pieces, udp
+from bsdudp_conform._report import text
+from bsdudp_conform._verdict import verdict
 
 pytestmark = pytest.mark.needs("scapy")
 
