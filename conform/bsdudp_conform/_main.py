@@ -130,6 +130,19 @@ def commands_of(words: argparse.Namespace) -> List[List[str]]:
 
 
 def main(argv: Optional[Sequence[str]] = None) -> int:
+    """Runs the command. If nobody reads standard output any more, as in `run --list | head`, it ends without a message
+    and with status 1, since its verdict wasn't read. (An adapter's pipes are _adapter's.)"""
+    try:
+        try:
+            return command(argv)
+        finally:
+            sys.stdout.flush()
+    except BrokenPipeError:
+        os.dup2(os.open(os.devnull, os.O_WRONLY), sys.stdout.fileno())
+        return DEVIATES
+
+
+def command(argv: Optional[Sequence[str]]) -> int:
     top = parser()
     words = top.parse_args(argv)
     if words.what == "template":

@@ -340,7 +340,7 @@ def may_have_datagrams(path: pathlib.Path):
 def busiest(rows):
     """The two hosts that most datagrams and fragments go to."""
     to = collections.Counter(
-        row["ip.dst"] for row in rows.values() if row["ip.proto"] == "17" or row.get("ip.flags.mf") in ("1", "True")
+        row["ip.dst"] for row in rows.values() if row.get("ip.proto") == "17" or row.get("ip.flags.mf") in ("1", "True")
     )
     hosts = [it for it, _ in to.most_common() if 0 < int(it.split(".")[0]) < 224 and not it.startswith("127.")]
     return hosts[:2]

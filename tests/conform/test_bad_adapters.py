@@ -32,19 +32,19 @@ BAD = {
     "print('got 7 10.0.0.2 5000 00')": "which isn't a line of an adapter",
     "sys.exit(4)": "it ended with status 4",
     "os.kill(os.getpid(), 11)": "it ended by signal 11 (SIGSEGV)",
-    "time.sleep(60)": "it hangs: no end of the answer in 1 s",
-    "os.close(1); time.sleep(60)": "it closed its standard output or input",
+    "time.sleep(600)": "it hangs: no end of the answer in 8 s",
+    "os.close(1); time.sleep(600)": "it closed its standard output or input",
     "[print('note ' + 'x' * 100000) for _ in range(10 ** 6)]": "it floods: more than",
     "print('crash of the stack')": "the stack crashes: of the stack",
-    "print('end'); print('case other')": "",
+    "print('end'); print('case other')": "it says 'end', which isn't a line of an adapter",
 }
 
 
-NONSENSE = "import time; print('nonsense', flush=True); print('end', flush=True); time.sleep(9)"
-
-
+NONSENSE = "import time; print('nonsense', flush=True); print('end', flush=True); time.sleep(600)"
 REFUSED = [(["/nonexistent"], "can't be run"), (["true"], "it ended with status 0")]
 REFUSED += [([sys.executable, "-c", NONSENSE], "it answers")]
+# How long an adapter may take, in seconds: on a busy machine one that is well takes 2 to begin.
+LIMIT, OF_ONE_THAT_HANGS = 60, 8
 
 
 @functools.lru_cache(maxsize=None)
@@ -57,7 +57,8 @@ def told(body):
     with tempfile.NamedTemporaryFile("w", suffix=".py") as file:
         file.write(HEAD % body)
         file.flush()
-        judged = judge([sys.executable, file.name], chosen(), timeout=1, progress=False)
+        limit = OF_ONE_THAT_HANGS if "it hangs" in BAD[body] else LIMIT
+        judged = judge([sys.executable, file.name], chosen(), timeout=limit, progress=False)
     faults = {name: it.fault for name, it in judged.answers.items() if it.fault}
     return faults.pop("ip.version:3", ""), faults, len(judged.answers)
 
@@ -67,12 +68,12 @@ def told(body):
 def test_bad_adapter(body, monkeypatch):
     monkeypatch.setattr(_adapter, "MOST_BYTES", 4 << 20)
     fault, others, answers = told(body)
-    if BAD[body]:
-        assert BAD[body] in fault and not others and answers == len(chosen())
+    assert BAD[body] in fault
+    assert not others and answers == len(chosen())
 
 
 @pytest.mark.parametrize("words, wanted", REFUSED)
 def test_no_adapter(words, wanted):
     with pytest.raises(_adapter.Fault) as fault:
-        judge(words, chosen(), timeout=1, progress=False)
+        judge(words, chosen(), timeout=LIMIT, progress=False)
     assert wanted in str(fault.value)

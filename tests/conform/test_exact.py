@@ -1,5 +1,5 @@
-"""The reference machine at 4.4BSD's settings answers every case as the program does, byte
-for byte: each delivery with its step, sender and socket, each packet that leaves, each refusal."""
+"""The reference machine at 4.4BSD's settings answers every case as the program does, byte for byte: each delivery with
+its step, sender and socket, each packet that leaves, each refusal."""
 import sys
 from collections import Counter
 
@@ -9,6 +9,7 @@ from bsdudp_conform import cases
 from bsdudp_conform._adapter import Adapter
 from bsdudp_conform._freedom import BSD, Path
 from bsdudp_conform._machine import play
+from tests.conform.conftest import PATHS
 
 ADAPTER = [sys.executable, "-m", "bsdudp_conform.adapters.bsdudp"]
 
@@ -21,7 +22,8 @@ def others(wanted, there):
 
 @pytest.mark.slow
 @pytest.mark.needs("scapy")
-def test_exact(bsdudp):
+def test_exact(bsdudp, monkeypatch):
+    monkeypatch.setenv("PYTHONPATH", PATHS)
     faults = []
     spent = Counter()  # the program serves all cases of an MTU, so its identification goes on
     with Adapter([*ADAPTER, str(bsdudp), "run"], 60) as program:

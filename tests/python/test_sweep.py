@@ -7,8 +7,8 @@ import time
 
 import pytest
 
+from tests.python.lossy import lossy_run
 from tests.python.package import bsdudp
-from tests.python.test_wire import lossy_run
 
 
 def squared(seed):

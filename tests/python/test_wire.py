@@ -4,6 +4,7 @@ import socket as host
 
 import pytest
 
+from tests.python.lossy import lossy_run
 from tests.python.package import bsdudp
 
 
@@ -27,23 +28,6 @@ def test_limits():
 @pytest.mark.needs("hypothesis")
 def test_what_comes_was_sent():
     importlib.import_module("tests.python.random_wires").what_comes_was_sent()
-
-
-def lossy_run(seed):
-    """How many of ten datagrams of three fragments come through."""
-    with bsdudp.Stack("10.0.0.1") as one, bsdudp.Stack("10.0.0.2") as other:
-        to = other.socket()
-        to.bind(("", 7))
-        sender = one.socket()
-        wire = bsdudp.Wire([one, other], loss=0.2, seed=seed)
-        for _ in range(10):
-            sender.sendto(bytes(4000), ("10.0.0.2", 7))
-            wire.run()
-        count = 0
-        while to.waiting:
-            to.recv()
-            count += 1
-        return count, wire.carried
 
 
 def test_same_seed_same_choices():

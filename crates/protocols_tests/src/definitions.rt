@@ -1,7 +1,7 @@
-//! Values from outside, and texts that no clause speaks of. A table's row that fails is told by its name.
+//! Values from outside sources, and texts that no contract mentions. A failing row of a table is reported by its name.
 use flat_model::{Config, ConfigFault, Counter, Counters, Errno, Lack, Why, fold};
 
-/// Bytes, and their folded sum: the numerical example of RFC 1071, section 3, and sums that are seen at once.
+/// Bytes, and their folded sum: the numerical example of RFC 1071, section 3, and sums that are obvious.
 static SUMS: [(&str, &[u8], u16); 5] = [
     (
         "RFC 1071",

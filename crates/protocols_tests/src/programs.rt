@@ -1,5 +1,5 @@
-//! The definitions beside values from outside: those of RFCs, and others that were worked out by hand. Most tests go
-//! over a table, and one that fails tells the row, from 0 on.
+//! The definitions compared with values from outside: from RFCs, or worked out by hand. Most tests loop over a table. A
+//! test that fails reports the row, counted from 0.
 
 mod fragments;
 mod headers;
@@ -11,14 +11,14 @@ use std::alloc::AllocError;
 use std::fmt::Debug;
 use std::process::Abort;
 
-/// What was got at a row is what it wants.
+/// Asserts that the result for a row is the expected one.
 fn same<T: PartialEq + Debug>(rt: &impl Abort, row: usize, got: &T, wanted: &T) {
     if got != wanted {
         panic!(rt; "row {row}: {got:?}");
     }
 }
 
-/// The same of a list.
+/// Does the same for a list.
 fn same_list<T: PartialEq + Drop>(
     rt: &impl Abort,
     row: usize,

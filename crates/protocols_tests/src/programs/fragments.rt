@@ -3,17 +3,17 @@ use super::same;
 use flat_plain::{Cell, Fragment, is_covered, overlay, whole};
 use std::process::Abort;
 
-/// What comes to a table, or is seen there.
+/// A fragment for a table, or an observation of the table.
 enum Step {
-    /// A fragment is laid over it: where it begins, its bytes, and whether more come after it. It isn't covered.
+    /// Lays a fragment over the table: its offset, its bytes, and whether more fragments follow. It isn't covered.
     Lay(u32, &'static [u8], bool),
     /// Whether these bytes at this offset are covered.
     Covers(u32, &'static [u8], bool),
-    /// The bytes, with a dot where nothing lies.
+    /// The bytes, with a dot for an offset without a byte.
     Shows(&'static [u8]),
-    /// The length of the datagram where all of it is there.
+    /// The length of the datagram if the table contains all of it.
     Whole(Option<usize>),
-    /// That what is left of a piece lies at this offset.
+    /// The rest of a piece is at this offset.
     Left(usize),
 }
 
@@ -28,9 +28,9 @@ const LEFT: Cell = Cell {
     clusters: [None; 5],
 };
 
-/// How many places a table has, and what happens.
+/// The number of cells in a table, and the steps.
 static TABLES: [(usize, &[Step]); 5] = [
-    // Each fragment wins over those that begin after it: first c, then d in front of it, then e.
+    // Each fragment replaces those that begin after it: first c, then d before it, then e.
     (
         32,
         &[
@@ -43,7 +43,7 @@ static TABLES: [(usize, &[Step]); 5] = [
             Whole(Some(32)),
         ],
     ),
-    // What an older piece holds from its own front on, it keeps.
+    // An older piece keeps the bytes from its own first offset on.
     (
         24,
         &[
@@ -57,7 +57,7 @@ static TABLES: [(usize, &[Step]); 5] = [
             Whole(Some(24)),
         ],
     ),
-    // One that begins in front of several covers them, and takes the front of the last.
+    // A fragment that begins before several others covers them, and takes the front of the last.
     (
         24,
         &[
@@ -69,7 +69,7 @@ static TABLES: [(usize, &[Step]); 5] = [
             Left(16),
         ],
     ),
-    // A last piece that has more after it makes nothing whole, nor one with bytes after it.
+    // A last piece with more after it doesn't complete a datagram, and neither does one with bytes after it.
     (8, &[Whole(None)]),
     (
         24,
@@ -83,7 +83,7 @@ static TABLES: [(usize, &[Step]); 5] = [
     ),
 ];
 
-/// Whether a fragment is covered. It's laid over the table, or not.
+/// Returns whether a fragment is covered, and lays it over the table if `lay` is true.
 pub(super) fn comes(
     rt: &impl Abort,
     cells: &mut [Option<Cell>],
@@ -124,7 +124,7 @@ fn fragment(offset: u32, more: bool) -> Fragment {
     }
 }
 
-/// The first step at which something else happens, to an empty table.
+/// Returns the first step with another result, for an empty table.
 fn first_wrong(rt: &impl Abort, len: usize, steps: &[Step]) -> Option<usize> {
     let mut cells = [None; 32];
     assert!(rt; len <= 32);

@@ -32,8 +32,8 @@ const HEAD: Head = Head {
     destination: DESTINATION.ip,
 };
 
-/// What is sent from 10.0.0.1 port 1024 to 10.0.0.2 port 7, and its packet. The two bytes of the last row make the sum
-/// whole, so the checksum is 0 and is written as 0xffff.
+/// The bytes sent from 10.0.0.1 port 1024 to 10.0.0.2 port 7, and the packet. The two bytes of the last row complete
+/// the sum, so the checksum is 0 and is written as 0xffff.
 static PACKETS: [(&[u8], &[u8]); 4] = [
     (
         b"hi",
@@ -140,7 +140,7 @@ static FAULTS: [(&[u8], Option<Why>); 8] = [
     ),
 ];
 
-/// From 10.0.0.2 to 10.0.0.1: a right checksum, none, and a wrong one; then lengths.
+/// From 10.0.0.2 to 10.0.0.1: a right checksum, no checksum, and a wrong one; then lengths.
 static DATAGRAMS: [(&[u8], Option<Why>); 7] = [
     (
         &[0x13, 0x88, 0x00, 0x07, 0x00, 0x0a, 0x6f, 0xdf, 0x68, 0x69],

@@ -1,11 +1,12 @@
-//! Into which buffers bytes go, how many of these a packet takes, and how a datagram is cut.
+//! Into which buffers bytes are stored, how many buffers a packet takes, and how a datagram is fragmented.
 use super::{same, same_list};
 use flat_plain::Room::{InCluster, InMbuf};
 use flat_plain::{Buffers, Part, Room, cuts, meets, need, need_bcast, sent, user, wire};
 
-/// So many bytes: to send, without their headers; after these; and of a packet that arrives. Few bytes to send fill
-/// plain mbufs of 100 and 108 bytes, and the headers share one with at most 72 of them. From 208 on clusters are taken,
-/// of which the first has 1992; all those of a packet that arrives are full, but for the last one.
+/// A number of bytes, and three layouts: of these bytes to send, without their headers; with their headers; and of a
+/// packet of this length that arrives. Few bytes to send fill plain mbufs of 100 and 108 bytes, and the headers share
+/// an mbuf with at most 72 of them. From 208 bytes clusters are used, the first of which holds 1992 bytes. All clusters
+/// of a packet that arrives are full, except the last one.
 static LAYOUTS: [(u32, &[Room], &[Room], &[Room]); 12] = [
     (0, &[InMbuf(0)], &[InMbuf(28)], &[InMbuf(0)]),
     (1, &[InMbuf(1)], &[InMbuf(29)], &[InMbuf(1)]),
@@ -82,7 +83,7 @@ static LAYOUTS: [(u32, &[Room], &[Room], &[Room]); 12] = [
 
 static ROOMS: [Room; 4] = [InMbuf(28), InCluster(1992), InMbuf(0), InCluster(1008)];
 
-/// A range of these, from its first byte up to the one after it, and how many share a byte with it.
+/// A range of these, from its first byte up to the one after it, and how many mbufs share a byte with it.
 static MET: [(u64, u64, u64); 6] = [
     (0, 28, 1),
     (27, 29, 2),
@@ -92,8 +93,8 @@ static MET: [(u64, u64, u64); 6] = [
     (3028, 4000, 0),
 ];
 
-/// So many bytes to send, on a link with this MTU or to the broadcast address, and the mbufs and clusters that they
-/// take.
+/// A number of bytes to send, the MTU of the link or `None` for the broadcast address, and the mbufs and clusters that
+/// they take.
 static NEEDS: [(u32, Option<u32>, u64, u64); 6] = [
     (0, Some(1500), 1, 0),
     (3000, Some(1536), 6, 2),
@@ -104,8 +105,7 @@ static NEEDS: [(u32, Option<u32>, u64, u64); 6] = [
     (72, None, 2, 0),
 ];
 
-/// So many bytes after the IP header, on a link with this MTU, how many parts they have, and where the first of
-/// these begin.
+/// A number of bytes after the IP header, the MTU of the link, the number of parts, and the offsets of the first parts.
 static CUTS: [(u32, u32, usize, &[u32]); 21] = [
     (8, 1500, 1, &[0]),
     (48, 68, 1, &[0]),
@@ -166,8 +166,8 @@ fn buffers_of_sends(rt: HostRuntime) {
     }
 }
 
-/// Whether there are so many parts, each begins where the one before it ends, the first ones at these offsets, and the
-/// last one alone has none after it.
+/// Returns whether there are `count` parts, each begins at the end of the one before it, the first ones are at these
+/// offsets, and only the last one has no part after it.
 fn begin_at(parts: &[Part], count: usize, offsets: &[u32], n: u32) -> bool {
     if parts.len() != count || count < offsets.len() {
         return false;

@@ -36,7 +36,7 @@ const TO_ZERO: LookupKey = LookupKey {
     ..PACKET
 };
 
-/// A port alone.
+/// Only a port.
 const PORT: LookupKey = LookupKey {
     local: None,
     port: Some(7),
@@ -48,7 +48,7 @@ const NOTHING: LookupKey = LookupKey { port: None, ..PORT };
 /// A socket's local address, its local port, and its peer.
 type Set = (Option<u32>, Option<u16>, Option<Addr>);
 
-/// What is looked for, what a socket has set, and how many wildcards that takes.
+/// The lookup key, the fields that a socket has set, and the number of wildcards.
 static SCORES: [(LookupKey, Set, Option<u32>); 17] = [
     (PACKET, (Some(HERE), Some(7), Some(OTHER)), Some(0)),
     (PACKET, (None, Some(7), Some(OTHER)), Some(1)),
@@ -59,12 +59,12 @@ static SCORES: [(LookupKey, Set, Option<u32>); 17] = [
     (PACKET, (None, Some(7), Some(OTHER_HOST)), None),
     (PACKET, (None, Some(8), None), None),
     (PACKET, (None, None, None), None),
-    // What is set where nothing is looked for counts as a wildcard too.
+    // A field that the socket has set and the key hasn't also counts as a wildcard.
     (PORT, (None, Some(7), None), Some(0)),
     (PORT, (Some(HERE), Some(7), None), Some(1)),
     (PORT, (Some(HERE), Some(7), Some(OTHER)), Some(2)),
     (NOTHING, (None, None, None), None),
-    // 0.0.0.0 and port 0 in a packet are set, and no wildcards.
+    // 0.0.0.0 and port 0 in a packet are set, and are no wildcards.
     (FROM_ZERO, (None, Some(7), None), Some(2)),
     (FROM_ZERO, (None, Some(7), Some(OTHER)), None),
     (TO_ZERO, (None, None, None), None),
@@ -99,8 +99,8 @@ const CONNECTED: Pcb = Pcb {
     ..BOUND
 };
 
-/// What a packet finds with as few wildcards as there are, and what without one. The youngest stands first, whatever
-/// its descriptor.
+/// The control block that a packet finds with the fewest wildcards, and the one without a wildcard. The youngest is
+/// first, whatever its descriptor.
 static BEST: [(&[Pcb], Option<Pcb>, Option<Pcb>); 7] = [
     (&[YOUNG, OLD], Some(YOUNG), None),
     (&[OLD, YOUNG], Some(OLD), None),
@@ -136,7 +136,7 @@ const ELSEWHERE: Pcb = Pcb {
     ..YOUNG
 };
 
-/// Those that hear a broadcast.
+/// The control blocks that receive a broadcast.
 static HEAR: [(&[Pcb], &[Pcb]); 5] = [
     (&[A, B, C], &[A, B, C]),
     (&[A, C, B], &[A, C]),
@@ -184,7 +184,7 @@ static PORTS: [(&[Pcb], Option<u16>, Option<u32>, u16); 9] = [
     (&[FIRST_HERE], None, None, 1025),
 ];
 
-/// A datagram of one byte lies in an mbuf, and its sender's address in another.
+/// A datagram of one byte is in one mbuf, and its sender's address in another.
 const SMALL: Waiting = Waiting {
     len: 1,
     mbufs: 2,
@@ -205,8 +205,8 @@ const DEEP: Waiting = Waiting {
 
 const DEEPER: Waiting = Waiting { mbufs: 20, ..DEEP };
 
-/// A queue, the bytes of one more datagram, and whether it fits. The limits are 41,600 bytes, less 16 for each address,
-/// and 83,200 bytes of memory.
+/// A queue, the length of one more datagram, and whether it fits. The limits are 41,600 bytes, including 16 for each
+/// address, and 83,200 bytes of memory.
 static FITS: [(&[Waiting], u16, bool); 9] = [
     (&[SMALL; 324], 1, true),
     (&[SMALL; 325], 0, false),

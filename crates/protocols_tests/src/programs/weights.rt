@@ -1,4 +1,4 @@
-//! What packets and pieces weigh, and how much of a pool that is.
+//! The weights of packets and pieces, and how much of a pool they use.
 use super::fragments::comes;
 use super::{same, same_list};
 use flat_model::Mbstat;
@@ -44,12 +44,12 @@ static LATER: [(u32, u32, u64, &[u32]); 6] = [
     (8880, 344, 2, &[14]),
 ];
 
-/// A fragment in cluster 7, of so many bytes with its header, and what it weighs once it was pulled up: of 40 bytes it
-/// leaves its cluster, and of 41 it has an mbuf more.
+/// The length of a fragment in cluster 7, with its header, and its weight after the pull-up: a fragment of 40 bytes
+/// leaves its cluster, and one of 41 has one more mbuf.
 static PULLED_UP: [(u32, u64, &[u32]); 2] = [(40, 1, &[]), (41, 2, &[7])];
 
-/// Where a fragment begins, its mbufs, its cluster, its bytes, and what all pieces weigh then. One that lost its last
-/// byte weighs nothing any more.
+/// A fragment's offset, its mbufs, its cluster and its bytes, and then the weight of all pieces. A piece that lost its
+/// last byte weighs nothing.
 static PIECES: [(u32, u32, u32, &[u8], u64, &[u32]); 3] = [
     (16, 2, 5, b"cccccccc", 2, &[5]),
     (24, 3, 6, b"dddddddd", 5, &[5, 6]),
@@ -59,7 +59,7 @@ static PIECES: [(u32, u32, u32, &[u8], u64, &[u32]); 3] = [
 /// The clusters to which the packets of the largest send on a link of 1500 refer: 2, 3, 4, 3 and 3 times.
 static BAG: [u32; 15] = [0, 0, 1, 1, 1, 2, 2, 2, 2, 3, 3, 3, 4, 4, 4];
 
-/// So many mbufs, and a reference to each of these clusters.
+/// Returns whether the weight is this many mbufs, with a reference to each of these clusters.
 fn weighs(
     rt: &impl Abort,
     row: usize,
