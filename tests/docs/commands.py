@@ -58,6 +58,15 @@ ROWS = {
     "ip link set tap0 up": Row("capi", "ip link set"),
     "ping 10.0.0.1": Row("capi", '"ping"'),
     "unshare -n": Row("capi", "unshare -n"),
+    # a device
+    "portable/core cortex-m3 LIBRARY": Row("core", "portable/core"),
+    "portable/board/build LIBRARY board": Row("device", 'block("portable/board/build'),
+    "portable/board/build LIBRARY board FILE": Row("device", "portable/board/build"),
+    "ip tuntap add dev tap0 mode tap": Row("device", 'block("unshare -n")'),
+    "qemu-system-arm * -kernel board/device.elf < /dev/null &": Row("device", 'block("unshare -n")'),
+    "cd capi/examples": Row("device", 'block("cd capi/examples")'),
+    "cc -std=gnu99 device_tap.c *": Row("device", 'block("cd capi/examples")'),
+    "./device tap0 ../../LICENSE &": Row("device", 'block("cd capi/examples")'),
     # the programs
     "tools/sendto *": Row("made_pages", '"tools/sendto", page'),
     "tools/callers write": Row("crates", "tools/callers"),
