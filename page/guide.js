@@ -258,16 +258,18 @@ async function openFile(file) {
     return;
   }
   const { fault, records } = page.engine.records(bytes), script = captureScript(page.engine, records);
-  const told = `${file.name}: ${records.length ? script.fault || fault : fault || script.fault}`;
+  const name = file.name.replace(/\s+/g, " "), causes = records.length ? [script.fault, fault] : [fault, script.fault];
+  const told = `${name}: ${causes.find(Boolean)}`;
   if (script.fault) {
     byId("trouble").textContent = told;
     return;
   }
-  const { taken, all, ip } = script.counts, ended = fault && ` Reading ended: ${fault}.`;
-  const head = `# ${file.name}: ${taken} of its ${all} records are for ${script.options.addr}; ${ip} have IPv4.`
-    + `${ended}\n`;
+  const { all, ip, ours, taken } = script.counts, ended = fault ? ` Reading ended: ${fault}.` : "";
+  const first = taken < ours ? ` The script has the first ${taken} of these; bsdplay why reads all.` : "";
+  const read = `${plural(all, "record")}, ${plural(ip, "IPv4 packet")}, ${ours} for ${script.address}`;
+  const head = `# ${name}: ${read}.${first}${ended}\n`;
   open("run", { text: head + script.text, place: script.place });
-  if (fault) byId("trouble").textContent = `${told}. The records in front of that are here.`;
+  if (fault) byId("trouble").textContent = `${told}. The records before it are shown.`;
 }
 
 // A script; an exercise that was saved is opened as that exercise.
