@@ -11,7 +11,7 @@ import pytest
 from tests.packets import datagram, fragment, ip
 from tests.pcaps import NANOSECONDS, header, record
 
-pytestmark = [pytest.mark.needs("node"), pytest.mark.xdist_group("modules")]
+pytestmark = [pytest.mark.needs("rt", "wasm-opt", "node"), pytest.mark.slow]
 
 ALL = "255.255.255.255"
 

@@ -7,15 +7,15 @@ import pytest
 
 from tests.cases import TOP
 
-pytestmark = [pytest.mark.needs("chromium"), pytest.mark.xdist_group("modules"), pytest.mark.slow]
+pytestmark = [pytest.mark.needs("rt", "wasm-opt", "chromium"), pytest.mark.slow]
 
 HEIGHTS = {360: 740, 390: 844, 768: 1024, 1280: 800}
 LESSONS = sorted((it.parent.name, it.stem) for it in (TOP / "page/lessons").glob("*/*.txt"))
 
 
-@pytest.fixture(name="page")
-def at_width(chromium):
-    """Opens the page at a width: page(WIDTH)."""
+@pytest.fixture(name="at_width")
+def page_at_width(chromium):
+    """Opens the page at a width: at_width(WIDTH)."""
 
     def resize(width):
         size = {"width": width, "height": HEIGHTS[width], "deviceScaleFactor": 1, "mobile": False}
@@ -34,8 +34,8 @@ def opened(browser, mode, name):
 
 
 @pytest.mark.parametrize("mode, name", LESSONS)
-def test_lines_behind_a_question_are_hidden_until_it_is_answered(mode, name, page):
-    browser = page(1280)
+def test_lines_behind_a_question_are_hidden_until_it_is_answered(mode, name, at_width):
+    browser = at_width(1280)
     opened(browser, mode, name)
     browser.run("select(page.firstQuestion)")
     for how in ("byId('forth').click()", "byId('last').click()", "byId('rows').lastChild.firstChild.click()"):
@@ -47,8 +47,8 @@ def test_lines_behind_a_question_are_hidden_until_it_is_answered(mode, name, pag
         assert not browser.run("document.querySelector('#look .mbuf-figure, #look .reply, #look .counters')"), how
 
 
-def test_a_hidden_line_leads_to_the_question_and_can_be_shown(page):
-    browser = page(1280)
+def test_a_hidden_line_leads_to_the_question_and_can_be_shown(at_width):
+    browser = at_width(1280)
     opened(browser, "run", "01_a_datagram")
     browser.run("byId('last').click()")
     browser.run("byId('look').querySelector('button.main').click()")
@@ -80,8 +80,8 @@ SMALL = ["--mbufs 6 --clusters 2", "socket", "bind 3 0.0.0.0 7", fragment(1), fr
         (SMALL, "ip.reclaimed", [1, 2]),
     ],
 )
-def test_a_datagram_that_is_given_up_is_named(script, counter, named, page):
-    browser = page(1280)
+def test_a_datagram_that_is_given_up_is_named(script, counter, named, at_width):
+    browser = at_width(1280)
     browser.run(f"open('run', {{ text: {json.dumps(chr(10).join([*script, '']))} }}); byId('last').click()")
     said = browser.run("byId('look').querySelector('.lead').textContent")
     assert counter is None or counter in said
@@ -103,8 +103,8 @@ OPTIONS = """[...document.querySelectorAll(".predict input[type=radio]")].map(it
 
 @pytest.mark.parametrize("width", HEIGHTS)
 @pytest.mark.parametrize("mode, name", LESSONS)
-def test_an_option_stands_beside_its_radio_button(mode, name, width, page):
-    browser = page(width)
+def test_an_option_stands_beside_its_radio_button(mode, name, width, at_width):
+    browser = at_width(width)
     opened(browser, mode, name)
     browser.run("select(page.firstQuestion)")
     beside = browser.run(OPTIONS)
@@ -116,8 +116,8 @@ ROWS = """[...new Set([...document.querySelectorAll("header :is(button, .button)
 
 
 @pytest.mark.parametrize("width", HEIGHTS)
-def test_the_buttons_of_the_head_fill_two_rows_at_most(width, page):
-    browser = page(width)
+def test_the_buttons_of_the_head_fill_two_rows_at_most(width, at_width):
+    browser = at_width(width)
     opened(browser, "run", "01_a_datagram")
     assert browser.run(ROWS) <= 2
     assert browser.run("document.querySelector('header').offsetHeight") <= 96
@@ -139,8 +139,8 @@ VIEWS = {
 @pytest.mark.parametrize("theme", ["light", "dark"])
 @pytest.mark.parametrize("width", HEIGHTS)
 @pytest.mark.parametrize("view", VIEWS)
-def test_nothing_overlaps_or_is_cut_off(view, width, theme, page):
-    browser = page(width)
+def test_nothing_overlaps_or_is_cut_off(view, width, theme, at_width):
+    browser = at_width(width)
     browser.run(f"showLeft('read'); {VIEWS[view]}; setTheme('{theme}')")
     assert browser.run("faultsOfLayout()") == []
 
@@ -148,7 +148,7 @@ def test_nothing_overlaps_or_is_cut_off(view, width, theme, page):
 # ---- what docs/page.md says
 
 
-def test_the_page_is_as_large_as_its_document_says(built_page):
+def test_the_page_is_as_large_as_its_document_says(page):
     text = (TOP / "docs/page.md").read_text(encoding="utf-8")
     [most] = re.findall(r"one file of less than (\d+) MB", text)
-    assert built_page.stat().st_size < int(most) * 1_000_000
+    assert page.stat().st_size < int(most) * 1_000_000
