@@ -43,7 +43,7 @@ def test_lines_behind_a_question_are_hidden_until_it_is_answered(mode, name, at_
         said = browser.run("byId('look').textContent + byId('said').textContent")
         step = browser.run("({ note: page.noteOf(page.steps[page.at]), reply: page.steps[page.at].reply })")
         assert step["note"] not in said, how
-        assert "hidden until" in browser.run("byId('said').textContent"), how
+        assert re.search("hidden until|A question: ", browser.run("byId('said').textContent")), how
         assert not browser.run("document.querySelector('#look .mbuf-figure, #look .reply, #look .counters')"), how
 
 
