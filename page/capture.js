@@ -179,7 +179,7 @@ function linesOfRecord(it) {
 }
 
 const pauseOf = ({ ticks }) => `${(ticks / 2).toLocaleString("en")} s`;
-const cutPause = ({ ticks, played }) => (ticks > played ? `; ${played} ticks of them are played` : "");
+const cutPause = ({ ticks, played }) => (ticks > played ? `; the script plays ${played} ticks of them` : "");
 
 function noteOfExpired(it) {
   const what = `${plural(it.expired, "unfinished datagram")} ${it.expired === 1 ? "expires" : "expire"}`;
