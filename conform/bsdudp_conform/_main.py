@@ -20,7 +20,7 @@ MOST_FLOOD = 100
 OK, DEVIATES, USAGE, NO_ADAPTER = 0, 1, 2, 3
 TEMPLATES = pathlib.Path(__file__).resolve().parent / "templates"
 DESCRIPTION = """Judges a UDP/IPv4 stack: cases of packets go through it, and two laws and the machines that the RFCs
-permit say what may come of them. docs/conform.md says what an adapter is, and leads to a first verdict in five
+permit say what may come of them. docs/judge.md says what an adapter is, and leads to a first verdict in five
 minutes."""
 STATUS = """Status: 0 if nothing deviates that the baseline doesn't know, 1 if something does, 2 for wrong words, 3 if a
 stack or a device can't be reached at all."""

@@ -4,7 +4,7 @@ from __future__ import annotations
 import html
 from typing import Dict, Iterator, List, Mapping, NamedTuple
 
-# What is told of a counter of something dropped: the words of `bsdplay` (docs/play.md), and three that no line raises there.
+# What is told of a counter of something dropped: the words of `bsdplay` (docs/scripts.md), and three that no line raises there.
 CAUSES = {
     "ip.toosmall": "packet shorter than a header",
     "ip.badvers": "wrong version",

@@ -247,7 +247,7 @@ def test_a_pcapng_file_that_is_cut_is_an_error(bsdplay, blocks):
 # ---- causes --------------------------------------------------------------------------------------------------------
 
 HI = udp(b"hi")
-# A packet for each cause that one packet can have, in the order of docs/play.md; and one that is delivered.
+# A packet for each cause that one packet can have, in the order of docs/behaviour.md; and one that is delivered.
 BY_CAUSE = {
     "packet shorter than a header": PACKET[:19],
     "wrong version": ip(HI, ident=7, first=0x65),

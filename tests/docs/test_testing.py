@@ -1,9 +1,9 @@
-"""docs/testing.md: each word by which a row's tests are selected selects some, and each file of tests has a word."""
+"""docs/maintain/testing.md: each word by which a row's tests are selected selects some, and each file of tests has a word."""
 import re
 
 from tests.docs.pages import TOP, Fault, in_code, none_of, read, table
 
-PAGE = "docs/testing.md"
+PAGE = "docs/maintain/testing.md"
 
 
 def words():

@@ -41,7 +41,7 @@ def checks():
     replies = (TOP / "examples/first_datagram.txt.stdout").read_text(encoding="utf-8")
     yield f"bsdudp run < {examples}/first_datagram.txt", replies.strip()
     yield f"bsdplay --quiet {examples}/play/first_datagram.txt", None
-    pages = {"bsdudp": "answers a script", "bsdplay": "OPTIONS", "3 bsdudp": "bsdudp_boot"}
+    pages = {"bsdudp": "plays a script", "bsdplay": "OPTIONS", "3 bsdudp": "bsdudp_boot"}
     pages["bsdudp-conform"] = "DESCRIPTION"
     yield from ((f"man {page} | grep -q '{has}'", None) for page, has in pages.items())
     yield f"{WIRE} gcc -std=c99 -Wall -Werror wire.c {FLAGS} -o wire && ./wire", None

@@ -5,7 +5,7 @@ import subprocess
 
 from tests.python.package import bsdudp
 
-# 4.4BSD's numbers, as docs/script.md has them.
+# 4.4BSD's numbers, as docs/scripts.md has them.
 NUMBERS = {
     "EBADF": 9,
     "EACCES": 13,

@@ -34,8 +34,8 @@ def run(piece, names):
 
 def test_counters():
     """The table of counters that the page leads to names them all, in their order."""
-    assert "behaviour.md#the-counters" in PAGE
-    section = (TOP / "docs/behaviour.md").read_text(encoding="utf-8").split("## The counters")[1].split("\n## ")[0]
+    assert "behaviour.md#counters" in PAGE
+    section = (TOP / "docs/behaviour.md").read_text(encoding="utf-8").split("## Counters")[1].split("\n## ")[0]
     assert re.findall(r"^\| `([a-z.]+)` \|", section, re.M) == list(bsdudp.Stack().counters)
 
 
