@@ -64,7 +64,7 @@ class Host(Stack):
     mac      its hardware address, as "02:00:00:00:00:01" or six bytes; no group's
     mask     which bits of an address tell its network; "255.255.255.0" if it isn't given
     gateway  a neighbour that takes what goes to other networks; without one such packets are dropped and counted
-    probe    whether it asks first if another host has its address (RFC 5227), which takes 3 to 5 seconds of ticks
+    probe    whether it asks first if another host has its address (RFC 5227), which takes 5.0 to 5.5 seconds of ticks
     addr, bcast, mbufs, clusters, first_id are those of a `Stack`. The MTU is 68 to 1500.
 
     Frames come by `receive` and go by `transmit`. Packets don't pass the link by: `rx` and `tx` are an OSError
