@@ -1,7 +1,7 @@
 "use strict";
 // Captures. The program reads the records of a capture file (crates/page), and this file makes a script of them. The
 // script and `bsdplay why` tell the same story: it has the host that `why` chooses, with the same pool and ports, and
-// the clock ticks by the capture's times (docs/why.md).
+// the clock ticks by the capture's times (docs/captures.md).
 
 // A script has at most this many packets. As in `why`, a host has 60 ports at once, and is one of the first 256
 // addresses.
