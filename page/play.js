@@ -132,7 +132,7 @@ function stepOf(it, text, ran, last, config) {
   const by = name => sumOf(ran.flatMap(one => one.changed).filter(one => one.name === name), "by");
   const changed = counterNames(ran).map(name => ({ name, by: by(name) })).filter(one => one.by !== 0);
   const all = { before: ran[0].before, changed, drops: changed.filter(({ name }) => DROPS.has(name)) };
-  if (!ticks) return { ...last, ...said, ...all, tells: `${ran.length} half seconds pass` };
+  if (!ticks) return { ...last, ...said, ...all, tells: `${ran.length / 2} s pass` };
   const own = ran.length > ticks ? { ...last, causes: causesOf(said.says, last.drops) }
     : { ...step, ...otherOf({ ...said, line: plain }) };
   return { ...own, ...said, ...all, tells: own.tells + whenOf(ticks) };

@@ -160,6 +160,29 @@ def test_plot_of_the_study(study, tmp_path, monkeypatch):
     assert (tmp_path / "study.png").stat().st_size > 0
 
 
+@pytest.fixture(scope="session")
+def pools(built, once):
+    """How many runs of each pool come out as by ns-3's own stack: rows by loss, each with its counts by pool."""
+
+    def make(folder):
+        said = passed(built("plain") / "bsdudp-pools", "--seeds=1")
+        (folder / "pools.txt").write_text(said, encoding="utf-8")
+
+    names, *rows = (once("ns3-pools", make) / "pools.txt").read_text(encoding="utf-8").splitlines()
+    names = names.split("runs alike")[0].split()[1:]
+    return {row.split()[0]: dict(zip(names, map(int, row.split()[1:]))) for row in rows}
+
+
+@pytest.mark.parametrize("loss", ["0", "0.01", "0.05", "0.1"])
+def test_the_default_pool_changes_nobodys_datagrams(loss, pools):
+    assert pools[loss]["default"] == 1
+
+
+def test_a_small_pool_does(pools):
+    """Else the scenario of bsdudp-pools wouldn't show whether a pool is large enough."""
+    assert pools["0.1"]["512"] == 0
+
+
 def test_program_of_the_page(plain, prefix, tmp_path):
     """By the commands that stand there, over what is installed."""
     passed("cmake", "--install", plain)
