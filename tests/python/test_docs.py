@@ -2,6 +2,7 @@
 line prints is what it prints."""
 import ast
 import contextlib
+import doctest
 import io
 import re
 import socket
@@ -72,3 +73,12 @@ def test_sweep(tmp_path):
     (tmp_path / "through.py").write_text(piece)
     ran = subprocess.run([sys.executable, tmp_path / "through.py"], capture_output=True, text=True, check=True)
     assert ran.stdout.splitlines() == PRINTED.findall(piece)
+
+
+@pytest.mark.parametrize("name", bsdudp.__all__)
+def test_docstring(name):
+    """Each class, and `sweep`, has an example, which prints what it says."""
+    finder = doctest.DocTestFinder(recurse=False)
+    (found,) = finder.find(getattr(bsdudp, name), name, globs={"bsdudp": bsdudp})
+    assert found.examples
+    assert doctest.DocTestRunner().run(found).failed == 0
