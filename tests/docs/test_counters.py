@@ -81,8 +81,8 @@ def texts_of_causes() -> dict[str, str]:
 
 
 def test_causes_of_bsdplay():
-    """play_records has the same text for each cause."""
-    path = "crates/play_records/src/words.rt"
+    """play_text has the same text for each cause."""
+    path = "crates/play_text/src/words.rt"
     told = dict(pieces(path, r'Why::(\w+) => "([^"]+)",'))
     none_of(
         Fault(f"{path}:1", f"the text of the cause {why}", text, told.get(why, ""))

@@ -1,5 +1,5 @@
 -- The events of playing a capture (this project's own).
-use Rattle.std.specs.Prelude.{ℕ, List, Option, Some, None}
+use Rattle.std.specs.Prelude.{ℕ, List}
 use Rattle.flat_model.specs.Machine.Event.{Event, Comes, Tick}
 use Rattle.play_pcap.specs.declared.wire.RecordPlace.{RecordPlace}
 

@@ -1,5 +1,5 @@
 -- The requests that the values of the code's own type represent (this project's own).
-use Rattle.std.specs.Prelude.{ℕ, ◌≤◌, Option, Some, None}
+use Rattle.std.specs.Prelude.{◌≤◌, Option, Some, None}
 use Rattle.flat_model.specs.Scripts.Grammar.{words}
 use Rattle.params.specs.declared.TheConstants.{IP_MAX_PACKET}
 use Rattle.request.specs.Requests.{event_of, room_of}

@@ -1,5 +1,5 @@
 -- The bytes of a reply in readable form: as a text, and abbreviated if there are many (this project's own).
-use Rattle.std.specs.Prelude.{ℕ, ◌+◌, ◌-◌, ◌*◌, ◌/◌, ◌%◌, ◌==◌, ◌&&◌, ◌||◌, not, bytes_eq, Bool, true, false, List, [], ◌∷◌, ◌++◌, zero, suc, length, take, drop, position, flat_map, if◌then◌else◌, codes, decimal, nat_lt, nat_le, min, is_some, Option, Some, None, Result, Ok, Err}
+use Rattle.std.specs.Prelude.{ℕ, ◌+◌, ◌-◌, ◌/◌, ◌%◌, ◌==◌, ◌&&◌, ◌||◌, not, bytes_eq, Bool, true, false, List, [], ◌∷◌, ◌++◌, zero, suc, length, take, drop, position, flat_map, if◌then◌else◌, codes, decimal, nat_lt, nat_le, min, is_some, Option, Some, None, Result, Ok, Err}
 use Rattle.hex.specs.Hex.{decode_sized}
 use Rattle.hex.specs.declared.error.FromHexError.{FromHexError}
 use Rattle.play_text.specs.declared.bytes.ByteForm.{ByteForm}
