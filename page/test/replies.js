@@ -92,7 +92,7 @@ const latin = all => all.map(it => Object.fromEntries(Object.entries(it).map(([n
 function tryOwn(script, { steps, own, ends }) {
   steps.forEach((step, i) => {
     const ran = own.slice(i ? ends[i - 1] : 0, ends[i]);
-    if (ran.length !== 1) return;
+    if (ran.length !== 1 || step.line.startsWith("+")) return; // behind a time, one line alone is its tick
     const [{ reply }] = ran, drops = step.says.indexOf("dropped ");
     const said = drops < 0 ? step.says : step.says.slice(0, drops).trim() || "ok";
     if (said !== reply) fault(`${script}, line ${i + 1}`, `it's answered ${step.says}, and alone ${reply}`);

@@ -173,7 +173,7 @@ def pools(built, once):
     return {row.split()[0]: dict(zip(names, map(int, row.split()[1:]))) for row in rows}
 
 
-@pytest.mark.parametrize("loss", ["0", "0.01", "0.05", "0.1"])
+@pytest.mark.parametrize("loss", ["0", "0.01", "0.05", "0.1", "0.2"])
 def test_the_default_pool_changes_nobodys_datagrams(loss, pools):
     assert pools[loss]["default"] == 1
 
