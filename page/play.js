@@ -1,5 +1,5 @@
 "use strict";
-// Scripts of bsdplay's language (docs/play.md). The program plays them, and says what each line was answered. What
+// Scripts of bsdplay's language (docs/scripts.md). The program plays them, and says what each line was answered. What
 // else is shown of a line it's asked for: each becomes lines of `bsdudp run`, which are played on machines of their
 // own.
 

@@ -1,0 +1,1 @@
+from tests.made import module, page  # noqa: F401 (fixtures)
