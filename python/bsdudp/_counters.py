@@ -4,7 +4,7 @@ from __future__ import annotations
 import html
 from typing import Dict, Iterator, List, Mapping, NamedTuple
 
-# The cause in words for each counter of drops: the words of `bsdplay` (docs/scripts.md), and three that no line of a script causes there.
+# The cause in words for each counter of drops: the words of `bsdplay` (docs/scripts.md), and three that no line causes.
 CAUSES = {
     "ip.toosmall": "packet shorter than a header",
     "ip.badvers": "wrong version",
