@@ -161,7 +161,7 @@ class Engine {
 const textOf = bytes => new TextDecoder().decode(bytes);
 const withReplies = ({ code, bytes }) => ({ code, replies: linesOf(textOf(bytes)) });
 
-// The objects of JSON, one in a line. Their texts hold a byte in each character (docs/play.md).
+// The objects of JSON, one in a line. Their texts hold a byte in each character (docs/scripts.md).
 function withObjects({ code, bytes }) {
   const decoded = value => (typeof value === "string"
     ? textOf(Uint8Array.from(value, letter => letter.charCodeAt(0))) : value);

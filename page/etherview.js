@@ -4,12 +4,12 @@
 // What a link made of a frame that has no packet: of one of ARP, whether it knows the sender now (RFC 826, "Packet
 // Reception").
 function heardOf({ arp }, to, hosts, { states, statesBefore }) {
-  if (!arp) return ["wait", `${to} hears it.`];
+  if (!arp) return ["wait", `${to} receives it.`];
   const known = all => (all.get(to) || { neighbours: [] }).neighbours
     .some(it => it.ip === dotted(arp.ip) && it.mac === arp.mac);
   const isAsked = arp.operation === 1 && arp.target === hosts.get(to).config.addr;
-  const told = isAsked ? `${to} is the one that is asked` : `${to} hears it`;
-  if (!known(states)) return ["wait", `${told}, and keeps nothing.`];
+  const told = isAsked ? `${to} has this address` : `${to} receives it`;
+  if (!known(states)) return ["wait", `${told}, and stores nothing.`];
   return ["yes", `${told}, and ${known(statesBefore) ? "knew" : "knows now"} where ${dotted(arp.ip)} is.`];
 }
 
@@ -23,18 +23,18 @@ function neighboursView(step, { name }) {
   const isNew = it => !(before.neighbours || []).some(old =>
     ["ip", "mac", "tries", "waiting"].every(part => old[part] === it[part]));
   const about = it => (it.mac ? [h("code", {}, it.mac), h("small", {}, `${plural(it.ticks, "tick")} left`)]
-    : [h("span", {}, "asked for"), h("small", {}, `${it.tries} of ${plural(it.most, "request")} sent`),
+    : [h("span", {}, "requested"), h("small", {}, `${it.tries} of ${plural(it.most, "request")} sent`),
       h("small", { class: it.waiting ? "badge" : null }, waitSaid(it))]);
   const tell = it => h("li", { class: `datagram of-${it.mac ? "queue" : "unfinished"}${isNew(it) ? " new" : ""}` },
     h("b", {}, it.ip), about(it));
   const isClaimed = address === CLAIMED;
   return panel(`Neighbours of ${name}`, !isClaimed && h("p", { class: "faint" }, `${name} ${address}.`),
     neighbours.length ? h("ul", { class: "queue", "aria-label": `neighbours of ${name}` }, neighbours.map(tell))
-      : h("p", { class: "faint" }, "It knows none, and asks for none."));
+      : h("p", { class: "faint" }, "None."));
 }
 
 // A frame that comes by hand, with the checks of the packet that the stack got of it.
-const frameOfLine = ({ frame, of }) => [of && panel("The checks, in their order", checksOf(of)),
+const frameOfLine = ({ frame, of }) => [of && panel("The checks, in order", checksOf(of)),
   panel(null, packetView(frame, "The frame that comes"))].filter(Boolean);
 
 // The frames that passed, or else those that are under way; at most two. One that came to several hosts is drawn once.
@@ -43,7 +43,7 @@ function framesOf(step, hosts) {
   const all = step.moved.length ? step.moved : isWatched ? step.wire.flight : [];
   const isFirst = (it, i) => all.findIndex(one => hexOf(one.packet.bytes) === hexOf(it.packet.bytes)) === i;
   const checks = it => typeof it.place === "number"
-    && panel(`The checks at ${it.to}, in their order`, checksOf(hosts.get(it.to).steps[it.place]));
+    && panel(`The checks at ${it.to}, in order`, checksOf(hosts.get(it.to).steps[it.place]));
   return all.filter(isFirst).slice(0, SHOWN.drawn).map(it => h("div", { class: "column" }, checks(it),
     panel(null, packetView(it.packet, `A frame of ${it.from}`))));
 }

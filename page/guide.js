@@ -74,7 +74,7 @@ const isExercise = () => Boolean(page.known) && page.known.kind === "exercises";
 // What is asked of a line before its reply is shown: a question of a lesson, or of an exercise each reply.
 function questionOf(i) {
   if (page.guesses.has(i)) return null;
-  if (isExercise()) return isUnsolved(page.steps[i]) ? { text: "What does it reply?", answers: null } : null;
+  if (isExercise()) return isUnsolved(page.steps[i]) ? { text: "What is the reply?", answers: null } : null;
   return page.notes.questions[i];
 }
 
@@ -98,9 +98,10 @@ function answered(i, guess) {
 function questionView(step, i, question) {
   const form = h("form", { class: "predict" });
   const choices = question.answers && question.answers.map((answer, k) =>
-    h("label", {}, h("input", { type: "radio", name: "guess", value: String(k) }), " ", answer.text));
+    h("label", { class: "option" }, h("input", { type: "radio", name: "guess", value: String(k) }),
+      h("span", {}, answer.text)));
   const input = h("input", { name: "guess", autocomplete: "off", spellcheck: "false" });
-  const field = !choices && h("label", {}, "the reply, as ", h("code", {}, "ok"), " or ",
+  const field = !choices && h("label", {}, "the reply, for example ", h("code", {}, "ok"), " or ",
     h("code", {}, "dropped wrong header checksum"), input);
   form.append(h("fieldset", {}, h("legend", {}, question.text), choices || field,
     h("p", { class: "answers" }, h("button", { type: "submit", class: "main" }, "Check"),
@@ -117,13 +118,35 @@ function questionView(step, i, question) {
     isExercise() && page.noteOf(step) && h("p", { class: "note" }, page.noteOf(step)), form);
 }
 
+// A line behind a question that wasn't answered. What it did could tell the answer, so it isn't shown.
+function hiddenView(step) {
+  const asking = page.firstQuestion, place = page.notes.places[asking] + 1;
+  const answer = () => {
+    select(asking);
+    byId("look").querySelector(".predict input").focus();
+  };
+  return h("section", { class: "panel lead" }, h("h3", {}, h("span", {}, askedLine(step))),
+    h("p", { class: "note" }, `Line ${place} asks a question. What this line did is shown after you answer it.`),
+    h("p", { class: "answers" },
+      h("button", { type: "button", class: "main", onclick: answer }, "Go to the question"),
+      h("button", { type: "button", onclick: () => skipQuestions(page.at) }, "Show this line")));
+}
+
+// Shows a line, and gives up the questions before it.
+function skipQuestions(last) {
+  for (let i = 0; i < last; i++) if (questionOf(i)) page.guesses.set(i, null);
+  refreshRows();
+  select(last);
+  byId("forth").focus();
+}
+
 // What was guessed, and whether it was right.
 function guessView(i) {
   const guess = page.guesses.get(i), question = page.notes.questions[i];
   if (!guess || !question) return null;
   const right = question.answers.find(it => it.isRight);
   return guess.isRight ? verdict("yes", h("b", {}, "Right: "), `${guess.text}.`)
-    : verdict("no", h("b", {}, "Not so. "), `You said: ${guess.text}. It is: ${right.text}.`);
+    : verdict("no", h("b", {}, "Wrong. "), `Your answer: ${guess.text}. Right: ${right.text}.`);
 }
 
 // ---- exercises
@@ -167,9 +190,9 @@ function askView({ place, line, key, text, answer }, k) {
     answerAsk(place, text, input.value, k);
   } }, h("label", {}, h("span", {}, /[?.]$/.test(text) ? text : `${text}?`), input),
   h("button", { type: "submit" }, "Check"));
-  const said = right ? verdict("yes", "✓ Right.") : wrong ? verdict("no", "✗ Not so. Change the lines and see.") : null;
+  const said = right ? verdict("yes", "✓ Right.") : wrong ? verdict("no", "✗ Wrong. Change lines to find the answer.") : null;
   const head = k === 0 && h("p", { class: "row-note" }, h("b", {}, "Questions. "),
-    "Answer by a number, or by one word as it's spelt here or in replies.");
+    "Answer with a number, or with one word as it's written here or in a reply.");
   return h("li", { class: "ask" }, head, form, said);
 }
 
@@ -188,7 +211,7 @@ function answerAsk(place, text, answer, k) {
 function gradeOf() {
   const { right, wrong, missing } = page.engine.marks(page.known.text, page.text);
   const isSound = page.steps.every(step => step.kind !== "bad" && (step.expected === null || step.isMet));
-  return `By its key, with the questions: ${right} right, ${wrong} wrong, ${missing} missing`
+  return `By the key, with the questions: ${right} right, ${wrong} wrong, ${missing} missing`
     + `${right && !wrong && !missing && isSound ? ": it passes." : "."}`;
 }
 
@@ -197,9 +220,9 @@ function gradeOf() {
 // How all lines are written, as `bsdplay --help` prints it, and what stands in the place of each word.
 function showForms() {
   const list = all => h("ul", {}, all.map(it => h("li", {}, h("code", {}, it))));
-  byId("forms-of").replaceChildren(h("h3", {}, "One machine"), list(FORMS.machine),
-    h("h3", {}, "Many machines: ", h("code", {}, "NAME:"), " stands in front of those above"), list(FORMS.wire),
-    h("h3", {}, "A host on an Ethernet, behind its ", h("code", {}, "NAME:")), list(FORMS.ethernet),
+  byId("forms-of").replaceChildren(h("h3", {}, "One host"), list(FORMS.machine),
+    h("h3", {}, "Many hosts: write ", h("code", {}, "NAME:"), " in front of the lines above"), list(FORMS.wire),
+    h("h3", {}, "A host on an Ethernet, after its ", h("code", {}, "NAME:")), list(FORMS.ethernet),
     h("h3", {}, "Words"), list(FORMS.words));
 }
 
@@ -236,8 +259,8 @@ function showScore() {
   const isShown = isExercise() || (all.length > 0 && !page.known);
   byId("score").hidden = !isShown;
   if (!isShown) return;
-  const said = `${right.length} of ${all.length} expected replies came; `
-    + `${page.steps.filter(isUnsolved).length} lines have none.`;
+  const said = `${right.length} of ${all.length} predicted replies are right; `
+    + `${page.steps.filter(isUnsolved).length} lines have no prediction.`;
   const graded = isExercise() ? `${gradeOf()} ` : "";
   byId("score").replaceChildren(said, " ", graded, isExercise() && page.text !== unsolved(page.known.text)
     ? h("button", { type: "button", onclick: anew }, "Begin again") : "");
@@ -258,16 +281,18 @@ async function openFile(file) {
     return;
   }
   const { fault, records } = page.engine.records(bytes), script = captureScript(page.engine, records);
-  const told = `${file.name}: ${records.length ? script.fault || fault : fault || script.fault}`;
+  const name = file.name.replace(/\s+/g, " "), causes = records.length ? [script.fault, fault] : [fault, script.fault];
+  const told = `${name}: ${causes.find(Boolean)}`;
   if (script.fault) {
     byId("trouble").textContent = told;
     return;
   }
-  const { taken, all, ip } = script.counts, ended = fault && ` Reading ended: ${fault}.`;
-  const head = `# ${file.name}: ${taken} of its ${all} records are for ${script.options.addr}; ${ip} have IPv4.`
-    + `${ended}\n`;
+  const { all, ip, ours, taken } = script.counts, ended = fault ? ` Reading ended: ${fault}.` : "";
+  const first = taken < ours ? ` The script has the first ${taken} of these; bsdplay why reads all.` : "";
+  const read = `${plural(all, "record")}, ${plural(ip, "IPv4 packet")}, ${ours} for ${script.address}`;
+  const head = `# ${name}: ${read}.${first}${ended}\n`;
   open("run", { text: head + script.text, place: script.place });
-  if (fault) byId("trouble").textContent = `${told}. The records in front of that are here.`;
+  if (fault) byId("trouble").textContent = `${told}. The records before it are shown.`;
 }
 
 // A script; an exercise that was saved is opened as that exercise.

@@ -32,7 +32,7 @@ const MOST_BELOW = 30;
 // What was expected of a line, and whether it came.
 const expectedView = step => (step.isMet
   ? verdict("yes", "As expected.")
-  : verdict("no", "Expected was ", h("code", {}, step.expected), "."));
+  : verdict("no", "Expected: ", h("code", {}, step.expected), "."));
 
 // ---- where the bytes lie
 
@@ -52,14 +52,14 @@ const allButton = () => h("button", { type: "button", class: "all", "aria-presse
 } }, "Draw all");
 
 const STACK_CAPTION = "An mbuf has 128 bytes, and is one of the four kinds of volume 2, figure 2.1. m_next leads to "
-  + "the next mbuf of a packet, and m_nextpkt to the next packet of a queue, as in figure 2.2.";
+  + "the next mbuf of a packet, m_nextpkt to the next packet of a queue (figure 2.2).";
 const CAPTIONS = {
-  so_rcv: "so_rcv is a socket's receive queue (chapter 16). The sender's address stands in an mbuf in front of each "
-    + "datagram. In 4.4BSD that is one of type MT_SONAME, without a packet header; here it has the datagram's.",
+  so_rcv: "so_rcv is a socket's receive queue (chapter 16). An mbuf in front of each datagram holds the sender's "
+    + "address. In 4.4BSD it has type MT_SONAME and no packet header; here it has the datagram's packet header.",
   if_snd: "if_snd is the interface's output queue (chapter 3).",
-  ipq: "An ipq is a datagram whose fragments haven't all come (chapter 10). In 4.4BSD a struct ipq stands in an mbuf "
-    + "of its own; here that mbuf is taken too, and left empty. A fragment's rcvif says its offset × 2, and 1 more "
-    + "where others follow; its IP header is gone.",
+  ipq: "An ipq is a datagram of which fragments are missing (chapter 10). In 4.4BSD a struct ipq fills an mbuf; here "
+    + "that mbuf is allocated too, and stays empty. A fragment's rcvif is its offset × 2, plus 1 if more fragments "
+    + "follow; its IP header is removed.",
 };
 
 // The captions of what a state holds.
@@ -80,28 +80,38 @@ function verdictsOf(step, before, now) {
   if (grown.length) all.push(verdict("yes",
     `Delivered: it waits in the receive queue of ${grown.map(it => `socket ${it.fd}`).join(" and ")}.`));
   if (step.kind === "send" && sent > 0) {
-    const how = has(step, "ip.fragmented") ? ": the datagram was cut into fragments" : "";
+    const how = has(step, "ip.fragmented") ? ": the datagram was fragmented" : "";
     all.push(verdict("yes", `${plural(sent, "packet")} went to the output queue${how}.`));
   }
   if (step.packet && step.kind === "in" && !grown.length && !step.drops.some(it => ENDS.has(it.name))) {
-    all.push(verdict("wait", step.packet.isFragment ? "It waits: the datagram isn't whole yet." : "It was taken."));
+    all.push(verdict("wait", step.packet.isFragment ? "Kept: the datagram isn't whole yet." : "Accepted."));
   }
   for (const it of step.drops) {
     const cause = causeIn(step, it.name), rule = RULES[cause];
     const many = it.by > 1 ? `${it.by} dropped` : "Dropped";
     all.push(verdict("no", h("b", {}, many), `: ${cause} (`, h("code", {}, it.name), `)${bothSums(step, it.name)}.`,
-      rule && h("span", { class: "rule" }, `The rule: ${rule}.`)));
+      rule && h("span", { class: "rule" }, `The rule: ${rule}.`), GIVES_UP.has(it.name) && givenUp(step, before, now)));
   }
   if (step.data) all.push(verdict("yes", "Read: ",
     h("code", {}, step.data.length ? readable(step.data, 60) : "no bytes")));
   return all;
 }
 
+// Counters of unfinished datagrams that were dropped.
+const GIVES_UP = new Set(["ip.fragtimeout", "ip.reclaimed"]);
+
+// Those that a line dropped: they were unfinished before it, and it made no datagram whole.
+function givenUp(step, before, now) {
+  const left = now.pieces.map(it => it.key), gone = before.pieces.filter(it => !left.includes(it.key));
+  const told = it => h("span", { class: "rule" }, `${it.key}: bytes ${bytesTold(it)} came.`);
+  return has(step, "ip.reassembled") ? [] : gone.map(told);
+}
+
 // Why something was dropped: the program's cause, or else what the counter counts.
 const causeIn = ({ causes }, name) => (causes && causes.get(name)) || COUNTERS[name];
 
 // What is wrong with a line that did nothing, and the command that was meant.
-const faultVerdict = step => [verdict("no", h("b", {}, "It does nothing: "),
+const faultVerdict = step => [verdict("no", h("b", {}, "The line does nothing: "),
   step.column ? `column ${step.column}, ` : "", worded(step.why), "."), mendView(step)];
 
 // The program's words, with what stands between backticks as it's written in a script.
@@ -166,13 +176,13 @@ function queueOf(kind, queue, fresh, tell) {
 function socketView(socket, before) {
   const old = before.sockets.find(it => it.fd === socket.fd),
     fresh = socket.queue.length - (old ? old.queue.length : 0);
-  const about = [socket.local ? `hears ${socket.local}` : "has no port", socket.peer && `peer ${socket.peer}`,
+  const about = [socket.local ? `bound to ${socket.local}` : "has no port", socket.peer && `peer ${socket.peer}`,
     ...socket.options];
   const tell = it => [h("small", {}, it.from), h("code", {}, it.data.length ? readable(it.data, 10) : "no bytes"),
     h("small", {}, `${plural(it.data.length, "byte")}, ${buffersOf(it)}`)];
   return h("div", { class: "holder" }, h("b", {}, `socket ${socket.fd}`), " ",
     h("span", { class: "faint" }, about.filter(Boolean).join(", ")),
-    socket.queue.length ? queueOf("queue", socket.queue, fresh, tell) : h("p", { class: "faint" }, "Nothing waits."));
+    socket.queue.length ? queueOf("queue", socket.queue, fresh, tell) : h("p", { class: "faint" }, "The receive queue is empty."));
 }
 
 function outputView(output, before) {
@@ -188,22 +198,24 @@ function outputView(output, before) {
     queueOf("output", output, output.length - before.output.length, tell));
 }
 
+const sortedPieces = ({ pieces }) => [...pieces].sort((a, b) => a.from - b.from);
+const bytesTold = it => sortedPieces(it).map(({ from, to }) => `${from} to ${to - 1}`).join(", ");
+
 // The pieces of an unfinished datagram in their order, on a scale that all of them share.
-function piecesView({ key, pieces, end }, most) {
-  const whole = end || Math.max(...pieces.map(it => it.to)), sorted = [...pieces].sort((a, b) => a.from - b.from);
-  const bars = sorted.map(it =>
+function piecesView(datagram, most) {
+  const { key, pieces, end } = datagram, whole = end || Math.max(...pieces.map(it => it.to));
+  const bars = sortedPieces(datagram).map(it =>
     h("i", { style: `left: ${(100 * it.from) / whole}%; width: ${(100 * (it.to - it.from)) / whole}%` }));
-  const told = sorted.map(it => `${it.from} to ${it.to - 1}`).join(", ");
   return h("div", { class: "pieces" }, h("small", {}, key),
     h("div", { class: `pieces-bar${end ? "" : " open"}`, "aria-hidden": "true",
       style: `width: ${(100 * whole) / most}%` }, bars),
-    h("small", {}, `bytes ${told} came; ${end ? `it has ${end}` : "its end isn't known yet"}`));
+    h("small", {}, `has bytes ${bytesTold(datagram)}${end ? ` of ${end}` : "; its length isn't known yet"}`));
 }
 
 function unfinishedView({ pieces, owned }) {
   const least = Math.min(...pieces.map(it => it.ticks));
   const most = Math.max(...pieces.map(it => it.end || Math.max(...it.pieces.map(piece => piece.to))));
-  const until = pieces.length > 0 && `, dropped in ${plural(least, "tick")} unless whole by then`;
+  const until = pieces.length > 0 && `, the next one expires in ${plural(least, "tick")}`;
   return h("div", { class: "holder" }, h("b", {}, "unfinished datagrams"), " ",
     h("span", { class: "faint" }, `${plural(owned.unfinished.mbufs, "mbuf")}${until || ""}`),
     pieces.slice(0, 6).map(it => piecesView(it, most)),
@@ -219,14 +231,14 @@ function ownersOf({ owned }, name, used) {
   return [...parts, { name: "shared between owners", kind: "shared", count: rest }];
 }
 
-function machineView({ pool }, before, now, title = "The machine after this line") {
+function machineView({ pool }, before, now, title = "The host after this line") {
   const mbufs = ownersOf(now, "mbufs", pool.used),
     clusters = ownersOf(now, "clusters", pool.usedClusters);
   const legend = [...mbufs.filter((it, i) => i < 3 || it.count + clusters[i].count), { name: "free", kind: "free" }];
   return panel(title,
     poolBar("mbufs", pool.mbufs, mbufs), poolBar("clusters", pool.clusters, clusters),
     h("p", { class: "legend" }, legend.map(it => h("span", { class: `of-${it.kind}` }, it.name))),
-    pool.most > 1 && h("p", { class: "faint" }, `The most shared cluster is counted ${pool.most}.`),
+    pool.most > 1 && h("p", { class: "faint" }, `The most shared cluster has ${pool.most} references.`),
     now.sockets.map(socket => socketView(socket, before)),
     now.output.length > 0 && outputView(now.output, before), now.owned.unfinished.mbufs > 0 && unfinishedView(now));
 }
@@ -244,7 +256,7 @@ function countersView(step, name = "counters") {
 // The packet of a line with its checks, or the first packets that it put into the output queue.
 function packetsOfLine(step, before, now) {
   const about = [];
-  if (step.packet && step.kind === "in") about.push(panel("The checks, in their order", checksOf(step)));
+  if (step.packet && step.kind === "in") about.push(panel("The checks, in order", checksOf(step)));
   if (step.packet) about.push(panel(null,
     packetView(step.packet, step.kind === "in" ? "From the wire" : "To the wire")));
   const sent = step.kind === "send" ? now.output.slice(before.output.length) : [];
@@ -259,7 +271,7 @@ function stackView(page, step) {
   const memory = memoryView(before.state, now.state), { addr, mtu } = page.options;
   if (step.packet && step.kind === "in") step.wrongSum = wrongSumOf(page.own.slice(0, page.ranAfter(step.number)));
   const about = packetsOfLine(step, before, now);
-  const title = ["The machine after this line ", h("span", { class: "faint" }, `${addr}, MTU ${mtu}`)];
+  const title = ["The host after this line ", h("span", { class: "faint" }, `${addr}, MTU ${mtu}`)];
   const state = [machineView(step, before, now, title), countersView(step)];
   const lead = leadOf(step, page.noteOf(step), verdictsOf(step, before, now));
   const packets = about.length > 0 && h("div", { class: "column" }, about);
@@ -277,19 +289,18 @@ function sharersView({ mbufs, clusters }) {
   const partOf = it => `mbuf ${it.n} has ${plural(it.len, "byte")} from ${it.data.toLocaleString("en")} on`;
   const told = ([n, count]) => {
     const parts = mbufs.filter(it => it.cluster === +n).slice(0, 8).map(partOf).join(", ");
-    return h("li", {}, h("b", {}, `Cluster ${n}`), ` is counted ${count}: ${parts}${count > 8 ? ", .." : ""}.`);
+    return h("li", {}, h("b", {}, `Cluster ${n}`), ` has ${count} references: ${parts}${count > 8 ? ", .." : ""}.`);
   };
   return shared.length > 0 && h("ul", { class: "sharers" }, shared.map(told));
 }
 
-const CHAIN_CAPTION = "An mbuf has 128 bytes, of which its header takes 20, and 8 more for a packet. It's one of the "
-  + "four kinds of volume 2, figure 2.1. A cluster has 2,048 bytes, and is counted once for each mbuf that refers to "
-  + "it.";
+const CHAIN_CAPTION = "An mbuf has 128 bytes. Its header takes 20, and a packet header 8 more. Volume 2, figure 2.1, "
+  + "shows its four kinds. A cluster has 2,048 bytes, and a reference count: the number of mbufs that refer to it.";
 
 function chainsView(step, before, after) {
   const title = "The chains after this line";
   if (!after.chains.length && !(before && before.chains.length)) {
-    return panel(title, h("p", { class: "faint" }, "No chain is held."));
+    return panel(title, h("p", { class: "faint" }, "There are no chains."));
   }
   const refused = refusedIn(step, page.drawnAfter(step.number), clustersIn(page.drawnAfter(step.number)));
   const marked = [...refused].map(n => after.named.get(n).n);
@@ -297,14 +308,14 @@ function chainsView(step, before, after) {
 }
 
 function chainView(page, step) {
-  const refused = !step.isOk && verdict("no", h("b", {}, step.reply), `: ${step.why}. Nothing has changed.`);
+  const refused = !step.isOk && verdict("no", h("b", {}, step.reply), `: ${step.why}. The line changed nothing.`);
   const before = page.chainsAfter(step.number - 1), after = page.chainsAfter(step.number);
   const pool = step.pool, inChains = count => [{ name: "in chains", kind: "queue", count }];
-  const many = pool.refs > pool.usedClusters ? " So bytes are shared, and not copied." : "";
+  const many = pool.refs > pool.usedClusters ? " So their bytes are shared, not copied." : "";
   const refer = `${plural(pool.refs, "mbuf")} ${pool.refs === 1 ? "refers" : "refer"}`;
-  const told = `${refer} to ${plural(pool.usedClusters, "cluster")}; the greatest count is ${pool.most}.${many}`;
+  const told = `${refer} to ${plural(pool.usedClusters, "cluster")}; the highest reference count is ${pool.most}.${many}`;
   return [leadOf(step, page.noteOf(step), refused), chainsView(step, before, after),
     panel("The pool after this line", poolBar("mbufs", pool.mbufs, inChains(pool.used)),
       poolBar("clusters", pool.clusters, inChains(pool.usedClusters)),
-      h("p", { class: "faint" }, pool.refs ? told : "No cluster is referred to."))];
+      h("p", { class: "faint" }, pool.refs ? told : "No cluster is used."))];
 }

@@ -84,7 +84,7 @@ function rowOf(step, i) {
         : cut(step.says || step.reply, step.kind === "ask" ? 60 : 44)),
       badgesOf(step), markOf(step), h("span", { class: "delta" }, delta))];
   const alone = [isExercise() && note && h("span", { class: "row-note" }, note), askedLine(step),
-    h("span", { class: "after" }, h("span", { class: "answer" }, isAsked ? "guess first" : ".."))];
+    h("span", { class: "after" }, h("span", { class: "answer" }, isAsked ? "a question" : "hidden"))];
   return h("li", {}, h("button", { class: "row", type: "button", onclick: () => select(i) },
     h("span", { class: "number" }, String(page.notes.places[i] + 1)),
     isHidden ? h("span", { class: "sign", "aria-hidden": "true" }, "?") : signOf(step),
@@ -92,7 +92,7 @@ function rowOf(step, i) {
 }
 
 // A line as it's asked about: a packet of many digits in words.
-const askedLine = step => (step.kind === "in" && step.line.length > 60
+const askedLine = step => (step.kind === "in" && step.packet && step.line.length > 60
   ? [h("code", {}, step.verb), " ", step.packet.tells] : h("code", {}, cut(step.line, 160)));
 
 function refreshRows() {
@@ -108,6 +108,20 @@ function spoken(step) {
     + `${page.noteOf(step) || ""}`;
 }
 
+// The same of a line whose reply is hidden, too.
+function spokenOf(step, question) {
+  const line = `line ${page.notes.places[page.at] + 1}: ${cut(step.line, 80)}.`;
+  if (question) return `${line} A question: ${question.text}`;
+  if (!isBehindQuestion(page.at)) return spoken(step);
+  return `${line} It is hidden until you answer the question of line ${page.notes.places[page.firstQuestion] + 1}.`;
+}
+
+// What is shown at the right.
+function viewsOf(step, question) {
+  if (question) return [questionView(step, page.at, question)];
+  return isBehindQuestion(page.at) ? [hiddenView(step)] : PLAYS[page.mode].view(page, step).filter(Boolean);
+}
+
 let stopFigures = [];
 
 // Looks at a line. All that is shown of it is made anew.
@@ -117,15 +131,13 @@ function select(i) {
   const step = page.steps[page.at], question = questionOf(page.at);
   showRow();
   byId("curve").replaceChildren(...curve(page.steps, page.at, select, page.firstQuestion ?? page.steps.length));
-  const views = question ? [questionView(step, page.at, question)] : PLAYS[page.mode].view(page, step).filter(Boolean);
-  const guess = !question && guessView(page.at);
+  const views = viewsOf(step, question), guess = !question && guessView(page.at);
   if (guess) views[0].append(guess);
   for (const stop of stopFigures) stop();
   byId("look").replaceChildren(...views);
   stopFigures = [...byId("look").querySelectorAll(".figure-host")].map(host => MbufFigure.mount(host, host.figure));
   byId("place").textContent = `${step.number} of ${page.steps.length}`;
-  byId("said").textContent = question
-    ? `line ${page.notes.places[page.at] + 1}: ${cut(step.line, 80)}. A question: ${question.text}` : spoken(step);
+  byId("said").textContent = spokenOf(step, question);
   for (const mark of byId("gutter").querySelectorAll(".here")) mark.classList.remove("here");
   byId("gutter").children[page.notes.places[page.at]].classList.add("here");
 }

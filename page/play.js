@@ -1,5 +1,5 @@
 "use strict";
-// Scripts of bsdplay's language (docs/play.md). The program plays them, and says what each line was answered. What
+// Scripts of bsdplay's language (docs/scripts.md). The program plays them, and says what each line was answered. What
 // else is shown of a line it's asked for: each becomes lines of `bsdudp run`, which are played on machines of their
 // own.
 
@@ -132,7 +132,7 @@ function stepOf(it, text, ran, last, config) {
   const by = name => sumOf(ran.flatMap(one => one.changed).filter(one => one.name === name), "by");
   const changed = counterNames(ran).map(name => ({ name, by: by(name) })).filter(one => one.by !== 0);
   const all = { before: ran[0].before, changed, drops: changed.filter(({ name }) => DROPS.has(name)) };
-  if (!ticks) return { ...last, ...said, ...all, tells: `${ran.length} half seconds pass` };
+  if (!ticks) return { ...last, ...said, ...all, tells: `${ran.length / 2} s pass` };
   const own = ran.length > ticks ? { ...last, causes: causesOf(said.says, last.drops) }
     : { ...step, ...otherOf({ ...said, line: plain }) };
   return { ...own, ...said, ...all, tells: own.tells + whenOf(ticks) };

@@ -19,40 +19,40 @@ const CHECKS = [
   ["nobufs", "buffers for the packet"],
   ["ip.toosmall", "at least 20 bytes"],
   ["ip.badvers", "version 4"],
-  ["ip.badhlen", "header of 5 words or more"],
+  ["ip.badhlen", "header of at least 5 words"],
   ["ip.options", "no options"],
   ["ip.badsum", "header checksum"],
-  ["ip.badlen", "total length of 20 or more"],
-  ["ip.tooshort", "all bytes came"],
-  ["ip.cantforward", "it's for this machine"],
-  ["ip.badfrag", "a fragment's size and place"],
+  ["ip.badlen", "total length of at least 20"],
+  ["ip.tooshort", "as many bytes as the total length"],
+  ["ip.cantforward", "destination is this host"],
+  ["ip.badfrag", "fragment's size and offset"],
   ["ip.noproto", "protocol is UDP"],
-  ["ip.fragdropped", "the fragment brings new bytes"],
+  ["ip.fragdropped", "fragment has new bytes"],
   ["udp.hdrops", "8 bytes of UDP header"],
   ["udp.badlen", "UDP length"],
   ["udp.badsum", "UDP checksum"],
-  ["udp.noport", "a socket hears it"],
-  ["udp.noportbcast", "a socket hears the broadcast"],
+  ["udp.noport", "a socket for it"],
+  ["udp.noportbcast", "a socket for the broadcast"],
   ["udp.fullsock", "room in the receive queue"],
-  ["nobufs later", "buffers on the way"],
+  ["nobufs later", "buffers for its delivery"],
 ];
 const ENDS = new Set(CHECKS.map(([name]) => name));
 const DROPS = new Set([...ENDS, "ip.fragtimeout", "ip.reclaimed", "out.dropped"]);
 
 const ERRORS = {
   EBADF: "no socket with this descriptor is open",
-  EACCES: "the socket hasn't the option broadcast",
-  EINVAL: "the socket has a port or a local address already",
+  EACCES: "the socket's broadcast option is off",
+  EINVAL: "the socket already has a port or a local address",
   EMFILE: "64 sockets are open",
-  EWOULDBLOCK: "no datagram waits, and no call waits for one",
+  EWOULDBLOCK: "the receive queue is empty, and calls don't block",
   EDESTADDRREQ: "the socket isn't connected, so there is no address to send to",
-  EMSGSIZE: "more than 9,216 bytes, or a broadcast that would have to be cut",
-  EADDRINUSE: "another socket stands in the way",
-  EADDRNOTAVAIL: "no local address, or port 0",
-  "ENOBUFS pool": "fewer buffers are free than the datagram takes",
-  "ENOBUFS queue": "the output queue holds 50 packets, and not all of these fitted",
-  EISCONN: "the socket is connected, so no address may be given",
-  EHOSTUNREACH: "the address leads nowhere",
+  EMSGSIZE: "more than 9,216 bytes, or a broadcast longer than the MTU",
+  EADDRINUSE: "another socket uses this address and port",
+  EADDRNOTAVAIL: "not an address of this host, or port 0",
+  "ENOBUFS pool": "the pool has too few free buffers for the datagram",
+  "ENOBUFS queue": "the output queue has no room for all packets: it holds 50",
+  EISCONN: "the socket is connected, so it takes no address",
+  EHOSTUNREACH: "there is no route to the address",
 };
 
 // ---- replies
@@ -100,19 +100,19 @@ const has = (step, name) => step.changed.some(it => it.name === name);
 
 // What each kind of line says in words. `w` are its words.
 const at = (ip, port) => `${ip}:${port}`;
-const portName = port => (port === "0" ? "a port of the machine's choice" : `port ${port}`);
+const portName = port => (port === "0" ? "a port that the host chooses" : `port ${port}`);
 const STACK_TELLS = {
   socket: (w, step) => ["call", step.reply.startsWith("ok") ? `descriptor ${step.reply.slice(3)}` : "a socket"],
-  bind: (w, step) => ["call", `socket ${w[1]} ${step.reply === "ok" ? "hears" : "asks for"} `
-    + `${w[2] === "0.0.0.0" ? "every address" : w[2]}, ${portName(w[3])}`],
+  bind: (w, step) => ["call", `socket ${w[1]} ${step.reply === "ok" ? "is bound to" : "asks for"} `
+    + `${w[2] === "0.0.0.0" ? "any address" : w[2]}, ${portName(w[3])}`],
   connect: w => ["call", `socket ${w[1]} with ${at(w[2], w[3])}`],
   sendto: w => ["send", `socket ${w[1]} sends ${plural(bytesOf(w[4]).length, "byte")} to ${at(w[2], w[3])}`],
   send: w => ["send", `socket ${w[1]} sends ${plural(bytesOf(w[2]).length, "byte")} to its peer`],
-  close: w => ["call", `socket ${w[1]} and what waits in it`],
+  close: w => ["call", `socket ${w[1]} and its receive queue`],
   setsockopt: w => ["call", `socket ${w[1]}: ${w[2]} ${w[3] === "1" ? "on" : "off"}`],
   tick: () => ["tick", "half a second passes"],
-  stat: () => ["ask", "the counters that aren't 0"],
-  mbstat: () => ["ask", "how much of the pool is in use"],
+  stat: () => ["ask", "counters other than 0"],
+  mbstat: () => ["ask", "free and used buffers of the pool"],
 };
 
 function tellStep(step) {
@@ -125,7 +125,7 @@ function tellStep(step) {
     return { ...common, kind: "in", packet, tells: packet.tells };
   }
   if (verb === "tx") {
-    if (step.reply === "none") return { ...common, kind: "out", tells: "no packet waits for the link" };
+    if (step.reply === "none") return { ...common, kind: "out", tells: "the output queue is empty" };
     const packet = new Packet(bytesOf(step.reply.slice("packet ".length)));
     return { ...common, kind: "out", packet, tells: packet.tells };
   }

@@ -249,19 +249,19 @@ function changesOf(step, before, hosts) {
 }
 
 const numbered = word => `packet ${word} on the wire`;
-const ofWhom = w => (w[1] === "from" ? ` of what ${w[2]} sends` : "");
+const ofWhom = w => (w[1] === "from" ? ` from ${w[2]}` : "");
 const WIRE_TELLS = {
-  host: w => ["call", `${w[0]} is a machine: ${w.slice(1).join(" ") || "--addr 10.0.0.1"}`],
-  wire: w => ["call", `it joins ${w.join(", ")}`],
-  carry: () => ["wire", "what waits goes on the wire, and what is due comes"],
-  collect: () => ["wire", "what waits at each machine goes on the wire"],
-  deliver: () => ["wire", "what is due comes"],
-  tick: w => ["tick", w[0] > 1 ? `${w[0]} half seconds pass at all machines` : "half a second passes at all machines"],
-  loss: w => ["call", `${w[0]} is lost by chance${ofWhom(w)}`],
-  repeat: w => (/[%./]/.test(w[0]) ? ["call", `${w[0]} goes twice by chance${ofWhom(w)}`]
-    : ["wire", `${numbered(w[0])} is there twice`]),
+  host: w => ["call", `${w[0]} with ${w.slice(1).join(" ") || "--addr 10.0.0.1"}`],
+  wire: w => ["call", `joins ${w.join(", ")}`],
+  carry: () => ["wire", "waiting packets go on the wire, and due ones arrive"],
+  collect: () => ["wire", "waiting packets go on the wire"],
+  deliver: () => ["wire", "due packets arrive"],
+  tick: w => ["tick", w[0] > 1 ? `${w[0] / 2} s pass at all hosts` : "half a second passes at all hosts"],
+  loss: w => ["call", `${w[0]} of the packets${ofWhom(w)} are lost`],
+  repeat: w => (/[%./]/.test(w[0]) ? ["call", `${w[0]} of the packets${ofWhom(w)} are sent twice`]
+    : ["wire", `${numbered(w[0])} is duplicated`]),
   drop: w => ["wire", `${numbered(w[0])} is lost`],
   swap: w => ["wire", `packets ${w[0]} and ${w[1]} on the wire change places`],
-  show: () => ["ask", "what is on the wire"],
-  summary: () => ["ask", "what each machine sent and received"],
+  show: () => ["ask", "packets on the wire"],
+  summary: () => ["ask", "what each host sent and received"],
 };

@@ -3,16 +3,16 @@
 
 // What became of a packet that left the wire: how it's marked, and in words.
 function fateOf({ fate, to, place, cause, packet }, hosts, step) {
-  if (fate === "dropped") return ["no", "It's lost by this line."];
-  if (fate === "unheard") return ["no", "No other machine on the wire has this address."];
+  if (fate === "dropped") return ["no", "This line drops it."];
+  if (fate === "unheard") return ["no", "No other host on the wire has this address."];
   if (fate === "lost") return ["no", "It's lost on the wire."];
-  if (fate === "no room") return ["no", "It's lost: the wire has no room."];
+  if (fate === "no room") return ["no", "It's lost: the wire is full."];
   if (place === null) return heardOf(packet, to, hosts, step);
   const own = hosts.get(to).steps[place], end = own.drops.find(it => ENDS.has(it.name));
   if (cause) return ["no", `${to} drops it${end ? `, counted in ${end.name}` : ""}: ${cause}.`];
   if (has(own, "ip.reassembled")) return ["yes", `${to} has all fragments now: the datagram is whole.`];
   if (own.packet.isFragment) return ["wait", `${to} keeps it: the datagram isn't whole yet.`];
-  return ["yes", `${to} takes it.`];
+  return ["yes", `${to} accepts it.`];
 }
 
 // How many packets of a step are shown in words, and how many as they're drawn.
@@ -41,9 +41,9 @@ function flightView({ flight }) {
 
 // The wire with a box for each machine on it, and what it does by chance.
 function segmentView({ joined, chances }) {
-  if (!joined.length) return h("p", { class: "faint" }, "No wire joins the machines yet.");
+  if (!joined.length) return h("p", { class: "faint" }, "No wire joins the hosts yet.");
   const box = host => h("li", {}, h("b", {}, host.name), h("small", {}, host.options.addr));
-  return [h("ol", { class: chances.length ? "segment cut" : "segment", "aria-label": "the machines on the wire" },
+  return [h("ol", { class: chances.length ? "segment cut" : "segment", "aria-label": "the hosts on the wire" },
     joined.map(box)), chances.length > 0 && h("p", { class: "cross" }, `By chance: ${chances.join("; ")}.`)];
 }
 
@@ -53,7 +53,7 @@ function putButtons({ joined, chances }) {
     h("button", { type: "button", id: `put-${line.split(" ")[0]}`, onclick() {
       putLine(line, this.id);
     } }, name);
-  return joined.length > 0 && h("div", { class: "puts", role: "group", "aria-label": "lines to put behind this one" },
+  return joined.length > 0 && h("div", { class: "puts", role: "group", "aria-label": "insert a line after this one" },
     button("carry", "Carry"), button("tick", "Tick"), chances.some(it => it.startsWith("loss"))
       ? button("loss 0%", "Lose none") : button("loss 100%", "Lose all"));
 }
@@ -69,13 +69,13 @@ const heldAround = (page, step, host) =>
 function hostView(page, step, host) {
   const n = step.now.get(host.name), { pool, counters, mac } = stateOf(step, host.name, page.hosts);
   const changed = step.changed.filter(it => it.host === host.name), [before, now] = heldAround(page, step, host);
-  const title = [`machine ${host.name} `, h("span", { class: "faint" }, [host.options.addr, mac].filter(Boolean)
+  const title = [`host ${host.name} `, h("span", { class: "faint" }, [host.options.addr, mac].filter(Boolean)
     .join(", "))];
   const isChanged = n > (step.was.get(host.name) || 0);
   if (!isFollowed(step, host)) {
     return h("div", { class: "column" }, neighboursView(step, host), panel(title,
       poolBar("mbufs", pool.mbufs, []), h("p", { class: "faint" },
-        "What it holds isn't drawn: a line moved more packets than the page follows.")),
+        "Its buffers aren't drawn: a line moved more packets than the page follows.")),
     countersView({ counters, changed }, `Counters of ${host.name}`));
   }
   const memory = isChanged && memoryView(before.state, now.state, `The mbufs of ${host.name}`);
@@ -92,7 +92,7 @@ function packetsOf(page, step, hosts) {
   }
   if (step.wire.joined.some(it => it.isEther)) return framesOf(step, hosts);
   const checks = it => it.fate === "delivered"
-    && panel(`The checks at ${it.to}, in their order`, checksOf(hosts.get(it.to).steps[it.place]));
+    && panel(`The checks at ${it.to}, in order`, checksOf(hosts.get(it.to).steps[it.place]));
   return step.moved.slice(0, SHOWN.drawn).map(it => h("div", { class: "column" }, checks(it),
     panel(null, packetView(it.packet, it.to ? `${it.from} ⟶ ${it.to}` : `From ${it.from}`))));
 }

@@ -59,7 +59,9 @@ def runs(*words: str) -> Callable[[], bool]:
     return known
 
 
+NS3 = ["ns3-core = 3.37", "ns3-internet", "ns3-applications", "ns3-point-to-point", "ns3-csma", "gsl", "sqlite3"]
 has_namespace = runs("unshare", "-n", "true")
+has_veth = runs("unshare", "-n", "ip", "link", "add", "w0", "type", "veth", "peer", "name", "w1")
 has_overlay = runs("unshare", "-m", "sh", "-c", "mount -t tmpfs tmpfs /mnt && mkdir /mnt/a /mnt/b /mnt/c /mnt/d && "
                    "mount -t overlay overlay -o lowerdir=/mnt/a,upperdir=/mnt/b,workdir=/mnt/c /mnt/d")  # fmt: skip
 
@@ -74,13 +76,23 @@ TOOLS = {
     "tsan": Tool(links("-fsanitize=thread"), "gcc"),
     "asan": Tool(links("-fsanitize=address,undefined"), "gcc"),
     "pkg-config": Tool(command("pkg-config"), "pkg-config"),
+    "glib": Tool(runs("pkg-config", "--exists", "glib-2.0"), "libglib2.0-dev"),
+    "apt-get": Tool(command("apt-get"), what="this isn't Debian"),
     "cmake": Tool(lambda: command("cmake")() and command("make")(), "cmake make"),
+    "ns-3 3.37": Tool(runs("pkg-config", "--exists", *NS3), "libns3-dev libgsl-dev libsqlite3-dev"),
+    "dpkg-dev": Tool(command("dpkg-shlibdeps"), "dpkg-dev"),
+    "lintian": Tool(command("lintian"), "lintian"),
     "libpcap": Tool(includes("pcap/pcap.h"), "libpcap-dev"),
     "tshark": Tool(command("tshark"), "tshark"),
     "editcap": Tool(command("editcap"), "wireshark-common"),
+    "mergecap": Tool(command("mergecap"), "wireshark-common"),
     "tcpdump": Tool(command("tcpdump"), "tcpdump"),
     "scapy": Tool(module("scapy"), "python3-scapy"),
     "hypothesis": Tool(module("hypothesis"), "python3-hypothesis"),
+    "numpy": Tool(module("numpy"), "python3-numpy"),
+    "matplotlib": Tool(module("matplotlib"), "python3-matplotlib"),
+    "distributed": Tool(module("distributed"), "python3-distributed"),
+    "venv": Tool(module("ensurepip"), "python3-venv"),
     "mypy": Tool(command("mypy"), "mypy"),
     "groff": Tool(command("groff"), "groff-base"),
     "node": Tool(command("node"), "nodejs"),
@@ -89,10 +101,23 @@ TOOLS = {
     "wasm2c": Tool(command("wasm2c"), "wabt"),
     "qemu-arm": Tool(command("qemu-system-arm"), "qemu-system-arm"),
     "arm-none-eabi": Tool(command("arm-none-eabi-gcc"), "gcc-arm-none-eabi libnewlib-arm-none-eabi"),
+    "dpkg-source": Tool(command("dpkg-source"), "dpkg-dev"),
+    "cc -m32": Tool(links("-m32"), "lib32gcc-12-dev libc6-dev-i386"),
+    "clang": Tool(command("clang"), "clang"),
+    "arm-linux-gnueabihf": Tool(command("arm-linux-gnueabihf-gcc"), "gcc-arm-linux-gnueabihf libc6-dev-armhf-cross"),
+    "aarch64-linux-gnu": Tool(command("aarch64-linux-gnu-gcc"), "gcc-aarch64-linux-gnu libc6-dev-arm64-cross"),
+    "s390x-linux-gnu": Tool(command("s390x-linux-gnu-gcc"), "gcc-s390x-linux-gnu libc6-dev-s390x-cross"),
+    "qemu-user": Tool(command("qemu-arm"), "qemu-user"),
     "debootstrap": Tool(command("debootstrap"), "debootstrap"),
     "ip": Tool(command("ip"), "iproute2"),
+    "ping": Tool(command("ping"), "iputils-ping"),
+    "arping": Tool(command("arping"), "iputils-arping"),
+    "coap-client": Tool(command("coap-client-notls"), "libcoap3-bin"),
+    "tftp": Tool(runs("tftp", "-V"), "tftp-hpa"),
+    "curl": Tool(command("curl"), "curl"),
     "root": Tool(lambda: os.geteuid() == 0, what="this user isn't root"),
     "netns": Tool(has_namespace, what="no network namespace can be made here"),
+    "veth": Tool(has_veth, what="no pair of veth interfaces can be made here"),
     "tun": Tool(lambda: os.access("/dev/net/tun", os.W_OK), what="/dev/net/tun can't be written here"),
     "overlay": Tool(has_overlay, what="no file system can be mounted here"),
     "x86-64": Tool(lambda: os.uname()[::4] == ("Linux", "x86_64"), what="this isn't Linux on x86-64"),

@@ -19,7 +19,7 @@ PORTABLE = TOP / "portable/out/bsdudp_portable.c"
 TARGETS = TOP / "portable/out/core"
 DOCUMENTS = "share/doc/bsdudp"
 # Pages for who works on the sources, which the archive doesn't have.
-OF_THE_SOURCES = [f"docs/{it}.md" for it in ("DECISIONS", "gate-times", "recipes-maintainers", "testing")]
+OF_THE_SOURCES = "docs/maintain/"
 
 # The bytes of a file, and whether it can be run.
 File = Tuple[bytes, bool]
@@ -70,7 +70,7 @@ def judge() -> Iterator[tuple[str, File]]:
 
 def documents() -> Dict[str, File]:
     """The documents for users, the examples, and what simulators take, below DOCUMENTS."""
-    named = ["LICENSE", "CHANGELOG.md", "CITATION.cff", *(it for it in files_below("docs") if it not in OF_THE_SOURCES)]
+    named = ["LICENSE", "CHANGELOG.md", "CITATION.cff", *(it for it in files_below("docs") if not it.startswith(OF_THE_SOURCES))]
     named += [*files_below("examples"), *files_below("simulators")]
     files: Dict[str, File] = {f"{DOCUMENTS}/{name}": ((TOP / name).read_bytes(), False) for name in named}
     if PAGE.is_file():  # it's made where binaryen is installed

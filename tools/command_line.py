@@ -1,22 +1,54 @@
 """The words of a script, read by argparse: `--help` prints its docstring, and a wrong word ends it with a usage line
-and status 2."""
+and status 2. A script whose output nobody reads any more, as in `SCRIPT | head -1`, ends without a message."""
 from __future__ import annotations
 
 import argparse
+import atexit
+import os
 import pathlib
+import select
 import sys
+from types import TracebackType
 
 TOP = pathlib.Path(__file__).resolve().parent.parent
 
 
 def parser(about: str | None, epilog: str | None = None) -> argparse.ArgumentParser:
     """A parser for the script that runs, which is named by its path in the repository. `about` is its docstring."""
+    end_quietly()
     path = pathlib.Path(sys.argv[0]).resolve()
     name = str(path.relative_to(TOP)) if path.is_relative_to(TOP) else path.name
     how = argparse.RawDescriptionHelpFormatter
     return argparse.ArgumentParser(
         prog=name, description=about, epilog=epilog, formatter_class=how, allow_abbrev=False
     )
+
+
+def end_quietly() -> None:
+    """From now on a BrokenPipeError of standard output prints nothing. One of another pipe prints its traceback."""
+    sys.excepthook = report
+    atexit.register(flush)
+
+
+def report(kind: type[BaseException], fault: BaseException, trace: TracebackType | None) -> None:
+    """Prints an exception that nothing caught, unless it's that nobody reads standard output."""
+    if not (issubclass(kind, BrokenPipeError) and is_unread()):
+        sys.__excepthook__(kind, fault, trace)
+
+
+def flush() -> None:
+    """Writes what is left of standard output, or drops it if nobody reads it."""
+    try:
+        sys.stdout.flush()
+    except BrokenPipeError:
+        os.dup2(os.open(os.devnull, os.O_WRONLY), sys.stdout.fileno())
+
+
+def is_unread() -> bool:
+    """Whether standard output is a pipe that nobody reads."""
+    poll = select.poll()
+    poll.register(sys.stdout.fileno(), 0)
+    return any(event & select.POLLERR for _, event in poll.poll(0))
 
 
 def none(about: str | None) -> None:

@@ -1,5 +1,5 @@
 # Echoes on a Cortex-M3, QEMU's mps2-an385: our library in each build, and lwIP; and, unless BRIEF is set, the library's
-# bytes on each processor and by crate, and the call stack of each call. The tables are those of docs/portable.md. QEMU
+# bytes on each processor and by crate, and the call stack of each call. The tables are those of docs/memory.md. QEMU
 # counts instructions (-icount), so its figures are the same on each machine. LWIP names a folder with lwIP's sources;
 # CORE a folder with libraries of portable/core, as CORE/cortex-m3-Os; PORTABLE one with bsdudp_portable.c.
 . "$bench/peers/measure.sh"

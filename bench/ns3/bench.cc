@@ -199,6 +199,8 @@ main()
     GlobalValue::Bind("ChecksumEnabled", BooleanValue(true));
     // else each node would forward what it hears on the one channel
     Config::SetDefault("ns3::Ipv4::IpForward", BooleanValue(false));
+    Config::SetDefault("ns3::BsdudpStack::Mbufs", UintegerValue(512));
+    Config::SetDefault("ns3::BsdudpStack::Clusters", UintegerValue(64));
 
     std::printf("%-46s %10s %12s %8s\n", "memory of a node, in KB, beside its device", "100 nodes", "1,000 nodes", "");
     const struct

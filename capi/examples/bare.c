@@ -1,11 +1,11 @@
-/* A stack without a C library: its memory is static. It gets a packet, answers it, prints how large it is by write(2)
-   of Linux, and exits. On a board leave `main` and drop the first part. There is no thread-local storage here, so
-   memory.c stands in front of the library.
+/* A stack without a C library: its memory is static. The program passes a packet to the stack, echoes the datagram,
+   prints sizes by write(2) of Linux, and exits. On a board, drop the first part and call `run`. There is no
+   thread-local storage here, so memory.c comes before the library on the command line.
        cc -std=c99 -Os -nostdlib -static -ffreestanding -fno-stack-protector -Wl,--gc-sections -DBSDUDP_THREADS=0 \
            bare.c ../src/memory.c -I PREFIX/include PREFIX/lib/libbsdudp.a && ./a.out */
 #include "bsdudp.h"
 
-/* ---- what a program has to bring: start, exit, output, and the four functions that compilers call */
+/* ---- what a program must provide: start, exit, output, and the four functions that compilers call */
 static long system_call(long number, long a, long b, long c)
 {
     long answer;

@@ -1,6 +1,6 @@
-/* Plays a capture (Ethernet, Linux cooked, loopback or raw IP) into a host that echoes port 7, and writes what the host
-   sends into another one. Time is the capture's own. In the end it says what the host counted. It takes libpcap
-   (Debian's libpcap-dev).
+/* Plays a capture file (Ethernet, Linux cooked, loopback or raw IP) to a host that echoes port 7, and writes the
+   packets that the host sends to another capture file. The clock follows the capture's times. At the end the program
+   prints the host's counters. It needs libpcap (Debian's libpcap-dev).
        cc -std=gnu99 pcap.c -I PREFIX/include PREFIX/lib/libbsdudp.a -lpcap && ./a.out IN OUT 10.0.0.1 10.0.0.255 */
 #include "bsdudp.h"
 
@@ -11,8 +11,8 @@
 
 enum { FD = BSDUDP_FIRST_FD, HALF_SECOND = 500000, LAST_TICK = 60 };
 
-/* A link whose header, of so many bytes, has these `count` bytes at `at` if an IPv4 packet follows. The header of BSD's
-   loopback is in the order of the machine that wrote the capture. */
+/* A link type. Its header has `header` bytes; an IPv4 packet follows if the `count` bytes at offset `at` are these. The
+   header of BSD's loopback is in the byte order of the machine that wrote the capture. */
 static const struct link {
     int type;
     size_t header, at, count;
@@ -39,7 +39,8 @@ static int is_known(int type)
     return k < LINKS;
 }
 
-/* The IP packet of a frame, whose length becomes the packet's; NULL if it has none. Bytes may stand behind it. */
+/* Returns the IP packet of a frame, or NULL if it has none. `*len` is the frame's length and becomes the packet's;
+   bytes of padding may follow the packet. */
 static const u_char *packet_in(int type, const u_char *frame, size_t *len)
 {
     int k;
@@ -53,8 +54,8 @@ static const u_char *packet_in(int type, const u_char *frame, size_t *len)
     return NULL;
 }
 
-/* Time passes until `now`: each half second is a tick, of which the next is due at `*next`. After 60 ticks nothing is
-   left that waits for one, so 60 do for any longer time. */
+/* Advances the clock to `now`, one tick for each half second; the next tick is due at `*next`. After 60 ticks no
+   unfinished datagram is left, so 60 ticks are enough for any longer time. */
 static void pass(struct bsdudp *stack, long long *next, long long now)
 {
     long long ticks = now < *next ? 0 : (now - *next) / HALF_SECOND + 1, k;
@@ -68,7 +69,7 @@ static void echo(struct bsdudp *stack, pcap_dumper_t *out, struct timeval when)
     struct bsdudp_addr from;
     int len;
     while ((len = bsdudp_recvfrom(stack, FD, bytes, sizeof bytes, &from)) >= 0) {
-        bsdudp_sendto(stack, FD, &from, bytes, (size_t)len);
+        (void)bsdudp_sendto(stack, FD, &from, bytes, (size_t)len); /* if it fails, this echo is lost */
         while ((len = bsdudp_tx(stack, room, sizeof room)) > 0) {
             struct pcap_pkthdr head = {when, (bpf_u_int32)len, (bpf_u_int32)len};
             pcap_dump((u_char *)out, &head, room);
@@ -118,8 +119,7 @@ int main(int argc, char **argv)
     }
     for (k = 0; k < BSDUDP_COUNTERS; k++) {
         uint64_t value = 0;
-        bsdudp_counter(&stack, k, &value);
-        if (value != 0)
+        if (bsdudp_counter(&stack, k, &value) == 0 && value != 0)
             printf("%s %llu\n", bsdudp_counter_name(k), (unsigned long long)value);
     }
     pcap_dump_close(out);

@@ -1,6 +1,6 @@
-/* A stack between the tasks of an RTOS. One task carries packets and time. Each service has a task of its own, which
-   waits for its socket. The link's interrupt only fills a queue. Here threads of Linux are the tasks, by rtos.h, and
-   the peer is another stack, which sends datagrams to two services and wants them back.
+/* A stack that the tasks of an RTOS share. One task handles packets and time. Each service has a task of its own, which
+   waits for its socket. The link's interrupt only fills a queue. Here the tasks are threads of Linux, by rtos.h, and
+   the peer is another stack, which sends datagrams to two services and expects them back.
        cc -std=gnu99 -pthread rtos.c -I PREFIX/include PREFIX/lib/libbsdudp.a && ./a.out */
 #include "bsdudp.h"
 #include "rtos.h"
@@ -11,13 +11,13 @@ enum { MTU = 576, HALF_SECOND = 500, SERVICES = 2, PORT = 7, TURNS = 300, LONGES
 
 static unsigned char memory[BSDUDP_MEMORY(128, 32)] __attribute__((aligned(BSDUDP_ALIGNMENT)));
 static struct bsdudp stack = BSDUDP_NONE;
-static mutex turn = MUTEX; /* round each call on `stack`, and is_over */
+static mutex turn = MUTEX; /* protects each call on `stack`, and is_over */
 static struct flags readable = FLAGS;
-static struct queue received, sent; /* what came from the link, and what is for it */
+static struct queue received, sent; /* packets from the link, and packets for it */
 static int is_over;
 
-/* What follows each call by which something may arrive or leave: packets go to the link, and who waits for a socket
-   wakes. The caller has the lock. */
+/* Sends the packets for the link, and wakes the tasks whose sockets are readable. Call it after each call by which a
+   datagram may arrive or leave. The caller holds the lock. */
 static void pass_on(void)
 {
     static uint8_t packet[MTU];
@@ -79,7 +79,7 @@ static void *echo_task(void *of)
     return NULL;
 }
 
-/* ---- the peer: it sends a datagram to each service, and waits until each is back. The answer is how many weren't. */
+/* ---- the peer: sends a datagram to each service, waits for the echoes, and returns how many are missing. */
 static int missing(struct bsdudp *peer, int number)
 {
     static uint8_t bytes[LONGEST], back[LONGEST], packet[MTU];
@@ -115,8 +115,10 @@ int main(void)
         return 1;
     for (k = 0; k < SERVICES; k++) {
         const struct bsdudp_addr local = {0, (uint16_t)(PORT + k)};
-        fds[k] = (uint32_t)bsdudp_socket(&stack);
-        bsdudp_bind(&stack, fds[k], &local);
+        const int fd = bsdudp_socket(&stack);
+        if (fd < 0 || bsdudp_bind(&stack, (uint32_t)fd, &local) < 0)
+            return 1;
+        fds[k] = (uint32_t)fd;
     }
     task_start(&tasks[SERVICES], net_task, NULL);
     for (k = 0; k < SERVICES; k++)

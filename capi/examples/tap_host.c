@@ -1,8 +1,8 @@
-/* A host 10.0.0.1 on an Ethernet that Linux has as the TAP device tap0: it echoes UDP on port 7, and answers ping.
+/* A host 10.0.0.1 on an Ethernet that is the TAP device tap0 of Linux: it echoes UDP on port 7, and replies to ping.
        cc -std=gnu99 tap_host.c -I PREFIX/include PREFIX/lib/libbsdudp.a && sudo ./a.out tap0
    makes the device. Then give Linux its address, `ip addr add 10.0.0.2/24 dev tap0; ip link set tap0 up`, and try
-   `ping 10.0.0.1` and `nc -u 10.0.0.1 7`. What else may follow tap0: the host's address, its hardware address as
-   02:00:00:00:00:01, and a gateway. It ends at SIGTERM or Ctrl-C, and then prints what its link counted. */
+   `ping 10.0.0.1` and `nc -u 10.0.0.1 7`. Three optional arguments may follow tap0: the host's address, its hardware
+   address such as 02:00:00:00:00:01, and a gateway. SIGTERM and Ctrl-C end it; it then prints its link's counters. */
 #include "bsdudp.h"
 
 #include <arpa/inet.h>
@@ -46,14 +46,14 @@ static int open_device(const char *name)
     return device < 0 || ioctl(device, TUNSETIFF, &request) < 0 ? -1 : device;
 }
 
-/* What waits in the socket goes back, and what waits for the link goes out. */
+/* Echoes the datagrams of the socket, and sends the frames for the link. */
 static void serve(struct bsdudp *host, int device)
 {
     struct bsdudp_addr from;
     int len;
     do {
         if ((len = bsdudp_recvfrom(host, FD, bytes, sizeof bytes, &from)) >= 0)
-            bsdudp_sendto(host, FD, &from, bytes, (size_t)len);
+            (void)bsdudp_sendto(host, FD, &from, bytes, (size_t)len); /* if it fails, this echo is lost */
         for (int sent; (sent = bsdudp_ether_transmit(host, room, sizeof room)) > 0;)
             if (write(device, room, (size_t)sent) < 0)
                 perror("write");
@@ -64,7 +64,8 @@ static void report(struct bsdudp *host)
 {
     struct bsdudp_tallies it;
     struct bsdudp_neighbour near;
-    bsdudp_ether_tallies(host, &it);
+    if (bsdudp_ether_tallies(host, &it) < 0)
+        return;
     printf("ignored %llu, bad ARP %llu, conflicts %llu, echoes %llu, unreachable %llu, dropped %llu, given up %llu\n",
            (unsigned long long)it.ignored, (unsigned long long)it.bad_arp, (unsigned long long)it.conflicts,
            (unsigned long long)it.echoes, (unsigned long long)it.unreachable, (unsigned long long)it.held_dropped,
@@ -92,9 +93,9 @@ int main(int argc, char **argv)
         return perror(argv[1]), 1;
     if ((answer = bsdudp_ether_boot_in(&host, &config, &link, memory, sizeof memory)) < 0)
         return fprintf(stderr, "boot: %s\n", bsdudp_strerror(answer)), 1;
-    if (bsdudp_socket(&host) != FD || bsdudp_bind(&host, FD, &echo) < 0)
+    if (bsdudp_socket(&host) != FD || bsdudp_bind(&host, FD, &echo) < 0 ||
+        bsdudp_setsockopt(&host, FD, BSDUDP_SO_BROADCAST, 1) < 0)
         return 1;
-    bsdudp_setsockopt(&host, FD, BSDUDP_SO_BROADCAST, 1);
     signal(SIGTERM, stop);
     signal(SIGINT, stop);
     for (next = milliseconds() + HALF_SECOND; !is_over;) {

@@ -1,4 +1,4 @@
-/* A host 10.0.0.1 on a TUN device of Linux that echoes UDP on port 7. Linux is 10.0.0.2 there: `nc -u 10.0.0.1 7`.
+/* A host 10.0.0.1 on a TUN device of Linux that echoes UDP on port 7. Linux has 10.0.0.2 there: try `nc -u 10.0.0.1 7`.
        cc -std=gnu99 tun_echo.c -I PREFIX/include PREFIX/lib/libbsdudp.a && sudo ./a.out 1500 */
 #include "bsdudp.h"
 
@@ -32,7 +32,7 @@ static long long milliseconds(void)
     return now.tv_sec * 1000LL + now.tv_nsec / 1000000;
 }
 
-/* The device, with Linux's address and the MTU set by ip(8). */
+/* Opens the device, and sets Linux's address and the MTU with ip(8). */
 static int open_device(const char *mtu)
 {
     struct ifreq request;
@@ -50,13 +50,13 @@ static int open_device(const char *mtu)
     return system(command) == 0 ? device : -1;
 }
 
-/* What waits in the socket goes back, packet by packet. */
+/* Echoes the datagrams of the socket, packet by packet. */
 static void echo(struct bsdudp *stack, int device)
 {
     struct bsdudp_addr from;
     int len;
     while ((len = bsdudp_recvfrom(stack, FD, bytes, sizeof bytes, &from)) >= 0) {
-        bsdudp_sendto(stack, FD, &from, bytes, (size_t)len);
+        (void)bsdudp_sendto(stack, FD, &from, bytes, (size_t)len); /* if it fails, this echo is lost */
         while ((len = bsdudp_tx(stack, packet, sizeof packet)) > 0)
             if (write(device, packet, (size_t)len) < 0)
                 perror("write");
@@ -78,9 +78,9 @@ int main(int argc, char **argv)
         return perror("tun"), 1;
     if ((answer = bsdudp_boot(&stack, &config)) < 0)
         return fprintf(stderr, "boot: %s\n", bsdudp_strerror(answer)), 1;
-    if (bsdudp_socket(&stack) != FD || bsdudp_bind(&stack, FD, &any) < 0)
+    if (bsdudp_socket(&stack) != FD || bsdudp_bind(&stack, FD, &any) < 0 ||
+        bsdudp_setsockopt(&stack, FD, BSDUDP_SO_BROADCAST, 1) < 0)
         return 1;
-    bsdudp_setsockopt(&stack, FD, BSDUDP_SO_BROADCAST, 1);
     signal(SIGTERM, stop);
     signal(SIGINT, stop);
     for (next = milliseconds() + HALF_SECOND; !is_over;) {
@@ -99,7 +99,8 @@ int main(int argc, char **argv)
             echo(&stack, device);
         }
     }
-    bsdudp_mbstat(&stack, &usage);
+    if (bsdudp_mbstat(&stack, &usage) < 0)
+        return 1;
     printf("free: mbufs %u of %u, clusters %u of %u\n", usage.free_mbufs, usage.mbufs, usage.free_clusters,
            usage.clusters);
     return bsdudp_end(&stack) < 0;

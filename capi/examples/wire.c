@@ -1,4 +1,4 @@
-/* Two stacks and a wire between them that loses, repeats and reorders packets. What is received was sent so, whole.
+/* Two stacks on a wire that loses, repeats and reorders packets. Each datagram received was sent, with these bytes.
        cc -std=c99 wire.c -I PREFIX/include PREFIX/lib/libbsdudp.a && ./a.out [SEED] */
 #include "bsdudp.h"
 #include <stdio.h>
@@ -17,7 +17,7 @@ static unsigned dice(unsigned n)
     return (unsigned)(seed >> 33) % n;
 }
 
-/* The datagram of this number, which its first bytes tell; the answer is its length. */
+/* Writes the datagram of this number, which begins with the number, and returns its length. */
 static int datagram(unsigned number, uint8_t *to)
 {
     int len = 4 + (int)(number * 2654435761u % (LONGEST - 3));
@@ -37,7 +37,7 @@ static void put_on_wire(struct bsdudp *from)
     }
 }
 
-/* Any of the packets comes next. */
+/* Delivers packets from the wire in random order, until `leave` are left. */
 static void take_off_wire(struct bsdudp *to, int leave)
 {
     for (; held > leave; held--) {

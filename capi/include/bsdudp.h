@@ -1,26 +1,31 @@
 /*
- * bsdudp: the datagram half of a 4.4BSD network stack (TCP/IP Illustrated, volume 2), proved.
+ * bsdudp: the datagram half of a 4.4BSD network stack (TCP/IP Illustrated, volume 2, "the book"), proved.
  *
- * A stack is a value that you hold. There are no threads, files, clocks or errno: every call gets the stack as its
- * first argument and returns at once. Two stacks know nothing of each other.
+ * A stack is a value that you hold. The library has no threads, files, clocks or errno: every call takes the stack as
+ * its first argument and returns at once. Stacks do not share any state.
  *
- * Answers. A call answers 0 or a count if it went well, and else the negative of one of the BSDUDP_E numbers below. A
- * refused call changes nothing, unless its text says what it leaves.
+ * Results. Every call that returns int returns 0 or a count if it succeeded, and the negative of one of the BSDUDP_E
+ * numbers below if it failed: `-BSDUDP_EBADF` is -9. A call that failed has changed nothing, unless its description
+ * says what it leaves. If several errors apply, a call returns the first one in the order of its description.
  *
- * Numbers. Addresses and ports are in the host's order: 10.0.0.1 is 0x0a000001, or BSDUDP_IP(10, 0, 0, 1). A packet
- * begins with its IPv4 header. A descriptor is 3 to 66.
+ * Every call with a handle, except those that boot, returns -BSDUDP_ENXIO if the handle holds no stack.
  *
- * What you must uphold, of every call:
- *   - A `struct bsdudp` has all bytes 0 before its first boot (BSDUDP_NONE), and then is as the library left it. Don't
- *     copy it, and don't touch its members.
- *   - One call at a time on a stack. Calls on other stacks may run meanwhile, boot and end among them. No call from a
- *     signal handler or an interrupt.
- *   - No pointer is null, each points to as many bytes as the text says, and no two arguments of a call overlap.
- * All else is answered: a handle without a stack, a wrong descriptor, a wrong length, a damaged packet.
+ * Numbers. Addresses and ports are in the byte order of the CPU: 10.0.0.1 is 0x0a000001, or BSDUDP_IP(10, 0, 0, 1). A
+ * packet begins with its IPv4 header. Descriptors are 3 to 66. A tick is half a second.
  *
- * Boot keeps a variable of its thread while it runs, and nothing else of the library is shared. On bare metal without
- * thread-local storage compile capi/src/memory.c with -DBSDUDP_THREADS=0, and link it in front of the library. It makes
- * that a plain variable, and then one boot runs at a time in the whole program.
+ * Rules that the caller must follow, for every call:
+ *   - Set all bytes of a `struct bsdudp` to 0 before its first boot (BSDUDP_NONE). After that, do not copy it, and do
+ *     not access its members.
+ *   - Make one call at a time on a stack. Other threads may make calls on other stacks meanwhile, including boot and
+ *     end. Make no call from a signal handler or an interrupt handler.
+ *   - Pass no null pointer. Each pointer must point to the number of bytes that the description gives, and no two
+ *     arguments of a call may overlap.
+ * Everything else is checked and returns an error: a handle without a stack, a wrong descriptor, a wrong length. A
+ * damaged packet is dropped and counted.
+ *
+ * While a boot runs, it uses a thread-local variable, the only state that the library shares between calls. On bare
+ * metal without thread-local storage, compile capi/src/memory.c with -DBSDUDP_THREADS=0 and link it before the library.
+ * The variable is then a plain one, and only one boot may run at a time in the whole program.
  */
 #ifndef BSDUDP_H
 #define BSDUDP_H
@@ -35,7 +40,7 @@ extern "C" {
 /* The version of this header. */
 #define BSDUDP_VERSION "0.3.0"
 
-/* A stack, or none. Its members are the library's. Those of the core have the same places on every host. */
+/* A handle: it holds a stack or none. Its members are private. Those of the core have the same offsets on every CPU. */
 struct bsdudp_core {
     uint32_t live, none;
     uint64_t at;
@@ -50,13 +55,13 @@ struct bsdudp {
 };
 #define BSDUDP_NONE {{0, 0, 0}, NULL, NULL, {0, 0, 0}, NULL, NULL}
 
-/* What a stack is booted with. */
+/* The parameters of boot. */
 struct bsdudp_config {
-    uint32_t addr;     /* the address of its interface: 1.0.0.0 to 223.255.255.255, not in 127/8 */
-    uint32_t bcast;    /* the broadcast address of its network: in the same range, another one */
-    uint32_t mbufs;    /* how many mbufs of 128 bytes its pool has: 1 to 65535 */
-    uint32_t clusters; /* how many clusters of 2,048 bytes: 0 to 4096 */
-    uint16_t mtu;      /* the longest packet of the link: 68 to 4352 bytes */
+    uint32_t addr;     /* the address of the interface: 1.0.0.0 to 223.255.255.255, not in 127/8 */
+    uint32_t bcast;    /* the broadcast address of its network: in the same range, and not `addr` */
+    uint32_t mbufs;    /* the number of mbufs in the pool, of 128 bytes each: 1 to 65535 */
+    uint32_t clusters; /* the number of clusters in the pool, of 2,048 bytes each: 0 to 4096 */
+    uint16_t mtu;      /* the longest packet that the stack sends to the link: 68 to 4352 bytes */
     uint16_t first_id; /* the IP identification of the first datagram that it sends */
 };
 
@@ -69,288 +74,524 @@ struct bsdudp_addr {
     uint16_t port;
 };
 
-/* How much of the pool is in use. */
+/* The usage of the pool. */
 struct bsdudp_mbstat {
-    uint32_t free_mbufs, mbufs;       /* free, and all */
-    uint32_t free_clusters, clusters; /* free, and all */
-    uint32_t refs;                    /* the sum of the clusters' counts */
-    uint32_t most;                    /* the greatest of them */
+    uint32_t free_mbufs, mbufs;       /* free, and in total */
+    uint32_t free_clusters, clusters; /* free, and in total */
+    uint32_t refs;                    /* the sum of the reference counts of all clusters */
+    uint32_t most;                    /* the greatest reference count of a cluster */
 };
 
-/* What a socket is bound and connected to, with 0 for what is unset, and its options, 1 or 0. */
+/* The addresses and ports of a socket, 0 if unset, and its options, 1 or 0. */
 struct bsdudp_name {
     uint32_t local_ip, peer_ip;
     uint16_t local_port, peer_port;
     uint8_t broadcast, reuse_port;
 };
 
-/* The oldest datagram that waits in a socket. */
+/* The oldest datagram in a receive queue. */
 struct bsdudp_next {
     uint32_t ip;      /* its sender's address */
-    uint16_t port;    /* and port */
-    uint32_t len;     /* how many bytes it has: with less room recvfrom cuts it */
-    uint32_t waiting; /* how many datagrams wait, this one among them */
+    uint16_t port;    /* its sender's port */
+    uint32_t len;     /* its length in bytes: recvfrom truncates it if the buffer is shorter */
+    uint32_t waiting; /* the number of datagrams in the queue, including this one */
 };
 
-/* A datagram some of whose fragments have come. */
+/* A datagram that has some of its fragments, but not all. */
 struct bsdudp_unfinished {
     uint32_t source, destination; /* its addresses */
-    uint32_t bytes;               /* how many of its bytes have come */
-    uint32_t ranges;              /* in how many ranges */
+    uint32_t bytes;               /* the number of bytes that have arrived */
+    uint32_t ranges;              /* the number of ranges that these bytes form */
     uint16_t id;                  /* its identification */
-    uint8_t protocol;             /* what it carries: 17 is UDP */
-    uint8_t ticks;                /* after how many more ticks it's dropped, 1 to 60 */
+    uint8_t protocol;             /* its protocol number: 17 is UDP */
+    uint8_t ticks;                /* the number of ticks after which it is dropped, 1 to 60 */
 };
 
-/* What one fragment brought to an unfinished datagram and still holds there. */
+/* The bytes of one fragment that an unfinished datagram still uses. */
 struct bsdudp_range {
-    uint32_t offset; /* of the first byte, counted from the end of the IP header */
-    uint32_t len;    /* how many bytes there are, 1 or more */
-    uint8_t more;    /* 1 if more come after the fragment that brought them, else 0 */
+    uint32_t offset; /* the offset of the first byte, counted from the end of the IP header */
+    uint32_t len;    /* the number of bytes, 1 or more */
+    uint8_t more;    /* 1 if more fragments follow the one that brought these bytes, otherwise 0 */
 };
 
 /* The link of a host on an Ethernet: bsdudp_ether_boot_in. */
 struct bsdudp_link {
-    uint8_t mac[6];   /* its hardware address, as in a frame; no group's, so mac[0] is even */
-    uint32_t mask;    /* which bits of an address tell its network: 0xffffff00 for 10.0.0.1/24 */
-    uint32_t gateway; /* a neighbour that takes what goes to other networks; 0: none, and such packets are dropped */
-    uint8_t probe;    /* 0: it uses its address at once; else it asks first if another host has it (RFC 5227) */
+    uint8_t mac[6];   /* its hardware address, as in a frame; not a group address, so mac[0] is even */
+    uint32_t mask;    /* the network mask: 0xffffff00 for 10.0.0.1/24 */
+    uint32_t gateway; /* the neighbour to which packets for other networks are sent; 0: such packets are dropped */
+    uint8_t probe;    /* 0: the host uses its address at once; otherwise it probes for it first (RFC 5227) */
 };
 
-/* What the link of a host counted since boot. Each stops at 2 to the 64th, less 1. */
+/* The counters of a host's link since boot. Each stops at 2 to the 64th, less 1. */
 struct bsdudp_tallies {
-    uint64_t ignored;         /* frames that aren't for the host, or neither IPv4 nor ARP */
-    uint64_t martians;        /* packets from or to an address that can't be on a link (RFC 1122, 3.2.1.3) */
-    uint64_t bad_arp;         /* ARP packets not of Ethernet and IPv4, or from the host itself, or from all */
-    uint64_t conflicts;       /* ARP packets of another host that claims this one's address */
-    uint64_t replies_dropped; /* ARP requests for the host that found no place: 8 replies wait at most */
+    uint64_t ignored;         /* frames for other hosts, or of a type other than IPv4 and ARP */
+    uint64_t martians;        /* packets with an address that cannot occur on a link (RFC 1122, 3.2.1.3) */
+    uint64_t bad_arp;         /* ARP packets not for Ethernet and IPv4, or from the host itself, or from a broadcast */
+    uint64_t conflicts;       /* ARP packets of another host that claims this host's address */
+    uint64_t replies_dropped; /* ARP requests for the host without space for the reply: at most 8 replies are queued */
     uint64_t no_route;        /* packets to another network, without a gateway */
-    uint64_t held_dropped;    /* packets that waited for a hardware address, and gave way to newer ones: 8 wait */
-    uint64_t unresolved;      /* packets that waited for a hardware address that nobody told */
-    uint64_t too_long;        /* packets that no frame can carry: none, of a host of this library */
-    uint64_t echoes;          /* echo requests that were answered */
-    uint64_t unreachable;     /* datagrams whose sender was told by ICMP that no socket takes them */
-    uint64_t limited;         /* datagrams whose sender wasn't told so, since too many were in this second */
-    uint64_t icmp_dropped;    /* ICMP answers that weren't given, since another one still waited */
+    uint64_t held_dropped;    /* packets dropped for a newer one while waiting for a hardware address: at most 8 wait */
+    uint64_t unresolved;      /* packets dropped because no reply gave the hardware address */
+    uint64_t too_long;        /* packets that are too long for a frame: always 0 for a host of this library */
+    uint64_t echoes;          /* echo requests that got a reply */
+    uint64_t unreachable;     /* datagrams for which the host sent "port unreachable" to the sender */
+    uint64_t limited;         /* datagrams for which it did not, because of the limit per second */
+    uint64_t icmp_dropped;    /* ICMP replies dropped because another reply was still queued */
 };
 
-/* A neighbour whose hardware address is known or asked for. */
+/* A neighbour: its hardware address is known, or the host has requested it. */
 struct bsdudp_neighbour {
     uint32_t ip;    /* its address */
-    uint8_t mac[6]; /* its hardware address; 0 while it isn't known */
-    uint8_t known;  /* 1 if the hardware address is known, else 0 */
-    uint8_t tries;  /* how many requests for it went out; 0 if it told by itself */
-    uint16_t ticks; /* for how many ticks it's known still; while it isn't, after how many the next request goes out */
+    uint8_t mac[6]; /* its hardware address; all bytes are 0 if it is not known */
+    uint8_t known;  /* 1 if the hardware address is known, otherwise 0 */
+    uint8_t tries;  /* the number of requests sent for it; 0 if the neighbour sent its address unasked */
+    uint16_t ticks; /* if it is known: the ticks until it expires; otherwise: the ticks until the next request */
 };
 
-/* Refusals, by 4.4BSD's numbers: a call answers the negative of one. */
+/* Errors, with 4.4BSD's numbers. A call that fails returns the negative of one of them. */
 enum {
-    BSDUDP_ENXIO = 6,           /* the handle has no stack; of boot: it has one */
-    BSDUDP_EBADF = 9,           /* no socket has this descriptor */
-    BSDUDP_ENOMEM = 12,         /* boot: too little memory */
-    BSDUDP_EACCES = 13,         /* a broadcast without BSDUDP_SO_BROADCAST */
-    BSDUDP_EINVAL = 22,         /* boot: configuration or alignment; bind: it has a name; a question: no such number */
+    BSDUDP_ENXIO = 6,           /* the handle holds no stack; from boot: it holds one already */
+    BSDUDP_EBADF = 9,           /* no open socket has this descriptor */
+    BSDUDP_ENOMEM = 12,         /* too little memory for the stack */
+    BSDUDP_EACCES = 13,         /* a send to the broadcast address without BSDUDP_SO_BROADCAST */
+    BSDUDP_EINVAL = 22,         /* an invalid configuration; bind: already bound; a query: no such number */
     BSDUDP_EMFILE = 24,         /* 64 sockets are open */
-    BSDUDP_EDOM = 33,           /* boot: sizes that no pool has */
-    BSDUDP_EWOULDBLOCK = 35,    /* nothing waits */
-    BSDUDP_EDESTADDRREQ = 39,   /* a send without an address on an unconnected socket */
-    BSDUDP_EMSGSIZE = 40,       /* too long, or too little room */
+    BSDUDP_EDOM = 33,           /* numbers of mbufs or clusters that a pool cannot have */
+    BSDUDP_EWOULDBLOCK = 35,    /* the receive queue is empty */
+    BSDUDP_EDESTADDRREQ = 39,   /* bsdudp_send on a socket that is not connected */
+    BSDUDP_EMSGSIZE = 40,       /* a packet or datagram is too long, or a buffer is too short */
     BSDUDP_ENOPROTOOPT = 42,    /* no such option */
-    BSDUDP_EOPNOTSUPP = 45,     /* bsdudp_rx and bsdudp_tx of a host; the calls for frames of a bare stack */
-    BSDUDP_EADDRINUSE = 48,     /* another socket stands in the way */
-    BSDUDP_EADDRNOTAVAIL = 49,  /* no address of this machine; a destination with port 0 */
-    BSDUDP_ENOBUFS = 55,        /* the pool has too few buffers; nothing was sent or spent */
-    BSDUDP_EISCONN = 56,        /* a send with an address on a connected socket */
-    BSDUDP_ECONNREFUSED = 61,   /* of bsdudp_ether_last_error alone: no socket has the port there */
-    BSDUDP_EHOSTUNREACH = 65,   /* nothing leads there */
-    BSDUDP_EQUEUE = 155         /* 4.4BSD's ENOBUFS of a full output queue: see bsdudp_sendto */
+    BSDUDP_EOPNOTSUPP = 45,     /* a call for packets on a host, or a call for frames on a bare stack */
+    BSDUDP_EADDRINUSE = 48,     /* another socket uses the address and port; another host uses the address */
+    BSDUDP_EADDRNOTAVAIL = 49,  /* not an address of this host, or a destination with port 0 */
+    BSDUDP_ENOBUFS = 55,        /* the pool has too few free buffers; nothing was sent */
+    BSDUDP_EISCONN = 56,        /* bsdudp_sendto on a connected socket */
+    BSDUDP_ECONNREFUSED = 61,   /* only a report of bsdudp_ether_last_error: no socket has the port there */
+    BSDUDP_EHOSTUNREACH = 65,   /* no route to the destination */
+    BSDUDP_EQUEUE = 155         /* the output queue is full (ENOBUFS in 4.4BSD): see bsdudp_sendto */
 };
 
+/* The options of bsdudp_setsockopt. */
 enum {
     BSDUDP_SO_BROADCAST = 0x20, /* the socket may send to the broadcast address */
-    BSDUDP_SO_REUSEPORT = 0x200 /* others that have it too may bind to the same address and port */
+    BSDUDP_SO_REUSEPORT = 0x200 /* other sockets with this option may bind to the same address and port */
 };
 
+/* Limits. */
 enum {
-    BSDUDP_FIRST_FD = 3,    /* the least descriptor; bit k of bsdudp_readable stands for BSDUDP_FIRST_FD + k */
-    BSDUDP_SOCKETS = 64,    /* how many sockets are open at most */
-    BSDUDP_QUEUE = 50,      /* how many packets wait for the link at most */
-    BSDUDP_TX_ROOM = 4352,  /* room enough for bsdudp_tx, whatever the MTU is */
-    BSDUDP_DATAGRAM = 9216, /* the longest datagram that is sent */
-    BSDUDP_PACKET = 65535,  /* the longest packet that may come */
-    BSDUDP_ALIGNMENT = 16,  /* of the memory of a stack */
-    BSDUDP_ETHER_ROOM = 1514,   /* room enough for bsdudp_ether_transmit: a frame of 14 and 1,500 bytes */
-    BSDUDP_ETHER_FRAME = 65549, /* the longest frame that bsdudp_ether_receive takes */
-    BSDUDP_NEIGHBOURS = 32, /* how many neighbours a host knows or asks for at most */
-    BSDUDP_COUNTERS = 26
+    BSDUDP_FIRST_FD = 3,    /* the lowest descriptor; bit k of bsdudp_readable is descriptor BSDUDP_FIRST_FD + k */
+    BSDUDP_SOCKETS = 64,    /* the most sockets that can be open */
+    BSDUDP_QUEUE = 50,      /* the most packets in the output queue */
+    BSDUDP_TX_ROOM = 4352,  /* the buffer size in bytes that is enough for bsdudp_tx at every MTU */
+    BSDUDP_DATAGRAM = 9216, /* the longest datagram that can be sent, in bytes of data */
+    BSDUDP_PACKET = 65535,  /* the longest packet that bsdudp_rx accepts, in bytes */
+    BSDUDP_ALIGNMENT = 16,  /* the alignment of a stack's memory, in bytes */
+    BSDUDP_ETHER_ROOM = 1514,   /* the buffer size in bytes for bsdudp_ether_transmit: a frame of 14 and 1,500 bytes */
+    BSDUDP_ETHER_FRAME = 65549, /* the longest frame that bsdudp_ether_receive accepts, in bytes */
+    BSDUDP_NEIGHBOURS = 32, /* the most neighbours in a host's table */
+    BSDUDP_COUNTERS = 26    /* the number of counters: bsdudp_counter */
 };
 
-/* How many bytes of memory a stack takes with so many mbufs and clusters: a constant if they are, so that
-   `static unsigned char memory[BSDUDP_MEMORY(64, 16)]` works. */
+/* ---- boot and end */
+
+/* The size in bytes of the memory for a stack with these numbers of mbufs and clusters. It is a constant if they are,
+   so `static unsigned char memory[BSDUDP_MEMORY(64, 16)]` works. */
 #define BSDUDP_MEMORY(mbufs, clusters) (4432 + 150 * (size_t)(mbufs) + 2050 * (size_t)(clusters))
 
-/* How many bytes of memory a stack of this configuration takes: BSDUDP_MEMORY of its sizes. */
+/* Computes the size of the memory for a stack with this configuration.
+
+   Returns the value of BSDUDP_MEMORY for `config->mbufs` and `config->clusters`, in bytes. */
 size_t bsdudp_memory(const struct bsdudp_config *config);
 
-/* Boots a stack in memory that you give: `len` bytes from `memory` on, aligned to BSDUDP_ALIGNMENT. The memory is the
-   stack's until bsdudp_end. No other call takes memory. The answer is 0. Refused, in this order:
-   ENXIO: the handle has a stack, which goes on. EDOM: the mbufs aren't 1 to 65535, or the clusters more than 4096.
-   EINVAL: the MTU, or an address, isn't in its range, both addresses are the same, or `memory` isn't aligned. ENOMEM:
-   `len` is too little. */
-int bsdudp_boot_in(struct bsdudp *, const struct bsdudp_config *, void *memory, size_t len);
+/* Boots a stack in memory that the caller provides: `len` bytes from `memory` on, aligned to BSDUDP_ALIGNMENT. The
+   stack uses the memory until bsdudp_end. No later call allocates memory.
 
-/* The same with memory from malloc, which bsdudp_end gives back. It's in an object of its own: a program that doesn't
-   call it needs no malloc. ENOMEM also if malloc refuses. */
-int bsdudp_boot(struct bsdudp *, const struct bsdudp_config *);
+   Returns 0.
 
-/* Ends the stack: all that it holds is gone, and the handle is free for another. The answer is 0. ENXIO. */
-int bsdudp_end(struct bsdudp *);
+   Errors:
+   -BSDUDP_ENXIO if the handle already holds a stack, which continues to run.
+   -BSDUDP_EDOM if `config->mbufs` is not 1 to 65535, or `config->clusters` is above 4096.
+   -BSDUDP_EINVAL if the MTU or an address is out of its range, both addresses are equal, or `memory` is not aligned.
+   -BSDUDP_ENOMEM if `len` is less than BSDUDP_MEMORY. */
+int bsdudp_boot_in(struct bsdudp *stack, const struct bsdudp_config *config, void *memory, size_t len);
 
-/* A packet came from the link. It's delivered, kept for the other fragments of its datagram, or dropped and counted;
-   that is no refusal. Bytes after its total length are ignored. `packet` isn't kept. The answer is 0.
-   ENXIO. EOPNOTSUPP: it's a host, which takes frames. EMSGSIZE: `len` is above 65535. */
-int bsdudp_rx(struct bsdudp *, const void *packet, size_t len);
+/* Boots a stack as bsdudp_boot_in does, in memory from malloc, which bsdudp_end frees. This call is in an object file
+   of its own: a program that does not use it needs no malloc.
 
-/* Gives the packet that has waited longest for the link: its bytes stand in front of `room`, and the answer is its
-   length, at most the MTU; 0 if none waits. What stands behind it in the room stays.
-   ENXIO. EOPNOTSUPP: it's a host, which gives frames. EMSGSIZE: `len` is below the MTU. */
-int bsdudp_tx(struct bsdudp *, void *room, size_t len);
+   Returns 0.
 
-/* Half a second passed. A datagram of which fragments are missing is dropped after 60 of these, and a host's neighbours
-   grow older. The answer is 0. ENXIO. */
-int bsdudp_tick(struct bsdudp *);
+   Errors: those of bsdudp_boot_in, and
+   -BSDUDP_ENOMEM if malloc fails. */
+int bsdudp_boot(struct bsdudp *stack, const struct bsdudp_config *config);
 
-/* ---- a host on an Ethernet: a stack whose frames come and go (RFC 894), with ARP (RFC 826), replies to ping and "port
-   unreachable" (RFC 792). All calls but bsdudp_rx and bsdudp_tx serve it as they serve a bare stack. */
+/* Ends a stack, with its sockets, queues and unfinished datagrams. The handle can then be used for another boot.
 
-/* How many bytes of memory a host takes with so many mbufs and clusters: a constant if they are. */
+   Returns 0.
+
+   Errors:
+   -BSDUDP_ENXIO if the handle holds no stack. */
+int bsdudp_end(struct bsdudp *stack);
+
+/* ---- packets and time */
+
+/* Passes a packet from the link to the stack, which delivers it, keeps it until the other fragments of its datagram
+   arrive, or drops and counts it. A drop is not an error. Bytes after the packet's total length are ignored. The stack
+   does not keep `packet`. Source: the book, chapters 8 (ipintr), 10 (ip_reass) and 23 (udp_input).
+
+   Returns 0.
+
+   Errors:
+   -BSDUDP_ENXIO if the handle holds no stack.
+   -BSDUDP_EOPNOTSUPP if it holds a host, which receives frames: bsdudp_ether_receive.
+   -BSDUDP_EMSGSIZE if `len` is above BSDUDP_PACKET. */
+int bsdudp_rx(struct bsdudp *stack, const void *packet, size_t len);
+
+/* Removes the oldest packet from the output queue and copies it to the front of `room`. The rest of the buffer is
+   unchanged. Source: the book, chapter 3 (IF_DEQUEUE).
+
+   Returns the length of the packet in bytes, at most the MTU; 0 if the queue is empty.
+
+   Errors:
+   -BSDUDP_ENXIO if the handle holds no stack.
+   -BSDUDP_EOPNOTSUPP if it holds a host, which sends frames: bsdudp_ether_transmit.
+   -BSDUDP_EMSGSIZE if `len` is below the MTU. */
+int bsdudp_tx(struct bsdudp *stack, void *room, size_t len);
+
+/* Advances the stack's clock by half a second. An unfinished datagram is dropped after 60 ticks, and the neighbours of
+   a host grow older. Source: the book, chapter 10 (ip_slowtimo); RFC 791, section 3.2.
+
+   Returns 0.
+
+   Errors:
+   -BSDUDP_ENXIO if the handle holds no stack. */
+int bsdudp_tick(struct bsdudp *stack);
+
+/* ---- a host on an Ethernet: a stack with frames (RFC 894), ARP (RFC 826), replies to ping and "port unreachable" (RFC
+   792). All other calls work as for a bare stack, except bsdudp_rx and bsdudp_tx. */
+
+/* The size in bytes of the memory for a host with these numbers of mbufs and clusters. It is a constant if they are. */
 #define BSDUDP_ETHER_MEMORY(mbufs, clusters) (BSDUDP_MEMORY(mbufs, clusters) + 14752)
 
-/* Boots a host in memory that you give, as bsdudp_boot_in boots a stack; BSDUDP_ETHER_MEMORY bytes of it do. It knows
-   no neighbour yet. It announces its address (RFC 5227); with `probe` it asks before whether another host has it, and
-   sends nothing else for 3 to 5 seconds. The answer is 0. Refused, in this order: ENXIO: the handle has a stack,
-   which goes on. EINVAL: the MTU is above 1500, the hardware address is a group's, or the gateway is no neighbour:
-   not on the network that the mask tells, or this host's address, or the broadcast address. Then as bsdudp_boot_in:
-   EDOM, EINVAL, ENOMEM. */
-int bsdudp_ether_boot_in(struct bsdudp *, const struct bsdudp_config *, const struct bsdudp_link *, void *memory,
-                         size_t len);
+/* Boots a host in memory that the caller provides, as bsdudp_boot_in boots a stack; it takes BSDUDP_ETHER_MEMORY bytes.
+   Its table of neighbours is empty. The host announces its address (RFC 5227). With `link->probe` it first probes
+   whether another host has the address, and sends nothing else for 5.0 to 5.5 seconds.
 
-/* The same with memory from malloc, which bsdudp_end gives back. ENOMEM also if malloc refuses. */
-int bsdudp_ether_boot(struct bsdudp *, const struct bsdudp_config *, const struct bsdudp_link *);
+   Returns 0.
 
-/* A frame came from the network card: 14 bytes of header, and what it carries, without the check sequence. An IPv4
-   packet is taken as bsdudp_rx takes one, an ARP packet is heard and may be answered, and all else is counted and
-   dropped; that is no refusal. What it is answered with waits for bsdudp_ether_transmit. `frame` isn't kept. The answer
-   is 0. ENXIO. EOPNOTSUPP: it's a bare stack. EMSGSIZE: `len` is above 65549. */
-int bsdudp_ether_receive(struct bsdudp *, const void *frame, size_t len);
+   Errors:
+   -BSDUDP_ENXIO if the handle already holds a stack, which continues to run.
+   -BSDUDP_EINVAL if the MTU is above 1500, the hardware address is a group address, or the gateway is not a neighbour:
+   it is not on the network of `link->mask`, or it is this host's address or the broadcast address.
+   Then -BSDUDP_EDOM, -BSDUDP_EINVAL and -BSDUDP_ENOMEM, as bsdudp_boot_in returns them. */
+int bsdudp_ether_boot_in(struct bsdudp *stack, const struct bsdudp_config *config, const struct bsdudp_link *link,
+                         void *memory, size_t len);
 
-/* Gives the next frame for the network card: its bytes stand in front of `room`, and the answer is its length, at most
-   1514; 0 if none waits. What stands behind it in the room is anything, and all of it if none waits. The card, or its
-   driver, fills a short frame up to 60 bytes, and adds the check sequence. First come ARP replies and requests, then
-   packets that waited for a hardware address, then ICMP's answers, and then what the stack has for its link.
-   ENXIO. EOPNOTSUPP: it's a bare stack. EMSGSIZE: `len` is below 1514. */
-int bsdudp_ether_transmit(struct bsdudp *, void *room, size_t len);
+/* Boots a host as bsdudp_ether_boot_in does, in memory from malloc, which bsdudp_end frees.
 
-/* What others reported by ICMP of the datagrams that a connected socket sent to its peer, once. The answer is 0 if
-   nothing was reported; BSDUDP_ECONNREFUSED, as a number above 0: no socket has that port; BSDUDP_EHOSTUNREACH,
-   likewise: no way leads there. `bsdudp_strerror(-answer)` names both. The eight last reports are kept, by port and
-   peer: one that came before a socket took its port over is answered to that socket. ENXIO. EOPNOTSUPP: it's a bare
-   stack. EBADF. */
-int bsdudp_ether_last_error(struct bsdudp *, uint32_t fd);
+   Returns 0.
 
-/* How far a host is with its address. The answer is 1 if it uses it, and 0 while it asks for it. ENXIO. EOPNOTSUPP:
-   it's a bare stack. EADDRINUSE: another host has the address, and this one stays silent: end it, and boot with
-   another. */
-int bsdudp_ether_address(struct bsdudp *);
+   Errors: those of bsdudp_ether_boot_in, and
+   -BSDUDP_ENOMEM if malloc fails. */
+int bsdudp_ether_boot(struct bsdudp *stack, const struct bsdudp_config *config, const struct bsdudp_link *link);
 
-/* What the link of a host counted. The answer is 0. ENXIO. EOPNOTSUPP: it's a bare stack. Then `tallies` is as it
-   was. */
-int bsdudp_ether_tallies(struct bsdudp *, struct bsdudp_tallies *tallies);
+/* Passes a frame from the network card to the host: 14 bytes of header and the data, without the frame check sequence.
+   The host handles an IPv4 packet as bsdudp_rx does, and an ARP packet by RFC 826. It drops and counts any other frame,
+   which is not an error. Replies are queued for bsdudp_ether_transmit. The host does not keep `frame`. Source: the
+   book, chapters 4 (ether_input), 11 (icmp_input) and 21 (arpintr).
 
-/* A neighbour, by its number, from 0 on, 32 at most; the one that was heard or asked for last is the last. The answer
-   is 0. ENXIO. EOPNOTSUPP: it's a bare stack. EINVAL: there is none with this number. Then `neighbour` is as it was.
-   */
-int bsdudp_ether_neighbour(struct bsdudp *, uint32_t i, struct bsdudp_neighbour *neighbour);
+   Returns 0.
+
+   Errors:
+   -BSDUDP_ENXIO if the handle holds no stack.
+   -BSDUDP_EOPNOTSUPP if it holds a bare stack, which receives packets: bsdudp_rx.
+   -BSDUDP_EMSGSIZE if `len` is above BSDUDP_ETHER_FRAME. */
+int bsdudp_ether_receive(struct bsdudp *stack, const void *frame, size_t len);
+
+/* Copies the next frame for the network card to the front of `room`. The contents of the rest of the buffer are
+   unspecified, and so are those of the whole buffer if there is no frame. The card or its driver pads a short frame to
+   60 bytes and adds the frame check sequence. The order is: ARP replies and requests, packets that waited for a
+   hardware address, ICMP replies, packets of the stack's output queue. Source: the book, chapters 4 (ether_output) and
+   21.
+
+   Returns the length of the frame in bytes, at most 1514; 0 if there is no frame to send.
+
+   Errors:
+   -BSDUDP_ENXIO if the handle holds no stack.
+   -BSDUDP_EOPNOTSUPP if it holds a bare stack, which sends packets: bsdudp_tx.
+   -BSDUDP_EMSGSIZE if `len` is below BSDUDP_ETHER_ROOM. */
+int bsdudp_ether_transmit(struct bsdudp *stack, void *room, size_t len);
+
+/* Reads, and then clears, what other hosts reported by ICMP about the datagrams that a connected socket sent to its
+   peer. A report is a result and not a failure of this call, so it is a positive number. The host keeps the last eight
+   reports, by local port and peer: a socket also gets a report about a datagram of an earlier socket with the same port
+   and peer. Source: the book, chapters 11 (icmp_input) and 23 (udp_ctlinput).
+
+   Returns 0 if nothing was reported; BSDUDP_ECONNREFUSED (61, positive) if no socket has that port there;
+   BSDUDP_EHOSTUNREACH (65, positive) if no route leads there. bsdudp_strerror takes the negative of the report.
+
+   Errors (negative, as for every call):
+   -BSDUDP_ENXIO if the handle holds no stack.
+   -BSDUDP_EOPNOTSUPP if it holds a bare stack.
+   -BSDUDP_EBADF if no open socket has the descriptor `fd`. */
+int bsdudp_ether_last_error(struct bsdudp *stack, uint32_t fd);
+
+/* Reads whether the host may use its address (RFC 5227).
+
+   Returns 1 if the address is in use, and 0 while the host probes for it.
+
+   Errors:
+   -BSDUDP_ENXIO if the handle holds no stack.
+   -BSDUDP_EOPNOTSUPP if it holds a bare stack.
+   -BSDUDP_EADDRINUSE if another host has the address. This host then sends nothing: end it, and boot it with another
+   address. */
+int bsdudp_ether_address(struct bsdudp *stack);
+
+/* Reads the counters of a host's link into `*tallies`.
+
+   Returns 0.
+
+   Errors, with `*tallies` unchanged:
+   -BSDUDP_ENXIO if the handle holds no stack.
+   -BSDUDP_EOPNOTSUPP if it holds a bare stack. */
+int bsdudp_ether_tallies(struct bsdudp *stack, struct bsdudp_tallies *tallies);
+
+/* Reads the neighbour at index `i` of the host's table into `*neighbour`. Indices begin at 0, and there are at most 32
+   neighbours. The last one is the newest entry.
+
+   Returns 0.
+
+   Errors, with `*neighbour` unchanged:
+   -BSDUDP_ENXIO if the handle holds no stack.
+   -BSDUDP_EOPNOTSUPP if it holds a bare stack.
+   -BSDUDP_EINVAL if there is no neighbour with this index. */
+int bsdudp_ether_neighbour(struct bsdudp *stack, uint32_t i, struct bsdudp_neighbour *neighbour);
 
 /* ---- sockets */
 
-/* Opens a UDP socket. The answer is its descriptor, the least that is free. ENXIO. EMFILE. */
-int bsdudp_socket(struct bsdudp *);
+/* Opens a UDP socket. Source: the book, chapter 15 (socket).
 
-/* Gives a socket its local address, or with 0 all of the machine, and its port, or with 0 the next free one of 1024 to
-   5000, which bsdudp_getsockname tells. The answer is 0. Refused, in this order:
-   ENXIO. EBADF. EINVAL: it has a port or an address already. EADDRNOTAVAIL. EADDRINUSE. */
-int bsdudp_bind(struct bsdudp *, uint32_t fd, const struct bsdudp_addr *local);
+   Returns its descriptor, the lowest free one: 3 to 66.
 
-/* Connects a socket: it sends to this address and hears from it alone. One that is connected is disconnected first, and
-   stays so if the call is refused. The answer is 0. Refused, in this order:
-   ENXIO. EBADF. EADDRNOTAVAIL: port 0. EHOSTUNREACH. EADDRINUSE: another socket has the same four values. */
-int bsdudp_connect(struct bsdudp *, uint32_t fd, const struct bsdudp_addr *to);
+   Errors:
+   -BSDUDP_ENXIO if the handle holds no stack.
+   -BSDUDP_EMFILE if 64 sockets are open. */
+int bsdudp_socket(struct bsdudp *stack);
 
-/* Sends `len` bytes as one datagram. The answer is `len`. What goes to the link waits for bsdudp_tx. What goes to this
-   machine has arrived when the call returns. Refused, in this order:
-   ENXIO. EBADF. EMSGSIZE: more than 9,216 bytes. EISCONN. EADDRNOTAVAIL: port 0. EHOSTUNREACH. EADDRINUSE. EACCES.
-   EMSGSIZE: a broadcast longer than a packet of the link. ENOBUFS: the pool; datagrams that waited for fragments are
-   dropped then. EQUEUE: not all packets found room in the output queue; those that did go out, and the identification
-   is spent. */
-int bsdudp_sendto(struct bsdudp *, uint32_t fd, const struct bsdudp_addr *to, const void *bytes, size_t len);
+/* Binds a socket to a local address and port. Address 0 means all addresses of the host. Port 0 means the next free
+   port of 1024 to 5000, which bsdudp_getsockname returns. Source: the book, chapter 22 (in_pcbbind).
 
-/* The same to the peer of a connected socket; EDESTADDRREQ in the place of the refusals of an address. */
-int bsdudp_send(struct bsdudp *, uint32_t fd, const void *bytes, size_t len);
+   Returns 0.
 
-/* Takes the oldest datagram that waits in a socket: up to `len` bytes of it stand in `room`, the others are lost, and
-   `from` tells the sender. The answer is how many bytes were copied. It doesn't block.
-   ENXIO. EBADF. EWOULDBLOCK. Then room and `from` are as they were. */
-int bsdudp_recvfrom(struct bsdudp *, uint32_t fd, void *room, size_t len, struct bsdudp_addr *from);
+   Errors:
+   -BSDUDP_ENXIO if the handle holds no stack.
+   -BSDUDP_EBADF if no open socket has the descriptor `fd`.
+   -BSDUDP_EINVAL if the socket already has a local port or address.
+   -BSDUDP_EADDRNOTAVAIL if `local->ip` is not 0 and not one of the host's addresses: its own, its broadcast address,
+   and 127.0.0.1.
+   -BSDUDP_EADDRINUSE if `local->port` is not 0 and another socket has this port, and the same address or one of the two
+   has no address. If this socket has BSDUDP_SO_REUSEPORT, only the newest unconnected socket with the same port and
+   exactly the same address counts, and only if it lacks that option. */
+int bsdudp_bind(struct bsdudp *stack, uint32_t fd, const struct bsdudp_addr *local);
 
-/* Closes a socket; what waits in it is lost. The answer is 0. ENXIO. EBADF. */
-int bsdudp_close(struct bsdudp *, uint32_t fd);
+/* Connects a socket to a peer: bsdudp_send sends to the peer, and the socket receives only from it. A socket that is
+   connected is first disconnected, and stays disconnected if the call fails. A missing local port or address is chosen.
+   Source: the book, chapter 22 (in_pcbconnect).
 
-/* Sets an option, or with `on` 0 clears it. The answer is 0. ENXIO. EBADF. ENOPROTOOPT. */
-int bsdudp_setsockopt(struct bsdudp *, uint32_t fd, int option, int on);
+   Returns 0.
 
-/* ---- questions: they change nothing */
+   Errors:
+   -BSDUDP_ENXIO if the handle holds no stack.
+   -BSDUDP_EBADF if no open socket has the descriptor `fd`.
+   -BSDUDP_EADDRNOTAVAIL if `to->port` is 0.
+   -BSDUDP_EHOSTUNREACH if no route leads to `to->ip`.
+   -BSDUDP_EADDRINUSE if another socket has the same local and foreign address and port. */
+int bsdudp_connect(struct bsdudp *stack, uint32_t fd, const struct bsdudp_addr *to);
 
-/* What a socket is bound and connected to, and its options. The answer is 0. ENXIO. EBADF: `name` is as it was. */
-int bsdudp_getsockname(struct bsdudp *, uint32_t fd, struct bsdudp_name *name);
+/* Sends `len` bytes as one datagram to an address. Its packets are queued for bsdudp_tx or bsdudp_ether_transmit. A
+   datagram to this host has arrived when the call returns. A missing local port is chosen. Source: the book, chapters
+   16 (sosend), 23 (udp_output), 8 and 10 (ip_output).
 
-/* The oldest datagram that waits in a socket. The answer is 0. ENXIO. EBADF. EWOULDBLOCK. Then `next` is as it was. */
-int bsdudp_next(struct bsdudp *, uint32_t fd, struct bsdudp_next *next);
+   Returns `len`.
 
-/* In which sockets a datagram waits: bit k of `*set` stands for descriptor 3 + k. The answer is 0. ENXIO. */
-int bsdudp_readable(struct bsdudp *, uint64_t *set);
+   Errors:
+   -BSDUDP_ENXIO if the handle holds no stack.
+   -BSDUDP_EBADF if no open socket has the descriptor `fd`.
+   -BSDUDP_EMSGSIZE if `len` is above BSDUDP_DATAGRAM.
+   -BSDUDP_EISCONN if the socket is connected.
+   -BSDUDP_EADDRNOTAVAIL if `to->port` is 0.
+   -BSDUDP_EHOSTUNREACH if no route leads to `to->ip`.
+   -BSDUDP_EADDRINUSE if another socket has the same local and foreign address and port.
+   -BSDUDP_EACCES if `to->ip` is the broadcast address and the socket does not have BSDUDP_SO_BROADCAST.
+   -BSDUDP_EMSGSIZE if `to->ip` is the broadcast address and the packet would exceed the MTU.
+   -BSDUDP_ENOBUFS if the pool has too few free buffers. All unfinished datagrams have been dropped to free buffers.
+   -BSDUDP_EQUEUE if the output queue does not have space for all packets. The packets that fit are queued, and the
+   identification and a chosen port are used up. */
+int bsdudp_sendto(struct bsdudp *stack, uint32_t fd, const struct bsdudp_addr *to, const void *bytes, size_t len);
 
-/* How many packets wait for the link, 0 to 50. ENXIO. */
-int bsdudp_output_len(struct bsdudp *);
+/* Sends `len` bytes as one datagram to the peer of a connected socket, as bsdudp_sendto does.
 
-/* How many bytes the packet has that bsdudp_tx gives next; 0 if none waits. ENXIO. */
-int bsdudp_next_packet(struct bsdudp *);
+   Returns `len`.
 
-/* How many datagrams are unfinished: some of their fragments have come, and others are missing. ENXIO. */
-int bsdudp_unfinished_len(struct bsdudp *);
+   Errors:
+   -BSDUDP_ENXIO if the handle holds no stack.
+   -BSDUDP_EBADF if no open socket has the descriptor `fd`.
+   -BSDUDP_EDESTADDRREQ if the socket is not connected.
+   -BSDUDP_EMSGSIZE, -BSDUDP_EACCES, -BSDUDP_ENOBUFS and -BSDUDP_EQUEUE as bsdudp_sendto returns them. */
+int bsdudp_send(struct bsdudp *stack, uint32_t fd, const void *bytes, size_t len);
 
-/* An unfinished datagram, by its number, 0 to bsdudp_unfinished_len - 1, in the order in which they began. The answer
-   is 0. ENXIO. EINVAL: there is none with this number, and `datagram` is as it was. */
-int bsdudp_unfinished(struct bsdudp *, uint32_t i, struct bsdudp_unfinished *datagram);
+/* Removes the oldest datagram from a socket's receive queue, copies up to `len` bytes of it to `room`, and stores its
+   sender in `*from`. The rest of the datagram is lost. The call does not block. Source: the book, chapter 16
+   (soreceive).
 
-/* A range of the bytes that unfinished datagram `i` holds, by its number, 0 to `ranges` - 1, in order of offset. It
-   takes a step for each range in front. The answer is 0. ENXIO. EINVAL: there is no such datagram, or it has no range
-   with this number, and `range` is as it was. */
-int bsdudp_unfinished_range(struct bsdudp *, uint32_t i, uint32_t k, struct bsdudp_range *range);
+   Returns the number of bytes copied.
 
-/* A counter, by its number, 0 to 25, in the order of bsdudp_counter_name. The answer is 0. ENXIO. EINVAL. */
-int bsdudp_counter(struct bsdudp *, uint32_t which, uint64_t *value);
+   Errors, with `room` and `*from` unchanged:
+   -BSDUDP_ENXIO if the handle holds no stack.
+   -BSDUDP_EBADF if no open socket has the descriptor `fd`.
+   -BSDUDP_EWOULDBLOCK if the receive queue is empty. */
+int bsdudp_recvfrom(struct bsdudp *stack, uint32_t fd, void *room, size_t len, struct bsdudp_addr *from);
 
-/* How much of the pool is in use. The answer is 0. ENXIO. */
-int bsdudp_mbstat(struct bsdudp *, struct bsdudp_mbstat *usage);
+/* Closes a socket. The datagrams in its receive queue are lost. Source: the book, chapter 15 (soclose).
 
-/* The name of a counter, as "ip.total"; NULL from 26 on. */
+   Returns 0.
+
+   Errors:
+   -BSDUDP_ENXIO if the handle holds no stack.
+   -BSDUDP_EBADF if no open socket has the descriptor `fd`. */
+int bsdudp_close(struct bsdudp *stack, uint32_t fd);
+
+/* Sets an option of a socket, or clears it if `on` is 0. `option` is BSDUDP_SO_BROADCAST or BSDUDP_SO_REUSEPORT.
+   Source: the book, chapter 17 (setsockopt).
+
+   Returns 0.
+
+   Errors:
+   -BSDUDP_ENXIO if the handle holds no stack.
+   -BSDUDP_EBADF if no open socket has the descriptor `fd`.
+   -BSDUDP_ENOPROTOOPT if there is no such option. */
+int bsdudp_setsockopt(struct bsdudp *stack, uint32_t fd, int option, int on);
+
+/* ---- queries: they change nothing */
+
+/* Reads the local and foreign address and port of a socket, and its options, into `*name`. Source: the book, chapter 17
+   (getsockname, getpeername, getsockopt).
+
+   Returns 0.
+
+   Errors, with `*name` unchanged:
+   -BSDUDP_ENXIO if the handle holds no stack.
+   -BSDUDP_EBADF if no open socket has the descriptor `fd`. */
+int bsdudp_getsockname(struct bsdudp *stack, uint32_t fd, struct bsdudp_name *name);
+
+/* Reads the sender and the length of the oldest datagram in a socket's receive queue into `*next`.
+
+   Returns 0.
+
+   Errors, with `*next` unchanged:
+   -BSDUDP_ENXIO if the handle holds no stack.
+   -BSDUDP_EBADF if no open socket has the descriptor `fd`.
+   -BSDUDP_EWOULDBLOCK if the receive queue is empty. */
+int bsdudp_next(struct bsdudp *stack, uint32_t fd, struct bsdudp_next *next);
+
+/* Reads which sockets have a datagram in their receive queue: bit k of `*set` is descriptor BSDUDP_FIRST_FD + k.
+
+   Returns 0.
+
+   Errors:
+   -BSDUDP_ENXIO if the handle holds no stack. */
+int bsdudp_readable(struct bsdudp *stack, uint64_t *set);
+
+/* Returns the number of packets in the output queue, 0 to BSDUDP_QUEUE.
+
+   Errors:
+   -BSDUDP_ENXIO if the handle holds no stack. */
+int bsdudp_output_len(struct bsdudp *stack);
+
+/* Returns the length in bytes of the packet that bsdudp_tx removes next; 0 if the output queue is empty.
+
+   Errors:
+   -BSDUDP_ENXIO if the handle holds no stack. */
+int bsdudp_next_packet(struct bsdudp *stack);
+
+/* Returns the number of unfinished datagrams: some of their fragments have arrived, and others are missing.
+
+   Errors:
+   -BSDUDP_ENXIO if the handle holds no stack. */
+int bsdudp_unfinished_len(struct bsdudp *stack);
+
+/* Reads the unfinished datagram at index `i` into `*datagram`. Indices are 0 to bsdudp_unfinished_len - 1, in the order
+   in which the first fragments arrived.
+
+   Returns 0.
+
+   Errors, with `*datagram` unchanged:
+   -BSDUDP_ENXIO if the handle holds no stack.
+   -BSDUDP_EINVAL if there is no unfinished datagram with this index. */
+int bsdudp_unfinished(struct bsdudp *stack, uint32_t i, struct bsdudp_unfinished *datagram);
+
+/* Reads the range at index `k` of the bytes of unfinished datagram `i` into `*range`. Indices are 0 to `ranges` - 1, in
+   order of offset. The call takes time in proportion to `k`.
+
+   Returns 0.
+
+   Errors, with `*range` unchanged:
+   -BSDUDP_ENXIO if the handle holds no stack.
+   -BSDUDP_EINVAL if there is no unfinished datagram with index `i`, or it has no range with index `k`. */
+int bsdudp_unfinished_range(struct bsdudp *stack, uint32_t i, uint32_t k, struct bsdudp_range *range);
+
+/* Reads counter `which` into `*value`. A counter stops at 2 to the 64th, less 1. Source: the book, chapters 8 (ipstat)
+   and 23 (udpstat); options, badfrag, reclaimed, out.dropped and nobufs are this library's own. The counters:
+
+    0  ip.total        packets that reached IP input, from the link or by loopback
+    1  ip.toosmall     packets of fewer than 20 bytes
+    2  ip.badvers      packets with a version other than 4
+    3  ip.badhlen      packets with a header length below 5 words
+    4  ip.options      packets with options
+    5  ip.badsum       packets with a wrong header checksum
+    6  ip.badlen       packets with a total length below 20
+    7  ip.tooshort     packets with fewer bytes than their total length
+    8  ip.cantforward  packets for another host
+    9  ip.badfrag      fragments with an impossible size or offset
+   10  ip.fragments    fragments that passed that test
+   11  ip.fragdropped  fragments whose bytes had all arrived already
+   12  ip.fragtimeout  unfinished datagrams dropped after 60 ticks
+   13  ip.reclaimed    unfinished datagrams dropped to free their buffers
+   14  ip.reassembled  datagrams reassembled
+   15  ip.noproto      datagrams of a protocol other than UDP
+   16  udp.hdrops      datagrams of fewer than 8 bytes
+   17  udp.badlen      datagrams with a UDP length below 8 or above what the packet carries
+   18  udp.badsum      datagrams with a wrong UDP checksum
+   19  udp.noport      datagrams for a port without a socket, except broadcasts
+   20  udp.noportbcast broadcasts for a port without a socket
+   21  udp.fullsock    datagrams dropped because a receive queue was full; a broadcast counts for each such socket
+   22  ip.localout     datagrams sent
+   23  ip.fragmented   datagrams sent in fragments
+   24  out.dropped     datagrams sent whose packets did not all fit into the output queue
+   25  nobufs          packets dropped because the pool had too few buffers; a broadcast counts for each such socket
+
+   Returns 0.
+
+   Errors:
+   -BSDUDP_ENXIO if the handle holds no stack.
+   -BSDUDP_EINVAL if `which` is not below BSDUDP_COUNTERS; `*value` is then unchanged. */
+int bsdudp_counter(struct bsdudp *stack, uint32_t which, uint64_t *value);
+
+/* Reads the usage of the pool into `*usage`. Source: the book, chapter 2 (mbstat).
+
+   Returns 0.
+
+   Errors:
+   -BSDUDP_ENXIO if the handle holds no stack. */
+int bsdudp_mbstat(struct bsdudp *stack, struct bsdudp_mbstat *usage);
+
+/* Returns the name of counter `which`, for example "ip.total"; NULL if `which` is not below BSDUDP_COUNTERS. */
 const char *bsdudp_counter_name(uint32_t which);
 
-/* What an answer says, as "no buffers"; "ok" of 0 and above; "unknown" of what no call answers. */
-const char *bsdudp_strerror(int answer);
+/* Returns the meaning of a result, for example "no buffers" for -BSDUDP_ENOBUFS. It is "ok" for 0 and above, and
+   "unknown" for a number that no call returns. */
+const char *bsdudp_strerror(int result);
 
-/* The version of the library that the program is linked with. BSDUDP_VERSION is that of this header. */
+/* Returns the version of the library that the program is linked with. BSDUDP_VERSION is the version of this header. */
 const char *bsdudp_version(void);
 
 #ifdef __cplusplus

@@ -1,9 +1,10 @@
-/* A stack, or a host, in memory of malloc. */
+/* Boots a stack, or a host, in memory from malloc. */
 #include "bsdudp.h"
 
 #include <stdlib.h>
 
-/* A block of `len` bytes, or NULL where boot needs none to refuse: bsdudp_boot_in without memory tells why. */
+/* Allocates a block of `len` bytes. Returns NULL if that fails, or if boot fails in any case: then bsdudp_boot_in
+   without memory returns the error. */
 static unsigned char *block_of(struct bsdudp *stack, const struct bsdudp_config *config, size_t len)
 {
     const int has_sizes = config->mbufs >= 1 && config->mbufs <= 65535 && config->clusters <= 4096;
@@ -11,13 +12,13 @@ static unsigned char *block_of(struct bsdudp *stack, const struct bsdudp_config 
     return bsdudp_mbstat(stack, &usage) < 0 && has_sizes ? malloc(len + BSDUDP_ALIGNMENT - 1) : NULL;
 }
 
-/* Where the memory begins in a block: a malloc for 32 bits may align to 8 alone. */
+/* Returns the aligned beginning of the memory in a block: a malloc for 32 bits may align only to 8. */
 static unsigned char *aligned(unsigned char *block)
 {
     return block + (-(uintptr_t)block & (BSDUDP_ALIGNMENT - 1));
 }
 
-/* The block is the stack's, or free again. */
+/* Gives the block to the stack, or frees it if boot failed. */
 static int kept(struct bsdudp *stack, unsigned char *block, int answer)
 {
     if (answer < 0) {

@@ -1,4 +1,4 @@
-/* What stands between the header and the proved core: one export for each call. Boot is in memory.c. */
+/* The calls of the header over the proved core: one export for each call. Boot is in memory.c. */
 #include "bsdudp.h"
 
 #include <stdbool.h>
@@ -44,8 +44,8 @@ int bsdudp_end(struct bsdudp *stack)
     return answer;
 }
 
-/* A host's packets come and go in frames. Its calls stand in ether.c, and are reached here by pointers that its boot
-   sets: so a program that boots none is linked without them. */
+/* A host receives and sends frames instead of packets. Its calls are in ether.c, and its boot sets pointers to them, by
+   which this file calls them. So a program that boots no host is linked without them. */
 int bsdudp_rx(struct bsdudp *s, const void *packet, size_t len)
 {
     return s->tick_link != NULL ? -BSDUDP_EOPNOTSUPP : bsdudp_core_rx(&s->core, packet, len);
@@ -99,7 +99,7 @@ int bsdudp_setsockopt(struct bsdudp *s, uint32_t fd, int option, int on)
         return bsdudp_core_set_broadcast(&s->core, fd, on != 0);
     case BSDUDP_SO_REUSEPORT:
         return bsdudp_core_set_reuse_port(&s->core, fd, on != 0);
-    default: /* a handle without a stack and a wrong descriptor are told first */
+    default: /* a handle without a stack and a wrong descriptor come first */
         answer = bsdudp_core_name(&s->core, fd, &name);
         return answer < 0 ? answer : -BSDUDP_ENOPROTOOPT;
     }

@@ -1,8 +1,8 @@
-/* A host on an Ethernet, between the header and the proved core: a stack, and beside it its link, each behind a
-   handle of its own. */
+/* The calls of the header for a host on an Ethernet, over the proved core: a stack and its link, each with a handle of
+   its own. */
 #include "bsdudp.h"
 
-/* memory.c's: what boot may take, and that it's over. */
+/* Of memory.c: the memory that boot may use, and the end of boot. */
 void bsdudp_lend(void *memory, size_t len);
 int bsdudp_lent(const void *memory, int answer);
 
@@ -34,7 +34,8 @@ int bsdudp_core_ether_neighbour(struct bsdudp_core *link, uint32_t, struct core_
 static int tick_link(struct bsdudp *stack) { return bsdudp_core_ether_tick(&stack->link); }
 static int end_link(struct bsdudp *stack) { return bsdudp_core_ether_end(&stack->link); }
 
-/* A wrong link is told before anything of the stack: without memory a right one wants some. */
+/* An error in the link comes before the errors of the stack: the first call has no memory, so a valid link gives
+   ENOMEM. */
 int bsdudp_ether_boot_in(struct bsdudp *stack, const struct bsdudp_config *config, const struct bsdudp_link *link,
                          void *memory, size_t len)
 {
@@ -76,7 +77,7 @@ int bsdudp_ether_last_error(struct bsdudp *s, uint32_t fd)
     return bsdudp_core_ether_last_error(&s->core, &s->link, fd);
 }
 
-/* The answer of a question for the link; a handle without a stack is told first. */
+/* The result of a query for the link, or the error of a handle without a stack, which comes first. */
 static int answer_of(struct bsdudp *s, int answer)
 {
     return answer < 0 && bsdudp_core_output_len(&s->core) < 0 ? -BSDUDP_ENXIO : answer;

@@ -1,9 +1,9 @@
-/* The memory of a stack. The core asks for it in boot alone, by rattle_alloc, and gives it back in end, by
-   rattle_dealloc: it gets blocks one after another of what bsdudp_boot_in was given.
+/* The memory of a stack. The core allocates only in boot, by rattle_alloc, and frees in end, by rattle_dealloc. Boot
+   gets its blocks one after another from the memory that was passed to bsdudp_boot_in.
 
-   Where they come from is a variable of the thread, for as long as boot runs. Where there is no thread-local storage
-   compile this file with -DBSDUDP_THREADS=0, and link it in front of the library. Then the variable is a plain one, and
-   one boot at a time may run in the whole program. */
+   While boot runs, a thread-local variable points to the rest of that memory. Without thread-local storage, compile
+   this file with -DBSDUDP_THREADS=0, and link it before the library. Then the variable is a plain one, and only one
+   boot may run at a time in the whole program. */
 #include "bsdudp.h"
 
 #include <stdbool.h>
@@ -34,13 +34,13 @@ void *bsdudp_block(uint64_t size)
     return at;
 }
 
-#if UINTPTR_MAX > 0xffffffff /* where an address has 32 bits the core is given another form of this */
+#if UINTPTR_MAX > 0xffffffff /* with 32-bit addresses the core gets another form of this */
 struct tried {
     bool ok;
     void *at;
 };
 
-/* What the core calls for a block; `alignment` is at most BSDUDP_ALIGNMENT. */
+/* The core calls this for a block; `alignment` is at most BSDUDP_ALIGNMENT. */
 struct tried rattle_alloc(size_t size, size_t alignment);
 struct tried rattle_alloc(size_t size, size_t alignment)
 {
@@ -55,7 +55,7 @@ struct tried rattle_alloc(size_t size, size_t alignment)
 }
 #endif
 
-/* A block comes back: the memory is the caller's again once all have. */
+/* The core frees a block: the memory belongs to the caller again when all blocks are free. */
 void rattle_dealloc(void *block);
 void rattle_dealloc(void *block)
 {
@@ -67,8 +67,8 @@ size_t bsdudp_memory(const struct bsdudp_config *config)
     return BSDUDP_MEMORY(config->mbufs, config->clusters);
 }
 
-/* What boot may take from now on: nothing of memory that isn't aligned, so the core refuses for want of memory then, if
-   it has no other reason. ether.c calls it, too. */
+/* Sets the memory for boot. Memory that is not aligned counts as no memory, so the core returns ENOMEM if there is no
+   other error. ether.c calls this too. */
 void bsdudp_lend(void *memory, size_t len);
 void bsdudp_lend(void *memory, size_t len)
 {
@@ -76,7 +76,7 @@ void bsdudp_lend(void *memory, size_t len)
     left = (uintptr_t)memory % BSDUDP_ALIGNMENT == 0 ? len / 16 * 16 : 0;
 }
 
-/* Boot is over; its answer. */
+/* Ends the use of the memory for boot, and returns the result of boot. */
 int bsdudp_lent(const void *memory, int answer);
 int bsdudp_lent(const void *memory, int answer)
 {

@@ -1,4 +1,4 @@
-/* The names of counters and of answers, and the version. */
+/* The names of counters, the texts of results, and the version. */
 #include "bsdudp.h"
 
 const char *bsdudp_counter_name(uint32_t which)
@@ -34,11 +34,11 @@ const char *bsdudp_counter_name(uint32_t which)
     return which < BSDUDP_COUNTERS ? names[which] : NULL;
 }
 
-const char *bsdudp_strerror(int answer)
+const char *bsdudp_strerror(int result)
 {
-    if (answer >= 0)
+    if (result >= 0)
         return "ok";
-    switch (answer) {
+    switch (result) {
     case -BSDUDP_ENXIO:
         return "no stack, or one already";
     case -BSDUDP_EBADF:

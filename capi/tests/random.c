@@ -23,7 +23,7 @@ enum kind { SOCKET, BIND, CONNECT, SENDTO, SEND, RECVFROM, CLOSE, SETSOCKOPT, RX
 /* How often each is drawn; in each phase one of them is drawn forty times as often. */
 static const unsigned weights[KINDS] = {6, 10, 8, 12, 8, 12, 5, 10, 25, 8, 3, 1, 2};
 
-/* What each call is refused, by docs/script.md. */
+/* What each call is refused, by docs/scripts.md. */
 static const struct {
     enum kind kind;
     int errors[10];

@@ -34,7 +34,11 @@ class Adapter:
         self.faults = 0
 
     def __enter__(self) -> "Adapter":
-        self.start()
+        try:
+            self.start()
+        except Fault:
+            self.stop()
+            raise
         return self
 
     def __exit__(self, *_: object) -> None:

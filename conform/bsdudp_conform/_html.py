@@ -5,7 +5,7 @@ from html import escape
 from typing import Dict, List, Sequence
 
 from ._baseline import Known, is_known
-from ._judge import Deviation, Judged
+from ._judge import Deviation, Judged, cases_of
 from ._policy import Explained
 from ._report import MEANING, WORDS, cell, policy_text, rules_of, steps_of, summary
 from ._rules import RULES
@@ -79,12 +79,13 @@ def kind_of(kind: List[Deviation], known: Known, captures: Dict[str, str]) -> st
         "shortest case": f"<code>{first.case.name}</code>, {escape(first.case.title)}",
     }
     facts = "".join(f"<dt>{name}</dt><dd>{words}</dd>" for name, words in rows.items())
-    others = ", ".join(it.case.name for it in kind[1:13]) + (", .." if len(kind) > 13 else "")
+    names = cases_of(kind)
+    others = ", ".join(names[1:13]) + (", .." if len(names) > 13 else "")
     more = f"<dt>also</dt><dd class=soft>{others}</dd>" if others else ""
     steps = escape("\n".join(steps_of(first.case)))
     return (
         f'<details><summary><span class="level {shade(level)}">{level}</span> <b>{breach.rule}</b>: '
-        f"{escape(breach.what)} <span class=soft>({len(kind)} case{'s' * (len(kind) > 1)})</span>{old}</summary>"
+        f"{escape(breach.what)} <span class=soft>({len(names)} case{'s' * (len(names) > 1)})</span>{old}</summary>"
         f"<dl>{facts}{capture}{more}</dl>"
         f"<pre tabindex=0>{steps}</pre></details>"
     )

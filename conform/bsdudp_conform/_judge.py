@@ -61,6 +61,11 @@ class Judged:
         return [sorted(groups[kind], key=lambda it: it.case.size) for kind in order]
 
 
+def cases_of(kind: Iterable[Deviation]) -> List[str]:
+    """The names of the cases in which a thing is broken, each once, in their order."""
+    return list(dict.fromkeys(it.case.name for it in kind))
+
+
 class Progress:
     """A line on standard error, written anew as cases end."""
 

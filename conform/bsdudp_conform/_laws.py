@@ -3,7 +3,7 @@
 never     A datagram that reaches a socket is one that the packets carry: the data of one whole packet with right
           lengths and checksums, or, byte for byte, of fragments of one key (source, destination, identification,
           protocol 17) that leave no hole up to a last one, by any choice where they overlap. It's for the socket's
-          port, and of its peer if it's connected.
+          port, and of its peer if it's connected. The sender that the user is told is the one who sent it.
 always    A datagram of at most 576 bytes with a UDP checksum that came whole, or in fragments once each, without
           overlap, within 2 seconds, with nothing else of its key, reaches the user. Above 576 bytes, and where more
           than ten fragments or fragments of more than three datagrams came, it should."""
@@ -14,7 +14,7 @@ import struct
 from dataclasses import dataclass, field, replace
 from typing import Dict, FrozenSet, Iterator, List, NamedTuple, Optional, Sequence, Set, Tuple
 
-from ._addresses import HOST, OURS, ZERO_BROADCAST, is_host
+from ._addresses import HOST, OURS, ZERO_BROADCAST, is_host, text_of
 from ._case import Case, Connect, Got, Open, Receive, Wait, user_sockets
 from ._packets import with_checksum
 from ._read import UDP, Header, fold, read, read_udp, sum_with_pseudo_header
@@ -26,9 +26,11 @@ LENGTH, PROTOCOL, END, GREATEST = (
     "the greatest length (65,535)",
 )
 TOTAL, HEADER_SUM, UDP_SUM = "the total length", "the header checksum", "the UDP checksum"
-STRANGER = "from another than its peer"
+STRANGER, SENDER = "socket.connected", "udp.source"
 CHECKS = (LENGTH, PROTOCOL, END, GREATEST, TOTAL, HEADER_SUM, UDP_SUM)
 NO_CHECK_OMITTED: FrozenSet[str] = frozenset()
+ANY_HEADER = frozenset({TOTAL, HEADER_SUM})
+NOTHING_ELSE = "nothing that the packets don't carry"
 LONGEST_LIFE_MS, PROMPT_MS = 255_000, 2_000
 FEW_FRAGMENTS, FEW_DATAGRAMS = 10, 3
 
@@ -50,6 +52,19 @@ class Promise(NamedTuple):
     source: int
     port: int
     data: bytes
+
+
+Sender = Tuple[int, int]
+
+
+class Wrong(NamedTuple):
+    """What is wrong with a datagram that reached a user. rule: the one that it breaks, None for its case's own. sender:
+    who sent it, if the user is told another."""
+
+    rule: Optional[str]
+    words: str
+    expected: str
+    sender: Optional[Sender] = None
 
 
 @dataclass
@@ -78,19 +93,49 @@ class Seen:
         found = [peer for since, who, peer in self.peers if who == socket and since <= step]
         return found[-1] if found else None
 
-    def fault(self, got: Got) -> Optional[str]:
-        """The law `never`: what a datagram breaks; None where it may come. The fewest of a receiver's checks without
-        which it could come are named."""
+    def fault(self, got: Got) -> Optional[Wrong]:
+        """The law `never`: what is wrong with a datagram; None if it may come."""
         peer = self.peer(got.socket, got.step)
-        if peer and got.source is not None and peer != (got.source, got.port):
-            return STRANGER
-        if self.carries(got, NO_CHECK_OMITTED):
+        stranger = peer is not None and got.source is not None and peer != (got.source, got.port)
+        if not stranger and self.carries(got, NO_CHECK_OMITTED):
             return None
+        claimed = self.senders(got.step)
+        is_claimed = got.source is None or (got.source, got.port) in claimed
+        size = len(got.data)
+        unchecked = self.unchecked(got) if is_claimed and not stranger else None
+        if unchecked:
+            return Wrong(None, f"{size} bytes reach the user, as if {unchecked} weren't looked at", NOTHING_ELSE)
+        own = None if is_claimed and stranger else self.sender(got, claimed)
+        if own:
+            return wrong_sender(got, own)
+        if stranger:
+            words = f"a connected socket gets {size} bytes from another than its peer"
+            return Wrong(STRANGER, words, "its peer's datagrams alone")
+        return Wrong(None, f"{size} bytes reach the user that nobody sent", NOTHING_ELSE)
+
+    def unchecked(self, got: Got) -> Optional[str]:
+        """The fewest of a receiver's checks without which a datagram could come; None if there are none."""
         for count in (1, 2, 3):
             for omitted in itertools.combinations(CHECKS, count):
                 if self.carries(got, frozenset(omitted)):
-                    return f", as if {' and '.join(omitted)} weren't looked at"
-        return " that nobody sent"
+                    return " and ".join(omitted)
+        return None
+
+    def senders(self, step: int) -> Set[Sender]:
+        """Address and port that the packets up to a step name as theirs, right or wrong."""
+        found = set()
+        for it in self.arrivals:
+            header = it.header or read(mended(it.packet, ANY_HEADER))
+            if header is not None and header.offset == 0 and it.step <= step:
+                found.add((header.source, int.from_bytes(header.data[:2], "big")))
+        return found
+
+    def sender(self, got: Got, claimed: Set[Sender]) -> Optional[Sender]:
+        """Who of these sent a datagram, whatever its user is told; None if nobody did."""
+        if got.source is None:
+            return None
+        sent = (it for it in sorted(claimed) if self.carries(replace(got, source=it[0], port=it[1]), NO_CHECK_OMITTED))
+        return next(sent, None)
 
     def carries(self, got: Got, omitted: FrozenSet[str]) -> bool:
         """Whether the packets up to a step carry the datagram, if these checks are omitted."""
@@ -171,6 +216,14 @@ class Seen:
                 continue
             found += whole_promises(parts) + fragment_promises(parts, few)
         return sorted(found)
+
+
+def wrong_sender(got: Got, sender: Sender) -> Wrong:
+    """A datagram whose user is told another sender than its own."""
+    told, size = (got.source or 0, got.port), f"{len(got.data)} bytes"
+    wrong = " and ".join(name for name, one, other in zip(("address", "port"), told, sender) if one != other)
+    words = f"{size} with a wrong source {wrong}: {text_of(told[0])} port {told[1]}"
+    return Wrong(SENDER, words, f"{size} from {text_of(sender[0])} port {sender[1]}", sender)
 
 
 def mended(packet: bytes, omitted: FrozenSet[str]) -> bytes:

@@ -20,7 +20,7 @@ MOST_FLOOD = 100
 OK, DEVIATES, USAGE, NO_ADAPTER = 0, 1, 2, 3
 TEMPLATES = pathlib.Path(__file__).resolve().parent / "templates"
 DESCRIPTION = """Judges a UDP/IPv4 stack: cases of packets go through it, and two laws and the machines that the RFCs
-permit say what may come of them. docs/conform.md says what an adapter is, and leads to a first verdict in five
+permit say what may come of them. docs/judge.md says what an adapter is, and leads to a first verdict in five
 minutes."""
 STATUS = """Status: 0 if nothing deviates that the baseline doesn't know, 1 if something does, 2 for wrong words, 3 if a
 stack or a device can't be reached at all."""
@@ -130,6 +130,19 @@ def commands_of(words: argparse.Namespace) -> List[List[str]]:
 
 
 def main(argv: Optional[Sequence[str]] = None) -> int:
+    """Runs the command. If nobody reads standard output any more, as in `run --list | head`, it ends without a message
+    and with status 1, since its verdict wasn't read. (An adapter's pipes are _adapter's.)"""
+    try:
+        try:
+            return command(argv)
+        finally:
+            sys.stdout.flush()
+    except BrokenPipeError:
+        os.dup2(os.open(os.devnull, os.O_WRONLY), sys.stdout.fileno())
+        return DEVIATES
+
+
+def command(argv: Optional[Sequence[str]]) -> int:
     top = parser()
     words = top.parse_args(argv)
     if words.what == "template":

@@ -1,11 +1,12 @@
 """Packets with any field wrong, and capture files, by scapy: a field that is given stays as it is."""
 from __future__ import annotations
 
+import functools
 import importlib
 import logging
 import pathlib
 import struct
-from typing import Any, Iterable, List, Optional, Sequence, Tuple
+from typing import Any, Iterable, List, Optional, Sequence, Tuple, Union
 
 from ._addresses import HOST, PEER, text_of
 from ._read import UDP, fold, sum_with_pseudo_header
@@ -29,6 +30,28 @@ def _scapy(name: str) -> Any:
         raise MissingScapy from None
 
 
+@functools.lru_cache(maxsize=None)
+def _udp_header(**fields: int) -> bytes:
+    """A UDP header by scapy. Few of them differ, and scapy takes 0.2 ms for each."""
+    return bytes(_scapy("layers.inet").UDP(**fields))
+
+
+@functools.lru_cache(maxsize=None)
+def _ip_header(options: bytes, **fields: Union[int, str]) -> bytes:
+    """An IPv4 header with these bytes as options, by scapy."""
+    raw = _scapy("packet").Raw
+    return bytes(_scapy("layers.inet").IP(options=[raw(options)] if options else [], **fields))
+
+
+def _with_identification(header: bytes, id: int, is_sum_given: bool) -> bytes:
+    """The same header with this identification. Its checksum is scapy's, unless one was given."""
+    made = header[:4] + struct.pack(">H", id) + header[6:]
+    if is_sum_given:
+        return made
+    right: int = _scapy("utils").checksum(made[:10] + bytes(2) + made[12:])
+    return made[:10] + struct.pack(">H", right) + made[12:]
+
+
 def checksum(data: bytes) -> int:
     """The checksum field that makes the sum of these bytes right."""
     return 0xFFFF - fold(data)
@@ -45,10 +68,9 @@ def udp(
     check: Optional[int] = None,
 ) -> bytes:
     """A UDP datagram. length: the field. summed: the length that the checksum is taken over. check: the field."""
-    layer = _scapy("layers.inet")
     size = 8 + len(payload)
     field = size if length is None else length
-    bare = bytes(layer.UDP(sport=sport, dport=dport, len=field, chksum=0)) + payload
+    bare = _udp_header(sport=sport, dport=dport, len=field, chksum=0) + payload
     if check is None:
         over = field if summed is None else summed
         covered = bare[:over] if 8 <= over <= size else bare
@@ -71,25 +93,11 @@ def packet(
 ) -> bytes:
     """An IPv4 packet: `fields` are scapy's (version, ihl, len, tos, ttl, chksum). offset is in bytes; pad comes after
     the total length; the header checksum is taken over the first sum_over bytes where that is given."""
-    layer, raw = _scapy("layers.inet"), _scapy("packet").Raw
     fields.setdefault("len", 20 + len(options) + len(data))
     fields.setdefault("ihl", 5 + len(options) // 4)
-    made = (
-        bytes(
-            layer.IP(
-                src=text_of(source),
-                dst=text_of(destination),
-                id=id,
-                frag=offset // 8,
-                flags=flags,
-                proto=proto,
-                options=[raw(options)] if options else [],
-                **fields,
-            )
-        )
-        + data
-        + pad
-    )
+    ends = {"src": text_of(source), "dst": text_of(destination)}
+    header = _ip_header(options, id=0, frag=offset // 8, flags=flags, proto=proto, **ends, **fields)
+    made = _with_identification(header, id, "chksum" in fields) + data + pad
     if sum_over is not None:
         made = with_checksum(made, sum_over)
     return made

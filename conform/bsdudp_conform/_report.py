@@ -9,7 +9,7 @@ from typing import Dict, List, Sequence
 
 from ._baseline import Known, is_known
 from ._case import Case, Receive
-from ._judge import Deviation, Judged
+from ._judge import Deviation, Judged, cases_of
 from ._packets import show
 from ._policy import Explained
 from ._rules import RULES
@@ -72,8 +72,10 @@ def kind_text(kind: List[Deviation], known: Known) -> str:
     first = kind[0]
     breach, rule = first.breach, RULES[first.breach.rule]
     old = ", known" if all(is_known(it, known) for it in kind) else ""
+    count = len(cases_of(kind))
     lines = [
-        f"{WORDS[breach.level].upper()} {breach.rule}: {rule.sentence} ({rule.source}); {len(kind)} cases{old}",
+        f"{WORDS[breach.level].upper()} {breach.rule}: {rule.sentence} ({rule.source}); "
+        f"{count} case{'s' * (count > 1)}{old}",
         f"    seen: {breach.what}",
         f"    expected: {breach.expected or rule.sentence}",
         f"    shortest: {first.case.name}, {first.case.title}",

@@ -71,6 +71,7 @@ RULES: Dict[str, Rule] = {
     "udp.flip": Rule("each bit of a UDP header turned over", "RFC 768, RFC 1122 4.1.3.4"),
     "udp.data": Rule("each length of data comes as sent, 0 among them", "RFC 768"),
     "udp.ports": Rule("source port 0 is taken; other ports' datagrams aren't", "RFC 768"),
+    "udp.source": Rule("the user is told who sent a datagram: address and port", "RFC 768, User Interface"),
     "udp.proto": Rule("another protocol's bytes don't reach UDP", "RFC 791 3.1"),
     "frag.order": Rule("fragments in any order make the datagram", "RFC 791 3.2, RFC 1122 3.3.2"),
     "frag.sizes": Rule("fragments of 8 bytes on, and last ones of 1 on", "RFC 791 3.2"),

@@ -3,7 +3,7 @@ from __future__ import annotations
 
 import functools
 from collections import Counter
-from dataclasses import dataclass
+from dataclasses import dataclass, replace
 from typing import FrozenSet, Iterable, List, Mapping, Tuple
 
 from ._addresses import BROADCAST, HOST, ZERO_BROADCAST, is_host, text_of
@@ -90,16 +90,15 @@ def verdict(case: Case, answer: Answer, abilities: FrozenSet[str]) -> List[Breac
 
 
 def by_laws(case: Case, seen: Seen, answer: Answer) -> List[Breach]:
-    found = []
+    found, left = [], []
     for got in answer.got:
-        fault = seen.fault(got)
-        if fault == STRANGER:
-            words = f"a connected socket gets {len(got.data)} bytes {fault}"
-            found.append(Breach(MUST, "socket.connected", words, got.step, "its peer's datagrams alone"))
-        elif fault:
-            words = f"{len(got.data)} bytes reach the user{fault}"
-            found.append(Breach(NEVER, case.rule, words, got.step, "nothing that the packets don't carry"))
-    left = list(answer.got)
+        wrong = seen.fault(got)
+        if wrong:
+            level = MUST if wrong.rule == STRANGER else NEVER
+            found.append(Breach(level, wrong.rule or case.rule, wrong.words, got.step, wrong.expected))
+        if wrong and wrong.sender:  # it came, and what is wrong with it has been said
+            got = replace(got, source=wrong.sender[0], port=wrong.sender[1])
+        left.append(got)
     for promise in seen.promises():
         wanted = (0, promise.source, promise.port, promise.data)
         hit = next((it for it in left if same(wanted, it)), None)

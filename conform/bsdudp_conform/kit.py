@@ -24,7 +24,7 @@ class Adapter:
     """One stack, from boot to the end of a case."""
 
     name = "a stack"
-    # What it has beside `rx` and `wait`: out, ping, send, mtu, sockets, connect, gateway (docs/conform.md).
+    # What it has beside `rx` and `wait`: out, ping, send, mtu, sockets, connect, gateway (docs/judge.md).
     has: Sequence[str] = ()
     # Whether each case is played in a process of its own, so that a crash is one case's.
     forks = True

@@ -446,7 +446,9 @@ async function faultsOfCapture(hex) {
   }
   const packed = new Blob([bytesOf(hex)]).stream().pipeThrough(new CompressionStream("gzip"));
   await openFile(file(await new Response(packed).arrayBuffer(), "d.pcap.gz"));
-  if (!byId("script").value.startsWith("# d.pcap.gz: 1 of its 1 records")) faults.push("a gzip isn't unpacked");
+  if (!byId("script").value.startsWith("# d.pcap.gz: 1 record, 1 IPv4 packet, 1 for 10.0.0.1.\n")) {
+    faults.push("a gzip isn't unpacked");
+  }
   await openFile(file(bytesOf("1f8b0800"), "e.gz"));
   if (!/^e.gz: compressed by gzip/.test(byId("trouble").textContent)) faults.push("a bad gzip isn't named");
   return faults;

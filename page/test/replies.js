@@ -6,19 +6,12 @@
 // the program after each line. It's silent where all is well.
 "use strict";
 const child = require("child_process"), fs = require("fs"), os = require("os"), path = require("path");
-const vm = require("vm");
+const { load } = require("./sources.js");
 
 const [file, examples, lessons, program, player] = process.argv.slice(2);
-const sources = ["engine", "packet", "play", "stack", "chains", "wire", "capture"]
-  .map(name => fs.readFileSync(path.join(__dirname, "..", name + ".js"), "utf8"));
-const names = "Engine, configOf, optionsOf, readNotes, partsOf, linesOf, hexOf, hasHosts, DEFAULTS, DEFAULT_CONFIG";
-const ofChains = "usageIn, slotsIn, drawnChains, clustersIn, playChains";
-const ofWire = "traceHosts, isFollowed, Frame, bytesOf";
-const ofPlay = "tracePlay", ofStates = "traceStack, Held, chainsIn";
-const ofCaptures = "captureScript";
-const code = sources.map(text => text.replace('"use strict";', "")).join("\n")
-  + `\n({ ${names}, ${ofChains}, ${ofWire}, ${ofPlay}, ${ofStates}, ${ofCaptures} })`;
-const page = vm.runInNewContext(code, { WebAssembly, TextEncoder, TextDecoder });
+const page = load(["Engine", "configOf", "optionsOf", "readNotes", "partsOf", "linesOf", "hexOf", "bytesOf", "hasHosts",
+  "DEFAULTS", "DEFAULT_CONFIG", "usageIn", "slotsIn", "drawnChains", "clustersIn", "playChains", "traceHosts",
+  "isFollowed", "Frame", "tracePlay", "traceStack", "Held", "chainsIn", "captureScript"]);
 
 let faults = 0;
 function fault(script, text) {
@@ -99,7 +92,7 @@ const latin = all => all.map(it => Object.fromEntries(Object.entries(it).map(([n
 function tryOwn(script, { steps, own, ends }) {
   steps.forEach((step, i) => {
     const ran = own.slice(i ? ends[i - 1] : 0, ends[i]);
-    if (ran.length !== 1) return;
+    if (ran.length !== 1 || step.line.startsWith("+")) return; // behind a time, one line alone is its tick
     const [{ reply }] = ran, drops = step.says.indexOf("dropped ");
     const said = drops < 0 ? step.says : step.says.slice(0, drops).trim() || "ok";
     if (said !== reply) fault(`${script}, line ${i + 1}`, `it's answered ${step.says}, and alone ${reply}`);

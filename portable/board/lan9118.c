@@ -10,7 +10,11 @@
 #define RX_STATUS REGISTER(0x40)
 #define TX_STATUS REGISTER(0x48)
 #define ID_REV REGISTER(0x50)
+#define IRQ_CFG REGISTER(0x54)
+#define INT_STS REGISTER(0x58)
+#define INT_EN REGISTER(0x5c)
 #define BYTE_TEST REGISTER(0x64)
+#define FIFO_INT REGISTER(0x68)
 #define TX_CFG REGISTER(0x70)
 #define HW_CFG REGISTER(0x74)
 #define RX_DP_CTRL REGISTER(0x78)
@@ -23,6 +27,7 @@
 
 static const uint32_t BUSY = UINT32_C(1) << 31; /* of MAC_CMD, E2P_CMD and RX_DP_CTRL */
 enum { HW_RESET = 1, HW_MUST_BE_ONE = 1 << 20, HW_TX_FIFO_5K = 5 << 16, TX_ON = 2, READY = 1 };
+enum { IRQ_ON_HIGH_PUSH_PULL = 0x111, RX_STATUS_LEVEL = 1 << 3 };
 enum { RX_ERROR = 1 << 15, TX_ERROR = 1 << 15, TX_FIRST = 1 << 13, TX_LAST = 1 << 12 };
 
 /* The registers of its MAC, which are read and written by MAC_CMD and MAC_DATA, and two of its PHY (IEEE 802.3, clause
@@ -121,3 +126,12 @@ int lan9118_send(const uint8_t *frame, size_t len)
     }
     return is_lost != 0 ? -1 : 0;
 }
+
+void lan9118_listen(void)
+{
+    FIFO_INT = 0; /* one frame is enough */
+    IRQ_CFG = IRQ_ON_HIGH_PUSH_PULL;
+    INT_EN = RX_STATUS_LEVEL;
+}
+
+void lan9118_heard(void) { INT_STS = RX_STATUS_LEVEL; }

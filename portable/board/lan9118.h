@@ -1,6 +1,6 @@
 /* The network card of the board, by polling: a LAN9118 of SMSC, which ARM's MPS2 boards and QEMU's mps2-an385 have at
-   0x40200000. It has no interrupt and no DMA here. A frame is without its check sequence, which the card makes and
-   tests, and the card pads a short one to 60 bytes. */
+   0x40200000. It has no DMA here, and its interrupt only wakes the processor. A frame is without its check sequence,
+   which the card makes and tests, and the card pads a short one to 60 bytes. */
 #include <stddef.h>
 #include <stdint.h>
 
@@ -17,3 +17,9 @@ size_t lan9118_receive(uint8_t *room);
 /* Sends a frame of 14 to LAN9118_FRAME bytes. It waits until the card has room for it. The answer is 0, or -1 if the
    card told since the last call that a frame couldn't be sent: that one is lost. */
 int lan9118_send(const uint8_t *frame, size_t len);
+
+/* From now on the card interrupts if a frame comes: LAN9118_INTERRUPT is the number on this board. lan9118_heard takes
+   the request back; frames that have come by then are to be taken afterwards. */
+enum { LAN9118_INTERRUPT = 13 };
+void lan9118_listen(void);
+void lan9118_heard(void);

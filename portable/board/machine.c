@@ -10,8 +10,11 @@
 #define CLOCK_CONTROL REGISTER(0xe000e010)
 #define CLOCK_RELOAD REGISTER(0xe000e014)
 #define CLOCK_NOW REGISTER(0xe000e018)
+#define INTERRUPTS_ON(word) REGISTER(0xe000e100 + 4 * (word))
+#define INTERRUPTS_BACK(word) REGISTER(0xe000e280 + 4 * (word))
+#define EXCEPTIONS REGISTER(0xe000ed04)
 enum { UART_FULL = 1, UART_CAME = 2, UART_ON = 3, CLOCK_ON = 5, CLOCK_PASSED = 1 << 16, HALF_A_SECOND = 12500000 };
-enum { LONGEST = 0xffffff };
+enum { LONGEST = 0xffffff, CLOCK_INTERRUPTS = 2, CLOCK_BACK = 1 << 25 };
 
 /* From the linker: where variables with values begin and end, and where their values are; where the others begin and
    end; and the end of the memory. */
@@ -91,6 +94,18 @@ void machine_put(uint8_t byte)
 }
 
 int machine_ticked(void) { return (CLOCK_CONTROL & CLOCK_PASSED) != 0; }
+
+void machine_sleep(uint32_t interrupt, void (*heard)(void))
+{
+    const uint32_t bit = UINT32_C(1) << (interrupt & 31);
+    __asm__ volatile("cpsid i" ::: "memory");
+    CLOCK_CONTROL = CLOCK_ON | CLOCK_INTERRUPTS;
+    INTERRUPTS_ON(interrupt >> 5) = bit;
+    __asm__ volatile("dsb\n\twfi" ::: "memory");
+    heard();
+    INTERRUPTS_BACK(interrupt >> 5) = bit;
+    EXCEPTIONS = CLOCK_BACK;
+}
 
 void machine_watch(void)
 {

@@ -11,6 +11,10 @@ void machine_put(uint8_t byte);
 /* Whether half a second passed since the last call. */
 int machine_ticked(void);
 
+/* Sleeps until an interrupt with this number, or half a second, came since the last call. Nothing handles interrupts:
+   they stay masked, end the sleep, and are taken back, by `heard` at their source, so look for work after the call. */
+void machine_sleep(uint32_t interrupt, void (*heard)(void));
+
 /* Text for who watches. */
 void machine_say(const char *text);
 

@@ -1,4 +1,4 @@
-/* The language of `bsdudp run` (docs/script.md) over bsdudp.h. The input is one script after another: a line with
+/* The language of `bsdudp run` (docs/scripts.md) over bsdudp.h. The input is one script after another: a line with
    options, as `--mtu 68`, the script's lines, and a byte 0; and then RUN_END. So are the replies: a line for each, and
    a byte 0. It reads and writes by the functions of run.h, so that it runs on a board too. */
 #include "run.h"
@@ -317,7 +317,7 @@ static void answer_line(size_t len)
 
 /* ---- scripts */
 
-/* The configuration that a line of options names, as docs/script.md has them. */
+/* The configuration that a line of options names, as docs/scripts.md has them. */
 static int config_of(size_t len, struct bsdudp_config *config)
 {
     static const struct bsdudp_config usual = {0x0a000001, 0x0a0000ff, 512, 64, 1500, 1};

@@ -9,8 +9,9 @@
     ...     to.recvfrom()
     (b'hi', ('10.0.0.1', 1024))
 
-`Stack` is a machine, `Host` one on an Ethernet, `Socket` a socket of it, `Wire` joins machines and loses packets, `sweep` runs a scenario for many
-seeds. What the stack itself does is proved; this package hands bytes to it and back, and is tested."""
+`Stack` is a simulated host, `Host` is one on an Ethernet, and `Socket` is a socket of a stack. `Wire` joins stacks and
+can lose packets; `sweep` runs a scenario for many seeds. The behaviour of the stack is proved. This package passes
+bytes to it and back, and is tested."""
 from ._counters import Counters, MbStat
 from ._frame import Frame
 from ._host import Host, Neighbour, Tallies

@@ -1,4 +1,4 @@
-"""Addresses as Python's own `socket` has them: a pair of a host's name and a port."""
+"""Addresses in the form of Python's own `socket`: a pair of a host and a port."""
 from __future__ import annotations
 
 import ipaddress
@@ -8,7 +8,7 @@ from typing import SupportsIndex, Tuple, Union
 from ._library import Address as Raw
 
 Host = Union[str, ipaddress.IPv4Address]
-# an address as it's given, and as it's told
+# an address as an argument, and as a result
 Endpoint = Tuple[Host, SupportsIndex]
 Address = Tuple[str, int]
 
@@ -17,8 +17,8 @@ BROADCAST = "<broadcast>"
 
 
 def number_of(host: Host) -> int:
-    """The number of an IPv4 address: of "10.0.0.1", of an `ipaddress.IPv4Address`, of "" (0.0.0.0) and of "<broadcast>"
-    (255.255.255.255). Names aren't looked up."""
+    """Returns the number of an IPv4 address: of "10.0.0.1", of an `ipaddress.IPv4Address`, of "" (0.0.0.0) or of
+    "<broadcast>" (255.255.255.255). Names are not resolved."""
     if isinstance(host, ipaddress.IPv4Address):
         return int(host)
     if not isinstance(host, str):
@@ -34,13 +34,13 @@ def number_of(host: Host) -> int:
 
 
 def text_of(number: int) -> str:
-    """An address in digits and dots."""
+    """Returns an address in dotted decimal form."""
     return str(ipaddress.IPv4Address(number))
 
 
 def in_range(what: str, value: SupportsIndex, least: int, most: int) -> int:
-    """The value, if it's an integer from `least` to `most`: an int, or what has `__index__`, as numpy's integers. A bool is
-    none."""
+    """Returns the value as an int. TypeError if it has no `__index__` (numpy's integers have one) or is a bool;
+    ValueError if it is not `least` to `most`."""
     if isinstance(value, bool) or not hasattr(value, "__index__"):
         raise TypeError(f"{what} is an int, and not {type(value).__name__}")
     number = operator.index(value)
@@ -50,7 +50,7 @@ def in_range(what: str, value: SupportsIndex, least: int, most: int) -> int:
 
 
 def raw(address: object) -> Raw:
-    """An address with its port, for the library. TypeError, ValueError: it's no `Endpoint`."""
+    """Returns an address with its port, for the library. TypeError or ValueError if it is not an `Endpoint`."""
     if not isinstance(address, tuple) or len(address) != 2:
         raise TypeError("an address is a tuple of a host and a port, as ('10.0.0.1', 7)")
     host, port = address

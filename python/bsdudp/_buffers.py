@@ -1,4 +1,4 @@
-"""What is like bytes, as Python's own sockets take it."""
+"""Bytes-like objects, as Python's own sockets accept them."""
 from __future__ import annotations
 
 from typing import TYPE_CHECKING
@@ -8,7 +8,7 @@ if TYPE_CHECKING:
 
 
 def octets(data: ReadableBuffer) -> bytes:
-    """The bytes of anything that has a buffer: bytes, a bytearray, a memoryview, an array, an array of numpy."""
+    """Returns the bytes of an object with a buffer: bytes, a bytearray, a memoryview, an array, an array of numpy."""
     if isinstance(data, bytes):
         return data
     try:
@@ -18,7 +18,7 @@ def octets(data: ReadableBuffer) -> bytes:
 
 
 def room(buffer: WriteableBuffer) -> memoryview:
-    """The bytes of a buffer that can be written to, one after another."""
+    """Returns the bytes of a writable, contiguous buffer."""
     try:
         view = memoryview(buffer).cast("B")
     except TypeError:

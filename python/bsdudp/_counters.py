@@ -1,10 +1,10 @@
-"""The counters of a stack, and what their causes are called."""
+"""The counters of a stack, and the texts for the causes of drops."""
 from __future__ import annotations
 
 import html
 from typing import Dict, Iterator, List, Mapping, NamedTuple
 
-# What is told of a counter of something dropped: the words of `bsdplay` (docs/play.md), and three that no line raises there.
+# The cause in words for each counter of drops: the words of `bsdplay` (docs/scripts.md), and three that no line causes.
 CAUSES = {
     "ip.toosmall": "packet shorter than a header",
     "ip.badvers": "wrong version",
@@ -31,20 +31,35 @@ CAUSES = {
 
 
 class MbStat(NamedTuple):
-    """How much of a stack's pool is in use."""
+    """The usage of a stack's pool: the value of `Stack.mbstat`.
+
+    >>> bsdudp.Stack(mbufs=64, clusters=16).mbstat
+    MbStat(free_mbufs=64, mbufs=64, free_clusters=16, clusters=16, refs=0, most=0)"""
 
     free_mbufs: int
     mbufs: int
     free_clusters: int
     clusters: int
     refs: int
-    """The sum of the clusters' counts: how many mbufs refer to a cluster."""
+    """The sum of the reference counts of all clusters: the number of references from mbufs to clusters."""
     most: int
-    """The greatest of these counts."""
+    """The greatest reference count of a cluster."""
 
 
 class Counters(Mapping[str, int]):
-    """The 26 counters at one moment, by their names, as `counters["ip.badsum"]`. docs/behaviour.md says what each counts."""
+    """A snapshot of the 26 counters of a stack: a mapping from name to value. `repr` shows the counters that are not 0.
+
+    ip.total, ip.fragments, ip.reassembled, ip.localout and ip.fragmented count packets and datagrams that were
+    processed. Every other counter counts packets or datagrams that were dropped; `causes` gives its meaning in words.
+    Source: TCP/IP Illustrated, volume 2, chapters 8 (ipstat) and 23 (udpstat).
+
+    >>> stack = bsdudp.Stack("10.0.0.1")
+    >>> before = stack.counters
+    >>> stack.rx(b"short")
+    >>> stack.counters["ip.toosmall"]
+    1
+    >>> stack.counters.since(before).causes()
+    ['packet shorter than a header']"""
 
     def __init__(self, values: Dict[str, int]) -> None:
         self._values = values
@@ -59,12 +74,13 @@ class Counters(Mapping[str, int]):
         return len(self._values)
 
     def since(self, before: Mapping[str, int]) -> "Counters":
-        """Those that went up since `before`, each with how much."""
+        """Returns the counters that have increased since the snapshot `before`, each with its increase."""
         risen = {name: value - before[name] for name, value in self._values.items() if value != before[name]}
         return Counters(risen)
 
     def causes(self) -> List[str]:
-        """What was dropped, in words, a line for each counter of something dropped that isn't 0."""
+        """Returns a list of str: for each counter of drops that is not 0, the cause in words and, if it is above 1, the
+        number of times."""
         return [
             text if self._values[name] == 1 else f"{text} ({self._values[name]} times)"
             for name, text in CAUSES.items()

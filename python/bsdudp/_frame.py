@@ -18,12 +18,12 @@ AnyFrame = Union["ReadableBuffer", LayeredPacket]
 
 
 def mac_text(mac: bytes) -> str:
-    """A hardware address as people write it, "02:00:00:00:00:01"."""
+    """Returns a hardware address in the form "02:00:00:00:00:01"."""
     return mac.hex(":")
 
 
 def mac_bytes(mac: Union[str, bytes]) -> bytes:
-    """The six bytes of a hardware address: of "02:00:00:00:00:01", or six bytes."""
+    """Returns the six bytes of a hardware address, given as "02:00:00:00:00:01" or as six bytes."""
     if isinstance(mac, str):
         if not re.fullmatch(r"[0-9a-fA-F]{2}(:[0-9a-fA-F]{2}){5}", mac):
             raise ValueError(f'a hardware address is six bytes in hexadecimal, as "02:00:00:00:00:01", and not {mac!r}')
@@ -35,27 +35,33 @@ def mac_bytes(mac: Union[str, bytes]) -> bytes:
 
 
 class Frame(bytes):
-    """An Ethernet frame, as bytes, from its header on and without the check sequence. The properties are those of a
-    frame that has a whole header, as all have that `Host.transmit` gives (RFC 894)."""
+    """An Ethernet frame, as bytes, beginning with its header and without the frame check sequence (RFC 894). The
+    properties need a frame with a complete header, as all frames of `Host.transmit` have.
+
+    >>> frame = bsdudp.Host("10.0.0.1", mac="02:00:00:00:00:01").transmit()
+    >>> frame
+    <Frame 02:00:00:00:00:01 > ff:ff:ff:ff:ff:ff, ARP, 42 bytes>
+    >>> hex(frame.type)
+    '0x806'"""
 
     @property
     def destination(self) -> str:
-        """The hardware address that it goes to."""
+        """The destination hardware address."""
         return mac_text(self[:6])
 
     @property
     def source(self) -> str:
-        """The hardware address that it comes from."""
+        """The source hardware address."""
         return mac_text(self[6:12])
 
     @property
     def type(self) -> int:
-        """What it carries: 0x0800 is IPv4, 0x0806 ARP."""
+        """The type of its contents: 0x0800 is IPv4, 0x0806 is ARP."""
         return int.from_bytes(self[12:14], "big")
 
     @property
     def body(self) -> bytes:
-        """What follows the header; of a frame with IPv4 it's a `Packet`."""
+        """The bytes after the header; a `Packet` if the type is IPv4."""
         return Packet(self[HEADER:]) if self.type == IPV4 else bytes(self[HEADER:])
 
     def __repr__(self) -> str:
@@ -68,7 +74,7 @@ class Frame(bytes):
 
 
 def frame_bytes(frame: AnyFrame) -> bytes:
-    """The bytes of a frame: of anything like bytes, or of a scapy packet, from its Ethernet layer on."""
+    """Returns the bytes of a frame: a bytes-like object, or a scapy packet from its Ethernet layer on."""
     if isinstance(frame, LayeredPacket):
         if not frame.haslayer("Ethernet"):
             raise ValueError("the scapy packet has no Ethernet layer: put Ether() / in front")

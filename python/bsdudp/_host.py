@@ -1,4 +1,4 @@
-"""A host on an Ethernet, as a Python object."""
+"""A host on an Ethernet as a Python object."""
 from __future__ import annotations
 
 import ctypes
@@ -14,61 +14,78 @@ from ._stack import Stack
 
 
 class Tallies(NamedTuple):
-    """What the link of a host counted since boot."""
+    """The counters of a host's link since boot: the value of `Host.tallies`.
+
+    >>> host = bsdudp.Host("10.0.0.1")
+    >>> host.receive(bytes(14))  # to another host
+    >>> host.tallies.ignored
+    1"""
 
     ignored: int
-    """Frames that aren't for the host, or neither IPv4 nor ARP."""
+    """Frames for other hosts, or of a type other than IPv4 and ARP."""
     martians: int
-    """Packets from or to an address that can't be on a link (RFC 1122, 3.2.1.3)."""
+    """Packets with an address that cannot occur on a link (RFC 1122, 3.2.1.3)."""
     bad_arp: int
-    """ARP packets that aren't of Ethernet and IPv4, or are from the host itself or from all."""
+    """ARP packets not for Ethernet and IPv4, or from the host itself or from a broadcast address."""
     conflicts: int
-    """ARP packets of another host that claims this one's address."""
+    """ARP packets of another host that claims this host's address."""
     replies_dropped: int
-    """ARP requests for the host that found no place: 8 replies wait at most."""
+    """ARP requests for the host without space for the reply: at most 8 replies are queued."""
     no_route: int
     """Packets to another network, without a gateway."""
     held_dropped: int
-    """Packets that waited for a hardware address, and gave way to newer ones: 8 wait."""
+    """Packets dropped for a newer one while waiting for a hardware address: at most 8 wait."""
     unresolved: int
-    """Packets that waited for a hardware address that nobody told."""
+    """Packets dropped because no reply gave the hardware address."""
     too_long: int
-    """Packets that no frame can carry: none, of a host of this library."""
+    """Packets that are too long for a frame: always 0 for a host of this library."""
     echoes: int
-    """Echo requests that were answered."""
+    """Echo requests that got a reply."""
     unreachable: int
-    """Datagrams whose sender was told by ICMP that no socket takes them."""
+    """Datagrams for which the host sent "port unreachable" to the sender."""
     limited: int
-    """Datagrams whose sender wasn't told so, since too many were in this second."""
+    """Datagrams for which it did not, because of the limit per second."""
     icmp_dropped: int
-    """ICMP answers that weren't given, since another one still waited."""
+    """ICMP replies dropped because another reply was still queued."""
 
 
 class Neighbour(NamedTuple):
-    """A neighbour whose hardware address is known or asked for."""
+    """A neighbour: its hardware address is known, or the host has requested it. An item of `Host.neighbours`.
+
+    >>> host = bsdudp.Host("10.0.0.1")
+    >>> host.socket().sendto(b"hi", ("10.0.0.2", 7))
+    2
+    >>> frames = list(host.frames())  # the announcement, and a request for 10.0.0.2
+    >>> [neighbour.ip for neighbour in host.neighbours], host.neighbours[0].mac
+    (['10.0.0.2'], None)"""
 
     ip: str
     """Its address."""
     mac: Optional[str]
-    """Its hardware address, or None while it's asked for."""
+    """Its hardware address; None if it is not known."""
     ticks: int
-    """For how many ticks it's known still; while it isn't, after how many the next request goes out."""
+    """If the hardware address is known, the ticks until it expires; otherwise the ticks until the next request."""
     tries: int
     """How many requests for it went out."""
 
 
 class Host(Stack):
-    """A machine on an Ethernet: a `Stack` that takes and gives frames, answers ARP and ping, and reports to
-    who sends to a port that no socket has (RFC 894, 826, 792).
+    """A simulated host on an Ethernet: a `Stack` that receives and sends frames (RFC 894), with ARP (RFC 826), replies
+    to ping, and "port unreachable" for closed ports (RFC 792).
 
-    mac      its hardware address, as "02:00:00:00:00:01" or six bytes; no group's
-    mask     which bits of an address tell its network; "255.255.255.0" if it isn't given
-    gateway  a neighbour that takes what goes to other networks; without one such packets are dropped and counted
-    probe    whether it asks first if another host has its address (RFC 5227), which takes 3 to 5 seconds of ticks
-    addr, bcast, mbufs, clusters, first_id are those of a `Stack`. The MTU is 68 to 1500.
+    mac      its hardware address, such as "02:00:00:00:00:01" or six bytes; not a group address
+    mask     the network mask; the default is "255.255.255.0"
+    gateway  the neighbour to which packets for other networks are sent; None: such packets are dropped and counted
+    bcast    the broadcast address of its network; None means `addr` with 255 as its last byte
+    probe    whether it first probes for its address (RFC 5227), which takes 5.0 to 5.5 seconds of ticks
+    addr, mbufs, clusters and first_id are those of a `Stack`. The MTU is 68 to 1500.
 
-    Frames come by `receive` and go by `transmit`. Packets don't pass the link by: `rx` and `tx` are an OSError
-    EOPNOTSUPP."""
+    `receive` passes frames in, and `transmit` takes frames out. `rx` and `tx` raise an OSError with `errno` EOPNOTSUPP.
+
+    >>> host = bsdudp.Host("10.0.0.1", mac="02:00:00:00:00:01")
+    >>> for frame in host.frames():
+    ...     print(frame)
+    <Frame 02:00:00:00:00:01 > ff:ff:ff:ff:ff:ff, ARP, 42 bytes>"""
 
     def __init__(
         self,
@@ -110,44 +127,49 @@ class Host(Stack):
 
     @property
     def mask(self) -> str:
-        """Which bits of an address tell its network."""
+        """The network mask."""
         return text_of(self._mask)
 
     @property
     def gateway(self) -> Optional[str]:
-        """The neighbour that takes what goes to other networks."""
+        """The neighbour to which packets for other networks are sent; None if there is no gateway."""
         return text_of(self._link.gateway) if self._has_gateway else None
 
     @property
     def uses_address(self) -> bool:
-        """Whether it uses its address; with `probe` it asks for it first. OSError EADDRINUSE: another host has it,
-        and this one stays silent."""
+        """Whether it uses its address; False while it probes for it. OSError with `errno` EADDRINUSE if another host
+        has the address; this host then sends nothing."""
         return bool(self._ask("ether_address"))
 
     def receive(self, frame: AnyFrame) -> None:
-        """A frame came from the network card: bytes from the Ethernet header on, or a scapy packet, of which the
-        Ethernet layer is taken. What it's answered with comes by `transmit`. ValueError: it has more than 65,549
-        bytes, or no Ethernet layer. TypeError: it isn't a frame."""
+        """Passes a frame from the network card to the host: bytes from the Ethernet header on, or a scapy packet with
+        an Ethernet layer. Replies are queued for `transmit`.
+
+        ValueError if it has more than 65,549 bytes or no Ethernet layer. TypeError if it is not a frame."""
         data = frame_bytes(frame)
         self._ask("ether_receive", data, len(data))
 
     def transmit(self) -> Optional[Frame]:
-        """Takes the next frame for the network card, or None if none waits. A card fills it up to 60 bytes."""
+        """Returns the next frame for the network card and removes it; None if there is no frame. A card pads a short
+        frame to 60 bytes."""
         with self._turn:
             length = self._call("ether_transmit", self._frame_room, ETHER_ROOM)
             return Frame(self._frame_room.raw[:length]) if length else None
 
     def frames(self) -> Iterator[Frame]:
-        """Takes frame after frame, until none waits."""
+        """Yields the frames for the network card, and removes them."""
         while (frame := self.transmit()) is not None:
             yield frame
 
     def last_error(self, socket: Socket) -> Optional[OSError]:
-        """What others reported by ICMP of the datagrams that a connected socket sent to its peer, or None: a
-        ConnectionRefusedError if no socket has that port, and an OSError EHOSTUNREACH if no way leads there. It's
-        returned once, and not raised. The eight last reports are kept, by port and peer: one that came before a socket
-        took its port over is returned for that socket. OSError EBADF: the socket isn't open. ValueError: it's a socket
-        of another stack."""
+        """Returns, and then clears, what other hosts reported by ICMP about the datagrams that a connected socket sent
+        to its peer: a ConnectionRefusedError if no socket has that port there, an OSError with `errno` EHOSTUNREACH if
+        no route leads there, or None. The exception is returned, not raised. The host keeps the last eight reports, by
+        local port and peer: a socket also gets a report about a datagram of an earlier socket with the same port and
+        peer.
+
+        Raises an OSError with `errno` EBADF if the socket is not open, and a ValueError if it is a socket of another
+        stack."""
         if socket._stack is not self:
             raise ValueError("the socket is one of another stack")
         answer = socket._ask("ether_last_error")
@@ -155,15 +177,14 @@ class Host(Stack):
 
     @property
     def tallies(self) -> Tallies:
-        """What its link counted since boot."""
+        """A snapshot of the counters of its link since boot."""
         told = TalliesOfC()
         self._ask("ether_tallies", ctypes.byref(told))
         return Tallies(*(getattr(told, name) for name in Tallies._fields))
 
     @property
     def neighbours(self) -> List[Neighbour]:
-        """The neighbours that are known or asked for, at most 32; the one that was heard or asked for last is the
-        last."""
+        """The neighbours whose hardware address is known or requested, at most 32. The last one is the newest entry."""
         found: List[Neighbour] = []
         told = NeighbourOfC()
         with self._turn:
@@ -177,11 +198,11 @@ class Host(Stack):
         return found
 
     def rx(self, packet: AnyPacket) -> NoReturn:
-        """OSError EOPNOTSUPP: a host takes frames, by `receive`."""
+        """Raises an OSError with `errno` EOPNOTSUPP: a host receives frames, see `receive`."""
         self._ask("rx", b"", 0)
         raise AssertionError("a host took a packet past its link")
 
     def tx(self) -> NoReturn:
-        """OSError EOPNOTSUPP: a host gives frames, by `transmit`."""
+        """Raises an OSError with `errno` EOPNOTSUPP: a host sends frames, see `transmit`."""
         self._ask("tx", self._room, self.mtu)
         raise AssertionError("a host gave a packet past its link")

@@ -1,4 +1,4 @@
-"""The shared library libbsdudp, and its calls as ctypes sees them."""
+"""The shared library libbsdudp, and its calls for ctypes."""
 from __future__ import annotations
 
 import ctypes
@@ -25,7 +25,7 @@ SO_REUSEPORT = 0x200
 
 
 class Handle(ctypes.Structure):
-    """`struct bsdudp`: its members are the library's. All bytes are 0 before the first boot."""
+    """`struct bsdudp`: its members are private to the library. All bytes are 0 before the first boot."""
 
     _fields_ = [("words", ctypes.c_uint64 * 8)]
 
@@ -44,7 +44,7 @@ class Config(ctypes.Structure):
 
 
 class Address(ctypes.Structure):
-    """`struct bsdudp_addr`: an address and a port, both in the host's order."""
+    """`struct bsdudp_addr`: an address and a port, both in the byte order of the CPU."""
 
     _fields_ = [("ip", ctypes.c_uint32), ("port", ctypes.c_uint16)]
 
@@ -71,7 +71,7 @@ class Name(ctypes.Structure):
 
 
 class Next(ctypes.Structure):
-    """`struct bsdudp_next`: the oldest datagram that waits in a socket."""
+    """`struct bsdudp_next`: the oldest datagram in a receive queue."""
 
     _fields_ = [
         ("ip", ctypes.c_uint32),
@@ -148,13 +148,13 @@ class NeighbourOfC(ctypes.Structure):
 
 
 class Refusal(NamedTuple):
-    """What a refusal of the library is called here: the host's error of that name, and a text."""
+    """An error of the library: the name of the operating system's error for it, and a text."""
 
     name: str
     text: str
 
 
-# 4.4BSD's numbers, as the header has them. The host's numbers differ; the names are the same.
+# 4.4BSD's numbers, which the header uses. The operating system's numbers differ; the names are the same.
 REFUSALS = {
     6: Refusal("ENXIO", "the stack has ended"),
     9: Refusal("EBADF", "the socket isn't open"),
@@ -182,20 +182,30 @@ POOL_LACKS = 55
 
 
 class NoBuffersError(OSError):
-    """A send found no room: `lack` is "pool" if the pool has too few buffers, and "queue" if the output queue is full.
-    `errno` is the host's ENOBUFS."""
+    """A send failed because buffers or space were lacking; `errno` is ENOBUFS.
+
+    lack  "pool" if the pool has too few free buffers: nothing was sent. "queue" if the output queue is full: the
+          packets that fit are queued.
+
+    >>> socket = bsdudp.Stack(mbufs=1, clusters=0).socket()
+    >>> try:
+    ...     socket.sendto(bytes(500), ("10.0.0.2", 7))
+    ... except bsdudp.NoBuffersError as error:
+    ...     print(error.lack)
+    pool"""
 
     def __init__(self, number: int, text: str, lack: str) -> None:
         super().__init__(number, text)
         self.lack = lack
 
     def __reduce__(self) -> Tuple[Type["NoBuffersError"], Tuple[int, str, str]]:
-        """So that it comes back from another process: OSError keeps two of the three arguments."""
+        """Allows pickling with all three arguments: OSError keeps only two of them."""
         return type(self), (self.errno, self.strerror, self.lack)
 
 
 def refused(answer: int) -> OSError:
-    """The exception of a negative answer. OSError makes its subclasses by the number: EAGAIN is a BlockingIOError."""
+    """Returns the exception for a negative result. OSError chooses its subclass by the number: EAGAIN is a
+    BlockingIOError."""
     refusal = REFUSALS[-answer]
     number = getattr(errno, refusal.name)
     if -answer in (POOL_LACKS, QUEUE_IS_FULL):
@@ -208,7 +218,7 @@ _bytes = ctypes.c_char_p
 _u32 = ctypes.c_uint32
 _size = ctypes.c_size_t
 
-# What each call takes after the handle. All answer an int.
+# The arguments of each call after the handle. All calls return an int.
 CALLS: Dict[str, List[Any]] = {
     "boot_in": [ctypes.POINTER(Config), ctypes.c_void_p, _size],
     "end": [],
@@ -277,15 +287,15 @@ class Library:
         self.counter_names = tuple(self._library.bsdudp_counter_name(which).decode() for which in range(COUNTERS))
 
     def call(self, name: str, handle: Handle, *arguments: object) -> int:
-        """Makes the call `bsdudp_NAME` of the stack that a handle has."""
+        """Makes the call `bsdudp_NAME` with a handle, and returns its result."""
         return int(self._calls[name](ctypes.byref(handle), *arguments))
 
     def memory(self, config: Config) -> int:
-        """How many bytes a stack of this configuration takes."""
+        """Returns the size of the memory for a stack with this configuration, in bytes."""
         return int(self._library.bsdudp_memory(ctypes.byref(config)))
 
     def ether_memory(self, config: Config) -> int:
-        """How many bytes a host of this configuration takes: BSDUDP_ETHER_MEMORY of its sizes."""
+        """Returns the size of the memory for a host with this configuration, in bytes: BSDUDP_ETHER_MEMORY."""
         return self.memory(config) + LINK_MEMORY
 
 

@@ -1,4 +1,4 @@
-"""Packets as bytes, with what their headers say."""
+"""Packets as bytes, with properties that decode their headers."""
 from __future__ import annotations
 
 import html
@@ -16,21 +16,30 @@ UDP = 17
 
 @runtime_checkable
 class LayeredPacket(Protocol):
-    """What is known here of scapy's packets."""
+    """The methods of scapy's packets that this package uses."""
 
     def haslayer(self, __layer: str) -> object:
-        """Whether it has this layer."""
+        """Returns whether it has this layer."""
 
     def __getitem__(self, __layer: str) -> SupportsBytes:
-        """The layer, with those in it."""
+        """Returns the layer, with the layers in it."""
 
 
 AnyPacket = Union["ReadableBuffer", LayeredPacket]
 
 
 class Packet(bytes):
-    """An IPv4 packet, as bytes, from its header on. The properties read the header as RFC 791 draws it; they're those of a
-    packet that has a whole header, as all have that `Stack.tx` gives."""
+    """An IPv4 packet, as bytes, beginning with its header. The properties decode the header (RFC 791, section 3.1).
+    They need a packet with a complete header, as all packets of `Stack.tx` have.
+
+    >>> stack = bsdudp.Stack("10.0.0.1")
+    >>> stack.socket().sendto(b"hi", ("10.0.0.2", 7))
+    2
+    >>> packet = stack.tx()
+    >>> packet
+    <Packet 10.0.0.1 > 10.0.0.2 udp 1024 > 7, id 1, 30 bytes>
+    >>> packet.destination, packet.data[8:]
+    ('10.0.0.2', b'hi')"""
 
     def _word(self, at: int, size: int = 2) -> int:
         return int.from_bytes(self[at : at + size], "big")
@@ -47,17 +56,17 @@ class Packet(bytes):
 
     @property
     def identification(self) -> int:
-        """The identification: fragments of one datagram have the same."""
+        """The identification, which is the same in all fragments of a datagram."""
         return self._word(4)
 
     @property
     def protocol(self) -> int:
-        """The protocol: 17 is UDP."""
+        """The protocol number: 17 is UDP."""
         return self[9]
 
     @property
     def offset(self) -> int:
-        """Where its bytes stand in the datagram, in bytes: 0 in one that isn't a fragment."""
+        """The offset of its data in the datagram, in bytes: 0 if it is not a fragment."""
         return self._word(6) % 0x2000 * 8
 
     @property
@@ -67,7 +76,7 @@ class Packet(bytes):
 
     @property
     def data(self) -> bytes:
-        """What follows the header."""
+        """The bytes after the header."""
         return bytes(self[(self[0] & 15) * 4 :])
 
     def __repr__(self) -> str:
@@ -104,7 +113,7 @@ class Packet(bytes):
 
 
 def bytes_of(packet: AnyPacket) -> bytes:
-    """The bytes of an IPv4 packet: of anything like bytes, or of a scapy packet, from its IP layer on."""
+    """Returns the bytes of an IPv4 packet: a bytes-like object, or a scapy packet from its IP layer on."""
     if isinstance(packet, LayeredPacket):
         if not packet.haslayer("IP"):
             raise ValueError("the scapy packet has no IP layer; if its bytes are meant as they are, give bytes(packet)")

@@ -1,4 +1,4 @@
-"""The numbers that a wire's choices are made of: PCG XSH RR 64/32 (O'Neill 2014), as Rust's `rand_pcg::Pcg32` has it."""
+"""The random numbers for a wire's choices: PCG XSH RR 64/32 (O'Neill 2014), like Rust's `rand_pcg::Pcg32`."""
 from __future__ import annotations
 
 from decimal import Decimal
@@ -14,7 +14,7 @@ Chance = Union[float, str, Decimal, Fraction, SupportsIndex]
 
 
 class Pcg32:
-    """The same numbers for the same seed, on every machine."""
+    """A generator that returns the same numbers for the same seed on every computer."""
 
     def __init__(self, seed: int, stream: int = STREAM) -> None:
         self._increment = (stream << 1 | 1) & MASK
@@ -25,7 +25,7 @@ class Pcg32:
         self._state = (self._state * MULTIPLIER + self._increment) & MASK
 
     def next_u32(self) -> int:
-        """The next number of 32 bits."""
+        """Returns the next 32-bit number."""
         state = self._state
         self._step()
         turn = state >> 59
@@ -33,16 +33,17 @@ class Pcg32:
         return (word >> turn | word << (32 - turn)) & 0xFFFF_FFFF
 
     def below(self, bound: int) -> int:
-        """One of 0 to `bound` - 1: the number's part of 2 to the 32nd, times `bound`."""
+        """Returns a number of 0 to `bound` - 1: the next number, times `bound`, divided by 2 to the 32nd."""
         return self.next_u32() * bound >> 32
 
     def happens(self, limit: int) -> bool:
-        """Whether the next number is below a limit that `limit_of` made."""
+        """Returns whether the next number is below `limit`, which is a result of `limit_of`."""
         return self.next_u32() < limit
 
 
 def limit_of(what: str, chance: Chance) -> int:
-    """The limit of a chance from 0 to 1, given as it's written: 0.05 is one twentieth. A chance of 1 always happens."""
+    """Returns the limit for a probability from 0 to 1, taken as it is written: 0.05 is exactly one twentieth. An event
+    with probability 1 always happens."""
     if isinstance(chance, bool) or not isinstance(chance, (Real, str, Decimal)):
         raise TypeError(f"{what} is a number, and not {type(chance).__name__}")
     try:

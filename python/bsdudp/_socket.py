@@ -1,4 +1,4 @@
-"""A socket of a stack, with the names of Python's own `socket`."""
+"""A socket of a stack, with the methods of Python's own `socket`."""
 from __future__ import annotations
 
 import ctypes
@@ -25,7 +25,7 @@ LONGEST = 65_507
 ROOM = 1 << 30  # the largest `bufsize`
 MSG_TRUNC = int(getattr(host, "MSG_TRUNC", 0x20))
 
-# The host's numbers of the options, as programs have them, and the library's.
+# The operating system's numbers of the options, which programs use, and the library's.
 OPTIONS = {
     int(host.SO_BROADCAST): SO_BROADCAST,
     int(getattr(host, "SO_REUSEPORT", 15)): SO_REUSEPORT,
@@ -33,22 +33,42 @@ OPTIONS = {
 
 
 class CutDatagramWarning(RuntimeWarning):
-    """`recv` or `recvfrom` had less room than the datagram had bytes: the rest is lost, as with any UDP socket. `recvmsg`
-    tells it by the flag MSG_TRUNC in place of this warning."""
+    """`bufsize` was smaller than the datagram: the rest is lost, as with any UDP socket. `recvmsg` returns the flag
+    MSG_TRUNC instead of this warning.
+
+    >>> import warnings
+    >>> stack = bsdudp.Stack("10.0.0.1")
+    >>> socket = stack.socket()
+    >>> socket.bind(("", 7))
+    >>> socket.sendto(b"hello", ("10.0.0.1", 7))
+    5
+    >>> with warnings.catch_warnings(record=True) as caught:
+    ...     warnings.simplefilter("always")
+    ...     socket.recv(2)
+    ...     caught[0].category.__name__
+    b'he'
+    'CutDatagramWarning'"""
 
 
 class Waiting(NamedTuple):
-    """The oldest datagram that waits in a socket."""
+    """The oldest datagram in a receive queue: the value of `Socket.waiting`.
+
+    >>> socket = bsdudp.Stack("10.0.0.1").socket()
+    >>> socket.bind(("", 7))
+    >>> socket.sendto(b"hi", ("10.0.0.1", 7))
+    2
+    >>> socket.waiting
+    Waiting(sender=('10.0.0.1', 7), length=2, datagrams=1)"""
 
     sender: Address
     length: int
-    """How many bytes it has."""
+    """Its length in bytes."""
     datagrams: int
-    """How many wait, this one among them."""
+    """The number of datagrams in the queue, including this one."""
 
 
 class _Taken(NamedTuple):
-    """A datagram that was taken: its first bytes, its sender, and whether it had more bytes."""
+    """A received datagram: its first bytes, its sender, and whether it had more bytes."""
 
     data: bytes
     sender: Address
@@ -61,10 +81,21 @@ def _no_flags(name: str, flags: object) -> None:
 
 
 class Socket(Uncopied):
-    """A UDP socket of a `Stack`, which opens it. The methods are those of Python's own `socket.socket`; docs/python.md says
-    how they differ. A refusal is an OSError with the host's `errno`, a BlockingIOError if no datagram waits, and a
-    `NoBuffersError` if buffers lack. A closed socket gives EBADF, and so do all once the stack has ended. No method
-    blocks."""
+    """A UDP socket, opened by `Stack.socket`. The methods are those of Python's own `socket.socket`.
+
+    A call that fails raises an OSError whose `errno` is the operating system's number for the error: a BlockingIOError
+    (EAGAIN) if the receive queue is empty, and a `NoBuffersError` (ENOBUFS) if buffers are lacking. On a closed socket,
+    and after the stack has ended, `errno` is EBADF. No method blocks. Source: TCP/IP Illustrated, volume 2, chapters 15
+    to 17, 22 and 23.
+
+    >>> stack = bsdudp.Stack("10.0.0.1")
+    >>> server, client = stack.socket(), stack.socket()
+    >>> server.bind(("", 7))
+    >>> client.connect(("10.0.0.1", 7))
+    >>> client.send(b"hi")
+    2
+    >>> server.recvfrom()
+    (b'hi', ('10.0.0.1', 1024))"""
 
     family = host.AF_INET
     type = host.SOCK_DGRAM
@@ -76,32 +107,39 @@ class Socket(Uncopied):
         self._descriptor: Optional[int] = descriptor
 
     def _ask(self, name: str, *arguments: object) -> int:
-        """Makes a call of the library, if no other thread is in the stack."""
+        """Calls the library, if no other thread is in the stack."""
         with self._stack._turn:
             return self._call(name, *arguments)
 
     def _call(self, name: str, *arguments: object) -> int:
-        """Makes a call of the library, if the socket is open. The turn is the caller's."""
+        """Calls the library, if the socket is open. The caller holds the lock."""
         if self._descriptor is None or not self._stack._live:
             raise OSError(errno.EBADF, "the socket is closed")
         return self._stack._call(name, self._descriptor, *arguments)
 
     def fileno(self) -> int:
-        """Its descriptor in its stack, 3 to 66, or -1 once it's closed. It's no descriptor of the host."""
+        """Returns its descriptor in its stack, 3 to 66; -1 if it is closed. It is not a descriptor of the operating
+        system."""
         return -1 if self._descriptor is None or not self._stack._live else self._descriptor
 
     def bind(self, address: Endpoint) -> None:
-        """Gives the socket its address ("" for all of the machine) and port (0: the next free one of 1024 to 5000, which
-        `getsockname` tells). EINVAL: it has one already. EADDRNOTAVAIL. EADDRINUSE."""
+        """Binds the socket to a local address and port. Address "" means all addresses of the host. Port 0 means the
+        next free port of 1024 to 5000, which `getsockname` returns.
+
+        OSError with `errno` EINVAL if the socket already has a local port or address; EADDRNOTAVAIL if the address is
+        not one of the host; EADDRINUSE if another socket uses the address and port."""
         self._ask("bind", ctypes.byref(raw(address)))
 
     def connect(self, address: Endpoint) -> None:
-        """Connects the socket: it sends to this address and hears from it alone. If it's connected it's disconnected first,
-        and stays so if the call is refused. EADDRNOTAVAIL: port 0. EHOSTUNREACH. EADDRINUSE."""
+        """Connects the socket to a peer: `send` sends to the peer, and the socket receives only from it. A socket that
+        is connected is first disconnected, and stays disconnected if the call fails.
+
+        OSError with `errno` EADDRNOTAVAIL if the port is 0; EHOSTUNREACH if no route leads to the address; EADDRINUSE
+        if another socket has the same local and foreign address and port."""
         self._ask("connect", ctypes.byref(raw(address)))
 
     def connect_ex(self, address: Endpoint) -> int:
-        """The same, but the answer is 0, or the `errno` of the refusal."""
+        """Connects the socket as `connect` does. Returns 0, or the `errno` of the error."""
         try:
             self.connect(address)
         except OSError as fault:
@@ -115,10 +153,14 @@ class Socket(Uncopied):
     def sendto(self, data: "ReadableBuffer", flags: int, address: Endpoint, /) -> int: ...
 
     def sendto(self, data: "ReadableBuffer", first: Union[int, Endpoint], second: Optional[Endpoint] = None, /) -> int:
-        """`sendto(data, address)` or `sendto(data, 0, address)`: sends one datagram, and answers how many bytes it has. What
-        goes to the link waits for `Stack.tx`. EMSGSIZE: more than 9,216 bytes, or a broadcast longer than a packet.
-        EISCONN. EADDRNOTAVAIL: port 0. EHOSTUNREACH. EADDRINUSE. EACCES: a broadcast without SO_BROADCAST. ENOBUFS, a
-        `NoBuffersError`: if `lack` is "pool", nothing was sent."""
+        """`sendto(data, address)` or `sendto(data, 0, address)`: sends one datagram. Returns its length in bytes. Its
+        packets are queued for `Stack.tx`; a datagram to the host itself has arrived when the call returns.
+
+        OSError with `errno` EMSGSIZE if there are more than 9,216 bytes, or a broadcast would exceed the MTU; EISCONN
+        if the socket is connected; EADDRNOTAVAIL if the port is 0; EHOSTUNREACH if no route leads to the address;
+        EADDRINUSE if another socket has the same local and foreign address and port; EACCES if the address is the
+        broadcast address and the socket does not have SO_BROADCAST. `NoBuffersError` (ENOBUFS) if buffers are lacking;
+        if its `lack` is "pool", nothing was sent."""
         if second is not None:
             _no_flags("sendto", first)
         to = raw(first if second is None else second)
@@ -126,13 +168,15 @@ class Socket(Uncopied):
         return self._ask("sendto", ctypes.byref(to), sent, len(sent))
 
     def send(self, data: "ReadableBuffer", flags: int = 0) -> int:
-        """The same to the peer of a connected socket. EDESTADDRREQ: it isn't connected."""
+        """Sends one datagram to the peer of a connected socket, as `sendto` does. OSError with `errno` EDESTADDRREQ if
+        the socket is not connected."""
         _no_flags("send", flags)
         sent = octets(data)
         return self._ask("send", sent, len(sent))
 
     def _take(self, most: int) -> _Taken:
-        """Takes the oldest datagram. Its length is told by another call of the library than its bytes, in the same turn."""
+        """Removes the oldest datagram. Two calls of the library read its length and its bytes, while the lock is
+        held."""
         found, sender = Next(), Raw()
         with self._stack._turn:
             self._call("next", ctypes.byref(found))
@@ -142,7 +186,8 @@ class Socket(Uncopied):
         return _Taken(buffer.raw[:length], (text_of(sender.ip), sender.port), found.len > most)
 
     def _take_whole(self, most: int, depth: int = 3) -> _Taken:
-        """The same, with a warning if it was cut. It's told of the line that called the socket, `depth` calls above it."""
+        """Does the same, with a warning if it was truncated. The warning names the line `depth` calls above this
+        one."""
         taken = self._take(most)
         if taken.is_cut:
             warning = CutDatagramWarning(f"a datagram from {taken.sender[0]} was cut to {most} bytes")
@@ -150,7 +195,7 @@ class Socket(Uncopied):
         return taken
 
     def _take_into(self, buffer: "WriteableBuffer", nbytes: SupportsIndex) -> Tuple[int, Address]:
-        """The same into a buffer: how many bytes stand there, and the sender."""
+        """Does the same into a buffer. Returns the number of bytes and the sender."""
         view = room(buffer)
         taken = self._take_whole(in_range("nbytes", nbytes, 0, len(view)) or len(view), 4)
         view[: len(taken.data)] = taken.data
@@ -159,41 +204,42 @@ class Socket(Uncopied):
     def recvmsg(
         self, bufsize: SupportsIndex, ancbufsize: int = 0, flags: int = 0
     ) -> Tuple[bytes, List[Tuple[int, int, bytes]], int, Address]:
-        """Takes the oldest datagram: up to `bufsize` bytes of it, no ancillary data, flags, and the sender. The flag
-        MSG_TRUNC says that it had more bytes, which are lost. EAGAIN, a BlockingIOError: none waits."""
+        """Removes the oldest datagram. Returns up to `bufsize` bytes of it, an empty list (there is no ancillary data),
+        the flags, and the sender. The flag MSG_TRUNC is set if the datagram had more bytes, which are lost.
+        BlockingIOError (EAGAIN) if the receive queue is empty."""
         if ancbufsize or flags:
             raise ValueError("recvmsg has neither ancillary data nor flags here")
         taken = self._take(in_range("bufsize", bufsize, 0, ROOM))
         return taken.data, [], MSG_TRUNC if taken.is_cut else 0, taken.sender
 
     def recvfrom(self, bufsize: SupportsIndex = LONGEST, flags: int = 0) -> Tuple[bytes, Address]:
-        """Takes the oldest datagram: up to `bufsize` bytes of it, and the sender. If it had more bytes, they're lost, and a
-        `CutDatagramWarning` says so. EAGAIN, a BlockingIOError: none waits."""
+        """Removes the oldest datagram. Returns up to `bufsize` bytes of it, and the sender. If it had more bytes, they
+        are lost, with a `CutDatagramWarning`. BlockingIOError (EAGAIN) if the receive queue is empty."""
         _no_flags("recvfrom", flags)
         taken = self._take_whole(in_range("bufsize", bufsize, 0, ROOM))
         return taken.data, taken.sender
 
     def recv(self, bufsize: SupportsIndex = LONGEST, flags: int = 0) -> bytes:
-        """The bytes that `recvfrom` answers."""
+        """Does the same as `recvfrom`, but returns only the bytes."""
         _no_flags("recv", flags)
         return self._take_whole(in_range("bufsize", bufsize, 0, ROOM)).data
 
     def recvfrom_into(
         self, buffer: "WriteableBuffer", nbytes: SupportsIndex = 0, flags: int = 0
     ) -> Tuple[int, Address]:
-        """Takes the oldest datagram as `recvfrom` does: up to `nbytes` bytes of it, or with 0 as many as the buffer has, stand
-        in front of the buffer. The answer is how many, and the sender."""
+        """Removes the oldest datagram as `recvfrom` does, and copies up to `nbytes` bytes of it to the front of
+        `buffer`; 0 means the length of the buffer. Returns the number of bytes and the sender."""
         _no_flags("recvfrom_into", flags)
         return self._take_into(buffer, nbytes)
 
     def recv_into(self, buffer: "WriteableBuffer", nbytes: SupportsIndex = 0, flags: int = 0) -> int:
-        """The same without the sender."""
+        """Does the same as `recvfrom_into`, but returns only the number of bytes."""
         _no_flags("recv_into", flags)
         return self._take_into(buffer, nbytes)[0]
 
     @property
     def waiting(self) -> Optional[Waiting]:
-        """The oldest datagram that waits, which stays there, or None."""
+        """A description of the oldest datagram in the receive queue, which stays there; None if the queue is empty."""
         with self._stack._turn:
             return self._waiting()
 
@@ -206,7 +252,7 @@ class Socket(Uncopied):
         return Waiting((text_of(found.ip), found.port), found.len, found.waiting)
 
     def _name(self) -> Name:
-        """What it's bound and connected to, and its options. The turn is the caller's."""
+        """Reads its addresses and options. The caller holds the lock."""
         name = Name()
         self._call("getsockname", ctypes.byref(name))
         return name
@@ -216,24 +262,25 @@ class Socket(Uncopied):
             return self._name()
 
     def getsockname(self) -> Address:
-        """Its own address and port; ("0.0.0.0", 0) if it has none."""
+        """Returns its local address and port; ("0.0.0.0", 0) if it has none."""
         name = self._name_now()
         return text_of(name.local_ip), name.local_port
 
     def getpeername(self) -> Address:
-        """Its peer. ENOTCONN: it isn't connected."""
+        """Returns the address and port of its peer. OSError with `errno` ENOTCONN if it is not connected."""
         name = self._name_now()
         if not name.peer_port:
             raise OSError(errno.ENOTCONN, os.strerror(errno.ENOTCONN))
         return text_of(name.peer_ip), name.peer_port
 
     def setsockopt(self, level: int, option: int, value: SupportsIndex) -> None:
-        """Sets `SO_BROADCAST` or `SO_REUSEPORT` of Python's `socket`, at the level SOL_SOCKET. ENOPROTOOPT: any other."""
+        """Sets `SO_BROADCAST` or `SO_REUSEPORT` of Python's `socket`, at the level SOL_SOCKET. OSError with `errno`
+        ENOPROTOOPT for any other option."""
         known = OPTIONS.get(option, -1) if level == host.SOL_SOCKET else -1
         self._ask("setsockopt", known, int(operator.index(value) != 0))
 
     def getsockopt(self, level: int, option: int) -> int:
-        """The same option, 1 or 0. ENOPROTOOPT: any other."""
+        """Returns the value of such an option, 1 or 0. OSError with `errno` ENOPROTOOPT for any other option."""
         name = self._name_now()
         known = OPTIONS.get(option, -1) if level == host.SOL_SOCKET else -1
         if known not in OPTIONS.values():
@@ -241,25 +288,25 @@ class Socket(Uncopied):
         return int(name.broadcast if known == SO_BROADCAST else name.reuse_port)
 
     def settimeout(self, value: Optional[float]) -> None:
-        """Nothing blocks here: 0 changes nothing, and all else is a ValueError."""
+        """Accepts only 0, because no socket of a stack blocks. ValueError for any other value."""
         if value is None or value != 0:
             raise ValueError("no socket of this stack blocks: its timeout is 0")
 
     def gettimeout(self) -> float:
-        """0, as of any socket that doesn't block."""
+        """Returns 0, as for any socket that does not block."""
         return self.timeout
 
     def setblocking(self, flag: bool) -> None:
-        """Nothing blocks here: `False` changes nothing, and `True` is a ValueError."""
+        """Accepts only False, because no socket of a stack blocks. ValueError for True."""
         if flag:
             raise ValueError("no socket of this stack blocks")
 
     def getblocking(self) -> bool:
-        """False."""
+        """Returns False."""
         return False
 
     def close(self) -> None:
-        """Closes the socket; what waits in it is lost. Closing it twice does nothing."""
+        """Closes the socket. The datagrams in its receive queue are lost. A second call does nothing."""
         with self._stack._turn:
             if self._descriptor is not None and self._stack._live:
                 self._call("close")
@@ -286,7 +333,7 @@ class Socket(Uncopied):
             return f"<Socket {self._descriptor} of {self._stack.addr}, another thread is in the stack>"
 
     def _cells(self) -> str:
-        """Its row in the table of a stack's sockets. The turn is the caller's."""
+        """Returns its row in the table of a stack's sockets. The caller holds the lock."""
         name, waiting = self._name(), self._waiting()
         peer = f"{text_of(name.peer_ip)}:{name.peer_port}" if name.peer_port else ""
         cells = (

@@ -1,4 +1,4 @@
-"""A stack, as a Python object."""
+"""A stack as a Python object."""
 from __future__ import annotations
 
 import ctypes
@@ -19,7 +19,8 @@ LOOPBACK_NET = 127
 
 
 def _interface(what: str, host: Host) -> int:
-    """The number of an address that an interface may have: 1.0.0.0 to 223.255.255.255, and not in 127/8."""
+    """Returns the number of an address. ValueError if an interface cannot have it: it is not 1.0.0.0 to
+    223.255.255.255, or it is in 127.0.0.0/8."""
     number = number_of(host)
     if not FIRST_ADDRESS <= number <= LAST_ADDRESS or number >> 24 == LOOPBACK_NET:
         raise ValueError(f"{what} is 1.0.0.0 to 223.255.255.255 and not in 127.0.0.0/8: {text_of(number)} isn't")
@@ -27,7 +28,7 @@ def _interface(what: str, host: Host) -> int:
 
 
 class Turn:
-    """The right to be in a stack, which a method keeps as long as it runs. Nobody waits for it."""
+    """The lock of a stack, which a method holds while it runs. It never blocks: a second thread gets a RuntimeError."""
 
     def __init__(self) -> None:
         self._lock = threading.Lock()
@@ -49,19 +50,29 @@ class Turn:
 
 
 class Stack(Uncopied):
-    """A machine with one interface, its pool of mbufs, and up to 64 UDP sockets.
+    """A simulated host with one interface, its pool of mbufs, and up to 64 UDP sockets.
 
-    addr      the interface's address: 1.0.0.0 to 223.255.255.255, not in 127.0.0.0/8
-    bcast     the broadcast address of its network, in the same range; if it isn't given, `addr` with 255 as its last byte
-    mtu       the longest packet of the link, in bytes: 68 to 4352
-    mbufs     how many mbufs of 128 bytes the pool has: 1 to 65535
-    clusters  how many clusters of 2,048 bytes it has: 0 to 4096
+    addr      the address of the interface: 1.0.0.0 to 223.255.255.255, not in 127.0.0.0/8
+    bcast     the broadcast address of its network, in the same range; None means `addr` with 255 as its last byte
+    mtu       the longest packet that the stack sends to the link, in bytes: 68 to 4352
+    mbufs     the number of mbufs in the pool, of 128 bytes each: 1 to 65535
+    clusters  the number of clusters in the pool, of 2,048 bytes each: 0 to 4096
     first_id  the IP identification of the first datagram that it sends: 0 to 65535
 
-    A wrong argument is a TypeError or a ValueError, before the library is called; so is each call on a stack that has
-    ended. A stack is a context manager; it ends with the block. Nothing blocks, and nothing runs by itself: packets come
-    by `rx` and go by `tx`, and time passes by `tick`. One thread at a time is in a method of a stack or of its sockets: a
-    second one gets a RuntimeError, and nothing happens. A stack can't be copied or pickled."""
+    A wrong argument raises a TypeError or a ValueError before the library is called. A call on a stack that has ended
+    raises a ValueError. A stack is a context manager, which ends the stack. No method blocks, and nothing runs in the
+    background: `rx` passes packets in, `tx` takes packets out, and `tick` advances the clock. Only one thread at a time
+    may be in a method of a stack or of its sockets: a second one gets a RuntimeError, and nothing happens. A stack
+    cannot be copied or pickled.
+
+    >>> with bsdudp.Stack("10.0.0.1", mtu=1500, mbufs=64, clusters=16) as stack:
+    ...     socket = stack.socket()
+    ...     socket.bind(("", 7))
+    ...     stack.tx()  # the output queue is empty
+    ...     socket.sendto(b"hi", ("10.0.0.2", 7))
+    ...     stack.tx()
+    2
+    <Packet 10.0.0.1 > 10.0.0.2 udp 7 > 7, id 1, 30 bytes>"""
 
     def __init__(
         self,
@@ -102,20 +113,20 @@ class Stack(Uncopied):
         self._live = True
 
     def _memory_size(self) -> int:
-        """How many bytes of memory boot takes."""
+        """Returns the size of the memory that boot needs, in bytes."""
         return LIBRARY.memory(self._config)
 
     def _boot_in(self, at: int, size: int) -> int:
-        """Boots in this memory; the library's answer."""
+        """Boots in this memory, and returns the library's result."""
         return LIBRARY.call("boot_in", self._handle, ctypes.byref(self._config), at, size)
 
     def _ask(self, name: str, *arguments: object) -> int:
-        """Makes a call of the library, if no other thread is in the stack."""
+        """Calls the library, if no other thread is in the stack."""
         with self._turn:
             return self._call(name, *arguments)
 
     def _call(self, name: str, *arguments: object) -> int:
-        """Makes a call of the library, if the stack lives. The turn is the caller's."""
+        """Calls the library, if the stack has not ended. The caller holds the lock."""
         if not self._live:
             raise ValueError("the stack has ended")
         answer = LIBRARY.call(name, self._handle, *arguments)
@@ -124,7 +135,7 @@ class Stack(Uncopied):
         return answer
 
     def end(self) -> None:
-        """Ends the stack: all that it holds is gone, and its sockets are closed. Ending it twice does nothing."""
+        """Ends the stack and closes its sockets. A second call does nothing."""
         with self._turn:
             if self._live:
                 self._call("end")
@@ -146,7 +157,7 @@ class Stack(Uncopied):
 
     @property
     def addr(self) -> str:
-        """The interface's address."""
+        """The address of the interface."""
         return text_of(self._config.addr)
 
     @property
@@ -156,43 +167,46 @@ class Stack(Uncopied):
 
     @property
     def mtu(self) -> int:
-        """The longest packet of the link, in bytes."""
+        """The longest packet that the stack sends to the link, in bytes."""
         return int(self._config.mtu)
 
     def rx(self, packet: AnyPacket) -> None:
-        """A packet came from the link: bytes from the IPv4 header on, or a scapy packet, of which the IP layer is taken. It's
-        delivered, kept for the other fragments of its datagram, or dropped and counted (`why`); that is no error.
-        ValueError: it has more than 65,535 bytes, or no IP layer. TypeError: it isn't a packet."""
+        """Passes a packet from the link to the stack: bytes from the IPv4 header on, or a scapy packet with an IP
+        layer. The stack delivers it, keeps it until the other fragments of its datagram arrive, or drops and counts it
+        (see `why`). A drop is not an error.
+
+        ValueError if it has more than 65,535 bytes or no IP layer. TypeError if it is not a packet."""
         data = bytes_of(packet)
         self._ask("rx", data, len(data))
 
     def tx(self) -> Optional[Packet]:
-        """Takes the packet that has waited longest for the link, or None if none waits."""
+        """Removes the oldest packet from the output queue and returns it; None if the queue is empty."""
         with self._turn:
             length = self._call("tx", self._room, self.mtu)
             return Packet(self._room.raw[:length]) if length else None
 
     def packets(self) -> Iterator[Packet]:
-        """Takes packet after packet, until none waits for the link."""
+        """Yields the packets of the output queue, oldest first, and removes them."""
         while (packet := self.tx()) is not None:
             yield packet
 
     def tick(self, n: SupportsIndex = 1) -> None:
-        """Lets `n` times half a second pass. A datagram that lacks fragments is dropped after 60 of these."""
+        """Advances the clock by `n` ticks of half a second, 0 to 1,000,000. A datagram with missing fragments is
+        dropped after 60 ticks."""
         ticks = in_range("n", n, 0, 1_000_000)
         with self._turn:
             for _ in range(ticks):
                 self._call("tick")
 
     def socket(self) -> Socket:
-        """Opens a UDP socket. OSError EMFILE: 64 are open."""
+        """Opens a UDP socket. OSError with `errno` EMFILE if 64 sockets are open."""
         with self._turn:
             descriptor = self._call("socket")
             opened = self._sockets[descriptor] = Socket(self, descriptor)
             return opened
 
     def readable(self) -> List[Socket]:
-        """The sockets in which a datagram waits, by their descriptors."""
+        """Returns the sockets that have a datagram in their receive queue, in the order of their descriptors."""
         found = ctypes.c_uint64()
         with self._turn:
             self._call("readable", ctypes.byref(found))
@@ -201,12 +215,12 @@ class Stack(Uncopied):
 
     @property
     def output_len(self) -> int:
-        """How many packets wait for the link: 0 to 50."""
+        """The number of packets in the output queue, 0 to 50."""
         return self._ask("output_len")
 
     @property
     def unfinished(self) -> List[UnfinishedDatagram]:
-        """The datagrams some of whose fragments have come, in the order in which they began."""
+        """The datagrams that have some of their fragments, in the order in which their first fragments arrived."""
         with self._turn:
             return self._all_unfinished()
 
@@ -225,7 +239,7 @@ class Stack(Uncopied):
 
     @property
     def counters(self) -> Counters:
-        """The 26 counters as they are now. They don't change afterwards: ask again."""
+        """A snapshot of the 26 counters. It does not change: read the property again for new values."""
         with self._turn:
             return self._all_counters()
 
@@ -239,7 +253,7 @@ class Stack(Uncopied):
 
     @property
     def mbstat(self) -> MbStat:
-        """How much of the pool is in use."""
+        """A snapshot of the usage of the pool."""
         with self._turn:
             return self._usage()
 
@@ -249,7 +263,8 @@ class Stack(Uncopied):
         return MbStat(*(getattr(usage, name) for name in MbStat._fields))
 
     def why(self, before: Mapping[str, int]) -> List[str]:
-        """What was dropped since `before`, which `counters` told then, in words."""
+        """Returns the causes, as a list of str, for which packets have been dropped since `before`, an earlier value of
+        `counters`. The list is empty if no packet was dropped."""
         return self.counters.since(before).causes()
 
     def __repr__(self) -> str:

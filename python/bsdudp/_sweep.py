@@ -1,4 +1,4 @@
-"""The same scenario for many seeds: in this process, on all cores, or on a Dask cluster."""
+"""Runs a scenario for many seeds: in this process, on all cores, or on a Dask cluster."""
 from __future__ import annotations
 
 import concurrent.futures
@@ -10,24 +10,24 @@ from typing import Any, Callable, Dict, Iterable, List, Optional, Protocol, Type
 Result = TypeVar("Result")
 
 CORES = "cores"
-# How often a seed is tried before a fault of the workers is told, and not of the scenario.
+# How often a seed is tried before lost workers are reported as an error.
 TRIES = 5
 
 
 class ClusterClient(Protocol):
-    """What is known here of a `distributed.Client`."""
+    """The methods of a `distributed.Client` that this package uses."""
 
     @property
     def map(self) -> Callable[..., Any]:
-        """Calls a function on the cluster for each of a list."""
+        """Calls a function on the cluster for each element of a list."""
 
     @property
     def gather(self) -> Callable[..., Any]:
-        """The results."""
+        """Returns the results."""
 
 
 class _Progress:
-    """A line on standard error, written anew as seeds end."""
+    """A line on standard error, which is rewritten whenever a seed is done."""
 
     def __init__(self, total: int, shown: bool) -> None:
         self._total, self._shown, self._done = total, shown, 0
@@ -51,7 +51,7 @@ def _here(scenario: Callable[[int], Result], seeds: List[int], progress: _Progre
 
 
 def _on_cores(scenario: Callable[[int], Result], seeds: List[int], progress: _Progress) -> List[Result]:
-    """Each seed that a lost worker had is asked of new ones."""
+    """Runs the seeds on all cores. Seeds of a worker that was lost are run again by new workers."""
     results: Dict[int, Result] = {}
     for _ in range(TRIES):
         left = [at for at in range(len(seeds)) if at not in results]
@@ -92,15 +92,25 @@ def sweep(
     client: Union[None, str, ClusterClient] = None,
     progress: Optional[bool] = None,
 ) -> List[Result]:
-    """Calls `scenario(seed)` for each seed, and answers the results in the order of the seeds, whichever way they came.
+    """Calls `scenario(seed)` for each seed. Returns a list of the results, in the order of the seeds.
 
-    client    None: in this process. "cores": on all cores of this machine. A `distributed.Client`, or the address of a
-              scheduler as "tcp://10.0.0.9:8786": on a Dask cluster, whose workers have this package.
-    progress  whether a line on standard error tells how many seeds have ended; if it isn't given, it does if that is a
-              terminal
+    client    None: in this process. "cores": on all cores of this computer. A `distributed.Client`, or the address of a
+              scheduler such as "tcp://10.0.0.9:8786": on a Dask cluster whose workers have this package.
+    progress  whether a line on standard error shows how many seeds are done. The default is True if standard error is a
+              terminal, otherwise False.
 
-    A worker that ends in the middle costs a retry and no result. An exception of the scenario is raised here. A scenario that
-    goes to other processes is a function of a module, and what it answers can be pickled."""
+    If a worker ends unexpectedly, its seeds are run again, so no result is lost. An exception of the scenario is raised
+    here. A scenario for other processes must be a function of a module, and its result must be picklable.
+
+    >>> def lost(seed):
+    ...     a, b = bsdudp.Stack("10.0.0.1"), bsdudp.Stack("10.0.0.2")
+    ...     wire, socket = bsdudp.Wire([a, b], loss=0.5, seed=seed), a.socket()
+    ...     for _ in range(10):
+    ...         socket.sendto(b"hi", ("10.0.0.2", 7))
+    ...     wire.run()
+    ...     return wire.carried.lost
+    >>> bsdudp.sweep(lost, range(4))
+    [5, 6, 2, 4]"""
     wanted = list(seeds)
     shown = _Progress(len(wanted), sys.stderr.isatty() if progress is None else progress)
     try:

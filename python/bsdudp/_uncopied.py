@@ -1,11 +1,11 @@
-"""What there is once."""
+"""Objects that cannot be copied."""
 from __future__ import annotations
 
 from typing import NoReturn, SupportsIndex
 
 
 class Uncopied:
-    """A base of what can't be copied or pickled: a TypeError says why."""
+    """The base of classes whose objects cannot be copied or pickled. Trying it raises a TypeError that says why."""
 
     def _uncopied(self, how: str) -> NoReturn:
         name = type(self).__name__

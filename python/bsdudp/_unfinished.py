@@ -1,4 +1,4 @@
-"""Datagrams some of whose fragments have come."""
+"""Datagrams that have some of their fragments."""
 from __future__ import annotations
 
 from typing import NamedTuple, Tuple
@@ -8,18 +8,29 @@ from ._library import Range, Unfinished
 
 
 class HeldRange(NamedTuple):
-    """What one fragment brought and still holds: bytes one after another."""
+    """The contiguous bytes of one fragment that an unfinished datagram still uses (see `UnfinishedDatagram`).
+
+    >>> bsdudp.HeldRange(offset=0, length=1480, more=True)
+    HeldRange(offset=0, length=1480, more=True)"""
 
     offset: int
     """The offset of the first byte, counted from the end of the IP header."""
     length: int
-    """How many bytes there are."""
+    """The number of bytes."""
     more: bool
-    """Whether the fragment said that more come after it."""
+    """Whether more fragments follow the one that brought these bytes."""
 
 
 class UnfinishedDatagram(NamedTuple):
-    """A datagram some of whose fragments have come, and others are missing."""
+    """A datagram that has some of its fragments, while others are missing: an item of `Stack.unfinished`.
+
+    >>> a, b = bsdudp.Stack("10.0.0.1"), bsdudp.Stack("10.0.0.2")
+    >>> a.socket().sendto(bytes(2000), ("10.0.0.2", 7))
+    2000
+    >>> first, second = a.packets()
+    >>> b.rx(second)
+    >>> b.unfinished[0].missing
+    ((0, 1480),)"""
 
     source: str
     destination: str
@@ -27,16 +38,16 @@ class UnfinishedDatagram(NamedTuple):
     protocol: int
     """17 is UDP."""
     ticks: int
-    """After how many more ticks it's dropped: 1 to 60."""
+    """The number of ticks after which it is dropped: 1 to 60."""
     length: int
-    """How many of its bytes have come."""
+    """The number of its bytes that have arrived."""
     ranges: Tuple[HeldRange, ...]
-    """The bytes that have come, in order of offset."""
+    """The bytes that have arrived, in order of offset."""
 
     @property
     def missing(self) -> Tuple[Tuple[int, int], ...]:
-        """The gaps before and between the ranges: the first offset of each, and the first after it. What is missing
-        after the last range can't be told: if its `more` is True, something is."""
+        """The gaps before and between the ranges, each with its first offset and the first offset after it. The length
+        of a gap after the last range is unknown; there is one if `more` of that range is True."""
         ends = [0, *(held.offset + held.length for held in self.ranges)]
         return tuple((end, held.offset) for end, held in zip(ends, self.ranges) if end < held.offset)
 
@@ -53,7 +64,7 @@ class UnfinishedDatagram(NamedTuple):
 
 
 def told(datagram: Unfinished, ranges: Tuple[Range, ...]) -> UnfinishedDatagram:
-    """What the library's answers say."""
+    """Converts the structs of the library."""
     return UnfinishedDatagram(
         text_of(datagram.source),
         text_of(datagram.destination),

@@ -1,4 +1,4 @@
-"""A wire between stacks, which loses, repeats and reorders packets by a seed."""
+"""A wire between stacks that loses, repeats and reorders packets; a seed determines the choices."""
 from __future__ import annotations
 
 from typing import Dict, List, NamedTuple, Optional, Sequence, SupportsIndex, Tuple
@@ -15,7 +15,7 @@ LAST_MICROSECOND = 499_999
 
 
 class InFlight(NamedTuple):
-    """A packet on the wire: when it's due, counted in carries, and which stack sent it."""
+    """A packet on the wire: the carry at which it is due, and the stack that sent it."""
 
     due: int
     sender: int
@@ -23,32 +23,46 @@ class InFlight(NamedTuple):
 
 
 class Carried(NamedTuple):
-    """What a wire did with packets so far."""
+    """The counters of a wire: the value of `Wire.carried`.
+
+    >>> bsdudp.Wire([bsdudp.Stack("10.0.0.1"), bsdudp.Stack("10.0.0.2")]).carried
+    Carried(sent=0, lost=0, repeated=0, swapped=0, delivered=0, nobody=0)"""
 
     sent: int
-    """Packets that stacks put on the wire."""
+    """Packets that stacks sent."""
     lost: int
     repeated: int
     swapped: int
     delivered: int
-    """Packets handed to a stack: a broadcast counts once for each."""
+    """Packets delivered to a stack: a broadcast counts once for each stack."""
     nobody: int
-    """Packets that were due, and that no stack on the wire is the destination of."""
+    """Packets that were due, with a destination that no stack on the wire has."""
 
 
 class Wire(Uncopied):
-    """A segment that joins stacks. A packet goes to the stack whose address is its destination, and a broadcast to all
-    but its sender.
+    """A network segment that joins stacks. A packet is delivered to the stack whose address is its destination, and a
+    broadcast to all stacks except its sender.
 
-    loss     the chance that a packet is lost: 0 to 1
-    repeat   the chance that it goes twice
-    reorder  the chance that a packet that is due changes places with the one after it
-    delay    the least and the most carries that a packet stays under way
-    seed     makes the choices: the same seed makes the same ones
+    loss     the probability that a packet is lost: 0 to 1
+    repeat   the probability that it is delivered twice: 0 to 1
+    reorder  the probability that a packet that is due is swapped with the one after it: 0 to 1
+    delay    the least and the greatest number of carries for which a packet is in flight
+    seed     determines the choices: the same seed gives the same choices
 
-    The choices, in this order, each by one number of 32 bits of `Pcg32`: as a packet is put on the wire, whether it's lost;
-    if it isn't, whether it's repeated; for each copy its delay. As a carry begins, for each packet that is due but for the
-    last, from the first on, whether it changes places with the one after it."""
+    Each choice takes one 32-bit number of `Pcg32`, in this order. When a packet is put on the wire: whether it is lost;
+    if not, whether it is repeated; the delay of each copy. When a carry begins: for each packet that is due, except the
+    last, whether it is swapped with the one after it.
+
+    >>> a, b = bsdudp.Stack("10.0.0.1"), bsdudp.Stack("10.0.0.2")
+    >>> to = b.socket()
+    >>> to.bind(("", 7))
+    >>> a.socket().sendto(b"hi", ("10.0.0.2", 7))
+    2
+    >>> wire = bsdudp.Wire([a, b], loss=0)
+    >>> wire.run()
+    True
+    >>> to.recv(), wire.carried.delivered
+    (b'hi', 1)"""
 
     def __init__(
         self,
@@ -79,12 +93,12 @@ class Wire(Uncopied):
 
     @property
     def carried(self) -> Carried:
-        """What it did so far."""
+        """A snapshot of its counters."""
         return Carried(**self._counts)
 
     @property
     def in_flight(self) -> int:
-        """How many packets are under way."""
+        """The number of packets in flight."""
         return len(self._flight)
 
     def _put(self, sender: int, packet: Packet) -> None:
@@ -115,8 +129,8 @@ class Wire(Uncopied):
         return [] if at is None or at == it.sender else [at]
 
     def carry(self) -> int:
-        """Empties the output queues onto the wire, and hands over what is due. The answer is how many packets were handed to
-        a stack."""
+        """Takes the packets of all output queues, and delivers the packets that are due. Returns the number of packets
+        delivered to a stack."""
         for sender, stack in enumerate(self.stacks):
             for packet in stack.packets():
                 self._put(sender, packet)
@@ -135,8 +149,8 @@ class Wire(Uncopied):
         return handed
 
     def run(self, until_quiet: bool = True, carries: SupportsIndex = 10_000) -> bool:
-        """Carries until nothing is under way and no packet waits, at most `carries` times; with `until_quiet=False` exactly
-        so many times. The answer is whether nothing is left."""
+        """Calls `carry` until no packet is in flight and all output queues are empty, at most `carries` times; with
+        `until_quiet=False` exactly `carries` times. Returns whether no packet is left."""
         for _ in range(in_range("carries", carries, 0, 1 << 31)):
             if until_quiet and self._is_quiet():
                 break
@@ -144,8 +158,8 @@ class Wire(Uncopied):
         return self._is_quiet()
 
     def tick(self, n: SupportsIndex = 1) -> None:
-        """Lets `n` times half a second pass at each stack of the wire. What is under way stays so: a delay is counted in
-        carries."""
+        """Advances the clock of each stack by `n` ticks of half a second. Packets in flight stay in flight: a delay is
+        counted in carries."""
         for _ in range(in_range("n", n, 0, 1_000_000)):
             for stack in self.stacks:
                 stack.tick()
@@ -153,20 +167,20 @@ class Wire(Uncopied):
             self._carries = 0
 
     def _time(self) -> float:
-        """The time of a packet that is handed over now, in seconds."""
+        """Returns the time of a packet that is delivered now, in seconds."""
         return self._ticks * TICK + min(self._carries, LAST_MICROSECOND) / 1_000_000
 
     def _is_quiet(self) -> bool:
         return not self._flight and not any(stack.output_len for stack in self.stacks)
 
     def record(self) -> None:
-        """Keeps what is handed over from now on, for `pcap`."""
+        """Records the packets that are delivered from now on, for `pcap`."""
         self._record = []
 
     def pcap(self, path: str) -> None:
-        """Writes what was handed over since `record` as a capture, by scapy. A packet's time is that of the wire's clock:
-        half a second for each `tick` of the wire, and a microsecond for each carry since the last one. RuntimeError:
-        `record` wasn't called."""
+        """Writes the packets delivered since `record` to a capture file; this needs scapy. A packet's time is that of
+        the wire's clock: half a second for each `tick` of the wire, and a microsecond for each carry since the last
+        tick. RuntimeError if `record` was not called."""
         if self._record is None:
             raise RuntimeError("call record() before the packets go")
         from scapy.layers.inet import IP

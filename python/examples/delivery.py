@@ -3,6 +3,7 @@ law. A datagram of n fragments comes through if none of them is lost: with the c
 import argparse
 import math
 import os
+import signal
 
 import bsdudp
 
@@ -40,6 +41,7 @@ if __name__ == "__main__":
     parser.add_argument("plot", nargs="?", metavar="PLOT.png", help="a plot of it is written to this file")
     words = parser.parse_args()
     results = bsdudp.sweep(come_through, range(SEEDS), "cores")
+    signal.signal(signal.SIGPIPE, signal.SIG_DFL)  # `delivery.py | head` ends without a message
     shares = [sum(column) / SEEDS for column in zip(*results)]
     print("  loss  bytes  fragments  measured   law")
     for at, share in enumerate(shares):

@@ -1,7 +1,47 @@
-"""How programs in C for other processors are compiled and run."""
-import os
+"""How programs in C over the C library of a processor are compiled and run."""
+from __future__ import annotations
 
+import os
+import pathlib
+import pickle
+from typing import Callable, Sequence
+
+import pytest
+
+from portable.tests import replies
 from tests.capi.conftest import runs  # noqa: F401 (a fixture)
+from tests.cases import TOP
+from tests.made import core_for, module, portable_c  # noqa: F401 (fixtures)
 
 CC = os.environ.get("CC", "cc")
+C99 = ["-std=c99", "-Wall", "-Wextra", "-Werror", "-pedantic", "-Wno-unused-parameter", f"-I{TOP / 'portable/tests'}"]
+STRICT = [*C99, f"-I{TOP / 'capi/include'}"]
 SANITIZED = ["-fsanitize=address,undefined", "-fno-sanitize-recover=all"]
+# Plays the scripts that it's given over the library.
+DRIVER = [TOP / "portable/tests/run.c", TOP / "portable/tests/host.c"]
+
+
+@pytest.fixture(scope="session")
+def answered(once) -> Callable[[int, pathlib.Path], tuple]:
+    """answered(COUNT, PROGRAM): all scripts of examples/ and so many random ones, with the replies, made once."""
+
+    def of(count: int, program: pathlib.Path) -> tuple:
+        def make(folder: pathlib.Path) -> None:
+            (folder / "scripts").write_bytes(pickle.dumps(replies.chosen(count, program)))
+
+        return pickle.loads((once(f"scripts-{count}", make) / "scripts").read_bytes())
+
+    return of
+
+
+@pytest.fixture
+def plays(answered, bsdudp) -> Callable[[Sequence[object], int], None]:
+    """plays(DRIVER'S WORDS, COUNT) plays all examples and so many random scripts by a driver. Its replies have to be
+    those beside the examples, and those of the built bsdudp."""
+
+    def play(driver: Sequence[object], count: int) -> None:
+        scripts, wanted = answered(count, bsdudp)
+        got, _ = replies.heard([*map(str, driver)], scripts)
+        assert not replies.differences(scripts, got, wanted)[:5]
+
+    return play

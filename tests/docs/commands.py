@@ -33,6 +33,7 @@ ROWS = {
     "apt install ./bsdudp_*.deb ./libbsdudp*.deb ./python3-bsdudp_*.deb": Row("deb", "dpkg -i"),
     "man bsdudp": Row("made_pages", "bsdudp.1"),
     "man bsdplay": Row("made_pages", "bsdplay.1"),
+    "man 3 bsdudp": Row("made_pages", "bsdudp.3"),
     "dist/build FOLDER": Row("dist", "dist/build"),
     "./install ~/.local": Row("dist", 'install"'),
     "python3 -m venv bench && . bench/bin/activate": Row("dist", "venv"),
@@ -57,8 +58,17 @@ ROWS = {
     "ip link set tap0 up": Row("capi", "ip link set"),
     "ping 10.0.0.1": Row("capi", '"ping"'),
     "unshare -n": Row("capi", "unshare -n"),
+    # a device
+    "portable/core cortex-m3 LIBRARY": Row("core", "portable/core"),
+    "portable/board/build LIBRARY board": Row("device", 'block("portable/board/build'),
+    "portable/board/build LIBRARY board FILE": Row("device", "portable/board/build"),
+    "ip tuntap add dev tap0 mode tap": Row("device", 'block("unshare -n")'),
+    "qemu-system-arm * -kernel board/device.elf < /dev/null &": Row("device", 'block("unshare -n")'),
+    "cd capi/examples": Row("device", 'block("cd capi/examples")'),
+    "cc -std=gnu99 device_tap.c *": Row("device", 'block("cd capi/examples")'),
+    "./device tap0 ../../LICENSE &": Row("device", 'block("cd capi/examples")'),
     # the programs
-    "tools/sendto FILE": Row("made_pages", '"tools/sendto", page'),
+    "tools/sendto *": Row("made_pages", '"tools/sendto", page'),
     "tools/callers write": Row("crates", "tools/callers"),
     ".ci/wrong-bodies --gate *": Row("run", ".ci/wrong-bodies --gate"),
 }
@@ -96,53 +106,47 @@ SESSIONS = {
             "The machine is 10.0.0.1, to which 12 of 12 datagrams go; --addr takes another.",
         ],
     ),
-    "a capture": Session("README.md", ["bsdplay why capture.pcapng"], {"capture.pcapng": "examples/play/faults.pcap"}),
     "why": Session(
-        "docs/why.md",
+        "docs/captures.md",
         ["bsdplay why capture.pcap"],
         {"capture.pcap": "examples/play/faults.pcap"},
-        shown="Some lines of",
+        shown="This is some of the output for",
     ),
-    "play": Session("docs/play.md", ["bsdplay examples/play/why_dropped.txt"], EXAMPLES, shown="prints of these lines"),
-    "tour for people": Session(
-        "docs/tour.md",
-        ["bsdplay examples/first_datagram.txt"],
-        EXAMPLES,
-        shown="`first_datagram.txt`, and its replies:",
+    "scripts": Session(
+        "docs/scripts.md", ["bsdplay examples/play/why_dropped.txt"], EXAMPLES, shown="and what changed:"
     ),
     "tour": Session(
         "docs/tour.md",
-        ["bsdudp run < examples/first_datagram.txt"],
+        [f"bsdplay examples/play/{it.name}" for it in sorted((TOP / "examples/play").glob("tour_*.txt"))],
         EXAMPLES,
-        prints=["ok 3", "ok", "ok", "from 10.0.0.2 5000 6869"],
+        shown="bsdplay examples/play/tour_01_bind_and_receive.txt\n\n    2",
     ),
-    "replies": Session(
-        "docs/recipes.md",
-        [
-            "bsdudp run < script.txt | paste script.txt - | expand -t 72",
-            "bsdudp run < script.txt | paste script.txt - | grep -n '? line$'",
-            'for script in *.txt; do echo "== $script"; bsdudp run < "$script"; done',
-        ],
-        {"script.txt": "examples/refusals.txt"},
-        prints=["socket ok 3", "hello ? line", "7:hello ? line", "== script.txt", "error 9 EBADF", "? line"],
-    ),
-    "on the path": Session(
-        "docs/recipes.md",
-        [
-            "install -D -m755 crates/bsdudp/out/bsdudp crates/bsdplay/out/bsdplay -t ~/.local/bin",
-            "dist/man ~/.local/share/man/man1",
-            'export PATH="$HOME/.local/bin:$PATH"',
-        ],
-        {f"crates/{it}/out/{it}": it for it in ("bsdudp", "bsdplay")} | {"dist": "dist"},
-    ),
-    "for another machine": Session(
+    "tour of chains": Session(
         "docs/tour.md",
         [
-            "bsdudp run --addr 10.0.0.3 < examples/another_address.txt",
-            "bsdudp chain < examples/chain/shared_cluster.txt",
+            f"bsdudp chain < examples/chain/{it}.txt | paste examples/chain/{it}.txt -"
+            for it in ("shared_cluster", "pull_up_and_trim")
         ],
         EXAMPLES,
-        prints=["from 10.0.0.2 5000 6869", "len 328 P28 C300x2"],
+        prints=["len 328 P28 C300x2", "len 40 P40 C0x1"],
+    ),
+    "replies": Session(
+        "docs/scripts.md",
+        ["bsdudp run < script.txt | paste script.txt - | expand -t 72"],
+        {"script.txt": "examples/refusals.txt"},
+        prints=["socket ok 3", "hello ? line"],
+    ),
+    "an exercise": Session(
+        "docs/teaching.md",
+        ["bsdplay --blank examples/play/exercise_04_fragments_out.txt"],
+        EXAMPLES,
+        prints=["sendto 3 10.0.0.2 5000 @1400 => ?"],
+    ),
+    "answers": Session(
+        "docs/maintain/answers.md",
+        ["bsdplay examples/play/exercise_01_which_socket.txt"],
+        EXAMPLES,
+        prints=["3 sockets"],
     ),
     "a reader of the crate": Session(
         "crates/bsdplay/README.md",
@@ -166,12 +170,12 @@ SESSIONS = {
         prints=["ok", "mbufs 7/8 clusters 2/2 refs 0 most 0"],
     ),
     "from a capture": Session(
-        "docs/recipes.md",
-        ["bsdplay --from-pcap capture.pcap > packets.txt"],
+        "docs/captures.md",
+        ["bsdplay --from-pcap capture.pcap > script.txt"],
         {"capture.pcap": "examples/play/faults.pcap"},
     ),
     "Wireshark": Session(
-        "docs/recipes.md",
+        "docs/captures.md",
         [
             "bsdudp run < script.txt | sed -n 's/^packet //p' | "
             """awk '{ printf "000000"; for (i = 1; i <= length($0); i += 2) printf " %s", substr($0, i, 2); """
@@ -184,7 +188,7 @@ SESSIONS = {
         needs=["tshark", "editcap"],
     ),
     "comments": Session(
-        "docs/recipes.md",
+        "docs/scripts.md",
         [r"sed -e 's/\r$//' -e 's/[[:space:]]*#.*//' -e '/^$/d' mine.txt | bsdudp run"],
         {"mine.txt": "# mine\nsocket # the first\r\n\nbind 3 0.0.0.0 7\n"},
         prints=["ok 3", "ok"],
@@ -196,7 +200,7 @@ SESSIONS = {
         prints=["socket ok 3", "recvfrom 3 100 from 10.0.0.2 5000 6869"],
     ),
     "a course": Session(
-        "docs/play-teaching.md",
+        "docs/teaching.md",
         [
             "mkdir -p course/hand-ins && cd course",
             "cp .../examples/play/exercise_04_fragments_out.txt key.txt",
@@ -217,7 +221,7 @@ SESSIONS = {
         },
     ),
     "a judge": Session(
-        "docs/conform.md",
+        "docs/judge.md",
         [
             "bsdudp-conform template mine",
             "cc -Imine mine/template.c YOUR_STACK.. -o adapter",
@@ -240,23 +244,24 @@ UNTRIED = {
     "pip install scapy": "it takes the network; Debian's package is tried",
     "nc -u 10.0.0.1 7": "a test of tap_host sends the same datagrams by a socket",
     "tcpdump -e -i tap0": "it shows what a test of tap_host reads by tshark",
+    "conform/stacks FOLDER": "tests/conform judges the same stacks, one by one",
     "tcpdump -s 60": "it takes a network card",
-    "bench/run.sh NAME": "measurements are made by hand",
     "bench/run.sh stack": "measurements are made by hand",
+    "grep -rnw IsUnshared crates/*/specs": "it looks for a word",
     ".ci/wrong-bodies --all *": "it takes hours, before a version",
     ".ci/wrong-bodies --all": "it takes hours, before a version",
     ".ci/wrong-bodies [CRATE ..]": "it takes hours, before a version",
 }
 # What names a program with an option, and isn't to be typed.
-NAMES = {"bsdudp run", "bsdudp chain", "bsdplay --grade"}
+NAMES = {"bsdudp run", "bsdudp chain", "bsdplay --grade", "bsdplay why"}
 
 
 def of_pages() -> Iterator[Command]:
     """The commands that need a test: those of README.md, CONTRIBUTING.md and the first screen of each page of docs/."""
     for path in WHOLE:
         yield from commands(path)
-    for page in sorted((TOP / "docs").glob("*.md")):
-        yield from commands(f"docs/{page.name}", SCREEN)
+    for page in sorted((TOP / "docs").rglob("*.md")):
+        yield from commands(str(page.relative_to(TOP)), SCREEN)
 
 
 def of_documents() -> Iterator[Command]:

@@ -201,8 +201,8 @@ def in_order(place: str, what: str, entries: Sequence[Entry], wanted: Sequence[s
 # ---- the pages -----------------------------------------------------------------------------------------------------
 
 # They say what was so in the past.
-OF_THE_PAST = ("CHANGELOG.md", "docs/gate-times.md")
-FOLDERS = ("", "bench/", "capi/", "conform/", "crates/", "crates/*/", "docs/", "examples/", "page/", "portable/")
+OF_THE_PAST = ("CHANGELOG.md", "docs/maintain/gate-times.md")
+FOLDERS = ("", "bench/", "capi/", "conform/", "crates/", "crates/*/", "docs/", "docs/maintain/", "examples/", "page/", "portable/")
 FOLDERS += ("python/", "simulators/", "simulators/*/", "tests/", "tools/*/")
 
 

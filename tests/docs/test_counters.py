@@ -1,5 +1,5 @@
-"""The counters and the causes that end a packet: the tables of docs/behaviour.md and docs/play.md, every counter that a
-page names, and the names and the number of counters in C, Python and bsdplay."""
+"""The counters and the causes that end a packet: the tables of docs/behaviour.md, every counter that a page names, and
+the names and the number of counters in C, Python and bsdplay."""
 import re
 
 from tests.docs.definitions import (
@@ -8,6 +8,7 @@ from tests.docs.definitions import (
 from tests.docs.pages import Entry, Fault, documents, in_code, in_order, lines, none_of, part, pieces, read, table
 
 BEHAVIOUR = "docs/behaviour.md"
+HEADS = ("Counter", "What it counts", "Cause", "Volume 2", "Definition")
 # The definitions whose text has the causes that end a packet in the order of the checks.
 CHECKS = ["ComesIn", "head_fault", "Passes", "FragmentArrives", "WholeArrives"]
 # Where the number of counters stands.
@@ -33,19 +34,19 @@ def places_named(cell: str) -> set[str]:
 def test_table_of_counters():
     """Every counter in the order of printing, with what it counts, the book's function, and the definitions that count
     it."""
-    place, rows = table(BEHAVIOUR, "The counters", "Counter", "What it counts", "Volume 2", "Definition")
+    place, rows = table(BEHAVIOUR, "Counters", *HEADS)
     named, causes = named_counters(), causes_counted()
     entries = [Entry(row.place, " ".join(in_code(row.cells[0]))) for row in rows]
     faults = in_order(place, "the counter", entries, [name for _, name in named], COUNTER)
     counted_in, variant_of = places_of_counts(), {name: variant for variant, name in named}
     for entry, row in zip(entries, rows):
-        if not row.cells[1] or not in_code(row.cells[2]):
+        if not row.cells[1] or not in_code(row.cells[3]):
             faults.append(Fault(entry.place, f"the row of '{entry.key}' lacks what it counts, or the book's function"))
         variant = variant_of.get(entry.key)
         words = [variant] + [cause for cause, counter in causes if counter == variant]
         wanted = set().union(*(counted_in.get(word, set()) for word in words))
-        if variant and places_named(row.cells[3]) != wanted:
-            came = "; ".join(sorted(places_named(row.cells[3])))
+        if variant and places_named(row.cells[4]) != wanted:
+            came = "; ".join(sorted(places_named(row.cells[4])))
             faults.append(
                 Fault(entry.place, f"'{entry.key}' is counted in", "; ".join(sorted(wanted)) or "no definition", came)
             )
@@ -66,10 +67,10 @@ def test_table_of_checks():
 
 
 def test_table_of_causes():
-    """docs/play.md has each cause as the type of causes is displayed, and its counter."""
-    place, rows = table("docs/play.md", "What is told of a line", "CAUSE", "Counter")
+    """Each cause stands in the row of its counter, as the type of causes is displayed."""
+    place, rows = table(BEHAVIOUR, "Counters", *HEADS)
     names, counter_of = dict(named_counters()), dict(causes_counted())
-    entries = [Entry(row.place, " ".join(in_code(row.cells[0]) + in_code(row.cells[1]))) for row in rows]
+    entries = [Entry(row.place, f"{it} {in_code(row.cells[0])[0]}") for row in rows for it in in_code(row.cells[2])]
     wanted = [f"{text} {names[counter_of[why]]}" for why, text in texts_of_causes().items()]
     none_of(in_order(place, "the cause", entries, wanted, COUNTERS))
 
@@ -80,8 +81,8 @@ def texts_of_causes() -> dict[str, str]:
 
 
 def test_causes_of_bsdplay():
-    """play_records has the same text for each cause."""
-    path = "crates/play_records/src/words.rt"
+    """play_text has the same text for each cause."""
+    path = "crates/play_text/src/words.rt"
     told = dict(pieces(path, r'Why::(\w+) => "([^"]+)",'))
     none_of(
         Fault(f"{path}:1", f"the text of the cause {why}", text, told.get(why, ""))

@@ -10,7 +10,7 @@ import pytest
 from tests.docs.pages import TOP, Fault, in_code, lines, none_of, read, sources_of, table
 from tools import crates, edits
 
-ARCHITECTURE = "docs/architecture.md"
+ARCHITECTURE = "docs/maintain/architecture.md"
 
 
 # ---- which there are -----------------------------------------------------------------------------------------------
@@ -26,7 +26,7 @@ def lists() -> dict[str, list[str]]:
 
 
 def layers() -> list:
-    return table(ARCHITECTURE, "What each layer shows", "Crate", "Stands on", "What its contract shows")[1]
+    return table(ARCHITECTURE, "What each layer shows", "Crate", "Uses", "What its contract shows")[1]
 
 
 @pytest.mark.parametrize("path", ["crates.txt", "crates/README.md", ARCHITECTURE])
@@ -44,7 +44,7 @@ def test_each_crate_has_a_line(path):
 
 
 def test_layers_name_what_they_use():
-    """docs/architecture.md lists under "Stands on" only what a crate uses."""
+    """The architecture lists under "Uses" only what a crate uses."""
     used = crates.uses()
     none_of(
         Fault(row.place, f"{name} doesn't use {it}")
@@ -59,7 +59,8 @@ def test_libraries_that_are_trusted():
     """docs/proved.md names each library of the toolchain that a crate uses, and no other."""
     path, used = "docs/proved.md", crates.uses()
     wanted = {it for uses in used.values() for it in uses if it not in used}
-    told = {it for it in in_code(read(path).partition("## Trusted")[2]) if re.fullmatch(r"[a-z_0-9]+", it)} - {"std"}
+    _, rows = table(path, "Trusted", "What", "Who relies on it")
+    told = {it for it in in_code(rows[0].cells[0]) if re.fullmatch(r"[a-z_0-9]+", it)} - {"std"}
     faults = [Fault(f"{path}:1", "under 'Trusted' a library is missing", it) for it in sorted(wanted - told)]
     none_of(faults + [Fault(f"{path}:1", f"under 'Trusted': no crate uses {it}") for it in sorted(told - wanted)])
 
@@ -68,13 +69,11 @@ def test_libraries_that_are_trusted():
 
 
 def test_raw_pointers():
-    """docs/security.md and docs/proved.md name each file that has raw pointers."""
+    """docs/proved.md names each file that has raw pointers."""
     faults = []
     for path in sources_of("*"):
         if re.search(r"\*(?:mut|const) |\bunsafe \{", re.sub(r"//[^\n]*", "", read(path))):
-            if f"`{path}`" not in read("docs/security.md"):
-                faults.append(Fault("docs/security.md:1", "a file with raw pointers isn't named", path))
-            if path.rpartition("/")[2] not in read("docs/proved.md"):
+            if f"`{path}`" not in read("docs/proved.md"):
                 faults.append(Fault("docs/proved.md:1", "a file with raw pointers isn't named", path))
     none_of(faults)
 
@@ -86,9 +85,9 @@ def sources() -> dict[str, str]:
 
 
 def test_calls_on_the_way_of_a_packet():
-    """docs/architecture.md names calls that their crates have, and that another crate of the stack makes."""
-    faults, stack, before = [], sources(), read(ARCHITECTURE).partition("## The way of a packet")[0]
-    text = read(ARCHITECTURE).partition("## The way of a packet")[2].partition("\n## ")[0]
+    """The architecture names calls that their crates have, and that another crate of the stack makes."""
+    faults, stack, before = [], sources(), read(ARCHITECTURE).partition("## The path of a packet")[0]
+    text = read(ARCHITECTURE).partition("## The path of a packet")[2].partition("\n## ")[0]
     callers = [name for name in stack if not re.search(r"_tests$|^bench_|^callers$", name)]
     for it in re.finditer(rf"\b({'|'.join(stack)})::(\w+)((?:, \w+(?=[:\s,`]))*)", text):
         place = f"{ARCHITECTURE}:{before.count(chr(10)) + text.count(chr(10), 0, it.start()) + 1}"

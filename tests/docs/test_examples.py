@@ -1,9 +1,9 @@
-"""What pages say of examples/: a row for each script, and the lines with replies that docs/tour.md quotes."""
+"""What pages say of examples/: a row for each script, and the output that docs/tour.md shows."""
 import re
 
 import pytest
 
-from tests.docs.pages import TOP, Fault, none_of, read
+from tests.docs.pages import TOP, Fault, lines, none_of, read
 
 TOUR = "docs/tour.md"
 
@@ -17,32 +17,44 @@ def test_each_example_has_a_line():
 
 
 def quoted():
-    """Each script that the tour names as a paragraph begins, with the block of lines and replies after it."""
-    for found in re.finditer(r"(?m)^`([\w/]+\.txt)`((?:.|\n)*?)(?=^## |^`[\w/]+\.txt`|\Z)", read(TOUR)):
-        line = read(TOUR).count("\n", 0, found.start()) + 1
-        rows = [(line + n, it) for n, it in enumerate(found[0].split("\n")) if re.match(r"    (?!bsd)\S", it)]
-        if rows:
-            yield found[1], rows
+    """Each script that the tour plays, with the lines that it shows as the output until it plays another one."""
+    script, rows = "", []
+    for place, line in lines(TOUR):
+        command = re.match(r"    (?:bsdplay|bsdudp chain <) (examples/\S+)", line)
+        if command or line.startswith("## "):
+            if rows:
+                yield script, rows
+            script, rows = command[1] if command else "", []
+        elif script and line.startswith("    "):
+            rows.append((place, line[4:]))
+    if rows:
+        yield script, rows
+
+
+def printed(script):
+    """What a script prints: the golden file of one for bsdplay; lines and replies side by side of one of chains."""
+    replies = read(f"{script}.stdout").splitlines()
+    return map(" => ".join, zip(read(script).splitlines(), replies)) if "/chain/" in script else replies
 
 
 def pattern(text):
-    """A line as the tour has it: `..` stands for any text, and what follows two spaces is a remark."""
-    asked, reply, *_ = [*re.split(r"\s{2,}|(?<=\.\.) (?=ok)", text.strip()), ""]
+    """A line as the tour has it. Of a script of chains `..` stands for any text, and what follows two spaces is the
+    reply, and then a remark."""
+    asked, reply, *_ = [*re.split(r"\s{2,}", text), ""]
     return re.compile(".*".join(re.escape(it) for it in f"{asked} => {reply}".split("..")))
 
 
 @pytest.mark.parametrize("script, rows", [pytest.param(*it, id=it[0]) for it in quoted()])
 def test_tour(script, rows):
-    """The lines stand in the script, in this order, with these replies."""
-    asked, replies = read(f"examples/{script}").splitlines(), read(f"examples/{script}.stdout").splitlines()
-    there = iter([f"{one} => {other}" for one, other in zip(asked, replies)])
+    """The script prints these lines, in this order."""
+    there = iter(printed(script))
     none_of(
-        Fault(f"{TOUR}:{line}", f"examples/{script} has no such line with this reply, or another order: {row.strip()}")
-        for line, row in rows
-        if row.strip() != ".." and not any(pattern(row).fullmatch(it) for it in there)
+        Fault(place, f"{script} doesn't print this line, or in another order: {row}")
+        for place, row in rows
+        if not any(pattern(row).fullmatch(it) if "/chain/" in script else row == it for it in there)
     )
 
 
 def test_tour_is_tried():
-    """The tour's quotes are found: fifteen scripts or so."""
-    assert len(list(quoted())) >= 10
+    """The tour's quotes are found: fourteen scripts or so."""
+    assert len(list(quoted())) >= 12

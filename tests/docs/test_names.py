@@ -1,7 +1,8 @@
-"""The names in pages: each name of code is one, each item of a crate or a type is defined there. How many definitions
-share a name, and how wide lines of code are."""
+"""The names in pages: each name of code is one, each item of a crate or a type is defined there, and so is each
+definition that a page names. How many definitions share a name, and how wide lines of code are."""
 import functools
 import re
+from typing import Iterator
 
 import pytest
 
@@ -22,7 +23,7 @@ NAMES_OF_OTHERS = {
 ITEMS_OF_OTHERS = {f"bsdudp::{it}" for it in ("bsdudp", "static", "shared")}
 ITEMS_OF_OTHERS |= {"Config::Connect", "Config::SetDefault", "Packet::Print"}
 # These also name functions of volume 2, or what was decided against.
-OF_OTHERS = {*OF_THE_PAST, *(f"docs/{it}.md" for it in ("DECISIONS", "behaviour", "book", "glossary"))}
+OF_OTHERS = {*OF_THE_PAST, *(f"docs/{it}.md" for it in ("maintain/decisions", "behaviour", "book"))}
 IMPORT = re.compile(r"\s*(?:ghost |pub )?(?:use|open) ")
 DEFINED = re.compile(r"(?:(?:abbrev|unfoldable) pub|pub (?:record|data)|pub)\s+([^\s:(){}]+)\s")
 NAMES_TWICE = 60
@@ -95,6 +96,61 @@ def test_items_of_crates(path):
             if not any(is_defined(it, last) for it in homes()[first]):
                 faults.append(Fault(place, f"there is no {found[0].strip('`')}"))
     none_of(faults)
+
+
+# ---- definitions and calls that pages name -------------------------------------------------------------------------
+
+
+def has_definition(crate: str, module: str, name: str) -> bool:
+    """Whether a file MODULE.antt of a crate's specs/ defines a name."""
+    pattern = re.compile(rf"(?m)^ *(?:(?:abbrev|unfoldable) pub|pub (?:record|data)|pub) {re.escape(name)}(?![\w-])")
+    return any(pattern.search(it.read_text("utf-8")) for it in TOP.glob(f"crates/{crate}/specs/**/{module}.antt"))
+
+
+def named_definitions(text: str, crate: str = "") -> list[tuple[str, str, str]]:
+    """What a text names as `MODULE.NAME`, or as a further `NAME` after it, with the crate: the one before, as `CRATE:`."""
+    found, module = [], ""
+    for code, other in re.findall(r"`([^`]+)`|(\w+): ", text):
+        crate = other or crate
+        first, dot, name = code.split(" ")[0].partition(".")
+        module = first if dot else module
+        if code and crate and module and (dot or re.fullmatch(r"\w+", first)):
+            found.append((crate, module, name if dot else first))
+    return found
+
+
+def definitions_of_pages() -> Iterator[tuple[str, tuple[str, str, str]]]:
+    """The definitions that pages for readers of the book name, each with its place."""
+    for place, line in lines("docs/book.md"):
+        if line.startswith("| ") and line.count("|") == 4:
+            yield from ((place, it) for it in named_definitions(line.split("|")[3]))
+    for place, line in lines("docs/tour.md"):
+        if re.match(r"\| \d", line):
+            cell = line.split("|")[4]
+            crate = "chain_script" if "chain_script" in cell else "flat_model"
+            yield from ((place, it) for it in named_definitions(cell.partition(" in ")[0], crate))
+    for place, line in lines("docs/model.md"):
+        for it in re.findall(r"\[(`[^\]]+)\](?!\()", line):
+            yield from ((place, one) for one in named_definitions(it, "flat_model"))
+
+
+def test_definitions_of_pages():
+    found = list(definitions_of_pages())
+    assert len(found) > 150, "the tables and brackets aren't where the test looks for them"
+    none_of(Fault(place, f"there is no {'.'.join(it[1:])} in {it[0]}") for place, it in found if not has_definition(*it))
+
+
+def test_calls_of_the_book():
+    """Each name of a call in the second column of docs/book.md is one of a function, a type or a variant of the code."""
+    code = "\n".join(map(read, sources_of("*")))
+    none_of(
+        Fault(place, f"the code has no {name}")
+        for place, line in lines("docs/book.md")
+        if line.startswith("| ") and line.count("|") == 4
+        for it in in_code(line.split("|")[2])
+        for name in [it.split("::")[-1]]
+        if re.fullmatch(r"\w+", name) and not re.search(rf"\b(fn|struct|enum|trait|type|const) {name}\b|\b{name}\b,?$", code, re.M)
+    )
 
 
 # ---- names and lines of the code -----------------------------------------------------------------------------------

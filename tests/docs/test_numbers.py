@@ -13,7 +13,7 @@ from tools import crates
 PERFORMANCE = "docs/performance.md"
 LENGTHS = ["2 bytes", "1,472", "9,000"]
 ALONE = ("A datagram from one stack to another", ["Datagram", *LENGTHS])
-BESIDE = ("Beside lwIP", ["", *LENGTHS, "seven fragments"])
+BESIDE = ("Compared with lwIP", ["", *LENGTHS, "seven fragments"])
 
 
 # ---- what is counted -----------------------------------------------------------------------------------------------
@@ -50,7 +50,7 @@ def exports() -> int:
 
 def deepest() -> int:
     """The most bytes of the call stack that a call of the C library takes, apart from boot and end."""
-    rows = table("docs/embedding.md", "Code and stack", "Call", "Bytes")[1]
+    rows = table("docs/memory.md", "Call stack", "Call", "x86-64", "Cortex-M3, painted", "Cortex-M3, bound")[1]
     return max(number(row.cells[1]) for row in rows if not re.search(r"_(boot|boot_in|end)\b|other", row.cells[0]))
 
 
@@ -65,13 +65,13 @@ def walk() -> list[int]:
     return [number(it) for it in re.findall(r"\d+", said)]
 
 
-# What a page says, and the number that is right. After `some` it may be rounded to a hundredth.
+# What a page says, and the number that is right. After `about` it may be rounded to a hundredth.
 COUNTED = [
     ("README.md", "functions in N crates are proved", lambda: len(crates.uses())),
-    ("README.md", "some N functions", functions),
-    ("README.md", "some N wrong bodies", lambda: wrong_bodies("must-fail", "wrong-bodies")),
-    ("README.md", "refuse the N likeliest", lambda: wrong_bodies("must-fail")),
-    ("README.md", "some N lines of definitions", lines_of_definitions),
+    ("README.md", "about N functions", functions),
+    ("README.md", "about N mutants", lambda: wrong_bodies("must-fail", "wrong-bodies")),
+    ("README.md", "rejects the N likeliest", lambda: wrong_bodies("must-fail")),
+    ("README.md", "about N lines of definitions", lines_of_definitions),
     (
         "README.md",
         "from one stack to another takes N instructions",
@@ -79,9 +79,9 @@ COUNTED = [
     ),
     ("README.md", "lwIP takes N as Debian", lambda: cell_of(PERFORMANCE, *BESIDE, "lwIP `-O2`", 1)),
     ("README.md", "and N at its best", lambda: cell_of(PERFORMANCE, *BESIDE, "the same, pools for its heap", 1)),
-    ("docs/architecture.md", "passes through N functions in", lambda: walk()[0]),
-    ("docs/architecture.md", "functions in N files of", lambda: walk()[1]),
-    ("docs/architecture.md", "files of N crates", lambda: walk()[2]),
+    ("docs/maintain/architecture.md", "passes through N functions in", lambda: walk()[0]),
+    ("docs/maintain/architecture.md", "functions in N files of", lambda: walk()[1]),
+    ("docs/maintain/architecture.md", "files of N crates", lambda: walk()[2]),
     ("docs/proved.md", "`bsdudp_core_sendto` and N more", exports),
     ("docs/security.md", "take at most N bytes each", deepest),
 ]
@@ -89,8 +89,8 @@ COUNTED = [
 
 @pytest.mark.parametrize("path, words, count", COUNTED, ids=[f"{path} {words}" for path, words, _ in COUNTED])
 def test_number(path, words, count):
-    is_round, text = words.startswith("some "), read(path)
-    pattern = words.replace("some ", "[Ss]ome ").replace(" ", r"\s+").replace("N", r"([\d,]+)", 1)
+    is_round, text = words.startswith("about "), read(path)
+    pattern = words.replace("about ", "[Aa]bout ").replace(" ", r"\s+").replace("N", r"([\d,]+)", 1)
     found = re.search(pattern, text)
     if not found:
         none_of([Fault(f"{path}:1", f"the page has no text '{words}'")])

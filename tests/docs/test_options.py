@@ -1,5 +1,4 @@
-"""The words of the programs: options with their values and defaults, and exit statuses in docs/script.md; the forms of
-lines in docs/play.md."""
+"""docs/scripts.md: options with their values and defaults, exit statuses, and the forms of lines."""
 import re
 
 import pytest
@@ -7,16 +6,15 @@ import pytest
 from tests.docs.pages import Entry, Fault, in_code, in_order, none_of, number, part, pieces, read, table
 from tools import forms
 
-SCRIPT = "docs/script.md"
-PLAY = "docs/play.md"
+SCRIPTS = "docs/scripts.md"
 FORMS = "crates/play_forms/src/command.rt"
 OPTIONS = "crates/link_script/src/options.rt"
 COMMAND_LINE = "crates/link_script/src/command_line.rt"
-# For each player, what stands around the forms of its lines in docs/play.md.
+# For each player, what stands around the forms of its lines.
 BLOCKS = {
-    "machine": ("[packets by name](#packets-by-name) among them:\n", "\nBehind"),
-    "ethernet": ("(#hosts-on-an-ethernet):\n", "\nThe forms"),
-    "wire": ("([Many machines](#many-machines)):\n", "\n## "),
+    "machine": ("as `bsdplay --help` prints them:\n", "\nTwo more"),
+    "ethernet": ("(#hosts-on-an-ethernet):\n", "\nAnd those"),
+    "wire": ("[many hosts](#many-hosts):\n", "\n## "),
 }
 
 
@@ -54,7 +52,7 @@ def options_of_code() -> dict[str, list[str]]:
 
 
 def options_of_page() -> tuple[str, list[Entry], list]:
-    place, rows = table(SCRIPT, "The command line", "Option", "What it names", "Values", "Where it isn't given")
+    place, rows = table(SCRIPTS, "Settings", "Option", "What it sets", "Values", "Default")
     names = [in_code(row.cells[0])[0].split(" ")[0].removeprefix("--") for row in rows]
     return place, [Entry(row.place, name) for row, name in zip(rows, names)], rows
 
@@ -67,12 +65,12 @@ def test_table_of_options():
 @pytest.mark.parametrize("command", ["run", "chain"])
 def test_usage(command):
     """The line that shows how the command is called names its options."""
-    text, wanted = read(SCRIPT).split("\n"), options_of_code()[command]
+    text, wanted = read(SCRIPTS).split("\n"), options_of_code()[command]
     line = next((n for n, it in enumerate(text, 1) if it.startswith(f"    bsdudp {command} [")), 0)
     told = re.findall(r"\[--(\w+)", text[line - 1]) if line else []
     if told != wanted:
         about = f"the options of `bsdudp {command}`, in the order of {OPTIONS}"
-        none_of([Fault(f"{SCRIPT}:{line or 1}", about, ", ".join(wanted), ", ".join(told))])
+        none_of([Fault(f"{SCRIPTS}:{line or 1}", about, ", ".join(wanted), ", ".join(told))])
 
 
 def test_values_and_defaults():
@@ -97,7 +95,7 @@ def test_values_and_defaults():
 
 def test_table_of_statuses():
     """Each exit status with each text on standard error that comes with it. No order of them is wrong."""
-    place, rows = table(SCRIPT, "The command line", "Status", "Text on standard error", "When")
+    place, rows = table(SCRIPTS, "The command line of bsdudp", "Status", "Text on standard error", "When")
     prefix = pieces(COMMAND_LINE, r'writeln!\(errors, "(.*?)\{failure\}"\)')[0]
     texts = pieces("crates/script_loop/src/fault.rt", r'#\[error\("([^"]+)"\)\]\s*(\w+)')
     texts += pieces(COMMAND_LINE, r'#\[error\("([^"]+)"\)\]\s*(\w+)')
@@ -117,8 +115,8 @@ def test_table_of_statuses():
 
 @pytest.mark.parametrize("player", BLOCKS)
 def test_forms_of_lines(player):
-    """docs/play.md has the forms of all lines in the order of the table, by which bsdplay's help prints them."""
-    text = part(PLAY, *BLOCKS[player])
-    place = f"{PLAY}:{read(PLAY).partition(text)[0].count(chr(10)) + 1}"
-    entries = [Entry(place, it) for it in pieces(PLAY, r"(?m)^    (.+)$", text)]
+    """The page has the forms of all lines in the order of the table, by which bsdplay's help prints them."""
+    text = part(SCRIPTS, *BLOCKS[player])
+    place = f"{SCRIPTS}:{read(SCRIPTS).partition(text)[0].count(chr(10)) + 1}"
+    entries = [Entry(place, it) for it in pieces(SCRIPTS, r"(?m)^    (.+)$", text)]
     none_of(in_order(place, "the form", entries, forms.forms()[player], FORMS))

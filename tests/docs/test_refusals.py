@@ -1,5 +1,5 @@
-"""The refusals of the socket calls: the tables of docs/script.md and docs/behaviour.md, and their names and numbers on
-the page, in C, in Python and in the player of the portable C."""
+"""The refusals of the socket calls: the tables of docs/behaviour.md, and their names and numbers on the page, in C, in
+Python and in the player of the portable C."""
 import re
 
 import pytest
@@ -7,6 +7,7 @@ import pytest
 from tests.docs.definitions import CALLS, ERRNO, calls_refused, errno_numbers, errno_texts
 from tests.docs.pages import Entry, Fault, in_code, in_order, none_of, part, read, table
 
+ERRORS = ("docs/behaviour.md", "Errors", "Number", "Error", "Calls", "Meaning")
 ORDER = ["socket", "bind", "connect", "sendto", "send", "recvfrom", "setsockopt", "close"]
 # Other files that list each name, and files that list each name with its number.
 NAMES = {
@@ -15,22 +16,22 @@ NAMES = {
 }
 NUMBERS = {
     "capi/include/bsdudp.h": r"BSDUDP_(?P<name>E[A-Z]+) = (?P<number>\d+)",
-    "python/tests/script.py": r'"(?P<name>E[A-Z]+)": (?P<number>\d+),',
+    "tests/python/script.py": r'"(?P<name>E[A-Z]+)": (?P<number>\d+),',
     "python/bsdudp/_library.py": r'(?m)^    (?P<number>\d+): Refusal\("(?P<name>E[A-Z]+)"',
 }
 
 
 def test_table_of_numbers():
-    """docs/script.md has each number with its name, in the order of numbers."""
-    place, rows = table("docs/script.md", "Refusals", "Reply", "When")
+    """Each number with its name, in the order of numbers."""
+    place, rows = table(*ERRORS)
     errnos, numbers = errno_texts(), errno_numbers()
     wanted = [f"error {numbers[it]} {text}" for it in sorted(numbers, key=numbers.__getitem__) for text in errnos[it]]
-    entries = [Entry(row.place, " ".join(in_code(row.cells[0]))) for row in rows]
+    entries = [Entry(row.place, f"error {row.cells[0]} {in_code(row.cells[1])[0]}") for row in rows]
     none_of(in_order(place, "the refusal", entries, wanted, ERRNO))
 
 
 def calls_by_refusal() -> dict[str, set[str]]:
-    """The calls that end with each refusal, as docs/script.md has them: `sendto` apart from `send`."""
+    """The calls that end with each refusal: `sendto` apart from `send`."""
     errnos = errno_texts()
     refused = calls_refused(errnos)
     with_address = set(refused["send"]) & set(refused["connect"]) | set(errnos["IsConnected"])
@@ -41,12 +42,11 @@ def calls_by_refusal() -> dict[str, set[str]]:
 
 
 def test_calls_of_each_refusal():
-    """Each row of docs/script.md names the calls that end with this refusal."""
+    """Each row names the calls that end with this refusal."""
     faults, made = [], calls_by_refusal()
     calls = {*CALLS, "send", "sendto"}
-    for row in table("docs/script.md", "Refusals", "Reply", "When")[1]:
-        text = " ".join(in_code(row.cells[0])).split(" ", 2)[-1]
-        told = set(in_code(row.cells[1])) & calls | ({"send", "sendto"} if "sends:" in row.cells[1] else set())
+    for row in table(*ERRORS)[1]:
+        text, told = in_code(row.cells[1])[0], set(in_code(row.cells[2])) & calls
         if text in made and told != made[text]:
             wanted = ", ".join(sorted(made[text])) or "no call"
             faults.append(Fault(row.place, f"the calls that end with {text}", wanted, ", ".join(sorted(told))))
@@ -55,7 +55,7 @@ def test_calls_of_each_refusal():
 
 def test_refusals_of_each_call():
     """docs/behaviour.md has the refusals of each call in their order."""
-    place, rows = table("docs/behaviour.md", "Socket calls", "Call", "Refusals, in order", "Otherwise")
+    place, rows = table("docs/behaviour.md", "Socket calls", "Call", "Errors, in order", "Otherwise")
     refused = calls_refused(errno_texts())
     entries = [Entry(row.place, call) for row in rows for call in in_code(row.cells[0])]
     faults = in_order(place, "the call", entries, ORDER, "tests/docs/test_refusals.py")
@@ -69,7 +69,7 @@ def test_refusals_of_each_call():
 
 def test_refusals_of_a_send():
     """docs/behaviour.md has the refusals of a send in their order."""
-    place, rows = table("docs/behaviour.md", "A send", "Refusal", "If")
+    place, rows = table("docs/behaviour.md", "A send", "Error", "If")
     told, wanted = [row.cells[0].replace("`", "") for row in rows], calls_refused(errno_texts())["send"]
     if told != wanted:
         none_of([Fault(place, "the refusals of a send, in their order", ", ".join(wanted), ", ".join(told))])

@@ -1,9 +1,9 @@
-"""docs/testing.md: each word by which a row's tests are selected selects some, and each file of tests has a word."""
+"""docs/maintain/testing.md: each word by which a row's tests are selected selects some, and each file of tests has a word."""
 import re
 
 from tests.docs.pages import TOP, Fault, in_code, none_of, read, table
 
-PAGE = "docs/testing.md"
+PAGE = "docs/maintain/testing.md"
 
 
 def words():
@@ -15,12 +15,11 @@ def words():
 
 
 def test_words_select_tests():
-    """As `pytest -k` does: by the names of folders, files and functions, and of scripts of .ci/."""
+    """As `pytest -k` does: by the names of folders, files and functions, and of scripts."""
     names = [str(it.relative_to(TOP)) for it in (TOP / "tests").rglob("test_*.py")]
     text = "".join((TOP / it).read_text(encoding="utf-8") for it in names)
     functions = re.findall(r"(?m)^def (test_\w+)", text)
-    known = names + functions + [it.name for it in (TOP / ".ci").iterdir()]
-    known += [it.name for it in (TOP / "examples/chain").glob("*.txt")]
+    known = names + functions + [it.name for it in (TOP / "examples/chain").glob("*.txt")]
     none_of(
         Fault(place, f"`pytest -k {it}` selects no test")
         for it, place in words().items()
@@ -34,5 +33,5 @@ def test_each_file_has_a_word():
     none_of(
         Fault(f"{path}:1", f"{PAGE} has no row whose word selects this file")
         for path in sorted(str(it.relative_to(TOP)) for it in (TOP / "tests").rglob("test_*.py"))
-        if not path.endswith(("test_testing.py", "test_scripts_of_ci.py")) and not any(it in path for it in known)
+        if not path.endswith("test_testing.py") and not any(it in path for it in known)
     )

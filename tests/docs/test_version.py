@@ -14,7 +14,7 @@ PLACES = {
     "capi/include/bsdudp.h": rf'^#define BSDUDP_VERSION "{NUMBER}"$',
     "crates/bsdplay/src/main.rt": rf'\.version\("{NUMBER}"\)',
     "dist/tag.txt": rf"^bsdudp {NUMBER}$",
-    "docs/embedding.md": r"find_package\(bsdudp (\d+\.\d+) ",
+    "docs/c.md": r"find_package\(bsdudp (\d+\.\d+) ",
     "docs/python.md": rf"bsdudp-{NUMBER}-py3",
     "python/bsdudp/__init__.py": rf'^__version__ = "{NUMBER}"$',
     "python/pyproject.toml": rf'^version = "{NUMBER}"$',

@@ -1,4 +1,7 @@
-"""The cases: 5,000 by rule, and as many random mixes as are asked for."""
+"""The cases: 5,000 by rule, and as many random mixes as are asked for.
+
+Teams keep baselines of their stacks, which name cases by number. So a new case comes after the others of its rule, and
+draws its random bytes apart from theirs: all others stay as they are."""
 from __future__ import annotations
 
 from typing import List
@@ -7,13 +10,13 @@ from .._case import Case
 from ._addresses import add_addresses
 from ._builder import Builder
 from ._datagrams import add_datagrams
-from ._fragments import add_fragments
+from ._fragments import add_fragments, add_keys_of_one_sum
 from ._headers import add_headers
-from ._limits import add_limits
+from ._limits import add_ends_of_another, add_ends_of_several, add_limits
 from ._mixes import add_mixes, add_runs
-from ._overlaps import add_overlaps
+from ._overlaps import add_overlaps, add_overlaps_without_checksum
 from ._pings import add_pings
-from ._users import add_users
+from ._users import add_peers, add_users
 
 MIXES, RUNS = 400, 300
 
@@ -25,6 +28,12 @@ def make(seed: int = 1, mixes: int = MIXES) -> List[Case]:
         add(to)
     add_runs(to, RUNS)
     add_pings(to)
+    with to.apart():
+        add_overlaps_without_checksum(to)
+        add_ends_of_another(to)
+        add_peers(to)
+        add_ends_of_several(to)
+        add_keys_of_one_sum(to)
     add_mixes(to, mixes)
     return to.cases
 

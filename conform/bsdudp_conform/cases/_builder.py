@@ -1,6 +1,7 @@
 """How cases are put together."""
 from __future__ import annotations
 
+import contextlib
 import itertools
 import random
 from collections import Counter
@@ -17,6 +18,7 @@ class Builder:
     """Makes cases by rule and random bytes by a seed: the same seed has the same cases."""
 
     def __init__(self, seed: int) -> None:
+        self.seed = seed
         self.random = random.Random(seed)
         self.cases: List[Case] = []
         self._numbers: "Counter[str]" = Counter()
@@ -32,6 +34,13 @@ class Builder:
     def id(self) -> int:
         """A fresh identification."""
         return next(self._identifications)
+
+    @contextlib.contextmanager
+    def apart(self) -> Iterator[None]:
+        """What is made within has random bytes of its own: all that is made later is as it was without it."""
+        kept, self.random = self.random, random.Random(f"apart {self.seed}")
+        yield
+        self.random = kept
 
     def add(self, rule: str, title: str, steps: Sequence[Given], mtu: int = 1500) -> None:
         """A case. A step may be given as a packet's bytes, or as milliseconds to wait."""

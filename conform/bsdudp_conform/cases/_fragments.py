@@ -4,7 +4,7 @@ from __future__ import annotations
 import itertools
 from typing import Any, Dict, List
 
-from .._addresses import BROADCAST, ONES, PEER2, text_of
+from .._addresses import BROADCAST, ONES, PEER, PEER2, text_of
 from .._packets import DONT_FRAGMENT, MORE, even_cuts, packet, pieces, udp
 from ._builder import Builder, both_ways
 
@@ -172,6 +172,20 @@ def add_split_keys(to: Builder) -> None:
                 [packet(data[:24], flags=MORE, id=id), packet(data[24:], offset=24, id=id ^ 1 << bit)]
             )[how]
             to.add("frag.key", f"halves that differ in bit {bit} of the identification, {way}", made)
+
+
+def add_keys_of_one_sum(to: Builder) -> None:
+    """Halves whose keys differ in two fields, by which neither their sum nor their exclusive or changes."""
+    pairs: Dict[str, List[Fields]] = {
+        "source": [{"source": PEER2}, {"source": PEER}],
+        "protocol": [{"proto": 17}, {"proto": 16}],
+    }
+    for name, (even, odd) in pairs.items():
+        for how in (0, 1):
+            data, id = udp(to.data(40), check=0), to.id & ~1
+            first = packet(data[:24], flags=MORE, id=id, **even)
+            way, made = both_ways([first, packet(data[24:], offset=24, id=id + 1, **odd)])[how]
+            to.add("frag.key", f"halves that differ in the {name} and the identification, with one sum, {way}", made)
 
 
 def add_header_fields(to: Builder) -> None:

@@ -26,6 +26,27 @@ def add_ages(to: Builder) -> None:
     to.add("frag.time.drop", "the second of three each 20 s doesn't keep the first for 140 s", steps)
 
 
+def add_ends_of_another(to: Builder) -> None:
+    """A datagram whose two fragments come while another one's time ends, at each time that stacks are known to take. Of
+    the other the first fragment lacks, so that no ICMP error is due."""
+    for seconds in (15, 30, 60, 120):
+        for how in (0, 1):
+            _, stale = to.halves()
+            way, (one, other) = both_ways(to.halves())[how]
+            steps: List[Given] = [stale, (seconds - 1) * 1000, one, 1900, other]
+            to.add("frag.time.keep", f"another's fragment is {seconds} s old between the two, {way}", steps)
+
+
+def add_ends_of_several(to: Builder) -> None:
+    """Several unfinished datagrams expire at once. Their first fragments lack, so that no ICMP error is due."""
+    for count in (2, 3, 5):
+        for seconds in (125, 300):
+            begun_ones = [to.halves() for _ in range(count)]
+            lasts, firsts = ([it[half] for it in begun_ones] for half in (1, 0))
+            name = f"{count} datagrams, {seconds} s between the last and the first of each"
+            to.add("frag.time.drop", name, [*lasts, seconds * 1000, *firsts])
+
+
 def add_ends_of_time(to: Builder) -> None:
     for name, which, rule in (
         ("the first of two", [0], "icmp.reass"),

@@ -1,7 +1,8 @@
 """Fragments that don't fit one another: overlaps, odd and empty ones, ends that disagree, bytes beyond 65,535."""
 from __future__ import annotations
 
-from typing import List, Tuple
+import itertools
+from typing import List, Optional, Tuple
 
 from .._packets import MORE, even_cuts, packet, pieces, udp
 from ._builder import Builder, both_ways
@@ -26,20 +27,33 @@ Span = Tuple[int, int]
 
 
 def add_overlaps(to: Builder) -> None:
-    for differ in (False, True):
-        for old, new in RELATIONS:
-            for ends_first in (False, True):
-                add_relation(to, old, new, differ, ends_first)
-        for old in spans():
-            for new in spans():
-                add_relation(to, old, new, differ, True)
-    for number in range(200):
-        add_three(to, number)
-    add_known_attacks(to)
+    add_fits(to, None)
+    add_novak(to)
     add_odd(to)
     add_empty(to)
     add_ends(to)
     add_beyond(to)
+
+
+def add_overlaps_without_checksum(to: Builder) -> None:
+    """A checksum hides what became of the bytes: a datagram that was put together wrongly is dropped, as a stack may do
+    with all overlaps."""
+    add_fits(to, 0)
+    add_as_long_as_the_hole(to)
+
+
+def add_fits(to: Builder, check: Optional[int]) -> None:
+    """Overlaps in datagrams with a checksum (None), or without (0)."""
+    for differ in (False, True):
+        for old, new in RELATIONS:
+            for ends_first in (False, True):
+                add_relation(to, old, new, differ, ends_first, check)
+        for old, new in itertools.product(spans(), spans()):
+            if check is None or max(old[0], new[0]) < min(old[1], new[1]):
+                add_relation(to, old, new, differ, True, check)
+    for number in range(200):
+        add_three(to, number, check)
+    add_known_attacks(to, check)
 
 
 def spans() -> List[Span]:
@@ -53,9 +67,23 @@ def swapped(data: bytes) -> bytes:
     return b"".join(data[at + 2 : at + 4] + data[at : at + 2] for at in range(0, whole, 4)) + data[whole:]
 
 
-def add_relation(to: Builder, old: Span, new: Span, differ: bool, ends_first: bool) -> None:
-    base = udp(to.data(56))
-    other = swapped(base) if differ else base
+def rivals(to: Builder, check: Optional[int]) -> Tuple[bytes, bytes]:
+    """A datagram of 64 bytes, and other bytes for its place. Without a checksum each byte of the data differs, and the
+    UDP header is the same."""
+    base = udp(to.data(56), check=check)
+    if check is None:
+        return base, swapped(base)
+    return base, base[:8] + bytes((it + to.random.randrange(1, 256)) % 256 for it in base[8:])
+
+
+def without(check: Optional[int]) -> str:
+    """The end of a case's title."""
+    return "" if check is None else ", no checksum"
+
+
+def add_relation(to: Builder, old: Span, new: Span, differ: bool, ends_first: bool, check: Optional[int]) -> None:
+    base, rival = rivals(to, check)
+    other = rival if differ else base
     id = to.id
 
     def fragment(data: bytes, begin: int, end: int) -> bytes:
@@ -68,13 +96,14 @@ def add_relation(to: Builder, old: Span, new: Span, differ: bool, ends_first: bo
     tail = [fragment(base, begin, end) for begin, end in rest if begin < end]
     steps = tail[::-1] + body if ends_first else body + tail
     rule = "frag.overlap.differ" if differ else "frag.overlap.same"
-    to.add(rule, f"old {old[0]}-{old[1]}, new {new[0]}-{new[1]}, ends {'first' if ends_first else 'last'}", steps)
+    when = "first" if ends_first else "last"
+    to.add(rule, f"old {old[0]}-{old[1]}, new {new[0]}-{new[1]}, ends {when}{without(check)}", steps)
 
 
-def add_three(to: Builder, number: int) -> None:
+def add_three(to: Builder, number: int, check: Optional[int]) -> None:
     """Three random spans over one another, then the ends, all of one datagram or with other bytes."""
-    base = udp(to.data(56))
-    variants = [base, swapped(base)] if number % 2 else [base]
+    base, rival = rivals(to, check)
+    variants = [base, rival] if number % 2 else [base]
     id, picked = to.id, [to.random.choice(spans()) for _ in range(3)]
     body = [packet(to.random.choice(variants)[begin:end], offset=begin, flags=MORE, id=id) for begin, end in picked]
     ends = [
@@ -83,7 +112,8 @@ def add_three(to: Builder, number: int) -> None:
         packet(base[40:], offset=40, id=id),
     ]
     told = ", ".join(f"{begin}-{end}" for begin, end in picked)
-    to.add("frag.overlap.differ" if number % 2 else "frag.overlap.same", f"{told}, then all of it", body + ends)
+    rule = "frag.overlap.differ" if number % 2 else "frag.overlap.same"
+    to.add(rule, f"{told}, then all of it{without(check)}", body + ends)
 
 
 ATTACKS = {
@@ -96,21 +126,24 @@ ATTACKS = {
 }
 
 
-def add_known_attacks(to: Builder) -> None:
-    base = udp(to.data(56))
+def add_known_attacks(to: Builder, check: Optional[int]) -> None:
+    base, rival = rivals(to, check)
     for name, sequence in ATTACKS.items():
         id = to.id
         steps = [
-            packet((swapped(base) if other else base)[begin:end], offset=begin, flags=MORE if end < 64 else 0, id=id)
+            packet((rival if other else base)[begin:end], offset=begin, flags=MORE if end < 64 else 0, id=id)
             for begin, end, other in sequence
         ]
-        to.add("frag.overlap.differ", name, steps)
+        to.add("frag.overlap.differ", f"{name}{without(check)}", steps)
     id = to.id
     to.add(
         "frag.overlap.differ",
-        "teardrop, last inside",
-        [packet(base[:40], flags=MORE, id=id), packet(swapped(base)[24:36], offset=24, id=id)],
+        f"teardrop, last inside{without(check)}",
+        [packet(base[:40], flags=MORE, id=id), packet(rival[24:36], offset=24, id=id)],
     )
+
+
+def add_novak(to: Builder) -> None:
     id = to.id
     head = udp(bytes(88), check=0)[:8]
     spots = ((0, 24), (32, 48), (48, 72), (8, 40), (48, 72), (72, 96))
@@ -124,6 +157,24 @@ def add_known_attacks(to: Builder) -> None:
         for at, (begin, end) in enumerate(spots)
     ]
     to.add("frag.overlap.differ", "six pieces, after Novak's paper on target-based reassembly", novak)
+
+
+HOLES = {
+    "32-48": ((0, 24), (8, 32), (48, 64)),
+    "32-48, the second inside": ((0, 32), (8, 24), (48, 64)),
+    "24-40": ((0, 24), (40, 64), (40, 56)),
+}
+
+
+def add_as_long_as_the_hole(to: Builder) -> None:
+    """As many bytes come as the datagram has, and some of them twice."""
+    for name, spots in HOLES.items():
+        for order in itertools.permutations(spots):
+            id, data = to.id, udp(to.data(56), check=0)
+            flags = [MORE if end < 64 else 0 for _, end in order]
+            steps = [packet(data[a:b], offset=a, flags=flag, id=id) for (a, b), flag in zip(order, flags)]
+            told = ", ".join(f"{begin}-{end}" for begin, end in order)
+            to.add("frag.hole", f"an overlap as long as the hole {name}: {told}, no checksum", steps)
 
 
 def add_odd(to: Builder) -> None:

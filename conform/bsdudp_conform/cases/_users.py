@@ -1,13 +1,14 @@
 """What users do: further sockets, connected ones, and sends."""
 from __future__ import annotations
 
-from typing import List
+from typing import Any, Dict, List
 
-from .._addresses import BROADCAST, HOST, PEER, PEER2
+from .._addresses import BROADCAST, HOST, PEER, PEER2, ZERO_BROADCAST, address
 from .._case import Connect, Open, Send, Step
-from .._packets import packet, pieces, udp
-from ._builder import Builder, Given
+from .._packets import even_cuts, packet, pieces, udp
+from ._builder import Builder, Given, both_ways
 from ._datagrams import data_with_sum_zero
+from ._fragments import PATTERNS, in_pattern
 
 MTUS = (68, 69, 75, 76, 84, 100, 256, 296, 508, 576, 1006, 1280, 1492, 1500)
 OTHER_PORT = 70
@@ -71,6 +72,106 @@ def add_connected(to: Builder) -> None:
     to.add("socket.connected", "connected anew: the old peer isn't", [joined, Connect(0, PEER2, 6), at(to)])
 
 
+def cut(to: Builder, source: int = PEER, sport: int = 5000, dport: int = 7) -> List[bytes]:
+    """Two fragments of a datagram."""
+    return pieces(udp(to.data(40), source=source, sport=sport, dport=dport), [24], source=source, id=to.id)
+
+
+def add_senders(to: Builder) -> None:
+    """Who sent it: alone, and while another's fragments or datagrams come."""
+    ports = (1, 255, 256, 4999, 0x8000, 65535)
+    alone: Dict[str, Dict[str, Any]] = {f"port {port}": {"sport": port} for port in ports}
+    alone.update({"another address": {"source": PEER2}, "another network": {"source": address("192.0.2.9")}})
+    for name, sender in alone.items():
+        to.add("udp.source", name, [at(to, **sender)])
+        for way, made in both_ways(cut(to, **sender)):
+            to.add("udp.source", f"{name}, in fragments, {way}", made)
+    for name, sender in {
+        "port": {"sport": 6001},
+        "address": {"source": PEER2},
+        "port and address": {"sport": 6001, "source": PEER2},
+    }.items():
+        for pattern in PATTERNS:
+            to.add("udp.source", f"another {name}: {pattern}", in_pattern(pattern, cut(to), cut(to, **sender)))
+        one, other = cut(to)
+        to.add("udp.source", f"a whole one of another {name} between two fragments", [one, at(to, **sender), other])
+        to.add("udp.source", f"a whole one of another {name} before two fragments", [at(to, **sender), *cut(to)])
+        to.add("udp.source", f"a whole one of another {name} before a whole one", [at(to, **sender), at(to)])
+
+
+def add_ports_of_fragments(to: Builder) -> None:
+    for pattern in PATTERNS:
+        both = in_pattern(pattern, cut(to), cut(to, dport=OTHER_PORT))
+        to.add("socket.ports", f"fragments for two sockets: {pattern}", [Open(1, OTHER_PORT), *both])
+
+
+def add_strangers(to: Builder) -> None:
+    """Who is nearly the peer."""
+    joined = Connect(0, PEER, 5000)
+    for name, sender in {"another port": {"sport": 5001}, "both": {"source": PEER2, "sport": 5001}}.items():
+        for way, made in both_ways(cut(to, **sender)):
+            to.add("socket.connected", f"a stranger's datagram in fragments: {name}, {way}", [joined, *made])
+    # four at a time, since a host may limit how many errors it sends
+    for first in range(0, 16, 4):
+        near = [at(to, sport=5000 ^ 1 << bit) for bit in range(first, first + 4)]
+        to.add("socket.connected", f"strangers' ports differ in bits {first} to {first + 3}", [joined, *near, at(to)])
+    for first in range(0, 32, 4):
+        others = (PEER ^ 1 << bit for bit in range(first, first + 4))
+        near = [at(to, source=it) for it in others if it != ZERO_BROADCAST]
+        name = f"strangers' addresses differ in bits {first} to {first + 3}"
+        to.add("socket.connected", name, [joined, *near, at(to)])
+
+
+def add_connected_anew(to: Builder) -> None:
+    """Who was heard, or wasn't, before the socket was connected to another peer."""
+    joined, anew = Connect(0, PEER, 5000), Connect(0, PEER2, 6)
+    name = "connected anew: the old peer, heard before, isn't"
+    to.add("socket.connected", name, [joined, at(to), anew, at(to)])
+    to.add("socket.connected", f"{name}, in fragments", [joined, at(to), anew, *cut(to)])
+    heard, then = (at(to, source=PEER2, sport=6) for _ in (0, 1))
+    to.add("socket.connected", "connected anew: the new peer, a stranger before, is heard", [joined, heard, anew, then])
+    one, other = cut(to, source=PEER2, sport=6)
+    name = "connected anew: the new peer's first fragment comes before, its last after"
+    to.add("socket.connected", name, [joined, one, anew, other])
+
+
+def add_sockets_between_fragments(to: Builder) -> None:
+    """A datagram's socket is looked up once the datagram is whole."""
+    for way, (one, other) in both_ways(cut(to, dport=OTHER_PORT)):
+        name = f"a socket is bound between two fragments for its port, {way}"
+        to.add("socket.ports", name, [one, Open(1, OTHER_PORT), other])
+    for way, (one, other) in both_ways(cut(to, source=PEER2)):
+        name = f"a socket is connected between two fragments of a stranger, {way}"
+        to.add("socket.connected", name, [one, Connect(0, PEER, 5000), other])
+
+
+def add_broadcasts(to: Builder) -> None:
+    """A broadcast of a stranger, and broadcasts of more bytes than one buffer may hold for several sockets."""
+    joined, second = Connect(0, PEER, 5000), Open(1, 7)
+    for name, sender in {"another address": {"source": PEER2}, "another port": {"sport": 5001}}.items():
+        stranger = at(to, destination=BROADCAST, **sender)
+        to.add("socket.connected", f"a stranger's broadcast: {name}", [joined, stranger])
+        to.add("socket.connected", f"a stranger's broadcast: {name}; a second socket", [second, joined, stranger])
+    for count in (2, 3):
+        opened = [Open(number, 7) for number in range(1, count)]
+        for size in (200, 500, 1400, 3000):
+            data = udp(to.data(size), destination=BROADCAST)
+            made = pieces(data, even_cuts(len(data), 1480), destination=BROADCAST, id=to.id)
+            to.add("socket.several", f"{count} sockets on the port, a broadcast of {size} bytes", [*opened, *made])
+
+
+def add_sends_of_two(to: Builder) -> None:
+    """Sends by two sockets: the ports are each socket's own, the identifications are the host's."""
+    second = Open(1, OTHER_PORT)
+    for rule, length in (("send.bytes", 10), ("send.cut", 2000)):
+        one, other = (Send(number, PEER, 5000, to.data(length)) for number in (0, 1))
+        to.add(rule, f"{length} bytes by a second socket", [second, other])
+        to.add(rule, f"{length} bytes by each of two sockets, in turn", [second, one, other, one, other])
+    for length in (2000, 4000):
+        one, other = (Send(number, PEER, 5000, to.data(length)) for number in (0, 1))
+        to.add("send.id", f"cut sends of {length} bytes by two sockets, in turn", [second, one, other, one, other])
+
+
 def add_several(to: Builder) -> None:
     second: Step = Open(1, 7)
     to.add("socket.several", "two sockets on the port", [second, at(to)])
@@ -95,6 +196,17 @@ def add_several(to: Builder) -> None:
 
 def sent(to: Builder, length: int, address: int = PEER, port: int = 5000) -> Send:
     return Send(0, address, port, to.data(length))
+
+
+def add_peers(to: Builder) -> None:
+    """Who sent a datagram, and to whom a socket listens."""
+    add_senders(to)
+    add_ports_of_fragments(to)
+    add_strangers(to)
+    add_connected_anew(to)
+    add_sockets_between_fragments(to)
+    add_broadcasts(to)
+    add_sends_of_two(to)
 
 
 def add_sends(to: Builder) -> None:

@@ -1,8 +1,8 @@
 //! Captures of either format, whole. What plays a capture reads classic files, so a pcapng file becomes one: with the
 //! same records and times, and of each frame the packet alone, since the frames may be of several link types.
 use byteorder::{ByteOrder, LittleEndian};
-use capture_file::{Fault, ROOM, Record, Records};
-use pcap::ipv4_packet;
+use capture::pcap::ipv4_packet;
+use capture::{Fault, ROOM, Record, Records};
 use play_pcap::{CaptureFault, read_whole};
 use play_script::Silent;
 use script_loop::{Buffer, Source};

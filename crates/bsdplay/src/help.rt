@@ -7,7 +7,7 @@ const FRONT: &str =
 capture can't be played in; 2 for a wrong command line; 3 without memory; 4 if a
 file can't be read, or writing fails.
 
-Lines, also with a time in front (+0.5s tx); docs/play.md or man bsdplay has more:
+Lines, also with a time in front (+0.5s tx); docs/scripts.md or man bsdplay has more:
 ";
 
 /// Puts the forms of commands after the text, a line for each.
@@ -33,7 +33,7 @@ fn add_forms_of_rx(text: &mut String) -> Result<(), AllocError> {
     Ok(())
 }
 
-/// The statuses, and the forms of all lines, those that docs/play.md has.
+/// The statuses, and the forms of all lines, those that docs/scripts.md has.
 pub(crate) fn lines(alloc: Global) -> Result<String, AllocError> {
     let mut text = String::new(alloc);
     text.push_str(FRONT)?;

@@ -2,11 +2,11 @@
 //! each on a machine of its own.
 #![tactic(auto)]
 
-mod capture;
 mod choice;
 mod folder;
 mod form;
 mod formats;
+mod from_pcap;
 mod grade;
 mod hand_in;
 mod help;
@@ -18,10 +18,10 @@ mod strict;
 mod sweep;
 mod why;
 
-use capture::print_capture;
 use choice::Ahead;
 use clap::{Arg, ArgAction, ArgMatches, Command};
 use form::form_of;
+use from_pcap::print_capture;
 use grade::grade;
 use hand_in::unmarked;
 use help::lines;

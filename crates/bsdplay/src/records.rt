@@ -2,8 +2,8 @@
 ghost use Rattle.std.specs.Prelude.{◌≤◌, length, IfSome};
 
 use crate::why::Choice;
-use capture_file::{Fault, Record, Records};
-use pcap::ipv4_packet;
+use capture::pcap::ipv4_packet;
+use capture::{Fault, Record, Records};
 use play_pcap::Range;
 use play_why::{Addresses, Arrival, Busiest, Judge};
 use script_loop::Source;

@@ -1,9 +1,9 @@
 //! Why the packets of a capture were dropped: the subcommand, its options, and the capture that it opens.
-use crate::capture::{BAD, report};
+use crate::from_pcap::{BAD, report};
 use crate::options::{WHY_OPTIONS, with_options};
 use crate::records::{End, Others, busiest_of, tell_records, tell_totals};
 use crate::{UNREAD, USAGE};
-use capture_file::{Fault, Records, Why};
+use capture::{Fault, Records, Why};
 use clap::{Arg, ArgAction, ArgMatches, Command};
 use play_pcap::{CaptureFault, Range, range_of, read_whole};
 use play_script::Silent;

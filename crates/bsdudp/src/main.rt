@@ -1,12 +1,12 @@
-//! The program: its words and the three standard streams go to `link_script`, which knows what they mean.
+//! The program. It passes its words and the three standard streams to `link_script`, which interprets them.
 #![tactic(auto)]
 
 use link_script::{Silent, program};
 use std::process::ExitCode;
 use std::{env, io};
 
-/// The words that the program was called with, its name first. An error is `OutOfMemory` for want of memory, and
-/// another one where a word isn't UTF-8.
+/// Returns the words of the command line, the program's name first. The error is `OutOfMemory` if memory was lacking,
+/// and another one if a word isn't UTF-8.
 fn words(rt: &HostRuntime) -> io::Result<Vec<String>> {
     Ok(env::args(rt)?.collect(rt.alloc())?)
 }

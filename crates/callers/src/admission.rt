@@ -1,11 +1,12 @@
-//! A buffer for which what waits is given back, if it has to be.
+//! A buffer, for which unfinished datagrams are freed if the pool is empty.
 ghost use Rattle.std.specs.Prelude.{◌≡◌};
 
 use flat_model::{Counters, Why};
 use ledger::{Waiting, reserve};
 use mbuf_chain::{Chain, Pool};
 
-/// A chain of one mbuf. If none is free, all that waits is given back first; if none is free then, that is counted.
+/// Makes a chain of one mbuf. If no mbuf is free, all unfinished datagrams are freed first; if none is free even then,
+/// that is counted.
 pub fn admitted<R: Waiting>(
     pool: &mut Pool,
     waiting: &mut R,
@@ -17,5 +18,5 @@ pub fn admitted<R: Waiting>(
         counters.count_ended(Why::NoBufs);
         return None;
     }
-    pool.new_chain().ok() // it isn't refused: an mbuf is free
+    pool.new_chain().ok() // this can't fail: an mbuf is free
 }

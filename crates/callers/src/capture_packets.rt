@@ -1,5 +1,5 @@
 //! The packets of a capture file.
-use pcap::{ReadError, ipv4_packet, read};
+use capture::pcap::{ReadError, ipv4_packet, read};
 use std::alloc::Global;
 
 /// How many records of a file hold an IPv4 packet. Others hold ARP, say, or were cut short.

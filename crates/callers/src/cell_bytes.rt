@@ -2,7 +2,7 @@
 use raw_cells::{Buffer, Part, Region};
 use std::alloc::{AllocError, Global};
 
-/// Takes memory for 4 mbufs and 1 cluster, and answers what stands in the cluster then: `hi`.
+/// Allocates memory for 4 mbufs and 1 cluster, and returns the bytes in the cluster: `hi`.
 pub fn written(alloc: Global) -> Result<[u8; 2], AllocError> {
     let mut region = Region::new(alloc, 4, 1)?;
     let part = Part {

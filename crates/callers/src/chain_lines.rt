@@ -4,7 +4,7 @@ use mbuf_pool::Sizes;
 use script_loop::RunFault;
 use std::alloc::Global;
 
-/// What is written for two lines: `ok` and `len 2 P2`.
+/// Returns the output for two lines: `ok` and `len 2 P2`.
 pub fn shown(alloc: Global) -> Result<Vec<u8>, RunFault> {
     let sizes = Sizes {
         mbufs: 512,

@@ -1,8 +1,8 @@
-//! A cluster that two hold.
+//! A cluster with two references.
 use mbuf_pool::{BootFault, Sizes, Store};
 use std::alloc::Global;
 
-/// How many of 64 clusters are free once both holders gave theirs back: all.
+/// Returns how many of 64 clusters are free after both references were released: all.
 pub fn free_again(alloc: Global) -> Result<u32, BootFault> {
     let sizes = Sizes {
         mbufs: 512,
@@ -12,7 +12,7 @@ pub fn free_again(alloc: Global) -> Result<u32, BootFault> {
     if let Ok(cluster) = store.get_cluster() {
         store.hold(cluster);
         store.release(cluster);
-        store.release(cluster); // the last one: it's free
+        store.release(cluster); // the last one: the cluster is free
     }
     Ok(store.free_clusters())
 }

@@ -1,4 +1,4 @@
-//! A script with a comment and the replies that are expected.
+//! A script with a comment and an expected reply.
 use flat_model::Config;
 use play_script::{Form, Style, play};
 use std::alloc::Global;
@@ -13,7 +13,7 @@ const HOST: Config = Config {
     first_id: 1,
 };
 
-/// Whether all that the script expects comes.
+/// Returns whether all expectations of the script are met.
 pub fn holds(alloc: Global, script: &[u8]) -> bool {
     let style = Style {
         form: Form::Quiet,

@@ -11,7 +11,7 @@ const HOST: Config = Config {
     first_id: 1,
 };
 
-/// How often a wrong header checksum was counted after one packet that had one: 1.
+/// Returns how often a wrong header checksum was counted after one such packet: 1.
 pub fn wrong_checksums() -> Result<u64, ConfigFault> {
     HOST.check()?;
     let mut counters = Counters::none();

@@ -1,9 +1,9 @@
-//! What the definitions say of one datagram.
+//! What the definitions say about one datagram.
 use flat_plain::{checksum, cuts, need};
 use std::alloc::{AllocError, Global};
 
-/// Of a datagram of 3,000 bytes on a link of 1,536: how many mbufs, clusters and packets it takes, 6, 2 and 2. With
-/// them the checksum of two bytes.
+/// For a datagram of 3,000 bytes on a link with an MTU of 1,536: how many mbufs, clusters and packets it takes (6, 2
+/// and 2). Also returns the checksum of two bytes.
 pub fn sizes(alloc: Global) -> Result<(u64, u64, usize, u16), AllocError> {
     let buffers = need(alloc, 3000, 1536)?;
     let packets = cuts(alloc, 3008, 1536)?;

@@ -16,8 +16,8 @@ const HOST: Config = Config {
 /// The longest datagram.
 const LONGEST: usize = 9216;
 
-/// Opens a socket on port 7, hands the stack a packet, and sends back the datagram that came of it, if one did. What
-/// stands after the packet's own length counts for nothing. A call that is refused ends this one, by `?`.
+/// Opens a socket on port 7, passes a packet to the stack, and sends the datagram in it back, if there is one. Bytes
+/// after the packet's own length are ignored. If a call fails, this function returns its error, by `?`.
 fn serve(stack: &mut Stack, packet: &[u8; 1500]) -> Result<usize, Errno> {
     let fd = stack.socket()?;
     stack.bind(fd, Addr { ip: 0, port: 7 })?;
@@ -27,11 +27,11 @@ fn serve(stack: &mut Stack, packet: &[u8; 1500]) -> Result<usize, Errno> {
     stack.sendto(fd, Some(sender), &room[..len])
 }
 
-/// Boots the host, has it serve a packet, and puts the first packet that it gives the link into `link`. The answer is
-/// how many bytes that has.
+/// Boots the host, lets it serve a packet, and copies the first packet that it sends into `link`. Returns the length of
+/// that packet.
 ///
-/// A stack must be spent, by `end`. So no `?` stands between `boot` and `end`: what may be refused stands in a function
-/// of its own, which borrows the stack.
+/// A stack must be consumed by `end`. So there is no `?` between `boot` and `end`: the calls that may fail are in a
+/// function of their own, which borrows the stack.
 pub fn answer(
     alloc: Global,
     packet: &[u8; 1500],

@@ -13,7 +13,7 @@ const HOST: Config = Config {
     first_id: 1,
 };
 
-/// Its hardware address is 02:00:00:00:00:01, and 10.0.0.2 is the way to all other networks.
+/// Its hardware address is 02:00:00:00:00:01, and 10.0.0.2 is the gateway to all other networks.
 const LINK: Link = Link {
     mac: Mac {
         high: 0x0200,
@@ -24,7 +24,7 @@ const LINK: Link = Link {
     probe: false,
 };
 
-/// Opens a socket on port 7, hands the host a frame, and sends back the datagram that came of it, if one did.
+/// Opens a socket on port 7, passes a frame to the host, and sends the datagram in it back, if there is one.
 fn serve(host: &mut EtherHost, frame: &[u8; 60]) -> Result<usize, Errno> {
     let stack = host.stack();
     let fd = stack.socket()?;
@@ -35,8 +35,8 @@ fn serve(host: &mut EtherHost, frame: &[u8; 60]) -> Result<usize, Errno> {
     host.stack().sendto(fd, Some(sender), &room[..len])
 }
 
-/// Boots the host, has it serve a frame, and puts the next frame for the link into `link`. The answer is how many bytes
-/// that has. It's the announcement of the host's address: the others follow by further calls of `transmit`.
+/// Boots the host, lets it serve a frame, and copies the next frame for the link into `link`. Returns the length of
+/// that frame. It is the announcement of the host's address: further calls of `transmit` return the others.
 pub fn first_frame(
     alloc: Global,
     frame: &[u8; 60],

@@ -10,7 +10,7 @@ use ip_reass::{Arrival, Reass};
 use mbuf_chain::{Chain, Pool};
 use params::{IP_HEADER, IP_MAX_PACKET};
 
-/// Whether a packet, of which `read_head` told the header, makes a datagram whole. That datagram is freed.
+/// Returns whether a packet, whose header `read_head` returned, completes a datagram. That datagram is freed.
 pub fn is_whole(
     reass: &mut Reass,
     pool: &mut Pool,
@@ -27,7 +27,7 @@ pub fn is_whole(
 {
     match reass.arrive(pool, counters, chain, head) {
         Arrival::Whole(chain, _) => {
-            pool.free_chain(chain); // or handed to UDP, with the header of the whole
+            pool.free_chain(chain); // or passed to UDP, with the header of the whole
             true
         }
         Arrival::Kept => false,

@@ -3,8 +3,8 @@ use play_grade::{Marker, Verdict};
 use play_script::{DEFAULTS, Form, Style, play};
 use std::alloc::{AllocError, Global};
 
-/// Whether a hand-in passes: it's played on a machine of its own, and has the answers of the key. What is printed of it
-/// is let go.
+/// Returns whether a hand-in passes: it is played on a machine of its own, and has the answers of the key. The output
+/// is discarded.
 pub fn passes(alloc: Global, key: &[u8], hand_in: &[u8]) -> Result<bool, AllocError> {
     let mut marker = Marker::new(alloc)?;
     let style = Style {

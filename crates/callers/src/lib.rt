@@ -1,4 +1,4 @@
-//! A caller of each library: whole programs in small, which the READMEs of the crates show.
+//! An example caller of each library: small whole programs, which the READMEs of the crates show.
 #![tactic(auto)]
 
 pub mod admission;

@@ -1,8 +1,8 @@
-//! A script whose lines are answered by themselves.
+//! A script in which the reply to a line is the line itself.
 use script_loop::{Answers, Buffer, RunFault, serve_script};
 use std::alloc::Global;
 
-/// Answers each line of up to 100 bytes by itself, and others by an empty line.
+/// Replies to a line of up to 100 bytes with the line itself, and to a longer one with an empty line.
 #[derive(Drop)]
 pub struct Repeater;
 
@@ -23,7 +23,7 @@ impl Answers<131_072> for Repeater {
     }
 }
 
-/// What is written for a script.
+/// Returns the output for a script.
 pub fn echo(alloc: Global, script: &[u8]) -> Result<Vec<u8>, RunFault> {
     let mut reader = script;
     let mut written = Vec::new(alloc);

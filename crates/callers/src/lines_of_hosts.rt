@@ -3,7 +3,7 @@ use play_script::{Form, Style};
 use play_wire::{Nowhere, Start, play_hosts};
 use std::alloc::Global;
 
-/// A datagram from a to b, and what is expected of it.
+/// A datagram from a to b, and its expectation.
 const SCRIPT: &[u8] = b"host a --addr 10.0.0.1
 host b --addr 10.0.0.2
 wire a b
@@ -15,7 +15,7 @@ carry
 b: recvfrom 3 100 => from 10.0.0.1 _ \"hi\"
 ";
 
-/// Whether all that the script expects comes.
+/// Returns whether all expectations of the script are met.
 pub fn arrives(alloc: Global) -> bool {
     let style = Style {
         form: Form::Quiet,

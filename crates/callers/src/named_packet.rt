@@ -1,10 +1,10 @@
-//! The packet that a line names.
+//! The packet that a line describes.
 use play_line::{LONGEST, Slip};
 use play_packet::{LineReader, PACKET};
 use script_loop::Buffer;
 use std::alloc::{AllocError, Global};
 
-/// How many bytes the packet has that a line names, 0 if it names none, or what is wrong with the line.
+/// Returns the length of the packet that a line describes, 0 if it describes none, or the error in the line.
 pub fn named_len(alloc: Global, line: &[u8]) -> Result<Result<usize, Slip>, AllocError> {
     let mut reader = LineReader::new(alloc)?;
     let mut words: Buffer<LONGEST> = Buffer::new(alloc)?;

@@ -1,4 +1,4 @@
-//! The machine that a line of settings asks for.
+//! The configuration that a line of settings requests.
 ghost use Rattle.std.specs.Prelude.{◌≡◌, length};
 ghost use Rattle.params.specs.declared.TheConstants.{IP_MAX_PACKET};
 
@@ -15,8 +15,8 @@ const HOST: Config = Config {
     first_id: 1,
 };
 
-/// The configuration that a line's settings make of a host, what is wrong with them, or `None` if it has none. The room
-/// has 65,535 bytes.
+/// Applies a line's settings to the configuration of a host. Returns the new configuration, the error in the settings,
+/// or `None` if the line has no settings. `room` has 65,535 bytes.
 pub fn configured(line: &[u8], room: &mut [u8]) -> Option<Result<Config, SettingFault>>
     requires { length room.old ≡ IP_MAX_PACKET }
 {

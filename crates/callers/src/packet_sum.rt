@@ -4,7 +4,7 @@ use in_cksum::{Sum, cksum_chain};
 use mbuf_chain::Pool;
 use mbuf_pool::NoBufs;
 
-/// The checksum of what stands behind a packet's 20 bytes of header, over these words of a pseudo header.
+/// Returns the checksum of the bytes after a packet's 20 bytes of header, including these words of a pseudo header.
 #[tactic(auto, using(chain_ops::proofs::Laws::Makes::live_steps))]
 pub fn checksum(pool: &mut Pool, packet: &[u8; 48], words: u64) -> Result<u16, NoBufs> {
     let chain = from_wire(pool, packet)?;

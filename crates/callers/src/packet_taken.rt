@@ -6,7 +6,8 @@ use net_stack::Stack;
 use request::{Reply, Request};
 use stack_call::call;
 
-/// Lets the link take the oldest packet, into the room, and answers how many bytes it has. `None` if no packet waits.
+/// Lets the link take the oldest packet into `room`, and returns its length. Returns `None` if the output queue is
+/// empty.
 pub fn taken_len(stack: &mut Stack, room: &mut [u8]) -> Option<usize>
     requires { length room.old ≡ IP_MAX_PACKET }
 {

@@ -1,4 +1,4 @@
-//! A line's report as an object of JSON, and a packet's headers in words.
+//! The output for a line as a JSON object, and the description of a packet's headers.
 ghost use Rattle.std.specs.Prelude.{◌≡◌, [], false, IfOk, None, codes};
 ghost use Rattle.play_text.specs.Texts.{outcome_object};
 
@@ -6,7 +6,7 @@ use play_text::{Form, Outcome, put_outcome, put_packet};
 use script_loop::Buffer;
 use std::alloc::{AllocError, Global};
 
-/// The text for a line 7 that has this reply.
+/// Returns the text for a line 7 with this reply.
 pub fn line_7(alloc: Global, line: &[u8; 6], reply: &[u8; 2]) -> Result<Buffer<512>, AllocError>
     ensures { IfOk result (λ text. text ≡ outcome_object (codes "script.txt") 7 line.now None false reply.now []) }
 {
@@ -25,7 +25,7 @@ pub fn line_7(alloc: Global, line: &[u8; 6], reply: &[u8; 2]) -> Result<Buffer<5
     Ok(text)
 }
 
-/// How many bytes the words of a packet have. `None` of more bytes than a packet has.
+/// Returns the length of a packet's description. Returns `None` for more bytes than a packet can have.
 pub fn words_len(alloc: Global, packet: &[u8]) -> Result<Option<usize>, AllocError> {
     if packet.len() > 65_535 {
         return Ok(None);

@@ -8,7 +8,7 @@ use flat_model::Addr;
 use mbuf_chain::{Chain, Pool};
 use sockbuf::SockBuf;
 
-/// Whether a datagram finds room in a queue. One that doesn't is freed.
+/// Returns whether a datagram fits into a queue. A datagram that doesn't is freed.
 pub fn is_queued(pool: &mut Pool, queue: &mut SockBuf, sender: Addr, chain: Chain) -> bool
     requires ready { IsSockBuf pool.old queue.old }
     requires live { IsLive pool.old chain }
@@ -23,7 +23,7 @@ pub fn is_queued(pool: &mut Pool, queue: &mut SockBuf, sender: Addr, chain: Chai
     }
 }
 
-/// Who sent the oldest datagram, which is freed.
+/// Returns the sender of the oldest datagram, which is freed.
 pub fn oldest(pool: &mut Pool, queue: &mut SockBuf) -> Option<Addr>
     requires { IsSockBuf pool.old queue.old }
 {

@@ -6,7 +6,7 @@ ghost use Rattle.mbuf_chain.specs.Steps.{one_mbuf};
 use mbuf_chain::{Chain, Pool};
 use mbuf_pool::NoBufs;
 
-/// A chain of one mbuf that has these bytes in a cluster.
+/// Makes a chain of one mbuf with these bytes in a cluster.
 #[tactic(auto, using(mbuf_chain::proofs::Laws::Maps::map_steps))]
 fn filled(pool: &mut Pool, bytes: &[u8; 2]) -> Result<Chain, NoBufs>
     ensures ok { IfOk result (λ c. (e : Entry) × Adds pool.old pool.new c (one_mbuf true e c)) }
@@ -18,8 +18,8 @@ fn filled(pool: &mut Pool, bytes: &[u8; 2]) -> Result<Chain, NoBufs>
     Ok(chain)
 }
 
-/// Makes a second chain that shows what the first one has in its cluster, and frees both. The answer is how many bytes
-/// the second one had: 2.
+/// Makes a second chain that shares the bytes of the first one's cluster, and frees both. Returns how many bytes the
+/// second one had: 2.
 #[tactic(auto, using(mbuf_chain::proofs::Laws::Maps::map_steps))]
 pub fn shown_twice(pool: &mut Pool) -> Result<u32, NoBufs> {
     let chain = filled(pool, b"hi")?;

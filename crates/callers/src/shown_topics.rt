@@ -1,10 +1,11 @@
-//! What a stack has in hand, in words.
+//! The state of a stack, in words.
 use net_stack::Stack;
 use play_show::{SHOWN, tell_topic, topic_of};
 use script_loop::Buffer;
 use std::alloc::{AllocError, Global};
 
-/// How many bytes are told for a line as `show pool`, with the lines below it. `None` if it asks for another thing.
+/// Returns the length of the output for a line such as `show pool`, with the lines below it. Returns `None` if the line
+/// requests something different.
 pub fn told_len(alloc: Global, stack: &Stack, line: &[u8]) -> Result<Option<usize>, AllocError> {
     let Some(topic) = topic_of(line) else {
         return Ok(None);

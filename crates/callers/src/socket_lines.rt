@@ -14,7 +14,7 @@ const HOST: Config = Config {
     first_id: 1,
 };
 
-/// What is written for two lines: `ok 3` and `ok`.
+/// Returns the output for two lines: `ok 3` and `ok`.
 pub fn answered(alloc: Global) -> Result<Vec<u8>, RunFault> {
     let mut reader = b"socket\nbind 3 0.0.0.0 7\n".as_slice();
     let mut written = Vec::new(alloc);

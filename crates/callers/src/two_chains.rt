@@ -3,7 +3,7 @@ use chain_ops::{from_user, from_wire, m_cat, m_prepend};
 use mbuf_chain::{Chain, Pool};
 use mbuf_pool::NoBufs;
 
-/// A user's bytes behind room for a header, which is filled with zeros.
+/// Makes a chain with a user's bytes after space for a header, which is filled with zeros.
 #[tactic(auto, using(chain_ops::proofs::Laws::Makes::live_steps))]
 pub fn headed(pool: &mut Pool, bytes: &[u8; 100]) -> Result<Chain, NoBufs> {
     let mut chain = from_user(pool, bytes)?;
@@ -14,7 +14,7 @@ pub fn headed(pool: &mut Pool, bytes: &[u8; 100]) -> Result<Chain, NoBufs> {
     Ok(chain)
 }
 
-/// How many bytes two chains have once the second is linked behind the first: 128.
+/// Returns how many bytes two chains have after the second is linked to the end of the first: 128.
 #[tactic(auto, using(chain_ops::proofs::Laws::Makes::live_steps))]
 pub fn joined(pool: &mut Pool) -> Result<u32, NoBufs> {
     let first = from_wire(pool, &[1; 100])?;

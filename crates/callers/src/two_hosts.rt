@@ -23,8 +23,8 @@ const SECOND: Config = Config {
     first_id: 1,
 };
 
-/// Sends bytes from the first host to port 7 of the second, and carries what waits. The answer is how many bytes came;
-/// they stand in front of the room. `None` if a host is missing, or a call is refused.
+/// Sends bytes from the first host to port 7 of the second, and delivers the packets. Returns how many bytes arrived;
+/// they are at the front of `room`. Returns `None` if a host is missing, or a call fails.
 fn send(segment: &mut Segment, bytes: &[u8], room: &mut [u8]) -> Option<usize> {
     let second = segment.stack(1)?;
     let hears = second.socket().ok()?;
@@ -41,8 +41,8 @@ fn send(segment: &mut Segment, bytes: &[u8], room: &mut [u8]) -> Option<usize> {
     Some(len)
 }
 
-/// Joins both hosts, sends the bytes, and ends the segment. A segment must be spent, by `end`, so what may be refused
-/// stands in a function of its own, which borrows it.
+/// Joins both hosts, sends the bytes, and ends the segment. A segment must be consumed by `end`, so the calls that may
+/// fail are in a function of their own, which borrows it.
 pub fn exchange(alloc: Global, bytes: &[u8], room: &mut [u8]) -> Option<usize> {
     let mut segment = Segment::new(alloc, 100).ok()?;
     let joined = segment.join(alloc, FIRST).is_ok() && segment.join(alloc, SECOND).is_ok();

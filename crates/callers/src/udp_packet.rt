@@ -12,7 +12,7 @@ use params::{IP_MAX_PACKET, IP_UDP_HEADERS};
 use pcb_table::Pcbs;
 use udp::{Outcome, build, input};
 
-/// The packet of 100 bytes of data from port 1024 of 10.0.0.1 to port 7 of 10.0.0.2, without its IP header.
+/// Builds the packet of 100 bytes of data from port 1024 of 10.0.0.1 to port 7 of 10.0.0.2, without its IP header.
 #[tactic(auto, using(chain_ops::proofs::Laws::Makes::live_steps))]
 pub fn datagram(pool: &mut Pool, data: &[u8; 100]) -> Result<Option<[u8; 108]>, NoBufs> {
     let mut packet = from_user(pool, data)?;
@@ -23,7 +23,7 @@ pub fn datagram(pool: &mut Pool, data: &[u8; 100]) -> Result<Option<[u8; 108]>, 
     let first = pool.first(&packet);
     let segment = pool.segment(&packet, first);
     let len = pool.len(&packet);
-    // `build` writes into the first mbuf, so that has to be a plain one with all headers.
+    // `build` writes into the first mbuf, so that must be a plain mbuf with all headers.
     let is_plain = segment.cluster.is_none() && segment.len >= IP_UDP_HEADERS;
     if !is_plain || len != 128 {
         pool.free_chain(packet);
@@ -46,12 +46,13 @@ pub fn datagram(pool: &mut Pool, data: &[u8; 100]) -> Result<Option<[u8; 108]>, 
     Ok(Some(bytes))
 }
 
-/// Who sent a datagram that came without its IP header, which said `head`; or why it's dropped.
+/// Returns the sender of a datagram that arrived without its IP header, whose fields are in `head`; or why it is
+/// dropped.
 pub fn sender_of(pool: &mut Pool, chain: Chain, head: IpHead, pcbs: &mut Pcbs) -> Result<Addr, Why>
     requires live { IsLive pool.old chain }
     requires most { length (string (chain_of pool.old chain)) ≤ IP_MAX_PACKET }
 {
-    let mut to = ArrayVec::new(); // one serves for all datagrams
+    let mut to = ArrayVec::new(); // one array is used for all datagrams
     match input(pool, chain, head, pcbs, &mut to) {
         Outcome::Deliver { from, chain } => {
             pool.free_chain(chain); // or queued, for each of `to`

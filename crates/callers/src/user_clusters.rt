@@ -1,7 +1,7 @@
 //! How many clusters a user's bytes go into.
 use params::{MCLBYTES, MINCLSIZE};
 
-/// So many, if they are `len` bytes.
+/// Returns their number for `len` bytes.
 pub fn clusters_for(len: u32) -> u32 {
     if len >= MINCLSIZE {
         len.div_ceil(MCLBYTES)

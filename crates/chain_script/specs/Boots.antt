@@ -1,11 +1,11 @@
--- Which sizes a pool is booted with (this project's own).
+-- The sizes with which a pool can be booted (this project's own).
 use Rattle.std.specs.Prelude.{Result, Ok, Err}
 use Rattle.mbuf_pool.specs.Store.{IsBad}
 use Rattle.mbuf_pool.specs.declared.sizes.Sizes.{Sizes}
 use Rattle.script_loop.specs.declared.fault.RunFault.{RunFault}
 use Rattle.script_loop.specs.declared.fault.RunFault.TheVariants.{Read, Write, Memory, TooManyLines, BadSizes, BadConfig}
 
--- sizes that no pool has are refused, before anything else is tried
+-- invalid sizes are refused before any other test
 abbrev pub BootsChains : Sizes → Result Unit RunFault → Type 0
 BootsChains z (Err BadSizes) = IsBad z
 BootsChains z (Err BadConfig) = ⊥

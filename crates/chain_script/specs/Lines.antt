@@ -1,4 +1,4 @@
--- The lines of the chain script, and what each asks for (this project's own).
+-- The lines of the chain script, and the request of each (this project's own).
 use Rattle.std.specs.Prelude.{◌≡◌, ℕ, suc, ℤ, pos, negsuc, ◌-◌, ◌≤◌, List, [], ◌∷◌, ◌++◌, length, codes, decimal}
 use Rattle.params.specs.declared.TheConstants.{IP_MAX_PACKET, LONGEST_REQUEST}
 use Rattle.flat_model.specs.Scripts.Grammar.{words, IsNumber, IsHex}
@@ -6,7 +6,7 @@ use Rattle.chain_script.specs.declared.caller.TheConstants.{SLOTS}
 use Rattle.chain_ops.specs.declared.copym.Extent.{Extent}
 use Rattle.chain_ops.specs.declared.copym.Extent.TheVariants.{All, Part}
 
--- what a line asks for; a slot is a number of 0 to 63
+-- the request of a line; a slot is a number of 0 to 63
 pub data Request : Type 0 where
   User : (slot : ℕ) (bytes : List ℕ) → Request
   Wire : (slot : ℕ) (bytes : List ℕ) → Request
@@ -28,7 +28,7 @@ IsSlot word slot = IsNumber (SLOTS - 1) word slot
 abbrev pub IsOffset : List ℕ → ℕ → Type 0
 IsOffset word n = IsNumber IP_MAX_PACKET word n
 
--- a number with a `-` in front where it's below 0
+-- a number, with a leading `-` if it is below 0
 abbrev pub IsSigned : List ℕ → ℤ → Type 0
 IsSigned word (pos n) = IsOffset word n
 IsSigned word (negsuc n) = (suc n ≤ IP_MAX_PACKET) × (word ≡ codes "-" ++ decimal (suc n))
@@ -54,7 +54,7 @@ abbrev pub IsExtentWords : List (List ℕ) → Extent → Type 0
 IsExtentWords args All = args ≡ codes "all" ∷ []
 IsExtentWords args (Part off len) = (o l : List ℕ) × (args ≡ o ∷ l ∷ []) × IsOffset o off × IsOffset l len
 
--- the words after that one
+-- the words after the first
 abbrev pub HasWords : Request → List (List ℕ) → Type 0
 HasWords (User slot bytes) args = (s h : List ℕ) × (args ≡ s ∷ h ∷ []) × IsSlot s slot × IsHex h bytes
 HasWords (Wire slot bytes) args = (s h : List ℕ) × (args ≡ s ∷ h ∷ []) × IsSlot s slot × IsHex h bytes
@@ -75,7 +75,7 @@ HasWords (Show slot) args = (s : List ℕ) × (args ≡ s ∷ []) × IsSlot s sl
 HasWords (Free slot) args = (s : List ℕ) × (args ≡ s ∷ []) × IsSlot s slot
 HasWords Ask_usage args = args ≡ []
 
--- the line asks for the request
+-- the line makes the request
 pub record IsRequest (line : List ℕ) (request : Request) : Type 0 where
   pub short : length line ≤ LONGEST_REQUEST
   pub args : List (List ℕ)

@@ -16,7 +16,7 @@ use Rattle.chain_ops.specs.Writes.{is_writable, copyback_need}
 use Rattle.chain_script.specs.declared.caller.TheConstants.{SLOTS}
 use Rattle.chain_script.specs.Lines.{Request, User, Wire, Copy, Prepend, Pull_up, Adjust, Split, Join, Write_over, Read_out, Show, Free, Ask_usage}
 
--- a chain in a slot; it's in no train
+-- a chain in a slot; it is in no train
 pub record Slot : Type 0 where
   pub header : Bool
   pub entries : List Entry
@@ -48,7 +48,7 @@ is_headed (Some s) = s.header
 abbrev pub header_at : Machine → ℕ → Bool
 header_at b i = is_headed (slot_at b i)
 
--- the chain in the words of `chain_ops`
+-- the chain in the terms of `chain_ops`
 abbrev pub view_at : Machine → ℕ → ChainView
 view_at b i = record { front = alone (header_at b i); entries = entries_at b i; cells = [] }
 
@@ -71,14 +71,14 @@ times_referred b c = sum_by (λ s. count_by (refers c) (entries_in s)) b.slots
 abbrev pub clusters_free : Machine → ℕ
 clusters_free b = count_by (λ c. times_referred b c == 0) (range_with_len 0 b.clusters)
 
--- so many mbufs and clusters aren't free
+-- fewer mbufs or clusters than this are free
 abbrev pub lacks : Machine → ℕ → ℕ → Bool
 lacks b mbufs clusters = nat_lt b.mbufs (mbufs_held b + mbufs) || nat_lt (clusters_free b) clusters
 
 abbrev pub lacks_rooms : Machine → List Room → Bool
 lacks_rooms b rooms = lacks b (length rooms) (count_by is_cluster rooms)
 
--- these clusters are free ones, each once
+-- these clusters are free, each listed once
 pub record AreFreeIn (b : Machine) (cs : List ℕ) : Type 0 where
   pub exist : AllByRecursion (λ c. c < b.clusters) cs
   pub free : AllByRecursion (λ c. times_referred b c ≡ 0) cs
@@ -97,11 +97,11 @@ slots_usage b = record {
   most = fold max 0 (counts_of_clusters b);
 }
 
--- ---- the faults, in their order
+-- ---- the faults, in order
 abbrev pub is_held : Machine → ℕ → Bool
 is_held b i = is_some (slot_at b i)
 
--- the slots are as they must be
+-- the slots are as the request needs them
 abbrev pub has_slots : Machine → Request → Bool
 has_slots b (User slot bytes) = not (is_held b slot)
 has_slots b (Wire slot bytes) = not (is_held b slot)
@@ -121,7 +121,7 @@ abbrev pub is_range : Extent → ℕ → Bool
 is_range All n = true
 is_range (Part off len) n = nat_lt 0 len && nat_le (off + len) n
 
--- its condition holds
+-- the condition of the request holds
 abbrev pub is_in_range : Machine → Request → Bool
 is_in_range b (Copy to slot extent) = is_range extent (length_at b slot)
 is_in_range b (Prepend slot bytes) =

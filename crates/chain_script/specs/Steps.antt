@@ -1,4 +1,4 @@
--- What the machine of the chain script answers, and the lines that its answers are printed as (this project's own).
+-- The replies of the machine of the chain script, and their text (this project's own).
 use Rattle.std.specs.Prelude.{◌≡◌, ℕ, Bool, true, false, not, List, [], ◌∷◌, ◌++◌, length, take, drop, map, flat_map, count_by, codes, decimal, Option, Some, None, if◌then◌else◌}
 use Rattle.params.specs.declared.TheConstants.{CLUSTER_LEADING_SPACE}
 use Rattle.flat_model.specs.Amounts.Layout.{user, wire, is_cluster}
@@ -16,7 +16,7 @@ use Rattle.chain_ops.specs.Writes.{copied_back}
 use Rattle.chain_script.specs.Lines.{Request, IsRequest, User, Wire, Copy, Prepend, Pull_up, Adjust, Split, Join, Write_over, Read_out, Show, Free, Ask_usage}
 use Rattle.chain_script.specs.Machines.{Machine, with_slot, emptied, entries_at, header_at, view_at, length_at, times_referred, AreFreeIn, slots_usage, has_slots, is_in_range, hits_shared, is_too_long, is_too_short, lacks_buffers}
 
--- an mbuf: its length, and where it has a cluster the count of that
+-- an mbuf: its length, and the reference count of its cluster if it has one
 pub record Shape : Type 0 where
   pub size : ℕ
   pub count : Option ℕ
@@ -38,7 +38,7 @@ abbrev pub first_true : List (Bool × ChainReply) → Option ChainReply
 first_true [] = None
 first_true (test ∷ tests) = if test.0 then Some test.1 else first_true tests
 
--- the first fault that fits
+-- the first fault that applies
 abbrev pub request_fault : Machine → Request → Option ChainReply
 request_fault b request = first_true (
     (not (has_slots b request), Wrong_chain)
@@ -56,11 +56,11 @@ count_in counts (Some c) = Some (counts c)
 abbrev pub shape_of : (ℕ → ℕ) → Entry → Shape
 shape_of counts e = record { size = length e.bytes; count = count_in counts e.cluster }
 
--- the shapes of these entries, where clusters have these counts
+-- the shapes of these entries, if the clusters have these counts
 abbrev pub shapes_of : (ℕ → ℕ) → List Entry → List Shape
 shapes_of counts es = map (shape_of counts) es
 
--- the request is done; which free clusters are taken isn't said
+-- the request is carried out; the choice of free clusters is unspecified
 abbrev pub DoesRequest : Machine → Request → ChainReply → Machine → Type 0
 DoesRequest b (User slot bytes) reply new =
     (reply ≡ Ready) × (cs : List ℕ) × AreFreeIn b cs × (length cs ≡ count_by is_cluster (user (length bytes)))
@@ -98,7 +98,7 @@ abbrev pub DoesUnless : Option ChainReply → Machine → Request → ChainReply
 DoesUnless None b request reply new = DoesRequest b request reply new
 DoesUnless (Some fault) b request reply new = (reply ≡ fault) × (new ≡ b)
 
--- from old the machine may answer a request so and go on to new; a fault changes nothing
+-- from old the machine may give this reply to a request and go on to new; a fault changes nothing
 abbrev pub ChainStep : Machine → Request → ChainReply → Machine → Type 0
 ChainStep old request reply new = DoesUnless (request_fault old request) old request reply new
 
@@ -122,7 +122,7 @@ chain_reply_text Too_long = codes "toolong"
 chain_reply_text Too_short = codes "tooshort"
 chain_reply_text No_buffers = codes "nobufs"
 
--- what the loop of scripts wants: the text that a line may get on the way from old to new
+-- as the script loop needs it: the text that a line may get on the way from old to new
 abbrev pub AnswersLine : Machine → List ℕ → Option ChainReply → Machine → Type 0
 AnswersLine old line (Some reply) new = (request : Request) × IsRequest line request × ChainStep old request reply new
 AnswersLine old line None new = ((request : Request) → ¬ IsRequest line request) × (new ≡ old)

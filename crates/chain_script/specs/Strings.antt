@@ -1,4 +1,4 @@
--- The machine of the chain script by the strings of its slots alone (this project's own): what its answers say of
+-- The machine of the chain script reduced to the strings of its slots (this project's own): what its replies say about
 -- bytes, whatever the layouts are.
 use Rattle.std.specs.Prelude.{◌≡◌, ℕ, ◌+◌, ◌==◌, ◌⊎◌, Bool, true, false, not, ◌&&◌, nat_lt, nat_le, List, [], ◌∷◌, ◌++◌, length, take, drop, map, is_some, unwrap_or, Option, Some, None, slice_set, slice_index_or}
 use Rattle.params.specs.declared.TheConstants.{MHLEN, IP_MAX_PACKET}
@@ -22,14 +22,14 @@ strings_of b = map string_in b.slots
 abbrev pub string_at : List (Option (List ℕ)) → ℕ → Option (List ℕ)
 string_at ss i = slice_index_or ss i None
 
--- no bytes where the slot is empty
+-- no bytes if the slot is empty
 abbrev pub bytes_at : List (Option (List ℕ)) → ℕ → List ℕ
 bytes_at ss i = unwrap_or (string_at ss i) []
 
 abbrev pub has_string : List (Option (List ℕ)) → ℕ → Bool
 has_string ss i = is_some (string_at ss i)
 
--- ---- the faults that strings tell, in their order
+-- ---- the faults that the strings determine, in order
 abbrev pub has_strings : List (Option (List ℕ)) → Request → Bool
 has_strings ss (User slot bytes) = not (has_string ss slot)
 has_strings ss (Wire slot bytes) = not (has_string ss slot)
@@ -60,7 +60,7 @@ abbrev pub is_string_short : List (Option (List ℕ)) → Request → Bool
 is_string_short ss (Pull_up slot n) = nat_lt (length (bytes_at ss slot)) n
 is_string_short ss request = false
 
--- the first one that fits
+-- the first one that applies
 abbrev pub string_fault : List (Option (List ℕ)) → Request → Option ChainReply
 string_fault ss request = first_true (
     (not (has_strings ss request), Wrong_chain)
@@ -69,7 +69,7 @@ string_fault ss request = first_true (
     ∷ (is_string_short ss request, Too_short)
     ∷ [])
 
--- ---- what a request makes of the strings
+-- ---- the effect of a request on the strings
 abbrev pub strings_after : List (Option (List ℕ)) → Request → List (Option (List ℕ))
 strings_after ss (User slot bytes) = slice_set ss slot (Some bytes)
 strings_after ss (Wire slot bytes) = slice_set ss slot (Some bytes)
@@ -84,14 +84,14 @@ strings_after ss (Write_over slot off bytes) = slice_set ss slot (Some (written_
 strings_after ss (Free slot) = slice_set ss slot None
 strings_after ss request = ss
 
--- the reply of a request that is done; of layouts and of the pool strings tell nothing
+-- the reply of a request that is carried out; the strings determine nothing about layouts and the pool
 abbrev pub TellsDone : List (Option (List ℕ)) → Request → ChainReply → Type 0
 TellsDone ss (Read_out slot off len) reply = reply ≡ Held (take len (drop off (bytes_at ss slot)))
 TellsDone ss (Show slot) reply = (shapes : List Shape) × (reply ≡ Laid (length (bytes_at ss slot)) shapes)
 TellsDone ss Ask_usage reply = (usage : Mbstat) × (reply ≡ Shown usage)
 TellsDone ss request reply = reply ≡ Ready
 
--- it was refused for want of buffers or for a shared cluster, which strings don't tell, and nothing has changed
+-- it failed for lack of buffers or because of a shared cluster, which the strings don't determine, and nothing changed
 abbrev pub IsSilent : List (Option (List ℕ)) → ChainReply → List (Option (List ℕ)) → Type 0
 IsSilent old reply new = ((reply ≡ No_buffers) ⊎ (reply ≡ Shared)) × (new ≡ old)
 

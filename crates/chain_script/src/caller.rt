@@ -1,4 +1,4 @@
-//! Slots of chains over a pool, whose calls are made by lines.
+//! Slots of chains over a pool, whose calls are made by script lines.
 ghost use Rattle.std.specs.Prelude.{◌≡◌, ◌≤◌, ◌<◌, ◌*◌, ◌++◌, ℕ, List, Option, Some, Err, length, IfOk, ◌↔◌, replicate, None, []};
 ghost use Rattle.arrayvec.specs.ArrayVec.{array_vec_len};
 ghost use Rattle.mbuf_pool.specs.Store.{IsBad};
@@ -29,10 +29,10 @@ use std::alloc::{AllocError, Global};
 use std::array;
 use std::mem::ManuallyDrop;
 
-/// How many slots there are.
+/// The number of slots.
 pub(crate) const SLOTS: usize = 64;
 
-/// Copies bytes out of a chain, and puts the line for them after the text.
+/// Copies bytes out of a chain, and appends the reply line for them to the text.
 fn read_out(
     pool: &Pool,
     chains: &[Option<Chain>],
@@ -59,7 +59,7 @@ fn read_out(
     put_held(text, digits, to, outcome);
 }
 
-/// Makes the call that a line asks for, and puts its reply after the text.
+/// Makes the call that a line requests, and appends its reply to the text.
 fn make_call(
     pool: &mut Pool,
     chains: &mut [Option<Chain>],
@@ -120,7 +120,7 @@ fn make_call(
     }
 }
 
-/// Puts the answer to a line after the text.
+/// Appends the reply to a line to the text.
 fn put_answer(
     pool: &mut Pool,
     chains: &mut [Option<Chain>],
@@ -143,7 +143,7 @@ fn put_answer(
     }
 }
 
-/// A pool, 64 slots for chains of it, and the memory for the work on one line. It must be spent, by `end`.
+/// A pool, 64 slots for its chains, and the memory for the work on one line. It must be consumed by `end`.
 pub(crate) struct Caller {
     pool: Pool,
     chains: ArrayVec<Option<Chain>, SLOTS>,
@@ -152,7 +152,7 @@ pub(crate) struct Caller {
     ghost fits: { FitsSlots pool chains.items },
 }
 
-/// Slots that are all empty.
+/// Creates slots that are all empty.
 fn empty_slots() -> ArrayVec<Option<Chain>, SLOTS>
     ensures items { result.items ≡ replicate SLOTS None }
     ensures len { array_vec_len result ≡ SLOTS }
@@ -165,17 +165,18 @@ fn empty_slots() -> ArrayVec<Option<Chain>, SLOTS>
     ArrayVec::from_array_in((), slots)
 }
 
-/// Lets go slots that are all empty.
+/// Consumes slots that are all empty.
 fn end_empty(chains: ArrayVec<Option<Chain>, SLOTS>)
     requires { slot_numbers chains.items ≡ [] }
 {
-    // A vector of the library gives out only what may be dropped, and a chain has to be spent. There is none here.
+    // A vector of the library hands out only elements that may be dropped, and a chain must be consumed. Here there is
+    // no chain.
     let _empty = unsafe { ManuallyDrop::new_unchecked(chains) };
 }
 
 impl Caller {
-    /// A pool without chains, and empty slots. `BadSizes` comes exactly where the sizes aren't those of a pool, and is
-    /// tested first; `Memory` where the host refuses memory. Nothing is left behind.
+    /// Creates a pool without chains, and empty slots. Returns `BadSizes` exactly if a pool can't have these sizes,
+    /// which is tested first, and `Memory` if the host refuses memory. On error nothing stays allocated.
     pub(crate) fn boot(alloc: Global, sizes: Sizes) -> Result<Caller, BootFault>
         ensures ok { IfOk result (λ c. machine_of c.pool c.chains.items ≡ booted sizes.mbufs sizes.clusters) }
         ensures bad { (result ≡ Err boot_fault.BadSizes) ↔ IsBad sizes }
@@ -191,14 +192,14 @@ impl Caller {
         })
     }
 
-    /// The drawing of a slot; `AllocError` only if the host refuses memory.
+    /// Returns the drawing of a slot; `AllocError` only if the host refuses memory.
     pub(crate) fn draw(&self, alloc: Global, slot: usize) -> Result<Vec<u8>, AllocError>
         ensures { IfOk result (λ text. text.items ≡ drawing (machine_of self.now.pool self.now.chains.items) slot) }
     {
         draw(alloc, &self.pool, self.chains.as_slice(), slot)
     }
 
-    /// Frees all chains, and gives the pool back.
+    /// Frees all chains, and returns the pool.
     pub(crate) fn end(self) -> Pool
         ensures { IsAll result [] }
     {

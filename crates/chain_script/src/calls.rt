@@ -1,4 +1,4 @@
-//! What each request makes of the slots.
+//! The effect of each request on the slots.
 ghost use Rattle.std.specs.Prelude.{◌≡◌, ◌≢◌, ◌<◌, ◌≤◌, ◌+◌, ◌&&◌, nat_lt, nat_le, ℕ, length, ℤ, Some, None, slice_index_or};
 ghost use Rattle.mbuf_chain.specs.Chain.{IsLive, chain_of, without};
 ghost use Rattle.chain_ops.specs.Makes.{Makes};
@@ -18,7 +18,7 @@ use chain_ops::{
 use mbuf_chain::{Chain, Pool};
 use params::{IP_MAX_PACKET, MHLEN};
 
-/// Puts a chain of bytes to send into an empty slot.
+/// Puts a chain with bytes to send into an empty slot.
 pub(crate) fn user(
     pool: &mut Pool,
     chains: &mut [Option<Chain>],
@@ -45,14 +45,14 @@ pub(crate) fn user(
     }
 }
 
-/// Whether so many bytes may be put in front of so many.
+/// Returns whether `count` bytes may be prepended to a chain of `total` bytes.
 fn may_prepend(count: usize, total: u32) -> bool
     ensures { result ≡ (nat_lt 0 count && (nat_le count MHLEN && nat_le (count + total) IP_MAX_PACKET)) }
 {
     0 < count && count <= MHLEN as usize && total <= IP_MAX_PACKET - count as u32
 }
 
-/// Puts bytes in front of a chain.
+/// Prepends bytes to a chain.
 pub(crate) fn prepend(
     pool: &mut Pool,
     chains: &mut [Option<Chain>],
@@ -78,7 +78,7 @@ pub(crate) fn prepend(
     }
 }
 
-/// Takes bytes off an end of a chain.
+/// Removes bytes from one end of a chain.
 pub(crate) fn adj(
     pool: &mut Pool,
     chains: &mut [Option<Chain>],
@@ -116,7 +116,7 @@ pub(crate) fn free(pool: &mut Pool, chains: &mut [Option<Chain>], slot: usize) -
     Ok(())
 }
 
-/// Puts a chain of the bytes of a packet that arrived into an empty slot.
+/// Puts a chain with the bytes of a packet that arrived into an empty slot.
 pub(crate) fn wire(
     pool: &mut Pool,
     chains: &mut [Option<Chain>],
@@ -143,7 +143,7 @@ pub(crate) fn wire(
     }
 }
 
-/// Whether a part of `len` bytes lies in `total` bytes, and has a byte.
+/// Returns whether a part of `len` bytes is within `total` bytes, and isn't empty.
 fn is_part(extent: Extent, total: u32) -> bool
     ensures { result ≡ is_range extent total }
 {
@@ -153,7 +153,7 @@ fn is_part(extent: Extent, total: u32) -> bool
     }
 }
 
-/// Puts a copy of a chain, or of a part of it, into an empty slot. It shares the clusters.
+/// Puts a copy of a chain, or of a part of it, into an empty slot. The copy shares the clusters.
 pub(crate) fn copym(
     pool: &mut Pool,
     chains: &mut [Option<Chain>],
@@ -187,7 +187,7 @@ pub(crate) fn copym(
     }
 }
 
-/// Brings the first `n` bytes of a chain into one mbuf.
+/// Moves the first `n` bytes of a chain into one mbuf.
 pub(crate) fn pullup(
     pool: &mut Pool,
     chains: &mut [Option<Chain>],
@@ -212,7 +212,7 @@ pub(crate) fn pullup(
     }
 }
 
-/// Cuts a chain at a byte, and puts its back into an empty slot.
+/// Splits a chain at a byte offset, and puts the rest into an empty slot.
 pub(crate) fn split(
     pool: &mut Pool,
     chains: &mut [Option<Chain>],
@@ -246,7 +246,7 @@ pub(crate) fn split(
     }
 }
 
-/// Joins a chain to that of a slot.
+/// Appends the chain of another slot to the chain of a slot.
 fn join(pool: &mut Pool, chains: &[Option<Chain>], slot: usize, second: Chain)
     requires slot { slot < length chains.now }
     requires held { (c : ℕ) × (slice_index_or chains.now slot None ≡ Some c)
@@ -261,7 +261,7 @@ fn join(pool: &mut Pool, chains: &[Option<Chain>], slot: usize, second: Chain)
     }
 }
 
-/// Joins the chain of another slot to a chain. That slot is empty then.
+/// Appends the chain of another slot to a chain. That slot is empty afterwards.
 pub(crate) fn join_slots(
     pool: &mut Pool,
     chains: &mut [Option<Chain>],
@@ -293,7 +293,7 @@ pub(crate) fn join_slots(
     Ok(())
 }
 
-/// Writes bytes over those of a chain from `off` on, and lengthens it where they go past its end.
+/// Overwrites bytes of a chain from `off` on, and lengthens the chain if they go past its end.
 pub(crate) fn copyback(
     pool: &mut Pool,
     chains: &mut [Option<Chain>],

@@ -1,4 +1,4 @@
-//! The mbufs of a slot's chain as lines of a text, for a picture of them.
+//! The mbufs of a slot's chain as text lines, from which a picture can be drawn.
 ghost use Rattle.std.specs.Prelude.{◌≡◌, ◌≤◌, ℕ, List, ◌++◌, ◌==◌, OnOk, IfOk, IfSome, decimal, length, position};
 ghost use Rattle.flat_model.specs.Scripts.Texts.{hex_text};
 ghost use Rattle.params.specs.declared.TheConstants.{MCLBYTES};
@@ -18,7 +18,7 @@ use params::MCLBYTES;
 use script_loop::{RunFault, Sink, Source, serve_script};
 use std::alloc::{AllocError, Global};
 
-/// The most digits that the bytes of one mbuf have, two for each.
+/// The most digits for the bytes of one mbuf, two for each byte.
 const DIGITS: usize = 2 * MCLBYTES as usize;
 
 fn position_of(seen: &[u32], cluster: u32) -> Option<usize>
@@ -27,7 +27,7 @@ fn position_of(seen: &[u32], cluster: u32) -> Option<usize>
     seen.iter().position(|other| *other == cluster)
 }
 
-/// How many clusters were seen before this one.
+/// Returns how many clusters were seen before this one.
 fn place_in(seen: &[u32], cluster: Option<u32>) -> Option<usize>
     ensures { result ≡ place_in seen.now cluster }
 {
@@ -37,7 +37,7 @@ fn place_in(seen: &[u32], cluster: Option<u32>) -> Option<usize>
     }
 }
 
-/// Puts a cluster after those that were seen, if it's new.
+/// Appends a cluster to those that were seen, if it is new.
 fn note(seen: &mut Vec<u32>, cluster: Option<u32>) -> Result<(), AllocError>
     ensures { OnOk result (seen.new.items ≡ noted seen.old.items cluster) }
 {
@@ -50,7 +50,7 @@ fn note(seen: &mut Vec<u32>, cluster: Option<u32>) -> Result<(), AllocError>
     Ok(())
 }
 
-/// The same for all mbufs of a chain.
+/// Does the same for all mbufs of a chain.
 fn note_chain(pool: &Pool, chain: &Chain, seen: &mut Vec<u32>) -> Result<(), AllocError>
     requires { IsLive pool.now chain.now }
     ensures { OnOk result (seen.new.items ≡ noted_all seen.old.items (chain_of pool.now chain.now).entries) }
@@ -65,7 +65,7 @@ fn note_chain(pool: &Pool, chain: &Chain, seen: &mut Vec<u32>) -> Result<(), All
     }
 }
 
-/// The same for all slots.
+/// Does the same for all slots.
 fn note_slots(pool: &Pool, chains: &[Option<Chain>], seen: &mut Vec<u32>) -> Result<(), AllocError>
     requires { FitsSlots pool.now chains.now }
     ensures { OnOk result (seen.new.items ≡ noted_slots seen.old.items (machine_of pool.now chains.now).slots) }
@@ -110,7 +110,7 @@ fn put_cluster(text: &mut Vec<u8>, place: Option<usize>) -> Result<(), AllocErro
     text.extend_from_slice(b" ")
 }
 
-/// The line for an mbuf, which has the chain's packet header or not.
+/// Appends the line for an mbuf, with or without the chain's packet header.
 fn put_mbuf(
     text: &mut Vec<u8>,
     seen: &[u32],
@@ -135,7 +135,7 @@ fn put_mbuf(
     text.extend_from_slice(b"\n")
 }
 
-/// The lines for all mbufs of a chain.
+/// Appends the lines for all mbufs of a chain.
 fn put_chain(text: &mut Vec<u8>, seen: &[u32], pool: &Pool, chain: &Chain) -> Result<(), AllocError>
     requires { IsLive pool.now chain.now }
     ensures { OnOk result (text.new.items ≡ text.old.items
@@ -153,7 +153,7 @@ fn put_chain(text: &mut Vec<u8>, seen: &[u32], pool: &Pool, chain: &Chain) -> Re
     }
 }
 
-/// The drawing of a slot; `AllocError` if the host refuses memory.
+/// Returns the drawing of a slot; `AllocError` if the host refuses memory.
 pub(crate) fn draw(
     alloc: Global,
     pool: &Pool,
@@ -176,17 +176,17 @@ pub(crate) fn draw(
 
 /// Serves a script of calls on chains as `run_chains` does, and then draws the chain of one slot, from 0 to 63.
 ///
-/// The drawing is a line for each mbuf: `pkthdr ` if it has the packet header; `cluster K ` if its bytes lie in a
-/// cluster; the place at which they begin, in the mbuf's 128 bytes or the cluster's 2,048; and the bytes in hex, or a
-/// dash if there are none. K is from 0: clusters are numbered as they first appear, in slot 0 from its first mbuf on,
-/// then in slot 1, and so on. So it tells who shares a cluster, and not which one was free. An empty slot, and a number
-/// of more than 63, has no line.
+/// The drawing has one line for each mbuf: `pkthdr ` if it has the packet header; `cluster K ` if its bytes are in a
+/// cluster; the offset of its first byte in the mbuf's 128 bytes or the cluster's 2,048; and the bytes in hex, or a
+/// dash if there are no bytes. K counts from 0: clusters are numbered as they first appear, in slot 0 from its first
+/// mbuf on, then in slot 1, and so on. So the drawing shows which mbufs share a cluster, but not which cluster was
+/// free. An empty slot, and a number of more than 63, has no line.
 ///
-/// `None` if the host refuses memory for the drawing. The script was served to its end then.
+/// Returns `None` if the host refuses memory for the drawing. In that case the script was served to its end.
 ///
 /// # Errors
 ///
-/// Those of `run_chains`, as it has them. Nothing is drawn then.
+/// The errors of `run_chains`. Nothing is drawn then.
 pub fn draw_slot<R: Source, W: Sink>(
     alloc: Global,
     sizes: Sizes,
@@ -197,7 +197,7 @@ pub fn draw_slot<R: Source, W: Sink>(
     ensures booted { BootsChains sizes (served result) }
     ensures read { MoreBy (reader_failures (served result)) (R.failures reader.old) (R.failures reader.new) }
     ensures wrote { MoreBy (writer_failures (served result)) (W.failures writer.old) (W.failures writer.new) }
-    // The script is served as by `run_chains`, and what is drawn is the slot as the machine has it afterwards.
+    // `run_chains` describes how the script is served. The drawing shows the slot in the machine's state after that.
     ensures drawn { (new : Machine) × Serves Says (booted sizes.mbufs sizes.clusters) new (R.remaining reader.old)
         (R.remaining reader.new) (W.contents writer.old) (W.contents writer.new) (served result)
         × IfOk result (λ text. IfSome text (λ bytes. bytes.items ≡ drawing new slot)) }

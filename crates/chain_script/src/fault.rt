@@ -1,15 +1,15 @@
-//! Why a request isn't done.
+//! Why a request isn't carried out.
 
-/// Why a request wasn't done. Nothing has changed then.
+/// Why a request wasn't carried out. Nothing has changed then.
 #[derive(Clone, Copy, Debug, PartialEq, Eq)]
 pub(crate) enum Fault {
-    /// A slot that must hold a chain is empty, one that must be empty isn't, or two are the same.
+    /// A slot that must hold a chain is empty, a slot that must be empty isn't, or two slots are the same.
     Chain,
-    /// A condition of the call doesn't hold.
+    /// A condition of the call isn't met.
     Range,
-    /// A byte that would be written lies in a cluster that another mbuf refers to.
+    /// A byte to be written is in a cluster that another mbuf refers to.
     Shared,
-    /// More bytes than a first mbuf has room for.
+    /// More bytes than fit into a first mbuf.
     TooLong,
     /// More bytes than the chain has.
     TooShort,

@@ -1,4 +1,4 @@
-//! The script of chain calls: slots of chains over a pool, and what each line asks of them.
+//! The script of chain calls: slots of chains over a pool, and what each line does with them.
 #![tactic(auto)]
 
 mod caller;

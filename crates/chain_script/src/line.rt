@@ -1,4 +1,4 @@
-//! What a line asks for.
+//! Parsing a line.
 ghost use Rattle.std.specs.Prelude.{◌≡◌, ◌≤◌, ℕ, ℤ, List, [], ◌∷◌, length, codes, MatchOption, IfSome};
 ghost use Rattle.chain_ops.specs.declared.copym.Extent.{Extent};
 ghost use Rattle.script_loop.specs.Left.{left};
@@ -10,13 +10,13 @@ use chain_ops::Extent;
 use params::{IP_MAX_PACKET, LONGEST_REQUEST};
 use script_loop::{bytes, first_word, is_end, number, one, three, two};
 
-/// The last slot.
+/// The index of the last slot.
 const LAST_SLOT: u32 = SLOTS as u32 - 1;
 
-/// The greatest offset, length and number of a line.
+/// The greatest offset, length or number in a line.
 const MOST: u32 = IP_MAX_PACKET;
 
-/// What a line asks for. Where it has bytes, they stand in a room beside it, and the call tells how many they are.
+/// The request of a line. If the line contains bytes, they are in a separate buffer, and the call has their number.
 #[derive(Clone, Copy)]
 pub(crate) enum Call {
     User(u32, usize),
@@ -34,7 +34,7 @@ pub(crate) enum Call {
     Usage,
 }
 
-/// A number of -65535 to 65535, with a `-` in front where it is below 0.
+/// Parses a number of -65535 to 65535, with a leading `-` if it is below 0.
 fn signed(word: &[u8]) -> Option<i32>
     ensures { MatchOption result ((n : ℤ) → IsSigned word.now n → ⊥) (λ n. IsSigned word.now n) }
 {
@@ -52,7 +52,7 @@ fn signed(word: &[u8]) -> Option<i32>
     Some(-(n as i32))
 }
 
-/// The part of a chain that is copied: `all`, or an offset and a length.
+/// Parses the part of a chain to copy: `all`, or an offset and a length.
 fn extent_of(rest: Option<&[u8]>) -> Option<Extent>
     ensures { MatchOption result ((extent : Extent) → IsExtentWords (left rest.entry) extent → ⊥)
         (λ extent. IsExtentWords (left rest.entry) extent) }
@@ -192,7 +192,7 @@ fn usage_of(rest: Option<&[u8]>) -> Option<Call>
     }
 }
 
-/// What the line asks for, where it is of a form.
+/// Returns the request of the line, if the line is well-formed.
 pub(crate) fn call_of(line: &[u8], room: &mut [u8]) -> Option<Call>
     requires { length room.old ≡ IP_MAX_PACKET }
     ensures call { MatchOption result ((request : Request) → IsRequest line.now request → ⊥)

@@ -1,4 +1,4 @@
-//! The lines that replies are printed as.
+//! The text of replies.
 ghost use Rattle.std.specs.Prelude.{◌≡◌, ◌+◌, ◌*◌, ◌≤◌, ◌++◌, length, Some, codes, decimal};
 ghost use Rattle.flat_model.specs.Scripts.Texts.{share_text};
 ghost use Rattle.params.specs.declared.TheConstants.{IP_MAX_PACKET};
@@ -10,11 +10,11 @@ use mbuf_chain::Usage;
 use params::MAX_MBUFS;
 use script_loop::{Buffer, HELD, put_hex, put_number};
 
-/// The most bytes that the text of one mbuf takes: two letters, two numbers and a space.
+/// The most bytes in the text of one mbuf: two letters, two numbers and a space.
 pub(crate) const MBUF_TEXT: usize = 23;
 
-/// Room for the longest reply after those that are held: the layout of a chain of all mbufs of the largest pool, and
-/// what stands beside it.
+/// The size of the text buffer. It has space for the longest reply after the replies that are kept: the layout of a
+/// chain with all mbufs of the largest pool, and the rest of its line.
 pub(crate) const TEXT: usize = HELD + MBUF_TEXT * (MAX_MBUFS as usize + 1);
 
 fn put_fault(text: &mut Buffer<TEXT>, fault: Fault)
@@ -32,7 +32,7 @@ fn put_fault(text: &mut Buffer<TEXT>, fault: Fault)
     }
 }
 
-/// The line for a request that answers nothing else.
+/// Appends the line for a request without a result of its own.
 pub(crate) fn put_done(text: &mut Buffer<TEXT>, outcome: Result<(), Fault>)
     requires { length text.old ≤ HELD }
     ensures { text.new ≡ text.old ++ chain_answer_text (Some (chain_done_reply outcome)) }
@@ -44,7 +44,7 @@ pub(crate) fn put_done(text: &mut Buffer<TEXT>, outcome: Result<(), Fault>)
     text.append(b"\n");
 }
 
-/// The line for bytes that were copied out into the room.
+/// Appends the line for bytes that were copied out into the buffer.
 pub(crate) fn put_held(
     text: &mut Buffer<TEXT>,
     digits: &mut [u8],
@@ -76,7 +76,7 @@ fn put_share(text: &mut Buffer<TEXT>, free: u32, all: u32)
     put_number(text, all);
 }
 
-/// The line for how much of a pool is in use.
+/// Appends the line for the usage of a pool.
 pub(crate) fn put_usage(text: &mut Buffer<TEXT>, usage: Usage)
     requires { length text.old ≤ HELD }
     ensures { text.new ≡ text.old ++ chain_answer_text (Some (Shown (record {
@@ -99,7 +99,7 @@ pub(crate) fn put_usage(text: &mut Buffer<TEXT>, usage: Usage)
     text.append(b"\n");
 }
 
-/// An mbuf of a layout: its length, and where it has a cluster the count of that.
+/// Appends an mbuf of a layout: its length, and the reference count of its cluster if it has one.
 pub(crate) fn put_mbuf(text: &mut Buffer<TEXT>, len: u32, count: Option<u32>)
     requires { length text.old + MBUF_TEXT ≤ TEXT }
     ensures items { text.new ≡ text.old ++ mbuf_text len count }

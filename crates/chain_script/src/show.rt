@@ -1,4 +1,4 @@
-//! What is shown: the layout of a chain, and how much of the pool is in use.
+//! The replies to queries: the layout of a chain, and the usage of the pool.
 ghost use Rattle.std.specs.Prelude.{◌≡◌, ℕ, ◌+◌, ◌*◌, ◌<◌, ◌≤◌, ◌++◌, length, flat_map, Some, Option};
 ghost use Rattle.mbuf_chain.specs.Chain.{IsLive, chain_of, references, string};
 ghost use Rattle.chain_script.specs.Lines.{Show, Ask_usage};
@@ -10,7 +10,7 @@ use crate::reply::{MBUF_TEXT, TEXT, put_done, put_mbuf, put_usage};
 use mbuf_chain::{Chain, Pool};
 use script_loop::{Buffer, HELD, put_number};
 
-/// The count of a cluster, where there is one.
+/// Returns the reference count of a cluster, if there is one.
 fn count_of(pool: &Pool, cluster: Option<u32>) -> Option<u32>
     requires { (c : ℕ) → cluster ≡ Some c → c < pool.now.clusters }
     ensures { result ≡ count_in (references pool.now) cluster }
@@ -21,7 +21,7 @@ fn count_of(pool: &Pool, cluster: Option<u32>) -> Option<u32>
     }
 }
 
-/// All mbufs of a chain, in their order.
+/// Appends all mbufs of a chain, in order.
 fn put_mbufs(text: &mut Buffer<TEXT>, pool: &Pool, chain: &Chain)
     requires live { IsLive pool.now chain.now }
     requires text { length text.old + MBUF_TEXT * length (chain_of pool.now chain.now).entries ≤ TEXT }
@@ -40,7 +40,7 @@ fn put_mbufs(text: &mut Buffer<TEXT>, pool: &Pool, chain: &Chain)
     }
 }
 
-/// The line for the layout of a chain.
+/// Appends the line for the layout of a chain.
 fn put_layout(text: &mut Buffer<TEXT>, pool: &Pool, chain: &Chain)
     requires live { IsLive pool.now chain.now }
     requires text { length text.old ≤ HELD }
@@ -54,7 +54,7 @@ fn put_layout(text: &mut Buffer<TEXT>, pool: &Pool, chain: &Chain)
     text.append(b"\n");
 }
 
-/// Shows the layout of a slot's chain.
+/// Appends the layout of a slot's chain.
 pub(crate) fn show(pool: &Pool, chains: &[Option<Chain>], slot: usize, text: &mut Buffer<TEXT>)
     requires slot { slot < length chains.now }
     requires fits { FitsSlots pool.now chains.now }
@@ -69,7 +69,7 @@ pub(crate) fn show(pool: &Pool, chains: &[Option<Chain>], slot: usize, text: &mu
     }
 }
 
-/// Shows how much of the pool is in use.
+/// Appends the usage of the pool.
 pub(crate) fn usage(pool: &Pool, chains: &[Option<Chain>], text: &mut Buffer<TEXT>)
     requires fits { FitsSlots pool.now chains.now }
     requires text { length text.old ≤ HELD }

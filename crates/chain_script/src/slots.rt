@@ -1,4 +1,4 @@
-//! Slots, each with a chain or empty.
+//! Slots that hold a chain or are empty.
 ghost use Rattle.std.specs.Prelude.{◌≡◌, ◌<◌, ℕ, Some, None, [], length, slice_set, slice_index_or};
 ghost use Rattle.chain_script.specs.Inside.Slots.{slot_numbers, FitsSlots};
 
@@ -17,7 +17,7 @@ pub(crate) fn put(chains: &mut [Option<Chain>], slot: usize, chain: Chain)
     }
 }
 
-/// Takes the chain out of a slot that has one.
+/// Removes the chain from a slot that has one.
 pub(crate) fn take(chains: &mut [Option<Chain>], slot: usize) -> Chain
     requires within { slot < length chains.old }
     requires held { (c : ℕ) × (slice_index_or chains.old slot None ≡ Some c) }

@@ -1,4 +1,4 @@
--- What buffers are taken: weights, layouts and needs.
+-- Which buffers an operation takes: weights, layouts and needs.
 pub mod Choice
 pub mod Weight
 pub mod Layout

@@ -1,4 +1,4 @@
--- How a datagram is cut, and put together.
+-- How a datagram is fragmented and reassembled.
 pub mod Cuts
 pub mod Overlay
 pub mod Whole

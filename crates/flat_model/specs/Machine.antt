@@ -1,4 +1,4 @@
--- The machine: its state, and each step.
+-- The reference machine: its state, and each step.
 pub mod Count
 pub mod Event
 pub mod State

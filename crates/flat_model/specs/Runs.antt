@@ -1,4 +1,4 @@
--- Runs of the machine, and the laws that hold of them.
+-- Runs of the machine, and the laws about them.
 pub mod Run
 pub mod Laws
 pub mod Consistent

@@ -1,4 +1,4 @@
--- The script: lines, what they ask for, and what is printed.
+-- The script: its lines, what they request, and what is printed.
 pub mod Errnos
 pub mod Lines
 pub mod Grammar

@@ -1,3 +1,3 @@
--- Which socket hears a packet, and what fits into its queue.
+-- Which socket receives a packet, and what fits into its queue.
 pub mod Lookup
 pub mod Fits

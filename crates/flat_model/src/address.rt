@@ -1,6 +1,6 @@
-//! One end of a conversation.
+//! One endpoint of a conversation.
 
-/// An Internet address and a port, as UDP names one end of a conversation (RFC 768).
+/// An Internet address and a port, which identify one endpoint of a conversation in UDP (RFC 768).
 ///
 /// The address `a.b.c.d` is the number `a * 2^24 + b * 2^16 + c * 2^8 + d`.
 #[derive(Clone, Copy, Debug, PartialEq, Eq)]

@@ -1,9 +1,9 @@
-//! The fold of the Internet checksum (RFC 1071): the plain program, and the law that ties the definition
-//! to the standard's words.
+//! The fold of the Internet checksum (RFC 1071): a plain program, and the law that ties the definition to the
+//! standard's words.
 ghost use Rattle.std.specs.Prelude.{◌≡◌, ℕ, ◌+◌, ◌/◌, ◌%◌, ◌<◌};
 ghost use Rattle.flat_model.specs.Packets.Checksum.{fold16, folded_sum};
 
-/// The folded sum of the words of `bytes`, one pair at a time, as RFC 1071 section 1 tells it.
+/// Returns the folded sum of the words of `bytes`, adding one pair of bytes at a time, as RFC 1071 section 1 describes.
 ///
 /// It is slow on purpose: faster programs are compared with it.
 pub fn fold(bytes: &[u8]) -> u16
@@ -29,8 +29,8 @@ fn add_word(sum: u16, word: u16) -> u16
     ((wide & 0xffff) + (wide >> 16)) as u16
 }
 
-/// `fold16` is what is left of a sum where its part above 16 bits is added to its low 16 bits until it
-/// fits. Each such step makes a sum of more than 16 bits smaller, so the two clauses have one solution.
+/// `fold16` is the result of adding a sum's part above 16 bits to its low 16 bits until it fits into 16 bits. Each such
+/// step makes a sum of more than 16 bits smaller, so the two clauses have one solution.
 pub fn fold_law()
     ensures carried { (sum : ℕ) → fold16 (sum / 65536 + sum % 65536) ≡ fold16 sum }
     ensures fits { (sum : ℕ) → sum < 65536 → fold16 sum ≡ sum }

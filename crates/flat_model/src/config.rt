@@ -1,45 +1,45 @@
-//! The configuration of a machine, and why one is refused.
+//! The configuration of a host, and why it can be invalid.
 ghost use Rattle.std.specs.Prelude.{MatchResult, IsTrue, ◌↔◌};
 ghost use Rattle.flat_model.specs.Machine.State.{HasSizes, IsConfig, IsHost, IsConfigRefused};
 
 use params::{FIRST_MULTICAST, LOOPBACK, MAX_CLUSTERS, MAX_MBUFS, MAX_MTU, MIN_MTU};
 use thiserror::Error;
 
-/// What a machine is booted with (this project's own).
+/// The parameters with which a host boots (this project's own).
 #[derive(Clone, Copy, Debug, PartialEq, Eq)]
 pub struct Config {
-    /// The address of the one interface, 1.0.0.0 to 223.255.255.255 and not in 127/8.
+    /// The address of its only interface, in 1.0.0.0 to 223.255.255.255 and not in 127/8.
     pub addr: u32,
-    /// The broadcast address of its network, in the same range and not `addr`.
+    /// The broadcast address of its network, in the same range and different from `addr`.
     pub bcast: u32,
-    /// The bytes of the longest packet that the link takes, 68 to 4352.
+    /// The MTU of the link: the longest packet in bytes, 68 to 4352.
     pub mtu: u16,
-    /// How many mbufs the pool has, 1 to 65,535.
+    /// The number of mbufs in the pool, 1 to 65,535.
     pub mbufs: u32,
-    /// How many clusters the pool has, 0 to 4,096.
+    /// The number of clusters in the pool, 0 to 4,096.
     pub clusters: u32,
-    /// The identification of the first datagram sent.
+    /// The identification of the first datagram that it sends.
     pub first_id: u16,
 }
 
-/// Why a configuration is refused (this project's own).
+/// Why a configuration is invalid (this project's own).
 #[derive(Clone, Copy, Debug, PartialEq, Eq, Error)]
 pub enum ConfigFault {
-    /// The numbers of mbufs and clusters aren't ones that a pool can have.
+    /// The numbers of mbufs and clusters are out of range for a pool.
     #[error("bad sizes")]
     BadSizes,
-    /// The addresses or the MTU aren't ones that a machine can have.
+    /// The addresses or the MTU are invalid for a host.
     #[error("bad config")]
     BadConfig,
 }
 
 impl Config {
-    /// Whether a machine can be booted so.
+    /// Checks whether a host can boot with this configuration.
     ///
     /// # Errors
     ///
-    /// `BadSizes` where it has no mbuf, more than 65,535 of them or more than 4,096 clusters; else `BadConfig` where
-    /// its MTU isn't 68 to 4352, an address isn't that of a host, or both addresses are the same.
+    /// `BadSizes` if it has no mbuf, more than 65,535 mbufs, or more than 4,096 clusters. Otherwise `BadConfig` if its
+    /// MTU isn't 68 to 4352, an address isn't a host address, or both addresses are equal.
     pub fn check(self) -> Result<(), ConfigFault>
         ensures { MatchResult result (λ done. IsConfig self) (λ fault. IsConfigRefused self fault) }
     {
@@ -52,14 +52,14 @@ impl Config {
         Ok(())
     }
 
-    /// Whether a pool can have these numbers of mbufs and clusters.
+    /// Returns whether a pool can have these numbers of mbufs and clusters.
     fn has_sizes(self) -> bool
         ensures { IsTrue result ↔ HasSizes self }
     {
         1 <= self.mbufs && self.mbufs <= MAX_MBUFS && self.clusters <= MAX_CLUSTERS
     }
 
-    /// Whether all else is right, where the sizes are.
+    /// Returns whether the addresses and the MTU are valid.
     fn has_addresses_and_mtu(self) -> bool
         requires { HasSizes self }
         ensures { IsTrue result ↔ IsConfig self }
@@ -72,7 +72,7 @@ impl Config {
     }
 }
 
-/// Whether a host can have the address: it lies in 1.0.0.0 to 223.255.255.255 and not in 127/8.
+/// Returns whether a host can have the address: it is in 1.0.0.0 to 223.255.255.255 and not in 127/8.
 fn is_host(address: u32) -> bool
     ensures { IsTrue result ↔ IsHost address }
 {

@@ -1,16 +1,16 @@
-//! The counters, each by its name.
+//! The counters by name.
 ghost use Rattle.std.specs.Prelude.{◌≡◌, ◌<◌, length, map, slice_index_or};
 ghost use Rattle.flat_model.specs.Machine.Count.{counter_name, all_counters};
 ghost use Rattle.flat_model.specs.declared.counter.Counter.TheVariants.{IpTotal};
 
-/// How many counters there are.
+/// The number of counters.
 pub(crate) const COUNTERS: usize = 26;
 
-/// A counter (`ipstat` and `udpstat` of volume 2, chapters 8 and 23, in this project's own selection). Those without a
-/// comment of their own count what the case of [`Why`](crate::Why) with their name ends.
+/// A counter (from `ipstat` and `udpstat` of volume 2, chapters 8 and 23; the selection is this project's own). A
+/// counter without a comment counts the packets that end with the case of [`Why`](crate::Why) that has its name.
 #[derive(Clone, Copy, Debug, PartialEq, Eq)]
 pub enum Counter {
-    /// Packets that reached the input of IP, by wire or by loopback.
+    /// Packets that reached the input of IP, from the wire or by loopback.
     IpTotal,
     IpToosmall,
     IpBadvers,
@@ -24,11 +24,11 @@ pub enum Counter {
     /// Fragments that passed the tests of their size.
     IpFragments,
     IpFragdropped,
-    /// Unfinished datagrams whose time was over.
+    /// Unfinished datagrams dropped because their time was over.
     IpFragtimeout,
-    /// Unfinished datagrams dropped for their buffers.
+    /// Unfinished datagrams dropped to free their buffers.
     IpReclaimed,
-    /// Datagrams made whole.
+    /// Datagrams reassembled.
     IpReassembled,
     IpNoproto,
     UdpHdrops,
@@ -37,18 +37,18 @@ pub enum Counter {
     UdpNoport,
     UdpNoportbcast,
     UdpFullsock,
-    /// Sends that were given to the output of IP.
+    /// Sends passed to the output of IP.
     IpLocalout,
-    /// Those of them that were cut.
+    /// The sends among these that were fragmented.
     IpFragmented,
-    /// Sends refused for the output queue.
+    /// Sends refused because the output queue was full.
     OutDropped,
-    /// Packets, or receivers' parts of them, lost for want of a buffer.
+    /// Packets, or one receiver's copy of them, lost because the pool had too few buffers.
     Nobufs,
 }
 
-/// The counters in the order in which they're printed, with their names (this project's own, after the fields of
-/// `ipstat` and `udpstat`). It is the order of their type too, by which a counter's name is found.
+/// The counters with their names, in the order in which they are printed (this project's own, after the fields of
+/// `ipstat` and `udpstat`). The order is that of the type too, so a counter's name is found by its index.
 const NAMED: [(Counter, &str); COUNTERS] = [
     (Counter::IpTotal, "ip.total"),
     (Counter::IpToosmall, "ip.toosmall"),
@@ -79,7 +79,7 @@ const NAMED: [(Counter, &str); COUNTERS] = [
 ];
 
 impl Counter {
-    /// All counters, in the order in which they're printed.
+    /// Returns all counters, in the order in which they are printed.
     pub fn all() -> [Counter; 26]
         ensures { result ≡ all_counters }
     {
@@ -90,7 +90,7 @@ impl Counter {
         all
     }
 
-    /// Its name as it's printed.
+    /// Returns the counter's name as it is printed.
     pub fn name(self) -> &'static str
         ensures { result.now ≡ counter_name self }
     {
@@ -98,7 +98,7 @@ impl Counter {
     }
 }
 
-/// The counter that stands at a place of a table.
+/// Returns the counter at an index of a table.
 fn counter_at(named: &[(Counter, &str)], index: usize) -> Counter
     requires { index < length named.now }
     ensures { result ≡ slice_index_or (map (λ entry. entry.0) named.now) index IpTotal }

@@ -1,28 +1,27 @@
-//! What was counted, and why a packet ended.
+//! The counts, and why a packet ended.
 ghost use Rattle.std.specs.Prelude.{◌≡◌};
 ghost use Rattle.flat_model.specs.Machine.Count.{counted, counter_of, counts_more, no_counts, value_of};
 
 use crate::counter::{COUNTERS, Counter};
 use thiserror::Error;
 
-/// Why a packet, or a receiver's part of one, ended: a case for each counter that can end one. The tests are
-/// those of volume 2, chapters 8 (`ipintr`), 10 (`ip_reass`) and 23 (`udp_input`), and this project's own
-/// where a case says so.
+/// Why a packet, or one receiver's copy of it, ended: one case for each counter that can end one. The tests are those
+/// of volume 2, chapters 8 (`ipintr`), 10 (`ip_reass`) and 23 (`udp_input`), and this project's own if a case says so.
 #[derive(Clone, Copy, Debug, PartialEq, Eq, Error)]
 pub enum Why {
-    /// Fewer than 20 bytes.
+    /// It has fewer than 20 bytes.
     #[error("packet shorter than a header")]
     TooSmall,
     /// The version isn't 4.
     #[error("wrong version")]
     BadVersion,
-    /// The header's length is below 5 words.
+    /// The header length is below 5 words.
     #[error("header length too small")]
     BadHeaderLength,
-    /// The header's length is above 5 words (this project's own: it takes no options).
+    /// The header length is above 5 words (this project's own: the stack supports no options).
     #[error("options are not taken")]
     Options,
-    /// The header's checksum is wrong.
+    /// The header checksum is wrong.
     #[error("wrong header checksum")]
     BadSum,
     /// The total length is below 20.
@@ -31,22 +30,22 @@ pub enum Why {
     /// The packet is shorter than its total length.
     #[error("packet shorter than its total length")]
     TooShort,
-    /// The destination isn't this machine (this project's own: it forwards nothing).
+    /// The destination isn't an address of this host (this project's own: the stack forwards no packets).
     #[error("not addressed to this machine")]
     CantForward,
-    /// A fragment of a size or at an offset that none can have.
+    /// A fragment with an impossible size or offset.
     #[error("malformed fragment")]
     BadFragment,
-    /// A fragment all of whose bytes are held already, by pieces that begin no later.
+    /// A fragment whose bytes are all present already, in pieces that begin no later.
     #[error("fragment held already")]
     FragmentDropped,
-    /// A datagram of another protocol than UDP (this project's own).
+    /// A datagram of a protocol other than UDP (this project's own).
     #[error("unknown protocol")]
     NoProtocol,
-    /// Fewer than 8 bytes carried.
+    /// It carries fewer than 8 bytes.
     #[error("datagram shorter than a header")]
     UdpHeaderDrops,
-    /// The UDP length is below 8 or above what is carried.
+    /// The UDP length is below 8 or above the number of bytes carried.
     #[error("wrong datagram length")]
     UdpBadLength,
     /// The UDP checksum is wrong.
@@ -55,7 +54,7 @@ pub enum Why {
     /// No socket has the port.
     #[error("no socket has the port")]
     UdpNoPort,
-    /// No socket has the port of a broadcast.
+    /// A broadcast, and no socket has the port.
     #[error("no socket has the port of the broadcast")]
     UdpNoPortBroadcast,
     /// The socket's receive queue is full.
@@ -66,15 +65,15 @@ pub enum Why {
     NoBufs,
 }
 
-/// What each counter has counted. One at its greatest value stays there.
+/// The values of all counters. A counter at its greatest value stays there.
 #[derive(Clone, Copy, Debug, PartialEq, Eq)]
 pub struct Counters {
-    /// By their places in the type [`Counter`].
+    /// Indexed by the order of the cases in the type [`Counter`].
     values: [u64; COUNTERS],
 }
 
 impl Why {
-    /// The counter that counts it.
+    /// Returns the counter that counts this cause.
     pub fn counter(self) -> Counter
         ensures { result ≡ counter_of self }
     {
@@ -102,7 +101,7 @@ impl Why {
 }
 
 impl Counters {
-    /// Nothing was counted.
+    /// Returns counters that are all 0.
     pub fn none() -> Counters
         ensures { result ≡ no_counts }
     {
@@ -111,21 +110,21 @@ impl Counters {
         }
     }
 
-    /// The value of a counter.
+    /// Returns the value of a counter.
     pub fn value(&self, counter: Counter) -> u64
         ensures { result ≡ value_of counter self.now }
     {
         self.values[counter as usize]
     }
 
-    /// Counts one more.
+    /// Adds 1 to a counter.
     pub fn count(&mut self, counter: Counter)
         ensures { self.new ≡ counts_more counter 1 self.old }
     {
         self.count_more(counter, 1);
     }
 
-    /// Counts so many more.
+    /// Adds `more` to a counter.
     pub fn count_more(&mut self, counter: Counter, more: u64)
         ensures { self.new ≡ counts_more counter more self.old }
     {
@@ -133,7 +132,7 @@ impl Counters {
         *value = value.saturating_add(more);
     }
 
-    /// Counts a packet, or a receiver's part of one, that ended for this cause.
+    /// Counts a packet, or one receiver's copy of it, that ended for this cause.
     #[tactic(auto, unfolding(crate::specs::Machine::Count::counted))]
     pub fn count_ended(&mut self, why: Why)
         ensures { self.new ≡ counted why self.old }

@@ -1,4 +1,4 @@
-//! Why a call is refused.
+//! The errors of calls.
 ghost use Rattle.std.specs.Prelude.{◌≡◌};
 
 use thiserror::Error;
@@ -14,17 +14,16 @@ pub enum Lack {
     Queue,
 }
 
-/// Why a socket call was refused, with the meanings of 4.4BSD's error numbers. It's displayed in the words that 4.4BSD
-/// has for them.
+/// Why a socket call failed, with the meanings of 4.4BSD's error numbers. It is displayed with 4.4BSD's text.
 #[derive(Clone, Copy, Debug, PartialEq, Eq, Error)]
 pub enum Errno {
     /// The descriptor isn't open.
     #[error("bad file descriptor")]
     BadDescriptor,
-    /// The destination is the broadcast address, and the socket may not send there.
+    /// The destination is the broadcast address, and the socket isn't allowed to send to it.
     #[error("permission denied")]
     Access,
-    /// The socket is bound already.
+    /// The socket is already bound.
     #[error("invalid argument")]
     Invalid,
     /// All descriptors are open.
@@ -33,7 +32,7 @@ pub enum Errno {
     /// No datagram is queued, and the call doesn't wait.
     #[error("resource temporarily unavailable")]
     WouldBlock,
-    /// The socket isn't connected, and no destination was given.
+    /// The socket isn't connected, and the call has no destination.
     #[error("destination address required")]
     DestinationRequired,
     /// The datagram is too long.
@@ -42,13 +41,13 @@ pub enum Errno {
     /// Another socket has the address and port.
     #[error("address already in use")]
     AddressInUse,
-    /// The address isn't one of this machine, or the port to connect to is 0.
+    /// The address isn't an address of this host, or the port to connect to is 0.
     #[error("can't assign requested address")]
     AddressNotAvailable,
-    /// There is no buffer, or no room in the output queue.
+    /// There are too few buffers, or the output queue has too little space.
     #[error("no buffer space available ({0})")]
     NoBufs(Lack),
-    /// The socket is connected, and a destination was given.
+    /// The socket is connected, and the call has a destination.
     #[error("socket is already connected")]
     IsConnected,
     /// No interface leads to the destination.
@@ -59,7 +58,7 @@ pub enum Errno {
 impl Lack {
     ghost use Rattle.flat_model.specs.Scripts.Errnos.{lack_name};
 
-    /// The word for it after `ENOBUFS`.
+    /// Returns the word that is printed after `ENOBUFS`.
     pub fn name(self) -> &'static str
         ensures { result.now ≡ lack_name self }
     {
@@ -73,7 +72,7 @@ impl Lack {
 impl Errno {
     ghost use Rattle.flat_model.specs.Scripts.Errnos.{errno_number, name_of};
 
-    /// Its number in 4.4BSD (sys/errno.h), 9 to 65.
+    /// Returns its number in 4.4BSD (sys/errno.h), 9 to 65.
     pub fn number(self) -> u8
         ensures { result ≡ errno_number self }
     {
@@ -93,7 +92,7 @@ impl Errno {
         }
     }
 
-    /// Its name in 4.4BSD. `NoBufs` has one name, whatever was lacking.
+    /// Returns its name in 4.4BSD. `NoBufs` has one name, whatever was lacking.
     pub fn name(self) -> &'static str
         ensures { result.now ≡ name_of self }
     {

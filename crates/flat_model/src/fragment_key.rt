@@ -1,14 +1,14 @@
-//! By what fragments find their datagram.
+//! The key that connects fragments with their datagram.
 
-/// What says that fragments are of one datagram (RFC 791, section 3.2).
+/// Fragments with the same key are of one datagram (RFC 791, section 3.2).
 #[derive(Clone, Copy, Debug, PartialEq, Eq)]
 pub struct FragmentKey {
-    /// The address that they come from.
+    /// The source address.
     pub source: u32,
-    /// The address that they go to.
+    /// The destination address.
     pub destination: u32,
     /// The identification of the datagram.
     pub id: u16,
-    /// The protocol number of what it carries.
+    /// The protocol number of its data.
     pub protocol: u8,
 }

@@ -1,6 +1,6 @@
-//! The machine that a datagram stack has to be: it keeps flat byte strings with weights, and no buffer,
-//! link or place is in it. `specs/` holds its definitions, and this crate the plain types that they share
-//! with the code, and the laws that hold of them.
+//! The reference machine: the behaviour that a datagram stack must have. It works on flat byte strings with weights,
+//! without buffers, links or places. `specs/` contains its definitions. This crate contains the plain types that the
+//! definitions share with the code, and the laws about them.
 #![tactic(auto)]
 
 mod address;

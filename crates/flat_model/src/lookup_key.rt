@@ -1,9 +1,9 @@
-//! By what a packet finds its socket.
+//! The key that finds a packet's socket.
 use crate::address::Addr;
 
-/// What is looked for among the sockets (`in_pcblookup` of volume 2, chapter 22).
+/// The key of a socket lookup (`in_pcblookup` of volume 2, chapter 22).
 ///
-/// Unset is not 0: a packet has all of them set, the address 0.0.0.0 and the port 0 too.
+/// Unset is not 0: for a packet all of the fields are set, even the address 0.0.0.0 and the port 0.
 #[derive(Clone, Copy, Debug, PartialEq, Eq)]
 pub struct LookupKey {
     /// The local address.

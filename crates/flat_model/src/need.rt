@@ -1,10 +1,10 @@
 //! Numbers of buffers.
 
-/// How many free buffers something takes (this project's own).
+/// The number of free buffers that an operation takes (this project's own).
 #[derive(Clone, Copy, Debug, PartialEq, Eq)]
 pub struct Need {
-    /// How many mbufs.
+    /// The number of mbufs.
     pub mbufs: u32,
-    /// How many clusters.
+    /// The number of clusters.
     pub clusters: u32,
 }

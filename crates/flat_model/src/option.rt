@@ -1,10 +1,10 @@
 //! The options of a socket.
 
-/// An option of a socket (volume 2, chapter 17), clear in a new one.
+/// An option of a socket (volume 2, chapter 17), off in a new socket.
 #[derive(Clone, Copy, Debug, PartialEq, Eq)]
 pub enum Opt {
-    /// Sends to the broadcast address are allowed.
+    /// The socket may send to the broadcast address.
     Broadcast,
-    /// Others that have it too may bind to the same address and port.
+    /// Other sockets that have it too may bind to the same address and port.
     ReusePort,
 }

@@ -1,4 +1,4 @@
-//! Theorems of the definitions. Each is a function that does nothing, and its contract is the theorem.
+//! Theorems about the definitions. Each is a function that does nothing; its contract is the theorem.
 ghost use Rattle.std.specs.Prelude.{◌≡◌, ◌↔◌, ◌+◌, ◌%◌, ℕ, Bool, true, List, [], ◌∷◌, ◌++◌, ◌≤◌, length};
 ghost use Rattle.params.specs.declared.TheConstants.{FRAGMENT_UNIT, IP_HEADER};
 ghost use Rattle.flat_model.specs.Amounts.Weight.{Item, nothing};
@@ -14,28 +14,29 @@ ghost use Rattle.flat_model.specs.Scripts.Script.{Prints, IsPrintOfRun, PrintsRu
 ghost use Rattle.flat_model.specs.declared.config.Config.{Config};
 ghost use Rattle.flat_model.specs.Runs.Laws.{CutsJoin};
 
-/// The parts of a string put together are the string. All but the last are a multiple of 8 long, and
-/// each packet is at most as long as the link takes (RFC 791 section 3.2, "Fragmentation and Reassembly").
+/// The parts of a string, joined, are the string. The length of every part except the last is a multiple of 8, and each
+/// packet is at most as long as the link's MTU (RFC 791 section 3.2, "Fragmentation and Reassembly").
 pub fn cuts_join()
     ensures { (s : List ℕ) (mtu : ℕ) → IP_HEADER + FRAGMENT_UNIT ≤ mtu → CutsJoin s mtu }
 {}
 
-/// Fragments are of one datagram exactly where the whole of their keys is the same: source, destination, identification
-/// and protocol (RFC 791, section 3.2).
+/// Fragments are of one datagram exactly if all fields of their keys are equal: source, destination, identification and
+/// protocol (RFC 791, section 3.2).
 pub fn keys_are_whole()
     ensures { (k : Key) (u : Unfinished) → (is_key k u ≡ true) ↔ (u.key ≡ k) }
 {}
 
-/// A send that leaves spends its identification, whether or not the output queue takes all of its packets: in the state
-/// that it leaves, before any of them comes back, the next datagram has the next one, and after 65,535 comes 0.
+/// A send that reaches the output queue uses up its identification, whether or not the queue accepts all of its
+/// packets. In the state right after it, before any of its packets comes back, the next datagram has the next
+/// identification; 0 follows 65,535.
 pub fn sends_are_numbered()
     ensures { (fd : ℕ) (out : List Item) (x : Sending) (old : State) →
         (enqueued (to_link old.config x.to.ip out) (spent fd x.port (parts_of old.config x) old)).next_id
         ≡ (old.next_id + 1) % 65536 }
 {}
 
-/// The machine that keeps exact accounts of its buffers does nothing that the machine without accounts may not do:
-/// each of its steps is a step of that one, and so each of its runs is a run.
+/// The machine with exact buffer accounts does nothing that the machine without accounts may not do: each of its steps
+/// is a step of that machine, so each of its runs is a run of it.
 pub fn exact_is_loose()
     ensures step { (old new : State) (event : Event) (reply : Reply) →
         Step old event reply new → Loose old event reply new }
@@ -43,9 +44,9 @@ pub fn exact_is_loose()
         Run config turns new → Leads loose_ledger (boot config) turns new }
 {}
 
-/// What holds of every state that the machine reaches: its accounts are never overdrawn, what it holds refers
-/// to clusters of the pool and has room for its bytes, descriptors and keys differ, and every number is
-/// within its limits. It holds at the start, and every step of the exact machine keeps it.
+/// What holds in every state that the machine reaches. Its accounts are never overdrawn. What it holds refers to
+/// clusters of the pool and has space for its bytes. Descriptors differ, keys differ, and every number is within its
+/// limits. All this holds at the start, and every step of the exact machine preserves it.
 pub fn states_are_consistent()
     ensures start { (config : Config) → IsConfig config → IsConsistent (boot config) }
     ensures step { (old new : State) (event : Event) (reply : Reply) →
@@ -54,7 +55,7 @@ pub fn states_are_consistent()
         IsConfig config → Run config turns new → IsConsistent new }
 {}
 
-/// A run goes on with one more event, as the machine answers it.
+/// A run continues with one more event, as the machine replies to it.
 pub fn leads_on()
     ensures exact { (old mid new : State) (turns : List Turn) (turn : Turn) → Leads exact_ledger old turns mid →
         IsEvent turn.event → Step mid turn.event turn.reply new → Leads exact_ledger old (turns ++ turn ∷ []) new }
@@ -62,9 +63,9 @@ pub fn leads_on()
         IsEvent turn.event → Loose mid turn.event turn.reply new → Leads loose_ledger old (turns ++ turn ∷ []) new }
 {}
 
-/// What is printed for the lines of a script is told by a run: each line that asks for an event has its turn, in
-/// their order, and what is printed are the replies of these turns, with a question mark for every other line. From
-/// boot, and where all lines are served, it's a run of the whole machine.
+/// A run determines what is printed for the lines of a script. Each line that requests an event takes one step, in
+/// order; the output is the replies of these steps, and a question mark for every other line. From boot, and if all
+/// lines are served, it is a run of the whole machine.
 pub fn printed_is_run()
     ensures exact { (serves : Event → Bool) (old new : State) (lines : List (List ℕ)) (printed : List ℕ) →
         Prints serves Step old lines printed new → IsPrintOfRun exact_ledger serves old lines printed new }
@@ -74,8 +75,8 @@ pub fn printed_is_run()
         Prints all_events Step (boot config) lines printed new → PrintsRun config lines printed new }
 {}
 
-/// The accounts balance: free and held mbufs are all that there are, the counts of all clusters add up to the
-/// references, and where nothing is held everything is free and nothing refers to a cluster.
+/// The accounts balance: free and held mbufs add up to the total, and the counts of all clusters add up to the number
+/// of references. If nothing is held, everything is free and no reference to a cluster exists.
 pub fn accounts_balance()
     ensures mbufs { (s : State) → IsConsistent s →
         free_mbufs s nothing + (weight_of_state s).mbufs ≡ s.config.mbufs }

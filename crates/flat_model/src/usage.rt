@@ -3,16 +3,16 @@
 /// How much of the pool is in use (4.4BSD's `mbstat`, volume 2 chapter 2, in this project's own selection).
 #[derive(Clone, Copy, Debug, PartialEq, Eq)]
 pub struct Mbstat {
-    /// How many mbufs are free.
+    /// The number of free mbufs.
     pub free_mbufs: u32,
-    /// How many mbufs there are.
+    /// The number of mbufs.
     pub mbufs: u32,
-    /// How many clusters are free.
+    /// The number of free clusters.
     pub free_clusters: u32,
-    /// How many clusters there are.
+    /// The number of clusters.
     pub clusters: u32,
-    /// The sum of the counts of all clusters.
+    /// The sum of the reference counts of all clusters.
     pub refs: u32,
-    /// The greatest count of a cluster, 0 where there is none.
+    /// The greatest reference count of a cluster, 0 if there is no cluster.
     pub most: u32,
 }

@@ -1,5 +1,5 @@
--- A machine with these control blocks, whose last ephemeral port is known. What else there is makes no difference
--- to the choice of a port (this project's own).
+-- A machine with these control blocks and this last ephemeral port. The rest of the state has no effect on the choice
+-- of a port (this project's own).
 use Rattle.std.specs.Prelude.{ℕ, List, Option}
 use Rattle.flat_model.specs.Machine.State.{State, boot}
 use Rattle.flat_plain.specs.declared.lookup.Pcb.{Pcb}

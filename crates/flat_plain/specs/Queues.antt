@@ -1,5 +1,5 @@
--- A queue of the programs as a queue of the definitions. Which bytes and which clusters there are makes no
--- difference to its limits: all are 0 (this project's own).
+-- A queue of the programs as a queue of the definitions. The values of its bytes and the numbers of its clusters have
+-- no effect on its limits, so all are 0 here (this project's own).
 use Rattle.std.specs.Prelude.{List, map, replicate}
 use Rattle.flat_model.specs.Machine.State.{Datagram}
 use Rattle.flat_plain.specs.declared.queues.Waiting.{Waiting}

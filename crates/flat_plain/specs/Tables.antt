@@ -6,7 +6,7 @@ use Rattle.flat_model.specs.Fragments.Overlay.{Held, Map}
 use Rattle.flat_plain.specs.declared.maps.Cell.{Cell}
 use Rattle.flat_plain.specs.declared.maps.Fragment.{Fragment}
 
--- so many mbufs, and the clusters that are there
+-- this many mbufs, and the clusters that are `Some`
 abbrev pub weight_of_mbufs : ℕ → List (Option ℕ) → Weight
 weight_of_mbufs mbufs clusters = record { mbufs = mbufs; bag = filter_map (λ c. c) clusters }
 
@@ -18,7 +18,7 @@ held_of (Some cell) =
       piece = record { first = cell.first; more = cell.more; weight = weight_of_mbufs cell.mbufs cell.clusters };
     })
 
--- nothing lies after the table's end
+-- there is no byte after the table's end
 abbrev pub plain_map : List (Option Cell) → Map
 plain_map cells offset = held_of (slice_index_or cells offset None)
 
@@ -26,7 +26,7 @@ abbrev pub plain_fragment : Fragment → List ℕ → Overlay.Fragment
 plain_fragment f bytes =
     record { offset = f.offset; bytes = bytes; more = f.more; weight = weight_of_mbufs f.mbufs f.clusters }
 
--- whether more come after the piece that lies there
+-- whether more pieces follow the one at an offset
 abbrev pub more_of : Option Held → Bool
 more_of None = false
 more_of (Some held) = held.piece.more

@@ -19,7 +19,7 @@ entries_of entries = map plain_entry entries
 abbrev pub entry_size : Layout.LayoutEntry → ℕ
 entry_size e = e.size
 
--- the weight of the piece that lies there, where it begins at k
+-- the weight of the piece in the cell, if it begins at k
 abbrev pub weight_begun : Option Cell → ℕ → flat.Weight
 weight_begun None k = flat.nothing
 weight_begun (Some cell) k = if cell.first == k then weight_of_mbufs cell.mbufs cell.clusters else flat.nothing

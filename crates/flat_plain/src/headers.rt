@@ -1,4 +1,4 @@
-//! The bytes of a packet, and what its header says.
+//! The bytes of a packet, and its decoded header.
 ghost use Rattle.std.specs.Prelude.{◌≡◌, ◌+◌, ◌*◌, ◌<◌, ◌≤◌, ◌++◌, length, take, drop, IfOk};
 ghost use Rattle.flat_model.specs.Packets.Header as Header;
 ghost use Rattle.flat_plain.specs.Heads.{plain_head};
@@ -9,24 +9,24 @@ use flat_model::{Addr, Why, fold};
 use params::{IP_DEFAULT_TTL, IP_HEADER, IP_MAX_DATA, PROTOCOL_UDP, UDP_HEADER, UDP_MAX_DATA};
 use std::alloc::{AllocError, Global};
 
-/// What differs from packet to packet.
+/// The header fields that differ from packet to packet.
 #[derive(Clone, Copy, Debug, PartialEq, Eq)]
 pub struct Head {
     /// The identification of its datagram.
     pub id: u16,
-    /// Whether more fragments come after it.
+    /// Whether more fragments follow it.
     pub more: bool,
-    /// Where what it carries begins in its datagram, in bytes.
+    /// The offset of its data in the datagram, in bytes.
     pub offset: u32,
-    /// The protocol number of what it carries.
+    /// The protocol number of its data.
     pub protocol: u8,
-    /// The address that it comes from.
+    /// The source address.
     pub source: u32,
-    /// The address that it goes to.
+    /// The destination address.
     pub destination: u32,
 }
 
-/// The number in the two bytes from a place on, the high byte first.
+/// Returns the big-endian number in the two bytes from offset `at`.
 pub fn u16_at(bytes: &[u8], at: usize) -> u16
     requires { at + 2 ≤ length bytes.now }
     ensures { result ≡ Header.u16_at at bytes.now }
@@ -34,7 +34,7 @@ pub fn u16_at(bytes: &[u8], at: usize) -> u16
     BigEndian::read_u16(&bytes[at..])
 }
 
-/// The number in the four bytes from a place on.
+/// Returns the big-endian number in the four bytes from offset `at`.
 fn u32_at(bytes: &[u8], at: usize) -> u32
     requires { at + 4 ≤ length bytes.now }
     ensures { result ≡ Header.u32_at at bytes.now }
@@ -42,7 +42,7 @@ fn u32_at(bytes: &[u8], at: usize) -> u32
     BigEndian::read_u32(&bytes[at..])
 }
 
-/// What the header of a packet of 20 bytes or more says.
+/// Decodes the header of a packet of 20 bytes or more.
 pub fn head_of(bytes: &[u8]) -> Head
     requires { IP_HEADER ≤ length bytes.now }
     ensures { plain_head result ≡ Header.head_of bytes.now }
@@ -58,7 +58,7 @@ pub fn head_of(bytes: &[u8]) -> Head
     }
 }
 
-/// Why the header of a packet is refused, by the first test that it fails.
+/// Returns why the header of a packet is refused: the first test that it fails.
 pub fn head_fault(bytes: &[u8]) -> Option<Why>
     ensures { result ≡ Header.head_fault bytes.now }
 {
@@ -87,7 +87,7 @@ pub fn head_fault(bytes: &[u8]) -> Option<Why>
     None
 }
 
-/// Writes a number of 16 bits over the bytes from a place on.
+/// Writes a 16-bit number over the bytes from offset `at`.
 fn put_u16(bytes: &mut [u8], at: usize, n: u16)
     requires { at + 2 ≤ length bytes.old }
     ensures { bytes.new ≡ take at bytes.old ++ (Header.two_bytes n ++ drop (at + 2) bytes.old) }
@@ -95,7 +95,7 @@ fn put_u16(bytes: &mut [u8], at: usize, n: u16)
     BigEndian::write_u16(&mut bytes[at..at + 2], n);
 }
 
-/// Writes a number of 32 bits over the bytes from a place on.
+/// Writes a 32-bit number over the bytes from offset `at`.
 fn put_u32(bytes: &mut [u8], at: usize, n: u32)
     requires { at + 4 ≤ length bytes.old }
     ensures { bytes.new ≡ take at bytes.old ++ (Header.four_bytes n ++ drop (at + 4) bytes.old) }
@@ -103,7 +103,8 @@ fn put_u32(bytes: &mut [u8], at: usize, n: u32)
     BigEndian::write_u32(&mut bytes[at..at + 4], n);
 }
 
-/// The ten bytes in front of the checksum, of a packet that carries n bytes, the checksum, and the addresses.
+/// Builds the header of a packet that carries `n` bytes: the ten bytes before the checksum, the checksum, and the
+/// addresses.
 fn header(head: Head, n: u16, sum: u16) -> [u8; 20]
     requires total { n ≤ IP_MAX_DATA }
     requires offset { head.offset ≤ 65528 }
@@ -124,8 +125,8 @@ fn header(head: Head, n: u16, sum: u16) -> [u8; 20]
     bytes
 }
 
-/// A packet that carries at most 65,515 bytes, at an offset of at most 65,528. `AllocError` where the host refuses
-/// memory for it.
+/// Builds a packet that carries at most 65,515 bytes, at an offset of at most 65,528. Returns `AllocError` if the host
+/// refuses memory for it.
 pub fn packet(alloc: Global, head: Head, carried: &[u8]) -> Result<Vec<u8>, AllocError>
     requires total { length carried.now ≤ IP_MAX_DATA }
     requires offset { head.offset ≤ 65528 }
@@ -139,7 +140,7 @@ pub fn packet(alloc: Global, head: Head, carried: &[u8]) -> Result<Vec<u8>, Allo
     Ok(bytes)
 }
 
-/// What the UDP checksum covers in front of the UDP header.
+/// Builds what the UDP checksum covers in addition to the UDP datagram.
 fn pseudo_header(source: u32, destination: u32, n: u16) -> [u8; 12]
     ensures { result ≡ Header.pseudo_header source destination n }
 {
@@ -151,7 +152,7 @@ fn pseudo_header(source: u32, destination: u32, n: u16) -> [u8; 12]
     bytes
 }
 
-/// The UDP header of a datagram of n bytes, header and all.
+/// Builds the UDP header of a datagram of `n` bytes, header included.
 fn udp_header(source_port: u16, destination_port: u16, n: u16, sum: u16) -> [u8; 8]
     ensures { result ≡ Header.two_bytes source_port ++ Header.two_bytes destination_port
         ++ Header.two_bytes n ++ Header.two_bytes sum }
@@ -180,7 +181,8 @@ fn joined(alloc: Global, front: &[u8], middle: &[u8], back: &[u8]) -> Result<Vec
     Ok(bytes)
 }
 
-/// A datagram of at most 65,507 bytes after its UDP header. `AllocError` where the host refuses memory for it.
+/// Builds a datagram of at most 65,507 bytes after its UDP header. Returns `AllocError` if the host refuses memory for
+/// it.
 pub fn udp(
     alloc: Global,
     source: Addr,
@@ -201,8 +203,8 @@ pub fn udp(
     Ok(bytes)
 }
 
-/// Why a datagram of at most 65,515 bytes is refused, by the first test that it fails. `AllocError` where the host
-/// refuses memory for what its checksum covers.
+/// Returns why a datagram of at most 65,515 bytes is refused: the first test that it fails. Returns `AllocError` if the
+/// host refuses memory for the bytes that its checksum covers.
 pub fn udp_fault(
     alloc: Global,
     source: u32,

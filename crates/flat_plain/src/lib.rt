@@ -1,8 +1,8 @@
 //! The definitions of `flat_model` that compute, as small programs over slices and vectors.
 //!
-//! Each is proved to give its definition, and is slow on purpose: the tests here run them on values from outside, and
-//! those of `pcb_compare` compare a control block table's answers with theirs. They stand apart from `flat_model` so
-//! that every other crate is checked over a base of definitions and laws alone.
+//! Each program is proved to compute its definition, and is slow on purpose. The tests here run them on values from
+//! outside sources, and the tests of `pcb_compare` compare the results of a control block table with theirs. They are
+//! separate from `flat_model` so that every other crate is checked over a base of only definitions and laws.
 #![tactic(auto)]
 
 mod headers;

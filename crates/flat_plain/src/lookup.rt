@@ -1,4 +1,4 @@
-//! Which socket a packet or a call finds. Lists have the youngest first.
+//! Which socket a packet or a call finds. Lists begin with the youngest.
 ghost use Rattle.std.specs.Prelude.{◌≡◌, ◌≤◌, ◌++◌, ◌==◌, filter, not, if◌then◌else◌, OnOk, IfOk, Some, None};
 ghost use Rattle.std.specs.Option.{option_map};
 ghost use Rattle.flat_model.specs.Sockets.Lookup as Lookup;
@@ -7,16 +7,16 @@ ghost use Rattle.flat_plain.specs.Blocks.{socket_of, sockets_of};
 use flat_model::{Addr, LookupKey};
 use std::alloc::{AllocError, Global};
 
-/// What a lookup reads of an open socket.
+/// The fields of an open socket that a lookup reads.
 #[derive(Clone, Copy, Debug, PartialEq, Eq)]
 pub struct Pcb {
     /// The socket's descriptor.
     pub fd: u32,
-    /// Its local address, where that is set.
+    /// Its local address, if that is set.
     pub local: Option<u32>,
-    /// Its local port, where that is set.
+    /// Its local port, if that is set.
     pub port: Option<u16>,
-    /// Whom it is connected to, if it is.
+    /// The address and port that it is connected to, if it is.
     pub peer: Option<Addr>,
     /// Whether it shares its port.
     pub reuse_port: bool,
@@ -75,7 +75,7 @@ fn one_peer(a: Option<Addr>, b: Option<Addr>) -> u32
     }
 }
 
-/// Whether nothing that is set on both sides differs, and the ports are set and equal.
+/// Returns whether every field that is set on both sides is equal, and the ports are set and equal.
 pub fn matches(q: LookupKey, pcb: Pcb) -> bool
     ensures { result ≡ Lookup.matches q (socket_of pcb) }
 {
@@ -88,7 +88,7 @@ fn wildcards(q: LookupKey, pcb: Pcb) -> u32
     one_local(pcb.local, q.local) + one_peer(pcb.peer, q.peer)
 }
 
-/// How many wildcards a control block takes, where it matches.
+/// Returns the number of wildcards of a control block, if it matches.
 pub fn score(q: LookupKey, pcb: Pcb) -> Option<u32>
     ensures { result ≡ Lookup.score q (socket_of pcb) }
 {
@@ -99,7 +99,7 @@ pub fn score(q: LookupKey, pcb: Pcb) -> Option<u32>
     }
 }
 
-/// The youngest that matches with so many wildcards.
+/// Returns the youngest control block that matches with this number of wildcards.
 fn youngest(wanted: u32, q: LookupKey, pcbs: &[Pcb]) -> Option<Pcb>
     ensures { option_map socket_of result ≡ Lookup.youngest wanted q (sockets_of pcbs.now) }
 {
@@ -115,7 +115,7 @@ fn youngest(wanted: u32, q: LookupKey, pcbs: &[Pcb]) -> Option<Pcb>
     }
 }
 
-/// The control block without a wildcard, the youngest of several.
+/// Returns the control block without a wildcard, the youngest of several.
 pub fn exact(q: LookupKey, pcbs: &[Pcb]) -> Option<Pcb>
     ensures { option_map socket_of result ≡ Lookup.exact q (sockets_of pcbs.now) }
 {
@@ -123,7 +123,7 @@ pub fn exact(q: LookupKey, pcbs: &[Pcb]) -> Option<Pcb>
     youngest(wanted, q, pcbs)
 }
 
-/// The control block with the fewest wildcards, the youngest of several.
+/// Returns the control block with the fewest wildcards, the youngest of several.
 pub fn best(q: LookupKey, pcbs: &[Pcb]) -> Option<Pcb>
     ensures { option_map socket_of result ≡ Lookup.best q (sockets_of pcbs.now) }
 {
@@ -138,7 +138,7 @@ pub fn best(q: LookupKey, pcbs: &[Pcb]) -> Option<Pcb>
     youngest(2, q, pcbs)
 }
 
-/// Adds those that hear a broadcast.
+/// Adds the control blocks that receive a broadcast.
 fn hear(found: &mut Vec<Pcb>, q: LookupKey, pcbs: &[Pcb]) -> Result<(), AllocError>
     ensures { OnOk result (sockets_of found.new.items
         ≡ sockets_of found.old.items ++ Lookup.receivers q (sockets_of pcbs.now)) }
@@ -158,8 +158,8 @@ fn hear(found: &mut Vec<Pcb>, q: LookupKey, pcbs: &[Pcb]) -> Result<(), AllocErr
     }
 }
 
-/// All that hear a broadcast, up to the first one that doesn't share its port. `AllocError` where the host refuses
-/// memory for the list.
+/// Returns all control blocks that receive a broadcast, up to the first one that doesn't share its port. Returns
+/// `AllocError` if the host refuses memory for the list.
 pub fn receivers(alloc: Global, q: LookupKey, pcbs: &[Pcb]) -> Result<Vec<Pcb>, AllocError>
     ensures { IfOk result (λ v. sockets_of v.items ≡
         Lookup.receivers q (sockets_of pcbs.now)) }

@@ -1,26 +1,26 @@
-//! The bytes of an unfinished datagram, as a table with a place for each offset.
+//! The bytes of an unfinished datagram, as a table with one cell for each offset.
 ghost use Rattle.std.specs.Prelude.{◌≡◌, ℕ, ◌+◌, ◌<◌, ◌≤◌, ◌&&◌, nat_lt, length, count_by, true, false, None, IsSome, IfSome, IfNone};
 ghost use Rattle.std.specs.List.{range_with_len};
 ghost use Rattle.flat_model.specs.Fragments.Overlay as Overlay;
 ghost use Rattle.flat_model.specs.Fragments.Whole.{IsWhole};
 ghost use Rattle.flat_plain.specs.Tables.{plain_map, held_of, plain_fragment, more_of};
 
-/// What lies at an offset, and the piece that brought it.
+/// The byte at an offset, and the piece that brought it.
 #[derive(Clone, Copy, Debug, PartialEq, Eq)]
 pub struct Cell {
     /// The byte.
     pub byte: u8,
     /// The least offset that the piece owns.
     pub first: u32,
-    /// Whether more come after the piece.
+    /// Whether more pieces follow this one.
     pub more: bool,
-    /// How many mbufs the piece has.
+    /// The number of mbufs in the piece.
     pub mbufs: u32,
     /// The clusters to which they refer.
     pub clusters: [Option<u32>; 5],
 }
 
-/// Whether what lies there stays where a fragment at this offset comes.
+/// Returns whether the byte there stays when a fragment at this offset arrives.
 fn stays(offset: u32, cell: Option<Cell>) -> bool
     ensures { result ≡ Overlay.stays offset (held_of cell) }
 {
@@ -30,7 +30,7 @@ fn stays(offset: u32, cell: Option<Cell>) -> bool
     }
 }
 
-/// At how many of n offsets from `at` on what lies there stays.
+/// Returns at how many of `n` offsets, from `at`, the byte there stays.
 fn staying(cells: &[Option<Cell>], offset: u32, at: u32, n: u32) -> u32
     requires inside { at + n ≤ length cells.now }
     requires small { length cells.now ≤ 65536 }
@@ -49,20 +49,20 @@ fn staying(cells: &[Option<Cell>], offset: u32, at: u32, n: u32) -> u32
     }
 }
 
-/// Where a fragment begins, whether more come after it, and what it weighs.
+/// A fragment's offset, whether more fragments follow it, and its weight.
 #[derive(Clone, Copy, Debug, PartialEq, Eq)]
 pub struct Fragment {
-    /// Where it begins in its datagram, in bytes.
+    /// Its offset in the datagram, in bytes.
     pub offset: u32,
-    /// Whether more come after it.
+    /// Whether more fragments follow it.
     pub more: bool,
-    /// How many mbufs it has.
+    /// The number of its mbufs.
     pub mbufs: u32,
     /// The clusters to which its mbufs refer.
     pub clusters: [Option<u32>; 5],
 }
 
-/// Whether the offset is one of the fragment's.
+/// Returns whether the offset is one of the fragment's.
 fn is_within(fragment: Fragment, bytes: &[u8], k: u32) -> bool
     requires small { length bytes.now ≤ 65536 }
     requires offset { fragment.offset ≤ 65536 }
@@ -72,14 +72,14 @@ fn is_within(fragment: Fragment, bytes: &[u8], k: u32) -> bool
     fragment.offset <= k && k < fragment.offset + bytes.len() as u32
 }
 
-/// Whether a piece begins between these two offsets.
+/// Returns whether a piece begins between these two offsets.
 fn begins_between(first: u32, offset: u32, after: u32) -> bool
     ensures { result ≡ (nat_lt offset first && nat_lt first after) }
 {
     offset < first && first < after
 }
 
-/// What lies at an offset once the fragment is laid over it.
+/// Returns the cell at an offset after the fragment has been laid over the table.
 fn laid(old: Option<Cell>, k: u32, fragment: Fragment, first: u32, bytes: &[u8]) -> Option<Cell>
     requires small { length bytes.now ≤ 65536 }
     requires offset { fragment.offset ≤ 65536 }
@@ -134,8 +134,8 @@ fn laid(old: Option<Cell>, k: u32, fragment: Fragment, first: u32, bytes: &[u8])
     }
 }
 
-/// Whether every byte of a fragment is held already by pieces that begin no later. The table is long enough
-/// for the fragment.
+/// Returns whether pieces that begin no later hold every byte of a fragment already. The table is long enough for the
+/// fragment.
 pub fn is_covered(cells: &[Option<Cell>], fragment: Fragment, bytes: &[u8]) -> bool
     requires small { length cells.now ≤ 65536 }
     requires inside { fragment.offset + length bytes.now ≤ length cells.now }
@@ -145,7 +145,7 @@ pub fn is_covered(cells: &[Option<Cell>], fragment: Fragment, bytes: &[u8]) -> b
     first_owned(cells, fragment, bytes) >= fragment.offset + bytes.len() as u32
 }
 
-/// The least offset that the fragment's piece will own.
+/// Returns the least offset that the fragment's piece will own.
 fn first_owned(cells: &[Option<Cell>], fragment: Fragment, bytes: &[u8]) -> u32
     requires small { length cells.now ≤ 65536 }
     requires inside { fragment.offset + length bytes.now ≤ length cells.now }
@@ -155,7 +155,7 @@ fn first_owned(cells: &[Option<Cell>], fragment: Fragment, bytes: &[u8]) -> u32
     fragment.offset + staying(cells, fragment.offset, fragment.offset, bytes.len() as u32)
 }
 
-/// Lays a fragment over the table, which is long enough for it and has at most 65,536 places.
+/// Lays a fragment over the table, which is long enough for it and has at most 65,536 cells.
 pub fn overlay(cells: &mut [Option<Cell>], fragment: Fragment, bytes: &[u8])
     requires small { length cells.old ≤ 65536 }
     requires inside { fragment.offset + length bytes.now ≤ length cells.old }
@@ -168,7 +168,7 @@ pub fn overlay(cells: &mut [Option<Cell>], fragment: Fragment, bytes: &[u8])
     }
 }
 
-/// How many places in front have a byte.
+/// Returns how many cells from the front have a byte, without a gap.
 fn front_len(cells: &[Option<Cell>]) -> usize
     ensures within { result ≤ length cells.now }
     ensures filled { (k : ℕ) → k < result → IsSome (plain_map cells.now k) }
@@ -182,7 +182,7 @@ fn front_len(cells: &[Option<Cell>]) -> usize
     cells.len()
 }
 
-/// Whether no place from this one on has a byte.
+/// Returns whether no cell from index `n` on has a byte.
 fn is_empty_from(cells: &[Option<Cell>], n: usize) -> bool
     requires { n ≤ length cells.now }
     ensures yes { result ≡ true → (k : ℕ) → n ≤ k → plain_map cells.now k ≡ None }
@@ -196,7 +196,7 @@ fn is_empty_from(cells: &[Option<Cell>], n: usize) -> bool
     true
 }
 
-/// Whether more come after the piece that lies there.
+/// Returns whether more pieces follow the one in the cell.
 fn has_more(cell: Option<Cell>) -> bool
     ensures { result ≡ more_of (held_of cell) }
 {
@@ -206,7 +206,7 @@ fn has_more(cell: Option<Cell>) -> bool
     }
 }
 
-/// The length of the datagram where the table has all of it.
+/// Returns the length of the datagram if the table contains all of it.
 pub fn whole(cells: &[Option<Cell>]) -> Option<usize>
     ensures some { IfSome result (λ n. IsWhole (plain_map cells.now) n) }
     ensures none { IfNone result ((n : ℕ) → ¬ IsWhole (plain_map cells.now) n) }

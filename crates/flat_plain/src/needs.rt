@@ -10,16 +10,16 @@ use crate::rooms::{Room, meets, sent};
 use params::{FRAGMENT_UNIT, IP_HEADER, IP_MAX_PACKET, UDP_HEADER, UDP_MAX_DATA};
 use std::alloc::{AllocError, Global};
 
-/// How many free buffers something takes.
+/// A number of free buffers.
 #[derive(Clone, Copy, Debug, PartialEq, Eq)]
 pub struct Buffers {
-    /// How many mbufs.
+    /// The number of mbufs.
     pub mbufs: u64,
-    /// How many clusters.
+    /// The number of clusters.
     pub clusters: u64,
 }
 
-/// How many of the mbufs refer to a cluster.
+/// Returns how many of the mbufs refer to a cluster.
 fn clusters_of(rooms: &[Room]) -> u64
     ensures number { result ≡ count_by Layout.is_cluster (rooms_of rooms.now) }
     ensures most { result ≤ length rooms.now }
@@ -33,7 +33,7 @@ fn clusters_of(rooms: &[Room]) -> u64
     }
 }
 
-/// What these later fragments take, of a send with this layout.
+/// Returns how many mbufs these later fragments take, of a send with this layout.
 fn later_mbufs(rooms: &[Room], parts: &[Part]) -> u64
     requires rooms { length rooms.now ≤ 65536 }
     requires parts { length parts.now ≤ 65536 }
@@ -50,7 +50,8 @@ fn later_mbufs(rooms: &[Room], parts: &[Part]) -> u64
     }
 }
 
-/// What a send of n bytes takes on a link with this MTU. `AllocError` where the host refuses memory to lay it out in.
+/// Returns what a send of `n` bytes takes on a link with this MTU. Returns `AllocError` if the host refuses memory for
+/// its layout.
 pub fn need(alloc: Global, n: u32, mtu: u32) -> Result<Buffers, AllocError>
     requires short { n ≤ UDP_MAX_DATA }
     requires least { IP_HEADER + FRAGMENT_UNIT ≤ mtu }
@@ -69,7 +70,8 @@ pub fn need(alloc: Global, n: u32, mtu: u32) -> Result<Buffers, AllocError>
     })
 }
 
-/// What a send of n bytes to the broadcast address takes. `AllocError` where the host refuses memory to lay it out in.
+/// Returns what a send of `n` bytes to the broadcast address takes. Returns `AllocError` if the host refuses memory for
+/// its layout.
 pub fn need_bcast(alloc: Global, n: u32) -> Result<Buffers, AllocError>
     requires { n ≤ UDP_MAX_DATA }
     ensures { IfOk result (λ r. plain_need r ≡ Layout.need_bcast n) }

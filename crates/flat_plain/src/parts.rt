@@ -1,4 +1,4 @@
-//! How a datagram is cut for a link.
+//! How a datagram is fragmented for a link.
 ghost use Rattle.std.specs.Prelude.{◌≡◌, ◌+◌, ◌*◌, ◌≤◌, map, IfOk, vec_len};
 ghost use Rattle.flat_model.specs.Fragments.Cuts as Cuts;
 ghost use Rattle.flat_plain.specs.Parts.{part_of};
@@ -9,15 +9,15 @@ use std::alloc::{AllocError, Global};
 /// One packet's share of a datagram.
 #[derive(Clone, Copy, Debug, PartialEq, Eq)]
 pub struct Part {
-    /// From which byte on, after the IP header.
+    /// The offset of its first byte, counted after the IP header.
     pub offset: u32,
-    /// How many bytes.
+    /// The number of bytes.
     pub size: u32,
-    /// Whether more come after it.
+    /// Whether more parts follow it.
     pub more: bool,
 }
 
-/// The i-th part of n bytes in chunks of `chunk`.
+/// Returns the i-th part of `n` bytes in chunks of `chunk`.
 fn part_at(n: u32, chunk: u32, i: u32) -> Part
     requires some { i * chunk ≤ n }
     requires small { n + chunk ≤ 131072 }
@@ -31,8 +31,8 @@ fn part_at(n: u32, chunk: u32, i: u32) -> Part
     }
 }
 
-/// The parts of n bytes after an IP header, for a link that takes packets of `mtu` bytes. `AllocError` where the host
-/// refuses memory for the list.
+/// Returns the parts of `n` bytes after an IP header, for a link with this MTU in bytes. Returns `AllocError` if the
+/// host refuses memory for the list.
 pub fn cuts(alloc: Global, n: u32, mtu: u32) -> Result<Vec<Part>, AllocError>
     requires short { n ≤ IP_MAX_PACKET }
     requires least { IP_HEADER + FRAGMENT_UNIT ≤ mtu }

@@ -9,7 +9,7 @@ ghost use Rattle.flat_plain.specs.Weights.{plain_weight};
 use crate::weights::Weight;
 use flat_model::Mbstat;
 
-/// How often the cluster stands in the bag.
+/// Returns how often the cluster is in the bag.
 fn times_of(bag: &[u32], cluster: u32) -> u32
     requires { length bag.now ≤ 65536 }
     ensures number { result ≡ times cluster bag.now }
@@ -18,7 +18,8 @@ fn times_of(bag: &[u32], cluster: u32) -> u32
     bag.iter().filter(|c| **c == cluster).count() as u32
 }
 
-/// What is shown of a pool of so many mbufs and clusters, at most 4,096 of these, where all that is held weighs so.
+/// Returns the usage of a pool of this many mbufs and clusters, at most 4,096 clusters, if everything held has this
+/// weight.
 pub fn usage(mbufs: u32, clusters: u32, held: &Weight) -> Mbstat
     requires clusters { clusters ≤ MAX_CLUSTERS }
     requires bag { length held.now.bag.items ≤ 65536 }

@@ -8,10 +8,10 @@ use crate::lookup::{Pcb, best};
 use flat_model::LookupKey;
 use params::{FIRST_EPHEMERAL_PORT, LAST_EPHEMERAL_PORT};
 
-/// How many ports are in the circle.
+/// The number of ports in the circle.
 const CIRCLE: u16 = LAST_EPHEMERAL_PORT - FIRST_EPHEMERAL_PORT + 1;
 
-/// Whether a lookup with wildcards finds a socket with this local address and port.
+/// Returns whether a lookup with wildcards finds a socket with this local address and port.
 fn is_in_use(pcbs: &[Pcb], last: Option<u16>, local: Option<u32>, port: u16) -> bool
     ensures { result ≡ Calls.is_in_use (ports_state pcbs.now last) local port }
 {
@@ -26,7 +26,7 @@ fn is_in_use(pcbs: &[Pcb], last: Option<u16>, local: Option<u32>, port: u16) -> 
     .is_some()
 }
 
-/// The k-th port after the last one chosen.
+/// Returns the k-th port after the last one chosen.
 fn port_after(last: Option<u16>, k: u16) -> u16
     requires known { ForSome last (λ p. FIRST_EPHEMERAL_PORT ≤ p) }
     requires small { ForSome last (λ p. p ≤ LAST_EPHEMERAL_PORT) }
@@ -39,8 +39,8 @@ fn port_after(last: Option<u16>, k: u16) -> u16
     }
 }
 
-/// The next ephemeral port for a socket with this local address, where `last` was chosen last. `None` says
-/// that the whole circle is in use, which 64 sockets can't bring about.
+/// Returns the next ephemeral port for a socket with this local address, after the port `last`. Returns `None` if the
+/// whole circle is in use, which 64 sockets can't cause.
 pub fn next_port(pcbs: &[Pcb], last: Option<u16>, local: Option<u32>) -> Option<u16>
     requires known { ForSome last (λ p. FIRST_EPHEMERAL_PORT ≤ p) }
     requires small { ForSome last (λ p. p ≤ LAST_EPHEMERAL_PORT) }

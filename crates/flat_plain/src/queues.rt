@@ -1,4 +1,4 @@
-//! How much a receive queue takes.
+//! How much of a receive queue is used.
 ghost use Rattle.std.specs.Prelude.{◌≡◌, ◌*◌, ◌≤◌, length};
 ghost use Rattle.flat_model.specs.Sockets.Fits as Fits;
 ghost use Rattle.flat_plain.specs.Queues.{plain_queue};
@@ -8,11 +8,11 @@ use params::{MCLBYTES, MSIZE, SOCKADDR_BYTES, UDP_RECEIVE_MEMORY, UDP_RECEIVE_SP
 /// A datagram in a receive queue, by its sizes. The mbuf for the sender's address counts too.
 #[derive(Clone, Copy, Debug, PartialEq, Eq)]
 pub struct Waiting {
-    /// How many bytes it has.
+    /// Its length in bytes.
     pub len: u16,
-    /// How many mbufs it has.
+    /// The number of its mbufs.
     pub mbufs: u16,
-    /// How many mbufs refer to clusters.
+    /// The number of its mbufs that refer to clusters.
     pub references: u16,
 }
 
@@ -40,7 +40,7 @@ fn memory_queued(queue: &[Waiting]) -> u64
     }
 }
 
-/// Whether a datagram of n bytes fits into the queue.
+/// Returns whether a datagram of `n` bytes fits into the queue.
 pub fn fits(queue: &[Waiting], n: u16) -> bool
     requires { length queue.now ≤ 65536 }
     ensures { result ≡ Fits.fits (plain_queue queue.now) n }

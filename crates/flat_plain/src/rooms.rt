@@ -1,4 +1,4 @@
-//! Into which buffers bytes go.
+//! Into which buffers bytes are stored.
 ghost use Rattle.std.specs.Prelude.{◌≡◌, ◌+◌, ◌*◌, ◌^◌, ◌<◌, ◌≤◌, ◌++◌, length, map, OnOk, IfOk, vec_len};
 ghost use Rattle.flat_model.specs.Amounts.Layout.{filled, next_room, meets_from, size_of};
 ghost use Rattle.flat_model.specs.Amounts.Layout as Layout;
@@ -9,17 +9,17 @@ use params::{
 };
 use std::alloc::{AllocError, Global};
 
-/// An mbuf of a chain, by the bytes in it.
+/// An mbuf of a chain, by the number of bytes in it.
 #[derive(Clone, Copy, Debug, PartialEq, Eq)]
 pub enum Room {
-    /// So many bytes in the mbuf's own room.
+    /// This many bytes in the mbuf's own data area.
     InMbuf(u32),
-    /// So many bytes in the cluster to which it refers.
+    /// This many bytes in the cluster to which it refers.
     InCluster(u32),
 }
 
 impl Room {
-    /// The bytes in it.
+    /// Returns the number of bytes in it.
     pub fn size(self) -> u32
         ensures { result ≡ size_of (plain_room self) }
     {
@@ -28,7 +28,7 @@ impl Room {
         }
     }
 
-    /// Whether it refers to a cluster.
+    /// Returns whether it refers to a cluster.
     pub fn is_cluster(self) -> bool
         ensures { result ≡ Layout.is_cluster (plain_room self) }
     {
@@ -49,7 +49,7 @@ fn next(large: u32, small: u32, left: u32) -> Room
     }
 }
 
-/// Adds the mbufs for the bytes left, at most `most` of them.
+/// Adds mbufs for the remaining bytes, at most `most` of them.
 fn fill(
     rooms: &mut Vec<Room>,
     most: u32,
@@ -70,7 +70,7 @@ fn fill(
     Ok(())
 }
 
-/// The mbufs for n bytes, one of them at least. The first one has the rooms given.
+/// Returns the mbufs for `n` bytes, at least one. The first one has the capacities given.
 fn layout(alloc: Global, large: u32, small: u32, n: u32) -> Result<Vec<Room>, AllocError>
     ensures { IfOk result (λ v. rooms_of v.items ≡ Layout.or_empty (filled n large small n)) }
 {
@@ -83,15 +83,16 @@ fn layout(alloc: Global, large: u32, small: u32, n: u32) -> Result<Vec<Room>, Al
     Ok(rooms)
 }
 
-/// The layout of n bytes to send, without their headers. `AllocError` where the host refuses memory for the list.
+/// Returns the layout of `n` bytes to send, without their headers. Returns `AllocError` if the host refuses memory for
+/// the list.
 pub fn user(alloc: Global, n: u32) -> Result<Vec<Room>, AllocError>
     ensures { IfOk result (λ v. rooms_of v.items ≡ Layout.user n) }
 {
     layout(alloc, MCLBYTES - CLUSTER_LEADING_SPACE, MHLEN, n)
 }
 
-/// The layout of n bytes to send after the 28 bytes of their headers, for at most 65,507 bytes. `AllocError` where the
-/// host refuses memory for the list.
+/// Returns the layout of `n` bytes to send, at most 65,507, after the 28 bytes of their headers. Returns `AllocError`
+/// if the host refuses memory for the list.
 pub fn sent(alloc: Global, n: u32) -> Result<Vec<Room>, AllocError>
     requires { n ≤ UDP_MAX_DATA }
     ensures rooms { IfOk result (λ v. rooms_of v.items ≡ Layout.sent n) }
@@ -107,14 +108,15 @@ pub fn sent(alloc: Global, n: u32) -> Result<Vec<Room>, AllocError>
     Ok(rooms)
 }
 
-/// The layout of a packet of n bytes that arrives. `AllocError` where the host refuses memory for the list.
+/// Returns the layout of a packet of `n` bytes that arrives. Returns `AllocError` if the host refuses memory for the
+/// list.
 pub fn wire(alloc: Global, n: u32) -> Result<Vec<Room>, AllocError>
     ensures { IfOk result (λ v. rooms_of v.items ≡ Layout.wire n) }
 {
     layout(alloc, MCLBYTES, MHLEN, n)
 }
 
-/// How many of these share a byte with the range from a up to b, where the first one begins at `at`.
+/// Returns how many of these mbufs share a byte with the range from `a` up to `b`, if the first one begins at `at`.
 fn meets_from(rooms: &[Room], at: u64, a: u64, b: u64) -> u64
     requires short { at + 2 ^ 32 * length rooms.now < 2 ^ 63 }
     ensures number { result ≡ length (Layout.meets_from size_of at (rooms_of rooms.now) a b) }
@@ -134,7 +136,8 @@ fn meets_from(rooms: &[Room], at: u64, a: u64, b: u64) -> u64
     }
 }
 
-/// How many mbufs of a layout share a byte with the range from a up to b. For layouts of at most 65,536 mbufs.
+/// Returns how many mbufs of a layout share a byte with the range from `a` up to `b`. The layout has at most 65,536
+/// mbufs.
 pub fn meets(rooms: &[Room], a: u64, b: u64) -> u64
     requires { length rooms.now ≤ 65536 }
     ensures number { result ≡ length (Layout.meets (rooms_of rooms.now) a b) }

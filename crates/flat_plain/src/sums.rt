@@ -1,10 +1,10 @@
-//! The Internet checksum, over flat_model's own plain program of the fold.
+//! The Internet checksum, with the fold of `flat_model`'s plain program.
 ghost use Rattle.std.specs.Prelude.{◌≡◌};
 ghost use Rattle.flat_model.specs.Packets.Checksum as Checksum;
 
 use flat_model::fold;
 
-/// The checksum of bytes that have 0 in its place.
+/// Returns the checksum of bytes that contain 0 in the checksum field.
 pub fn checksum(bytes: &[u8]) -> u16
     ensures { result ≡ Checksum.checksum bytes.now }
 {

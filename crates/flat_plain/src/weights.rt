@@ -1,4 +1,4 @@
-//! What items weigh, and how much of a pool that is.
+//! The weights of items, in buffers of a pool.
 ghost use Rattle.std.specs.Prelude.{◌≡◌, ℕ, ◌+◌, ◌*◌, ◌^◌, ◌<◌, ◌≤◌, ◌++◌, length, filter_map, Option, OnOk, IfOk};
 ghost use Rattle.flat_model.specs.Machine.Arrival as Arrival;
 ghost use Rattle.flat_model.specs.Amounts.Layout as Layout;
@@ -14,25 +14,25 @@ use crate::parts::Part;
 use params::{IP_HEADER, IP_MAX_DATA, MAX_PROTOCOL_HEADER};
 use std::alloc::{AllocError, Global};
 
-/// So many mbufs, and the number of a cluster for each of them that refers to one.
+/// A number of mbufs, and a cluster number for each of them that refers to a cluster.
 #[derive(Debug, Drop)]
 pub struct Weight {
-    /// How many mbufs.
+    /// The number of mbufs.
     pub mbufs: u64,
     /// The clusters to which they refer, each as often as it is referred to.
     pub bag: Vec<u32>,
 }
 
-/// An mbuf of a chain: the bytes in it, and the cluster to which it refers, if it does.
+/// An mbuf of a chain: the number of bytes in it, and the cluster to which it refers, if any.
 #[derive(Clone, Copy, Debug, PartialEq, Eq)]
 pub struct Entry {
-    /// How many bytes are in it.
+    /// The number of bytes in it.
     pub size: u32,
-    /// The cluster to which it refers, if it does.
+    /// The cluster to which it refers, if any.
     pub cluster: Option<u32>,
 }
 
-/// Adds those that share a byte with the range from a up to b, where the first one begins at `at`.
+/// Adds the mbufs that share a byte with the range from `a` up to `b`, if the first one begins at `at`.
 fn add_met(
     weight: &mut Weight,
     entries: &[Entry],
@@ -58,7 +58,7 @@ fn add_met(
     }
 }
 
-/// Adds so many mbufs, and the clusters that are there.
+/// Adds this many mbufs, and the clusters that are `Some`.
 fn add(weight: &mut Weight, mbufs: u32, clusters: &[Option<u32>]) -> Result<(), AllocError>
     requires { weight.old.mbufs + mbufs < 2 ^ 64 }
     ensures { OnOk result (plain_weight weight.new ≡ plain_weight weight.old ⊕ weight_of_mbufs mbufs clusters.now) }
@@ -83,8 +83,8 @@ fn add_clusters(bag: &mut Vec<u32>, clusters: &[Option<u32>]) -> Result<(), Allo
     }
 }
 
-/// The weight of the packet of a later part, of a send whose bytes lie in these mbufs. `AllocError` where the host
-/// refuses memory for the numbers of its clusters.
+/// Returns the weight of the packet for a later part of a send, whose bytes are in these mbufs. Returns `AllocError` if
+/// the host refuses memory for the numbers of its clusters.
 pub fn later_weight(alloc: Global, entries: &[Entry], part: Part) -> Result<Weight, AllocError>
     requires { length entries.now ≤ 65536 }
     ensures { IfOk result (λ w. plain_weight w ≡ Sending.later_weight (entries_of entries.now) (part_of part)) }
@@ -99,7 +99,7 @@ pub fn later_weight(alloc: Global, entries: &[Entry], part: Part) -> Result<Weig
     Ok(weight)
 }
 
-/// The weight of a fragment in a cluster, of so many bytes with its header, once it was pulled up.
+/// Returns the weight of a fragment in a cluster after the pull-up. `total` is its length in bytes, header included.
 pub fn pulled_up(total: u32, weight: Weight) -> Weight
     requires { weight.mbufs < 2 ^ 63 }
     ensures { plain_weight result ≡ Arrival.pulled_up total (plain_weight weight) }
@@ -113,8 +113,8 @@ pub fn pulled_up(total: u32, weight: Weight) -> Weight
     weight
 }
 
-/// What the pieces in a table weigh that still own an offset. `AllocError` where the host refuses memory for the
-/// numbers of their clusters.
+/// Returns the weight of the pieces in a table that still own an offset. Returns `AllocError` if the host refuses
+/// memory for the numbers of their clusters.
 pub fn weight_of_pieces(alloc: Global, cells: &[Option<Cell>]) -> Result<Weight, AllocError>
     requires { length cells.now ≤ IP_MAX_DATA }
     ensures { IfOk result (λ w. plain_weight w ≡ Whole.weight_of_pieces (plain_map cells.now)) }
@@ -129,7 +129,7 @@ pub fn weight_of_pieces(alloc: Global, cells: &[Option<Cell>]) -> Result<Weight,
     Ok(weight)
 }
 
-/// Adds the piece that lies at k, where it begins there.
+/// Adds the piece at offset `k`, if it begins there.
 fn add_piece(weight: &mut Weight, cell: Option<Cell>, k: u32) -> Result<(), AllocError>
     requires { weight.old.mbufs < 2 ^ 63 }
     ensures weight { OnOk result (plain_weight weight.new ≡ plain_weight weight.old ⊕ weight_begun cell k) }

@@ -1,5 +1,5 @@
--- The law of overlays (RFC 791, section 3.2): in which order the fragments of a datagram come, and how often, makes no
--- difference.
+-- The law of overlays (RFC 791, section 3.2): the order in which the fragments of a datagram arrive, and how often,
+-- makes no difference.
 use Rattle.std.specs.Prelude.{◌≡◌, ◌↔◌, ℕ, ◌+◌, ◌<◌, ◌≤◌, List, [], ◌∷◌, length, slice_index, Contains, Any, Some, IsSome, option_map}
 use Rattle.flat_model.specs.Fragments.Cuts.{Part, cuts}
 use Rattle.flat_model.specs.Fragments.Overlay.{Map, Fragment, empty, overlay}
@@ -19,12 +19,12 @@ abbrev pub laid : List Fragment → Map
 laid [] = empty
 laid (f ∷ fragments) = overlay (laid fragments) f
 
--- the part was laid
+-- the part is among the fragments
 abbrev pub IsPartLaid : List Fragment → Part → Type 0
 IsPartLaid fragments p = Any (λ f. f.offset ≡ p.offset) fragments
 
--- In any order and with repeats: the string's byte at each offset of a part laid, and nothing elsewhere;
--- and whole exactly where each part was laid.
+-- In any order and with repeats: at each offset of a part that is among the fragments, the map has the string's byte,
+-- and it has no other byte. It is complete exactly if every part is among them.
 pub record OverlayOrder (s : List ℕ) (mtu : ℕ) (fragments : List Fragment) : Type 0 where
   pub bytes : (p : Part) (offset : ℕ) → Contains (cuts (length s) mtu) p → IsPartLaid fragments p → p.offset ≤ offset
       → offset < p.offset + p.size →

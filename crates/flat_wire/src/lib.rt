@@ -1,7 +1,7 @@
-//! What comes over a wire that loses, repeats and reorders was sent so.
+//! What arrives over a wire that loses, repeats and reorders packets was sent with these bytes.
 //!
-//! These are the law of overlays, of the fragments of one datagram, and the law of two machines. `specs/` says them
-//! over the definitions of `flat_model`, and each is the contract of a function that does nothing.
+//! This is stated by the law of overlays, about the fragments of one datagram, and by the law of two hosts. `specs/`
+//! states them over the definitions of `flat_model`, and each is the contract of a function that does nothing.
 #![tactic(auto)]
 
 mod laws;

@@ -1,4 +1,4 @@
--- What a sum over pieces knows of the bytes that it was given so far (this project's own).
+-- The state of a sum over pieces, given the bytes so far (this project's own).
 use Rattle.std.specs.Prelude.{ℕ, ◌%◌, ◌==◌, Bool, List, length}
 use Rattle.flat_model.specs.Packets.Checksum.{folded_sum}
 

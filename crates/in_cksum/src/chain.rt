@@ -1,4 +1,4 @@
-//! The checksum of bytes that lie in a chain.
+//! The checksum of bytes in a chain.
 ghost use Rattle.std.specs.Prelude.{◌≡◌, ℕ, ◌+◌, ◌≤◌, ◌++◌, List, length, take, drop};
 ghost use Rattle.flat_model.specs.Packets.Checksum.{checksum};
 ghost use Rattle.mbuf_chain.specs.Chain.{IsLive, chain_of, string};
@@ -7,13 +7,13 @@ ghost use Rattle.in_cksum.specs.Partial.{sum_of};
 use crate::Sum;
 use mbuf_chain::{Chain, Pool};
 
-/// The checksum of what was added to `start`, and after it of `len` bytes of a chain from `off` on, to be
-/// written big-endian.
+/// Computes the checksum of the bytes added to `start`, followed by `len` bytes of a chain from offset `off`. The
+/// result is to be written big-endian.
 ///
-/// It makes no difference how the chain is cut, and empty mbufs count for nothing. No byte is copied. It takes
-/// one step for each mbuf up to the last byte, and none after it (`in_cksum` of TCP/IP Illustrated volume 2,
-/// chapter 8; RFC 1071).
-// Inlined for bytes that all lie in the first mbuf, as those of a short datagram do.
+/// The result doesn't depend on how the chain is cut, and empty mbufs don't contribute. No byte is copied. The call
+/// takes one step per mbuf up to the last byte, and none after it (`in_cksum` of TCP/IP Illustrated volume 2, chapter
+/// 8; RFC 1071).
+// Inlined for the case that all bytes are in the first mbuf, as those of a short datagram are.
 #[inline(always)]
 pub fn cksum_chain(pool: &Pool, chain: &Chain, off: u32, len: u32, mut start: Sum) -> u16
     requires live { IsLive pool.now chain.now }
@@ -30,7 +30,7 @@ pub fn cksum_chain(pool: &Pool, chain: &Chain, off: u32, len: u32, mut start: Su
     start.finish()
 }
 
-/// The same, wherever the bytes lie.
+/// Does the same, wherever the bytes are.
 #[tactic(auto, using(mbuf_chain::proofs::Laws::Iterators::concat_pieces))]
 fn cksum_pieces(pool: &Pool, chain: &Chain, off: u32, len: u32, start: Sum) -> u16
     requires live { IsLive pool.now chain.now }

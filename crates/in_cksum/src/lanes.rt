@@ -1,21 +1,22 @@
-//! The words of one part of the bytes, as they lie in memory: by lanes, and the rest by words of 8 bytes.
+//! The sum of one part of the bytes, as words in memory order: whole blocks by SIMD lanes, the rest by words of 8
+//! bytes.
 ghost use Rattle.std.specs.Prelude.{◌≡◌, ◌+◌, ◌*◌, ◌<◌, ◌≤◌, ◌^◌, length};
 ghost use Rattle.in_cksum.specs.Inside.{CountsAs, IsAdded, IsLeft, lanes_total, swapped_sum};
 
 use std::simd::prelude::*;
 
-/// How many bytes are added at a time.
+/// The number of bytes added at a time.
 pub(crate) const BLOCK_LEN: usize = 32;
 
-/// How many bytes are added at a time where so many are left: eight blocks.
+/// The number of bytes added at a time while that many are left: eight blocks.
 const EIGHT_BLOCKS_LEN: usize = 8 * BLOCK_LEN;
 
-/// How many bytes are added up at most before their sum is folded: whole blocks, whose words add up to
-/// less than 2^32.
+/// The most bytes that are added up before their sum is folded. These are whole blocks, whose words add up to less than
+/// 2^32.
 pub(crate) const PART_LEN: usize = 65_536;
 
-/// Adds the words of a block: to `all` the lanes, which wrap, and to `high` the high halves of the lanes.
-/// So the low halves need no mask: they are what is left of `all` in the end.
+/// Adds the words of a block: the lanes to `all`, which wraps, and the high halves of the lanes to `high`. So the low
+/// halves need no mask: at the end, they are the remainder of `all`.
 #[inline(always)]
 fn add_block(all: u32x8, high: u32x8, block: &[u8]) -> (u32x8, u32x8)
     requires long { length block.now ≡ BLOCK_LEN }
@@ -72,8 +73,8 @@ fn sum_lanes(all: u32x8, high: u32x8) -> u32
     low.strict_reduce_sum() + high.strict_reduce_sum()
 }
 
-/// Adds the next 8 bytes, where there are so many, as two words of 32 bits: the high half of each counts
-/// 65,536 times, which a fold makes 1.
+/// Adds the next 8 bytes, if that many are left, as two words of 32 bits. The high half of each counts 65,536 times,
+/// which the fold reduces to 1.
 #[inline(always)]
 fn add_eight(sum: u64, bytes: &[u8]) -> (u64, &[u8])
     requires { sum < 2 ^ 40 }
@@ -106,7 +107,7 @@ fn add_four(sum: u64, bytes: &[u8]) -> (u64, &[u8])
     }
 }
 
-/// The words of fewer bytes than a block has. No loop, since headers are so short that one costs more.
+/// Sums the words of fewer bytes than one block. It has no loop: headers are so short that a loop costs more.
 #[inline(always)]
 pub(crate) fn sum_rest(bytes: &[u8]) -> u64
     requires { length bytes.now < BLOCK_LEN }
@@ -125,9 +126,9 @@ pub(crate) fn sum_rest(bytes: &[u8]) -> u64
     }
 }
 
-/// The sum of the words as they lie in memory, an odd last byte being the low half of one, but for what a fold
-/// makes the same.
-// Never inlined: its loop takes four blocks at a time only where it stands alone.
+/// Sums the words in memory order. An odd last byte is the low half of a word. The result is exact up to what the fold
+/// makes equal.
+// Never inlined: the compiler unrolls its loop to four blocks at a time only in a function of its own.
 #[inline(never)]
 pub(crate) fn sum_part(bytes: &[u8]) -> u64
     requires { length bytes.now ≤ PART_LEN }

@@ -1,7 +1,7 @@
-//! The Internet checksum (RFC 1071) of bytes that come whole or in pieces of any length.
+//! The Internet checksum (RFC 1071) of bytes given whole or in pieces of any length.
 //!
-//! A sum is of the big-endian words of 16 bits, an odd last byte being the high half of a word, and it is
-//! folded: its part above 16 bits is added to its low 16 bits until it fits. The checksum is the
+//! The sum adds the bytes as big-endian words of 16 bits. An odd last byte is the high half of a word. The sum is then
+//! folded: its part above 16 bits is added to its low 16 bits until it fits into 16 bits. The checksum is the
 //! complement of that. An IPv4 header with its checksum in place has the folded sum 65,535.
 #![tactic(auto)]
 
@@ -19,7 +19,7 @@ pub use chain::cksum_chain;
 use lanes::{BLOCK_LEN, PART_LEN, sum_part, sum_rest};
 use params::IP_HEADER;
 
-/// 65,536 counts as 1, so what is left is a remainder by 65,535: 1 to 65,535, and 0 of 0 alone.
+/// 65,536 counts as 1, so the result is a remainder modulo 65,535, in 1 to 65,535. It is 0 only for 0.
 #[inline(always)]
 fn fold(sum: u64) -> u16
     ensures { result ≡ fold16 sum }
@@ -31,17 +31,17 @@ fn fold(sum: u64) -> u16
     }
 }
 
-/// The folded sum of the words of `bytes`, which may have any length. Of no bytes it is 0.
+/// Returns the folded sum of the words of `bytes`, which may have any length. For no bytes it is 0.
 ///
-/// The words are added as they lie in memory and their bytes are swapped once, at the end
-/// (RFC 1071 section 2, "Byte Order Independence").
+/// The words are added in memory order, and their bytes are swapped once, at the end (RFC 1071 section 2, "Byte Order
+/// Independence").
 pub fn sum_slice(bytes: &[u8]) -> u16
     ensures { result ≡ folded_sum bytes.now }
 {
     fold(sum_swapped(bytes)).swap_bytes()
 }
 
-/// The sum of the words as they lie in memory, but for what a fold makes the same.
+/// Sums the words in memory order, up to what the fold makes equal.
 fn sum_long(bytes: &[u8]) -> u64
     ensures folded { fold16 result ≡ fold16 (swapped_sum bytes.now) }
     ensures small { result < 2 ^ 51 }
@@ -56,7 +56,7 @@ fn sum_long(bytes: &[u8]) -> u64
     total as u64 + sum_part(rest)
 }
 
-/// The same, without a call where the bytes are fewer than a block has: those of most headers.
+/// Does the same, without a call if there are fewer bytes than one block. Most headers are that short.
 #[inline(always)]
 fn sum_swapped(bytes: &[u8]) -> u64
     ensures folded { fold16 result ≡ fold16 (swapped_sum bytes.now) }
@@ -69,9 +69,9 @@ fn sum_swapped(bytes: &[u8]) -> u64
     }
 }
 
-/// The folded sum of the words of an IPv4 header without options: 65,535 where its checksum is right.
+/// Returns the folded sum of the words of an IPv4 header without options: 65,535 if its checksum is right.
 ///
-/// Its length is known, so it takes no test of it (RFC 791, section 3.1).
+/// The length is known at compile time, so it needs no test (RFC 791, section 3.1).
 #[inline(always)]
 pub fn sum_head(bytes: &[u8; IP_HEADER as usize]) -> u16
     ensures { result ≡ folded_sum bytes.now }
@@ -79,8 +79,8 @@ pub fn sum_head(bytes: &[u8; IP_HEADER as usize]) -> u16
     fold(sum_rest(bytes)).swap_bytes()
 }
 
-/// A piece's sum as it counts after an even or an odd number of bytes: after an even number each byte, as it lies in
-/// memory, stands in the other half of its word, and a shift by 8 bits turns the words round.
+/// Adjusts a piece's sum to the parity of the number of bytes before the piece. After an even number, each byte in
+/// memory order is in the other half of its word, and a shift by 8 bits corrects that.
 #[inline(always)]
 fn turned(sum: u64, is_odd: bool) -> u64
     requires { sum < 2 ^ 51 }
@@ -89,8 +89,8 @@ fn turned(sum: u64, is_odd: bool) -> u64
     if is_odd { sum } else { 256 * sum }
 }
 
-/// The sum of two, with the carry out of 64 bits added at the low end: 2^64 counts as 1, as 65,536 does
-/// ("end-around carry", RFC 1071 section 1).
+/// Adds two sums. The carry out of 64 bits is added at the low end: 2^64 counts as 1, as 65,536 does ("end-around
+/// carry", RFC 1071 section 1).
 #[inline(always)]
 fn add_around(a: u64, b: u64) -> u64
     ensures { fold16 result ≡ fold16 (a + b) }
@@ -101,8 +101,8 @@ fn add_around(a: u64, b: u64) -> u64
 
 /// The checksum of bytes that are added piece by piece.
 ///
-/// A piece may have any length, and it makes no difference where the bytes are cut: a word whose high half
-/// ends a piece has its low half at the head of the next.
+/// A piece may have any length, and the result doesn't depend on where the bytes are cut: if a piece ends after the
+/// high half of a word, the low half is at the beginning of the next piece.
 #[derive(Clone, Debug, Drop)]
 pub struct Sum {
     // not folded yet
@@ -117,16 +117,16 @@ impl Model for Sum {
 }
 
 impl Sum {
-    /// The sum of no bytes.
+    /// Creates the sum of no bytes.
     pub fn new() -> Self
         ensures { result ≡ sum_of [] }
     {
         Self::of_words(0)
     }
 
-    /// The sum of bytes, an even number of them, that are known as numbers: `words` is what their words of 16 bits
-    /// add up to. A number of 32 bits may be added whole, since 65,536 counts as 1.
-    // Inlined, so that numbers are added where they are.
+    /// Creates the sum of an even number of bytes that are known as numbers. `words` is the sum of their 16-bit words.
+    /// A 32-bit number may be added whole, because 65,536 counts as 1.
+    // Inlined, so that the numbers are added in the caller.
     #[inline(always)]
     pub fn of_words(words: u64) -> Self
         ensures { result ≡ record { total = fold16 words; is_odd = false } }
@@ -137,7 +137,7 @@ impl Sum {
         }
     }
 
-    /// Adds `bytes`, of any length, after those that were added before.
+    /// Adds `bytes`, of any length, after those added before.
     // Inlined, so that a caller's sum stays in registers.
     #[inline(always)]
     pub fn add(&mut self, bytes: &[u8])
@@ -148,10 +148,10 @@ impl Sum {
         self.is_odd ^= bytes.len() % 2 == 1;
     }
 
-    /// The checksum of all bytes that were added, to be written big-endian.
+    /// Returns the checksum of all bytes that were added, to be written big-endian.
     ///
-    /// It can be 0. UDP writes 65,535 in its place, since 0 in its header means that there is no checksum
-    /// (RFC 768): that is the caller's.
+    /// It can be 0. UDP writes 65,535 instead, because 0 in its header means "no checksum" (RFC 768). The caller has to
+    /// do that.
     pub fn finish(self) -> u16
         ensures { (bytes : List ℕ) → self ≡ sum_of bytes → result ≡ checksum bytes }
     {

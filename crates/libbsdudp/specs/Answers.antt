@@ -1,5 +1,5 @@
--- The numbers that C is answered (4.4BSD's `errno.h`; that a refusal is its number negated, and that a full output
--- queue has a number of its own, is this project's own).
+-- The result codes for C (4.4BSD's `errno.h`; that an error is the negative of its number, and that a full output queue
+-- has a number of its own, is this project's own).
 use Rattle.std.specs.Prelude.{ℕ, ℤ, pos, negsuc, min, Option, Some, None, Result, Ok, Err}
 use Rattle.flat_model.specs.declared.address.Addr.{Addr}
 use Rattle.flat_model.specs.declared.errno.Errno.{Errno}
@@ -37,22 +37,22 @@ refusal_code (NoBufs Queue) = negsuc 154
 refusal_code IsConnected = negsuc 55
 refusal_code HostUnreachable = negsuc 64
 
--- of a call that says nothing but whether it went well
+-- for a call that only succeeds or fails
 abbrev pub done_code : Result (Unit {0}) Errno → ℤ
 done_code (Ok done) = pos 0
 done_code (Err errno) = refusal_code errno
 
--- of `socket`, with a descriptor, and of a send, with how many bytes it has
+-- for `socket`, with a descriptor, and for a send, with the number of its bytes
 abbrev pub counted_code : Result ℕ Errno → ℤ
 counted_code (Ok n) = count_code n
 counted_code (Err errno) = refusal_code errno
 
--- of `recvfrom`, with how many bytes were copied
+-- for `recvfrom`, with the number of bytes copied
 abbrev pub received_code : Result (Addr × ℕ) Errno → ℤ
 received_code (Ok got) = count_code got.1
 received_code (Err errno) = refusal_code errno
 
--- of `tx` and of the question for the next packet: 0 if none waits
+-- for `tx` and the query for the next packet: 0 if the output queue is empty
 abbrev pub given_code : Option ℕ → ℤ
 given_code None = pos 0
 given_code (Some n) = count_code n

@@ -1,5 +1,5 @@
--- What a call on a handle does to the stack in it: which step of the flat machine it is, and how its answer tells the
--- reply (this project's own).
+-- The effect of a call on the stack in a handle: which step of the reference machine it is, and how its result code
+-- encodes the reply (this project's own).
 use Rattle.std.specs.Prelude.{◌≡◌, ℕ, ℤ, pos, ◌<◌, ◌≤◌, ◌==◌, if◌then◌else◌, List, length, drop, Option, Some, None, option_map, IfSome, IfNone, Result, Ok, Err, IfOk, OnErr}
 use Rattle.params.specs.declared.TheConstants.{IP_MAX_PACKET}
 use Rattle.flat_model.specs.declared.errno.Errno.{Errno}
@@ -17,48 +17,48 @@ use Rattle.libbsdudp.specs.Plain.{whom}
 abbrev pub stack_in : Handle → Option StackView
 stack_in h = if h.live == 1651729525 then option_map (λ b. b.stack) h.held.kept else None
 
--- The answer of a handle without a stack is -ENXIO, it stays without one, and `idle` says that all else is as it was.
--- If the handle has one, `call` says what becomes of it.
+-- If the handle has no stack, the result is -ENXIO, the handle stays without one, and `idle` says that everything else
+-- is unchanged. If it has a stack, `call` says what happens to it.
 abbrev pub Answers : Option StackView → ℤ → Option StackView → Type 0 → (StackView → StackView → Type 0) → Type 0
 Answers None answer after idle call = (answer ≡ no_stack) × (after ≡ None) × idle
 Answers (Some s) answer after idle call = (n : StackView) × (after ≡ Some n) × call s n
 
--- ---- the calls, each as one fact that nothing opens by itself
+-- ---- the calls, each as one fact, so that proofs unfold it only on request
 
 -- one step
 pub record StepsTo (event : Event) (reply : Reply) (s n : StackView) : Type 0 where
   pub step : Step (state_of s) event reply (state_of n)
 
--- `tick`: the answer is 0
+-- `tick`: the result is 0
 pub record HasTicked (answer : ℤ) (event : Event) (s n : StackView) : Type 0 where
   pub is : answer ≡ pos 0
   pub step : StepsTo event Done s n
 
--- `bind`, `connect`, `close` and `setsockopt`: the answer is 0, or why it's refused
+-- `bind`, `connect`, `close` and `setsockopt`: the result is 0, or the error
 pub record AnswersCall (event : Event) (answer : ℤ) (s n : StackView) : Type 0 where
   pub told : Result (Unit {0}) Errno
   pub is : answer ≡ done_code told
   pub step : StepsTo event (done_reply told) s n
 
--- `socket`: the answer is the descriptor, or why it's refused
+-- `socket`: the result is the descriptor, or the error
 pub record IsOpened (answer : ℤ) (s n : StackView) : Type 0 where
   pub told : Result ℕ Errno
   pub is : answer ≡ counted_code told
   pub step : StepsTo Open (opened_reply told) s n
 
--- `sendto` and `send`: the answer is how many bytes were sent, or why it's refused
+-- `sendto` and `send`: the result is the number of bytes sent, or the error
 pub record AnswersSend (event : Event) (answer : ℤ) (s n : StackView) : Type 0 where
   pub told : Result ℕ Errno
   pub is : answer ≡ counted_code told
   pub step : StepsTo event (sent_reply told) s n
 
--- the sender is told if a datagram was received, and else left as it was
+-- the sender is written if a datagram was received, and otherwise unchanged
 abbrev pub sender_after : Result (Addr × ℕ) Errno → CAddr → CAddr
 sender_after (Ok got) old = whom got.0
 sender_after (Err errno) old = old
 
--- `recvfrom`: the answer is how many bytes stand in front of the room, or why it's refused; the rest of the room stays
--- as it was
+-- `recvfrom`: the result is the number of bytes written to the front of the buffer, or the error; the rest of the
+-- buffer is unchanged
 pub record IsReceived (fd : ℕ) (answer : ℤ) (before room : List ℕ) (old from : CAddr) (s n : StackView) : Type 0 where
   pub told : Result (Addr × ℕ) Errno
   pub is : answer ≡ received_code told
@@ -68,12 +68,13 @@ pub record IsReceived (fd : ℕ) (answer : ℤ) (before room : List ℕ) (old fr
   pub rest : IfOk told (λ got. drop got.1 room ≡ drop got.1 before)
   pub step : StepsTo (Receive fd (length before)) (received_reply told room) s n
 
--- `rx`: the answer is 0, or -EMSGSIZE of what is longer than a packet, and then nothing changes
+-- `rx`: the result is 0, or -EMSGSIZE if the packet is too long, and then nothing changes
 pub record AnswersArrival (packet : List ℕ) (answer : ℤ) (s n : StackView) : Type 0 where
   pub long : IP_MAX_PACKET < length packet → (answer ≡ bad_length) × (n ≡ s)
   pub comes : length packet ≤ IP_MAX_PACKET → (answer ≡ pos 0) × StepsTo (Comes packet) Done s n
 
--- a packet for the link stands in front of the room, or none waits; the rest of the room stays as it was
+-- a packet for the link is at the front of the buffer, or the output queue is empty; the rest of the buffer is
+-- unchanged
 pub record GivesPacket (before room : List ℕ) (answer : ℤ) (s n : StackView) : Type 0 where
   pub told : Option ℕ
   pub is : answer ≡ given_code told
@@ -82,13 +83,13 @@ pub record GivesPacket (before room : List ℕ) (answer : ℤ) (s n : StackView)
   pub rest : IfSome told (λ len. drop len room ≡ drop len before)
   pub step : StepsTo Transmit (given_reply told room) s n
 
--- `tx`: the answer is the packet's length, 0 if none waits, or -EMSGSIZE if the room is shorter than the MTU, and then
--- nothing changes
+-- `tx`: the result is the packet's length, 0 if the output queue is empty, or -EMSGSIZE if the buffer is shorter than
+-- the MTU, and then nothing changes
 pub record AnswersTransmit (before room : List ℕ) (answer : ℤ) (s n : StackView) : Type 0 where
   pub short : length before < s.config.mtu → (answer ≡ bad_length) × (n ≡ s) × (room ≡ before)
   pub gives : s.config.mtu ≤ length before → GivesPacket before room answer s n
 
--- a question: the stack is as it was, and the answer says something of it
+-- a query: the stack is unchanged, and the result describes it
 pub record AnswersQuestion (Says : StackView → Type 0) (s n : StackView) : Type 0 where
   pub same : n ≡ s
   pub says : Says s

@@ -1,5 +1,5 @@
--- What a call on a host does to its two halves, the stack and the link, and how its answer tells the reply (this
--- project's own).
+-- The effect of a call on the two halves of a host, the stack and the link, and how its result code encodes the reply
+-- (this project's own).
 use Rattle.std.specs.Prelude.{◌≡◌, ℕ, ℤ, pos, negsuc, ◌+◌, ◌<◌, ◌≤◌, ◌==◌, if◌then◌else◌, true, false, List, length, Option, Some, None, option_map, IfSome, Result, Ok, Err, slice_get}
 use Rattle.params.specs.declared.TheConstants.{IP_MAX_PACKET}
 use Rattle.flat_ether.specs.Claims.{address_state}
@@ -38,8 +38,8 @@ handle_link h = if h.live == 1651731563 then option_map (λ b. link_seen b.layer
 abbrev pub both : StackView → LinkState → HostView
 both s l = record { stack = s; link = l }
 
--- A call on both halves. Without a stack the answer is -ENXIO, and without a link -EOPNOTSUPP; then both stay as they
--- were, and `idle` says that all else is. If there are both, `call` says what becomes of them.
+-- A call on both halves. Without a stack the result is -ENXIO, and without a link -EOPNOTSUPP; then both are unchanged,
+-- and `idle` says that everything else is too. If there are both, `call` says what happens to them.
 abbrev pub AnswersHost : Option StackView → Option LinkState → ℤ → Option StackView → Option LinkState → Type 0
     → (HostView → HostView → Type 0) → Type 0
 AnswersHost None l answer s_after l_after idle call = (answer ≡ no_stack) × (s_after ≡ None) × (l_after ≡ l) × idle
@@ -48,59 +48,59 @@ AnswersHost (Some s) None answer s_after l_after idle call =
 AnswersHost (Some s) (Some l) answer s_after l_after idle call =
     (n : HostView) × (s_after ≡ Some n.stack) × (l_after ≡ Some n.link) × call (both s l) n
 
--- a call on the link alone
+-- a call on the link only
 abbrev pub AnswersLink : Option LinkState → ℤ → Option LinkState → Type 0 → (LinkState → LinkState → Type 0) → Type 0
 AnswersLink None answer after idle call = (answer ≡ no_link) × (after ≡ None) × idle
 AnswersLink (Some l) answer after idle call = (n : LinkState) × (after ≡ Some n) × call l n
 
--- ---- the calls, each as one fact that nothing opens by itself
+-- ---- the calls, each as one fact, so that proofs unfold it only on request
 
--- `receive`: the answer is 0, or -EMSGSIZE of what is longer than a frame with the longest packet, and then nothing
+-- `receive`: the result is 0, or -EMSGSIZE if the frame is longer than one with the longest packet, and then nothing
 -- changes
 pub record HasHeard (frame : List ℕ) (answer : ℤ) (h n : HostView) : Type 0 where
   pub long : ETHER_HEADER + IP_MAX_PACKET < length frame → (answer ≡ bad_length) × (n ≡ h)
   pub hears : length frame ≤ ETHER_HEADER + IP_MAX_PACKET → (answer ≡ pos 0) × Hears frame (host_of h) (host_of n)
 
--- a frame stands in front of the room, or none waits
+-- a frame is at the front of the buffer, or no frame is queued
 pub record GivesFrame (room : List ℕ) (answer : ℤ) (h n : HostView) : Type 0 where
   pub told : Option ℕ
   pub is : answer ≡ given_code told
   pub fits : IfSome told (λ len. len ≤ length room)
   pub step : (room_front told room, host_of n) ≡ gives (host_of h)
 
--- `transmit`: the answer is the frame's length, 0 if none waits, or -EMSGSIZE if the room is too short, or the stack's
--- packets are too long for an Ethernet, and then nothing changes
+-- `transmit`: the result is the frame's length, 0 if no frame is queued, or -EMSGSIZE if the buffer is too short, or
+-- the stack's packets are too long for an Ethernet, and then nothing changes
 pub record IsFramed (before room : List ℕ) (answer : ℤ) (h n : HostView) : Type 0 where
   pub short : length before < ETHER_HEADER + ETHER_MTU → (answer ≡ bad_length) × (n ≡ h) × (room ≡ before)
   pub wide : ETHER_MTU < h.stack.config.mtu → (answer ≡ bad_length) × (n ≡ h) × (room ≡ before)
   pub gives : ETHER_HEADER + ETHER_MTU ≤ length before → h.stack.config.mtu ≤ ETHER_MTU → GivesFrame room answer h n
 
--- 0 if nothing was reported, ECONNREFUSED (61) or EHOSTUNREACH (65) as 4.4BSD's `so_error` has them, or why the call is
--- refused
+-- 0 if nothing was reported, ECONNREFUSED (61) or EHOSTUNREACH (65) as in 4.4BSD's `so_error`, or the error of the call
 abbrev pub fault_code : Result (Option NetFault) Errno → ℤ
 fault_code (Ok None) = pos 0
 fault_code (Ok (Some Refused)) = pos 61
 fault_code (Ok (Some Unreachable)) = pos 65
 fault_code (Err errno) = refusal_code errno
 
--- `last_error`: what others reported of a socket's datagrams, which the link then forgets; the stack is as it was
+-- `last_error`: what other hosts reported about a socket's datagrams, which the link then clears; the stack is
+-- unchanged
 pub record TellsError (fd : ℕ) (answer : ℤ) (h n : HostView) : Type 0 where
   pub told : Result (Option NetFault) Errno
   pub is : answer ≡ fault_code told
   pub same : n.stack ≡ h.stack
   pub step : (told, host_of n) ≡ last_error fd (host_of h)
 
--- `tick`: the answer is 0
+-- `tick`: the result is 0
 pub record HasAged (answer : ℤ) (l n : LinkState) : Type 0 where
   pub is : answer ≡ pos 0
   pub ticked : n ≡ ticks l
 
--- a question: the link is as it was, and the answer says something of it
+-- a query: the link is unchanged, and the result describes it
 pub record IsLinkAsked (Says : LinkState → Type 0) (l n : LinkState) : Type 0 where
   pub same : n ≡ l
   pub says : Says l
 
--- 1 if the address is used, 0 while the host asks for it, and -EADDRINUSE if another host has it
+-- 1 if the address is in use, 0 while the host probes for it, and -EADDRINUSE if another host has it
 abbrev pub address_code : AddressState → ℤ
 address_code Probing = pos 0
 address_code InUse = pos 1
@@ -109,12 +109,12 @@ address_code Conflict = negsuc 47
 pub record TellsAddress (answer : ℤ) (l : LinkState) : Type 0 where
   pub is : answer ≡ address_code (address_state l.claim)
 
--- what was counted
+-- the counters
 pub record TellsTallies (answer : ℤ) (tallies : CTallies) (l : LinkState) : Type 0 where
   pub is : answer ≡ pos 0
   pub told : tallies ≡ tallies_told l.tallies
 
--- a neighbour is told, or -EINVAL if there is none at this place
+-- a neighbour is written, or the result is -EINVAL if there is none at this index
 abbrev pub IsNeighbour : Option Neighbour → ℤ → CNeighbour → CNeighbour → Type 0
 IsNeighbour (Some n) answer old new = (answer ≡ pos 0) × (new ≡ neighbour_told n)
 IsNeighbour None answer old new = (answer ≡ invalid) × (new ≡ old)
@@ -122,14 +122,14 @@ IsNeighbour None answer old new = (answer ≡ invalid) × (new ≡ old)
 pub record TellsNeighbour (i : ℕ) (answer : ℤ) (old new : CNeighbour) (l : LinkState) : Type 0 where
   pub is : IsNeighbour (slice_get l.neighbours i) answer old new
 
--- ---- how a link comes, and goes
+-- ---- booting and ending a link
 
 -- 0, or -ENOMEM
 abbrev pub link_boot_code : Option LinkState → ℤ
 link_boot_code (Some l) = pos 0
 link_boot_code None = negsuc 11
 
--- a link of which nothing is known, or memory was refused
+-- a link without neighbours, or an allocation failed
 pub record IsLinkUp (config : CConfig) (link : CLink) (answer : ℤ) (after : Option LinkState) : Type 0 where
   pub is : answer ≡ link_boot_code after
   pub up : IfSome after (λ l. l ≡ link_up (config_of config) (plain_link link))
@@ -138,12 +138,13 @@ pub record HasLinkBooted (config : CConfig) (link : CLink) (answer : ℤ) (after
   pub bad : is_link (config_of config) (plain_link link) ≡ false → (answer ≡ invalid) × (after ≡ None)
   pub good : is_link (config_of config) (plain_link link) ≡ true → IsLinkUp config link answer after
 
--- A link is booted into a handle without one. If it has one, that stays as it was, and the answer is -ENXIO.
+-- A link is booted into a handle without one. If the handle has a link, that link is unchanged, and the result is
+-- -ENXIO.
 abbrev pub IsLinkBooted : Option LinkState → CConfig → CLink → ℤ → Option LinkState → Type 0
 IsLinkBooted (Some l) config link answer after = (answer ≡ no_stack) × (after ≡ Some l)
 IsLinkBooted None config link answer after = HasLinkBooted config link answer after
 
--- A link goes. If there was none, the answer is -EOPNOTSUPP.
+-- A link is ended. If there was none, the result is -EOPNOTSUPP.
 abbrev pub IsLinkEnded : Option LinkState → ℤ → Option LinkState → Type 0
 IsLinkEnded (Some l) answer after = (answer ≡ pos 0) × (after ≡ None)
 IsLinkEnded None answer after = (answer ≡ no_link) × (after ≡ None)

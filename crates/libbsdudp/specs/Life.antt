@@ -1,4 +1,4 @@
--- What `boot` and `end` leave in a handle, by their answers (this project's own).
+-- What `boot` and `end` leave in a handle, by their result codes (this project's own).
 use Rattle.std.specs.Prelude.{◌≡◌, ℤ, pos, negsuc, Option, Some, None, Result, Ok, Err}
 use Rattle.flat_model.specs.Machine.State.{HasSizes, IsConfig, boot}
 use Rattle.net_stack.specs.Stack.{StackView, state_of}
@@ -19,7 +19,7 @@ abbrev pub booted_stack : Result StackView BootFault → Option StackView
 booted_stack (Ok s) = Some s
 booted_stack (Err fault) = None
 
--- what a configuration gives: a stack in the state of boot, or why there is none
+-- the result of booting a configuration: a stack in the state of boot, or the error
 abbrev pub Boots : CConfig → Result StackView BootFault → Type 0
 Boots config (Ok s) = IsConfig (config_of config) × (state_of s ≡ boot (config_of config))
 Boots config (Err BadSizes) = ¬ HasSizes (config_of config)
@@ -32,12 +32,13 @@ pub record HasBooted (config : CConfig) (answer : ℤ) (after : Option StackView
   pub is : answer ≡ boot_code told
   pub leaves : after ≡ booted_stack told
 
--- A stack is booted into a handle without one. If it has one, that stays as it was, and the answer is -ENXIO.
+-- A stack is booted into a handle without one. If the handle has a stack, that stack is unchanged, and the result is
+-- -ENXIO.
 abbrev pub IsBooted : Option StackView → CConfig → ℤ → Option StackView → Type 0
 IsBooted (Some s) config answer after = (answer ≡ no_stack) × (after ≡ Some s)
 IsBooted None config answer after = HasBooted config answer after
 
--- A stack goes. If there was none, the answer is -ENXIO.
+-- A stack is ended. If there was none, the result is -ENXIO.
 abbrev pub IsEnded : Option StackView → ℤ → Option StackView → Type 0
 IsEnded (Some s) answer after = (answer ≡ pos 0) × (after ≡ None)
 IsEnded None answer after = (answer ≡ no_stack) × (after ≡ None)

@@ -1,4 +1,4 @@
--- What the handle of a link owns: the box that it holds, if it holds one (this project's own).
+-- What the handle of a link owns: the box that it holds, if any (this project's own).
 use base.Fml.{Fml, ftrue}
 use base.Stored.{Coded}
 use denote.RawPtr.{Ptr}

@@ -1,4 +1,4 @@
--- What C's structs say of a link (this project's own).
+-- The meaning of C's structs for a link (this project's own).
 use Rattle.std.specs.Prelude.{ℕ, ◌==◌, not, if◌then◌else◌, Option, Some, None, is_some, unwrap_or}
 use Rattle.flat_ether.specs.declared.link.Link.{Link}
 use Rattle.flat_ether.specs.declared.mac.Mac.{Mac}
@@ -10,7 +10,7 @@ use Rattle.libbsdudp.specs.declared.link_plain.CNeighbour.{CNeighbour}
 use Rattle.libbsdudp.specs.declared.link_plain.CTallies.{CTallies}
 use Rattle.libbsdudp.specs.Plain.{flag_number}
 
--- 0 stands for no gateway
+-- 0 means "no gateway"
 abbrev pub gateway_of : ℕ → Option ℕ
 gateway_of n = if n == 0 then None else Some n
 

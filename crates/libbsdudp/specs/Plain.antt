@@ -1,4 +1,4 @@
--- What C's structs say (this project's own).
+-- The meaning of C's structs (this project's own).
 use Rattle.std.specs.Prelude.{ℕ, Bool, if◌then◌else◌, unwrap_or}
 use Rattle.flat_model.specs.declared.address.Addr.{Addr}
 use Rattle.flat_model.specs.declared.config.Config.{Config}
@@ -47,7 +47,7 @@ usage_told m =
 abbrev pub flag_number : Bool → ℕ
 flag_number b = if b then 1 else 0
 
--- 0 for what is unset
+-- 0 for a field that is unset
 abbrev pub name_told : SocketName → CName
 name_told n =
     let peer : Addr = unwrap_or n.peer (record { ip = 0; port = 0 }) in

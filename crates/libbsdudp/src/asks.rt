@@ -1,4 +1,4 @@
-//! The questions of a stack, as C gives their arguments and takes their answers.
+//! The queries of a stack, with the arguments and results as C has them.
 ghost use Rattle.libbsdudp.specs.Told.{TellsCounter, TellsName, TellsNext, TellsOutput, TellsPacket, TellsRange, TellsReadable, TellsUnfinished, TellsUsage, TellsWaiting};
 
 use crate::errors::{INVALID, count, refused};
@@ -6,7 +6,7 @@ use crate::plain::{CMbstat, CName, CNext, CRange, CUnfinished};
 use flat_model::Counter;
 use net_stack::Stack;
 
-/// What a socket is bound and connected to, and its options.
+/// Reads the addresses of a socket, and its options.
 pub(crate) fn name(stack: &Stack, fd: u32, name: &mut CName) -> i32
     ensures { TellsName fd result name.old name.new stack.now }
 {
@@ -19,7 +19,7 @@ pub(crate) fn name(stack: &Stack, fd: u32, name: &mut CName) -> i32
     }
 }
 
-/// The oldest datagram that waits.
+/// Reads the sender and the length of the oldest queued datagram.
 pub(crate) fn next(stack: &Stack, fd: u32, next: &mut CNext) -> i32
     ensures { TellsNext fd result next.old next.new stack.now }
 {
@@ -32,7 +32,7 @@ pub(crate) fn next(stack: &Stack, fd: u32, next: &mut CNext) -> i32
     }
 }
 
-/// The sockets in which a datagram waits.
+/// Reads the set of sockets that have a queued datagram.
 pub(crate) fn readable(stack: &Stack, set: &mut u64) -> i32
     ensures { TellsReadable result set.new stack.now }
 {
@@ -40,14 +40,14 @@ pub(crate) fn readable(stack: &Stack, set: &mut u64) -> i32
     0
 }
 
-/// How many packets wait for the link.
+/// Returns the number of packets in the output queue.
 pub(crate) fn output_len(stack: &Stack) -> i32
     ensures { TellsOutput result stack.now }
 {
     count(stack.output_len() as usize)
 }
 
-/// How many bytes the packet has that has waited longest.
+/// Returns the length in bytes of the oldest packet in the output queue.
 pub(crate) fn next_packet(stack: &Stack) -> i32
     ensures { TellsPacket result stack.now }
 {
@@ -57,7 +57,7 @@ pub(crate) fn next_packet(stack: &Stack) -> i32
     }
 }
 
-/// A counter, by its place.
+/// Reads a counter by its index.
 pub(crate) fn counter(stack: &Stack, which: u32, value: &mut u64) -> i32
     ensures { TellsCounter which result value.old value.new stack.now }
 {
@@ -71,7 +71,7 @@ pub(crate) fn counter(stack: &Stack, which: u32, value: &mut u64) -> i32
     }
 }
 
-/// How much of the pool is in use.
+/// Reads the usage of the pool.
 pub(crate) fn mbstat(stack: &Stack, usage: &mut CMbstat) -> i32
     ensures { TellsUsage result usage.new stack.now }
 {
@@ -79,14 +79,14 @@ pub(crate) fn mbstat(stack: &Stack, usage: &mut CMbstat) -> i32
     0
 }
 
-/// How many datagrams are unfinished.
+/// Returns the number of unfinished datagrams.
 pub(crate) fn unfinished_len(stack: &Stack) -> i32
     ensures { TellsWaiting result stack.now }
 {
     count(stack.unfinished_len() as usize)
 }
 
-/// The unfinished datagram at a place.
+/// Reads an unfinished datagram by its index.
 pub(crate) fn unfinished(stack: &Stack, i: u32, datagram: &mut CUnfinished) -> i32
     ensures { TellsUnfinished i result datagram.old datagram.new stack.now }
 {
@@ -99,7 +99,7 @@ pub(crate) fn unfinished(stack: &Stack, i: u32, datagram: &mut CUnfinished) -> i
     }
 }
 
-/// The range of its bytes at a place.
+/// Reads a range of its bytes by the range's index.
 pub(crate) fn unfinished_range(stack: &Stack, i: u32, k: u32, range: &mut CRange) -> i32
     ensures { TellsRange i k result range.old range.new stack.now }
 {

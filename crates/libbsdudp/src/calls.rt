@@ -1,4 +1,4 @@
-//! The calls that change a stack, as C gives their arguments and takes their answers.
+//! The calls that change a stack, with the arguments and results as C has them.
 ghost use Rattle.std.specs.Prelude.{◌≤◌, length};
 ghost use Rattle.params.specs.declared.TheConstants.{IP_MAX_PACKET};
 ghost use Rattle.flat_model.specs.Machine.Event.{Bind, Close, Comes, Connect, Done, Send, Set_option, Tick};
@@ -20,7 +20,7 @@ pub(crate) fn socket(stack: &mut Stack) -> i32
     }
 }
 
-/// Gives a socket its local address and port.
+/// Binds a socket to a local address and port.
 pub(crate) fn bind(stack: &mut Stack, fd: u32, local: Addr) -> i32
     ensures { AnswersCall (Bind fd local) result stack.old stack.new }
 {
@@ -42,7 +42,7 @@ pub(crate) fn close(stack: &mut Stack, fd: u32) -> i32
 }
 
 /// Sets or clears an option.
-// Apart: two exports call it, which nobody calls for each datagram.
+// Not inlined: two exports call it, and no program calls them for each datagram.
 #[inline(never)]
 pub(crate) fn set(stack: &mut Stack, fd: u32, option: Opt, on: bool) -> i32
     ensures { AnswersCall (Set_option fd option on) result stack.old stack.new }
@@ -60,7 +60,7 @@ pub(crate) fn send(stack: &mut Stack, fd: u32, to: Option<Addr>, bytes: &[u8]) -
     }
 }
 
-/// Takes the oldest datagram that waits.
+/// Takes the oldest queued datagram.
 pub(crate) fn receive(stack: &mut Stack, fd: u32, room: &mut [u8], from: &mut CAddr) -> i32
     ensures { IsReceived fd result room.old room.new from.old from.new stack.old stack.new }
 {
@@ -73,7 +73,7 @@ pub(crate) fn receive(stack: &mut Stack, fd: u32, room: &mut [u8], from: &mut CA
     }
 }
 
-/// A packet comes that isn't too long.
+/// Passes a packet that isn't too long to the stack.
 fn come(stack: &mut Stack, packet: &[u8])
     requires { length packet.now ≤ IP_MAX_PACKET }
     ensures { StepsTo (Comes packet.now) Done stack.old stack.new }
@@ -81,7 +81,7 @@ fn come(stack: &mut Stack, packet: &[u8])
     stack.rx(packet);
 }
 
-/// A packet comes.
+/// Passes a packet to the stack.
 pub(crate) fn rx(stack: &mut Stack, packet: &[u8]) -> i32
     ensures { AnswersArrival packet.now result stack.old stack.new }
 {
@@ -92,7 +92,7 @@ pub(crate) fn rx(stack: &mut Stack, packet: &[u8]) -> i32
     0
 }
 
-/// The packet that has waited longest, into a room that is long enough.
+/// Takes the oldest packet of the output queue, into a buffer that is long enough.
 fn give(stack: &mut Stack, room: &mut [u8]) -> i32
     requires { stack.old.config.mtu ≤ length room.old }
     ensures { GivesPacket room.old room.new result stack.old stack.new }
@@ -103,7 +103,7 @@ fn give(stack: &mut Stack, room: &mut [u8]) -> i32
     }
 }
 
-/// The packet that has waited longest.
+/// Takes the oldest packet of the output queue.
 pub(crate) fn tx(stack: &mut Stack, room: &mut [u8]) -> i32
     ensures { AnswersTransmit room.old room.new result stack.old stack.new }
 {
@@ -113,7 +113,7 @@ pub(crate) fn tx(stack: &mut Stack, room: &mut [u8]) -> i32
     give(stack, room)
 }
 
-/// The clock ticks.
+/// Passes a clock tick to the stack.
 fn pass(stack: &mut Stack)
     ensures { StepsTo Tick Done stack.old stack.new }
 {

@@ -1,4 +1,4 @@
-//! What C's structs say, and how C is told.
+//! Conversions from and to the structs of C.
 ghost use Rattle.std.specs.Prelude.{◌≡◌};
 ghost use Rattle.libbsdudp.specs.Plain.{addr_of, config_of, name_told, next_told, range_told, unfinished_told, usage_told, whom};
 

@@ -1,19 +1,19 @@
-//! How refusals are told to C: as the negative of 4.4BSD's number.
+//! The error codes for C: the negative of 4.4BSD's error number.
 ghost use Rattle.std.specs.Prelude.{◌≡◌, ◌≤◌, pos};
 ghost use Rattle.libbsdudp.specs.Answers.{count_code, done_code, refusal_code};
 
 use flat_model::{Errno, Lack};
 
-/// ENXIO: the handle holds no stack, or boot found that it holds one.
+/// ENXIO: the handle holds no stack; for boot, that it holds one already.
 pub(crate) const NO_STACK: i32 = -6;
 
-/// ENOMEM: memory was refused.
+/// ENOMEM: an allocation failed.
 pub(crate) const NO_MEMORY: i32 = -12;
 
-/// EINVAL: of boot a configuration that no machine has; of a counter a number that none has.
+/// EINVAL: for boot, a configuration that no host can have; for a counter, a number that no counter has.
 pub(crate) const INVALID: i32 = -22;
 
-/// EDOM: sizes that no pool has.
+/// EDOM: sizes that no pool can have.
 pub(crate) const BAD_SIZES: i32 = -33;
 
 /// EOPNOTSUPP: the stack has no link.
@@ -22,17 +22,17 @@ pub(crate) const NO_LINK: i32 = -45;
 /// EADDRINUSE: another host has the address.
 pub(crate) const IN_USE: i32 = -48;
 
-/// ECONNREFUSED, as an error that others reported: no socket takes a datagram there.
+/// ECONNREFUSED, as an error that another host reported: no socket receives a datagram there.
 pub(crate) const CONNECTION_REFUSED: i32 = 61;
 
-/// EHOSTUNREACH, likewise: no way leads there.
+/// EHOSTUNREACH, likewise: no route leads there.
 pub(crate) const HOST_UNREACHABLE: i32 = 65;
 
-/// EMSGSIZE: a packet longer than any is, or a room shorter than the longest.
+/// EMSGSIZE: a packet above the maximum length, or a buffer shorter than the longest packet.
 pub(crate) const BAD_LENGTH: i32 = -40;
 
-/// What a refused call answers. ENOBUFS of the pool is -55, and ENOBUFS of the output queue -155, since they leave
-/// different things behind.
+/// Returns the error code of a failed call. ENOBUFS of the pool is -55, and ENOBUFS of the output queue -155, because
+/// they leave different states.
 pub(crate) fn refused(errno: Errno) -> i32
     ensures { result ≡ refusal_code errno }
 {
@@ -53,7 +53,7 @@ pub(crate) fn refused(errno: Errno) -> i32
     }
 }
 
-/// The answer of a call that says nothing but whether it went well.
+/// Returns the result of a call that only succeeds or fails.
 pub(crate) fn done(answer: Result<(), Errno>) -> i32
     ensures { result ≡ done_code answer }
 {
@@ -63,7 +63,7 @@ pub(crate) fn done(answer: Result<(), Errno>) -> i32
     }
 }
 
-/// A count as C has it. It would stop at 2 ^ 31 - 1, and none comes near that.
+/// Returns a count as C has it. It would stop at 2 ^ 31 - 1, and no count comes near that.
 pub(crate) fn count(n: usize) -> i32
     ensures { result ≡ count_code n }
 {

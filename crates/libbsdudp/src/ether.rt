@@ -1,5 +1,5 @@
-//! The stack as a host on an Ethernet. Beside the handle of the stack there is one of its link, the link's half of the
-//! host: a call on a stack changes nothing of its link, and it's booted and ended apart.
+//! The stack as a host on an Ethernet. In addition to the handle of the stack there is a handle of its link, which is
+//! the link's half of the host. A call on a stack changes nothing in its link. The link is booted and ended separately.
 ghost use Rattle.std.specs.Prelude.{◌≡◌, ⊤};
 ghost use Rattle.libbsdudp.specs.Calls.{stack_in};
 ghost use Rattle.libbsdudp.specs.Ether.{AnswersHost, AnswersLink, HasAged, HasHeard, IsFramed, IsLinkAsked, IsLinkBooted, IsLinkEnded, TellsAddress, TellsError, TellsNeighbour, TellsTallies, handle_link};
@@ -15,12 +15,12 @@ use crate::plain::CConfig;
 use ether_host::LinkLayer;
 use std::alloc::Global;
 
-/// Boots the link of a stack with this configuration, into a handle that holds none.
+/// Boots the link of a stack with this configuration, into a handle that holds no link.
 ///
 ///     int bsdudp_core_ether_boot(struct bsdudp_core *link, const struct bsdudp_config *, const struct core_link *)
 ///
-/// 0, or refused, in this order: -ENXIO if the handle holds a link, which stays; -EINVAL for a link that no host has;
-/// -ENOMEM.
+/// Returns 0, or the first error of these: -ENXIO if the handle holds a link, which stays; -EINVAL for link settings
+/// that no host can have; -ENOMEM if an allocation fails.
 #[unsafe(no_mangle)]
 pub extern "C" fn bsdudp_core_ether_boot(
     alloc: Global,
@@ -51,11 +51,11 @@ pub extern "C" fn bsdudp_core_ether_boot(
     }
 }
 
-/// Ends the link, frees all that it holds, and leaves the handle without one.
+/// Ends the link, frees all that it holds, and leaves the handle without a link.
 ///
 ///     int bsdudp_core_ether_end(struct bsdudp_core *link)
 ///
-/// 0, or -EOPNOTSUPP if the handle holds no link.
+/// Returns 0, or -EOPNOTSUPP if the handle holds no link.
 #[unsafe(no_mangle)]
 pub extern "C" fn bsdudp_core_ether_end(alloc: Global, handle: &mut LinkHandle) -> i32
     ensures { IsLinkEnded (handle_link handle.old) result (handle_link handle.new) }
@@ -69,7 +69,7 @@ pub extern "C" fn bsdudp_core_ether_end(alloc: Global, handle: &mut LinkHandle) 
     }
 }
 
-/// A frame comes. 0, or -EMSGSIZE of more than 65,549 bytes.
+/// Receives a frame. Returns 0, or -EMSGSIZE if it has more than 65,549 bytes.
 ///
 ///     int bsdudp_core_ether_receive(struct bsdudp_core *, struct bsdudp_core *link, const uint8_t *frame, size_t len)
 #[tactic(auto, using(crate::proofs::EtherAnswered::host_answered))]
@@ -97,8 +97,8 @@ pub extern "C" fn bsdudp_core_ether_receive(
     answer
 }
 
-/// The next frame for the link: how many bytes it has, or 0 if none waits; -EMSGSIZE for a room of fewer than 1,514
-/// bytes, and of a stack whose MTU is above 1,500.
+/// Takes the next frame for the link. Returns its length in bytes, or 0 if no frame is queued; -EMSGSIZE if the buffer
+/// has fewer than 1,514 bytes, or the MTU of the stack is above 1,500.
 ///
 ///     int bsdudp_core_ether_transmit(struct bsdudp_core *, struct bsdudp_core *link, uint8_t *room, size_t len)
 #[tactic(auto, using(crate::proofs::EtherAnswered::host_answered))]
@@ -126,8 +126,8 @@ pub extern "C" fn bsdudp_core_ether_transmit(
     answer
 }
 
-/// What others reported of the datagrams that a connected socket sent to its peer, which the link then forgets: 0 for
-/// nothing, 61 for ECONNREFUSED, 65 for EHOSTUNREACH, or why the call is refused.
+/// Returns what other hosts reported about the datagrams that a connected socket sent to its peer, and clears it: 0 for
+/// no report, 61 for ECONNREFUSED, 65 for EHOSTUNREACH, or a negative error code if the call fails.
 ///
 ///     int bsdudp_core_ether_last_error(struct bsdudp_core *, struct bsdudp_core *link, uint32_t fd)
 #[tactic(auto, using(crate::proofs::EtherAnswered::host_answered))]
@@ -155,7 +155,7 @@ pub extern "C" fn bsdudp_core_ether_last_error(
     answer
 }
 
-/// Half a second passed: the link's part of it, beside `bsdudp_core_tick`. 0.
+/// Half a second has passed: the link's part of the tick, in addition to `bsdudp_core_tick`. Returns 0.
 ///
 ///     int bsdudp_core_ether_tick(struct bsdudp_core *link)
 #[tactic(auto, using(crate::proofs::EtherAnswered::link_answered))]
@@ -166,8 +166,8 @@ pub extern "C" fn bsdudp_core_ether_tick(alloc: Global, link: &mut LinkHandle) -
     with_held!(link, alloc, NO_LINK, boxed => ether_calls::tick(&mut boxed.layer))
 }
 
-/// How far the host is with its address: 1 if it's used, 0 while the host asks for it, or -EADDRINUSE if another host
-/// has it.
+/// Returns the state of the host's address: 1 if it is in use, 0 while the host probes for it, or -EADDRINUSE if
+/// another host has it.
 ///
 ///     int bsdudp_core_ether_address(struct bsdudp_core *link)
 #[tactic(auto, using(crate::proofs::EtherAnswered::link_asked))]
@@ -178,7 +178,7 @@ pub extern "C" fn bsdudp_core_ether_address(alloc: Global, link: &mut LinkHandle
     with_held!(link, alloc, NO_LINK, boxed => ether_calls::address(&boxed.layer))
 }
 
-/// What was counted of the link. 0.
+/// Reads the counters of the link. Returns 0.
 ///
 ///     int bsdudp_core_ether_tallies(struct bsdudp_core *link, struct bsdudp_tallies *)
 #[tactic(auto, using(crate::proofs::EtherAnswered::link_asked))]
@@ -194,7 +194,8 @@ pub extern "C" fn bsdudp_core_ether_tallies(
     with_held!(link, alloc, NO_LINK, boxed => ether_calls::tallies(&boxed.layer, tallies))
 }
 
-/// A neighbour, by its place in the table, the one that was put last at the end. 0, or -EINVAL if there is none.
+/// Reads a neighbour by its index in the table, in which the newest entry is last. Returns 0, or -EINVAL if there is no
+/// such neighbour.
 ///
 ///     int bsdudp_core_ether_neighbour(struct bsdudp_core *link, uint32_t i, struct core_neighbour *)
 #[tactic(auto, using(crate::proofs::EtherAnswered::link_asked))]

@@ -1,4 +1,4 @@
-//! The calls on a host, as C gives their arguments and takes their answers.
+//! The calls on a host, with the arguments and results as C has them.
 ghost use Rattle.std.specs.Prelude.{◌≡◌, ◌+◌, ◌≤◌, length, IfSome};
 ghost use Rattle.params.specs.declared.TheConstants.{IP_MAX_PACKET};
 ghost use Rattle.flat_ether.specs.Hosts.{Hears, gives};
@@ -16,13 +16,13 @@ use flat_ether::{AddressState, ETHER_HEADER, ETHER_MTU, NetFault};
 use net_stack::Stack;
 use params::IP_MAX_PACKET;
 
-/// The longest frame that is taken.
+/// The longest frame that a host receives, in bytes.
 const LONGEST: usize = (ETHER_HEADER + IP_MAX_PACKET) as usize;
 
-/// The room that each frame finds place in.
+/// The buffer size that every frame fits into, in bytes.
 const ROOM: usize = (ETHER_HEADER + ETHER_MTU) as usize;
 
-/// A frame comes.
+/// Receives a frame.
 pub(crate) fn receive(stack: &mut Stack, layer: &mut LinkLayer, frame: &[u8]) -> i32
     ensures { HasHeard frame.now result (both stack.old (link_seen layer.old)) (both stack.new (link_seen layer.new)) }
 {
@@ -33,7 +33,7 @@ pub(crate) fn receive(stack: &mut Stack, layer: &mut LinkLayer, frame: &[u8]) ->
     0
 }
 
-/// The next frame, into a room that is long enough.
+/// Takes the next frame, into a buffer that is long enough.
 fn give(stack: &mut Stack, layer: &mut LinkLayer, room: &mut [u8]) -> i32
     requires mtu { stack.old.config.mtu ≤ ETHER_MTU }
     requires room { ETHER_HEADER + ETHER_MTU ≤ length room.old }
@@ -45,7 +45,7 @@ fn give(stack: &mut Stack, layer: &mut LinkLayer, room: &mut [u8]) -> i32
     }
 }
 
-/// The next frame.
+/// Takes the next frame.
 pub(crate) fn transmit(stack: &mut Stack, layer: &mut LinkLayer, room: &mut [u8]) -> i32
     ensures { IsFramed room.old room.new result (both stack.old (link_seen layer.old))
         (both stack.new (link_seen layer.new)) }
@@ -56,8 +56,8 @@ pub(crate) fn transmit(stack: &mut Stack, layer: &mut LinkLayer, room: &mut [u8]
     give(stack, layer, room)
 }
 
-/// What others reported of a socket's datagrams: 0 for nothing, ECONNREFUSED or EHOSTUNREACH, or why the call is
-/// refused.
+/// Returns what other hosts reported about a socket's datagrams: 0 for no report, ECONNREFUSED or EHOSTUNREACH, or a
+/// negative error code if the call fails.
 pub(crate) fn last_error(stack: &Stack, layer: &mut LinkLayer, fd: u32) -> i32
     ensures { TellsError fd result (both stack.now (link_seen layer.old)) (both stack.now (link_seen layer.new)) }
 {
@@ -69,7 +69,7 @@ pub(crate) fn last_error(stack: &Stack, layer: &mut LinkLayer, fd: u32) -> i32
     }
 }
 
-/// Half a second passed.
+/// Half a second has passed.
 pub(crate) fn tick(layer: &mut LinkLayer) -> i32
     ensures { HasAged result (link_seen layer.old) (link_seen layer.new) }
 {
@@ -77,7 +77,7 @@ pub(crate) fn tick(layer: &mut LinkLayer) -> i32
     0
 }
 
-/// How far the host is with its address.
+/// Returns the state of the host's address.
 pub(crate) fn address(layer: &LinkLayer) -> i32
     ensures { TellsAddress result (link_seen layer.now) }
 {
@@ -88,7 +88,7 @@ pub(crate) fn address(layer: &LinkLayer) -> i32
     }
 }
 
-/// What was counted of the link.
+/// Reads the counters of the link.
 pub(crate) fn tallies(layer: &LinkLayer, tallies: &mut CTallies) -> i32
     ensures { TellsTallies result tallies.new (link_seen layer.now) }
 {
@@ -96,7 +96,7 @@ pub(crate) fn tallies(layer: &LinkLayer, tallies: &mut CTallies) -> i32
     0
 }
 
-/// The neighbour at a place.
+/// Reads the neighbour at an index.
 pub(crate) fn neighbour(layer: &LinkLayer, i: u32, neighbour: &mut CNeighbour) -> i32
     ensures { TellsNeighbour i result neighbour.old neighbour.new (link_seen layer.now) }
 {

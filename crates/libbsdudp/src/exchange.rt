@@ -9,8 +9,8 @@ use crate::parts::{open, shut};
 use std::alloc::Global;
 use std::mem::replace;
 
-/// What a call answers of that which a handle holds: it's taken out for the call, and put back. Of a handle without it
-/// the answer is `$lacks`.
+/// Takes the value out of a handle for the duration of a call, and puts it back. If the handle has no value, the result
+/// is `$lacks`.
 macro_rules! with_held {
     ($handle:ident, $alloc:ident, $lacks:ident, $boxed:ident => $call:expr) => {
         match $handle.take($alloc) {
@@ -40,7 +40,8 @@ impl Handle {
         }
     }
 
-    /// Takes out the stack, and leaves the handle without one. `None` if it has none, and then it stays without.
+    /// Takes out the stack, and leaves the handle without one. Returns `None` if it has no stack; the handle is then
+    /// unchanged.
     pub(crate) fn take(&mut self, alloc: Global) -> Option<Box<Owned, Global>>
         ensures taken { MatchOption result (stack_in self.old ≡ None)
             (λ b. stack_in self.old ≡ Some b.value.stack) }
@@ -53,7 +54,7 @@ impl Handle {
         Some(shut(held.into_parts()))
     }
 
-    /// Puts a stack in. The handle has to be without one, or that one isn't ended.
+    /// Puts a stack into a handle, which must not hold one; a stack that it held would not be ended.
     pub(crate) fn put(&mut self, boxed: Box<Owned, Global>)
         ensures { stack_in self.new ≡ Some boxed.value.stack }
     {

@@ -4,7 +4,7 @@ ghost use Rattle.libbsdudp.specs.Held.{IsFull};
 
 use crate::held::Held;
 
-/// `struct bsdudp_core`: it holds no stack if all its bytes are 0, and none after `bsdudp_core_end`.
+/// `struct bsdudp_core`. It holds no stack if all its bytes are 0, and none after `bsdudp_core_end`.
 #[repr(C)]
 #[derive(Drop)]
 pub struct Handle {

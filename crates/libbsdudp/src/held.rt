@@ -1,4 +1,4 @@
-//! A boxed stack as C keeps it: an address and nothing else.
+//! A boxed stack as C keeps it: only an address.
 ghost use Rattle.std.specs.Prelude.{◌≡◌, None, Some};
 ghost use Rattle.libbsdudp.specs.Held.{IsFull, Kept, kept_coded, kept_owns};
 
@@ -8,8 +8,8 @@ use std::alloc::Global;
 use std::marker::Model;
 use std::ptr::null_mut;
 
-/// The place of a boxed stack, or none. A contract sees what the box holds. Its type names no type of the stack, since
-/// an export may not take one that does.
+/// The address of a boxed stack, or none. Contracts see the value in the box. Its type doesn't name a type of the
+/// stack, because an export may not take a type that does.
 #[repr(C)]
 #[derive(Drop)]
 pub struct Held {
@@ -33,7 +33,7 @@ impl Held {
         }
     }
 
-    /// The place of the box that these parts make.
+    /// Returns the address of the box that these parts make.
     pub(crate) fn of_parts(parts: Parts<Owned, Global>) -> Held
         ensures { result.kept ≡ Some parts.value }
     {
@@ -44,7 +44,7 @@ impl Held {
         }
     }
 
-    /// The parts of the box at the place. There has to be one.
+    /// Returns the parts of the box at the address. There must be one.
     pub(crate) fn into_parts(self) -> Parts<Owned, Global>
         requires { IsFull self.kept }
         ensures { self.kept ≡ Some result.value }

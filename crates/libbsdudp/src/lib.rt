@@ -1,5 +1,5 @@
-//! The stack as a C program calls it. Each call takes a handle, which C holds: it has no stack if all its bytes are 0,
-//! and none after `bsdudp_core_end`. A call on such a handle answers -ENXIO and does nothing.
+//! The stack as a C program calls it. Each call takes a handle, which C holds. A handle has no stack if all its bytes
+//! are 0, and none after `bsdudp_core_end`. A call on such a handle returns -ENXIO and does nothing.
 #![tactic(auto)]
 
 ghost use Rattle.std.specs.Prelude.{◌≡◌, None, Some, ⊤};
@@ -36,7 +36,7 @@ use handle::Handle;
 use plain::CAddr;
 use std::alloc::Global;
 
-/// A packet comes. 0, or -EMSGSIZE of more than 65,535 bytes.
+/// Receives a packet. Returns 0, or -EMSGSIZE if it has more than 65,535 bytes.
 ///
 ///     int bsdudp_core_rx(struct bsdudp_core *, const uint8_t *packet, size_t len)
 #[tactic(auto, using(crate::proofs::Answered::answered))]
@@ -47,8 +47,8 @@ pub extern "C" fn bsdudp_core_rx(alloc: Global, handle: &mut Handle, packet: &[u
     with_held!(handle, alloc, NO_STACK, boxed => calls::rx(&mut boxed.stack, packet))
 }
 
-/// The packet that has waited longest for the link: how many bytes it has, or 0 if none waits; -EMSGSIZE for a room of
-/// fewer bytes than the MTU.
+/// Takes the oldest packet of the output queue. Returns its length in bytes, or 0 if the queue is empty; -EMSGSIZE if
+/// the buffer has fewer bytes than the MTU.
 ///
 ///     int bsdudp_core_tx(struct bsdudp_core *, uint8_t *room, size_t len)
 #[tactic(auto, using(crate::proofs::Answered::answered))]
@@ -60,7 +60,7 @@ pub extern "C" fn bsdudp_core_tx(alloc: Global, handle: &mut Handle, room: &mut 
     with_held!(handle, alloc, NO_STACK, boxed => calls::tx(&mut boxed.stack, room))
 }
 
-/// Half a second passed. 0.
+/// Half a second has passed. Returns 0.
 ///
 ///     int bsdudp_core_tick(struct bsdudp_core *)
 #[tactic(auto, using(crate::proofs::Answered::answered))]
@@ -71,7 +71,7 @@ pub extern "C" fn bsdudp_core_tick(alloc: Global, handle: &mut Handle) -> i32
     with_held!(handle, alloc, NO_STACK, boxed => calls::tick(&mut boxed.stack))
 }
 
-/// Opens a socket: its descriptor, or why it is refused.
+/// Opens a socket. Returns its descriptor, or a negative error code.
 ///
 ///     int bsdudp_core_socket(struct bsdudp_core *)
 #[tactic(auto, using(crate::proofs::Answered::answered))]
@@ -82,7 +82,7 @@ pub extern "C" fn bsdudp_core_socket(alloc: Global, handle: &mut Handle) -> i32
     with_held!(handle, alloc, NO_STACK, boxed => calls::socket(&mut boxed.stack))
 }
 
-/// Gives a socket its local address and port. 0, or why it is refused.
+/// Binds a socket to a local address and port. Returns 0, or a negative error code.
 ///
 ///     int bsdudp_core_bind(struct bsdudp_core *, uint32_t fd, const struct bsdudp_addr *)
 #[tactic(auto, using(crate::proofs::Answered::answered))]
@@ -99,7 +99,7 @@ pub extern "C" fn bsdudp_core_bind(
     with_held!(handle, alloc, NO_STACK, boxed => calls::bind(&mut boxed.stack, fd, local.addr()))
 }
 
-/// Connects a socket. 0, or why it is refused.
+/// Connects a socket. Returns 0, or a negative error code.
 ///
 ///     int bsdudp_core_connect(struct bsdudp_core *, uint32_t fd, const struct bsdudp_addr *)
 #[tactic(auto, using(crate::proofs::Answered::answered))]
@@ -116,7 +116,7 @@ pub extern "C" fn bsdudp_core_connect(
     with_held!(handle, alloc, NO_STACK, boxed => calls::connect(&mut boxed.stack, fd, to.addr()))
 }
 
-/// Sends a datagram to an address: how many bytes it has, or why it is refused.
+/// Sends a datagram to an address. Returns its length in bytes, or a negative error code.
 ///
 ///     int bsdudp_core_sendto(struct bsdudp_core *, uint32_t fd, const struct bsdudp_addr *, const uint8_t *, size_t)
 #[tactic(auto, using(crate::proofs::Answered::answered))]
@@ -134,7 +134,7 @@ pub extern "C" fn bsdudp_core_sendto(
     with_held!(handle, alloc, NO_STACK, boxed => calls::send(&mut boxed.stack, fd, Some(to.addr()), bytes))
 }
 
-/// Sends a datagram to the peer: how many bytes it has, or why it is refused.
+/// Sends a datagram to the peer. Returns its length in bytes, or a negative error code.
 ///
 ///     int bsdudp_core_send(struct bsdudp_core *, uint32_t fd, const uint8_t *, size_t)
 #[tactic(auto, using(crate::proofs::Answered::answered))]
@@ -146,7 +146,7 @@ pub extern "C" fn bsdudp_core_send(alloc: Global, handle: &mut Handle, fd: u32, 
     with_held!(handle, alloc, NO_STACK, boxed => calls::send(&mut boxed.stack, fd, None, bytes))
 }
 
-/// Takes the oldest datagram that waits: how many bytes stand in front of the room, or why it is refused.
+/// Takes the oldest queued datagram. Returns how many bytes were written to the buffer, or a negative error code.
 ///
 ///     int bsdudp_core_recvfrom(struct bsdudp_core *, uint32_t fd, uint8_t *, size_t, struct bsdudp_addr *)
 #[tactic(auto, using(crate::proofs::Answered::answered))]
@@ -164,7 +164,7 @@ pub extern "C" fn bsdudp_core_recvfrom(
     with_held!(handle, alloc, NO_STACK, boxed => calls::receive(&mut boxed.stack, fd, room, from))
 }
 
-/// Closes a socket. 0, or why it is refused.
+/// Closes a socket. Returns 0, or a negative error code.
 ///
 ///     int bsdudp_core_close(struct bsdudp_core *, uint32_t fd)
 #[tactic(auto, using(crate::proofs::Answered::answered))]
@@ -175,7 +175,7 @@ pub extern "C" fn bsdudp_core_close(alloc: Global, handle: &mut Handle, fd: u32)
     with_held!(handle, alloc, NO_STACK, boxed => calls::close(&mut boxed.stack, fd))
 }
 
-/// Whether a socket may send broadcasts. 0, or why it is refused.
+/// Sets whether a socket may send broadcasts. Returns 0, or a negative error code.
 ///
 ///     int bsdudp_core_set_broadcast(struct bsdudp_core *, uint32_t fd, bool on)
 #[tactic(auto, using(crate::proofs::Answered::answered))]
@@ -192,7 +192,7 @@ pub extern "C" fn bsdudp_core_set_broadcast(
     with_held!(handle, alloc, NO_STACK, boxed => calls::set(&mut boxed.stack, fd, Opt::Broadcast, on))
 }
 
-/// Whether a socket's address and port may be shared. 0, or why it is refused.
+/// Sets whether a socket's address and port may be shared. Returns 0, or a negative error code.
 ///
 ///     int bsdudp_core_set_reuse_port(struct bsdudp_core *, uint32_t fd, bool on)
 #[tactic(auto, using(crate::proofs::Answered::answered))]

@@ -1,4 +1,4 @@
-//! How a stack comes into a handle, and goes.
+//! Booting a stack into a handle, and ending it.
 ghost use Rattle.libbsdudp.specs.Calls.{stack_in};
 ghost use Rattle.libbsdudp.specs.Life.{IsBooted, IsEnded};
 
@@ -9,12 +9,12 @@ use crate::plain::CConfig;
 use net_stack::{BootFault, Stack};
 use std::alloc::Global;
 
-/// Boots a stack into a handle that holds none.
+/// Boots a stack into a handle that holds no stack.
 ///
 ///     int bsdudp_core_boot(struct bsdudp_core *, const struct bsdudp_config *)
 ///
-/// 0, or refused, in this order: -ENXIO if the handle holds a stack, which stays; -EDOM for sizes that no pool has;
-/// -EINVAL for a configuration that no machine has; -ENOMEM.
+/// Returns 0, or the first error of these: -ENXIO if the handle holds a stack, which stays; -EDOM for sizes that no
+/// pool can have; -EINVAL for a configuration that no host can have; -ENOMEM if an allocation fails.
 #[unsafe(no_mangle)]
 pub extern "C" fn bsdudp_core_boot(alloc: Global, handle: &mut Handle, config: &CConfig) -> i32
     ensures { IsBooted (stack_in handle.old) config.now result (stack_in handle.new) }
@@ -38,11 +38,11 @@ pub extern "C" fn bsdudp_core_boot(alloc: Global, handle: &mut Handle, config: &
     }
 }
 
-/// Ends the stack, frees all that it holds, and leaves the handle without one.
+/// Ends the stack, frees all that it holds, and leaves the handle without a stack.
 ///
 ///     int bsdudp_core_end(struct bsdudp_core *)
 ///
-/// 0, or -ENXIO if the handle holds no stack.
+/// Returns 0, or -ENXIO if the handle holds no stack.
 #[unsafe(no_mangle)]
 pub extern "C" fn bsdudp_core_end(alloc: Global, handle: &mut Handle) -> i32
     ensures { IsEnded (stack_in handle.old) result (stack_in handle.new) }

@@ -1,4 +1,4 @@
-//! What C's structs say of a link, and how C is told of it.
+//! Conversions from and to the structs of C for a link.
 ghost use Rattle.std.specs.Prelude.{◌≡◌};
 ghost use Rattle.libbsdudp.specs.LinkPlain.{plain_link, neighbour_told, tallies_told};
 

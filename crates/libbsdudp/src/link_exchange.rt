@@ -24,7 +24,8 @@ impl LinkHandle {
         }
     }
 
-    /// Takes out the link, and leaves the handle without one. `None` if it has none, and then it stays without.
+    /// Takes out the link, and leaves the handle without one. Returns `None` if it has no link; the handle is then
+    /// unchanged.
     pub(crate) fn take(&mut self, alloc: Global) -> Option<Box<OwnedLink, Global>>
         ensures taken { MatchOption result (handle_link self.old ≡ None)
             (λ b. handle_link self.old ≡ Some (link_seen b.value.layer)) }
@@ -37,7 +38,7 @@ impl LinkHandle {
         Some(shut(held.into_parts()))
     }
 
-    /// Puts a link in. The handle has to be without one, or that one isn't ended.
+    /// Puts a link into a handle, which must not hold one; a link that it held would not be ended.
     pub(crate) fn put(&mut self, boxed: Box<OwnedLink, Global>)
         ensures { handle_link self.new ≡ Some (link_seen boxed.value.layer) }
     {

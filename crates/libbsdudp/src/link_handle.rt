@@ -4,7 +4,7 @@ ghost use Rattle.libbsdudp.specs.LinkHeld.{IsLinkFull};
 
 use crate::link_held::LinkHeld;
 
-/// The second `struct bsdudp_core` of a host: it holds no link if all its bytes are 0, and none after
+/// The second `struct bsdudp_core` of a host. It holds no link if all its bytes are 0, and none after
 /// `bsdudp_core_ether_end`.
 #[repr(C)]
 #[derive(Drop)]

@@ -1,4 +1,4 @@
-//! A boxed link as C keeps it, as `held` has it of a stack.
+//! A boxed link as C keeps it, the counterpart of `held` for a stack.
 ghost use Rattle.std.specs.Prelude.{◌≡◌, None, Some};
 ghost use Rattle.libbsdudp.specs.LinkHeld.{IsLinkFull, LinkKept, link_kept_coded, link_kept_owns};
 
@@ -8,8 +8,8 @@ use std::alloc::Global;
 use std::marker::Model;
 use std::ptr::null_mut;
 
-/// The place of a boxed link, or none. A contract sees what the box holds. Its type names no type of the host, since
-/// an export may not take one that does.
+/// The address of a boxed link, or none. Contracts see the value in the box. Its type doesn't name a type of the host,
+/// because an export may not take a type that does.
 #[repr(C)]
 #[derive(Drop)]
 pub struct LinkHeld {
@@ -33,7 +33,7 @@ impl LinkHeld {
         }
     }
 
-    /// The place of the box that these parts make.
+    /// Returns the address of the box that these parts make.
     pub(crate) fn of_parts(parts: Parts<OwnedLink, Global>) -> LinkHeld
         ensures { result.kept ≡ Some parts.value }
     {
@@ -44,7 +44,7 @@ impl LinkHeld {
         }
     }
 
-    /// The parts of the box at the place. There has to be one.
+    /// Returns the parts of the box at the address. There must be one.
     pub(crate) fn into_parts(self) -> Parts<OwnedLink, Global>
         requires { IsLinkFull self.kept }
         ensures { self.kept ≡ Some result.value }

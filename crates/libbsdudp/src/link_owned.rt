@@ -1,8 +1,8 @@
-//! What stands behind the handle of a link.
+//! The value that the handle of a link refers to.
 
 use ether_host::LinkLayer;
 
-/// A link, which goes when it's dropped.
+/// A link, which is freed when it is dropped.
 #[derive(Drop)]
 pub struct OwnedLink {
     pub(crate) layer: LinkLayer,

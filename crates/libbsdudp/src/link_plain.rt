@@ -1,6 +1,6 @@
-//! The structs that cross to C, of a host on an Ethernet.
+//! The structs that are shared with C, for a host on an Ethernet.
 
-/// What C says of a link: the hardware address is two numbers, of its first two bytes and of its last four.
+/// The settings of a link from C. The hardware address is two numbers, for its first two bytes and for its last four.
 #[repr(C)]
 #[derive(Clone, Copy)]
 pub struct CLink {
@@ -10,58 +10,59 @@ pub struct CLink {
     pub mac_low: u32,
     /// The mask of its network.
     pub mask: u32,
-    /// The address of its gateway, 0 for none.
+    /// The address of its gateway, 0 for no gateway.
     pub gateway: u32,
-    /// 0 if it begins to use its address at once; else it asks first if another host has it.
+    /// 0 if it uses its address at once; otherwise it first probes whether another host has it.
     pub probe: u8,
 }
 
-/// What C is told of a neighbour.
+/// A neighbour for C.
 #[repr(C)]
 #[derive(Clone, Copy)]
 pub struct CNeighbour {
     /// Its address.
     pub ip: u32,
-    /// The last four bytes of its hardware address, as a number; 0 while it isn't known.
+    /// The last four bytes of its hardware address, as a number; 0 while the address isn't known.
     pub mac_low: u32,
-    /// The first two bytes, as a number; 0 while it isn't known.
+    /// The first two bytes, as a number; 0 while the address isn't known.
     pub mac_high: u16,
-    /// For how many ticks it's known still; while it isn't, after how many the next request goes out.
+    /// How many more ticks the hardware address is valid; while it isn't known, how many ticks remain until the next
+    /// request.
     pub ticks: u16,
-    /// How many requests for it went out.
+    /// The number of requests sent for it.
     pub tries: u8,
-    /// 1 if its hardware address is known, else 0.
+    /// 1 if its hardware address is known, otherwise 0.
     pub known: u8,
 }
 
-/// `struct bsdudp_tallies`: what a link counted since boot.
+/// `struct bsdudp_tallies`: the counters of a link since boot.
 #[repr(C)]
 #[derive(Clone, Copy)]
 pub struct CTallies {
-    /// Frames that aren't for the host, or neither IPv4 nor ARP.
+    /// Frames for other hosts, or of a type other than IPv4 and ARP.
     pub ignored: u64,
-    /// Packets whose addresses can't come from a link.
+    /// Packets with addresses that can't come from a link.
     pub martians: u64,
-    /// ARP packets that aren't of Ethernet and IPv4, or that say that they come from this host or from all.
+    /// ARP packets that aren't for Ethernet and IPv4, or whose sender address is this host's or a broadcast address.
     pub bad_arp: u64,
-    /// ARP packets of another host that claims this one's address.
+    /// ARP packets of another host that claims this host's address.
     pub conflicts: u64,
-    /// ARP replies that found no place.
+    /// ARP replies dropped because their queue was full.
     pub replies_dropped: u64,
-    /// Packets that have no way.
+    /// Packets without a route.
     pub no_route: u64,
-    /// Packets that waited for a hardware address and were dropped for another.
+    /// Packets that waited for a hardware address and were dropped for another packet.
     pub held_dropped: u64,
-    /// Packets that waited for a hardware address that nobody told.
+    /// Packets that waited for a hardware address and got no reply.
     pub unresolved: u64,
     /// Packets that are longer than a frame can carry.
     pub too_long: u64,
-    /// Echo requests that were answered.
+    /// Echo requests that got a reply.
     pub echoes: u64,
-    /// Datagrams whose sender was told that no socket takes them.
+    /// Datagrams whose sender was told that no socket receives them.
     pub unreachable: u64,
-    /// Datagrams whose sender wasn't told so, since too many were told in this second.
+    /// Datagrams whose sender wasn't told so, because the limit for this second was reached.
     pub limited: u64,
-    /// ICMP answers that found the place taken.
+    /// ICMP replies dropped because their place was taken.
     pub icmp_dropped: u64,
 }

@@ -1,4 +1,4 @@
-//! What stands behind a handle.
+//! The value that a handle refers to.
 
 use net_stack::Stack;
 

@@ -1,4 +1,4 @@
-//! The structs that cross to C.
+//! The structs that are shared with C.
 
 /// `struct bsdudp_config`.
 #[repr(C)]
@@ -8,17 +8,17 @@ pub struct CConfig {
     pub addr: u32,
     /// The broadcast address of its network.
     pub bcast: u32,
-    /// How many mbufs the pool has.
+    /// The number of mbufs in the pool.
     pub mbufs: u32,
-    /// How many clusters it has.
+    /// The number of clusters in the pool.
     pub clusters: u32,
-    /// The bytes of the longest packet that the link takes.
+    /// The MTU of the link: the longest packet in bytes.
     pub mtu: u16,
     /// The identification of the first datagram.
     pub first_id: u16,
 }
 
-/// `struct bsdudp_addr`, both numbers in the host's order.
+/// `struct bsdudp_addr`, both numbers in the host's byte order.
 #[repr(C)]
 #[derive(Clone, Copy)]
 pub struct CAddr {
@@ -40,9 +40,9 @@ pub struct CMbstat {
     pub free_clusters: u32,
     /// All clusters.
     pub clusters: u32,
-    /// The sum of the clusters' counts.
+    /// The sum of the clusters' reference counts.
     pub refs: u32,
-    /// The greatest of them.
+    /// The greatest reference count of a cluster.
     pub most: u32,
 }
 
@@ -58,9 +58,9 @@ pub struct CName {
     pub local_port: u16,
     /// The peer's port.
     pub peer_port: u16,
-    /// 1 if the socket may send broadcasts, else 0.
+    /// 1 if the socket may send broadcasts, otherwise 0.
     pub broadcast: u8,
-    /// 1 if its address and port may be shared, else 0.
+    /// 1 if its address and port may be shared, otherwise 0.
     pub reuse_port: u8,
 }
 
@@ -68,13 +68,13 @@ pub struct CName {
 #[repr(C)]
 #[derive(Clone, Copy)]
 pub struct CNext {
-    /// Who sent the oldest datagram.
+    /// The address of the oldest datagram's sender.
     pub ip: u32,
-    /// From which port.
+    /// The sender's port.
     pub port: u16,
-    /// How many bytes it has.
+    /// The length of the oldest datagram in bytes.
     pub len: u32,
-    /// How many datagrams wait.
+    /// The number of queued datagrams.
     pub waiting: u32,
 }
 
@@ -82,19 +82,19 @@ pub struct CNext {
 #[repr(C)]
 #[derive(Clone, Copy)]
 pub struct CUnfinished {
-    /// The address that its fragments come from.
+    /// The source address of its fragments.
     pub source: u32,
-    /// The address that they go to.
+    /// Their destination address.
     pub destination: u32,
-    /// How many of its bytes have come.
+    /// How many of its bytes have arrived.
     pub bytes: u32,
-    /// In how many ranges.
+    /// The number of ranges that these bytes form.
     pub ranges: u32,
     /// Its identification.
     pub id: u16,
-    /// The protocol of what it carries.
+    /// The protocol number of its data.
     pub protocol: u8,
-    /// After how many more ticks it's dropped.
+    /// The number of ticks after which it is dropped.
     pub ticks: u8,
 }
 
@@ -106,6 +106,6 @@ pub struct CRange {
     pub offset: u32,
     /// How many bytes there are.
     pub len: u32,
-    /// 1 if more come after the fragment that brought them, else 0.
+    /// 1 if more fragments follow the one that brought these bytes, otherwise 0.
     pub more: u8,
 }

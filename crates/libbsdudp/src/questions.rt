@@ -1,4 +1,4 @@
-//! The questions, which leave the stack as it is.
+//! The queries, which leave the stack unchanged.
 ghost use Rattle.std.specs.Prelude.{◌≡◌, ⊤};
 ghost use Rattle.libbsdudp.specs.Calls.{Answers, AnswersQuestion, stack_in};
 ghost use Rattle.libbsdudp.specs.Told.{TellsCounter, TellsName, TellsNext, TellsOutput, TellsPacket, TellsRange, TellsReadable, TellsUnfinished, TellsUsage, TellsWaiting};
@@ -10,7 +10,7 @@ use crate::handle::Handle;
 use crate::plain::{CMbstat, CName, CNext, CRange, CUnfinished};
 use std::alloc::Global;
 
-/// What a socket is bound and connected to, and its options. 0, or -EBADF.
+/// Reads the addresses of a socket, and its options. Returns 0, or -EBADF.
 ///
 ///     int bsdudp_core_name(struct bsdudp_core *, uint32_t fd, struct bsdudp_name *)
 #[tactic(auto, using(crate::proofs::Answered::asked))]
@@ -27,7 +27,8 @@ pub extern "C" fn bsdudp_core_name(
     with_held!(handle, alloc, NO_STACK, boxed => asks::name(&boxed.stack, fd, name))
 }
 
-/// The oldest datagram that waits in a socket. 0, or why there is none.
+/// Reads the sender and the length of the oldest queued datagram of a socket. Returns 0, or a negative error code if
+/// there is none.
 ///
 ///     int bsdudp_core_next(struct bsdudp_core *, uint32_t fd, struct bsdudp_next *)
 #[tactic(auto, using(crate::proofs::Answered::asked))]
@@ -44,7 +45,7 @@ pub extern "C" fn bsdudp_core_next(
     with_held!(handle, alloc, NO_STACK, boxed => asks::next(&boxed.stack, fd, next))
 }
 
-/// The sockets in which a datagram waits: bit k stands for descriptor 3 + k. 0.
+/// Reads the set of sockets that have a queued datagram: bit k is descriptor 3 + k. Returns 0.
 ///
 ///     int bsdudp_core_readable(struct bsdudp_core *, uint64_t *set)
 #[tactic(auto, using(crate::proofs::Answered::asked))]
@@ -56,7 +57,7 @@ pub extern "C" fn bsdudp_core_readable(alloc: Global, handle: &mut Handle, set: 
     with_held!(handle, alloc, NO_STACK, boxed => asks::readable(&boxed.stack, set))
 }
 
-/// How many packets wait for the link.
+/// Returns the number of packets in the output queue.
 ///
 ///     int bsdudp_core_output_len(struct bsdudp_core *)
 #[tactic(auto, using(crate::proofs::Answered::asked))]
@@ -67,7 +68,7 @@ pub extern "C" fn bsdudp_core_output_len(alloc: Global, handle: &mut Handle) -> 
     with_held!(handle, alloc, NO_STACK, boxed => asks::output_len(&boxed.stack))
 }
 
-/// How many bytes the packet has that `tx` gives next, or 0 if none waits.
+/// Returns the length in bytes of the packet that `tx` takes next, or 0 if the queue is empty.
 ///
 ///     int bsdudp_core_next_packet(struct bsdudp_core *)
 #[tactic(auto, using(crate::proofs::Answered::asked))]
@@ -78,7 +79,7 @@ pub extern "C" fn bsdudp_core_next_packet(alloc: Global, handle: &mut Handle) ->
     with_held!(handle, alloc, NO_STACK, boxed => asks::next_packet(&boxed.stack))
 }
 
-/// A counter, by its place in the order in which they are printed. 0, or -EINVAL if there is none.
+/// Reads a counter by its index in the order of printing. Returns 0, or -EINVAL if there is no such counter.
 ///
 ///     int bsdudp_core_counter(struct bsdudp_core *, uint32_t which, uint64_t *value)
 #[tactic(auto, using(crate::proofs::Answered::asked))]
@@ -95,7 +96,7 @@ pub extern "C" fn bsdudp_core_counter(
     with_held!(handle, alloc, NO_STACK, boxed => asks::counter(&boxed.stack, which, value))
 }
 
-/// How much of the pool is in use. 0.
+/// Reads the usage of the pool. Returns 0.
 ///
 ///     int bsdudp_core_mbstat(struct bsdudp_core *, struct bsdudp_mbstat *)
 #[tactic(auto, using(crate::proofs::Answered::asked))]
@@ -107,7 +108,7 @@ pub extern "C" fn bsdudp_core_mbstat(alloc: Global, handle: &mut Handle, usage: 
     with_held!(handle, alloc, NO_STACK, boxed => asks::mbstat(&boxed.stack, usage))
 }
 
-/// How many datagrams are unfinished.
+/// Returns the number of unfinished datagrams.
 ///
 ///     int bsdudp_core_unfinished_len(struct bsdudp_core *)
 #[tactic(auto, using(crate::proofs::Answered::asked))]
@@ -118,7 +119,8 @@ pub extern "C" fn bsdudp_core_unfinished_len(alloc: Global, handle: &mut Handle)
     with_held!(handle, alloc, NO_STACK, boxed => asks::unfinished_len(&boxed.stack))
 }
 
-/// An unfinished datagram, by its place in the order of their beginning. 0, or -EINVAL if there is none.
+/// Reads an unfinished datagram by its index, in the order in which they began. Returns 0, or -EINVAL if there is no
+/// such datagram.
 ///
 ///     int bsdudp_core_unfinished(struct bsdudp_core *, uint32_t i, struct bsdudp_unfinished *)
 #[tactic(auto, using(crate::proofs::Answered::asked))]
@@ -135,8 +137,8 @@ pub extern "C" fn bsdudp_core_unfinished(
     with_held!(handle, alloc, NO_STACK, boxed => asks::unfinished(&boxed.stack, i, datagram))
 }
 
-/// A range of the bytes that an unfinished datagram holds, by its place in order of offset. 0, or -EINVAL if there is
-/// none.
+/// Reads a range of the bytes of an unfinished datagram by the range's index, in order of offset. Returns 0, or -EINVAL
+/// if there is no such range.
 ///
 ///     int bsdudp_core_unfinished_range(struct bsdudp_core *, uint32_t i, uint32_t k, struct bsdudp_range *)
 #[tactic(auto, using(crate::proofs::Answered::asked))]

@@ -1,4 +1,4 @@
--- Which configurations a machine is booted with (this project's own).
+-- The configurations with which a machine can be booted (this project's own).
 use Rattle.std.specs.Prelude.{Result, Ok, Err}
 use Rattle.flat_model.specs.declared.config.Config.{Config}
 use Rattle.flat_model.specs.Machine.State.{IsConfig, HasSizes}
@@ -7,20 +7,20 @@ use Rattle.net_stack.specs.declared.stack.BootFault.TheVariants as boot
 use Rattle.script_loop.specs.declared.fault.RunFault.{RunFault}
 use Rattle.script_loop.specs.declared.fault.RunFault.TheVariants.{Read, Write, Memory, TooManyLines, BadSizes, BadConfig}
 
--- the fault of a run on a stack that isn't booted
+-- the fault of a run whose stack didn't boot
 abbrev pub refused_as : BootFault → RunFault
 refused_as boot.Memory = Memory
 refused_as boot.BadSizes = BadSizes
 refused_as boot.BadConfig = BadConfig
 
--- why there is no machine: the sizes are tested first, then all else of the configuration
+-- why the machine doesn't boot: the sizes are tested first, then the rest of the configuration
 abbrev pub IsRunUnbooted : Config → RunFault → Type 0
 IsRunUnbooted c BadSizes = ¬ HasSizes c
 IsRunUnbooted c BadConfig = HasSizes c × ¬ IsConfig c
 IsRunUnbooted c Memory = IsConfig c
 IsRunUnbooted c _ = ⊥
 
--- the same of a whole run, which may fail later
+-- the same for a whole run, which may fail later
 abbrev pub BootsRun : Config → Result Unit RunFault → Type 0
 BootsRun c (Err BadSizes) = ¬ HasSizes c
 BootsRun c (Err BadConfig) = HasSizes c × ¬ IsConfig c

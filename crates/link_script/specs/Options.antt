@@ -1,5 +1,6 @@
--- The words of the command line (this project's own). How they're cut into options and values is told by crate clap:
--- `fault_of` has the faults that it finds in words, and `subcommand_of` what the words after a subcommand give.
+-- The words of the command line (this project's own). The crate clap defines how they are divided into options and
+-- values: `fault_of` returns the faults that it finds in words, and `subcommand_of` the results for the words after a
+-- subcommand.
 use Rattle.std.specs.Prelude.{◌≡◌, ◌≢◌, ◌⊎◌, ℕ, ◌-◌, true, List, [], length, slice_get, codes, Option, Some, None, Result, Ok, Err}
 use Rattle.clap.specs.Words.{App, Rule, Row, new_app, new_rule, with_rule, with_subcommand, first_of, subcommand_of, fault_of}
 use Rattle.flat_model.specs.Scripts.Grammar.{IsNumber, IsAddress}
@@ -14,7 +15,7 @@ use Rattle.link_script.specs.declared.options.Task.TheVariants.{Run, Chain}
 abbrev pub option_rule : List ℕ → Rule
 option_rule name = record (new_rule name) { long = Some name }
 
--- a command that has neither help nor version of its own
+-- a command that has neither help nor a version of its own
 abbrev pub bare_app : List ℕ → App
 bare_app name =
     record (new_app name) { top = record (new_app name).top { disable_help_flag = true; disable_version_flag = true } }
@@ -35,7 +36,7 @@ abbrev pub chain_app : App
 chain_app =
     with_rule (with_rule (bare_app (codes "chain")) (option_rule (codes "mbufs"))) (option_rule (codes "clusters"))
 
--- `bsdudp`, which wants a subcommand
+-- `bsdudp`, which needs a subcommand
 abbrev pub top_app : App
 top_app = record (bare_app (codes "bsdudp")) {
   top = record (bare_app (codes "bsdudp")).top { disable_help_subcommand = true; subcommand_required = true };
@@ -44,19 +45,19 @@ top_app = record (bare_app (codes "bsdudp")) {
 abbrev pub whole_app : App
 whole_app = with_subcommand (with_subcommand top_app run_app.top) chain_app.top
 
--- ---- what the options name
+-- ---- the values of the options
 
--- a number of at most `most`, written as in scripts, or the default where there is none
+-- a number of at most `most`, written as in scripts, or the default if it isn't given
 abbrev pub HasNumber : ℕ → ℕ → Option (List ℕ) → ℕ → Type 0
 HasNumber most default None n = n ≡ default
 HasNumber most default (Some text) n = IsNumber most text n
 
--- an address, written as in scripts; a text that is none counts as 0.0.0.0
+-- an address, written as in scripts; a text that isn't an address counts as 0.0.0.0
 abbrev pub HasAddress : ℕ → Option (List ℕ) → ℕ → Type 0
 HasAddress default None ip = ip ≡ default
 HasAddress default (Some text) ip = IsAddress text ip ⊎ (((a : ℕ) → ¬ IsAddress text a) × (ip ≡ 0))
 
--- The configuration whose parts are named by these texts of options, and the others by defaults.
+-- The configuration with the values of these options, and defaults for the options that aren't given.
 pub record Names (defaults : Config) (text : List ℕ → Option (List ℕ)) (c : Config) : Type 0 where
   pub addr : HasAddress defaults.addr (text (codes "addr")) c.addr
   pub bcast : HasAddress defaults.bcast (text (codes "bcast")) c.bcast
@@ -65,18 +66,18 @@ pub record Names (defaults : Config) (text : List ℕ → Option (List ℕ)) (c 
   pub clusters : HasNumber 4294967295 defaults.clusters (text (codes "clusters")) c.clusters
   pub first_id : HasNumber 65535 defaults.first_id (text (codes "id")) c.first_id
 
--- The same of the sizes of a pool.
+-- The same for the sizes of a pool.
 pub record NamesSizes (defaults : Config) (text : List ℕ → Option (List ℕ)) (z : Sizes) : Type 0 where
   pub mbufs : HasNumber 4294967295 defaults.mbufs (text (codes "mbufs")) z.mbufs
   pub clusters : HasNumber 4294967295 defaults.clusters (text (codes "clusters")) z.clusters
 
--- A subcommand of this name asks for this task: `run` for the script of calls on sockets, `chain` for the one of calls
--- on chains.
+-- A subcommand of this name requests this task: `run` the script of calls on sockets, `chain` the script of calls on
+-- chains.
 abbrev pub NamesTask : Config → List ℕ → (List ℕ → Option (List ℕ)) → Task → Type 0
 NamesTask defaults name text (Run c) = (name ≡ codes "run") × Names defaults text c
 NamesTask defaults name text (Chain z) = (name ≡ codes "chain") × NamesSizes defaults text z
 
--- The words, the program's name first, are a subcommand with options that name this task.
+-- The words, the program's name first, are a subcommand with options that requests this task.
 pub record AsksForTask (defaults : Config) (words : List (List ℕ)) (task : Task) : Type 0 where
   pub taken : fault_of whole_app words ≡ []
   pub name : List ℕ
@@ -84,12 +85,12 @@ pub record AsksForTask (defaults : Config) (words : List (List ℕ)) (task : Tas
   pub found : subcommand_of whole_app words ≡ Some (name, rows)
   pub names : NamesTask defaults name (λ id. first_of id rows) task
 
--- So do the words of a command line, which `--` doesn't end.
+-- The same for the words of a command line, which may not end with `--`.
 pub record IsCommand (defaults : Config) (words : List (List ℕ)) (task : Task) : Type 0 where
   pub gives : AsksForTask defaults words task
   pub ended : slice_get words (length words - 1) ≢ Some (codes "--")
 
--- The words ask for this task, where they could be had. `texts` are their bytes.
+-- The words, if they could be read, request this task. `texts` are their bytes.
 abbrev pub IsAskedBy : {W E : Type 0} → (W → List (List ℕ)) → Config → Result W E → Task → Type 0
 IsAskedBy texts defaults (Ok words) task = IsCommand defaults (texts words) task
 IsAskedBy texts defaults (Err e) task = ⊥

@@ -1,4 +1,4 @@
--- What the program does, by its status (this project's own).
+-- The effects of the program, by its exit status (this project's own).
 use Rattle.std.specs.Prelude.{◌≡◌, ◌⊎◌, ℕ, List, [], Option, Result, Ok, Err}
 use Rattle.flat_model.specs.Machine.State.{State, boot}
 use Rattle.flat_model.specs.Machine.Step.{Step}
@@ -32,12 +32,12 @@ status_of (Ok done) = 0
 status_of (Err Usage) = 2
 status_of (Err (failure.Run fault)) = fault_status fault
 
--- why words ask for nothing: they are no command, or host memory was lacking
+-- why words request no task: they aren't a command, or the host refused memory
 abbrev pub IsWordsFault : (Task → Type 0) → Failure → Type 0
 IsWordsFault asks Usage = (task : Task) → ¬ asks task
 IsWordsFault asks (failure.Run fault) = fault ≡ Memory
 
--- the script of a task was served: on a machine of this configuration, or on chains over a pool of these sizes
+-- the script of a task was served: on a machine with this configuration, or on chains over a pool of these sizes
 abbrev pub Served : Task → Option (List ℕ) → Option (List ℕ) → Option (List ℕ) → Option (List ℕ) → Result Unit RunFault
     → Type 0
 Served (task.Run config) unread rest before after outcome =
@@ -46,8 +46,8 @@ Served (task.Chain sizes) unread rest before after outcome =
     chains.BootsChains sizes outcome × (new : Machine)
     × Serves steps.Says (booted sizes.mbufs sizes.clusters) new unread rest before after outcome
 
--- What was done by words that ask for these tasks. They ask for none, or memory was lacking to read them, and nothing
--- was read or written; or the script that they ask for was served.
+-- The effects for words that request these tasks. If they request none, or memory for reading them was lacking, nothing
+-- was read or written; otherwise the script that they request was served.
 abbrev pub Ran : (Task → Type 0) → Option (List ℕ) → Option (List ℕ) → Option (List ℕ) → Option (List ℕ)
     → Result Unit Failure → Type 0
 Ran asks unread rest before after (Err Usage) =

@@ -1,4 +1,4 @@
-//! A stack whose calls are made by lines.
+//! A stack whose calls are made by script lines.
 ghost use Rattle.std.specs.Prelude.{◌≡◌, ◌*◌, ◌≤◌, ◌++◌, List, ℕ, length};
 ghost use Rattle.params.specs.declared.TheConstants.{IP_MAX_PACKET};
 ghost use Rattle.flat_model.specs.Machine.State.{State};
@@ -12,8 +12,8 @@ use request::{TEXT, put_line, request_of};
 use script_loop::{Answers, Buffer, HELD, LineBuffers};
 use stack_call::call;
 
-/// Puts the stack's answer to a line after the text. `bytes` is room for those of a reply, and `digits` for those of a
-/// line, and then for the digits of the reply.
+/// Appends the stack's reply to a line to the text. `bytes` is scratch memory for the bytes of a reply. `digits` is
+/// scratch memory for the bytes of the line, and then for the digits of the reply.
 fn put_answer(
     stack: &mut Stack,
     bytes: &mut [u8],
@@ -38,12 +38,12 @@ fn put_answer(
     }
 }
 
-/// A stack, and the memory for the work on one line. A line makes the call that it asks for, and its answer is the
-/// text of the reply, or `? line` if it asks for nothing. The stack must be spent by `end`.
+/// A stack, and the memory for the work on one line. A line makes the call that it requests. The reply is the text of
+/// the call's result, or `? line` if the line requests nothing. The stack must be consumed by `end`.
 pub struct Caller {
-    /// What the calls are made of.
+    /// The stack that executes the calls.
     pub machine: Stack,
-    /// Where the bytes of a line and the digits of its reply stand.
+    /// Scratch memory for the bytes of a line and the digits of its reply.
     pub buffers: LineBuffers,
 }
 

@@ -1,4 +1,4 @@
-//! The program: its command line, its statuses and its texts.
+//! The program: its command line, its exit statuses and its texts.
 ghost use Rattle.std.specs.Prelude.{◌≡◌, Result, Err, map, MatchResult};
 ghost use Rattle.std.specs.String.{string_bytes};
 ghost use Rattle.link_script.specs.Options.{IsAskedBy};
@@ -13,7 +13,7 @@ use std::alloc::Global;
 use std::io::{self, Write};
 use thiserror::Error;
 
-/// The machine that is run where no option says otherwise.
+/// The default configuration.
 pub const DEFAULTS: Config = Config {
     addr: 0x0a00_0001,
     bcast: 0x0a00_00ff,
@@ -23,20 +23,20 @@ pub const DEFAULTS: Config = Config {
     first_id: 1,
 };
 
-/// Why the program ends with another status than 0.
+/// Why the program ends with a status other than 0.
 #[derive(Clone, Copy, Debug, PartialEq, Eq, Error)]
 pub enum Failure {
     /// The words aren't a command.
     #[error("usage")]
     Usage,
-    /// There is no machine, or its script wasn't served to its end.
+    /// The machine didn't boot, or its script wasn't served to its end.
     #[error(transparent)]
     Run(RunFault),
 }
 
 impl Failure {
-    /// The status that the program ends with, 2 to 4: 2 where the words aren't a command, 3 where there is no machine,
-    /// 4 where reading or writing failed or the script has too many lines (this project's own).
+    /// Returns the program's exit status: 2 if the words aren't a command, 3 if the machine didn't boot, 4 if reading
+    /// or writing failed or the script has too many lines (this project's own).
     pub fn status(self) -> u8
         ensures { result ≡ status_of (Err self) }
     {
@@ -48,7 +48,7 @@ impl Failure {
     }
 }
 
-/// Why there are no words: for want of memory, or since one of them isn't UTF-8.
+/// Returns why there are no words: memory was lacking, or a word isn't UTF-8.
 fn words_fault(error: &io::Error) -> Failure
     ensures { IsWordsFault (λ c. ⊥) result }
 {
@@ -59,7 +59,7 @@ fn words_fault(error: &io::Error) -> Failure
     }
 }
 
-/// The task that the words ask for, where they could be had.
+/// Returns the task of the words, if there are words.
 fn task_named(alloc: Global, words: &io::Result<Vec<String>>) -> Result<Task, Failure>
     ensures { MatchResult result (IsAskedBy (λ all. map string_bytes all.items) defaults words.now)
         (IsWordsFault (IsAskedBy (λ all. map string_bytes all.items) defaults words.now)) }
@@ -102,19 +102,20 @@ fn serve<R: Source, W: Sink>(
     }
 }
 
-/// Does what the words ask for, the program's name first, and answers the status. `run` serves the script from the
-/// reader to the writer, on a machine with the configuration that its options name: `--addr` and `--bcast` the
-/// addresses, `--mtu`, `--mbufs`, `--clusters`, and `--id` the first identification. Each comes at most once, in any
-/// order, its value in the next word or after `=`. Else it's 10.0.0.1, 10.0.0.255, 1500, 512, 64 and 1. `chain` serves
-/// the script of calls on chains, over a pool whose sizes `--mbufs` and `--clusters` name in the same way.
+/// Carries out a command line, which begins with the program's name, and returns the exit status. `run` serves the
+/// script from the reader to the writer, on a stack with the configuration of its options: `--addr` and `--bcast` for
+/// the addresses, `--mtu`, `--mbufs`, `--clusters`, and `--id` for the first identification. Each option may be given
+/// once, in any order, with its value in the next word or after `=`. The defaults are 10.0.0.1, 10.0.0.255, 1500, 512,
+/// 64 and 1. `chain` serves the script of calls on chains, over a pool with the sizes of its options `--mbufs` and
+/// `--clusters`.
 ///
-/// `words` is an error where they couldn't be had: `OutOfMemory` for want of memory, and another one where a word isn't
-/// UTF-8.
+/// `words` is an error if the words could not be read: `OutOfMemory` if memory was lacking, and another error if a word
+/// isn't UTF-8.
 ///
-/// The status is 0 where all lines were answered; 2 where the words aren't a command, or a number isn't one or is out
-/// of its range; 3 where host memory is lacking, or the configuration or the sizes are bad; 4 where reading or writing
-/// failed, or there were too many lines. Each status but 0 has its text, which goes to `errors`; a failure there
-/// changes nothing.
+/// The status is 0 if all lines got a reply; 2 if the words aren't a command, or a number is malformed or out of range;
+/// 3 if the host refused memory, or the configuration or the sizes are invalid; 4 if reading or writing failed, or
+/// there were too many lines. Each status except 0 has a text, which is written to `errors`; a failure of that write
+/// has no effect.
 pub fn program<R: Source, W: Sink, E: Write>(
     alloc: Global,
     words: io::Result<Vec<String>>,
@@ -122,7 +123,7 @@ pub fn program<R: Source, W: Sink, E: Write>(
     writer: &mut W,
     errors: &mut E,
 ) -> u8
-    // The status tells the outcome, and with it what was read and written, by the task that the words ask for.
+    // The status gives the outcome, and the outcome says what was read and written, for the task of the words.
     ensures { (outcome : Result Unit Failure) × (result ≡ status_of outcome)
         × Ran (IsAskedBy (λ all. map string_bytes all.items) defaults words)
         (R.remaining reader.old) (R.remaining reader.new) (W.contents writer.old) (W.contents writer.new) outcome }

@@ -1,4 +1,4 @@
-//! Laws of the lines. Each is a function that does nothing, and its contract is the law.
+//! Laws of the lines. Each is a function that does nothing; its contract is the law.
 ghost use Rattle.std.specs.Prelude.{◌≡◌, ℕ, List};
 ghost use Rattle.flat_model.specs.Machine.State.{State, boot};
 ghost use Rattle.flat_model.specs.Machine.Step.{Step};
@@ -8,9 +8,9 @@ ghost use Rattle.flat_model.specs.declared.config.Config.{Config};
 ghost use Rattle.script_loop.specs.Printed.{Prints};
 ghost use Rattle.link_script.specs.Says.{SaysBy};
 
-/// What is printed line by line, each text being that of an answer of the machine that keeps exact accounts, is what
-/// its definition prints for all lines together. From boot it's told by one run: each line that asks for something has
-/// its turn, in their order, and what is printed are the replies of these turns.
+/// If each line's text is that of a reply of the machine with exact accounts, then all texts together are what the
+/// definition prints for all lines together. From boot a single run determines the output: each line that requests an
+/// event takes one step, in order, and the output consists of the replies of these steps.
 pub fn prints_law()
     ensures all { (old new : State) (lines : List (List ℕ)) (printed : List ℕ)
         → Prints (SaysBy Step) old lines printed new → script.Prints all_events Step old lines printed new }

@@ -1,4 +1,4 @@
-//! Scripts: lines that ask a stack for something, and the lines that it answers.
+//! Scripts: lines with requests to a stack, and the lines with its replies.
 #![tactic(auto)]
 
 mod caller;

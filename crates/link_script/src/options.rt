@@ -1,4 +1,4 @@
-//! The words of the command line, and what they ask for.
+//! Parsing the words of the command line.
 ghost use Rattle.std.specs.Prelude.{◌≡◌, ◌≢◌, ◌⊎◌, ◌↔◌, ◌-◌, ℕ, [], length, slice_get, Some, codes, false, map, option_map, IsTrue, MatchOption, MatchResult, IfOk};
 ghost use Rattle.std.specs.String.{string_bytes};
 ghost use Rattle.clap.specs.Words.{app_of, rule_of, rows_of, found_of, first_value, fault_of, kind_of};
@@ -18,19 +18,19 @@ use request::address_of;
 use script_loop::{RunFault, number};
 use std::alloc::{AllocError, Global};
 
-/// The greatest number of 16 bits.
+/// The greatest 16-bit number.
 const U16_MAX: u32 = u16::MAX as u32;
 
-/// What the words ask for.
+/// The task that the words request.
 #[derive(Clone, Copy)]
 pub(crate) enum Task {
-    /// `run`: the script of calls on sockets, on a machine of this configuration.
+    /// `run`: the script of calls on sockets, on a stack with this configuration.
     Run(Config),
     /// `chain`: the script of calls on chains, over a pool of these sizes.
     Chain(Sizes),
 }
 
-/// The number that an option names, or the default where it isn't given.
+/// Returns the number of an option, or the default if the option isn't given.
 fn number_or(text: Option<&str>, most: u32, default: u32) -> Option<u32>
     ensures { MatchOption result ((n : ℕ) → HasNumber most default (option_map (λ s. s.now) text.entry) n → ⊥)
         (λ n. HasNumber most default (option_map (λ s. s.now) text.entry) n) }
@@ -41,7 +41,7 @@ fn number_or(text: Option<&str>, most: u32, default: u32) -> Option<u32>
     }
 }
 
-/// The address that an option names, 0.0.0.0 where its text is none, or the default where it isn't given.
+/// Returns the address of an option: 0.0.0.0 if its text isn't an address, or the default if the option isn't given.
 fn address_or(text: Option<&str>, default: u32) -> u32
     ensures { HasAddress default (option_map (λ s. s.now) text.entry) result }
 {
@@ -51,7 +51,7 @@ fn address_or(text: Option<&str>, default: u32) -> u32
     }
 }
 
-/// The configuration that the options of `run` name.
+/// Returns the configuration of the options of `run`.
 fn config_of(found: &ArgMatches<'_>) -> Option<Config>
     ensures { MatchOption result ((c : Config) → Names defaults (first_value (found_of found.now)) c → ⊥)
         (Names defaults (first_value (found_of found.now))) }
@@ -70,7 +70,7 @@ fn config_of(found: &ArgMatches<'_>) -> Option<Config>
     })
 }
 
-/// The sizes that the options of `chain` name.
+/// Returns the sizes of the options of `chain`.
 fn sizes_of(found: &ArgMatches<'_>) -> Option<Sizes>
     ensures { MatchOption result ((z : Sizes) → NamesSizes defaults (first_value (found_of found.now)) z → ⊥)
         (NamesSizes defaults (first_value (found_of found.now))) }
@@ -80,7 +80,7 @@ fn sizes_of(found: &ArgMatches<'_>) -> Option<Sizes>
     Some(Sizes { mbufs, clusters })
 }
 
-/// The task that a subcommand of this name asks for by its options.
+/// Returns the task of a subcommand with this name and these options.
 fn task_of(name: &str, found: &ArgMatches<'_>) -> Option<Task>
     ensures { MatchOption result ((t : Task) → NamesTask defaults name.now (first_value (found_of found.now)) t → ⊥)
         (NamesTask defaults name.now (first_value (found_of found.now))) }
@@ -92,7 +92,7 @@ fn task_of(name: &str, found: &ArgMatches<'_>) -> Option<Task>
     }
 }
 
-/// An option with a value.
+/// Defines an option with a value.
 fn option<'a>(alloc: Global, name: &'a str) -> Arg<'a>
     ensures rule { rule_of result ≡ option_rule name.entry.now }
     ensures local { result.global ≡ false }
@@ -100,7 +100,7 @@ fn option<'a>(alloc: Global, name: &'a str) -> Arg<'a>
     Arg::new(alloc, name).long(name)
 }
 
-/// The command, with its subcommands and their options. None has help or a version of its own.
+/// Defines the command, with its subcommands and their options. None of them has help or a version of its own.
 fn command<'a>(alloc: Global) -> Result<Command<'a>, AllocError>
     ensures { IfOk result (λ r. app_of r ≡ whole_app) }
 {
@@ -127,7 +127,7 @@ fn command<'a>(alloc: Global) -> Result<Command<'a>, AllocError>
         .subcommand(chain)
 }
 
-/// The task that the words ask for, where they are a command, by crate clap's reading of them.
+/// Returns the task of the words, if they are a command, as parsed by the crate clap.
 fn named(alloc: Global, words: &[String]) -> Result<Option<Task>, ClapError>
     ensures { MatchResult result
         (λ r. MatchOption r ((t : Task) → AsksForTask defaults (map string_bytes words.now) t → ⊥)
@@ -141,7 +141,7 @@ fn named(alloc: Global, words: &[String]) -> Result<Option<Task>, ClapError>
     }
 }
 
-/// Whether the last word is `--`.
+/// Returns whether the last word is `--`.
 fn ends_in_dashes(words: &[String]) -> bool
     ensures { IsTrue result ↔ (slice_get (map string_bytes words.now)
         (length (map string_bytes words.now) - 1) ≡ Some (codes "--")) }
@@ -152,12 +152,12 @@ fn ends_in_dashes(words: &[String]) -> bool
     }
 }
 
-/// Reads the words, of which the first is the program's name.
+/// Parses the words, the first of which is the program's name.
 ///
 /// # Errors
 ///
-/// `Usage` where they aren't a subcommand with its options, each at most once, or a number isn't one or is out of its
-/// range; `--` ends no command. `Memory` where host memory is lacking.
+/// `Usage` if the words aren't a subcommand with its options, each given at most once, or if a number is malformed or
+/// out of range; no command may end with `--`. `Memory` if the host refuses memory.
 pub(crate) fn read_words(alloc: Global, words: &[String]) -> Result<Task, Failure>
     ensures { MatchResult result (IsCommand defaults (map string_bytes words.now))
         (IsWordsFault (IsCommand defaults (map string_bytes words.now))) }

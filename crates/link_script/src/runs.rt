@@ -1,4 +1,4 @@
-//! The runs that callers ask for.
+//! The runs that programs call.
 ghost use Rattle.std.specs.Prelude.{◌≡◌, MatchResult};
 ghost use Rattle.flat_model.specs.Machine.State.{State, IsConfig, boot};
 ghost use Rattle.flat_model.specs.Machine.Step.{Step};
@@ -15,7 +15,7 @@ use net_stack::{BootFault, Stack};
 use script_loop::{LineBuffers, RunFault, Sink, Source, serve_script};
 use std::alloc::Global;
 
-/// What a stack that isn't booted ends with.
+/// Returns the fault of a run whose stack didn't boot.
 fn refusal_of(fault: BootFault) -> RunFault
     ensures { result ≡ refused_as fault }
 {
@@ -26,7 +26,7 @@ fn refusal_of(fault: BootFault) -> RunFault
     }
 }
 
-/// A stack that has just started.
+/// Boots a stack.
 pub fn booted(alloc: Global, config: Config) -> Result<Stack, RunFault>
     ensures { MatchResult result (λ s. IsConfig config × (state_of s ≡ boot config)) (IsRunUnbooted config) }
 {
@@ -36,7 +36,7 @@ pub fn booted(alloc: Global, config: Config) -> Result<Stack, RunFault>
     }
 }
 
-/// Serves a script on a stack, and spends it.
+/// Serves a script on a stack, and consumes the stack.
 fn serve_stack<R: Source, W: Sink>(
     alloc: Global,
     machine: Stack,
@@ -63,22 +63,21 @@ fn serve_stack<R: Source, W: Sink>(
     outcome
 }
 
-/// Serves a script on a new stack: each line that asks for something is answered by what the stack answers, and every
-/// other line by `? line`. The stack is spent then.
+/// Serves a script on a new stack: each line that requests a call gets the stack's reply, and every other line gets `?
+/// line`. The stack is consumed.
 ///
-/// Each line is answered when its end was read, and a line begun when the input ends is one too. Host memory is taken
-/// before the first read alone.
+/// Each line gets its reply when its end has been read. If the input ends within a line, that counts as a line too.
+/// Memory is allocated only before the first read.
 ///
 /// # Errors
 ///
-/// `BadSizes` where `config` has no mbuf, more than 65,535 of them or more than 4,096 clusters; else `BadConfig` where
-/// its MTU isn't 68 to 4352, an address isn't that of a host, or both addresses are the same; else `Memory` where host
-/// memory is lacking. Nothing was read or written then.
+/// `BadSizes` if `config` has no mbuf, more than 65,535 mbufs or more than 4,096 clusters. Otherwise `BadConfig` if its
+/// MTU isn't 68 to 4352, an address isn't a host address, or both addresses are equal. Otherwise `Memory` if the host
+/// refuses memory. Nothing was read or written then.
 ///
-/// `Read` where the reader answers an error: each whole line before it was answered. `Write` where the writer answers
-/// an error, or takes none of the bytes that it is given: a front of the replies was written. `TooManyLines` at a byte
-/// after the 10,000,000th line, or one that makes a line longer than 1,048,576 bytes: each whole line before it was
-/// answered.
+/// `Read` if the reader returns an error: each whole line before it got its reply. `Write` if the writer returns an
+/// error, or accepts none of the bytes: a prefix of the replies was written. `TooManyLines` at a byte after the
+/// 10,000,000th line, or one that makes a line longer than 1,048,576 bytes: each whole line before it got its reply.
 #[tactic(auto, unfolding(stack_call::specs::Moves::StackSteps))]
 pub fn run<R: Source, W: Sink>(
     alloc: Global,
@@ -87,11 +86,10 @@ pub fn run<R: Source, W: Sink>(
     writer: &mut W,
 ) -> Result<(), RunFault>
     ensures booted { BootsRun config result }
-    // The reader failed once where the fault is `Read`, and the writer where it is `Write`; else they didn't.
+    // The reader failed once if the fault is `Read`, and the writer if it is `Write`; otherwise neither failed.
     ensures read { MoreBy (reader_failures result) (R.failures reader.old) (R.failures reader.new) }
     ensures wrote { MoreBy (writer_failures result) (W.failures writer.old) (W.failures writer.new) }
-    // What is written is printed on the way of the machine with exact accounts from boot, over the lines of what is
-    // read, and nothing else.
+    // The output is exactly what the machine with exact accounts prints from boot for the lines that were read.
     ensures served { (new : State) × Serves (SaysBy Step) (boot config) new
         (R.remaining reader.old) (R.remaining reader.new) (W.contents writer.old) (W.contents writer.new) result }
 {

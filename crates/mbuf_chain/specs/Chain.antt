@@ -1,5 +1,5 @@
--- What a pool of chains shows: a finite map from a chain's number to its entries, and the totals (this project's own;
--- mbufs, clusters and their counts are those of TCP/IP Illustrated, volume 2, chapter 2).
+-- What contracts see of a pool of chains: a finite map from a chain's number to its entries, and the totals (this
+-- project's own; mbufs, clusters and their counts are those of TCP/IP Illustrated, volume 2, chapter 2).
 use Rattle.std.specs.Prelude.{◌≡◌, ℕ, ◌+◌, ◌-◌, Bool, false, List, [], ◌∷◌, ◌++◌, length, map, sum_by, count_by, Option, None, Some, unwrap_or, is_some, nat_eq, ◌==◌, if◌then◌else◌, refl, slice_get, slice_index_or, ◌<◌, ◌≤◌}
 use Rattle.std.specs.Coded.{Coded, code_by, coded×, coded_list, coded_ℕ, coded_bool, coded_option}
 use Rattle.std.specs.List.{range_with_len}
@@ -10,14 +10,14 @@ use Rattle.std.specs.FinMap.{FinMap}
 use Rattle.params.specs.declared.TheConstants.{MBUF_HEADER, MCLBYTES, MSIZE, PACKET_START}
 use Rattle.mbuf_chain.specs.declared.place.Place.{Place}
 
--- an entry: the bytes that an mbuf shows, where they begin in the mbuf or in its cluster, and its cluster
+-- an entry: the data bytes of an mbuf, their offset in the mbuf or in its cluster, and its cluster
 pub record Entry : Type 0 where
   pub bytes : List ℕ
   pub start : ℕ
   pub cluster : Option ℕ
 
--- what the first mbuf says of the chain: whether it has a packet header, the chain after it in a train, and the number
--- kept in the packet header
+-- what the first mbuf records about the chain: whether it has a packet header, the chain after it in a train, and the
+-- number stored in the packet header
 pub record Front : Type 0 where
   pub header : Bool
   pub after : Option ℕ
@@ -29,7 +29,7 @@ pub record ChainView : Type 0 where
   pub entries : List Entry
   pub cells : List ℕ
 
--- a pool: how many mbufs and clusters there are in all, and its chains by their numbers
+-- a pool: the total numbers of mbufs and clusters, and its chains by number
 pub record PoolView : Type 0 where
   pub mbufs : ℕ
   pub clusters : ℕ
@@ -75,24 +75,24 @@ mbufs_of v = length v.entries
 abbrev pub references_of : ℕ → ChainView → ℕ
 references_of c v = count_by (refers c) v.entries
 
--- the first place of the room of entry i
+-- the first offset of the data area of entry i
 abbrev pub room_start : ChainView → ℕ → ℕ
 room_start v i =
     if is_some (entry_of v i).cluster then 0
     else (if v.front.header then (if i == 0 then PACKET_START else MBUF_HEADER) else MBUF_HEADER)
 
--- the place after the room of an entry
+-- the offset after the data area of an entry
 abbrev pub room_end : Entry → ℕ
 room_end e = if is_some e.cluster then MCLBYTES else MSIZE
 
--- free places in front of the data of entry i, and after the data of an entry: none where it lies in a cluster
+-- free bytes before the data of entry i, and after the data of an entry: 0 if it is in a cluster
 abbrev pub leading_space : ChainView → ℕ → ℕ
 leading_space v i = if is_some (entry_of v i).cluster then 0 else (entry_of v i).start - room_start v i
 
 abbrev pub trailing_space : Entry → ℕ
 trailing_space e = if is_some e.cluster then 0 else MSIZE - e.start - length e.bytes
 
--- n bytes fit in front of the data of entry i, or after the data of an entry: in the room of the mbuf, or in its
+-- n bytes fit before the data of entry i, or after the data of an entry: in the data area of the mbuf, or in its
 -- cluster
 abbrev pub HasLeadingSpace : ChainView → ℕ → ℕ → Type 0
 HasLeadingSpace v i n = room_start v i + n ≤ (entry_of v i).start
@@ -100,13 +100,13 @@ HasLeadingSpace v i n = room_start v i + n ≤ (entry_of v i).start
 abbrev pub HasTrailingSpace : Entry → ℕ → Type 0
 HasTrailingSpace e n = e.start + length e.bytes + n ≤ room_end e
 
--- the place tells entry `index` of the chain, whose mbuf has the number `cell`
+-- the place is that of entry `index` of the chain, whose mbuf has the number `cell`
 pub record IsPlace (v : ChainView) (at : Place) : Type 0 where
   pub within : at.index < length v.entries
   pub cell : slice_get v.cells at.index ≡ Some at.cell
 
 -- ---- the pool
--- the chain with that number, where there is one
+-- the chain with that number, if there is one
 abbrev pub chain_of : PoolView → ℕ → ChainView
 chain_of p c = unwrap_or (finmap.get p.chains c) no_chain
 
@@ -130,23 +130,23 @@ references p c = sum_by (references_of c) (finmap.values p.chains)
 abbrev pub reference_counts : PoolView → List ℕ
 reference_counts p = map (references p) (range_with_len 0 p.clusters)
 
--- how many clusters no mbuf refers to
+-- the number of clusters without references
 abbrev pub free_clusters : PoolView → ℕ
 free_clusters p = count_by (λ c. references p c == 0) (range_with_len 0 p.clusters)
 
--- no other mbuf shows the bytes of the entry's mbuf or cluster
+-- no other mbuf shares the bytes of the entry's mbuf or cluster
 abbrev pub IsUnshared : PoolView → Entry → Type 0
 IsUnshared p e = (c : ℕ) → e.cluster ≡ Some c → references p c ≡ 1
 
--- the pool with that chain shown so, and all others as they were
+-- the pool with this value for that chain, and all others unchanged
 abbrev pub with_chain : PoolView → ℕ → ChainView → PoolView
 with_chain p c v = record p { chains = finmap.insert p.chains c v }
 
--- the pool without that chain, and all others as they were
+-- the pool without that chain, and all others unchanged
 abbrev pub without : PoolView → ℕ → PoolView
 without p c = record p { chains = finmap.remove p.chains c }
 
--- the new pool has one chain more, under a number that was nobody's
+-- the new pool has one more chain, with a number that no chain had before
 pub record Adds (old new : PoolView) (c : ℕ) (v : ChainView) : Type 0 where
   pub fresh : finmap.get old.chains c ≡ None
   pub pool : new ≡ with_chain old c v

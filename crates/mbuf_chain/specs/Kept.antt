@@ -1,4 +1,4 @@
--- A step of somebody else leaves a train as it was: laws that the ghost members of an owner of trains can cite (this
+-- A step of other code leaves a train unchanged: laws that the ghost members of an owner of trains can cite (this
 -- project's own).
 use Rattle.std.specs.Prelude.{◌≡◌, ℕ, zero, suc, ◌<◌, ◌≤◌, List, [], ◌∷◌, map, Option, None, Some, unwrap_or, is_some, refl}
 use Rattle.std.proofs.Common.{sym, ap, ◌∙◌, arith, cond, length}

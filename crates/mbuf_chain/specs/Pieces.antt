@@ -1,4 +1,4 @@
--- What the iterators over a chain give (this project's own).
+-- The items of the iterators over a chain (this project's own).
 use Rattle.std.specs.Prelude.{ℕ, List, map}
 use Rattle.mbuf_chain.specs.Chain.{Entry, ChainView}
 

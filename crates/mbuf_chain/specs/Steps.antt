@@ -1,4 +1,4 @@
--- What each step makes of a chain (this project's own).
+-- The effect of each step on a chain (this project's own).
 use Rattle.std.specs.Prelude.{ℕ, ◌+◌, ◌-◌, Bool, false, List, [], ◌∷◌, ◌++◌, length, Option, slice_set, take, drop}
 use Rattle.mbuf_chain.specs.declared.place.Place.{Place}
 use Rattle.mbuf_chain.specs.Chain.{Entry, ChainView, PoolView, alone, chain_of, with_chain}
@@ -8,7 +8,7 @@ use Rattle.mbuf_chain.specs.Chain.{Entry, ChainView, PoolView, alone, chain_of, 
 abbrev pub narrowed : Entry → ℕ → ℕ → Entry
 narrowed e skip keep = record { bytes = take keep (drop skip e.bytes); start = e.start + skip; cluster = e.cluster }
 
--- bytes put in front of its own, and after them
+-- bytes added before its own, and after them
 abbrev pub with_front : Entry → List ℕ → Entry
 with_front e xs = record { bytes = xs ++ e.bytes; start = e.start - length xs; cluster = e.cluster }
 
@@ -25,15 +25,15 @@ overwritten e offset xs =
     }
 
 -- ---- one chain
--- one mbuf, with or without packet header, whose number is c
+-- one mbuf, with or without a packet header, whose number is c
 abbrev pub one_mbuf : Bool → Entry → ℕ → ChainView
 one_mbuf header e c = record { front = alone header; entries = e ∷ []; cells = c ∷ [] }
 
--- a new entry, empty, that begins there
+-- a new, empty entry that begins at this offset
 abbrev pub empty_entry : ℕ → Option ℕ → Entry
 empty_entry start cluster = record { bytes = []; start = start; cluster = cluster }
 
--- another entry in the place of entry i
+-- another entry instead of entry i
 abbrev pub with_entry : ChainView → ℕ → Entry → ChainView
 with_entry v i e = record v { entries = slice_set v.entries i e }
 
@@ -41,15 +41,15 @@ with_entry v i e = record v { entries = slice_set v.entries i e }
 abbrev pub with_entry_in : PoolView → ℕ → Place → Entry → PoolView
 with_entry_in p c at e = with_chain p c (with_entry (chain_of p c) at.index e)
 
--- the packet header gone, and the place in a train
+-- without the packet header and without the link in a train
 abbrev pub headless : ChainView → ChainView
 headless v = record v { front = alone false }
 
--- the chain in its place before another in a train, with a tag
+-- the chain linked before another in a train, with a tag
 abbrev pub placed : ChainView → Option ℕ → ℕ → ChainView
 placed v after tag = record v { front = record v.front { after = after; tag = tag } }
 
--- the entries of one chain, and after them those of another
+-- the entries of one chain, followed by those of another
 abbrev pub joined : ChainView → ChainView → ChainView
 joined v w = record v { entries = v.entries ++ w.entries; cells = v.cells ++ w.cells }
 

@@ -11,7 +11,7 @@ pub record TrainView : Type 0 where
   pub last : Option ℕ
   pub len : ℕ
 
--- a chain of a train: its number, what it shows, and its tag
+-- a chain of a train: its number, its contents, and its tag
 pub record QueuedPacket : Type 0 where
   pub number : ℕ
   pub entries : List Entry
@@ -20,7 +20,7 @@ pub record QueuedPacket : Type 0 where
 abbrev pub no_queued_packet : QueuedPacket
 no_queued_packet = record { number = 0; entries = []; tag = 0 }
 
--- at most so many numbers from one on, each after the one before
+-- the numbers from one on, each linked from the one before, at most this many
 abbrev pub follow : PoolView → ℕ → Option ℕ → List ℕ
 follow p zero at = []
 follow p (suc n) None = []
@@ -41,7 +41,7 @@ queued_packets p t = map (queued_packet_of p) (numbers p t)
 abbrev pub queued_packet_at : PoolView → TrainView → ℕ → QueuedPacket
 queued_packet_at p t i = slice_index_or (queued_packets p t) i no_queued_packet
 
--- the place tells the train's chain `index`, whose number is `number`
+-- the place is that of the train's chain `index`, whose number is `number`
 pub record IsQueuedPlace (p : PoolView) (t : TrainView) (at : QueuedPlace) : Type 0 where
   pub within : at.index < t.len
   pub number : slice_get (numbers p t) at.index ≡ Some at.number
@@ -52,7 +52,7 @@ last_number [] = None
 last_number (x ∷ []) = Some x
 last_number (x ∷ y ∷ ys) = last_number (y ∷ ys)
 
--- the train and the pool fit together: its chains are live, once each, and have a packet header, and none stands after
+-- the train and the pool fit together: its chains are live, once each, and have a packet header, and no chain follows
 -- the last
 pub record IsHeld (p : PoolView) (t : TrainView) : Type 0 where
   pub owned : IsOwned p (numbers p t)
@@ -61,7 +61,7 @@ pub record IsHeld (p : PoolView) (t : TrainView) : Type 0 where
   pub ends : follow p (suc t.len) t.first ≡ numbers p t
   pub last : t.last ≡ last_number (numbers p t)
 
--- from p and t to q and u, chain c was put in at place i with that tag
+-- from p and t to q and u, chain c was inserted at index i with that tag
 pub record Inserts (p : PoolView) (t : TrainView) (i c tag : ℕ) (q : PoolView) (u : TrainView) : Type 0 where
   pub queued_packets : queued_packets q u
       ≡ insert (queued_packets p t) i (record { number = c; entries = (chain_of p c).entries; tag = tag })
@@ -71,7 +71,7 @@ pub record Inserts (p : PoolView) (t : TrainView) (i c tag : ℕ) (q : PoolView)
   pub stands : slice_get (numbers q u) i ≡ Some c
   pub front : (k : ℕ) → k < i → slice_get (numbers q u) k ≡ slice_get (numbers p t) k
 
--- from p and t to q and u, the chain at place i, of number c and with that tag, was taken out
+-- from p and t to q and u, the chain at index i, with number c and that tag, was removed
 pub record Takes (p : PoolView) (t : TrainView) (i c tag : ℕ) (q : PoolView) (u : TrainView) : Type 0 where
   pub queued_packets : queued_packets q u ≡ remove (queued_packets p t) i
   pub taken : queued_packet_at p t i ≡ record { number = c; entries = (chain_of q c).entries; tag = tag }

@@ -5,7 +5,7 @@ ghost use Rattle.mbuf_chain.specs.Inside.Cells.{LeadsToEnd, cells_from, len_at, 
 
 use mbuf_pool::Store;
 
-/// How many bytes the mbufs from one on have.
+/// Returns how many bytes the mbufs from `first` on contain.
 pub(crate) fn bytes_from(store: &Store, first: u32) -> u32
     requires whole { LeadsToEnd store.now (Some first) }
     requires store { IsStore store.now }
@@ -21,7 +21,7 @@ pub(crate) fn bytes_from(store: &Store, first: u32) -> u32
     total
 }
 
-/// How many mbufs there are from one on.
+/// Returns the number of mbufs from `first` on.
 pub(crate) fn count_from(store: &Store, first: u32) -> u32
     requires whole { LeadsToEnd store.now (Some first) }
     requires store { IsStore store.now }
@@ -37,7 +37,7 @@ pub(crate) fn count_from(store: &Store, first: u32) -> u32
     total
 }
 
-/// Takes one off a cluster's count, where there is a cluster.
+/// Removes one reference from a cluster, if there is a cluster.
 fn release(store: &mut Store, cluster: Option<u32>)
     requires { (c : ℕ) → cluster ≡ Some c → 0 < cluster_count store.old c }
     ensures change { store.new ≡ released_in store.old cluster }
@@ -51,7 +51,7 @@ fn release(store: &mut Store, cluster: Option<u32>)
     }
 }
 
-/// Gives an mbuf back, with its reference, and answers which one was after it.
+/// Frees an mbuf and its cluster reference, and returns the next mbuf.
 pub(crate) fn free_mbuf(store: &mut Store, cell: u32) -> Option<u32>
     requires out { is_out store.old cell ≡ true }
     requires known { (c : ℕ) → (mbuf_head store.old cell).cluster ≡ Some c → 0 < cluster_count store.old c }
@@ -66,7 +66,7 @@ pub(crate) fn free_mbuf(store: &mut Store, cell: u32) -> Option<u32>
     head.next
 }
 
-/// Gives back the mbufs from one on, with their references.
+/// Frees the mbufs from `first` on and their cluster references.
 pub(crate) fn free_from(store: &mut Store, first: u32)
     requires { IsFreeable store.old (Some first) }
     ensures freed { Freed store.old store.new (cells_from store.old (Some first)) [] }

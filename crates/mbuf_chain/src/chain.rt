@@ -3,8 +3,8 @@ ghost use Rattle.std.specs.Prelude.{◌≡◌};
 
 use std::marker::Model;
 
-/// A chain of mbufs of a pool, 1 or more. A contract sees it as its number, under which the pool's map
-/// has what it holds. It must be spent: by `Pool::free_chain`, or by a call that takes it.
+/// A chain of one or more mbufs of a pool. Contracts see it as its number, and the pool's map gives the contents for
+/// that number. It must be consumed, by `Pool::free_chain` or by a call that takes it.
 pub struct Chain {
     pub(crate) first: u32,
 }
@@ -18,8 +18,8 @@ impl Model for Chain {
 }
 
 impl Chain {
-    /// The chain's number, for a train, which keeps numbers in place of chains: `from_number` gives the chain
-    /// back. Both stay in this crate, so that nobody else makes a chain out of a number.
+    /// Returns the chain's number, for a train, which stores numbers instead of chains: `from_number` turns the number
+    /// back into the chain. Both are private to this crate, so that no other code can make a chain from a number.
     pub(crate) fn into_number(self) -> u32
         ensures { result ≡ self }
     {
@@ -27,7 +27,7 @@ impl Chain {
         first
     }
 
-    /// The chain with that number.
+    /// Returns the chain with that number.
     pub(crate) fn from_number(first: u32) -> Chain
         ensures { result ≡ first }
     {

@@ -1,4 +1,4 @@
-//! The bytes of an mbuf: lent, and written where no other mbuf shows them.
+//! The bytes of an mbuf: reading them in place, and writing them if no other mbuf shares them.
 ghost use Rattle.std.specs.Prelude.{◌≡◌, ◌≢◌, ℕ, ◌+◌, ◌-◌, ◌<◌, ◌≤◌, ◌^◌, true, length, take, drop};
 ghost use Rattle.params.specs.declared.TheConstants.{MCLBYTES};
 ghost use Rattle.mbuf_pool.specs.Store.{IsStore, is_out, mbuf_head, with_bytes, bytes_in, IsRoom};
@@ -11,7 +11,7 @@ use crate::edit::resize;
 use crate::place::Place;
 use mbuf_pool::{Buffer, Part, Store};
 
-/// The mbuf or cluster in which an mbuf's bytes lie.
+/// Returns the mbuf or cluster that contains an mbuf's bytes.
 #[inline(always)]
 pub(crate) fn buffer_of(cell: u32, cluster: Option<u32>) -> Buffer
     ensures { result ≡ buffer_of cell cluster }
@@ -22,8 +22,8 @@ pub(crate) fn buffer_of(cell: u32, cluster: Option<u32>) -> Buffer
     }
 }
 
-/// Writes bytes into a buffer, from a place on.
-// Inlined with the calls that lead here, so that a caller that knows the length writes by stores.
+/// Writes bytes into a buffer from offset `start`.
+// Inlined together with its callers, so that a caller that knows the length compiles to stores.
 #[inline(always)]
 fn write(store: &mut Store, buffer: Buffer, start: u32, bytes: &[u8])
     requires room { IsRoom store.old buffer start (length bytes.now) }
@@ -40,7 +40,7 @@ fn write(store: &mut Store, buffer: Buffer, start: u32, bytes: &[u8])
     store.bytes_mut(part).copy_from_slice(bytes);
 }
 
-/// Writes bytes into an mbuf's place, which no other mbuf shares. `cluster` is the cluster of its head.
+/// Writes bytes into an mbuf's buffer, which no other mbuf shares. `cluster` is the cluster of its head.
 #[inline(always)]
 pub(crate) fn write_in(
     store: &mut Store,
@@ -63,8 +63,7 @@ pub(crate) fn write_in(
     write(store, buffer_of(at.cell, cluster), start, bytes);
 }
 
-/// Copies bytes of an mbuf, `count` of them after the first `skip`, into another's place, which no
-/// other mbuf shares.
+/// Copies `count` bytes of an mbuf, after the first `skip`, into another mbuf's buffer, which no other mbuf shares.
 fn copy_in(
     store: &mut Store,
     first: u32,
@@ -103,7 +102,7 @@ fn copy_in(
     store.copy(read, written);
 }
 
-/// Puts bytes after those of an mbuf, into its room.
+/// Appends bytes to those of an mbuf, into its trailing space.
 #[inline(always)]
 pub(crate) fn put_back(store: &mut Store, first: u32, at: Place, bytes: &[u8])
     requires pool { IsPool store.old }
@@ -122,7 +121,7 @@ pub(crate) fn put_back(store: &mut Store, first: u32, at: Place, bytes: &[u8])
     resize(store, first, at, head.start, head.len + bytes.len() as u32);
 }
 
-/// Puts bytes in front of those of an mbuf, into its room.
+/// Prepends bytes to those of an mbuf, into its leading space.
 #[inline(always)]
 pub(crate) fn put_front(store: &mut Store, first: u32, at: Place, bytes: &[u8])
     requires pool { IsPool store.old }
@@ -142,7 +141,7 @@ pub(crate) fn put_front(store: &mut Store, first: u32, at: Place, bytes: &[u8])
     resize(store, first, at, start, head.len + added);
 }
 
-/// Writes bytes over those of an mbuf, from `offset` on.
+/// Overwrites bytes of an mbuf from `offset` on.
 #[inline(always)]
 pub(crate) fn overwrite(store: &mut Store, first: u32, at: Place, offset: u32, bytes: &[u8])
     requires pool { IsPool store.old }
@@ -159,7 +158,7 @@ pub(crate) fn overwrite(store: &mut Store, first: u32, at: Place, offset: u32, b
     write_in(store, first, at, head.cluster, head.start + offset, bytes);
 }
 
-/// Puts bytes of an mbuf, `count` of them after the first `skip`, after those of another.
+/// Appends `count` bytes of an mbuf, after the first `skip`, to those of another mbuf.
 pub(crate) fn append(
     store: &mut Store,
     first: u32,
@@ -197,7 +196,7 @@ pub(crate) fn append(
     resize(store, first, at, head.start, head.len + count);
 }
 
-/// The bytes of an mbuf, lent.
+/// Returns the bytes of an mbuf, without copying.
 #[inline(always)]
 pub(crate) fn bytes(store: &Store, first: u32, at: Place) -> &[u8]
     requires pool { IsPool store.now }

@@ -1,4 +1,4 @@
-//! Changes of one mbuf of a chain.
+//! Changes to one mbuf of a chain.
 ghost use Rattle.std.specs.Prelude.{◌≡◌, ◌≢◌, ℕ, ◌+◌, ◌<◌, ◌≤◌, ◌^◌, true, Some, None, length};
 ghost use Rattle.mbuf_pool.specs.Cells.{IsLink};
 ghost use Rattle.mbuf_pool.specs.Store.{IsStore, is_out, mbuf_head};
@@ -9,7 +9,7 @@ ghost use Rattle.mbuf_chain.specs.Inside.Cells.{IsPool, IsOff, pool_of, head_roo
 use crate::place::Place;
 use mbuf_pool::Store;
 
-/// Puts a chain's packet length right, where it has one and so many bytes came in and went.
+/// Adjusts a chain's packet length, if it has one, by the numbers of bytes added and removed.
 #[inline(always)]
 pub(crate) fn set_total(store: &mut Store, first: u32, added: u32, removed: u32)
     requires off { IsOff store.old first added removed }
@@ -25,7 +25,7 @@ pub(crate) fn set_total(store: &mut Store, first: u32, added: u32, removed: u32)
     }
 }
 
-/// Lets an mbuf show the `len` bytes of its room from `start` on.
+/// Makes the `len` bytes from offset `start` of its buffer the data of an mbuf.
 #[inline(always)]
 pub(crate) fn resize(store: &mut Store, first: u32, at: Place, start: u32, len: u32)
     requires pool { IsPool store.old }
@@ -43,7 +43,7 @@ pub(crate) fn resize(store: &mut Store, first: u32, at: Place, start: u32, len: 
     set_total(store, first, len, head.len);
 }
 
-/// Lets an mbuf show only `keep` of its bytes, after the first `skip`.
+/// Keeps only `keep` bytes of an mbuf, after the first `skip`.
 #[inline(always)]
 pub(crate) fn narrow(store: &mut Store, first: u32, at: Place, skip: u32, keep: u32)
     requires pool { IsPool store.old }
@@ -59,7 +59,7 @@ pub(crate) fn narrow(store: &mut Store, first: u32, at: Place, skip: u32, keep: 
     resize(store, first, at, head.start + skip, keep);
 }
 
-/// Puts a chain with packet header in its place before another in a train. Its tag stays.
+/// Links a chain with a packet header before another chain of a train. Its tag stays.
 pub(crate) fn relink(store: &mut Store, first: u32, next: Option<u32>)
     requires pool { IsPool store.old }
     requires live { IsLive (pool_of store.old) first }
@@ -73,7 +73,7 @@ pub(crate) fn relink(store: &mut Store, first: u32, next: Option<u32>)
     store.set_next_packet(first, next);
 }
 
-/// Puts a chain with packet header in its place before another in a train, with a tag.
+/// Links a chain with a packet header before another chain of a train, and sets its tag.
 pub(crate) fn set_after(store: &mut Store, first: u32, after: Option<u32>, tag: u32)
     requires pool { IsPool store.old }
     requires live { IsLive (pool_of store.old) first }

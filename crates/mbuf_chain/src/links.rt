@@ -1,4 +1,4 @@
-//! Chains given back, joined and cut.
+//! Freeing, joining and cutting chains.
 ghost use Rattle.std.specs.Prelude.{◌≡◌, ◌≢◌, ℕ, ◌+◌, ◌<◌, ◌≤◌, true, false, IsTrue, Some, None, length, take, MatchOption, is_some, if◌then◌else◌};
 ghost use Rattle.mbuf_pool.specs.Store.{IsStore, is_out, mbuf_head};
 ghost use Rattle.mbuf_chain.specs.Chain.{IsLive, IsPlace, chain_of, with_chain, without, string, alone, entry_of, room_start, room_end, leading_space, trailing_space, Adds, entry_in, HasLeadingSpace, HasTrailingSpace};
@@ -11,7 +11,7 @@ use crate::place::{Place, Segment};
 use mbuf_pool::{PacketHeader, Store};
 use params::{MBUF_HEADER, MSIZE, PACKET_START};
 
-/// How many bytes a chain has.
+/// Returns how many bytes a chain has.
 #[inline(always)]
 pub(crate) fn bytes_of(store: &Store, first: u32) -> u32
     requires pool { IsPool store.now }
@@ -24,7 +24,7 @@ pub(crate) fn bytes_of(store: &Store, first: u32) -> u32
     }
 }
 
-/// How many mbufs a chain has.
+/// Returns how many mbufs a chain has.
 pub(crate) fn mbufs_of(store: &Store, first: u32) -> u32
     requires pool { IsPool store.now }
     requires live { IsLive (pool_of store.now) first }
@@ -33,7 +33,7 @@ pub(crate) fn mbufs_of(store: &Store, first: u32) -> u32
     count_from(store, first)
 }
 
-/// Whether a chain has a packet header.
+/// Returns whether a chain has a packet header.
 #[inline(always)]
 pub(crate) fn has_header(store: &Store, first: u32) -> bool
     requires pool { IsPool store.now }
@@ -43,7 +43,7 @@ pub(crate) fn has_header(store: &Store, first: u32) -> bool
     store.head(first).packet.is_some()
 }
 
-/// The number of the chain after a chain in a train.
+/// Returns the number of the chain after a chain in a train.
 pub(crate) fn after(store: &Store, first: u32) -> Option<u32>
     requires pool { IsPool store.now }
     requires live { IsLive (pool_of store.now) first }
@@ -52,7 +52,7 @@ pub(crate) fn after(store: &Store, first: u32) -> Option<u32>
     store.head(first).next_packet
 }
 
-/// The tag of a chain in a train.
+/// Returns the tag of a chain in a train.
 pub(crate) fn tag(store: &Store, first: u32) -> u32
     requires pool { IsPool store.now }
     requires live { IsLive (pool_of store.now) first }
@@ -64,7 +64,7 @@ pub(crate) fn tag(store: &Store, first: u32) -> u32
     }
 }
 
-/// The place of a chain's first mbuf.
+/// Returns the place of a chain's first mbuf.
 #[inline(always)]
 pub(crate) fn first(store: &Store, first: u32) -> Place
     requires pool { IsPool store.now }
@@ -79,7 +79,7 @@ pub(crate) fn first(store: &Store, first: u32) -> Place
     }
 }
 
-/// The place after another.
+/// Returns the place after another.
 pub(crate) fn next(store: &Store, first: u32, at: Place) -> Option<Place>
     requires pool { IsPool store.now }
     requires live { IsLive (pool_of store.now) first }
@@ -97,7 +97,7 @@ pub(crate) fn next(store: &Store, first: u32, at: Place) -> Option<Place>
     }
 }
 
-/// The place of a chain's last mbuf.
+/// Returns the place of a chain's last mbuf.
 pub(crate) fn last(store: &Store, start: u32) -> Place
     requires pool { IsPool store.now }
     requires live { IsLive (pool_of store.now) start }
@@ -113,7 +113,7 @@ pub(crate) fn last(store: &Store, start: u32) -> Place
     at
 }
 
-/// Where the bytes of an mbuf lie.
+/// Returns where the bytes of an mbuf are stored.
 #[inline(always)]
 pub(crate) fn segment(store: &Store, first: u32, at: Place) -> Segment
     requires pool { IsPool store.now }
@@ -137,7 +137,7 @@ pub(crate) fn segment(store: &Store, first: u32, at: Place) -> Segment
     }
 }
 
-/// Where an mbuf begins to hold data, with or without packet header.
+/// Returns the offset at which the data area of an mbuf begins, with or without a packet header.
 #[inline(always)]
 fn data_start(packet: Option<PacketHeader>) -> u32
     ensures { result ≡ (if is_some packet then PACKET_START else MBUF_HEADER) }
@@ -148,7 +148,7 @@ fn data_start(packet: Option<PacketHeader>) -> u32
     }
 }
 
-/// How many places are free in front of an mbuf's bytes.
+/// Returns the number of free bytes before an mbuf's data.
 #[inline(always)]
 pub(crate) fn leading_space(store: &Store, first: u32, at: Place) -> u32
     requires pool { IsPool store.now }
@@ -165,7 +165,7 @@ pub(crate) fn leading_space(store: &Store, first: u32, at: Place) -> u32
     }
 }
 
-/// How many places are free after an mbuf's bytes.
+/// Returns the number of free bytes after an mbuf's data.
 pub(crate) fn trailing_space(store: &Store, first: u32, at: Place) -> u32
     requires pool { IsPool store.now }
     requires live { IsLive (pool_of store.now) first }
@@ -181,7 +181,7 @@ pub(crate) fn trailing_space(store: &Store, first: u32, at: Place) -> u32
     }
 }
 
-/// Gives a chain's mbufs back, with their references.
+/// Frees a chain's mbufs and their cluster references.
 pub(crate) fn free_chain(store: &mut Store, first: u32)
     requires pool { IsPool store.old }
     requires live { IsLive (pool_of store.old) first }
@@ -191,7 +191,7 @@ pub(crate) fn free_chain(store: &mut Store, first: u32)
     free_from(store, first);
 }
 
-/// Gives the first mbuf of a chain of several back, with its reference, and answers the number of the rest.
+/// Frees the first mbuf of a chain of two or more and its cluster reference. Returns the number of the rest.
 pub(crate) fn free_first(store: &mut Store, first: u32) -> u32
     requires pool { IsPool store.old }
     requires live { IsLive (pool_of store.old) first }
@@ -203,7 +203,7 @@ pub(crate) fn free_first(store: &mut Store, first: u32) -> u32
     free_mbuf(store, first).unwrap()
 }
 
-/// Takes the packet header from a chain, and its place in a train.
+/// Removes the packet header from a chain, and with it the link and the tag that it has in a train.
 pub(crate) fn strip(store: &mut Store, first: u32)
     requires pool { IsPool store.old }
     requires live { IsLive (pool_of store.old) first }
@@ -215,7 +215,7 @@ pub(crate) fn strip(store: &mut Store, first: u32)
     store.set_next_packet(first, None);
 }
 
-/// Links a chain that has no packet header, and so many bytes, after another.
+/// Links a chain without a packet header, of `added` bytes, after another.
 fn join(store: &mut Store, front: u32, last: Place, back: u32, added: u32)
     requires pool { IsPool store.old }
     requires front { IsLive (pool_of store.old) front }
@@ -235,8 +235,8 @@ fn join(store: &mut Store, front: u32, last: Place, back: u32, added: u32)
     set_total(store, front, added, 0);
 }
 
-/// How many bytes are added to the packet length of a chain that has another linked after it. Without
-/// packet header nothing is added up.
+/// Returns how many bytes the packet length of a chain grows by when another chain is linked after it. This is 0
+/// without a packet header, because then no length is stored.
 pub(crate) fn added_by(store: &Store, front: u32, back: u32) -> u32
     requires pool { IsPool store.now }
     requires front { IsLive (pool_of store.now) front }
@@ -251,8 +251,8 @@ pub(crate) fn added_by(store: &Store, front: u32, back: u32) -> u32
     }
 }
 
-/// Links a chain after another. It loses its packet header. Where the other has one, `added` is how many
-/// bytes the chain has.
+/// Links a chain after another. The chain that is linked loses its packet header. If the other has one, `added` is the
+/// number of bytes of the chain that is linked.
 pub(crate) fn link(store: &mut Store, front: u32, last: Place, back: u32, added: u32) -> Place
     requires pool { IsPool store.old }
     requires front { IsLive (pool_of store.old) front }
@@ -277,7 +277,7 @@ pub(crate) fn link(store: &mut Store, front: u32, last: Place, back: u32, added:
     }
 }
 
-/// The mbuf that ends the first `keep` of a chain, and how many bytes these have.
+/// Returns the last of a chain's first `keep` mbufs, and how many bytes these mbufs have.
 fn end_of(store: &Store, first: u32, keep: u32) -> (u32, u32)
     requires whole { LeadsToEnd store.now (Some first) }
     requires store { IsStore store.now }
@@ -298,7 +298,7 @@ fn end_of(store: &Store, first: u32, keep: u32) -> (u32, u32)
     (at, bytes)
 }
 
-/// The packet length of a chain, or 0 where it has no packet header.
+/// Returns the packet length of a chain, or 0 if it has no packet header.
 fn packet_len(store: &Store, first: u32) -> u32
     requires { IsTrue (is_out store.now first) }
     ensures { result ≡ packet_len (mbuf_head store.now first) }
@@ -309,7 +309,7 @@ fn packet_len(store: &Store, first: u32) -> u32
     }
 }
 
-/// Cuts a chain after its first `keep` mbufs, and answers the number of the rest.
+/// Cuts a chain after its first `keep` mbufs, and returns the number of the rest.
 pub(crate) fn cut(store: &mut Store, first: u32, keep: u32) -> u32
     requires pool { IsPool store.old }
     requires live { IsLive (pool_of store.old) first }

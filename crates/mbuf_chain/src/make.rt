@@ -11,10 +11,10 @@ use crate::data::write_in;
 use crate::place::Place;
 use mbuf_pool::{Head, NoBufs, PacketHeader, Store};
 
-/// The kind of each mbuf of a chain. Nobody reads it.
+/// The type of each mbuf of a chain. No code reads it.
 const KIND: u16 = 1;
 
-/// The head of the only mbuf of a chain.
+/// Builds the head of the only mbuf of a chain.
 #[inline(always)]
 fn head_for(header: bool, start: u32, len: u32, cluster: Option<u32>) -> Head
     ensures { result ≡ only_head header start len cluster }
@@ -35,7 +35,7 @@ fn head_for(header: bool, start: u32, len: u32, cluster: Option<u32>) -> Head
     }
 }
 
-/// Takes an mbuf, with a head.
+/// Allocates an mbuf with the given head.
 #[inline(always)]
 fn take(store: &mut Store, head: Head) -> Result<u32, NoBufs>
     requires { IsHead head }
@@ -50,7 +50,7 @@ fn take(store: &mut Store, head: Head) -> Result<u32, NoBufs>
     }
 }
 
-/// A chain of one empty mbuf without cluster.
+/// Makes a chain of one empty mbuf without a cluster.
 #[inline(always)]
 pub(crate) fn plain(store: &mut Store, header: bool, start: u32) -> Result<u32, NoBufs>
     requires pool { IsPool store.old }
@@ -69,8 +69,8 @@ pub(crate) fn plain(store: &mut Store, header: bool, start: u32) -> Result<u32, 
     }
 }
 
-/// A chain of one mbuf without cluster, with bytes.
-// The head is written once, with the length that it's to have; the bytes that it shows are written after it.
+/// Makes a chain of one mbuf without a cluster that contains the given bytes.
+// The head is written once, with its final length. The bytes are written after it.
 #[inline(always)]
 pub(crate) fn plain_with(
     store: &mut Store,
@@ -97,8 +97,7 @@ pub(crate) fn plain_with(
     }
 }
 
-/// A chain of one mbuf that shares the cluster of an entry: `keep` of its bytes, after the first
-/// `skip`.
+/// Makes a chain of one mbuf that shares the cluster of an entry: `keep` of the entry's bytes, after the first `skip`.
 pub(crate) fn shared(
     store: &mut Store,
     header: bool,
@@ -133,9 +132,9 @@ pub(crate) fn shared(
     }
 }
 
-/// A chain of one mbuf on a cluster of its own, with bytes in it from `start` on. Where a cluster is free and no mbuf
-/// is, the cluster is given back.
-// The head is written once, with the length that it's to have.
+/// Makes a chain of one mbuf on a cluster of its own, with bytes in it from offset `start`. If a cluster is free but no
+/// mbuf is, the cluster is freed again.
+// The head is written once, with its final length.
 #[inline(always)]
 pub(crate) fn clustered_with(
     store: &mut Store,
@@ -181,7 +180,7 @@ pub(crate) fn clustered_with(
     }
 }
 
-/// A chain of one empty mbuf on a cluster of its own.
+/// Makes a chain of one empty mbuf on a cluster of its own.
 pub(crate) fn clustered(store: &mut Store, header: bool, start: u32) -> Result<u32, NoBufs>
     requires pool { IsPool store.old }
     requires high { start ≤ MCLBYTES }

@@ -1,4 +1,4 @@
-//! A chain's mbufs read in place, one after another.
+//! Reading a chain's mbufs in place, one after another.
 ghost use Rattle.std.specs.Prelude.{◌≡◌, length, Some};
 ghost use Rattle.std.specs.Iterator.{YieldsFirst, YieldsFirstBy, YieldsFirstRef, item_count};
 ghost use Rattle.mbuf_chain.specs.Chain.{IsLive, chain_of, layout};
@@ -12,8 +12,8 @@ use crate::mbuf_head::MbufHead;
 use mbuf_pool::{Head, Part, Store};
 use std::marker::Model;
 
-/// An iterator over a chain's mbufs: for each the number of its bytes, and the number of the cluster in
-/// which they lie, `None` where they lie in the mbuf. A contract sees it as the list of what it has left.
+/// An iterator over a chain's mbufs. For each it yields the number of its bytes, and the number of the cluster that
+/// contains them: `None` if they are in the mbuf itself. Contracts see it as the list of its remaining items.
 #[derive(Drop)]
 pub struct Entries<'a> {
     store: &'a Store,
@@ -32,8 +32,8 @@ impl<'a> Model for Entries<'a> {
     ghost invariant = { λ e. IsReadable e.store.now e.at };
 }
 
-/// An iterator over a chain's mbufs: the bytes of each, lent without copying. A contract sees it as the
-/// list of what it has left.
+/// An iterator over a chain's mbufs. It yields the bytes of each, without copying. Contracts see it as the list of its
+/// remaining items.
 #[derive(Drop)]
 pub struct Pieces<'a> {
     store: &'a Store,
@@ -52,8 +52,8 @@ impl<'a> Model for Pieces<'a> {
     ghost invariant = { λ p. IsReadable p.store.now p.at };
 }
 
-/// An iterator over a chain's mbufs: what each says of itself, and its bytes, lent without copying. A contract sees it
-/// as the list of what it has left.
+/// An iterator over a chain's mbufs. It yields the head fields and the bytes of each, without copying. Contracts see it
+/// as the list of its remaining items.
 #[derive(Drop)]
 pub struct MbufHeads<'a> {
     store: &'a Store,
@@ -72,7 +72,7 @@ impl<'a> Model for MbufHeads<'a> {
     ghost invariant = { λ h. IsReadable h.store.now h.at };
 }
 
-/// Where the bytes lie that an mbuf shows under a head.
+/// Returns where the bytes of an mbuf with this head are.
 fn data_of(cell: u32, head: Head) -> Part
     ensures { result ≡ data_of cell head }
 {
@@ -83,7 +83,7 @@ fn data_of(cell: u32, head: Head) -> Part
     }
 }
 
-/// The mbufs of a chain: their lengths and clusters.
+/// Iterates over the mbufs of a chain: their lengths and clusters.
 pub(crate) fn layout_of(store: &Store, first: u32) -> Entries<'_>
     requires pool { IsPool store.now }
     requires live { IsLive (pool_of store.now) first }
@@ -95,7 +95,7 @@ pub(crate) fn layout_of(store: &Store, first: u32) -> Entries<'_>
     }
 }
 
-/// The mbufs of a chain: their bytes.
+/// Iterates over the mbufs of a chain: their bytes.
 pub(crate) fn pieces_of(store: &Store, first: u32) -> Pieces<'_>
     requires pool { IsPool store.now }
     requires live { IsLive (pool_of store.now) first }
@@ -107,7 +107,7 @@ pub(crate) fn pieces_of(store: &Store, first: u32) -> Pieces<'_>
     }
 }
 
-/// The mbufs of a chain: what they say of themselves, and their bytes.
+/// Iterates over the mbufs of a chain: their head fields and their bytes.
 pub(crate) fn heads_of(store: &Store, first: u32) -> MbufHeads<'_>
     requires pool { IsPool store.now }
     requires live { IsLive (pool_of store.now) first }
@@ -126,7 +126,7 @@ impl<'a> Iterator for Entries<'a> {
 
     ghost remaining = { item_count (λ s. s) };
 
-    /// The length and the cluster of the next mbuf, or `None` after the last.
+    /// Returns the length and the cluster of the next mbuf, or `None` after the last.
     fn next(&mut self) -> Option<(u32, Option<u32>)> {
         let cell = self.at?;
         let head = self.store.head(cell);
@@ -142,7 +142,7 @@ impl<'a> Iterator for Pieces<'a> {
 
     ghost remaining = { item_count (λ s. s) };
 
-    /// The bytes of the next mbuf, or `None` after the last.
+    /// Returns the bytes of the next mbuf, or `None` after the last.
     fn next(&mut self) -> Option<&'a [u8]> {
         let cell = self.at?;
         let head = self.store.head(cell);
@@ -158,7 +158,7 @@ impl<'a> Iterator for MbufHeads<'a> {
 
     ghost remaining = { item_count (λ s. s) };
 
-    /// What the next mbuf says of itself, and its bytes, or `None` after the last.
+    /// Returns the head fields and the bytes of the next mbuf, or `None` after the last.
     fn next(&mut self) -> Option<(MbufHead, &'a [u8])> {
         let cell = self.at?;
         let head = self.store.head(cell);

@@ -1,22 +1,22 @@
-//! Places in a chain, and what lies there.
+//! Places in a chain, and the data there.
 
-/// Where an mbuf stands in a chain: how many stand in front of it, and its own number. `Pool::first`
-/// gives a chain's first place, `Pool::next` the one after a place.
+/// The position of an mbuf in a chain: the number of mbufs before it, and its own number. `Pool::first` returns a
+/// chain's first place, `Pool::next` the one after a place.
 #[derive(Clone, Copy, Debug, PartialEq, Eq)]
 pub struct Place {
-    /// How many mbufs of the chain stand in front.
+    /// The number of mbufs of the chain before it.
     pub index: u32,
     /// The number of the mbuf.
     pub cell: u32,
 }
 
-/// Where the bytes of an mbuf lie.
+/// Where the bytes of an mbuf are stored.
 #[derive(Clone, Copy, Debug, PartialEq, Eq)]
 pub struct Segment {
-    /// Where they begin: in the mbuf, or in its cluster.
+    /// The offset of the first byte, in the mbuf or in its cluster.
     pub start: u32,
-    /// How many they are.
+    /// The number of bytes.
     pub len: u32,
-    /// The cluster in which they lie, if they lie in one.
+    /// The cluster that contains them, if there is one.
     pub cluster: Option<u32>,
 }

@@ -20,8 +20,8 @@ use std::marker::Model;
 
 /// A pool of chains of mbufs, over a store that it hides.
 ///
-/// A contract sees it as a `PoolView`: how many mbufs and clusters there are in all, and a finite map
-/// from a chain's number to what the chain holds. README.md has the words and a picture.
+/// Contracts see it as a `PoolView`: the total numbers of mbufs and clusters, and a finite map from a chain's number to
+/// the chain's contents. README.md explains the terms and has a picture.
 #[derive(Drop)]
 pub struct Pool {
     store: Store,
@@ -41,7 +41,7 @@ impl Model for Pool {
 }
 
 impl Pool {
-    /// A pool without chains, over a store of which nothing is handed out.
+    /// Creates a pool without chains, over a store in which everything is free.
     pub fn over(store: Store) -> Pool
         requires mbufs { mbufs_out store ≡ 0 }
         requires clusters { (c : ℕ) → cluster_count store c ≡ 0 }
@@ -55,14 +55,14 @@ impl Pool {
         Pool { store }
     }
 
-    /// What always holds of a pool. It takes no step.
+    /// States what is always true of a pool. It takes no step at run time.
     pub const fn laws(&self)
         ensures { IsBounded self.now }
     {
         self.store.laws();
     }
 
-    /// How many mbufs are free.
+    /// Returns the number of free mbufs.
     pub fn free_mbufs(&self) -> u32
         ensures free { result + held_mbufs self.now ≡ self.now.mbufs }
         ensures bounds { IsBounded self.now }
@@ -70,14 +70,14 @@ impl Pool {
         self.store.free_mbufs()
     }
 
-    /// How many clusters are free.
+    /// Returns the number of free clusters.
     pub fn free_clusters(&self) -> u32
         ensures { result ≡ free_clusters self.now }
     {
         self.store.free_clusters()
     }
 
-    /// How many mbufs refer to a cluster. There must be such a cluster.
+    /// Returns how many mbufs refer to a cluster. There must be such a cluster.
     pub fn count(&self, cluster: u32) -> u32
         requires { cluster < self.now.clusters }
         ensures { result ≡ references self.now cluster }
@@ -85,7 +85,7 @@ impl Pool {
         self.store.count(cluster)
     }
 
-    /// How much is free, and how often the clusters are referred to. It takes one step for each cluster.
+    /// Returns how much is free, and how many references the clusters have. It takes one step per cluster.
     pub fn usage(&self) -> Usage
         ensures mbufs { result.mbufs ≡ self.now.mbufs }
         ensures free_mbufs { result.free_mbufs + held_mbufs self.now ≡ self.now.mbufs }
@@ -105,8 +105,8 @@ impl Pool {
         }
     }
 
-    /// A chain of one empty mbuf with packet header. `NoBufs` comes exactly where no mbuf is free, and
-    /// changes nothing.
+    /// Makes a chain of one empty mbuf with a packet header. Returns `NoBufs` exactly if no mbuf is free; nothing
+    /// changes then.
     pub fn new_chain(&mut self) -> Result<Chain, NoBufs>
         ensures ok { IfOk result (λ c. Adds self.old self.new c
             (one_mbuf true (empty_entry PACKET_START None) c)) }
@@ -117,9 +117,8 @@ impl Pool {
         self.new_plain(true, PACKET_START)
     }
 
-    /// A chain of one empty mbuf, with or without packet header, that begins at `start`: a place from
-    /// 28, or 20 without packet header, to 128. `NoBufs` comes exactly where no mbuf is free, and
-    /// changes nothing.
+    /// Makes a chain of one empty mbuf, with or without a packet header, whose data begins at `start`: an offset from
+    /// 28 (20 without a packet header) to 128. Returns `NoBufs` exactly if no mbuf is free; nothing changes then.
     #[inline(always)]
     pub fn new_plain(&mut self, header: bool, start: u32) -> Result<Chain, NoBufs>
         requires low { (if header then PACKET_START else MBUF_HEADER) ≤ start }
@@ -136,9 +135,10 @@ impl Pool {
         }
     }
 
-    /// A chain of one mbuf with bytes, with or without packet header. They begin at `start`, a place from 28, or 20
-    /// without packet header, and must end at 128 or before. It's `new_plain` and `put_back` in one, and writes the
-    /// head once. `NoBufs` comes exactly where no mbuf is free, and changes nothing.
+    /// Makes a chain of one mbuf that contains the given bytes, with or without a packet header. They begin at `start`,
+    /// an offset of at least 28 (20 without a packet header), and must end at 128 or before. The result is that of
+    /// `new_plain` and `put_back`, but the head is written once. Returns `NoBufs` exactly if no mbuf is free; nothing
+    /// changes then.
     #[inline(always)]
     pub fn new_plain_with(
         &mut self,
@@ -160,10 +160,10 @@ impl Pool {
         }
     }
 
-    /// Gives a chain's mbufs back, with their references. A cluster is free again once its last reference is gone.
+    /// Frees a chain's mbufs and their cluster references. A cluster is free again when its last reference is gone.
     ///
-    /// By example: if the clusters along the chain are counted `1->2->3`, they are counted `0->1->2` after the call.
-    /// The first is free; the others stay with the chains that share them.
+    /// For example, if the counts of the clusters along the chain are `1->2->3`, they are `0->1->2` after the call. The
+    /// first is free; the others stay with the chains that share them.
     pub fn free_chain(&mut self, chain: Chain)
         requires { IsLive self.old chain }
         ensures { self.new ≡ without self.old chain }
@@ -172,9 +172,9 @@ impl Pool {
         links::free_chain(&mut self.store, first);
     }
 
-    /// Gives the first mbuf of a chain of several back, with its reference, and answers the chain of the
-    /// others, which has no packet header. It does what `cut` after that mbuf and `free_chain` do, in one
-    /// step (`m_free` of TCP/IP Illustrated, volume 2, chapter 2).
+    /// Frees the first mbuf of a chain of two or more and its cluster reference. Returns the chain of the others, which
+    /// has no packet header. The result is that of `cut` after that mbuf and `free_chain`, in one step (`m_free` of
+    /// TCP/IP Illustrated, volume 2, chapter 2).
     pub fn free_first(&mut self, chain: Chain) -> Chain
         requires live { IsLive self.old chain }
         requires several { 1 < length (chain_of self.old chain).entries }
@@ -186,8 +186,8 @@ impl Pool {
         Chain { first: rest }
     }
 
-    /// How many bytes a chain has. It takes one step where the chain has a packet header, else one for
-    /// each mbuf.
+    /// Returns how many bytes a chain has. It takes one step if the chain has a packet header, otherwise one step per
+    /// mbuf.
     #[inline(always)]
     pub fn len(&self, chain: &Chain) -> u32
         requires { IsLive self.now chain.now }
@@ -196,7 +196,7 @@ impl Pool {
         links::bytes_of(&self.store, chain.first)
     }
 
-    /// How many mbufs a chain has. It takes one step for each.
+    /// Returns how many mbufs a chain has. It takes one step per mbuf.
     pub fn mbufs(&self, chain: &Chain) -> u32
         requires { IsLive self.now chain.now }
         ensures { result ≡ length (chain_of self.now chain.now).entries }
@@ -204,7 +204,7 @@ impl Pool {
         links::mbufs_of(&self.store, chain.first)
     }
 
-    /// Whether a chain has a packet header.
+    /// Returns whether a chain has a packet header.
     #[inline(always)]
     pub fn has_header(&self, chain: &Chain) -> bool
         requires { IsLive self.now chain.now }
@@ -213,7 +213,7 @@ impl Pool {
         links::has_header(&self.store, chain.first)
     }
 
-    /// The length and the cluster of each mbuf of a chain, in order: `None` for one without cluster.
+    /// Iterates over the mbufs of a chain, in order: the length and the cluster of each, `None` if it has no cluster.
     pub fn layout(&self, chain: &Chain) -> Entries<'_>
         requires { IsLive self.now chain.now }
         ensures { result ≡ layout (chain_of self.now chain.now) }
@@ -221,8 +221,8 @@ impl Pool {
         pieces::layout_of(&self.store, chain.first)
     }
 
-    /// The bytes of each mbuf of a chain, in order, lent without copying. An mbuf without bytes gives an
-    /// empty slice.
+    /// Iterates over the mbufs of a chain, in order: the bytes of each, without copying. An mbuf without bytes yields
+    /// an empty slice.
     pub fn pieces(&self, chain: &Chain) -> Pieces<'_>
         requires { IsLive self.now chain.now }
         ensures { result ≡ chain_pieces (chain_of self.now chain.now) }
@@ -230,8 +230,8 @@ impl Pool {
         pieces::pieces_of(&self.store, chain.first)
     }
 
-    /// What each mbuf of a chain says of itself, and its bytes, in order, lent without copying: for a drawing of them.
-    /// The numbers in it are answers alone, which no call takes for a chain.
+    /// Iterates over the mbufs of a chain, in order, for drawing them: the head fields and the bytes of each, without
+    /// copying. The numbers are only for output: no call accepts one as a chain.
     pub fn heads(&self, chain: &Chain) -> MbufHeads<'_>
         requires { IsLive self.now chain.now }
         ensures { result ≡ heads (chain_of self.now chain.now) }
@@ -239,7 +239,7 @@ impl Pool {
         pieces::heads_of(&self.store, chain.first)
     }
 
-    /// The place of a chain's first mbuf.
+    /// Returns the place of a chain's first mbuf.
     #[inline(always)]
     pub fn first(&self, chain: &Chain) -> Place
         requires { IsLive self.now chain.now }
@@ -249,7 +249,7 @@ impl Pool {
         links::first(&self.store, chain.first)
     }
 
-    /// The place after another, or `None` after the last.
+    /// Returns the place after another, or `None` after the last.
     pub fn next(&self, chain: &Chain, at: Place) -> Option<Place>
         requires live { IsLive self.now chain.now }
         requires place { IsPlace (chain_of self.now chain.now) at }
@@ -260,7 +260,7 @@ impl Pool {
         links::next(&self.store, chain.first, at)
     }
 
-    /// The place of a chain's last mbuf. It takes one step for each mbuf.
+    /// Returns the place of a chain's last mbuf. It takes one step per mbuf.
     pub fn last(&self, chain: &Chain) -> Place
         requires { IsLive self.now chain.now }
         ensures place { IsPlace (chain_of self.now chain.now) result }
@@ -269,7 +269,7 @@ impl Pool {
         links::last(&self.store, chain.first)
     }
 
-    /// Where the bytes of an mbuf lie, and how many they are.
+    /// Returns where the bytes of an mbuf are stored, and how many there are.
     #[inline(always)]
     pub fn segment(&self, chain: &Chain, at: Place) -> Segment
         requires live { IsLive self.now chain.now }
@@ -287,7 +287,8 @@ impl Pool {
         links::segment(&self.store, chain.first, at)
     }
 
-    /// Leaves `keep` of an mbuf's bytes, after the first `skip`: it must have so many. An emptied mbuf stays.
+    /// Keeps `keep` of an mbuf's bytes, after the first `skip`. It must have that many. An mbuf that becomes empty
+    /// stays in the chain.
     #[inline(always)]
     pub fn narrow(&mut self, chain: &Chain, at: Place, skip: u32, keep: u32)
         requires live { IsLive self.old chain.now }
@@ -299,7 +300,7 @@ impl Pool {
         edit::narrow(&mut self.store, chain.first, at, skip, keep);
     }
 
-    /// How many places are free in front of an mbuf's bytes. None are where they lie in a cluster.
+    /// Returns the number of free bytes before an mbuf's data. It is 0 if the data is in a cluster.
     #[inline(always)]
     pub fn leading_space(&self, chain: &Chain, at: Place) -> u32
         requires live { IsLive self.now chain.now }
@@ -310,7 +311,7 @@ impl Pool {
         links::leading_space(&self.store, chain.first, at)
     }
 
-    /// How many places are free after an mbuf's bytes. None are where they lie in a cluster.
+    /// Returns the number of free bytes after an mbuf's data. It is 0 if the data is in a cluster.
     pub fn trailing_space(&self, chain: &Chain, at: Place) -> u32
         requires live { IsLive self.now chain.now }
         requires place { IsPlace (chain_of self.now chain.now) at }
@@ -320,7 +321,7 @@ impl Pool {
         links::trailing_space(&self.store, chain.first, at)
     }
 
-    /// The bytes of an mbuf, lent.
+    /// Returns the bytes of an mbuf, without copying.
     #[inline(always)]
     pub fn bytes(&self, chain: &Chain, at: Place) -> &[u8]
         requires live { IsLive self.now chain.now }
@@ -331,9 +332,9 @@ impl Pool {
         data::bytes(&self.store, chain.first, at)
     }
 
-    /// Puts bytes in front of those of an mbuf, into its room: its own after its head, or the whole of its
-    /// cluster, which no other mbuf may share. They must fit there.
-    // Inlined, as the other calls that write, so that a caller that knows the length writes by stores.
+    /// Prepends bytes to those of an mbuf, into its buffer: its own data area, or the whole of its cluster, which no
+    /// other mbuf may share. They must fit there.
+    // Inlined, like the other calls that write, so that a caller that knows the length compiles to stores.
     #[inline(always)]
     pub fn put_front(&mut self, chain: &Chain, at: Place, bytes: &[u8])
         requires live { IsLive self.old chain.now }
@@ -346,8 +347,8 @@ impl Pool {
         data::put_front(&mut self.store, chain.first, at, bytes);
     }
 
-    /// Puts bytes after those of an mbuf, into its room: its own, or the whole of its cluster, which no other
-    /// mbuf may share. They must fit there.
+    /// Appends bytes to those of an mbuf, into its buffer: its own data area, or the whole of its cluster, which no
+    /// other mbuf may share. They must fit there.
     #[inline(always)]
     pub fn put_back(&mut self, chain: &Chain, at: Place, bytes: &[u8])
         requires live { IsLive self.old chain.now }
@@ -360,8 +361,7 @@ impl Pool {
         data::put_back(&mut self.store, chain.first, at, bytes);
     }
 
-    /// Writes bytes over those of an mbuf, from `offset` on. It must have so many, and no other mbuf may share
-    /// its cluster.
+    /// Overwrites bytes of an mbuf from `offset` on. It must have that many, and no other mbuf may share its cluster.
     #[inline(always)]
     pub fn overwrite(&mut self, chain: &Chain, at: Place, offset: u32, bytes: &[u8])
         requires live { IsLive self.old chain.now }
@@ -374,9 +374,8 @@ impl Pool {
         data::overwrite(&mut self.store, chain.first, at, offset, bytes);
     }
 
-    /// Puts bytes of an mbuf of this or another chain, `count` of them after the first `skip`, after
-    /// those of an mbuf, into its room. There must be so many, they must fit, and no other mbuf may share the
-    /// cluster that is written.
+    /// Appends `count` bytes of an mbuf of this or another chain, after the first `skip`, to those of an mbuf, into its
+    /// buffer. The source must have that many, they must fit, and no other mbuf may share the cluster that is written.
     pub fn append(
         &mut self,
         chain: &Chain,
@@ -408,7 +407,7 @@ impl Pool {
         );
     }
 
-    /// Takes the packet header from a chain. Its bytes stay where they are.
+    /// Removes the packet header from a chain. Its bytes stay where they are.
     pub fn lose_header(&mut self, chain: &Chain)
         requires { IsLive self.old chain.now }
         ensures { self.new ≡ with_chain self.old chain.now (headless (chain_of self.old chain.now)) }
@@ -416,9 +415,9 @@ impl Pool {
         links::strip(&mut self.store, chain.first);
     }
 
-    /// A chain of one mbuf that shares the cluster of another mbuf, of which it shows `keep` bytes,
-    /// after the first `skip`: that one must have a cluster, and so many bytes. The cluster has one
-    /// reference more. `NoBufs` comes exactly where no mbuf is free, and changes nothing.
+    /// Makes a chain of one mbuf that shares the cluster of another mbuf, with `keep` of its bytes, after the first
+    /// `skip`. The other mbuf must have a cluster and that many bytes. The cluster gets one more reference. Returns
+    /// `NoBufs` exactly if no mbuf is free; nothing changes then.
     pub fn new_shared(
         &mut self,
         header: bool,
@@ -443,8 +442,8 @@ impl Pool {
         }
     }
 
-    /// A chain of one empty mbuf on a cluster of its own, in which it begins at `start`, at most 2048.
-    /// `NoBufs` comes exactly where no mbuf or no cluster is free, and changes nothing.
+    /// Makes a chain of one empty mbuf on a cluster of its own, in which its data begins at offset `start`, at most
+    /// 2048. Returns `NoBufs` exactly if no mbuf or no cluster is free; nothing changes then.
     pub fn new_cluster(&mut self, header: bool, start: u32) -> Result<Chain, NoBufs>
         requires { start ≤ MCLBYTES }
         ensures ok { IfOk result (λ c. (d : ℕ) × (d < self.old.clusters)
@@ -462,9 +461,9 @@ impl Pool {
         }
     }
 
-    /// A chain of one mbuf with bytes on a cluster of its own, in which they begin at `start` and end at 2048 or
-    /// before. It's `new_cluster` and `put_back` in one, and writes the head once. `NoBufs` comes exactly where no
-    /// mbuf or no cluster is free, and changes nothing.
+    /// Makes a chain of one mbuf on a cluster of its own that contains the given bytes, from offset `start` to 2048 at
+    /// most. The result is that of `new_cluster` and `put_back`, but the head is written once. Returns `NoBufs` exactly
+    /// if no mbuf or no cluster is free; nothing changes then.
     #[inline(always)]
     pub fn new_cluster_with(
         &mut self,
@@ -489,10 +488,10 @@ impl Pool {
         }
     }
 
-    /// Links a chain after the last mbuf of another, whose place is `last`. They must be two chains. The one
-    /// that is linked loses its packet header. The answer is the place of its first mbuf in the whole. Where
-    /// the front has a packet header, and the chain after it has none, that one is walked for its length;
-    /// `link_counted` is told it.
+    /// Links a chain after the last mbuf of another, whose place is `last`. They must be two different chains. The
+    /// chain that is linked loses its packet header. Returns the place of its first mbuf in the joined chain. If the
+    /// front chain has a packet header and the other has none, the other is walked to find its length; `link_counted`
+    /// takes the length as an argument.
     pub fn link(&mut self, chain: &Chain, last: Place, back: Chain) -> Place
         requires front { IsLive self.old chain.now }
         requires back { IsLive self.old back }
@@ -510,8 +509,8 @@ impl Pool {
         links::link(&mut self.store, chain.first, last, first, added)
     }
 
-    /// Links a chain of `len` bytes after the last mbuf of another, as `link` does. It takes the same few
-    /// steps whatever the chain.
+    /// Links a chain of `len` bytes after the last mbuf of another, as `link` does. It takes O(1) steps, whatever the
+    /// chain.
     pub fn link_counted(&mut self, chain: &Chain, last: Place, back: Chain, len: u32) -> Place
         requires front { IsLive self.old chain.now }
         requires back { IsLive self.old back }
@@ -529,8 +528,8 @@ impl Pool {
         links::link(&mut self.store, chain.first, last, number, len)
     }
 
-    /// Cuts a chain after its first `keep` mbufs, from 1 to one fewer than it has, and answers the chain of
-    /// the others, which has no packet header. It takes one step for each mbuf that stays.
+    /// Cuts a chain after its first `keep` mbufs, from 1 to one fewer than it has. Returns the chain of the others,
+    /// which has no packet header. It takes one step for each mbuf that stays.
     pub fn cut(&mut self, chain: &Chain, keep: u32) -> Chain
         requires live { IsLive self.old chain.now }
         requires some { 0 < keep }
@@ -543,7 +542,7 @@ impl Pool {
         Chain { first }
     }
 
-    /// The number of the chain after a chain in a train.
+    /// Returns the number of the chain after a chain in a train.
     pub(crate) fn after(&self, chain: &Chain) -> Option<u32>
         requires { IsLive self.now chain.now }
         ensures { result ≡ (chain_of self.now chain.now).front.after }
@@ -551,7 +550,7 @@ impl Pool {
         links::after(&self.store, chain.first)
     }
 
-    /// The tag of a chain in a train.
+    /// Returns the tag of a chain in a train.
     pub(crate) fn tag(&self, chain: &Chain) -> u32
         requires { IsLive self.now chain.now }
         ensures { result ≡ (chain_of self.now chain.now).front.tag }
@@ -559,7 +558,7 @@ impl Pool {
         links::tag(&self.store, chain.first)
     }
 
-    /// Puts a chain in its place before another in a train. Its tag stays.
+    /// Links a chain before another in a train. Its tag stays.
     pub(crate) fn relink(&mut self, chain: &Chain, after: Option<u32>)
         requires live { IsLive self.old chain.now }
         requires headed { (chain_of self.old chain.now).front.header ≡ true }
@@ -571,7 +570,7 @@ impl Pool {
         edit::relink(&mut self.store, chain.first, after);
     }
 
-    /// Puts a chain in its place before another in a train, with a tag.
+    /// Links a chain before another in a train, and sets its tag.
     pub(crate) fn set_after(&mut self, chain: &Chain, after: Option<u32>, tag: u32)
         requires live { IsLive self.old chain.now }
         requires headed { (chain_of self.old chain.now).front.header ≡ true }

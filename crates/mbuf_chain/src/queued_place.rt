@@ -1,10 +1,10 @@
 //! Places in a train.
 
-/// Where a chain stands in a train: how many stand in front of it, and its own number. `Train::first`
-/// gives a train's first place, `Train::next` the one after a place.
+/// The position of a chain in a train: the number of chains before it, and its own number. `Train::first` returns a
+/// train's first place, `Train::next` the one after a place.
 #[derive(Clone, Copy, Debug, PartialEq, Eq)]
 pub struct QueuedPlace {
-    /// How many chains of the train stand in front.
+    /// The number of chains of the train before it.
     pub index: u32,
     /// The number of the chain.
     pub number: u32,

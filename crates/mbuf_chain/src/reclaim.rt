@@ -1,4 +1,4 @@
-//! Buffers given back on demand.
+//! Freeing buffers on demand.
 
 ghost use Rattle.std.specs.Prelude.{◌≡◌, ℕ, [], List};
 ghost use Rattle.mbuf_chain.specs.Chain.{PoolView};
@@ -8,11 +8,11 @@ ghost use Rattle.mbuf_chain.specs.Frames.{SameAt};
 use crate::pool::Pool;
 use crate::train::Train;
 
-/// An object that owns chains of a pool for a while, each of them part of a datagram, and can give them
-/// all back where a buffer is wanted: the datagrams that wait for their other fragments.
+/// An object that owns chains of a pool for some time, each of them part of a datagram, and that can free them all if a
+/// buffer is needed. In the stack these are the datagrams that wait for missing fragments.
 ///
-/// Its ghost members say what that means for a type: whether the object and a pool fit together, the
-/// numbers of the chains that it owns, and how many datagrams they are. Their laws are below.
+/// Its ghost members define what that means for a type: whether the object and a pool fit together, the numbers of the
+/// chains that it owns, and how many datagrams they are. Their laws are below.
 pub trait Reclaim {
     ghost is_ready: { PoolView → Self → Type 0 };
 
@@ -20,8 +20,8 @@ pub trait Reclaim {
 
     ghost datagrams: { Self → ℕ };
 
-    /// Frees all chains that the object owns, and answers how many datagrams they were. It holds no
-    /// datagram then. Every other chain is as it was.
+    /// Frees all chains that the object owns, and returns how many datagrams they were. The object has no datagram
+    /// afterwards. Every other chain is unchanged.
     fn reclaim(&mut self, pool: &mut Pool) -> u32
         requires { is_ready pool.old self.old }
         ensures count { result ≡ datagrams self.old }
@@ -32,10 +32,10 @@ pub trait Reclaim {
     // its chains are its own
     ghost is_owner: { (p : PoolView) (s : Self) → is_ready p s → IsOwned p (owned p s) };
 
-    // it owns no chain where it holds no datagram
+    // it owns no chain if it has no datagram
     ghost owns_nothing: { (p : PoolView) (s : Self) → is_ready p s → datagrams s ≡ 0 → owned p s ≡ [] };
 
-    // a step of somebody else leaves it as it was
+    // a step of other code leaves it unchanged
     ghost owned_same: { (p q : PoolView) (s : Self) → SameAt p q (owned p s) → owned q s ≡ owned p s };
 
     ghost ready_same: { (p q : PoolView) (s : Self) → SameAt p q (owned p s) → is_ready p s → is_ready q s };

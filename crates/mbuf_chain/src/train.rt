@@ -15,13 +15,12 @@ use crate::pool::Pool;
 use crate::queued_place::QueuedPlace;
 use std::marker::Model;
 
-/// Chains in a row, each linked after the one before through their first mbufs, and each with a tag
-/// that is kept in its packet header. A train takes no buffer. It must be spent, by `free`, or by
-/// `end_empty` where no chain is left.
+/// A list of chains. Each is linked to the next through their first mbufs, and each has a tag, which is stored in its
+/// packet header. A train takes no buffer. It must be consumed: by `free`, or by `end_empty` if no chain is left.
 ///
-/// The chains stay in the pool that each call is given, which is the one that they came from.
-// A train is kept small, since each socket and each unfinished datagram has one: its two ends are plain numbers, which
-// mean nothing while there is no chain.
+/// The chains stay in the pool that is passed to each call. It must be the pool that they came from.
+// A train is small, because each socket and each unfinished datagram has one: its two ends are plain numbers, which
+// have no meaning while there is no chain.
 pub struct Train {
     first: u32,
     last: u32,
@@ -42,7 +41,7 @@ impl Model for Train {
 }
 
 impl Train {
-    /// A train without chains.
+    /// Creates a train without chains.
     pub const fn new() -> Train
         ensures { result ≡ record { first = None; last = None; len = 0 } }
     {
@@ -53,24 +52,23 @@ impl Train {
         }
     }
 
-    /// How many chains there are.
+    /// Returns the number of chains.
     pub const fn len(&self) -> u32
         ensures { result ≡ self.now.len }
     {
         self.len
     }
 
-    /// Whether there is no chain.
+    /// Returns whether there is no chain.
     pub const fn is_empty(&self) -> bool
         ensures { result ≡ (self.now.len == 0) }
     {
         self.len == 0
     }
 
-    /// Puts a chain in at a place, with a tag. The place is at most the number of chains, and the chain must
-    /// have a packet header. At the front and at the end this takes a number of steps that doesn't depend on
-    /// the train, elsewhere one for each chain in front.
-    // Inlined, so that a caller at the front or at the end takes these few steps alone.
+    /// Inserts a chain at index `i`, with a tag. The index is at most the number of chains, and the chain must have a
+    /// packet header. At the front and at the end this takes O(1) steps, elsewhere one step for each chain before it.
+    // Inlined, so that a caller at the front or at the end takes only these few steps.
     #[inline(always)]
     pub fn insert(&mut self, pool: &mut Pool, i: u32, chain: Chain, tag: u32)
         requires place { i ≤ self.old.len }
@@ -98,9 +96,8 @@ impl Train {
         }
     }
 
-    /// Puts a chain, which must have a packet header, in after the one at a place of a walk, with a tag, and
-    /// answers its place. This takes a number of steps that doesn't depend on the train. The place that was given
-    /// stays one.
+    /// Inserts a chain, which must have a packet header, after the chain at a place of a walk, with a tag. Returns its
+    /// place. This takes O(1) steps. The place that was passed stays valid.
     pub fn insert_after(
         &mut self,
         pool: &mut Pool,
@@ -128,8 +125,8 @@ impl Train {
         self.insert_next(pool, at, number, tag)
     }
 
-    /// Takes the chain at a place out, with its tag. The place must be below the number of chains. At the front
-    /// this takes a number of steps that doesn't depend on the train, elsewhere one for each chain in front.
+    /// Removes the chain at index `i` and returns it with its tag. The index must be below the number of chains. At the
+    /// front this takes O(1) steps, elsewhere one step for each chain before it.
     pub fn take(&mut self, pool: &mut Pool, i: u32) -> (Chain, u32)
         requires place { i < self.old.len }
         requires held { IsHeld pool.old self.old }
@@ -158,8 +155,8 @@ impl Train {
         (Chain::from_number(number), tag)
     }
 
-    /// Takes the chain out that stands after the one at a place of a walk, with its tag. There must be one. This
-    /// takes a number of steps that doesn't depend on the train. The place that was given stays one.
+    /// Removes the chain after the one at a place of a walk, and returns it with its tag. There must be one. This takes
+    /// O(1) steps. The place that was passed stays valid.
     pub fn take_after(&mut self, pool: &mut Pool, at: QueuedPlace) -> (Chain, u32)
         requires place { IsQueuedPlace pool.old self.old at }
         requires more { at.index + 1 < self.old.len }
@@ -183,8 +180,8 @@ impl Train {
         (Chain::from_number(number), tag)
     }
 
-    /// The place of the first chain, where there is one. A walk goes on by `next`, and takes one step for
-    /// each chain.
+    /// Returns the place of the first chain, if there is one. A walk continues with `next`, and takes one step per
+    /// chain.
     pub fn first(&self, pool: &Pool) -> Option<QueuedPlace>
         requires { IsHeld pool.now self.now }
         ensures { MatchOption result (self.now.len ≡ 0) (λ at. (at.index ≡ 0)
@@ -200,7 +197,7 @@ impl Train {
         })
     }
 
-    /// The place after one: none after the last.
+    /// Returns the place after one, or `None` after the last.
     pub fn next(&self, pool: &Pool, at: QueuedPlace) -> Option<QueuedPlace>
         requires held { IsHeld pool.now self.now }
         requires place { IsQueuedPlace pool.now self.now at }
@@ -219,7 +216,7 @@ impl Train {
         }
     }
 
-    /// The tag of the chain at a place of a walk.
+    /// Returns the tag of the chain at a place of a walk.
     pub fn tag_at(&self, pool: &Pool, at: QueuedPlace) -> u32
         requires held { IsHeld pool.now self.now }
         requires place { IsQueuedPlace pool.now self.now at }
@@ -228,7 +225,7 @@ impl Train {
         tag_of(pool, at.number)
     }
 
-    /// How many bytes the chain at a place of a walk has.
+    /// Returns how many bytes the chain at a place of a walk has.
     pub fn len_at(&self, pool: &Pool, at: QueuedPlace) -> u32
         requires held { IsHeld pool.now self.now }
         requires place { IsQueuedPlace pool.now self.now at }
@@ -237,7 +234,7 @@ impl Train {
         len_of(pool, at.number)
     }
 
-    /// The bytes of each mbuf of the chain at a place of a walk, in order, lent without copying.
+    /// Iterates over the mbufs of the chain at a place of a walk, in order: the bytes of each, without copying.
     pub fn pieces_at<'a>(&self, pool: &'a Pool, at: QueuedPlace) -> Pieces<'a>
         requires held { IsHeld pool.now self.now }
         requires place { IsQueuedPlace pool.now self.now at }
@@ -246,7 +243,7 @@ impl Train {
         pieces_of(pool, at.number)
     }
 
-    /// The tag of the chain at a place, which must be below the number of chains.
+    /// Returns the tag of the chain at index `i`, which must be below the number of chains.
     pub fn tag(&self, pool: &Pool, i: u32) -> u32
         requires place { i < self.now.len }
         requires held { IsHeld pool.now self.now }
@@ -255,7 +252,7 @@ impl Train {
         tag_of(pool, self.number(pool, i))
     }
 
-    /// How many bytes the chain at a place has. The place must be below the number of chains.
+    /// Returns how many bytes the chain at index `i` has. The index must be below the number of chains.
     pub fn chain_len(&self, pool: &Pool, i: u32) -> u32
         requires place { i < self.now.len }
         requires held { IsHeld pool.now self.now }
@@ -264,9 +261,9 @@ impl Train {
         len_of(pool, self.number(pool, i))
     }
 
-    /// What each mbuf of the chain at a place says of itself, and its bytes, in order, lent without copying: for a
-    /// drawing of them. `None` exactly if there are no more than `i` chains. It takes a step for each chain in front,
-    /// and none for the last.
+    /// Iterates over the mbufs of the chain at index `i`, in order, for drawing them: the head fields and the bytes of
+    /// each, without copying. Returns `None` exactly if there are no more than `i` chains. It takes one step for each
+    /// chain before it, and none for the last chain.
     pub fn heads<'a>(&self, pool: &'a Pool, i: u32) -> Option<MbufHeads<'a>>
         requires { IsHeld pool.now self.now }
         ensures { result ≡ nth_heads pool.now (numbers pool.now self.now) i }
@@ -277,7 +274,7 @@ impl Train {
         Some(heads_of(pool, self.number(pool, i)))
     }
 
-    /// Ends a train without chains, for which no pool has to be at hand.
+    /// Consumes a train without chains. This needs no pool.
     pub fn end_empty(self)
         requires { self.len ≡ 0 }
     {
@@ -304,7 +301,7 @@ impl Train {
         } = self;
     }
 
-    /// Puts a chain in front of the others.
+    /// Inserts a chain before the others.
     fn insert_first(&mut self, pool: &mut Pool, number: u32, tag: u32)
         requires live { IsLive pool.old number }
         requires headed { (chain_of pool.old number).front.header ≡ true }
@@ -322,7 +319,7 @@ impl Train {
         self.len += 1;
     }
 
-    /// Puts a chain in after another, and answers its place.
+    /// Inserts a chain after another, and returns its place.
     fn insert_next(
         &mut self,
         pool: &mut Pool,
@@ -351,7 +348,7 @@ impl Train {
         }
     }
 
-    /// Takes the first chain out: its number, and its tag.
+    /// Removes the first chain, and returns its number and its tag.
     fn take_first(&mut self, pool: &mut Pool) -> (u32, u32)
         requires some { 0 < self.old.len }
         requires held { IsHeld pool.old self.old }
@@ -366,7 +363,7 @@ impl Train {
         (number, tag)
     }
 
-    /// Takes a chain out after another: its number, and its tag.
+    /// Removes the chain after another, and returns its number and its tag.
     fn take_next(&mut self, pool: &mut Pool, before: QueuedPlace) -> (u32, u32)
         requires before { IsQueuedPlace pool.old self.old before }
         requires more { before.index + 1 < self.old.len }
@@ -388,8 +385,8 @@ impl Train {
         (number, tag)
     }
 
-    /// The number of the chain at a place, which must be below the number of chains. Only the last is known at once; to
-    /// another place this takes a step for each chain in front.
+    /// Returns the number of the chain at index `i`, which must be below the number of chains. The last chain takes
+    /// O(1) steps; any other takes one step for each chain before it.
     fn number(&self, pool: &Pool, i: u32) -> u32
         requires place { i < self.now.len }
         requires held { IsHeld pool.now self.now }
@@ -408,7 +405,7 @@ impl Train {
         at
     }
 
-    /// The number of the first chain, where there is one.
+    /// Returns the number of the first chain, if there is one.
     #[inline(always)]
     fn first_number(&self) -> Option<u32>
         ensures { result ≡ self.now.first }
@@ -421,7 +418,7 @@ impl Train {
     }
 }
 
-/// The number of the chain after one.
+/// Returns the number of the chain after one.
 fn after(pool: &Pool, number: u32) -> Option<u32>
     requires { IsLive pool.now number }
     ensures { result ≡ (chain_of pool.now number).front.after }
@@ -432,7 +429,7 @@ fn after(pool: &Pool, number: u32) -> Option<u32>
     after
 }
 
-/// How many bytes a chain has.
+/// Returns how many bytes a chain has.
 fn len_of(pool: &Pool, number: u32) -> u32
     requires { IsLive pool.now number }
     ensures { result ≡ length (flat_bytes (chain_of pool.now number).entries) }
@@ -443,7 +440,7 @@ fn len_of(pool: &Pool, number: u32) -> u32
     len
 }
 
-/// The bytes of each mbuf of a chain.
+/// Iterates over the bytes of each mbuf of a chain.
 fn pieces_of(pool: &Pool, number: u32) -> Pieces<'_>
     requires { IsLive pool.now number }
     ensures { result ≡ pieces_of (chain_of pool.now number).entries }
@@ -454,7 +451,7 @@ fn pieces_of(pool: &Pool, number: u32) -> Pieces<'_>
     pieces
 }
 
-/// What each mbuf of a chain says of itself, and its bytes.
+/// Iterates over the head fields and the bytes of each mbuf of a chain.
 fn heads_of(pool: &Pool, number: u32) -> MbufHeads<'_>
     requires { IsLive pool.now number }
     ensures { result ≡ heads (chain_of pool.now number) }
@@ -465,7 +462,7 @@ fn heads_of(pool: &Pool, number: u32) -> MbufHeads<'_>
     heads
 }
 
-/// The tag of a chain.
+/// Returns the tag of a chain.
 fn tag_of(pool: &Pool, number: u32) -> u32
     requires { IsLive pool.now number }
     ensures { result ≡ (chain_of pool.now number).front.tag }
@@ -476,7 +473,7 @@ fn tag_of(pool: &Pool, number: u32) -> u32
     tag
 }
 
-/// Puts a chain before another. Its tag stays.
+/// Links a chain before another. Its tag stays.
 fn relink(pool: &mut Pool, number: u32, after: Option<u32>)
     requires live { IsLive pool.old number }
     requires headed { (chain_of pool.old number).front.header ≡ true }
@@ -490,7 +487,7 @@ fn relink(pool: &mut Pool, number: u32, after: Option<u32>)
     let _ = chain.into_number();
 }
 
-/// Puts a chain before another, with a tag.
+/// Links a chain before another, and sets its tag.
 fn place(pool: &mut Pool, number: u32, after: Option<u32>, tag: u32)
     requires live { IsLive pool.old number }
     requires headed { (chain_of pool.old number).front.header ≡ true }

@@ -1,4 +1,4 @@
--- The words of raw_cells that contracts of stores and of those above them use: heads, parts, and a write over a list.
+-- The terms of raw_cells that contracts of stores, and of the crates above, use: heads, parts, and a write over a list.
 pub use Rattle.raw_cells.specs.declared.head.Head.{Head}
 pub use Rattle.raw_cells.specs.declared.head.PacketHeader.{PacketHeader}
 pub use Rattle.raw_cells.specs.declared.part.Part.{Part}

@@ -1,5 +1,5 @@
--- What a contract sees of a store: the mbufs and clusters that are in use (this project's own; mbufs, clusters and
--- their counts are those of TCP/IP Illustrated, volume 2, chapter 2).
+-- What contracts see of a store: the mbufs and clusters that are in use (this project's own; mbufs, clusters and their
+-- counts are those of TCP/IP Illustrated, volume 2, chapter 2).
 use Rattle.std.specs.Prelude.{◌≡◌, ℕ, ◌+◌, ◌-◌, ◌<◌, ◌≤◌, ◌==◌, ◌⊎◌, if◌then◌else◌, Bool, IsTrue, is_some, is_none, unwrap_or, Some, None, Option, List, [], length, map, take, drop, replicate, count_by, slice_index_or, slice_set, slice_get}
 use Rattle.std.specs.List.{range_with_len}
 use Rattle.params.specs.declared.TheConstants.{MSIZE, MCLBYTES, MAX_MBUFS, MAX_CLUSTERS}
@@ -11,23 +11,23 @@ use Rattle.raw_cells.specs.declared.part.Buffer.{Buffer}
 use Rattle.raw_cells.specs.declared.part.Buffer.TheVariants.{Mbuf, Cluster}
 use Rattle.mbuf_pool.specs.declared.sizes.Sizes.{Sizes}
 
--- an mbuf that is handed out: its head, and its 128 bytes, the head's own among them
+-- an mbuf in use: its head, and its 128 bytes, including those of the head
 pub record MbufView : Type 0 where
   pub head : Head
   pub bytes : List ℕ
 
--- a cluster: how many hold it, and its 2048 bytes, which a free one does not show
+-- a cluster: its reference count, and its 2048 bytes, which aren't visible while it is free
 pub record ClusterView : Type 0 where
   pub count : ℕ
   pub bytes : List ℕ
 
--- an mbuf is free where there is nothing, and a cluster where its count is 0
+-- an mbuf is free if its entry is `None`, a cluster if its count is 0
 pub record StoreView : Type 0 where
   pub mbufs : List (Option MbufView)
   pub clusters : List ClusterView
 
 -- ---- one mbuf, one cluster
--- the head of an mbuf that was just handed out
+-- the head of a newly allocated mbuf
 abbrev pub new_head : Head
 new_head = record { next = None; next_packet = None; len = 0; start = 0; kind = 0; packet = None; cluster = None }
 
@@ -37,7 +37,7 @@ no_mbuf = record { head = new_head; bytes = [] }
 abbrev pub free_cluster : ClusterView
 free_cluster = record { count = 0; bytes = [] }
 
--- the mbuf i is handed out
+-- mbuf i is in use
 abbrev pub is_out : StoreView → ℕ → Bool
 is_out s i = is_some (slice_index_or s.mbufs i None)
 
@@ -50,7 +50,7 @@ mbuf_head s i = (mbuf_of s i).head
 abbrev pub cluster_of : StoreView → ℕ → ClusterView
 cluster_of s c = slice_index_or s.clusters c free_cluster
 
--- how many hold the cluster c
+-- the reference count of cluster c
 abbrev pub cluster_count : StoreView → ℕ → ℕ
 cluster_count s c = (cluster_of s c).count
 
@@ -69,27 +69,27 @@ abbrev pub free_clusters : StoreView → ℕ
 free_clusters s = count_by (λ c. c.count == 0) s.clusters
 
 -- ---- changes
--- s with m in place of the mbuf i
+-- s with m as mbuf i
 abbrev pub with_mbuf : StoreView → ℕ → Option MbufView → StoreView
 with_mbuf s i m = record s { mbufs = slice_set s.mbufs i m }
 
--- s with v in place of the cluster c
+-- s with v as cluster c
 abbrev pub with_cluster : StoreView → ℕ → ClusterView → StoreView
 with_cluster s c v = record s { clusters = slice_set s.clusters c v }
 
--- one more holds the cluster
+-- the cluster has one more reference
 abbrev pub held_once_more : ClusterView → ClusterView
 held_once_more v = record v { count = v.count + 1 }
 
--- one less does
+-- the cluster has one reference less
 abbrev pub released : ClusterView → ClusterView
 released v = if v.count == 1 then free_cluster else record v { count = v.count - 1 }
 
--- a store as it is booted: all is free
+-- a store after boot: everything is free
 abbrev pub free_store : Sizes → StoreView
 free_store z = record { mbufs = replicate z.mbufs None; clusters = replicate z.clusters free_cluster }
 
--- the mbuf i was free and is handed out, with this head; what its other bytes are is not said
+-- mbuf i was free and is now in use, with this head; its other bytes are unspecified
 pub record TakesWith (old new : StoreView) (i : ℕ) (h : Head) : Type 0 where
   pub was_free : slice_get old.mbufs i ≡ Some None
   pub bytes : List ℕ
@@ -100,15 +100,14 @@ pub record TakesWith (old new : StoreView) (i : ℕ) (h : Head) : Type 0 where
 abbrev pub TakesMbuf : StoreView → StoreView → ℕ → Type 0
 TakesMbuf old new i = TakesWith old new i new_head
 
--- the cluster c was free and has the count 1; what its bytes are is not said
+-- cluster c was free and now has the count 1; its bytes are unspecified
 pub record TakesCluster (old new : StoreView) (c : ℕ) : Type 0 where
   pub was_free : slice_get old.clusters c ≡ Some free_cluster
   pub bytes : List ℕ
   pub long : length bytes ≡ MCLBYTES
   pub change : new ≡ with_cluster old c (record { count = 1; bytes = bytes })
 
--- the mbuf i has a new head, which takes some bytes of its own at the beginning of the mbuf; its other bytes are as
--- they were
+-- mbuf i has a new head, which takes some bytes at the beginning of the mbuf; its other bytes are unchanged
 abbrev pub SetsHead : StoreView → StoreView → ℕ → Head → Type 0
 SetsHead old new i h =
     (b : List ℕ) × (length b ≡ head_size h)
@@ -124,7 +123,7 @@ abbrev pub with_bytes : StoreView → Buffer → List ℕ → StoreView
 with_bytes s (Mbuf i) bs = with_mbuf s i (Some (record { head = mbuf_head s i; bytes = bs }))
 with_bytes s (Cluster c) bs = with_cluster s c (record { count = cluster_count s c; bytes = bs })
 
--- the n bytes from `at` on lie in a cluster in use, or after the head of an mbuf in use that refers to no cluster
+-- the n bytes from offset `at` are in a cluster in use, or after the head of an mbuf in use that refers to no cluster
 abbrev pub IsRoom : StoreView → Buffer → ℕ → ℕ → Type 0
 IsRoom s (Mbuf i) at n =
     IsTrue (is_out s i) × ((mbuf_head s i).cluster ≡ None) × (head_size (mbuf_head s i) ≤ at) × (at + n ≤ MSIZE)
@@ -137,7 +136,7 @@ IsPart s p = IsRoom s p.buffer p.start p.len
 abbrev pub stored_part : StoreView → Part → List ℕ
 stored_part s p = take p.len (drop p.start (bytes_in s p.buffer))
 
--- s with ws as the bytes of a part. What would not fit is cut
+-- s with ws as the bytes of a part. Bytes of ws that don't fit are dropped
 abbrev pub write : StoreView → Part → List ℕ → StoreView
 write s p ws = with_bytes s p.buffer (over (bytes_in s p.buffer) p.start (take p.len ws))
 
@@ -149,6 +148,6 @@ pub record IsStore (s : StoreView) : Type 0 where
   pub cluster_bytes : (c : ℕ) → 0 < cluster_count s c → length (cluster_of s c).bytes ≡ MCLBYTES
 
 -- ---- sizes
--- a store is not made of so many
+-- a store can't have these sizes
 abbrev pub IsBad : Sizes → Type 0
 IsBad z = (z.mbufs ≡ 0) ⊎ (MAX_MBUFS < z.mbufs) ⊎ (MAX_CLUSTERS < z.clusters)

@@ -1,10 +1,10 @@
-//! The counts of a store's clusters.
+//! The reference counts of a store's clusters.
 
-/// The counts of all clusters of a store, as one sum and the greatest of them.
+/// The reference counts of all clusters of a store: their sum and the greatest of them.
 #[derive(Clone, Copy, Debug, PartialEq, Eq)]
 pub struct Counts {
-    /// All counts added up: how often a cluster is held.
+    /// The sum of all counts: the number of references to clusters.
     pub sum: u32,
-    /// The greatest count, 0 to 65,535; 0 where there is no cluster.
+    /// The greatest count, 0 to 65,535; 0 if there is no cluster.
     pub greatest: u32,
 }

@@ -1,18 +1,18 @@
-//! Refusals.
+//! Errors.
 use thiserror::Error;
 
-/// Want of a buffer: no mbuf, or no cluster, is free.
+/// No mbuf, or no cluster, is free.
 #[derive(Clone, Copy, Debug, PartialEq, Eq, Error)]
 #[error("no buffers")]
 pub struct NoBufs;
 
-/// Why a store was not booted.
+/// Why a store could not be booted.
 #[derive(Clone, Copy, Debug, PartialEq, Eq, Error)]
 pub enum BootFault {
-    /// Host memory was asked for and refused.
+    /// The host refused an allocation.
     #[error("no memory")]
     Memory,
-    /// The sizes are not those of a store.
+    /// The sizes are out of range for a store.
     #[error("bad sizes")]
     BadSizes,
 }

@@ -1,9 +1,8 @@
-//! The pool of mbufs and clusters: which of them are free, and how many hold each cluster.
+//! The pool of mbufs and clusters: which of them are free, and how many references each cluster has.
 //!
-//! A [`Store`] owns one region of raw memory. It hands mbufs and clusters out by their numbers, and
-//! takes them back. Free mbufs are linked by their `next`, free clusters by their first four bytes, so
-//! that each call but `boot` and `counts` takes the same few steps however large the pool is. After
-//! `boot` no memory is asked for.
+//! A [`Store`] owns one region of raw memory. It hands out mbufs and clusters by number, and takes them back. Free
+//! mbufs are linked by their `next`, free clusters by their first four bytes. So every call except `boot` and `counts`
+//! takes O(1) steps, however large the pool is. Nothing is allocated after `boot`.
 #![tactic(auto)]
 
 mod counts;

@@ -1,4 +1,4 @@
-//! Links to free buffers: the first one of a list, and from one free cluster to the next.
+//! Links between free buffers: the head of a free list, and the link from one free cluster to the next.
 ghost use Rattle.std.specs.Prelude.{◌≡◌, ◌<◌, length};
 ghost use Rattle.raw_cells.specs.Cells.{IsLink, read, cells_written};
 ghost use Rattle.mbuf_pool.specs.Inside.Link.{link_in, link_bytes, link_part};
@@ -7,11 +7,11 @@ use byteorder::{ByteOrder, LittleEndian};
 use raw_cells::{Buffer, Part, Region};
 use std::marker::Model;
 
-/// In place of a number, that there is no further buffer.
+/// The stored number that means "no further buffer".
 const NONE: u32 = 0xffff_ffff;
 
-/// The first buffer of a list, or none. It is one word, as a link in memory is: an option would be two, and
-/// each call would test and write both.
+/// The first buffer of a list, or none. It is one word, like a link in memory. An option would take two words, and each
+/// call would test and write both.
 #[derive(Drop)]
 pub(crate) struct First {
     number: u32,
@@ -57,7 +57,7 @@ fn part_of(cluster: u32) -> Part
     }
 }
 
-/// The cluster after a free one.
+/// Returns the cluster after a free one.
 pub(crate) fn next_cluster(region: &Region, cluster: u32) -> Option<u32>
     requires { cluster < region.now.clusters }
     ensures value { result ≡ link_in (read region.now (link_part cluster)) }

@@ -1,10 +1,10 @@
-//! How large a store is.
+//! The size of a store.
 
-/// How many mbufs and clusters a store has.
+/// The numbers of mbufs and clusters in a store.
 #[derive(Clone, Copy, Debug, PartialEq, Eq)]
 pub struct Sizes {
-    /// The mbufs, 1 to 65,535.
+    /// The number of mbufs, 1 to 65,535.
     pub mbufs: u32,
-    /// The clusters, 0 to 4,096.
+    /// The number of clusters, 0 to 4,096.
     pub clusters: u32,
 }

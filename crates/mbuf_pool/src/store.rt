@@ -14,10 +14,10 @@ use raw_cells::{Head, Part, Region};
 use std::alloc::{AllocError, Global};
 use std::marker::Model;
 
-/// The count of a cluster that no one holds.
+/// The reference count of a free cluster.
 const FREE: u16 = 0;
 
-/// The head of an mbuf that is just handed out.
+/// The head of a newly allocated mbuf.
 const NEW_HEAD: Head = Head {
     next: None,
     next_packet: None,
@@ -28,11 +28,11 @@ const NEW_HEAD: Head = Head {
     cluster: None,
 };
 
-/// A pool of mbufs and clusters, as 4.4BSD has them (TCP/IP Illustrated, volume 2, chapter 2).
+/// A pool of mbufs and clusters, as in 4.4BSD (TCP/IP Illustrated, volume 2, chapter 2).
 ///
-/// A contract sees it as a `StoreView`: for each mbuf nothing where it is free, else its head and
-/// bytes; for each cluster how many hold it, 0 where it is free, and its bytes. Which free one comes
-/// next, and what free ones hold, is not said.
+/// Contracts see it as a `StoreView`: for each mbuf, nothing if it is free, otherwise its head and bytes; for each
+/// cluster, its reference count, 0 if it is free, and its bytes. The contracts don't say which free buffer is handed
+/// out next, or what free buffers contain.
 #[derive(Drop)]
 pub struct Store {
     region: Region,
@@ -59,9 +59,12 @@ impl Model for Store {
 impl Store {
     ghost use Rattle.mbuf_pool.specs.Lending.{LendsPart};
 
-    /// A store of which all is free. `BadSizes`, which is tested first, says that there are not 1 to
-    /// 65,535 mbufs, or more than 4,096 clusters. `Memory` says that one of the two requests for
-    /// memory was refused; nothing is left behind.
+    /// Creates a store in which everything is free.
+    ///
+    /// # Errors
+    ///
+    /// `BadSizes`, which is tested first, if there are not 1 to 65,535 mbufs, or more than 4,096 clusters. `Memory` if
+    /// one of the two allocations fails; nothing stays allocated then.
     pub fn boot(alloc: Global, sizes: Sizes) -> Result<Store, BootFault>
         ensures ok { IfOk result (λ s. s ≡ free_store sizes) }
         ensures bad { (result ≡ Err BootFault.BadSizes) ↔ IsBad sizes }
@@ -81,7 +84,7 @@ impl Store {
         Ok(store)
     }
 
-    /// A store of which everything is handed out, each cluster to one holder.
+    /// Creates a store in which everything is handed out, each cluster with one reference.
     fn all_out(alloc: Global, sizes: Sizes) -> Result<Store, AllocError>
         requires mbufs { (0 < sizes.mbufs) × (sizes.mbufs ≤ MAX_MBUFS) }
         requires clusters { sizes.clusters ≤ MAX_CLUSTERS }
@@ -100,9 +103,9 @@ impl Store {
         })
     }
 
-    /// An mbuf that was free, by its number. Its head has no link, no packet header and no cluster,
-    /// and 0 in every other field. What its other bytes hold is not said. `NoBufs` comes exactly where
-    /// no mbuf is free, and changes nothing.
+    /// Takes a free mbuf and returns its number. Its head has no link, no packet header and no cluster, and every other
+    /// field is 0. The contents of its other bytes are unspecified. Returns `NoBufs` exactly if no mbuf is free;
+    /// nothing changes then.
     pub fn get(&mut self) -> Result<u32, NoBufs>
         ensures ok { IfOk result (λ i. TakesMbuf self.old self.new i) }
         ensures err { OnErr result (free_mbufs self.old ≡ 0) }
@@ -112,9 +115,9 @@ impl Store {
         self.get_with(NEW_HEAD)
     }
 
-    /// An mbuf that was free, by its number, with the head `given`, whose links must be below 0xffff_ffff. What its
-    /// other bytes hold is not said. `NoBufs` comes exactly where no mbuf is free, and changes nothing.
-    // Inlined, so that a head of which a caller knows the fields is a few stores.
+    /// Takes a free mbuf and returns its number. Its head is `given`, whose links must be below 0xffff_ffff. The
+    /// contents of its other bytes are unspecified. Returns `NoBufs` exactly if no mbuf is free; nothing changes then.
+    // Inlined, so that a head whose fields the caller knows takes only a few stores.
     #[inline(always)]
     pub fn get_with(&mut self, given: Head) -> Result<u32, NoBufs>
         requires { IsHead given }
@@ -132,7 +135,7 @@ impl Store {
         Ok(index)
     }
 
-    /// Takes an mbuf back. It must be handed out.
+    /// Frees an mbuf, which must be in use.
     pub fn put(&mut self, index: u32)
         requires { IsTrue (is_out self.old index) }
         ensures change { self.new ≡ with_mbuf self.old index None }
@@ -143,8 +146,8 @@ impl Store {
         self.free_mbufs += 1;
     }
 
-    /// A cluster that was free, by its number, with the count 1. What its bytes hold is not said.
-    /// `NoBufs` comes exactly where no cluster is free, and changes nothing.
+    /// Takes a free cluster and returns its number. Its reference count is 1. The contents of its bytes are
+    /// unspecified. Returns `NoBufs` exactly if no cluster is free; nothing changes then.
     pub fn get_cluster(&mut self) -> Result<u32, NoBufs>
         ensures ok { IfOk result (λ c. TakesCluster self.old self.new c) }
         ensures err { OnErr result (free_clusters self.old ≡ 0) }
@@ -160,7 +163,7 @@ impl Store {
         Ok(cluster)
     }
 
-    /// Counts one more that holds a cluster. It must be counted 1 to 65,534.
+    /// Adds a reference to a cluster. Its count must be 1 to 65,534.
     pub fn hold(&mut self, cluster: u32)
         requires counted { 0 < cluster_count self.old cluster }
         requires below { cluster_count self.old cluster < 65535 }
@@ -170,9 +173,9 @@ impl Store {
         self.counts[cluster as usize] += 1;
     }
 
-    /// Counts one less that holds a cluster, which must be counted above 0. At 0 the cluster is free.
+    /// Removes a reference from a cluster, whose count must be above 0. At 0 the cluster is free.
     ///
-    /// By example: three calls take a count along `3->2->1->0`.
+    /// For example, three calls change a count as `3->2->1->0`.
     pub fn release(&mut self, cluster: u32)
         requires { 0 < cluster_count self.old cluster }
         ensures change { self.new ≡ with_cluster self.old cluster (released (cluster_of self.old cluster)) }
@@ -187,14 +190,14 @@ impl Store {
         }
     }
 
-    /// What always holds of a store. It takes no step.
+    /// States what is always true of a store. It takes no step at run time.
     pub const fn laws(&self)
         ensures { IsStore self.now }
     {
         let _ = &self.region;
     }
 
-    /// How many mbufs there are, 1 to 65,535.
+    /// Returns the number of mbufs, 1 to 65,535.
     pub fn mbufs(&self) -> u32
         ensures value { result ≡ length self.now.mbufs }
         ensures store { IsStore self.now }
@@ -202,7 +205,7 @@ impl Store {
         self.mbufs
     }
 
-    /// How many clusters there are, at most 4,096.
+    /// Returns the number of clusters, at most 4,096.
     pub fn clusters(&self) -> u32
         ensures value { result ≡ length self.now.clusters }
         ensures store { IsStore self.now }
@@ -210,7 +213,7 @@ impl Store {
         self.counts.len() as u32
     }
 
-    /// How many mbufs are free.
+    /// Returns the number of free mbufs.
     pub fn free_mbufs(&self) -> u32
         ensures value { result ≡ free_mbufs self.now }
         ensures rest { result + mbufs_out self.now ≡ length self.now.mbufs }
@@ -218,14 +221,15 @@ impl Store {
         self.free_mbufs
     }
 
-    /// How many clusters are free.
+    /// Returns the number of free clusters.
     pub fn free_clusters(&self) -> u32
         ensures { result ≡ free_clusters self.now }
     {
         self.free_clusters
     }
 
-    /// How many hold a cluster, 0 to 65,535; 0 exactly where it is free. There must be such a cluster.
+    /// Returns the reference count of a cluster, 0 to 65,535; it is 0 exactly if the cluster is free. There must be
+    /// such a cluster.
     pub fn count(&self, cluster: u32) -> u32
         requires { cluster < length self.now.clusters }
         ensures value { result ≡ cluster_count self.now cluster }
@@ -234,7 +238,7 @@ impl Store {
         u32::from(self.counts[cluster as usize])
     }
 
-    /// The counts of all clusters. It takes one step for each.
+    /// Returns the sum and the greatest of the clusters' counts. It takes one step per cluster.
     pub fn counts(&self) -> Counts
         ensures sum { result.sum ≡ sum (counts_of self.now) }
         ensures greatest { result.greatest ≡ fold max 0 (counts_of self.now) }
@@ -251,7 +255,7 @@ impl Store {
         Counts { sum, greatest }
     }
 
-    /// The head of an mbuf. It must be handed out.
+    /// Returns the head of an mbuf, which must be in use.
     // Inlined, so that a caller reads only the fields that it uses.
     #[inline(always)]
     pub fn head(&self, index: u32) -> Head
@@ -262,9 +266,8 @@ impl Store {
         self.region.head(index)
     }
 
-    /// Makes `head` the head of an mbuf, which must be handed out. A link must be below 0xffff_ffff.
-    /// It writes the first 20 bytes of the mbuf, 28 where the head has a packet header, 32 where it
-    /// has a cluster, and leaves all other bytes.
+    /// Sets the head of an mbuf, which must be in use. The links must be below 0xffff_ffff. This writes the first 20
+    /// bytes of the mbuf, 28 if the head has a packet header, 32 if it has a cluster. All other bytes stay as they are.
     #[inline(always)]
     pub fn set_head(&mut self, index: u32, head: Head)
         requires out { IsTrue (is_out self.old index) }
@@ -275,8 +278,8 @@ impl Store {
         self.region.set_head(index, head);
     }
 
-    /// Makes `next` the link of an mbuf, which must be handed out, and leaves all else of its head. A link must be
-    /// below 0xffff_ffff.
+    /// Sets the `next` link of an mbuf, which must be in use. The rest of its head stays as it is. A link must be below
+    /// 0xffff_ffff.
     pub fn set_next(&mut self, index: u32, next: Option<u32>)
         requires out { IsTrue (is_out self.old index) }
         requires link { IsLink next }
@@ -286,8 +289,8 @@ impl Store {
         self.region.set_next(index, next);
     }
 
-    /// Makes `next_packet` the link to the next packet of an mbuf, which must be handed out, and leaves all else of
-    /// its head. A link must be below 0xffff_ffff.
+    /// Sets the link to the next packet of an mbuf, which must be in use. The rest of its head stays as it is. A link
+    /// must be below 0xffff_ffff.
     pub fn set_next_packet(&mut self, index: u32, next_packet: Option<u32>)
         requires out { IsTrue (is_out self.old index) }
         requires link { IsLink next_packet }
@@ -298,8 +301,8 @@ impl Store {
         self.region.set_next_packet(index, next_packet);
     }
 
-    /// Lets the data of an mbuf, which must be handed out, be the `len` bytes from `start` on, and leaves all else of
-    /// its head.
+    /// Makes the `len` bytes from offset `start` the data of an mbuf, which must be in use. The rest of its head stays
+    /// as it is.
     #[inline(always)]
     pub fn set_data(&mut self, index: u32, start: u32, len: u32)
         requires { IsTrue (is_out self.old index) }
@@ -310,8 +313,8 @@ impl Store {
         self.region.set_data(index, start, len);
     }
 
-    /// Makes `len` the packet length of an mbuf, which must be handed out and have a packet header, and leaves all
-    /// else of its head.
+    /// Sets the packet length of an mbuf, which must be in use and have a packet header. The rest of its head stays as
+    /// it is.
     #[inline(always)]
     pub fn set_packet_len(&mut self, index: u32, len: u32)
         requires out { IsTrue (is_out self.old index) }
@@ -322,8 +325,8 @@ impl Store {
         self.region.set_packet_len(index, len);
     }
 
-    /// Makes `arrival` the number kept beside the packet of an mbuf, which must be handed out and have a packet
-    /// header, and leaves all else of its head.
+    /// Sets the number stored with the packet of an mbuf, which must be in use and have a packet header. The rest of
+    /// its head stays as it is.
     pub fn set_arrival(&mut self, index: u32, arrival: u32)
         requires out { IsTrue (is_out self.old index) }
         requires packet { IsSome (mbuf_head self.old index).packet }
@@ -333,8 +336,8 @@ impl Store {
         self.region.set_arrival(index, arrival);
     }
 
-    /// Takes the packet header from an mbuf, which must be handed out, and leaves all else of its head. The bytes
-    /// that it had belong to the room then, as they are.
+    /// Removes the packet header from an mbuf, which must be in use. The rest of its head stays as it is. The bytes of
+    /// the packet header become part of the data area, with their contents unchanged.
     pub fn drop_packet(&mut self, index: u32)
         requires { IsTrue (is_out self.old index) }
         ensures change { SetsHead self.old self.new index (record (mbuf_head self.old index) { packet = None }) }
@@ -343,8 +346,8 @@ impl Store {
         self.region.drop_packet(index);
     }
 
-    /// The bytes of a part, without copying. The part must lie in a cluster that is counted above 0,
-    /// or after the head of an mbuf that is handed out and refers to no cluster.
+    /// Returns the bytes of a part, without copying. The part must lie in a cluster whose count is above 0, or after
+    /// the head of an mbuf that is in use and refers to no cluster.
     #[inline(always)]
     pub fn bytes(&self, part: Part) -> &[u8]
         requires { IsPart self.now part }
@@ -354,9 +357,9 @@ impl Store {
         self.region.bytes(part)
     }
 
-    /// The bytes of a part, as of `bytes`, to write to. What stands in them at the end is written, and
-    /// nothing else.
-    // Inlined, so that a caller that knows the length writes by stores.
+    /// Returns the bytes of a part, mutable. The conditions are those of `bytes`. When the borrow ends, the part has
+    /// the bytes written, and nothing outside the part has changed.
+    // Inlined, so that a caller that knows the length compiles to stores.
     #[inline(always)]
     pub fn bytes_mut(&mut self, part: Part) -> &mut [u8]
         requires { IsPart self.old part }
@@ -368,7 +371,8 @@ impl Store {
         self.region.bytes_mut(part)
     }
 
-    /// Copies the bytes of `from` over those of `to`, which must be as long; both as of `bytes`.
+    /// Copies the bytes of `from` over those of `to`, which must have the same length. The conditions of `bytes` apply
+    /// to both.
     pub fn copy(&mut self, from: Part, to: Part)
         requires from { IsPart self.old from }
         requires to { IsPart self.old to }

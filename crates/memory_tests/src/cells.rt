@@ -1,4 +1,4 @@
-//! What no clause says: that memory can be had, and that each call does its work once on real memory.
+//! What no contract says: that memory can be allocated, and that each call does its work once on real memory.
 ghost use Rattle.std.specs.Prelude.{◌≡◌, ◌+◌, ◌<◌, ◌≤◌};
 ghost use Rattle.raw_cells.specs.Cells.{IsHead, IsCellPart, zero_cells};
 
@@ -7,7 +7,7 @@ use raw_cells::{Buffer, Head, PacketHeader, Part, Region};
 use std::alloc::Global;
 use std::process::Abort;
 
-/// What 128 bytes of zeros say as a head.
+/// The head that 128 zero bytes encode.
 const ZEROS: Head = Head {
     next: Some(0),
     next_packet: Some(0),
@@ -29,7 +29,7 @@ const PLAIN: Head = Head {
     cluster: None,
 };
 
-/// A region of which every byte is 0.
+/// Creates a region in which every byte is 0.
 fn made(rt: &impl Abort, alloc: Global, mbufs: u32, clusters: u32) -> Region
     requires mbufs { (0 < mbufs) × (mbufs ≤ MAX_MBUFS) }
     requires clusters { clusters ≤ MAX_CLUSTERS }
@@ -44,7 +44,7 @@ fn part(buffer: Buffer, start: u32, len: u32) -> Part
     Part { buffer, start, len }
 }
 
-/// The head of the last mbuf of a region of that size, once `head` was set there.
+/// Returns the head of the last mbuf of a region of that size after `head` was set there.
 fn head_of_last(rt: &impl Abort, alloc: Global, mbufs: u32, clusters: u32, head: Head) -> Head
     requires sizes { (0 < mbufs) × (mbufs ≤ MAX_MBUFS) × (clusters ≤ MAX_CLUSTERS) }
     requires links { IsHead head }
@@ -63,7 +63,7 @@ const FIRST: Head = Head {
     ..PLAIN
 };
 
-/// One that refers to a cluster besides.
+/// An mbuf that also refers to a cluster.
 const CLUSTER: Head = Head {
     next: None,
     next_packet: Some(0xffff_fffe),
@@ -71,7 +71,7 @@ const CLUSTER: Head = Head {
     ..FIRST
 };
 
-/// One that refers to a cluster, and has no packet header.
+/// An mbuf that refers to a cluster, and has no packet header.
 const AFTER: Head = Head {
     packet: None,
     ..CLUSTER
@@ -91,7 +91,7 @@ fn each_form_of_head_is_read_back_from_the_largest_region(rt: HostRuntime) {
     }
 }
 
-/// Whether all bytes of a part are this one.
+/// Returns whether all bytes of a part have this value.
 fn is_all(region: &Region, part: Part, byte: u8) -> bool
     requires { IsCellPart region.now part }
 {
@@ -154,7 +154,7 @@ fn a_copy_between_parts_that_share_bytes(rt: HostRuntime) {
     assert!(rt; region.bytes(part(Buffer::Cluster(1), 100, 32)) == both);
 }
 
-/// Whether the last mbuf and the last cluster of a region of that size hold what was written to them.
+/// Returns whether the last mbuf and the last cluster of a region of that size hold the bytes written to them.
 fn last_ones_hold_bytes(rt: &impl Abort, alloc: Global, mbufs: u32, clusters: u32) -> bool
     requires sizes { (0 < mbufs) × (mbufs ≤ MAX_MBUFS) × (0 < clusters) × (clusters ≤ MAX_CLUSTERS) }
 {
@@ -208,7 +208,7 @@ const SHARED: Head = Head {
     ..PACKET
 };
 
-/// It once its fields are written, one after another; its links go last.
+/// The same mbuf after its fields were written, one after another; its links are written last.
 const LINKED: Head = Head {
     next: Some(0xffff_fffe),
     ..SHARED
@@ -263,7 +263,7 @@ fn a_packet_header_is_changed(rt: HostRuntime) {
     assert!(rt; [region.head(0), region.head(1), region.head(2)] == [ZEROS, changed, ZEROS]);
 }
 
-/// The packet header's 8 bytes, low bytes first, are room then.
+/// The packet header's 8 bytes, low bytes first, become part of the data area.
 #[test]
 fn a_packet_header_is_dropped(rt: HostRuntime) {
     let mut region = made(&rt, rt.alloc(), 3, 1);

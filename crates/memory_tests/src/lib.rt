@@ -1,5 +1,5 @@
-//! Tests of cells, the pool of mbufs, and chains, over the contracts of their crates alone: so they're checked apart
-//! from these, and these aren't checked twice.
+//! Tests of cells, the pool of mbufs, and chains, over only the contracts of their crates. So they are checked
+//! separately from those crates, which aren't checked twice.
 #![tactic(auto)]
 
 #[cfg(test)]

@@ -6,7 +6,7 @@ use mbuf_pool::{BootFault, Buffer, Head, NoBufs, PacketHeader, Part, Sizes, Stor
 use std::alloc::Global;
 use std::process::Abort;
 
-/// A pool of which everything is free.
+/// Creates a pool in which everything is free.
 fn booted(rt: &impl Abort, alloc: Global, mbufs: u32, clusters: u32) -> Store
     ensures { result ≡ free_store (record { mbufs = mbufs; clusters = clusters }) }
 {
@@ -25,7 +25,7 @@ fn got_cluster(rt: &impl Abort, store: &mut Store) -> u32
     store.get_cluster().expect(rt, "a cluster")
 }
 
-/// How many mbufs there are and are free, and how many clusters.
+/// Returns the numbers of mbufs and free mbufs, and of clusters and free clusters.
 fn told(store: &Store) -> [u32; 4] {
     [
         store.mbufs(),
@@ -112,7 +112,7 @@ const GIVEN: Head = Head {
     cluster: None,
 };
 
-/// The same once each of its fields was written.
+/// The same after each of its fields was written.
 const CHANGED: Head = Head {
     next: Some(1),
     next_packet: Some(0),
@@ -144,7 +144,7 @@ fn fields_of_a_head(rt: HostRuntime) {
     assert!(rt; [given, changed, store.head(index)] == [GIVEN, CHANGED, without]);
 }
 
-/// Puts all mbufs back, in the order of their numbers.
+/// Frees all mbufs, in the order of their numbers.
 fn put_all(store: &mut Store, mbufs: u32)
     requires out { free_mbufs store.old ≡ 0 }
     requires mbufs { mbufs ≤ length store.old.mbufs }
@@ -164,7 +164,7 @@ fn release_all(store: &mut Store, clusters: u32)
     }
 }
 
-/// Notes a number, which may not have come before.
+/// Records a number, which may not have occurred before.
 fn note(rt: &impl Abort, seen: &mut [bool], number: u32) {
     let place = number as usize;
     assert!(rt; place < seen.len());
@@ -172,7 +172,7 @@ fn note(rt: &impl Abort, seen: &mut [bool], number: u32) {
     seen[place] = true;
 }
 
-/// Takes every mbuf of the store: each has a number of its own.
+/// Allocates every mbuf of the store: each has a different number.
 fn take_all(rt: &impl Abort, store: &mut Store, seen: &mut [bool]) {
     for _ in 0..store.mbufs() {
         let index = store.get();
@@ -181,7 +181,7 @@ fn take_all(rt: &impl Abort, store: &mut Store, seen: &mut [bool]) {
     assert!(rt; store.get() == Err(NoBufs));
 }
 
-/// Takes every cluster of the store.
+/// Allocates every cluster of the store.
 fn take_all_clusters(rt: &impl Abort, store: &mut Store, seen: &mut [bool]) {
     for _ in 0..store.clusters() {
         let cluster = store.get_cluster();
@@ -194,7 +194,7 @@ fn unseen(rt: &impl Abort, alloc: Global, len: u32) -> Vec<bool> {
     vec![in alloc; false; len as usize].expect(rt, "memory")
 }
 
-/// Takes all of the store and puts it back.
+/// Allocates everything in the store and frees it.
 fn empty_and_fill(rt: &impl Abort, alloc: Global, store: &mut Store) {
     let [mbufs, _, clusters, _] = told(store);
     take_all(rt, store, &mut unseen(rt, alloc, mbufs));
@@ -214,7 +214,7 @@ fn largest_pool(rt: HostRuntime) {
     }
 }
 
-/// Also where the first boot, or the second, is refused its memory.
+/// This also holds if the first or the second allocation of boot fails.
 #[test]
 fn boots_after_a_refusal(rt: HostRuntime) {
     let sizes = Sizes {

@@ -1,7 +1,7 @@
-//! A reader and a writer that count their calls, and take no memory.
+//! A reader and a writer that count their calls, and allocate no memory.
 use std::io::{self, Read, Write};
 
-/// Gives its bytes, and counts how often it's asked.
+/// Yields its bytes, and counts its calls.
 #[derive(Drop)]
 pub struct Counted<'a> {
     left: &'a [u8],
@@ -9,7 +9,7 @@ pub struct Counted<'a> {
 }
 
 impl Counted<'_> {
-    /// Gives these bytes, and hasn't been asked yet.
+    /// Yields these bytes; it hasn't been called yet.
     pub fn new(bytes: &[u8]) -> Counted<'_> {
         Counted {
             left: bytes,
@@ -28,7 +28,7 @@ impl Read for Counted<'_> {
 /// The most bytes that are kept.
 const ROOM: usize = 64;
 
-/// Keeps what is written, up to its room, and counts how often it's asked.
+/// Keeps the bytes that are written, up to its capacity, and counts its calls.
 #[derive(Drop)]
 pub struct Page {
     bytes: [u8; ROOM],
@@ -37,7 +37,7 @@ pub struct Page {
 }
 
 impl Page {
-    /// Nothing is written, and it hasn't been asked yet.
+    /// Nothing has been written, and it hasn't been called yet.
     pub fn new() -> Page {
         Page {
             bytes: [0; ROOM],
@@ -46,7 +46,7 @@ impl Page {
         }
     }
 
-    /// What was written.
+    /// Returns the bytes that were written.
     pub fn text(&self) -> &[u8] {
         match self.bytes.get(..self.len) {
             Some(text) => text,

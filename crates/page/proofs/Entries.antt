@@ -1,9 +1,9 @@
 -- Records of a capture, one more each time.
 use Rattle.std.proofs.Common.{◌≡◌, ℕ, ◌+◌, ◌++◌, List, [], ◌∷◌, Some, None, Ok, Err, refl, sym, ap, subst, ◌∙◌, append_assoc, append-nil, arith}
 use Rattle.std.proofs.lemmas.List.{length-append}
-use Rattle.capture_file.specs.Places.{Reading, Steps}
-use Rattle.capture_file.specs.declared.records.Record.{Record}
-use Rattle.capture_file.specs.declared.fault.Fault.{Fault}
+use Rattle.capture.specs.Places.{Reading, Steps}
+use Rattle.capture.specs.declared.records.Record.{Record}
+use Rattle.capture.specs.declared.fault.Fault.{Fault}
 use Rattle.page.specs.Recorded.{CapturedRecord, ReadsRecords, ReadsAll, SoFar, record_told, records_told}
 
 pub none : (old : Reading) (text : List ℕ) → SoFar old text old text 0

@@ -1,5 +1,5 @@
--- What a page is told of a packet's headers (RFC 791, section 3.1; RFC 768). The numbers are those at their places, and
--- the right checksums are those of play_why.
+-- The headers of a packet as the page gets them (RFC 791, section 3.1; RFC 768). The numbers are those of the fields,
+-- and the right checksums are those of play_why.
 use Rattle.std.specs.Prelude.{◌≡◌, ◌⊎◌, ◌*◌, ◌/◌, ◌%◌, ℕ, List, length, drop, nat_lt, if◌then◌else◌, slice_index, Err}
 use Rattle.flat_model.specs.Packets.Header.{u16_at, u32_at}
 use Rattle.page.specs.Told.{outcome_number}
@@ -32,7 +32,7 @@ no_header = record {
   pseudo_sum = 0;
 }
 
--- of a packet of 20 bytes or more
+-- for a packet of 20 bytes or more
 abbrev pub ip_told : List ℕ → PageHeader
 ip_told p = record no_header {
   parts = 1;
@@ -51,7 +51,7 @@ ip_told p = record no_header {
   destination = u32_at 16 p;
 }
 
--- of a packet of 28 bytes or more, whose datagram stands behind 20
+-- for a packet of 28 bytes or more, whose datagram begins after 20
 abbrev pub udp_told : List ℕ → PageHeader
 udp_told p = record (ip_told p) {
   parts = 2;
@@ -69,7 +69,7 @@ header_told p =
     else if nat_lt (length p) IP_UDP_HEADERS then ip_told p
     else udp_told p
 
--- The packet's headers were read. Or there was no memory, and nothing was written.
+-- The packet's headers were decoded; or memory was lacking, and nothing was written.
 abbrev pub Headed : List ℕ → ℕ → PageHeader → PageHeader → Type 0
 Headed packet answer before after =
     ((answer ≡ 0) × (after ≡ header_told packet)) ⊎ ((answer ≡ outcome_number (Err Memory)) × (after ≡ before))

@@ -1,4 +1,4 @@
--- What a page is told of the answers of a hand-in (this project's own).
+-- The marks of a hand-in as the page gets them (this project's own).
 use Rattle.std.specs.Prelude.{◌≡◌, ◌⊎◌, ℕ, List, Option, Some, None, Err}
 use Rattle.page.specs.Told.{outcome_number}
 use Rattle.page.specs.declared.marks.PageMarks.{PageMarks}
@@ -6,7 +6,7 @@ use Rattle.play_grade.specs.Grades.{marks_by}
 use Rattle.play_grade.specs.declared.marks.Marks.{Marks}
 use Rattle.script_loop.specs.declared.fault.RunFault.TheVariants.{Memory}
 
--- a line's number, counted from 1; 0 is none
+-- a line's number, counted from 1; 0 means none
 abbrev pub line_told : Option ℕ → ℕ
 line_told None = 0
 line_told (Some number) = number
@@ -14,7 +14,7 @@ line_told (Some number) = number
 abbrev pub marks_told : Marks → PageMarks
 marks_told m = record { right = m.right; wrong = m.wrong; missing = m.missing; first = line_told m.first }
 
--- The hand-in's answers were marked by the key. Or there was no memory, and nothing was written.
+-- The hand-in's answers were marked by the key; or memory was lacking, and nothing was written.
 abbrev pub Marked : List ℕ → List ℕ → ℕ → PageMarks → PageMarks → Type 0
 Marked key hand_in answer before after =
     ((answer ≡ 0) × (after ≡ marks_told (marks_by key hand_in)))

@@ -1,4 +1,4 @@
--- What a page is told of a stack after a script: all its mbufs (this project's own).
+-- The state of a stack after a script as the page gets it: all its mbufs (this project's own).
 use Rattle.std.specs.Prelude.{◌≡◌, ◌++◌, ℕ, List, [], length, Option, Some, IfOk, IfSome, Result}
 use Rattle.flat_model.specs.Machine.State.{State, boot}
 use Rattle.flat_model.specs.Machine.Step.{Step}
@@ -19,12 +19,13 @@ stack_objects s =
     ++ (output_objects s
     ++ (below (unfinished_objects s) (length (state_of s).unfinished) ++ below (cluster_object s) s.pool.clusters))
 
--- The text is that of a stack whose state this is. Which mbufs it took isn't in the flat machine's state.
+-- The text is that of a stack with this state. The reference machine's state doesn't say which mbufs it takes.
 unfoldable pub IsStateText : State → List ℕ → Type 0
 IsStateText new text = (s : StackView) × IsStack s × (state_of s ≡ new) × (text ≡ stack_objects s)
 
 -- A whole script was served on a new machine, with an outcome that is allowed. The text, if there is one, is that of
--- the stack as it's then. The page is told the number and how many bytes the text has, and they are in its room.
+-- the stack's final state. The page gets the outcome's number and the length of the text, and its buffer contains the
+-- text.
 pub record Pictured (config : Config) (script : List ℕ) (answer len : ℕ) (before after : List ℕ) : Type 0 where
   pub outcome : Result (Option (List ℕ)) RunFault
   pub replies : List ℕ

@@ -1,12 +1,12 @@
 -- What a page is told of a capture (this project's own).
 use Rattle.std.specs.Prelude.{◌≡◌, ◌++◌, ℕ, List, [], ◌∷◌, length, codes, decimal, Option, Some, None, Result, Ok, Err}
-use Rattle.capture_file.specs.Places.{Reading, Steps, start}
-use Rattle.capture_file.specs.declared.fault.Fault.{Fault}
-use Rattle.capture_file.specs.declared.records.Record.{Record}
+use Rattle.capture.specs.Places.{Reading, Steps, start}
+use Rattle.capture.specs.declared.fault.Fault.{Fault}
+use Rattle.capture.specs.declared.records.Record.{Record}
 use Rattle.page.specs.Told.{Handed, outcome_number}
 use Rattle.page.specs.declared.records.PageCapture.{PageCapture}
-use Rattle.pcap.specs.Frames.{packet_in_frame}
-use Rattle.pcap.specs.declared.link_type.LinkType.{LinkType}
+use Rattle.capture.specs.Frames.{packet_in_frame}
+use Rattle.capture.specs.declared.pcap.link_type.LinkType.{LinkType}
 use Rattle.script_loop.specs.declared.fault.RunFault.TheVariants.{Memory}
 
 -- ---- a record

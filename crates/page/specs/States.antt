@@ -1,5 +1,5 @@
--- What a page is told of the mbufs of a stack: objects of JSON, one in a line (this project's own; the fields are those
--- of TCP/IP Illustrated, volume 2, chapters 2, 3, 10 and 16).
+-- The mbufs of a stack as the page gets them: JSON objects, one per line (this project's own; the fields are those of
+-- TCP/IP Illustrated, volume 2, chapters 2, 3, 10 and 16).
 use Rattle.std.specs.Prelude.{◌++◌, ◌+◌, ◌-◌, ◌==◌, ℕ, zero, suc, List, [], ◌∷◌, length, take, codes, decimal, unwrap_or, if◌then◌else◌, Option, Some, None, Result, Ok, Err}
 use Rattle.std.specs.Result.{result_ok}
 use Rattle.hex.specs.Hex.{encode_lower}
@@ -39,7 +39,7 @@ link_fields m =
     ++ codes ",\"next\":" ++ number_text m.next
     ++ codes ",\"nextpkt\":" ++ number_text m.next_packet
 
--- how many bytes it has, and where they begin
+-- the number of its bytes, and their offset
 abbrev pub place_fields : MbufHead → List ℕ
 place_fields m = codes ",\"len\":" ++ decimal m.len ++ codes ",\"data\":" ++ decimal m.start
 
@@ -65,24 +65,24 @@ abbrev pub chain_objects : PoolView → List ℕ → List ℕ
 chain_objects p [] = []
 chain_objects p (c ∷ cs) = mbuf_objects (heads (chain_of p c)) ++ chain_objects p cs
 
--- ---- who holds them
+-- ---- their holders
 
 abbrev pub first_number : Option (List (MbufHead × List ℕ)) → Option ℕ
 first_number None = None
 first_number (Some []) = None
 first_number (Some (m ∷ ms)) = Some m.0.number
 
--- the number of the first mbuf of a holder's chain at a place, if there is one
+-- the number of the first mbuf of a holder's chain at an index, if there is one
 abbrev pub first_held : StackView → Holder → ℕ → Option ℕ
 first_held s holder i = first_number (nth_heads s.pool (chains_held s holder) i)
 
--- what ends a holder's line, and all mbufs that it holds: the chain at place `i` is the first that the line names
+-- the end of a holder's line, and all mbufs that it holds: the chain at index `i` is the first that the line names
 abbrev pub held_objects : StackView → Holder → ℕ → List ℕ
 held_objects s holder i =
     codes ",\"first\":" ++ number_text (first_held s holder i) ++ codes "}\n"
     ++ chain_objects s.pool (chains_held s holder)
 
--- a socket by what `bytes_queued` answers, and what waits in it; nothing if no such socket is open
+-- a socket with the result of `bytes_queued`, and its queue; nothing if no such socket is open
 abbrev pub socket_text : StackView → ℕ → Result ℕ Errno → List ℕ
 socket_text s fd (Err refused) = []
 socket_text s fd (Ok cc) =
@@ -95,7 +95,7 @@ abbrev pub socket_objects : StackView → ℕ → List ℕ
 socket_objects s place =
     socket_text s (FIRST_DESCRIPTOR + place) (bytes_queued_at (FIRST_DESCRIPTOR + place) (state_of s))
 
--- the output queue: how many packets wait, and where the last and the first begin
+-- the output queue: the number of its packets, and the first mbufs of the last and the first packet
 abbrev pub output_objects : StackView → List ℕ
 output_objects s =
     codes "{\"output\":" ++ decimal (length (state_of s).output)
@@ -106,14 +106,14 @@ output_objects s =
 abbrev pub holder_field : StackView → ℕ → List ℕ
 holder_field s place = codes "{\"unfinished\":" ++ number_text (first_held s (Unfinished place) 0)
 
--- what it goes by, and its ticks left
+-- its key, and its remaining ticks
 abbrev pub key_fields : UnfinishedDatagram → List ℕ
 key_fields d =
     codes ",\"id\":" ++ decimal d.key.id
     ++ codes ",\"source\":" ++ decimal d.key.source
     ++ codes ",\"ticks\":" ++ decimal d.ticks
 
--- an unfinished datagram, and what it holds: the line names its first fragment
+-- an unfinished datagram, and the mbufs that it holds: the line names its first fragment
 abbrev pub late_text : StackView → ℕ → Option UnfinishedDatagram → List ℕ
 late_text s place None = []
 late_text s place (Some d) = holder_field s place ++ (key_fields d ++ held_objects s (Unfinished place) 1)
@@ -125,7 +125,7 @@ abbrev pub references_text : ℕ → ℕ → List ℕ
 references_text cluster count =
     (codes "{\"cluster\":" ++ decimal cluster) ++ ((codes ",\"references\":" ++ decimal count) ++ codes "}\n")
 
--- a cluster, if mbufs refer to it
+-- a cluster, if it has references
 abbrev pub counted_text : ℕ → ℕ → List ℕ
 counted_text cluster count = if count == 0 then [] else references_text cluster count
 
@@ -134,7 +134,7 @@ cluster_object s cluster = counted_text cluster (unwrap_or (nth_references s.poo
 
 -- ---- all
 
--- the lines at all places below n
+-- the lines at all indices below n
 abbrev pub below : (ℕ → List ℕ) → ℕ → List ℕ
 below lines zero = []
 below lines (suc n) = below lines n ++ lines n

@@ -11,7 +11,7 @@ use Rattle.flat_model.specs.Machine.Step.{Step}
 use Rattle.link_script.specs.Boots as stack_boots
 use Rattle.page.specs.declared.settings.PageMachine.{PageMachine}
 use Rattle.page.specs.declared.settings.PagePool.{PagePool}
-use Rattle.pcap.specs.File.{file_header_bytes, our_header}
+use Rattle.capture.specs.File.{file_header_bytes, our_header}
 use Rattle.play_pcap.specs.Files.{no_folder}
 use Rattle.play_pcap.specs.Traces.{Keeps, Traced, unwritten}
 use Rattle.play_script.specs.Tells as plays

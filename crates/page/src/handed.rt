@@ -1,10 +1,10 @@
-//! How an outcome and the replies are handed over.
+//! Passing an outcome and the replies to the page.
 ghost use Rattle.std.specs.Prelude.{◌≡◌, length};
 ghost use Rattle.page.specs.Told.{outcome_number, kept_number, Handed};
 
 use link_script::RunFault;
 
-/// The outcome as a number.
+/// Returns the outcome as a number.
 pub(crate) fn number_of(outcome: Result<(), RunFault>) -> u32
     ensures { result ≡ outcome_number outcome }
 {
@@ -19,7 +19,7 @@ pub(crate) fn number_of(outcome: Result<(), RunFault>) -> u32
     }
 }
 
-/// The outcome with a capture as a number: one that isn't whole is as a write that failed.
+/// Returns the outcome with a capture as a number. An incomplete capture counts as a failed write.
 pub(crate) fn kept_number_of(whole: bool, outcome: Result<(), RunFault>) -> u32
     ensures { result ≡ kept_number whole outcome }
 {
@@ -30,7 +30,7 @@ pub(crate) fn kept_number_of(whole: bool, outcome: Result<(), RunFault>) -> u32
     }
 }
 
-/// Puts the bytes at the beginning of the room, where they fit, and else nothing. Answers how many they are.
+/// Copies the bytes to the front of the buffer, if they fit; otherwise nothing. Returns their number.
 pub(crate) fn hand_over(bytes: &[u8], room: &mut [u8]) -> usize
     ensures handed { Handed bytes.now room.old room.new }
     ensures len { result ≡ length bytes.now }

@@ -1,4 +1,4 @@
-//! What the headers of a packet say.
+//! The decoded headers of a packet.
 ghost use Rattle.std.specs.Prelude.{◌≡◌, ◌≤◌, length};
 ghost use Rattle.params.specs.declared.TheConstants.{IP_HEADER, IP_UDP_HEADERS};
 ghost use Rattle.page.specs.Headed.{Headed, header_told, ip_told, no_header, udp_told};
@@ -11,16 +11,16 @@ use play_why::{COVERED, pseudo_sum, right_header_sum, right_udp_sum, u32_at};
 use script_loop::Buffer;
 use std::alloc::Global;
 
-/// What the headers of a packet say (RFC 791, section 3.1; RFC 768): `struct page_header`, 20 numbers of 32 bits. What
-/// isn't there is 0.
+/// The decoded headers of a packet (RFC 791, section 3.1; RFC 768): `struct page_header`, 20 numbers of 32 bits. A
+/// missing field is 0.
 #[repr(C)]
 #[derive(Clone, Copy)]
 pub struct PageHeader {
-    /// 0: there are fewer than the 20 bytes of an IP header. 1: fewer than 28. 2: 28 or more, and what follows from
-    /// `source_port` on is there too, whatever the packet carries.
+    /// 0: the packet has fewer than the 20 bytes of an IP header. 1: fewer than 28. 2: 28 or more, and the fields from
+    /// `source_port` on are set too, whatever the packet carries.
     pub parts: u32,
     pub version: u32,
-    /// The header's words of four bytes.
+    /// The header length in words of four bytes.
     pub words: u32,
     pub service: u32,
     /// The total length.
@@ -33,7 +33,7 @@ pub struct PageHeader {
     pub ttl: u32,
     pub protocol: u32,
     pub sum: u32,
-    /// The checksum that the first 20 bytes would have.
+    /// The checksum that would be right for the first 20 bytes.
     pub right_sum: u32,
     pub source: u32,
     pub destination: u32,
@@ -41,14 +41,14 @@ pub struct PageHeader {
     pub destination_port: u32,
     pub udp_len: u32,
     pub udp_sum: u32,
-    /// The checksum that all behind the first 20 bytes would have as a datagram, by its UDP length.
+    /// The checksum that would be right for the bytes after the first 20, taken as a datagram with its UDP length.
     pub right_udp_sum: u32,
-    /// The sum of its pseudo header alone, which stands there if the sender's card fills the checksum in.
+    /// The sum of only its pseudo header. The field contains it if the sender's network card fills in the checksum.
     pub pseudo_sum: u32,
 }
 
 impl PageHeader {
-    /// Nothing is there.
+    /// Returns a header without any fields.
     fn none() -> PageHeader
         ensures { result ≡ no_header }
     {
@@ -76,7 +76,7 @@ impl PageHeader {
         }
     }
 
-    /// What the IP header of a packet says.
+    /// Decodes the IP header of a packet.
     fn of_ip(packet: &[u8], covered: &mut Buffer<COVERED>) -> PageHeader
         requires { IP_HEADER ≤ length packet.now }
         ensures { result ≡ ip_told packet.now }
@@ -101,7 +101,7 @@ impl PageHeader {
         }
     }
 
-    /// The same, with the UDP header behind it.
+    /// Decodes the IP header, and the UDP header after it.
     fn of_udp(packet: &[u8], covered: &mut Buffer<COVERED>) -> PageHeader
         requires { IP_UDP_HEADERS ≤ length packet.now }
         ensures { result ≡ udp_told packet.now }
@@ -120,7 +120,7 @@ impl PageHeader {
         }
     }
 
-    /// What the headers of a packet say.
+    /// Decodes the headers of a packet.
     fn of(packet: &[u8], covered: &mut Buffer<COVERED>) -> PageHeader
         ensures { result ≡ header_told packet.now }
     {
@@ -134,10 +134,10 @@ impl PageHeader {
     }
 }
 
-/// Reads the headers of a packet, and works out which checksums would be right: `uint32_t bsdudp_page_header(const
-/// uint8_t *packet, size_t, struct page_header *)`. Nothing is judged: any bytes are a packet.
+/// Decodes the headers of a packet, and computes which checksums would be right: `uint32_t bsdudp_page_header(const
+/// uint8_t *packet, size_t, struct page_header *)`. Nothing is checked: any bytes are a packet.
 ///
-/// Answers 0, and the header is written; or 3, `Memory`, and it's as it was.
+/// Returns 0, and the header is written; or 3, `Memory`, and the header is unchanged.
 #[unsafe(no_mangle)]
 pub extern "C" fn bsdudp_page_header(alloc: Global, packet: &[u8], header: &mut PageHeader) -> u32
     ensures headed { Headed packet.now result header.old header.new }

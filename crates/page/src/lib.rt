@@ -1,8 +1,8 @@
 //! What a web page calls: scripts of `bsdudp` and of `bsdplay` as functions of a whole script, over bytes in memory.
-//! The page hands over a whole script each time, so nothing is kept between two calls. No other crate stands on this
-//! one.
+//! The page passes a whole script each time, so no state is kept between two calls. No other crate depends on this one.
 //!
-//! It shows that the outcome and the replies are those of the script on a new machine, and where the replies stand.
+//! The contracts say that the outcome and the replies are those of the script on a new machine, and where the replies
+//! are.
 #![tactic(auto)]
 
 ghost use Rattle.flat_model.specs.Machine.State.{boot};
@@ -34,14 +34,15 @@ pub use settings::{PageMachine, PagePool};
 pub use state::bsdudp_page_state;
 use std::alloc::Global;
 
-/// Serves a script of `bsdudp run` on a new machine, and puts the replies at the beginning of the room: `uint32_t
+/// Serves a script of `bsdudp run` on a new machine, and writes the replies to the front of the buffer: `uint32_t
 /// bsdudp_page_run(const struct page_machine *, const uint8_t *script, size_t, uint8_t *room, size_t, size_t *len)`.
 ///
-/// Answers the outcome's number: 0 where all lines were answered, and else that of the fault. `len` is then how many
-/// bytes the replies have. Where the room has fewer it's as it was, and the page calls again with more.
+/// Returns the outcome's number: 0 if all lines got a reply, otherwise that of the fault. `len` is then the length of
+/// the replies in bytes. If the buffer is shorter, it is unchanged, and the page calls again with a longer one.
 ///
-/// The faults: 1 `BadSizes`, 2 `BadConfig`, 3 `Memory`, 4 `TooManyLines`, 6 `Write`, each as `link_script::run` has it;
-/// `Write` comes where the host refuses memory for the replies. 5 is `Read`, which a script in memory never has.
+/// The faults: 1 `BadSizes`, 2 `BadConfig`, 3 `Memory`, 4 `TooManyLines`, 6 `Write`, each as `link_script::run` defines
+/// it; `Write` also occurs if the host refuses memory for the replies. 5 is `Read`, which never occurs for a script in
+/// memory.
 #[unsafe(no_mangle)]
 pub extern "C" fn bsdudp_page_run(
     alloc: Global,
@@ -63,7 +64,7 @@ pub extern "C" fn bsdudp_page_run(
 /// Serves a script of `bsdudp chain` over a new pool, in the same way: `uint32_t bsdudp_page_chain(const struct
 /// page_pool *, const uint8_t *script, size_t, uint8_t *room, size_t, size_t *len)`.
 ///
-/// The faults: 1 `BadSizes`, 3 `Memory`, 4 `TooManyLines`, 6 `Write`, each as `chain_script::run_chains` has it.
+/// The faults: 1 `BadSizes`, 3 `Memory`, 4 `TooManyLines`, 6 `Write`, each as `chain_script::run_chains` defines it.
 #[unsafe(no_mangle)]
 pub extern "C" fn bsdudp_page_chain(
     alloc: Global,
@@ -83,15 +84,15 @@ pub extern "C" fn bsdudp_page_chain(
     number_of(outcome)
 }
 
-/// Serves a script of `bsdudp chain` over a new pool, throws the replies away, and draws the chain of one slot as it is
-/// then: `uint32_t bsdudp_page_draw(const struct page_pool *, uint32_t slot, const uint8_t *script, size_t, uint8_t
-/// *room, size_t, size_t *len)`. The lines of a drawing are those of `chain_script::draw_slot`; an empty slot, and one
-/// of more than 63, has none.
+/// Serves a script of `bsdudp chain` over a new pool, discards the replies, and draws the chain of one slot in the
+/// final state: `uint32_t bsdudp_page_draw(const struct page_pool *, uint32_t slot, const uint8_t *script, size_t,
+/// uint8_t *room, size_t, size_t *len)`. The lines of a drawing are those of `chain_script::draw_slot`; an empty slot,
+/// and a slot above 63, has none.
 ///
-/// Answers the outcome's number: 0 if the slot was drawn, and else that of the fault. The drawing is handed over as
-/// replies are. If nothing was drawn, `len` is 0 and the room as it was.
+/// Returns the outcome's number: 0 if the slot was drawn, otherwise that of the fault. The drawing is returned in the
+/// way replies are. If nothing was drawn, `len` is 0 and the buffer is unchanged.
 ///
-/// The faults: those of `bsdudp_page_chain`. `Memory` comes too if the host refuses memory for the drawing.
+/// The faults: those of `bsdudp_page_chain`. `Memory` also occurs if the host refuses memory for the drawing.
 #[unsafe(no_mangle)]
 pub extern "C" fn bsdudp_page_draw(
     alloc: Global,

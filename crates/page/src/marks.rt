@@ -1,4 +1,4 @@
-//! What the answers of a hand-in are worth.
+//! The marks of a hand-in.
 ghost use Rattle.page.specs.Marked.{Marked, marks_told};
 ghost use Rattle.std.specs.Prelude.{◌≡◌};
 
@@ -7,21 +7,21 @@ use link_script::RunFault;
 use play_grade::{Marker, Marks};
 use std::alloc::Global;
 
-/// What the answers of a hand-in are worth beside those of a key: `struct page_marks`, of 32 bytes.
+/// The marks of a hand-in, compared with a key: `struct page_marks`, of 32 bytes.
 #[repr(C)]
 #[derive(Clone, Copy)]
 pub struct PageMarks {
-    /// How many are the key's.
+    /// The number of answers that equal the key's.
     pub right: u64,
-    /// How many are others.
+    /// The number of answers that differ.
     pub wrong: u64,
-    /// How many there are none of, or that say nothing.
+    /// The number of answers that are missing or empty.
     pub missing: u64,
-    /// The line of the key whose answer is the first that isn't right, counted from 1; 0 if there is none.
+    /// The line of the key whose answer is the first that isn't right, counted from 1; 0 if all are right.
     pub first: u64,
 }
 
-/// Marks as the page reads them.
+/// Converts marks to the struct of the page.
 fn told(marks: Marks) -> PageMarks
     ensures { result ≡ marks_told marks }
 {
@@ -33,11 +33,12 @@ fn told(marks: Marks) -> PageMarks
     }
 }
 
-/// Compares a hand-in with a key, as `bsdplay --grade --key` does, and plays neither: `uint32_t bsdudp_page_marks(const
-/// uint8_t *key, size_t, const uint8_t *hand_in, size_t, struct page_marks *)`. What counts is each line of the key
-/// with a reply, and each of its questions with an answer (`play_grade::Marker::marks_by`).
+/// Compares a hand-in with a key, as `bsdplay --grade --key` does, without playing either: `uint32_t
+/// bsdudp_page_marks(const uint8_t *key, size_t, const uint8_t *hand_in, size_t, struct page_marks *)`. It counts each
+/// line of the key with a reply, and each of its questions with an answer (`play_grade::Marker::marks_by`).
 ///
-/// Answers 0, and `marks` has how many answers are right, wrong and missing; or 3, `Memory`, and `marks` is as it was.
+/// Returns 0, and `marks` has the numbers of right, wrong and missing answers; or 3, `Memory`, and `marks` is
+/// unchanged.
 #[unsafe(no_mangle)]
 pub extern "C" fn bsdudp_page_marks(
     alloc: Global,

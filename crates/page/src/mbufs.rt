@@ -1,4 +1,4 @@
-//! The mbufs of a stack as objects of JSON, one in a line.
+//! The mbufs of a stack as JSON objects, one per line.
 ghost use Rattle.std.specs.Prelude.{◌≡◌, ◌≤◌, ◌++◌, length, take, decimal, OnOk};
 ghost use Rattle.hex.specs.Hex.{encode_lower};
 ghost use Rattle.net_stack.specs.Questions.{chains_held};
@@ -13,7 +13,7 @@ use net_stack::{Holder, Stack, UnfinishedDatagram};
 use params::{FIRST_DESCRIPTOR, MAX_SOCKETS};
 use std::alloc::AllocError;
 
-/// How many of an mbuf's bytes are handed over at most.
+/// The most bytes of an mbuf that are passed to the page.
 pub const SHOWN: usize = 32;
 
 fn put_number(text: &mut Vec<u8>, n: u32) -> Result<(), AllocError>
@@ -23,7 +23,7 @@ fn put_number(text: &mut Vec<u8>, n: u32) -> Result<(), AllocError>
     text.extend_from_slice(digits.format(n).as_bytes())
 }
 
-/// A name with what stands around it, and its value.
+/// Appends a name with its punctuation, and its value.
 fn put_field(text: &mut Vec<u8>, name: &[u8], value: Option<u32>) -> Result<(), AllocError>
     ensures { OnOk result (text.new.items ≡ text.old.items ++ (name.now ++ number_text value)) }
 {
@@ -45,7 +45,7 @@ fn front_of(bytes: &[u8]) -> &[u8]
     }
 }
 
-/// Two digits for each of the first bytes.
+/// Appends two digits for each of the first bytes.
 fn put_bytes(text: &mut Vec<u8>, bytes: &[u8]) -> Result<(), AllocError>
     ensures { OnOk result (text.new.items ≡ text.old.items ++ encode_lower (take SHOWN bytes.now)) }
 {
@@ -109,7 +109,7 @@ fn put_mbuf(text: &mut Vec<u8>, head: MbufHead, bytes: &[u8]) -> Result<(), Allo
     Ok(())
 }
 
-/// The mbufs of a chain.
+/// Appends the mbufs of a chain.
 fn put_mbufs(text: &mut Vec<u8>, mbufs: MbufHeads<'_>) -> Result<(), AllocError>
     ensures { OnOk result (text.new.items ≡ text.old.items ++ mbuf_objects mbufs.entry) }
 {
@@ -119,7 +119,7 @@ fn put_mbufs(text: &mut Vec<u8>, mbufs: MbufHeads<'_>) -> Result<(), AllocError>
     Ok(())
 }
 
-/// The mbufs of all chains of a holder. `AllocError` also for 4,294,967,295 chains, which no pool has.
+/// Appends the mbufs of all chains of a holder. Returns `AllocError` also for 4,294,967,295 chains, which no pool has.
 fn put_chains(text: &mut Vec<u8>, stack: &Stack, holder: Holder) -> Result<(), AllocError>
     ensures { OnOk result (text.new.items
         ≡ text.old.items ++ chain_objects stack.now.pool (chains_held stack.now holder)) }
@@ -133,7 +133,7 @@ fn put_chains(text: &mut Vec<u8>, stack: &Stack, holder: Holder) -> Result<(), A
     Err(AllocError)
 }
 
-/// The number of a chain's first mbuf, if there is a chain.
+/// Returns the number of a chain's first mbuf, if there is a chain.
 fn first_number(chain: Option<MbufHeads<'_>>) -> Option<u32>
     ensures { result ≡ first_number chain.entry }
 {
@@ -142,7 +142,8 @@ fn first_number(chain: Option<MbufHeads<'_>>) -> Option<u32>
     Some(first.0.number)
 }
 
-/// What ends a holder's line, and all mbufs that it holds. The first chain that the line names is that at place `i`.
+/// Appends the end of a holder's line, and all mbufs that it holds. `i` is the index of the first chain that the line
+/// names.
 fn put_held(text: &mut Vec<u8>, stack: &Stack, holder: Holder, i: u32) -> Result<(), AllocError>
     ensures { OnOk result (text.new.items ≡ text.old.items ++ held_objects stack.now holder i) }
 {
@@ -151,7 +152,7 @@ fn put_held(text: &mut Vec<u8>, stack: &Stack, holder: Holder, i: u32) -> Result
     put_chains(text, stack, holder)
 }
 
-/// The socket at a place, from 0 for descriptor 3, with what waits in it; nothing if it isn't open.
+/// Appends the socket at index `place`, where 0 is descriptor 3, with its queue; nothing if it isn't open.
 fn put_socket(text: &mut Vec<u8>, stack: &Stack, place: u32) -> Result<(), AllocError>
     requires { place ≤ MAX_SOCKETS }
     ensures { OnOk result (text.new.items ≡ text.old.items ++ socket_objects stack.now place) }
@@ -176,7 +177,7 @@ fn put_output(text: &mut Vec<u8>, stack: &Stack) -> Result<(), AllocError>
     put_held(text, stack, Holder::Output, 0)
 }
 
-/// What an unfinished datagram goes by, and its ticks left.
+/// Appends the key of an unfinished datagram, and its remaining ticks.
 fn put_key(text: &mut Vec<u8>, datagram: UnfinishedDatagram) -> Result<(), AllocError>
     ensures { OnOk result (text.new.items ≡ text.old.items ++ key_fields datagram) }
 {
@@ -185,7 +186,7 @@ fn put_key(text: &mut Vec<u8>, datagram: UnfinishedDatagram) -> Result<(), Alloc
     put_field(text, b",\"ticks\":", Some(u32::from(datagram.ticks)))
 }
 
-/// The mbuf of an unfinished datagram's key.
+/// Appends the mbuf of an unfinished datagram's key.
 fn put_holder(text: &mut Vec<u8>, stack: &Stack, place: u32) -> Result<(), AllocError>
     ensures { OnOk result (text.new.items ≡ text.old.items ++ holder_field stack.now place) }
 {
@@ -193,7 +194,7 @@ fn put_holder(text: &mut Vec<u8>, stack: &Stack, place: u32) -> Result<(), Alloc
     put_field(text, b"{\"unfinished\":", mbuf)
 }
 
-/// An unfinished datagram, with what it holds.
+/// Appends an unfinished datagram, with the mbufs that it holds.
 fn put_late(
     text: &mut Vec<u8>,
     stack: &Stack,
@@ -208,7 +209,7 @@ fn put_late(
     Ok(())
 }
 
-/// The unfinished datagram at a place, if there is one.
+/// Appends the unfinished datagram at an index, if there is one.
 fn put_unfinished(text: &mut Vec<u8>, stack: &Stack, place: u32) -> Result<(), AllocError>
     ensures { OnOk result (text.new.items ≡ text.old.items ++ unfinished_objects stack.now place) }
 {
@@ -218,7 +219,7 @@ fn put_unfinished(text: &mut Vec<u8>, stack: &Stack, place: u32) -> Result<(), A
     }
 }
 
-/// A cluster to which so many mbufs refer.
+/// Appends a cluster with its reference count.
 fn put_references(text: &mut Vec<u8>, cluster: u32, count: u32) -> Result<(), AllocError>
     ensures { OnOk result (text.new.items ≡ text.old.items ++ references_text cluster count) }
 {
@@ -228,7 +229,7 @@ fn put_references(text: &mut Vec<u8>, cluster: u32, count: u32) -> Result<(), Al
     Ok(())
 }
 
-/// The same; nothing if none does.
+/// Does the same; nothing if the count is 0.
 fn put_counted(text: &mut Vec<u8>, cluster: u32, count: u32) -> Result<(), AllocError>
     ensures { OnOk result (text.new.items ≡ text.old.items ++ counted_text cluster count) }
 {
@@ -239,7 +240,7 @@ fn put_counted(text: &mut Vec<u8>, cluster: u32, count: u32) -> Result<(), Alloc
     }
 }
 
-/// The sockets at the places below `end`.
+/// Appends the sockets at the indices below `end`.
 fn put_below(text: &mut Vec<u8>, stack: &Stack, end: u32) -> Result<(), AllocError>
     requires { end ≤ MAX_SOCKETS }
     ensures { OnOk result (text.new.items ≡ text.old.items ++ below (socket_objects stack.now) end) }
@@ -266,7 +267,7 @@ fn put_all_unfinished(text: &mut Vec<u8>, stack: &Stack) -> Result<(), AllocErro
     Ok(())
 }
 
-/// The clusters to which mbufs refer. `AllocError` also for 4,294,967,295 clusters, which no pool has.
+/// Appends the clusters that have references. Returns `AllocError` also for 4,294,967,295 clusters, which no pool has.
 fn put_clusters(text: &mut Vec<u8>, stack: &Stack) -> Result<(), AllocError>
     ensures { OnOk result (text.new.items
         ≡ text.old.items ++ below (cluster_object stack.now) stack.now.pool.clusters) }
@@ -280,7 +281,7 @@ fn put_clusters(text: &mut Vec<u8>, stack: &Stack) -> Result<(), AllocError>
     Err(AllocError)
 }
 
-/// All mbufs that a stack holds, with who holds them, and the clusters that they refer to.
+/// Appends all mbufs of a stack, with their holders, and the clusters that they refer to.
 pub(crate) fn put_state(text: &mut Vec<u8>, stack: &Stack) -> Result<(), AllocError>
     ensures { OnOk result (text.new.items ≡ text.old.items ++ stack_objects stack.now) }
 {

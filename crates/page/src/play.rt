@@ -1,4 +1,4 @@
-//! Scripts for people, as `bsdplay --json` plays them.
+//! Play scripts, as `bsdplay --json` plays them.
 ghost use Rattle.std.specs.Prelude.{◌≡◌, ◌⊎◌, codes, take};
 ghost use Rattle.flat_model.specs.Machine.State.{boot};
 ghost use Rattle.flat_model.specs.Machine.Step.{Step};
@@ -20,10 +20,10 @@ use play_wire::play_hosts;
 use script_loop::Buffer;
 use std::alloc::Global;
 
-/// The seed of the wire, until a line `seed` gives another one.
+/// The seed of the wire, until a line `seed` sets another one.
 const SEED: u64 = 1;
 
-/// Lines are printed as JSON, and the script has this name there.
+/// Returns the style: lines are printed as JSON, and the script has this name there.
 fn style<'a>() -> Style<'a>
     ensures form { result.form ≡ Json }
     ensures name { result.name.now ≡ codes "script" }
@@ -34,12 +34,12 @@ fn style<'a>() -> Style<'a>
     }
 }
 
-/// Plays a script for people on a new machine, and puts what `bsdplay --json` prints of it at the beginning of the
-/// room: `uint32_t bsdudp_page_play(const struct page_machine *, const uint8_t *script, size_t, uint8_t *room, size_t,
-/// size_t *len)`. No file can be opened, so `rx pcap` is answered by an error.
+/// Plays a play script on a new host, and writes the output of `bsdplay --json` to the front of the buffer: `uint32_t
+/// bsdudp_page_play(const struct page_machine *, const uint8_t *script, size_t, uint8_t *room, size_t, size_t *len)`.
+/// No file can be opened, so the reply to `rx pcap` is an error.
 ///
-/// Answers the outcome's number, and hands over the objects, as `bsdudp_page_run` does of its replies. The faults: 1
-/// `BadSizes`, 2 `BadConfig`, 3 `Memory`, 4 `TooManyLines`, 6 `Write`, each as `play_script::play` has it.
+/// Returns the outcome's number and the objects, as `bsdudp_page_run` does with its replies. The faults: 1 `BadSizes`,
+/// 2 `BadConfig`, 3 `Memory`, 4 `TooManyLines`, 6 `Write`, each as `play_script::play` defines it.
 #[unsafe(no_mangle)]
 pub extern "C" fn bsdudp_page_play(
     alloc: Global,
@@ -60,10 +60,10 @@ pub extern "C" fn bsdudp_page_play(
     number_of(played.outcome)
 }
 
-/// Plays a script of many machines in the same way, with 1 as the seed of its wire until it says another one:
+/// Plays a script of several hosts in the same way, with 1 as the seed of its wire until the script sets another one:
 /// `uint32_t bsdudp_page_hosts(const uint8_t *script, size_t, uint8_t *room, size_t, size_t *len)`.
 ///
-/// The faults: 3 `Memory`, 4 `TooManyLines`, 6 `Write`, each as `play_wire::play_hosts` has it.
+/// The faults: 3 `Memory`, 4 `TooManyLines`, 6 `Write`, each as `play_wire::play_hosts` defines it.
 #[unsafe(no_mangle)]
 pub extern "C" fn bsdudp_page_hosts(
     alloc: Global,
@@ -86,13 +86,13 @@ pub extern "C" fn bsdudp_page_hosts(
     number_of(done.played.outcome)
 }
 
-/// Plays a script for people as `bsdudp_page_play` does, throws the objects away, and hands over the capture of the
-/// packets that came by `rx` and left by `tx`, as `bsdplay --pcap` writes it: `uint32_t bsdudp_page_capture(const
-/// struct page_machine *, const uint8_t *script, size_t, uint8_t *room, size_t, size_t *len)`. A record's microseconds
-/// are the number of the line by which its packet came or left, and 500,000 more after an odd number of ticks.
+/// Plays a play script as `bsdudp_page_play` does, discards the objects, and returns the capture of the packets that
+/// arrived by `rx` and left by `tx`, as `bsdplay --pcap` writes it: `uint32_t bsdudp_page_capture(const struct
+/// page_machine *, const uint8_t *script, size_t, uint8_t *room, size_t, size_t *len)`. A record's microseconds are the
+/// number of the line by which its packet arrived or left, and 500,000 more after an odd number of ticks.
 ///
-/// The faults: those of `bsdudp_page_play`. `Write` comes too if the host refuses memory for the capture, which is cut
-/// short then. If nothing was played for want of memory, `len` is 0 and the room as it was.
+/// The faults: those of `bsdudp_page_play`. `Write` also occurs if the host refuses memory for the capture, which is
+/// truncated then. If nothing was played because memory was lacking, `len` is 0 and the buffer is unchanged.
 #[unsafe(no_mangle)]
 pub extern "C" fn bsdudp_page_capture(
     alloc: Global,

@@ -3,9 +3,9 @@ ghost use Rattle.std.specs.Prelude.{◌≡◌, ◌⊎◌, ◌+◌, ◌≤◌, �
 ghost use Rattle.page.specs.Recorded.{HasNoWords, IsCaptureText, IsCaptureUnread, ReadsAll, Recorded, record_head, ipv4_of, record_told, nanoseconds_text};
 
 use crate::handed::{hand_over, number_of};
-use capture_file::{Fault, LinkType, ROOM, Record, Records};
+use capture::pcap::ipv4_packet;
+use capture::{Fault, LinkType, ROOM, Record, Records};
 use link_script::RunFault;
-use pcap::ipv4_packet;
 use script_loop::Buffer;
 use std::alloc::{AllocError, Global};
 use std::io::Write;

@@ -1,29 +1,29 @@
-//! What a page says of the machine that it wants, as it stands in memory.
+//! The page's settings of a machine, as they are in memory.
 ghost use Rattle.std.specs.Prelude.{◌≡◌};
 ghost use Rattle.page.specs.Told.{machine_config, sizes_of};
 
 use chain_script::Sizes;
 use link_script::Config;
 
-/// The machine of a script of socket calls: `struct page_machine`, of 20 bytes. Each field is that of `Config`.
+/// The machine of a script of socket calls: `struct page_machine`, of 20 bytes. Its fields are those of `Config`.
 #[repr(C)]
 pub struct PageMachine {
     /// The address of the one interface.
     pub addr: u32,
     /// The broadcast address of its network.
     pub bcast: u32,
-    /// How many mbufs the pool has.
+    /// The number of mbufs in the pool.
     pub mbufs: u32,
-    /// How many clusters it has.
+    /// The number of clusters in the pool.
     pub clusters: u32,
-    /// The bytes of the longest packet that the link takes.
+    /// The MTU of the link: the longest packet in bytes.
     pub mtu: u16,
     /// The identification of the first datagram sent.
     pub first_id: u16,
 }
 
 impl PageMachine {
-    /// The same for the stack.
+    /// Returns the same settings for the stack.
     pub(crate) fn config(&self) -> Config
         ensures { result ≡ machine_config self.now }
     {
@@ -41,14 +41,14 @@ impl PageMachine {
 /// The pool of a script of calls on chains: `struct page_pool`, of 8 bytes.
 #[repr(C)]
 pub struct PagePool {
-    /// How many mbufs the pool has.
+    /// The number of mbufs in the pool.
     pub mbufs: u32,
-    /// How many clusters it has.
+    /// The number of clusters in the pool.
     pub clusters: u32,
 }
 
 impl PagePool {
-    /// The same for the pool.
+    /// Returns the same settings for the pool.
     pub(crate) fn sizes(&self) -> Sizes
         ensures { result ≡ sizes_of self.now }
     {

@@ -19,7 +19,7 @@ use net_stack::Stack;
 use script_loop::{LineBuffers, serve_script};
 use std::alloc::{AllocError, Global};
 
-/// The text of a stack; `AllocError` if the host refuses memory for it.
+/// Returns the text of a stack; `AllocError` if the host refuses memory for it.
 fn picture_of(alloc: Global, stack: &Stack) -> Result<Vec<u8>, AllocError>
     ensures { IfOk result (λ text. IsStateText (state_of stack.now) text.items) }
 {
@@ -29,7 +29,8 @@ fn picture_of(alloc: Global, stack: &Stack) -> Result<Vec<u8>, AllocError>
     Ok(text)
 }
 
-/// Serves a script on a stack, and spends it: its text as it's then, or `None` if the host refuses memory for that.
+/// Serves a script on a stack, and consumes the stack. Returns the text of its final state, or `None` if the host
+/// refuses memory for it.
 fn serve_stack<R: Source, W: Sink>(
     alloc: Global,
     machine: Stack,
@@ -59,7 +60,7 @@ fn serve_stack<R: Source, W: Sink>(
     }
 }
 
-/// Serves a script on a new stack, as `link_script::run` does: the text of the stack as it's then.
+/// Serves a script on a new stack, as `link_script::run` does. Returns the text of the stack's final state.
 #[tactic(auto, unfolding(stack_call::specs::Moves::StackSteps))]
 fn picture<R: Source, W: Sink>(
     alloc: Global,
@@ -76,20 +77,20 @@ fn picture<R: Source, W: Sink>(
     serve_stack(alloc, machine, reader, writer)
 }
 
-/// Serves a script of `bsdudp run` on a new machine, throws the replies away, and hands over the mbufs that the machine
-/// holds then, as objects of JSON, one in a line: `uint32_t bsdudp_page_state(const struct page_machine *, const
+/// Serves a script of `bsdudp run` on a new machine, discards the replies, and returns the mbufs that the machine holds
+/// in its final state, as JSON objects, one per line: `uint32_t bsdudp_page_state(const struct page_machine *, const
 /// uint8_t *script, size_t, uint8_t *room, size_t, size_t *len)`.
 ///
-/// A holder stands in front of its mbufs, chain by chain: each open socket by its descriptor (`socket`, with `cc`,
-/// `mbcnt` and `first`), the output queue by its length (`output`, with `last` and `first`), and each unfinished
-/// datagram by the mbuf of its key (`unfinished`, with `id`, `source`, `ticks` and the `first` of its fragments). An
-/// mbuf has its number (`mbuf`), `next`, `nextpkt`, `len`, `data`, `pkthdr`, `rcvif`, `cluster`, and its first 32 bytes
-/// (`bytes`). Links are numbers of mbufs. Last come the clusters that mbufs refer to, each with its `references`.
+/// A holder precedes its mbufs, chain by chain. An open socket has its descriptor (`socket`, with `cc`, `mbcnt` and
+/// `first`), the output queue its length (`output`, with `last` and `first`), and an unfinished datagram the mbuf of
+/// its key (`unfinished`, with `id`, `source`, `ticks` and the `first` of its fragments). An mbuf has its number
+/// (`mbuf`), `next`, `nextpkt`, `len`, `data`, `pkthdr`, `rcvif`, `cluster`, and its first 32 bytes (`bytes`). Links
+/// are mbuf numbers. The last lines are the clusters that mbufs refer to, each with its `references`.
 ///
-/// Answers the outcome's number: 0 if all lines were answered, and else that of the fault. The lines are handed over as
-/// replies are. If there are none, `len` is 0 and the room as it was.
+/// Returns the outcome's number: 0 if all lines got a reply, otherwise that of the fault. The lines are returned in the
+/// way replies are. If there are no lines, `len` is 0 and the buffer is unchanged.
 ///
-/// The faults: those of `bsdudp_page_run`. `Memory` comes too if the host refuses memory for the lines.
+/// The faults: those of `bsdudp_page_run`. `Memory` also occurs if the host refuses memory for the lines.
 #[unsafe(no_mangle)]
 pub extern "C" fn bsdudp_page_state(
     alloc: Global,

@@ -1,4 +1,4 @@
--- What the lines of a script ask (this project's own).
+-- The requests of the lines of a script (this project's own).
 use Rattle.std.specs.Prelude.{ℕ, ◌==◌, ◌&&◌, ◌++◌, Bool, List, [], drop, get_or, if◌then◌else◌, codes, decimal, Option, Some, None, Result, Ok, Err}
 use Rattle.std.specs.Borrow.{Bor}
 use Rattle.std.specs.List.{slice_split}
@@ -14,7 +14,7 @@ abbrev pub lines_left : Option (Bor (List ℕ)) → List (List ℕ)
 lines_left None = []
 lines_left (Some text) = lines_in text.now
 
--- a question to people is a comment that begins with `#?`
+-- a question to the student is a comment that begins with `#?`
 abbrev pub is_question : List ℕ → Bool
 is_question line = (get_or line 0 0 == 35) && (get_or line 1 0 == 63)
 
@@ -36,6 +36,6 @@ abbrev pub timed_on : List ℕ → Result TimedView Slip → Reading
 timed_on line (Err slip) = Faulty slip
 timed_on line (Ok t) = with_ticks t.ticks (reading_part line t.part)
 
--- a question is read as a line is: what stands behind its `=>` is the answer
+-- a question is read like a line: the text after its `=>` is the answer
 abbrev pub asked_on : List ℕ → Reading
 asked_on line = timed_on (unmarked line) (timed (unmarked line))

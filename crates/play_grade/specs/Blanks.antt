@@ -1,10 +1,10 @@
--- A key's lines as an exercise has them (this project's own).
+-- A key's lines as they appear in an exercise (this project's own).
 use Rattle.std.specs.Prelude.{ℕ, ◌==◌, ◌&&◌, ◌≡◌, Bool, if◌then◌else◌, Option, Some, None}
 use Rattle.std.specs.Prelude.{List, [], ◌++◌, get_or, length, take, codes}
 use Rattle.play_script.specs.Lines.{Reading, Nothing, TooLong, Faulty, Asks}
 use Rattle.play_grade.specs.Asked.{is_question, asked_on}
 
--- a comment that is the key's alone begins with `##`
+-- a private comment of the key begins with `##`
 abbrev pub is_private : List ℕ → Bool
 is_private line = (get_or line 0 0 == 35) && (get_or line 1 0 == 35)
 
@@ -19,7 +19,7 @@ blank_reading line TooLong = line ++ codes "\n"
 blank_reading line (Faulty slip) = line ++ codes "\n"
 blank_reading line (Asks shown plain wanted) = blank_asked line shown wanted
 
--- a line without its answer, or nothing of one that is the key's alone
+-- a line without its answer; a private line of the key becomes empty
 abbrev pub blank_line : List ℕ → List ℕ
 blank_line line = if is_private line then [] else blank_reading line (asked_on line)
 

@@ -1,4 +1,4 @@
--- What a hand-in answers beside a key (this project's own).
+-- The marks for a hand-in, by a key (this project's own).
 use Rattle.std.specs.Prelude.{ℕ, Bool, true, false, List, [], ◌∷◌, if◌then◌else◌, bytes_eq, Option, Some, None}
 use Rattle.flat_model.specs.Machine.Count.{more_by}
 use Rattle.flat_model.specs.Scripts.Grammar.{words}
@@ -11,7 +11,7 @@ use Rattle.play_grade.specs.declared.marks.Marks.{Marks}
 
 -- ---- a line of the hand-in
 
--- what it answers, and the lines after it
+-- its answer, and the lines after it
 pub record Found : Type 0 where
   pub answer : Option (List ℕ)
   pub rest : List (List ℕ)
@@ -26,15 +26,15 @@ found_on asked TooLong rest later = later
 found_on asked (Faulty slip) rest later = later
 found_on asked (Asks shown plain answer) rest later = found_if (bytes_eq asked plain) answer rest later
 
--- the first of these lines that asks just this
+-- the first of these lines with exactly this request
 abbrev pub found_in : List ℕ → List (List ℕ) → Option Found
 found_in asked [] = None
 found_in asked (line ∷ lines) = found_on asked (asked_on line) lines (found_in asked lines)
 
 -- ---- the lines of the key
 
--- What is known after some lines of the key: the marks, and which lines of the hand-in are left. Lines of a hand-in
--- that the key lacks are passed over, and so each of its lines answers for one line of the key at most, in their order.
+-- The state after some lines of the key: the marks, and the remaining lines of the hand-in. Lines of a hand-in that the
+-- key doesn't have are skipped. So each line of the hand-in is used for at most one line of the key, in order.
 pub record Standing : Type 0 where
   pub number : ℕ
   pub marks : Marks
@@ -45,7 +45,7 @@ marked wanted None s = record s { marks = counted Missing s.number s.marks }
 marked wanted (Some found) s =
     record s { marks = counted (mark_of wanted found.answer) s.number s.marks; left = found.rest }
 
--- a line of the key counts where it has an answer that says something
+-- a line of the key counts if it has an answer that isn't open
 abbrev pub after_asked : List ℕ → Option (List ℕ) → Standing → Standing
 after_asked asked None s = s
 after_asked asked (Some wanted) s =

@@ -1,4 +1,4 @@
--- Lines of which nothing is expected (this project's own).
+-- Lines without an expectation (this project's own).
 use Rattle.std.specs.Prelude.{ℕ, ◌||◌, not, Bool, false, List, [], ◌∷◌, if◌then◌else◌, codes, bytes_eq, Option}
 use Rattle.flat_model.specs.Machine.Count.{more_by}
 use Rattle.flat_model.specs.Scripts.Grammar.{words}
@@ -10,12 +10,12 @@ use Rattle.play_grade.specs.Marks.{counted, no_marks}
 use Rattle.play_grade.specs.declared.marks.Mark.TheVariants.{Right, Missing}
 use Rattle.play_grade.specs.declared.marks.Marks.{Marks}
 
--- names a host, or the wire
+-- the line names a host, or the wire
 abbrev pub names_hosts : List (List ℕ) → Bool
 names_hosts [] = false
 names_hosts (word ∷ words) = bytes_eq word (codes "host") || bytes_eq word (codes "wire")
 
--- a line says what machines there are, and so needn't have an expectation
+-- a line that sets up hosts, which needs no expectation
 abbrev pub is_setup : List ℕ → Bool
 is_setup plain = has_dashes plain || names_hosts (words plain)
 
@@ -25,11 +25,11 @@ lacks_answer TooLong = false
 lacks_answer (Faulty slip) = false
 lacks_answer (Asks shown plain wanted) = if is_setup plain then false else not (is_answer wanted)
 
--- a line asks for something, and nothing is expected of it; or it's a question without an answer
+-- a line makes a request and has no expectation, or it is a question without an answer
 abbrev pub lacks : List ℕ → Bool
 lacks line = lacks_answer (asked_on line)
 
--- ---- a script's own marks: each line that asks for something is right if it has an answer, and else missing
+-- ---- a script's own marks: each line that makes a request is right if it has an answer, and otherwise missing
 
 abbrev pub own_counted : Reading → ℕ → Marks → Marks
 own_counted Nothing number marks = marks

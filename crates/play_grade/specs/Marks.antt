@@ -12,7 +12,7 @@ abbrev pub first_of : Option ℕ → ℕ → Option ℕ
 first_of (Some first) number = Some first
 first_of None number = Some number
 
--- with one answer more, which belongs to the key's line of this number
+-- with one more answer, for the key's line of this number
 abbrev pub counted : Mark → ℕ → Marks → Marks
 counted Right number marks = record marks { right = more_by 1 marks.right }
 counted Wrong number marks =
@@ -20,6 +20,6 @@ counted Wrong number marks =
 counted Missing number marks =
     record marks { missing = more_by 1 marks.missing; first = first_of marks.first number }
 
--- there is an answer, and all of them are right
+-- there is an answer, and all answers are right
 abbrev pub are_full : Marks → Bool
 are_full marks = nat_lt 0 marks.right && (marks.wrong == 0 && marks.missing == 0)

@@ -1,4 +1,4 @@
-//! What answers are worth.
+//! Marking answers.
 ghost use Rattle.std.specs.Prelude.{◌≡◌, not};
 ghost use Rattle.flat_model.specs.Scripts.Grammar.{words};
 ghost use Rattle.play_script.specs.Views.{expected_on};
@@ -8,7 +8,7 @@ use crate::marks::Mark;
 use play_script::{Line, bytes_of, meets};
 use script_loop::first_word;
 
-/// Whether a word says nothing: there is none, it stands for any, or for an answer that is still to be given.
+/// Returns whether a word is open: it is missing, it stands for any word, or it is the placeholder of an answer.
 fn is_open_word(word: &[u8]) -> bool
     ensures { result ≡ answers.is_open_word word.now }
 {
@@ -16,7 +16,7 @@ fn is_open_word(word: &[u8]) -> bool
         || (word == b"_".as_slice() || (word == b"?".as_slice() || word == b"..".as_slice()))
 }
 
-/// Whether none of the words says anything.
+/// Returns whether all of the words are open.
 pub(crate) fn is_open(text: &[u8]) -> bool
     ensures { result ≡ answers.all_open (words text.now) }
 {
@@ -33,14 +33,14 @@ pub(crate) fn is_open(text: &[u8]) -> bool
     }
 }
 
-/// Whether a line carries an answer that says something.
+/// Returns whether a line has an answer that isn't open.
 pub(crate) fn is_answered(line: &Line) -> bool
     ensures { result ≡ answers.is_answer (expected_on line.now) }
 {
     line.expects && !is_open(bytes_of(&line.wanted))
 }
 
-/// What the answer on a line is worth, where the key's is `wanted`.
+/// Returns the mark for the answer on a line, given the key's answer `wanted`.
 pub(crate) fn mark_of(wanted: &[u8], given: &Line) -> Mark
     ensures { result ≡ answers.mark_of wanted.now (expected_on given.now) }
 {

@@ -1,4 +1,4 @@
-//! A line that was read, with the plain line that it stands for.
+//! A line that was read, with its plain line.
 ghost use Rattle.std.specs.Prelude.{◌≡◌, ◌*◌, ◌++◌, ◌≤◌, length, vec_len};
 ghost use Rattle.params.specs.declared.TheConstants.{IP_MAX_PACKET};
 ghost use Rattle.play_grade.specs.Asked.{ticks_front};
@@ -10,21 +10,21 @@ use play_script::{Line, bytes_of, room_for};
 use script_loop::{Buffer, put_hex, put_number};
 use std::alloc::{AllocError, Global};
 
-/// Room for a plain line, with the ticks that pass before it.
+/// The capacity for a plain line, with the ticks that pass before it.
 const ASKED: usize = LONGEST + 12;
 
 /// A line that was read, and the memory for it.
 #[derive(Drop)]
 pub(crate) struct Asked {
     pub(crate) line: Line,
-    /// The plain line that it stands for, also if its words name a packet, behind the ticks that pass first.
+    /// Its plain line, after the ticks that pass first. This includes lines that describe a packet.
     pub(crate) plain: Buffer<ASKED>,
-    /// Room for the digits of a packet.
+    /// Scratch memory for the digits of a packet.
     digits: Vec<u8>,
     ghost digits_len: { vec_len digits ≡ 2 * IP_MAX_PACKET },
 }
 
-/// Puts the ticks that pass before a line into a buffer, with a space after them, if there are any.
+/// Writes the ticks that pass before a line into a buffer, followed by a space, if there are any.
 fn put_front(plain: &mut Buffer<ASKED>, ticks: u32)
     ensures items { plain.new ≡ ticks_front ticks }
     ensures len { length plain.new ≤ 12 }
@@ -38,7 +38,7 @@ fn put_front(plain: &mut Buffer<ASKED>, ticks: u32)
 }
 
 impl Asked {
-    /// No line.
+    /// Creates a value without a line.
     pub(crate) fn new(alloc: Global) -> Result<Asked, AllocError> {
         Ok(Asked {
             line: Line::new(alloc)?,
@@ -47,7 +47,7 @@ impl Asked {
         })
     }
 
-    /// Puts the plain line that the line stands for in its place, and in front of it the ticks that pass first.
+    /// Sets `plain` to the ticks that pass first, followed by the plain line of the line.
     pub(crate) fn put_plain(&mut self, ticks: u32)
         ensures plain { self.new.plain ≡ ticks_front ticks ++ plain_line self.old.line }
         ensures line { self.new.line ≡ self.old.line }

@@ -1,4 +1,4 @@
-//! Exercises that are made of a key.
+//! Making exercises from a key.
 ghost use Rattle.std.specs.Prelude.{◌≡◌, ◌++◌, IfOk, OnErr};
 ghost use Rattle.play_grade.specs.Blanks as blanks;
 
@@ -7,14 +7,14 @@ use crate::read::is_question;
 use play_script::{Kind, bytes_of};
 use std::alloc::AllocError;
 
-/// Whether a line is a comment that is the key's alone: it begins with `##`.
+/// Returns whether a line is a private comment of the key: it begins with `##`.
 fn is_private(line: &[u8]) -> bool
     ensures { result ≡ blanks.is_private line.now }
 {
     line.len() >= 2 && line[0] == b'#' && line[1] == b'#'
 }
 
-/// Puts three pieces after the text, or a beginning of them if memory is lacking.
+/// Appends three pieces, or the beginning of them if memory is lacking.
 fn put(text: &mut Vec<u8>, front: &[u8], middle: &[u8], end: &[u8]) -> Result<(), AllocError>
     ensures items { IfOk result (λ u. text.new.items ≡ text.old.items ++ front.now ++ middle.now ++ end.now) }
     ensures keeps { OnErr result (blanks.Starts text.old.items text.new.items) }
@@ -26,8 +26,8 @@ fn put(text: &mut Vec<u8>, front: &[u8], middle: &[u8], end: &[u8]) -> Result<()
 }
 
 impl Marker {
-    /// Puts a line of a key after the text as an exercise has it: `?` stands in the place of what is expected, or of
-    /// the answer, and nothing is put for a comment that begins with `##`. If memory is lacking, its beginning was put.
+    /// Appends a line of a key as it appears in an exercise. `?` replaces the expectation or the answer, and a comment
+    /// that begins with `##` is left out. If memory is lacking, only the beginning was appended.
     pub fn put_blank(&mut self, line: &[u8], text: &mut Vec<u8>) -> Result<(), AllocError>
         ensures items { IfOk result (λ u. text.new.items ≡ text.old.items ++ blanks.blank_line line.now) }
         ensures keeps { OnErr result (blanks.Starts text.old.items text.new.items) }

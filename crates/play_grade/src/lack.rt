@@ -1,4 +1,4 @@
-//! Lines of which nothing is expected.
+//! Lines without an expectation.
 ghost use Rattle.std.specs.Prelude.{◌≡◌};
 ghost use Rattle.flat_model.specs.Scripts.Grammar.{words};
 ghost use Rattle.play_grade.specs.Asked.{asked_on};
@@ -11,7 +11,7 @@ use crate::marks::{Mark, Marks};
 use play_script::{Kind, bytes_of};
 use script_loop::first_word;
 
-/// Whether the first word of a plain line names a host, or the wire.
+/// Returns whether the first word of a plain line names a host, or the wire.
 fn names_hosts(plain: &[u8]) -> bool
     ensures { result ≡ lacks.names_hosts (words plain.now) }
 {
@@ -19,7 +19,7 @@ fn names_hosts(plain: &[u8]) -> bool
     word == b"host".as_slice() || word == b"wire".as_slice()
 }
 
-/// Whether a plain line says what machines there are: it begins with `--`, `host` or `wire`.
+/// Returns whether a plain line sets up hosts: it begins with `--`, `host` or `wire`.
 fn is_setup(plain: &[u8]) -> bool
     ensures { result ≡ lacks.is_setup plain.now }
 {
@@ -27,8 +27,9 @@ fn is_setup(plain: &[u8]) -> bool
 }
 
 impl Marker {
-    /// Whether a line asks for something, and nothing is expected of it; or it's a question without an answer. An
-    /// expectation of `_`, `?` and `..` alone is none. A line that says what machines there are needs none.
+    /// Returns whether a line makes a request but has no expectation, or is a question without an answer. An
+    /// expectation that consists only of `_`, `?` and `..` doesn't count. A line that sets up hosts needs no
+    /// expectation.
     pub fn lacks(&mut self, line: &[u8]) -> bool
         ensures { result ≡ lacks.lacks line.now }
     {
@@ -40,7 +41,7 @@ impl Marker {
         }
     }
 
-    /// The marks with one line more.
+    /// Returns the marks with one more line.
     fn own_counted(&mut self, line: &[u8], number: u64, marks: Marks) -> Marks
         ensures { result ≡ lacks.own_counted (asked_on line.now) number marks }
     {
@@ -52,8 +53,8 @@ impl Marker {
         }
     }
 
-    /// Marks a script that has no key: each line that asks for something counts as right if something is expected of
-    /// it, and as missing if not. Whether that comes is seen by playing it.
+    /// Marks a script that has no key. Each line that makes a request counts as right if it has an expectation, and as
+    /// missing if it has none. Playing the script shows whether the expectations are met.
     pub fn own_marks(&mut self, script: &[u8]) -> Marks
         ensures { result ≡ lacks.own_marks script.now }
     {

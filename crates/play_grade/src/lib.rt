@@ -1,5 +1,5 @@
-//! Hand-ins beside a key. What a key expects of a line, and what it answers to a question, is compared with what the
-//! hand-in says; and a line of which nothing is expected is found.
+//! Comparing hand-ins with a key. For each expectation in the key and each answer to a question, the hand-in's is
+//! compared with it. Lines without an expectation are found too.
 #![tactic(auto)]
 
 mod answers;

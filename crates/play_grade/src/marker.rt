@@ -1,4 +1,4 @@
-//! What marks hand-ins.
+//! Marking hand-ins.
 ghost use Rattle.std.specs.Prelude.{◌≡◌, MatchOption, List, None, Option, true, ℕ};
 ghost use Rattle.play_script.specs.Views.{expected_on};
 ghost use Rattle.play_grade.specs.Asked.{asked_on, lines_in, lines_left};
@@ -13,7 +13,7 @@ use play_packet::LineReader;
 use play_script::{Kind, bytes_of};
 use std::alloc::{AllocError, Global};
 
-/// What marks hand-ins: the memory that lines are read into.
+/// Marks hand-ins. It has the memory into which lines are read.
 #[derive(Drop)]
 pub struct Marker {
     pub(crate) reader: LineReader,
@@ -23,17 +23,17 @@ pub struct Marker {
     given: Asked,
 }
 
-/// What is known after some lines of the key.
+/// The state after some lines of the key.
 #[derive(Clone, Copy)]
 pub(crate) struct Standing<'h> {
-    /// How many lines these are.
+    /// The number of these lines.
     number: u64,
     marks: Marks,
-    /// What is left of the hand-in.
+    /// The rest of the hand-in.
     left: Option<&'h [u8]>,
 }
 
-/// Whether a line asks just this. What it answers stands in `given` then.
+/// Returns whether a line has exactly this request. Its answer is then in `given`.
 fn asks(asked: &[u8], text: &[u8], reader: &mut LineReader, given: &mut Asked) -> bool
     ensures { (rest : List (List ℕ)) (later : Option grades.Found)
         → grades.found_on asked.now (asked_on text.now) rest later
@@ -45,8 +45,7 @@ fn asks(asked: &[u8], text: &[u8], reader: &mut LineReader, given: &mut Asked) -
     }
 }
 
-/// Finds the first line that asks just this: what it answers stands in `given`, and what is left after it is the
-/// result.
+/// Finds the first line with exactly this request. Its answer is then in `given`, and the result is the text after it.
 fn find<'h>(
     asked: &[u8],
     hand: &'h [u8],
@@ -71,7 +70,7 @@ fn find<'h>(
 }
 
 impl Marker {
-    /// Takes the memory.
+    /// Allocates the memory.
     pub fn new(alloc: Global) -> Result<Marker, AllocError> {
         Ok(Marker {
             reader: LineReader::new(alloc)?,
@@ -80,7 +79,7 @@ impl Marker {
         })
     }
 
-    /// Marks what the hand-in answers to the key's line in hand.
+    /// Marks the hand-in's answer to the current line of the key.
     fn marked<'h>(&mut self, standing: Standing<'h>) -> Standing<'h>
         ensures { standing_of result ≡ grades.marked self.old.asked.line.wanted
             (grades.found_in self.old.asked.plain (lines_left standing.entry.left)) (standing_of standing.entry) }
@@ -107,7 +106,7 @@ impl Marker {
         }
     }
 
-    /// Takes the key's next line.
+    /// Processes the key's next line.
     fn after_line<'h>(&mut self, line: &[u8], standing: Standing<'h>) -> Standing<'h>
         ensures { standing_of result ≡ grades.after_line line.now (standing_of standing.entry) }
     {
@@ -121,10 +120,10 @@ impl Marker {
         }
     }
 
-    /// Marks a hand-in by a key. Each line of the key that has an answer, or a reply that is expected, is looked for in
-    /// the hand-in: a line that asks the same, behind the one that was found before. Its answer is right if it meets
-    /// the key's as a reply meets what is expected: `_` in the key stands for any word. Lines of the hand-in that the
-    /// key lacks are passed over.
+    /// Marks a hand-in by a key. For each line of the key with an answer or an expectation, it searches the hand-in for
+    /// a line with the same request, after the last one that was found. The answer is right if it meets the key's
+    /// answer in the way that a reply meets an expectation: `_` in the key stands for any word. Lines of the hand-in
+    /// that the key doesn't have are skipped.
     pub fn marks_by(&mut self, key: &[u8], hand: &[u8]) -> Marks
         ensures { result ≡ grades.marks_by key.now hand.now }
     {

@@ -1,19 +1,19 @@
-//! How many answers are right, wrong and missing.
+//! The numbers of right, wrong and missing answers.
 ghost use Rattle.std.specs.Prelude.{◌≡◌};
 ghost use Rattle.play_grade.specs.Marks as marks;
 
-/// What one answer is worth.
+/// The mark for one answer.
 #[derive(Clone, Copy)]
 pub enum Mark {
-    /// It's the key's.
+    /// It equals the key's answer.
     Right,
-    /// It's another one.
+    /// It differs from the key's answer.
     Wrong,
-    /// There is none, or one that says nothing: `_`, `?` or `..` alone. Or the line that it belongs to isn't there.
+    /// There is no answer, or only `_`, `?` or `..`, or the line that it belongs to is missing.
     Missing,
 }
 
-/// What all answers of a hand-in are worth. No number goes beyond the largest of 64 bits.
+/// The marks of a hand-in. Each number stops at the largest 64-bit number.
 #[derive(Clone, Copy)]
 pub struct Marks {
     pub right: u64,
@@ -24,7 +24,7 @@ pub struct Marks {
 }
 
 impl Marks {
-    /// Before the first answer.
+    /// Returns the marks before the first answer.
     pub(crate) fn none() -> Marks
         ensures { result ≡ marks.no_marks }
     {
@@ -36,7 +36,7 @@ impl Marks {
         }
     }
 
-    /// With one answer more, which belongs to the key's line of this number.
+    /// Returns the marks with one more answer, for the key's line of this number.
     pub(crate) fn counted(self, mark: Mark, number: u64) -> Marks
         ensures { result ≡ marks.counted mark number self }
     {
@@ -62,7 +62,7 @@ impl Marks {
         }
     }
 
-    /// Whether there is an answer, and all of them are right.
+    /// Returns whether there is an answer, and all answers are right.
     pub fn are_full(&self) -> bool
         ensures { result ≡ marks.are_full self.now }
     {

@@ -1,4 +1,4 @@
-//! What a line asks.
+//! Parsing the request of a line.
 ghost use Rattle.std.specs.Prelude.{◌≡◌, ◌≤◌, Ok, length};
 ghost use Rattle.play_grade.specs.Asked as asked;
 ghost use Rattle.play_grade.specs.Inside.{is_asked};
@@ -8,14 +8,14 @@ use play_line::{Timed, read_time};
 use play_packet::LineReader;
 use play_script::{Kind, read_part};
 
-/// Whether a line is a question to people, which is a comment that begins with `#?`.
+/// Returns whether a line is a question to the student: a comment that begins with `#?`.
 pub(crate) fn is_question(line: &[u8]) -> bool
     ensures { result ≡ asked.is_question line.now }
 {
     line.len() >= 2 && line[0] == b'#' && line[1] == b'?'
 }
 
-/// A line without the `#?` of a question.
+/// Returns a line without the `#?` of a question.
 fn unmarked(line: &[u8]) -> &[u8]
     ensures { result.now ≡ asked.unmarked line.now }
 {
@@ -23,7 +23,7 @@ fn unmarked(line: &[u8]) -> &[u8]
 }
 
 impl Asked {
-    /// Reads a line, or what stands behind the `#?` of a question, as a line of a script is read.
+    /// Reads a line, or the text after the `#?` of a question, as a line of a script.
     pub(crate) fn read(&mut self, text: &[u8], reader: &mut LineReader) -> Kind
         ensures { asked.asked_on text.now ≡ is_asked result self.new }
     {

@@ -5,7 +5,7 @@ ghost use Rattle.play_grade.specs.Verdicts as verdicts;
 use crate::marks::Marks;
 use play_script::Played;
 
-/// How a hand-in was played, and what its answers are worth.
+/// The result of playing a hand-in, and its marks.
 #[derive(Clone, Copy)]
 pub struct Verdict {
     pub played: Played,
@@ -13,8 +13,8 @@ pub struct Verdict {
 }
 
 impl Verdict {
-    /// Whether it passes: it was played to its end, all of its lines could be read and all that it expects came, it has
-    /// an answer, and none is wrong or missing.
+    /// Returns whether it passes: it was played to its end, all of its lines could be read and all of its expectations
+    /// were met, it has an answer, and no answer is wrong or missing.
     pub fn is_passed(&self) -> bool
         ensures { result ≡ verdicts.is_passed self.now }
     {

@@ -1,7 +1,8 @@
--- How people write bytes: hexadecimal digits, texts and patterns, some of them repeated (this project's own).
+-- The syntax of bytes in play scripts: hexadecimal digits, texts and patterns, some of them repeated (this project's
+-- own).
 --
--- Each definition says what one thing is that stands at the beginning of what is left of a line, and what is left after
--- it. If it doesn't stand there, reading stops at the first byte that can't stand where it does: the column of a slip.
+-- Each definition parses one element at the beginning of the rest of a line, and returns it with the rest after it. If
+-- the element isn't there, parsing stops at the first byte that is wrong; its column is that of the error.
 use Rattle.std.specs.Prelude.{ℕ, ◌+◌, ◌-◌, ◌*◌, ◌/◌, ◌%◌, ◌==◌, ◌&&◌, ◌||◌, not, Bool, true, false, List, [], ◌∷◌, ◌++◌, zero, suc, length, take, drop, position, fold, min, if◌then◌else◌, nat_lt, nat_le, Option, Some, None, Result, Ok, Err}
 use Rattle.std.specs.Borrow.{Bor}
 use Rattle.play_line.specs.declared.bytes.Class.{Class}
@@ -12,16 +13,16 @@ use Rattle.play_line.specs.declared.fault.Misread.{Misread}
 use Rattle.play_line.specs.declared.part.Part.{Part}
 use Rattle.play_line.specs.declared.part.TheConstants.{MOST_DIGITS}
 
--- reading stops in front of these bytes
+-- parsing stops before these bytes
 abbrev pub stop : {A : Type 0} → Fault → List ℕ → Result A Misread
 stop fault left = Err (record { fault = fault; left = length left })
 
--- what is read next, unless reading has stopped
+-- the next step, unless parsing has stopped
 abbrev pub next : {A B : Type 0} → Result A Misread → (A → Result B Misread) → Result B Misread
 next (Ok a) more = more a
 next (Err e) more = Err e
 
--- what was read, with what is left
+-- the element that was parsed, with the rest
 abbrev pub Left : Type 0 → Type 0
 Left A = Result (A × List ℕ) Misread
 
@@ -34,7 +35,7 @@ is_blank byte = byte == 32 || (byte == 9 || byte == 13)
 abbrev pub is_decimal : ℕ → Bool
 is_decimal byte = nat_le 48 byte && nat_le byte 57
 
--- what ends a word: a blank, or one of # " + * @ =
+-- the end of a word: a blank, or one of # " + * @ =
 abbrev pub is_sign : ℕ → Bool
 is_sign byte = is_blank byte
     || (byte == 35 || (byte == 34 || (byte == 43 || (byte == 42 || (byte == 64 || byte == 61)))))
@@ -52,7 +53,7 @@ digit value = if nat_lt value 10 then 48 + value else 87 + value
 abbrev pub digits : ℕ → List ℕ
 digits byte = digit (byte / 16) ∷ digit (byte % 16) ∷ []
 
--- what a byte of a text stands for, after a backslash or by itself: \n, \r, \t, \0, \\ and \"
+-- the byte that a byte of a text represents, after a backslash or without one: \n, \r, \t, \0, \\ and \"
 abbrev pub meaning : Bool → ℕ → Option ℕ
 meaning false byte = Some byte
 meaning true byte =
@@ -63,20 +64,20 @@ meaning true byte =
     if byte == 92 then Some 92 else
     if byte == 34 then Some 34 else None
 
--- ---- the bytes in front
+-- ---- the leading bytes
 
 abbrev pub place_or_end : Option ℕ → List ℕ → ℕ
 place_or_end (Some at) left = at
 place_or_end None left = length left
 
--- how many bytes in front are in a class
+-- how many leading bytes are in a class
 abbrev pub front : Class → List ℕ → ℕ
 front class left = place_or_end (position (λ byte. not (is_in class byte)) left) left
 
 abbrev pub skip : List ℕ → List ℕ
 skip left = drop (front Blank left) left
 
--- the byte in front is this
+-- the first byte is this one
 abbrev pub is_next : ℕ → List ℕ → Bool
 is_next byte [] = false
 is_next byte (first ∷ rest) = first == byte
@@ -100,11 +101,11 @@ text_after done escaped (byte ∷ rest) =
 
 -- ---- numbers and patterns
 
--- the number that digits write, or 65,536 if it's more than that
+-- the number for these digits, or 65,536 if it is larger than that
 abbrev pub digits_value : List ℕ → ℕ
 digits_value word = fold (λ value byte. min 65536 (10 * value + (byte - 48))) 0 word
 
--- a number of 1 to 65,535, which n digits write
+-- a number of 1 to 65,535, written as n digits
 abbrev pub repeats_read : List ℕ → ℕ → Left ℕ
 repeats_read left n =
     if n == 0 then stop NoCount left
@@ -115,14 +116,14 @@ repeats_read left n =
 abbrev pub count_at : List ℕ → Left ℕ
 count_at left = repeats_read left (front Decimal left)
 
--- the bytes 0, 1, 2 .. 255, 0 .., so many of them
+-- the bytes 0, 1, 2 .. 255, 0 .., this many of them
 abbrev pub counting : ℕ → List ℕ
 counting zero = []
 counting (suc n) = counting n ++ digits (n % 256)
 
 -- ---- parts
 
--- the next n bytes, which have to be hexadecimal digits, two for each byte, if `hex`
+-- the next n bytes; if `hex`, they must be hexadecimal digits, two for each byte
 abbrev pub word_read : Bool → ℕ → List ℕ → Left (List ℕ)
 word_read hex n left =
     if n == 0 then stop NoBytes left
@@ -136,17 +137,17 @@ abbrev pub is_closed : List ℕ → Bool
 is_closed [] = true
 is_closed (byte ∷ rest) = is_blank byte || (byte == 35 || (byte == 43 || byte == 61))
 
--- so many copies of a piece, and then the end of the word, or `+`
+-- this many copies of a piece, followed by the end of the word, or `+`
 abbrev pub copies : List ℕ → ℕ → List ℕ → Left Part
 copies piece count left =
     if is_closed left then Ok (record { piece = piece; count = count }, left) else stop NotJoined left
 
--- as many as stand after `*`, or else one
+-- the number of copies after `*`, or one
 abbrev pub repeated : List ℕ → List ℕ → Left Part
 repeated piece left =
     if is_next 42 left then next (count_at (drop 1 left)) (λ t. copies piece t.0 t.1) else copies piece 1 left
 
--- a text, or the next n bytes as they stand
+-- a text, or the next n bytes as they are written
 abbrev pub piece_read : Bool → ℕ → List ℕ → Left (List ℕ)
 piece_read hex n left = if is_next 34 left then text_after [] false (drop 1 left) else word_read hex n left
 
@@ -156,7 +157,7 @@ part_at hex n left =
     if is_next 64 left then next (count_at (drop 1 left)) (λ t. copies (counting t.0) 1 t.1)
     else next (piece_read hex n left) (λ t. repeated t.0 t.1)
 
--- ---- what the code has in hand
+-- ---- the values in the code
 
 abbrev pub with_left : {A : Type 0} → A → Result (Bor (List ℕ)) Misread → Left A
 with_left a (Ok left) = Ok (a, left.now)

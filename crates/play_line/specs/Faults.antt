@@ -1,4 +1,4 @@
--- What is wrong with a line, in words (this project's own).
+-- The messages for errors in a line (this project's own).
 use Rattle.std.specs.Prelude.{ℕ, List, codes}
 use Rattle.play_line.specs.declared.fault.Fault.{Fault}
 use Rattle.play_line.specs.declared.fault.Fault.TheVariants.{NotHex, OddDigits, NoBytes, NotJoined, EmptyText, UnendedText, UnknownEscape, NoCount, ZeroCount, TooManyBytes, TooLong, NoEnd, NoAddress, NoPort, NoArrow, NoId, NoTtl, NoOffset, NoMore, NoSize, NotUpTo15, NotUpTo255, NotUpTo65535, UnknownWord, ToldTwice, PastEnd, TooLarge, NoTime}

@@ -1,5 +1,5 @@
--- The plain line that a line for people stands for: its words with one space between each two, without its comment,
--- and with hexadecimal digits for all bytes (this project's own).
+-- The plain line of a line of a play script: its words with one space between each two, without its comment, and with
+-- hexadecimal digits for all bytes (this project's own).
 use Rattle.std.specs.Prelude.{ℕ, ◌+◌, ◌-◌, ◌*◌, ◌==◌, ◌≤◌, ◌&&◌, ◌||◌, not, Bool, true, false, List, [], ◌∷◌, ◌++◌, zero, suc, length, take, drop, if◌then◌else◌, codes, bytes_eq, nat_lt, nat_le, Result, Ok, Err}
 use Rattle.std.specs.Borrow.{Bor}
 use Rattle.play_line.specs.Bytes.{stop, next, is_next, front, skip, part_at}
@@ -15,28 +15,29 @@ use Rattle.play_line.specs.declared.part.TheConstants.{MOST_DIGITS}
 -- a line so far
 pub record LineFront : Type 0 where
   pub plain : List ℕ  -- its plain line
-  pub begin : ℕ  -- where the last word begins there
-  pub awaits : ℕ  -- how many words on the bytes of the line stand, or 0
-  pub ended : Bool  -- nothing more is read
+  pub begin : ℕ  -- the position there at which the last word begins
+  pub awaits : ℕ  -- how many words further on the bytes of the line are, or 0
+  pub ended : Bool  -- the line is finished
   pub left : List ℕ
 
 abbrev pub fresh_front : List ℕ → LineFront
 fresh_front line = record { plain = []; begin = 0; awaits = 0; ended = false; left = line }
 
--- ---- which words have to be bytes
+-- ---- which words must be bytes
 
--- how many words after this first one of a line its bytes stand
+-- how many words after this first word of a line its bytes are
 abbrev pub places : List ℕ → ℕ
 places word =
     if bytes_eq word (codes "rx") then 1 else
     if bytes_eq word (codes "send") then 2 else
     if bytes_eq word (codes "sendto") then 4 else 0
 
--- what a packet by name begins with after `rx`
+-- the word after `rx` that begins the description of a packet
 abbrev pub begins_packet : List ℕ → Bool
 begins_packet word = bytes_eq word (codes "udp") || bytes_eq word (codes "raw")
 
--- the same after one more word: in a packet by name both ends with `>` between them stand in front of the bytes
+-- the same after one more word: in the description of a packet, both endpoints with `>` between them come before the
+-- bytes
 abbrev pub next_awaits : List ℕ → ℕ → List ℕ → ℕ
 next_awaits plain awaits word =
     if is_next 61 word then 0
@@ -49,14 +50,14 @@ abbrev pub needs_no_digits : List ℕ → List ℕ → Bool
 needs_no_digits plain word = bytes_eq word (codes "-")
     || (bytes_eq plain (codes "rx") && (begins_packet word || bytes_eq word (codes "pcap")))
 
--- it stands in the place of the bytes, or `*` or `+` comes after it
+-- it is at the position of the bytes, or `*` or `+` follows it
 abbrev pub has_digits : List ℕ → ℕ → List ℕ → List ℕ → Bool
 has_digits plain awaits word rest =
     is_next 42 rest || (is_next 43 (skip rest) || (awaits == 1 && not (needs_no_digits plain word)))
 
 -- ---- words
 
--- so many copies of a piece more
+-- this many more copies of a piece
 abbrev pub appended : List ℕ → ℕ → List ℕ → List ℕ
 appended done zero piece = done
 appended done (suc n) piece = appended done n piece ++ piece
@@ -71,19 +72,19 @@ with_part f t =
 abbrev pub part_in : Bool → ℕ → LineFront → Result LineFront Misread
 part_in hex n f = next (part_at hex n f.left) (with_part f)
 
--- after `+`, which joins bytes to the word in front of it
+-- after `+`, which joins bytes to the word before it
 unfoldable pub joined_part : LineFront → Result LineFront Misread
 joined_part f = part_in true (front Word f.left) f
 
--- a space stands in front of a word, but for the first one, and for `=` right after another word
+-- a space comes before a word, except for the first word, and for `=` directly after another word
 abbrev pub is_apart : List ℕ → List ℕ → List ℕ → Bool
 is_apart plain left at = nat_lt 0 (length plain) && nat_lt (length at) (length left)
 
--- where it begins in the plain line
+-- the position in the plain line at which it begins
 abbrev pub begin_after : Bool → ℕ → ℕ
 begin_after apart len = if apart then len + 1 else len
 
--- up to the next sign, but for `=` as its first byte
+-- up to the next sign, except `=` as its first byte
 abbrev pub word_len : List ℕ → ℕ
 word_len left = if is_next 61 left then 1 + front Word (drop 1 left) else front Word left
 
@@ -104,7 +105,7 @@ abbrev pub is_end : List ℕ → Bool
 is_end [] = true
 is_end (byte ∷ rest) = byte == 35
 
--- the next word, or the next bytes that `+` joins; none from the word on that begins at the goal
+-- the next word, or the next bytes that `+` joins; not the word that begins at the goal
 abbrev pub step_at : ℕ → Bool → LineFront → Result LineFront Misread
 step_at goal apart f =
     if is_end f.left then Ok (record f { ended = true })
@@ -124,7 +125,7 @@ abbrev pub line_after : ℕ → ℕ → LineFront → Result LineFront Misread
 line_after zero goal f = Ok f
 line_after (suc n) goal f = next (step goal f) (λ g. if g.ended then Ok g else line_after n goal g)
 
--- all of them: none is shorter than a byte
+-- all of them: each takes at least one byte
 abbrev pub line_read : ℕ → List ℕ → Result LineFront Misread
 line_read goal line = line_after (length line) goal (fresh_front line)
 
@@ -136,7 +137,7 @@ abbrev pub plain_of : List ℕ → Result LineFront Misread → Result (List ℕ
 plain_of line (Ok f) = Ok f.plain
 plain_of line (Err e) = Err (record { fault = e.fault; column = column_at line e.left })
 
--- the plain line that a line stands for, or what is wrong with it
+-- the plain line of a line, or the error in it
 abbrev pub expanded : List ℕ → Result (List ℕ) Slip
 expanded line = plain_of line (line_read WHOLE line)
 
@@ -144,11 +145,11 @@ abbrev pub left_of : Result LineFront Misread → ℕ
 left_of (Ok f) = length f.left
 left_of (Err e) = e.left
 
--- the column of the word that begins at this place of the plain line, or the one after the line's last byte
+-- the column of the word that begins at this position of the plain line, or the column after the line's last byte
 abbrev pub column_of : List ℕ → ℕ → ℕ
 column_of line place = column_at line (left_of (line_read place line))
 
--- ---- what the code has in hand
+-- ---- the values in the code
 
 abbrev pub reader_front : Reader → List ℕ → LineFront
 reader_front r left = record { plain = r.plain; begin = r.begin; awaits = r.awaits; ended = r.ended; left = left }
@@ -161,7 +162,7 @@ abbrev pub front_or : Result (Bor (List ℕ)) Misread → Reader → Result Line
 front_or (Ok left) r = Ok (reader_front r left.now)
 front_or (Err e) r = Err e
 
--- what a slice has
+-- the bytes of a slice
 abbrev pub now_or : Result (Bor (List ℕ)) Slip → Result (List ℕ) Slip
 now_or (Ok text) = Ok text.now
 now_or (Err slip) = Err slip

@@ -1,15 +1,15 @@
--- What is told of a line: what stands in front of its comment and of what is expected (this project's own).
+-- The part of a line that is printed: everything before its comment and its expectation (this project's own).
 use Rattle.std.specs.Prelude.{ℕ, ◌==◌, ◌||◌, ◌&&◌, not, Bool, true, false, List, [], ◌∷◌, ◌++◌, if◌then◌else◌}
 use Rattle.play_line.specs.Bytes.{is_blank}
 
--- what is put between the bytes so far and the next one
+-- the text between the bytes so far and the next one
 abbrev pub gap_text : Bool → List ℕ → List ℕ
 gap_text true (byte ∷ bytes) = 32 ∷ []
 gap_text true [] = []
 gap_text false done = []
 
--- The bytes after `done`. There was a blank since the last one if `gap`; it stands in a text if `quoted`, and is a
--- backslash there if `escaped`.
+-- The bytes after `done`. There was a blank after the last one if `gap`. The next byte is in a text if `quoted`, and
+-- follows a backslash there if `escaped`.
 abbrev pub shown_after : List ℕ → Bool → Bool → Bool → List ℕ → List ℕ
 shown_after done gap quoted escaped [] = done
 shown_after done gap quoted escaped (byte ∷ bytes) =
@@ -18,6 +18,6 @@ shown_after done gap quoted escaped (byte ∷ bytes) =
     else shown_after ((done ++ gap_text gap done) ++ byte ∷ []) false
     (if quoted then escaped || not (byte == 34) else byte == 34) (quoted && (not escaped && byte == 92)) bytes
 
--- the words of a line as they're written, with one space between each two
+-- the words of a line as they are written, with one space between each two
 abbrev pub shown : List ℕ → List ℕ
 shown line = shown_after [] false false false line

@@ -1,4 +1,4 @@
--- The time that passes before a line, in front of it: `+0.5s`, as packetdrill has it (this project's own).
+-- The time that passes before a line, written at its beginning: `+0.5s`, like in packetdrill (this project's own).
 use Rattle.std.specs.Prelude.{ℕ, ◌+◌, ◌*◌, ◌==◌, ◌||◌, Bool, List, [], ◌∷◌, length, take, drop, position, codes, bytes_eq, nat_lt, if◌then◌else◌, Option, Some, None, Result, Ok, Err}
 use Rattle.play_line.specs.Bytes.{digits_value, front, is_blank, is_next, place_or_end, skip}
 use Rattle.play_line.specs.Line.{column_at, is_end}
@@ -10,27 +10,27 @@ use Rattle.play_line.specs.declared.time.TheConstants.{MOST_TICKS, MOST_WORD}
 
 -- a line without its time
 pub record TimedView : Type 0 where
-  pub ticks : ℕ  -- how many pass first, each of half a second
-  pub part : List ℕ  -- the line after the time and the blanks behind it
+  pub ticks : ℕ  -- how many pass first, each half a second
+  pub part : List ℕ  -- the line after the time and the blanks that follow it
 
--- what stands after whole seconds: how many ticks more
+-- the ticks that the text after the whole seconds adds
 abbrev pub half_of : List ℕ → Option ℕ
 half_of word =
     if bytes_eq word (codes "s") || bytes_eq word (codes ".0s") then Some 0
     else if bytes_eq word (codes ".5s") then Some 1 else None
 
--- no more than a line `tick` has
+-- at most as many as a line `tick` can have
 abbrev pub ticks_by : ℕ → Option ℕ → Option ℕ
 ticks_by seconds (Some half) = if nat_lt MOST_TICKS (2 * seconds + half) then None else Some (2 * seconds + half)
 ticks_by seconds None = None
 
--- the ticks that a word after `+` writes: whole seconds in decimal digits, then `s`, `.0s` or `.5s`
+-- the ticks for a word after `+`: whole seconds in decimal digits, then `s`, `.0s` or `.5s`
 abbrev pub ticks_in : List ℕ → Option ℕ
 ticks_in word =
     if front Decimal word == 0 || nat_lt MOST_WORD (length word) then None
     else ticks_by (digits_value (take (front Decimal word) word)) (half_of (drop (front Decimal word) word))
 
--- how many bytes stand in front of the first blank
+-- how many bytes come before the first blank
 abbrev pub word_end : List ℕ → ℕ
 word_end left = place_or_end (position (λ byte. is_blank byte) left) left
 
@@ -38,13 +38,13 @@ word_end left = place_or_end (position (λ byte. is_blank byte) left) left
 abbrev pub no_time : List ℕ → List ℕ → Result TimedView Slip
 no_time line at = Err (record { fault = NoTime; column = column_at line (length at) })
 
--- a time, and a line behind it that isn't empty
+-- a time, and a line after it that isn't empty
 abbrev pub with_time : List ℕ → List ℕ → Option ℕ → List ℕ → Result TimedView Slip
 with_time line at (Some n) part =
     if is_end part then no_time line at else Ok (record { ticks = n; part = part })
 with_time line at None part = no_time line at
 
--- what stands after the blanks in front of a line
+-- the text after the leading blanks of a line
 abbrev pub timed_at : List ℕ → List ℕ → Result TimedView Slip
 timed_at line at =
     if is_next 43 at
@@ -52,11 +52,11 @@ timed_at line at =
     (skip (drop (word_end (drop 1 at)) (drop 1 at)))
     else Ok (record { ticks = 0; part = line })
 
--- the time that stands in front of a line after `+`, and the line; or what is wrong with it
+-- the time at the beginning of a line after `+`, and the line; or the error in it
 abbrev pub timed : List ℕ → Result TimedView Slip
 timed line = timed_at line (skip line)
 
--- ---- what the code has in hand
+-- ---- the values in the code
 
 abbrev pub timed_or : Result Timed Slip → Result TimedView Slip
 timed_or (Ok t) = Ok (record { ticks = t.ticks; part = t.part.now })

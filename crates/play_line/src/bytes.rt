@@ -1,4 +1,4 @@
-//! What stands at the beginning of what is left of a line: texts, numbers, and words as they stand.
+//! Tokens at the front of the rest of a line: texts, numbers, and other words.
 ghost use Rattle.std.specs.Prelude.{◌≡◌, ◌≤◌, ◌<◌, true, false, not, length, position, [], IfSome, IfOk};
 ghost use Rattle.play_line.specs.Bytes as bytes;
 
@@ -6,7 +6,7 @@ use crate::fault::{Fault, Misread, stop};
 use crate::part::MOST_DIGITS;
 use script_loop::Buffer;
 
-/// Bytes that may stand beside each other.
+/// Classes of bytes that form a token.
 #[derive(Clone, Copy)]
 pub(crate) enum Class {
     /// Spaces, tabs and carriage returns.
@@ -15,11 +15,11 @@ pub(crate) enum Class {
     Decimal,
     /// Hexadecimal digits of either case.
     Hex,
-    /// What words have that aren't texts.
+    /// Bytes of words that aren't texts.
     Word,
 }
 
-/// Whether a byte is in a class.
+/// Returns whether a byte is in a class.
 pub(crate) fn is_in(class: Class, byte: u8) -> bool
     ensures { result ≡ bytes.is_in class byte }
 {
@@ -35,7 +35,7 @@ pub(crate) fn is_in(class: Class, byte: u8) -> bool
     }
 }
 
-/// Where the first byte stands that isn't in a class.
+/// Returns the index of the first byte that isn't in a class.
 fn first_other(class: Class, left: &[u8]) -> Option<usize>
     ensures is { result ≡ position (λ byte. not (bytes.is_in class byte)) left.now }
     ensures most { IfSome result (λ at. at < length left.now) }
@@ -43,7 +43,7 @@ fn first_other(class: Class, left: &[u8]) -> Option<usize>
     left.iter().position(|byte| !is_in(class, *byte))
 }
 
-/// How many bytes in front are in a class.
+/// Returns how many bytes at the front are in a class.
 pub(crate) fn front(class: Class, left: &[u8]) -> usize
     ensures is { result ≡ bytes.front class left.now }
     ensures most { result ≤ length left.now }
@@ -54,7 +54,7 @@ pub(crate) fn front(class: Class, left: &[u8]) -> usize
     }
 }
 
-/// What is left without the blanks in front.
+/// Returns the rest without its leading blanks.
 pub(crate) fn skip(left: &[u8]) -> &[u8]
     ensures is { result.now ≡ bytes.skip left.now }
     ensures most { length result.now ≤ length left.now }
@@ -62,7 +62,7 @@ pub(crate) fn skip(left: &[u8]) -> &[u8]
     &left[front(Class::Blank, left)..]
 }
 
-/// Whether the byte in front is this one.
+/// Returns whether the first byte is this one.
 pub(crate) fn is_next(byte: u8, left: &[u8]) -> bool
     ensures is { result ≡ bytes.is_next byte left.now }
     ensures some { result ≡ true → 0 < length left.now }
@@ -73,7 +73,7 @@ pub(crate) fn is_next(byte: u8, left: &[u8]) -> bool
     }
 }
 
-/// The two hexadecimal digits of a byte, in lower case.
+/// Returns the two hexadecimal digits of a byte, in lower case.
 pub(crate) fn digits(byte: u8) -> [u8; 2]
     ensures { result ≡ bytes.digits byte }
 {
@@ -82,7 +82,7 @@ pub(crate) fn digits(byte: u8) -> [u8; 2]
     digits
 }
 
-/// What a byte of a text stands for, after a backslash or by itself.
+/// Returns the byte that a byte of a text represents, after a backslash or without one.
 fn meaning(escaped: bool, byte: u8) -> Option<u8>
     ensures { result ≡ bytes.meaning escaped byte }
 {
@@ -100,7 +100,7 @@ fn meaning(escaped: bool, byte: u8) -> Option<u8>
     }
 }
 
-/// Puts the digits of a text into a buffer, and answers what is left after its end.
+/// Appends the digits of a text to a buffer, and returns the rest after the end of the text.
 pub(crate) fn read_text<'a>(
     piece: &mut Buffer<MOST_DIGITS>,
     text: &'a [u8],
@@ -133,7 +133,7 @@ pub(crate) fn read_text<'a>(
     stop(Fault::UnendedText, &[])
 }
 
-/// The number that decimal digits write, or 65,536 if it's more than that.
+/// Returns the number for these decimal digits, or 65,536 if it is larger than that.
 pub(crate) fn value_of(word: &[u8]) -> u32
     ensures is { result ≡ bytes.digits_value word.now }
     ensures most { result ≤ 65536 }
@@ -145,7 +145,7 @@ pub(crate) fn value_of(word: &[u8]) -> u32
     value
 }
 
-/// A number of 1 to 65,535, and what is left after it.
+/// Parses a number of 1 to 65,535, and returns it with the rest after it.
 pub(crate) fn read_count(left: &[u8]) -> Result<(u32, &[u8]), Misread>
     ensures is { bytes.count_now result ≡ bytes.count_at left.now }
     ensures most { IfOk result (λ t. t.0 ≤ 65535) }

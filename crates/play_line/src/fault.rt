@@ -1,25 +1,25 @@
-//! What is wrong with a line.
+//! Syntax errors in a line.
 ghost use Rattle.std.specs.Prelude.{◌≡◌, ◌≤◌, length};
 ghost use Rattle.play_line.specs.Faults.{misread_words};
 
-/// What is wrong with a line.
+/// A syntax error in a line.
 #[derive(Clone, Copy)]
 pub enum Fault {
-    /// Bytes have a byte that isn't a hexadecimal digit.
+    /// The bytes contain a character that isn't a hexadecimal digit.
     NotHex,
-    /// Bytes have an odd number of digits.
+    /// The bytes have an odd number of digits.
     OddDigits,
-    /// No bytes stand in front of `+` or `*`, or after `+`.
+    /// There are no bytes before `+` or `*`, or after `+`.
     NoBytes,
-    /// Bytes end, and neither a blank nor `+` follows.
+    /// The bytes end, and neither a blank nor `+` follows.
     NotJoined,
-    /// A text has no byte.
+    /// A text is empty.
     EmptyText,
     /// A text has no end.
     UnendedText,
-    /// A backslash in a text, and no byte after it with a meaning.
+    /// After a backslash in a text there is no byte with a meaning.
     UnknownEscape,
-    /// No number stands after `*` or `@`.
+    /// There is no number after `*` or `@`.
     NoCount,
     /// The number after `*` or `@` is 0.
     ZeroCount,
@@ -27,62 +27,62 @@ pub enum Fault {
     TooManyBytes,
     /// The plain line has more than 262,144 bytes.
     TooLong,
-    /// No address with a port stands where one has to.
+    /// There is no address with a port at a place that needs one.
     NoEnd,
-    /// No address stands where one has to.
+    /// There is no address at a place that needs one.
     NoAddress,
-    /// What stands after the colon of an address isn't a port.
+    /// The text after the colon of an address isn't a port.
     NoPort,
-    /// No `>` stands between the two ends of a datagram.
+    /// There is no `>` between the two endpoints of a datagram.
     NoArrow,
-    /// What stands after `id` isn't an identification.
+    /// The word after `id` isn't an identification.
     NoId,
-    /// What stands after `ttl` isn't a time to live.
+    /// The word after `ttl` isn't a time to live.
     NoTtl,
-    /// What stands after `at` isn't where a fragment can begin.
+    /// The word after `at` isn't a possible offset of a fragment.
     NoOffset,
-    /// Neither `more` nor `last` stands after the place of a fragment.
+    /// Neither `more` nor `last` follows the offset of a fragment.
     NoMore,
-    /// What stands after `size` isn't a number of bytes.
+    /// The word after `size` isn't a number of bytes.
     NoSize,
-    /// What stands after the name of a field of 4 bits doesn't fit into it.
+    /// The value of a 4-bit field is too large.
     NotUpTo15,
-    /// The same of a field of 8 bits.
+    /// The value of an 8-bit field is too large.
     NotUpTo255,
-    /// The same of a field of 16 bits.
+    /// The value of a 16-bit field is too large.
     NotUpTo65535,
-    /// A word about a packet that has no meaning.
+    /// A word in the description of a packet has no meaning.
     UnknownWord,
-    /// A word says once more what another one has said.
+    /// A word repeats what another one specifies.
     ToldTwice,
-    /// What a packet is to carry isn't in the datagram.
+    /// The range of bytes for a packet isn't in the datagram.
     PastEnd,
-    /// The datagram or the packet would be longer than one can be.
+    /// The datagram or the packet would exceed its maximum length.
     TooLarge,
-    /// What stands in front of a line isn't a time of half seconds, or no line stands after it.
+    /// The prefix of a line isn't a time in half seconds, or no line follows it.
     NoTime,
 }
 
-/// What is wrong with a line, and where.
+/// A syntax error, and its position.
 #[derive(Clone, Copy)]
 pub struct Slip {
-    /// What is wrong.
+    /// The error.
     pub fault: Fault,
-    /// The column of the first byte that can't stand where it does, or the one after the line's last byte if a byte is
-    /// missing there; the first column is 1.
+    /// The column of the first byte that is wrong, or the column after the line's last byte if a byte is missing there.
+    /// The first column is 1.
     pub column: u64,
 }
 
-/// Why reading stopped, and where.
+/// Why parsing stopped, and where.
 #[derive(Clone, Copy)]
 pub(crate) struct Misread {
-    /// What is wrong.
+    /// The error.
     pub(crate) fault: Fault,
     /// How many bytes of the line are left there.
     pub(crate) left: usize,
 }
 
-/// Reading stops in front of these bytes.
+/// Parsing stops before these bytes.
 pub(crate) fn stop<T>(fault: Fault, left: &[u8]) -> Result<T, Misread>
     ensures { result ≡ Err (record { fault = fault; left = length left.now }) }
 {
@@ -93,7 +93,7 @@ pub(crate) fn stop<T>(fault: Fault, left: &[u8]) -> Result<T, Misread>
 }
 
 impl Fault {
-    /// What is wrong, in words.
+    /// Returns the error message.
     pub fn words(self) -> &'static str
         ensures is { result.now ≡ misread_words self }
         ensures short { length result.now ≤ 48 }

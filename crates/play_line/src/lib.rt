@@ -1,5 +1,5 @@
-//! Lines that people write: texts, repeated bytes and patterns stand in them in place of hexadecimal digits. A reader
-//! answers the plain line that a line stands for, or what is wrong with it and in which column.
+//! Lines in the syntax of play scripts: instead of hexadecimal digits they may contain texts, repeated bytes and
+//! patterns. A reader expands them to plain lines, or returns the syntax error and its column.
 #![tactic(auto)]
 
 mod bytes;

@@ -1,4 +1,4 @@
-//! A whole line, word by word.
+//! Expanding a whole line, word by word.
 ghost use Rattle.std.specs.Prelude.{◌≡◌, ◌≤◌, ◌<◌, ◌+◌, ◌*◌, true, length};
 ghost use Rattle.play_line.specs.Line as line_specs;
 
@@ -8,13 +8,13 @@ use crate::part::{MOST_DIGITS, Part};
 use script_loop::Buffer;
 use std::alloc::{AllocError, Global};
 
-/// The most bytes that a line may have, and that the plain line may have.
+/// The most bytes in a line, and in its plain line.
 pub const LONGEST: usize = 262_144;
 
-/// A place at which no word of a plain line begins.
+/// A position at which no word of a plain line begins.
 const WHOLE: usize = LONGEST + 1;
 
-/// What reads a line, and has memory for the plain line that it stands for.
+/// Expands lines. It has the memory for the plain line.
 #[derive(Drop)]
 pub struct Reader {
     /// The plain line so far.
@@ -23,13 +23,13 @@ pub struct Reader {
     pub(crate) part: Part,
     /// Where in the plain line the last word begins.
     pub(crate) begin: usize,
-    /// How many words on the bytes of the line stand, or 0.
+    /// How many words further on the bytes of the line are, or 0.
     pub(crate) awaits: usize,
-    /// Whether nothing more is read.
+    /// Whether the line is finished.
     pub(crate) ended: bool,
 }
 
-/// Puts so many copies of a piece after the bytes.
+/// Appends `count` copies of a piece.
 fn put_copies(done: &mut Buffer<LONGEST>, piece: &[u8], count: u32)
     requires { length done.old + count * length piece.now ≤ LONGEST }
     ensures { done.new ≡ line_specs.appended done.old count piece.now }
@@ -41,7 +41,7 @@ fn put_copies(done: &mut Buffer<LONGEST>, piece: &[u8], count: u32)
     }
 }
 
-/// How many words after this first one of a line its bytes stand.
+/// Returns how many words after this first word of a line its bytes are.
 fn places(word: &[u8]) -> usize
     ensures { result ≡ line_specs.places word.now }
 {
@@ -56,14 +56,14 @@ fn places(word: &[u8]) -> usize
     }
 }
 
-/// Whether a packet by name begins with this word after `rx`.
+/// Returns whether this word after `rx` begins the description of a packet.
 fn begins_packet(word: &[u8]) -> bool
     ensures { result ≡ line_specs.begins_packet word.now }
 {
     word == b"udp".as_slice() || word == b"raw".as_slice()
 }
 
-/// How many bytes the word in front has, if it's neither a text nor a pattern.
+/// Returns the length of the first word, if it is neither a text nor a pattern.
 fn word_len(at: &[u8]) -> usize
     ensures is { result ≡ line_specs.word_len at.now }
     ensures most { result ≤ length at.now }
@@ -75,7 +75,7 @@ fn word_len(at: &[u8]) -> usize
     }
 }
 
-/// Where a word begins in a plain line of so many bytes.
+/// Returns where the next word begins in a plain line of this length.
 fn begin_after(apart: bool, len: usize) -> usize
     requires { len ≤ LONGEST }
     ensures { result ≡ line_specs.begin_after apart len }
@@ -83,7 +83,7 @@ fn begin_after(apart: bool, len: usize) -> usize
     if apart { len + 1 } else { len }
 }
 
-/// Whether the line ends here, or its comment begins.
+/// Returns whether the line ends here, or its comment begins.
 pub(crate) fn is_end(left: &[u8]) -> bool
     ensures { result ≡ line_specs.is_end left.now }
 {
@@ -93,7 +93,7 @@ pub(crate) fn is_end(left: &[u8]) -> bool
     }
 }
 
-/// The column of the first byte that is left.
+/// Returns the column of the first byte that is left.
 pub(crate) fn column_at(line: &[u8], left: usize) -> u64
     ensures { result ≡ line_specs.column_at line.now left }
 {
@@ -101,11 +101,11 @@ pub(crate) fn column_at(line: &[u8], left: usize) -> u64
 }
 
 impl Reader {
-    /// A reader, with its memory.
+    /// Creates a reader and allocates its memory.
     ///
     /// # Errors
     ///
-    /// If host memory is lacking.
+    /// If the host refuses memory.
     pub fn new(alloc: Global) -> Result<Reader, AllocError> {
         Ok(Reader {
             plain: Buffer::new(alloc)?,
@@ -119,7 +119,7 @@ impl Reader {
         })
     }
 
-    /// How many words on the bytes of the line stand after one more word.
+    /// Returns how many words further on the bytes of the line are, after one more word.
     fn next_awaits(&self, word: &[u8]) -> usize
         ensures { result ≡ line_specs.next_awaits self.now.plain self.now.awaits word.now }
     {
@@ -134,7 +134,7 @@ impl Reader {
         }
     }
 
-    /// Whether a word in the place of the bytes needs no digits.
+    /// Returns whether a word at the position of the bytes needs no digits.
     fn needs_no_digits(&self, word: &[u8]) -> bool
         ensures { result ≡ line_specs.needs_no_digits self.now.plain word.now }
     {
@@ -143,7 +143,7 @@ impl Reader {
                 && (begins_packet(word) || word == b"pcap".as_slice()))
     }
 
-    /// Whether a word has to be digits, by its place or by what comes after it.
+    /// Returns whether a word must be digits, because of its position or of what follows it.
     fn has_digits(&self, word: &[u8], rest: &[u8]) -> bool
         ensures { result ≡ line_specs.has_digits self.now.plain self.now.awaits word.now rest.now }
     {
@@ -151,7 +151,7 @@ impl Reader {
             || (is_next(b'+', skip(rest)) || (self.awaits == 1 && !self.needs_no_digits(word)))
     }
 
-    /// Puts the part that was read into the plain line.
+    /// Appends the part that was read to the plain line.
     fn put_part(&mut self, rest: &[u8]) -> Result<(), Misread>
         ensures { line_specs.done_or result (line_specs.reader_front self.new rest.now)
             ≡ line_specs.with_part (line_specs.reader_front self.old rest.now) (self.old.part, rest.now) }
@@ -167,7 +167,7 @@ impl Reader {
         }
     }
 
-    /// Reads a part of bytes into the plain line.
+    /// Reads a part of bytes, and appends it to the plain line.
     fn read_part<'a>(&mut self, hex: bool, n: usize, at: &'a [u8]) -> Result<&'a [u8], Misread>
         requires { n ≤ length at.now }
         ensures { line_specs.front_or result self.new
@@ -182,7 +182,7 @@ impl Reader {
         }
     }
 
-    /// Reads bytes that `+` joins to the word in front of it.
+    /// Reads bytes that `+` joins to the word before it.
     fn read_joined<'a>(&mut self, at: &'a [u8]) -> Result<&'a [u8], Misread>
         ensures { line_specs.front_or result self.new
             ≡ line_specs.joined_part (line_specs.reader_front self.old at.now) }
@@ -190,7 +190,7 @@ impl Reader {
         self.read_part(true, front(Class::Word, at), at)
     }
 
-    /// Begins a word, with a space in front if it's apart from what was read.
+    /// Begins a word, after a space if a blank separates it from what was read.
     fn open(&mut self, apart: bool, word: &[u8], at: &[u8])
         requires { apart ≡ true → length self.old.plain < LONGEST }
         ensures is { line_specs.reader_front self.new at.now
@@ -216,7 +216,7 @@ impl Reader {
         self.read_part(hex, n, at)
     }
 
-    /// Reads the next word, or the next bytes that `+` joins; none from the word on that begins at the goal.
+    /// Reads the next word, or the next bytes that `+` joins. It stops before the word that begins at `goal`.
     fn step_at<'a>(&mut self, goal: usize, apart: bool, at: &'a [u8]) -> Result<&'a [u8], Misread>
         ensures { line_specs.front_or result self.new
             ≡ line_specs.step_at goal apart (line_specs.reader_front self.old at.now) }
@@ -243,7 +243,7 @@ impl Reader {
         self.read_word(apart, at)
     }
 
-    /// The same after the blanks in front.
+    /// Does the same after the leading blanks.
     fn step<'a>(&mut self, goal: usize, left: &'a [u8]) -> Result<&'a [u8], Misread>
         ensures { line_specs.front_or result self.new
             ≡ line_specs.step goal (line_specs.reader_front self.old left.now) }
@@ -253,7 +253,7 @@ impl Reader {
         self.step_at(goal, apart, at)
     }
 
-    /// Reads a line up to the word that begins at the goal of the plain line, and answers what is left.
+    /// Reads a line up to the word that begins at position `goal` of the plain line, and returns the rest.
     fn read<'a>(&mut self, goal: usize, line: &'a [u8]) -> Result<&'a [u8], Misread>
         ensures { line_specs.front_or result self.new ≡ line_specs.line_read goal line.now }
     {
@@ -276,12 +276,12 @@ impl Reader {
         Ok(left)
     }
 
-    /// The plain line that a line stands for: its words with one space between each two, without its comment, and with
+    /// Expands a line to its plain line: its words with one space between each two, without its comment, and with
     /// hexadecimal digits for all bytes.
     ///
     /// # Errors
     ///
-    /// What is wrong with the line, and in which column.
+    /// The syntax error of the line, with its column.
     pub fn plain_line(&mut self, line: &[u8]) -> Result<&[u8], Slip>
         ensures is { line_specs.now_or result ≡ line_specs.expanded line.now }
         ensures short { line_specs.IsShort result }
@@ -298,8 +298,9 @@ impl Reader {
         }
     }
 
-    /// The column of a word of a line, by its place in the plain line: how many bytes stand there in front of it. If no
-    /// word begins there, it's the column after the line's last byte. What was read before is lost.
+    /// Returns the column of a word of a line, given its position in the plain line: the number of bytes before it
+    /// there. If no word begins at that position, it is the column after the line's last byte. The plain line of the
+    /// last call is overwritten.
     pub fn column_of(&mut self, line: &[u8], place: usize) -> u64
         ensures { result ≡ line_specs.column_of line.now place }
     {

@@ -1,4 +1,4 @@
-//! A part of the bytes of a word: a text, a pattern or digits, and how often they stand there.
+//! A part of the bytes of a word: a text, a pattern or digits, and how often it is repeated.
 ghost use Rattle.std.specs.Prelude.{◌≡◌, ◌≤◌, length};
 ghost use Rattle.play_line.specs.Bytes as bytes;
 
@@ -12,13 +12,13 @@ pub(crate) const MOST_DIGITS: usize = 131_070;
 /// A part of the bytes of a word.
 #[derive(Drop)]
 pub(crate) struct Part {
-    /// Its digits, or the word as it stands.
+    /// Its digits, or the word as it is written.
     pub(crate) piece: Buffer<MOST_DIGITS>,
-    /// How often they stand in the plain line.
+    /// How often the digits are repeated in the plain line.
     pub(crate) count: u32,
 }
 
-/// Puts the digits of the bytes 0, 1, 2 .. into a buffer, so many of them.
+/// Writes the digits of the bytes 0, 1, 2 .. into a buffer, `count` bytes in all.
 fn put_pattern(piece: &mut Buffer<MOST_DIGITS>, count: u32)
     requires { count ≤ 65535 }
     ensures { piece.new ≡ bytes.counting count }
@@ -31,8 +31,7 @@ fn put_pattern(piece: &mut Buffer<MOST_DIGITS>, count: u32)
     }
 }
 
-/// Puts the next n bytes into a buffer, and answers what is left after them. They have to be hexadecimal digits if
-/// `hex`.
+/// Copies the next `n` bytes into a buffer, and returns the rest. If `hex`, they must be hexadecimal digits.
 fn read_word<'a>(
     piece: &mut Buffer<MOST_DIGITS>,
     hex: bool,
@@ -58,7 +57,7 @@ fn read_word<'a>(
     }
 }
 
-/// Puts the digits of a text, or the next n bytes as they stand, into a buffer, and answers what is left after them.
+/// Writes the digits of a text, or copies the next `n` bytes, into a buffer, and returns the rest.
 fn read_piece<'a>(
     piece: &mut Buffer<MOST_DIGITS>,
     hex: bool,
@@ -75,7 +74,7 @@ fn read_piece<'a>(
     }
 }
 
-/// Whether the word ends here, or `+` comes next.
+/// Returns whether the word ends here, or `+` follows.
 fn is_closed(left: &[u8]) -> bool
     ensures { result ≡ bytes.is_closed left.now }
 {
@@ -88,7 +87,7 @@ fn is_closed(left: &[u8]) -> bool
 }
 
 impl Part {
-    /// So many copies of the piece; then the word has to end, or `+` to come.
+    /// Sets the number of copies of the piece. After it the word must end, or `+` must follow.
     fn end<'a>(&mut self, count: u32, left: &'a [u8]) -> Result<&'a [u8], Misread>
         ensures { bytes.with_left self.new result ≡ bytes.copies self.old.piece count left.now }
     {
@@ -100,7 +99,7 @@ impl Part {
         }
     }
 
-    /// As many copies as stand after `*`, or else one.
+    /// Reads the number of copies after `*`; without `*` it is one.
     fn read_times<'a>(&mut self, left: &'a [u8]) -> Result<&'a [u8], Misread>
         ensures { bytes.with_left self.new result ≡ bytes.repeated self.old.piece left.now }
     {
@@ -113,7 +112,7 @@ impl Part {
         }
     }
 
-    /// Reads a pattern, a text, or the next n bytes as they stand.
+    /// Reads a pattern, a text, or the next `n` bytes as they are written.
     pub(crate) fn read<'a>(
         &mut self,
         hex: bool,

@@ -1,4 +1,4 @@
-//! What is told of a line: what stands in front of its comment and of what is expected.
+//! The part of a line that is printed: everything before its comment and its expectation.
 ghost use Rattle.std.specs.Prelude.{◌≡◌, ◌≤◌, length};
 ghost use Rattle.play_line.specs.Shown as lines;
 
@@ -6,8 +6,8 @@ use crate::bytes::{Class, is_in};
 use crate::line::LONGEST;
 use script_loop::Buffer;
 
-/// Puts what stands in front of the comment and of what is expected into an empty buffer: the words of the line, as
-/// they're written, with one space between each two.
+/// Writes the part of a line before its comment and its expectation into an empty buffer: its words as they are
+/// written, with one space between each two.
 pub fn put_shown(line: &[u8], text: &mut Buffer<LONGEST>)
     requires { length line.now ≤ LONGEST }
     ensures { text.new ≡ lines.shown line.now }

@@ -7,22 +7,22 @@ use crate::bytes::{Class, front, is_in, is_next, skip, value_of};
 use crate::fault::{Fault, Slip};
 use crate::line::{column_at, is_end};
 
-/// The most ticks that pass before a line.
+/// The most ticks that can pass before a line.
 const MOST_TICKS: u32 = 65_535;
 
-/// The most bytes that a time has behind its `+`.
+/// The most bytes in a time after its `+`.
 const MOST_WORD: usize = 8;
 
 /// A line, and the time that passes before it.
 #[derive(Clone, Copy)]
 pub struct Timed<'a> {
-    /// How many ticks pass first, each of half a second: 65,535 at most, 0 if no time stands in front of the line.
+    /// How many ticks pass first, each half a second: at most 65,535, and 0 if the line has no time.
     pub ticks: u32,
-    /// The line after the time and the blanks behind it.
+    /// The line after the time and the blanks that follow it.
     pub part: &'a [u8],
 }
 
-/// How many ticks more what stands after whole seconds makes.
+/// Returns how many ticks the text after the whole seconds adds.
 fn half_of(word: &[u8]) -> Option<u32>
     ensures is { result ≡ times.half_of word.now }
     ensures most { IfSome result (λ n. n ≤ 1) }
@@ -36,7 +36,7 @@ fn half_of(word: &[u8]) -> Option<u32>
     }
 }
 
-/// The ticks of whole seconds and a half more.
+/// Returns the ticks of whole seconds and an optional half second.
 fn ticks_by(seconds: u32, half: Option<u32>) -> Option<u32>
     requires seconds { seconds ≤ 65536 }
     requires half { IfSome half (λ n. n ≤ 1) }
@@ -56,7 +56,7 @@ fn ticks_by(seconds: u32, half: Option<u32>) -> Option<u32>
     }
 }
 
-/// The ticks that a word after `+` writes.
+/// Parses a word after `+` into ticks.
 fn ticks_in(word: &[u8]) -> Option<u32>
     ensures is { result ≡ times.ticks_in word.now }
     ensures most { IfSome result (λ n. n ≤ 65535) }
@@ -69,7 +69,7 @@ fn ticks_in(word: &[u8]) -> Option<u32>
     ticks_by(value_of(seconds), half_of(rest))
 }
 
-/// Where the first blank stands.
+/// Returns the index of the first blank.
 fn first_blank(left: &[u8]) -> Option<usize>
     ensures is { result ≡ position (λ byte. bytes.is_blank byte) left.now }
     ensures most { IfSome result (λ at. at < length left.now) }
@@ -77,7 +77,7 @@ fn first_blank(left: &[u8]) -> Option<usize>
     left.iter().position(|byte| is_in(Class::Blank, *byte))
 }
 
-/// How many bytes stand in front of the first blank.
+/// Returns how many bytes come before the first blank.
 fn word_end(left: &[u8]) -> usize
     ensures is { result ≡ times.word_end left.now }
     ensures most { result ≤ length left.now }
@@ -88,13 +88,14 @@ fn word_end(left: &[u8]) -> usize
     }
 }
 
-/// The time that stands in front of a line, and the line after it. A time is `+`, whole seconds of 0 to 32,767 in eight
-/// bytes at most with what follows them, and `s`, `.0s` or `.5s`: a tick is half a second. No time stands in front of a
-/// line that doesn't begin with `+`.
+/// Returns the time at the beginning of a line, and the line after it. A time is `+`, whole seconds of 0 to 32,767, and
+/// `s`, `.0s` or `.5s`. It has at most eight bytes after the `+`, and a tick is half a second. A line that doesn't
+/// begin with `+` has no time.
 ///
 /// # Errors
 ///
-/// `Fault::NoTime` if a line begins with `+` otherwise, or no line stands after its time, with the column of the `+`.
+/// `Fault::NoTime` if a line begins with `+` in any other way, or if no line follows its time. The column is that of
+/// the `+`.
 pub fn read_time(line: &[u8]) -> Result<Timed<'_>, Slip>
     ensures is { times.timed_or result ≡ times.timed line.now }
     ensures most { IfOk result (λ t. t.ticks ≤ 65535) }

@@ -1,4 +1,4 @@
--- The packet that the words of a line name, field by field (RFC 791, section 3.1; RFC 768).
+-- The packet that the words of a line describe, field by field (RFC 791, section 3.1; RFC 768).
 use Rattle.std.specs.Prelude.{◌≡◌, ℕ, ◌+◌, ◌-◌, ◌*◌, ◌/◌, ◌%◌, ◌==◌, ◌&&◌, false, List, [], ◌∷◌, ◌++◌, length, take, drop, if◌then◌else◌, codes, nat_lt, Option, Some, None, unwrap_or, Result, Ok, Err}
 use Rattle.params.specs.declared.TheConstants.{FRAGMENT_UNIT, IP_DEFAULT_TTL, IP_HEADER, IP_MAX_DATA, PROTOCOL_UDP, UDP_HEADER}
 use Rattle.flat_model.specs.Packets.Checksum.{checksum}
@@ -17,7 +17,7 @@ use Rattle.play_packet.specs.declared.mark.Payload.TheVariants.{Udp, Raw}
 use Rattle.play_packet.specs.declared.places.Misfit.{Misfit}
 use Rattle.play_packet.specs.declared.places.Told.{Told}
 
--- one more than a checksum: never the same one, and never 0
+-- one more than a checksum: always different from it, and never 0
 abbrev pub wrong : ℕ → ℕ
 wrong sum = sum % 65535 + 1
 
@@ -27,17 +27,17 @@ value_or default (Some told) = told.value
 
 -- ---- the datagram
 
--- what stands in the place of a checksum of which this is the right one
+-- the value of the checksum field, given the right checksum
 abbrev pub written_sum : Sum → ℕ → ℕ
 written_sum Right right = right
 written_sum Wrong right = wrong right
 written_sum (Given sum) right = sum
 
--- what its header says of the length, if it carries n bytes
+-- the length field of its header, if it carries n bytes
 abbrev pub udp_len_of : Form → ℕ → ℕ
 udp_len_of f n = unwrap_or f.udp_len (UDP_HEADER + n)
 
--- That carries these bytes. The checksum covers as many of them as the header's length says.
+-- The datagram that carries these bytes. The checksum covers as many of them as the header's length says.
 unfoldable pub datagram_of_form : Form → List ℕ → List ℕ
 datagram_of_form f s =
     let n : ℕ = udp_len_of f (length s) in
@@ -48,7 +48,7 @@ datagram_of_form f s =
 
 -- ---- the packet
 
--- the ten bytes in front of the header's checksum, of a packet that carries n bytes
+-- the ten bytes before the header's checksum, for a packet that carries n bytes
 abbrev pub front_of_form : Form → ℕ → List ℕ
 front_of_form f n =
     (16 * (unwrap_or f.version 4 % 16) + unwrap_or f.ihl 5 % 16)
@@ -61,7 +61,7 @@ front_of_form f n =
     ∷ unwrap_or f.protocol PROTOCOL_UDP
     ∷ []
 
--- that carries these bytes; the checksum covers the 20 bytes of the header
+-- the packet that carries these bytes; the checksum covers the 20 bytes of the header
 unfoldable pub packet_of : Form → List ℕ → List ℕ
 packet_of f carried =
     let front : List ℕ = front_of_form f (length carried) in
@@ -69,7 +69,7 @@ packet_of f carried =
     let right : ℕ = checksum (front ++ 0 ∷ 0 ∷ addresses) in
     front ++ two_bytes (written_sum f.sum right) ++ addresses ++ carried
 
--- what this stack itself says of a packet, of the words that it has words for
+-- the header fields that this stack itself can set
 abbrev pub head_of_form : Form → Head
 head_of_form f = record {
   id = unwrap_or f.id 1;
@@ -80,7 +80,7 @@ head_of_form f = record {
   destination = f.destination.ip;
 }
 
--- nothing is said that this stack has no word for
+-- the form uses only what this stack can set
 pub record IsOwn (f : Form) : Type 0 where
   pub version : f.version ≡ None
   pub ihl : f.ihl ≡ None
@@ -97,7 +97,7 @@ abbrev pub told_place : Option Told → ℕ
 told_place None = 0
 told_place (Some told) = told.place
 
--- of a datagram, or of the line's bytes, the packet carries what it's told to, or all that is left
+-- the packet carries the selected part of a datagram or of the line's bytes, or all the rest
 abbrev pub cut_of : Form → ℕ → List ℕ → Result (List ℕ) Misfit
 cut_of f place whole =
     let start : ℕ = value_or 0 f.start in
@@ -112,7 +112,7 @@ abbrev pub sent_bytes : Payload → Form → List ℕ → List ℕ
 sent_bytes Udp f sent = datagram_of_form f sent
 sent_bytes Raw f sent = sent
 
--- a datagram has 65,535 bytes at most, 8 of them its header
+-- a datagram has at most 65,535 bytes, including 8 for its header
 abbrev pub built : Form → ℕ → Option (List ℕ) → Result (List ℕ) Misfit
 built f place None = misfit NoBytes place
 built f place (Some sent) =
@@ -120,7 +120,7 @@ built f place (Some sent) =
 
 -- ---- the plain line
 
--- the packet that the words after `rx udp` or `rx raw` name
+-- the packet that the words after `rx udp` or `rx raw` describe
 abbrev pub packet_named : Payload → List ℕ → Result (List ℕ) Misfit
 packet_named payload text = and_then (form_of payload text) (λ t.
     built t.0 t.1.place (word_bytes (take t.1.len (drop t.1.place text))))
@@ -133,8 +133,8 @@ abbrev pub named_as : Option Payload → List ℕ → List ℕ → Result (List 
 named_as None line text = Ok text
 named_as (Some payload) line text = plain_packet line text (packet_named payload text)
 
--- The plain line for the words of a line, of which `line` is what was written: `rx` with the packet that they name, or
--- the words as they are if they name none; or what is wrong with them, and the column of the word that is, or of the
--- last one if a word is missing.
+-- The plain line for the words of the line `line`: `rx` with the packet that they describe, or the words unchanged if
+-- they don't describe one. If there is an error, it is returned with the column of the wrong word, or of the last word
+-- if one is missing.
 abbrev pub named : List ℕ → List ℕ → Result (List ℕ) Slip
 named line text = named_as (payload_of text) line text

@@ -1,4 +1,4 @@
--- The two ends of a packet, as words write them: `10.0.0.2:5000` of a datagram, else an address alone (this project's
+-- The two endpoints of a packet: `10.0.0.2:5000` for a datagram, otherwise an address without a port (this project's
 -- own).
 use Rattle.std.specs.Prelude.{ℕ, ◌+◌, ◌-◌, ◌*◌, ◌^◌, ◌==◌, List, [], ◌∷◌, take, drop, position, if◌then◌else◌, bytes_eq, nat_lt, Option, Some, None, Result, Ok, Err}
 use Rattle.flat_model.specs.Scripts.Grammar.{address_text}
@@ -12,14 +12,14 @@ use Rattle.play_packet.specs.declared.mark.Payload.TheVariants.{Udp, Raw}
 abbrev pub first_place : ℕ → List ℕ → Option ℕ
 first_place sought text = position (λ byte. byte == sought) text
 
--- the number that octets with dots between them make, after those in front and the digits of the next one
+-- the number for octets with dots between them, given the octets before and the digits of the next one
 abbrev pub octets_value : ℕ → ℕ → List ℕ → ℕ
 octets_value front octet [] = 256 * front + octet
 octets_value front octet (byte ∷ bytes) =
     if byte == 46 then octets_value (256 * front + octet) 0 bytes
     else octets_value front (10 * octet + (byte - 48)) bytes
 
--- the address that a word writes just as it's printed
+-- the address that a word is the printed form of
 abbrev pub address_in : List ℕ → Option ℕ
 address_in word =
     let ip : ℕ = octets_value 0 0 word in
@@ -34,7 +34,7 @@ abbrev pub end_at : List ℕ → Option ℕ → Result Addr Fault
 end_at word None = Err NoEnd
 end_at word (Some at) = end_of (address_in (take at word)) (number_in 65535 (drop (at + 1) word))
 
--- the address and the port that a word writes, with a colon between them
+-- the address and the port of a word, with a colon between them
 abbrev pub end_in : List ℕ → Result Addr Fault
 end_in word = end_at word (first_place 58 word)
 
@@ -42,12 +42,12 @@ abbrev pub without_port : Option ℕ → Result Addr Fault
 without_port None = Err NoAddress
 without_port (Some ip) = Ok (record { ip = ip; port = 0 })
 
--- an end of a packet that carries this
+-- an endpoint of a packet with this payload
 abbrev pub end_as : Payload → List ℕ → Result Addr Fault
 end_as Udp word = end_in word
 end_as Raw word = without_port (address_in word)
 
--- what is wrong if it's missing
+-- the fault if it is missing
 abbrev pub missing_end : Payload → Fault
 missing_end Udp = NoEnd
 missing_end Raw = NoAddress

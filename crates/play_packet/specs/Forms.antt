@@ -1,6 +1,6 @@
--- What the words of a line say of a packet (this project's own).
+-- The description of a packet by the words of a line (this project's own).
 --
--- A word is known by the place of its first byte in the plain line.
+-- A word is identified by the position of its first byte in the plain line.
 use Rattle.std.specs.Prelude.{ℕ, ◌+◌, ◌%◌, ◌==◌, ◌||◌, Bool, true, false, List, [], ◌∷◌, zero, suc, length, take, drop, position, if◌then◌else◌, codes, bytes_eq, nat_lt, Option, Some, None, is_some, Result, Ok, Err}
 use Rattle.flat_model.specs.declared.address.Addr.{Addr}
 use Rattle.play_line.specs.Bytes.{place_or_end}
@@ -25,7 +25,7 @@ use Rattle.play_packet.specs.declared.places.Told.{Told}
 abbrev pub misfit : {A : Type 0} → Fault → ℕ → Result A Misfit
 misfit fault place = Err (record { fault = fault; place = place })
 
--- what is read next, unless something is wrong
+-- the next step, unless there was an error
 abbrev pub and_then : {A B : Type 0} → Result A Misfit → (A → Result B Misfit) → Result B Misfit
 and_then (Ok a) more = more a
 and_then (Err e) more = Err e
@@ -36,11 +36,11 @@ and_then (Err e) more = Err e
 abbrev pub first_word : List ℕ → List ℕ
 first_word text = take (place_or_end (position (λ byte. byte == 32) text) text) text
 
--- the word that begins at a place
+-- the word that begins at a position
 unfoldable pub word_at : List ℕ → ℕ → Option (List ℕ)
 word_at text at = if nat_lt (length text) at then None else Some (first_word (drop at text))
 
--- where the last word begins, after the first `at` bytes and the last place so far
+-- the position of the last word, after the first `at` bytes and the last position so far
 abbrev pub last_after : ℕ → ℕ → List ℕ → ℕ
 last_after place at [] = place
 last_after place at (byte ∷ bytes) = last_after (if byte == 32 then at + 1 else place) (at + 1) bytes
@@ -48,7 +48,7 @@ last_after place at (byte ∷ bytes) = last_after (if byte == 32 then at + 1 els
 abbrev pub last_place : List ℕ → ℕ
 last_place text = last_after 0 0 text
 
--- the place of a word, or of the last one if it's missing
+-- the position of a word, or of the last word if it is missing
 abbrev pub word_place : List ℕ → ℕ → ℕ
 word_place text at = if nat_lt (length text) at then last_place text else at
 
@@ -57,7 +57,7 @@ abbrev pub with_word : {A : Type 0} → Fault → ℕ → Option (List ℕ) → 
 with_word fault at None more = misfit fault at
 with_word fault at (Some word) more = more word (at + length word + 1)
 
--- a word, which is taken with the place of the one after it
+-- a word that must be present, and the position of the one after it
 abbrev pub needs : {A : Type 0} → Fault → List ℕ → ℕ → (List ℕ → ℕ → Result A Misfit) → Result A Misfit
 needs fault text at more = with_word fault at (word_at text at) more
 
@@ -65,12 +65,12 @@ abbrev pub is_word : List ℕ → Option (List ℕ) → Bool
 is_word sought None = false
 is_word sought (Some word) = bytes_eq word sought
 
--- what the packet carries that the word after `rx` names
+-- the payload for the word after `rx`
 abbrev pub payload_in : Option (List ℕ) → Option Payload
 payload_in word =
     if is_word (codes "udp") word then Some Udp else if is_word (codes "raw") word then Some Raw else None
 
--- what the packet carries that a line names, if it names one
+-- the payload of the packet that a line describes, if it describes one
 abbrev pub payload_of : List ℕ → Option Payload
 payload_of text = if is_word (codes "rx") (word_at text 0) then payload_in (word_at text 3) else None
 
@@ -85,7 +85,7 @@ abbrev pub arrow_at : List ℕ → ℕ → Result ℕ Misfit
 arrow_at text at = needs NoArrow text at (λ word after.
     if bytes_eq word (codes ">") then Ok after else misfit NoArrow at)
 
--- where the word with the bytes begins, and how long it is
+-- the position of the word with the bytes, and its length
 abbrev pub span_at : List ℕ → ℕ → Result (Span × ℕ) Misfit
 span_at text at = needs NoBytes text at (λ word after. Ok (record { place = at; len = length word }, after))
 
@@ -96,18 +96,18 @@ told_or_misfit None fault at after = misfit fault at
 abbrev pub number_at : Fault → ℕ → List ℕ → ℕ → Result (Told × ℕ) Misfit
 number_at fault most text at = needs NoCount text at (λ word after. told_or_misfit (number_in most word) fault at after)
 
--- where a fragment begins, a multiple of 8
+-- the offset of a fragment, a multiple of 8
 abbrev pub offset_at : List ℕ → ℕ → Result (Told × ℕ) Misfit
 offset_at text at = and_then (number_at NoOffset 65528 text at) (λ t.
     if t.0.value % 8 == 0 then Ok (t.0, t.1) else misfit NoOffset t.0.place)
 
--- whether more fragments come after it
+-- whether more fragments follow it
 abbrev pub more_at : List ℕ → ℕ → Result (Bool × ℕ) Misfit
 more_at text at = needs NoMore text at (λ word after.
     if bytes_eq word (codes "more") then Ok (true, after) else
     if bytes_eq word (codes "last") then Ok (false, after) else misfit NoMore at)
 
--- ---- what more the words may say, each of it once
+-- ---- the optional words, each at most once
 
 -- before the first of them
 abbrev pub fresh : Payload → Addr → Addr → Form
@@ -138,7 +138,7 @@ is_said Right = false
 is_said Wrong = true
 is_said (Given sum) = true
 
--- a word said something of this field already
+-- a word has set this field already
 abbrev pub has_number : Form → Field → Bool
 has_number f field.Version = is_some f.version
 has_number f field.Ihl = is_some f.ihl
@@ -151,7 +151,7 @@ has_number f field.Sum = is_said f.sum
 has_number f field.UdpLen = is_some f.udp_len
 has_number f field.UdpSum = is_said f.udp_sum
 
--- this was said already; `at` says what `off` and `mf` say, too
+-- this was set already; `at` also sets what `off` and `mf` set
 abbrev pub has : Form → Mark → Bool
 has f (mark.Number which) = has_number f which
 has f mark.Offset = is_some f.offset
@@ -184,7 +184,7 @@ with_field f which text at = and_then (number_at (number_fault which) (most_numb
 abbrev pub with_offset : Form → List ℕ → ℕ → Result (Form × ℕ) Misfit
 with_offset f text at = and_then (offset_at text at) (λ t. Ok (record f { offset = Some t.0.value }, t.1))
 
--- where in the datagram what the packet carries begins; its header says so
+-- the offset in the datagram of the data that the packet carries; its header has it too
 abbrev pub with_start : Form → List ℕ → ℕ → Result (Form × ℕ) Misfit
 with_start f text at = and_then (offset_at text at) (λ t. and_then (more_at text t.1) (λ m.
     Ok (record f { offset = Some t.0.value; start = Some t.0; more = m.0 }, m.1)))
@@ -202,7 +202,7 @@ flagged f mark.BadUdp = record f { udp_sum = Wrong }
 flagged f mark.NoSum = record f { udp_sum = Given 0 }
 flagged f _ = f
 
--- after a word that says this, where what belongs to it begins at a place
+-- after a word with this meaning, whose arguments begin at a position
 abbrev pub with_mark : Form → Mark → List ℕ → ℕ → Result (Form × ℕ) Misfit
 with_mark f (mark.Number which) text at = with_field f which text at
 with_mark f mark.Offset text at = with_offset f text at
@@ -214,24 +214,24 @@ abbrev pub marked : Form → Option Mark → List ℕ → ℕ → ℕ → Result
 marked f None text at after = misfit UnknownWord at
 marked f (Some m) text at after = if has f m then misfit ToldTwice at else with_mark f m text after
 
--- after this word at this place, and what belongs to it
+-- after this word at this position, and its arguments
 unfoldable pub with_word_at : Form → List ℕ → List ℕ → ℕ → Result (Form × ℕ) Misfit
 with_word_at f word text at = marked f (mark_named f.payload word) text at (at + length word + 1)
 
 -- ---- all words
 
--- what is read of a word, or else this
+-- the result for a word, or a default if it is missing
 abbrev pub if_word : {A : Type 0} → Option (List ℕ) → A → (List ℕ → A) → A
 if_word None other more = other
 if_word (Some word) other more = more word
 
--- the words from a place on; there are n at most
+-- the words from a position on; there are at most n
 abbrev pub form_after : ℕ → List ℕ → Form → ℕ → Result Form Misfit
 form_after zero text f at = Ok f
 form_after (suc n) text f at = if_word (word_at text at) (Ok f) (λ word.
     and_then (with_word_at f word text at) (λ t. form_after n text t.0 t.1))
 
--- what stands after `rx udp` or `rx raw`, and the word of the bytes
+-- the description after `rx udp` or `rx raw`, and the word with the bytes
 abbrev pub form_of : Payload → List ℕ → Result (Form × Span) Misfit
 form_of payload text =
     and_then (end_read payload text 7) (λ s. and_then (arrow_at text s.1) (λ a.

@@ -1,4 +1,4 @@
--- The words that may stand after the bytes of a packet by name (this project's own). The fields are those of RFC 791,
+-- The words that may follow the bytes of a packet by name (this project's own). The fields are those of RFC 791,
 -- section 3.1, and of RFC 768.
 use Rattle.std.specs.Prelude.{ℕ, Bool, List, [], ◌∷◌, codes, bytes_eq, Option, Some, None}
 use Rattle.std.specs.List.{find}
@@ -25,7 +25,7 @@ field_name field.Sum = codes "sum"
 field_name field.UdpLen = codes "udplen"
 field_name field.UdpSum = codes "udpsum"
 
--- the greatest number that has room there
+-- the greatest number that fits into the field
 abbrev pub most_number : Field → ℕ
 most_number field.Version = 15
 most_number field.Ihl = 15
@@ -38,7 +38,7 @@ most_number field.Sum = 65535
 most_number field.UdpLen = 65535
 most_number field.UdpSum = 65535
 
--- what is wrong with another number
+-- the fault for any other number
 abbrev pub number_fault : Field → Fault
 number_fault field.Version = NotUpTo15
 number_fault field.Ihl = NotUpTo15
@@ -65,7 +65,7 @@ mark_name mark.BadSum = codes "badsum"
 mark_name mark.BadUdp = codes "badudp"
 mark_name mark.NoSum = codes "nosum"
 
--- what is said of the IP header, and of what the packet carries
+-- the words for the IP header, and for the data that the packet carries
 abbrev pub ip_marks : List Mark
 ip_marks =
     mark.Number field.Version
@@ -85,7 +85,7 @@ ip_marks =
     ∷ mark.Size
     ∷ []
 
--- what is said of a UDP header
+-- the words for a UDP header
 abbrev pub udp_marks : List Mark
 udp_marks = mark.Number field.UdpLen ∷ mark.Number field.UdpSum ∷ mark.BadUdp ∷ mark.NoSum ∷ []
 
@@ -96,7 +96,7 @@ abbrev pub or_named : Option Mark → Option Mark → Option Mark
 or_named (Some m) other = Some m
 or_named None other = other
 
--- what a word says of a packet that carries this
+-- the meaning of a word for a packet with this payload
 abbrev pub mark_named : Payload → List ℕ → Option Mark
 mark_named Raw word = find (says_mark word) ip_marks
 mark_named Udp word = or_named (find (says_mark word) ip_marks) (find (says_mark word) udp_marks)

@@ -1,14 +1,14 @@
--- What a reader of lines puts where (this project's own).
+-- The results of a reader of lines (this project's own).
 use Rattle.std.specs.Prelude.{ℕ, Bool, true, false, List, ◌++◌, codes, Result, Ok, Err}
 use Rattle.flat_model.specs.Scripts.Texts.{hex_text}
 use Rattle.play_line.specs.declared.fault.Slip.{Slip}
 
--- a text that was put somewhere, or what was wrong
+-- the text that was written, or the error
 abbrev pub put_or : {E : Type 0} → Result Unit E → List ℕ → Result (List ℕ) E
 put_or (Ok done) text = Ok text
 put_or (Err slip) text = Err slip
 
--- the plain line of words that name this packet, or that name none
+-- the plain line of words that describe this packet, or don't describe one
 abbrev pub plain_or : List ℕ → Result Bool Slip → List ℕ → Result (List ℕ) Slip
 plain_or words (Ok true) packet = Ok (codes "rx " ++ hex_text packet)
 plain_or words (Ok false) packet = Ok words

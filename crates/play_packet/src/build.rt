@@ -1,4 +1,4 @@
-//! The packet that the words of a line name.
+//! Building the packet that a line describes.
 ghost use Rattle.std.specs.Prelude.{◌≡◌, ◌≤◌, ◌<◌, ◌+◌, ◌-◌, ◌++◌, length, take, drop, Some, IfSome};
 ghost use Rattle.params.specs.declared.TheConstants.{IP_MAX_DATA, UDP_HEADER};
 ghost use Rattle.flat_model.specs.Packets.Checksum.{checksum as checksum_of};
@@ -18,32 +18,32 @@ use play_line::Fault;
 use script_loop::{Buffer, LineBuffers};
 use std::alloc::{AllocError, Global};
 
-/// Room for a packet, and for what the checksum of the longest datagram covers.
+/// The capacity for a packet, and for the bytes that the checksum of the longest datagram covers.
 const ROOM: usize = 65_600;
 
-/// The bytes of the longest packet.
+/// The length of the longest packet in bytes.
 pub const PACKET: usize = IP_MAX_PACKET as usize;
 
-/// The version and the header's length in words of 4 bytes, if the line says nothing of them.
+/// The version and the header length in words of 4 bytes, if the line doesn't set them.
 const DEFAULT_VERSION: u8 = 4;
 
 const DEFAULT_IHL: u8 = 5;
 
-/// The identification, if the line says nothing of it.
+/// The identification, if the line doesn't set it.
 const DEFAULT_ID: u16 = 1;
 
 /// Memory for building packets.
 #[derive(Drop)]
 pub(crate) struct Builder {
-    /// The bytes that were sent, and room for the digits of a packet.
+    /// The data of the datagram, and scratch memory for the digits of a packet.
     buffers: LineBuffers,
-    /// What a checksum covers.
+    /// The bytes that a checksum covers.
     covered: Buffer<ROOM>,
-    /// The datagram, before it's cut.
+    /// The datagram before it is fragmented.
     datagram: Buffer<ROOM>,
 }
 
-/// Writes a number of 16 bits over the bytes from a place on.
+/// Writes a 16-bit number over the bytes from offset `at`.
 fn put_u16(bytes: &mut [u8], at: usize, n: u16)
     requires { at + 2 ≤ length bytes.old }
     ensures { bytes.new ≡ take at bytes.old ++ (header.two_bytes n ++ drop (at + 2) bytes.old) }
@@ -51,7 +51,7 @@ fn put_u16(bytes: &mut [u8], at: usize, n: u16)
     BigEndian::write_u16(&mut bytes[at..at + 2], n);
 }
 
-/// Writes a number of 32 bits over the bytes from a place on.
+/// Writes a 32-bit number over the bytes from offset `at`.
 fn put_u32(bytes: &mut [u8], at: usize, n: u32)
     requires { at + 4 ≤ length bytes.old }
     ensures { bytes.new ≡ take at bytes.old ++ (header.four_bytes n ++ drop (at + 4) bytes.old) }
@@ -59,7 +59,7 @@ fn put_u32(bytes: &mut [u8], at: usize, n: u32)
     BigEndian::write_u32(&mut bytes[at..at + 4], n);
 }
 
-/// A number of 16 bits as bytes.
+/// Returns a 16-bit number as bytes.
 fn two_bytes(n: u16) -> [u8; 2]
     ensures { result ≡ header.two_bytes n }
 {
@@ -68,7 +68,7 @@ fn two_bytes(n: u16) -> [u8; 2]
     bytes
 }
 
-/// The addresses of both ends.
+/// Returns the source and the destination address as bytes.
 fn address_bytes(form: &Form) -> [u8; 8]
     ensures { result ≡ header.address_bytes form.now.source.ip form.now.destination.ip }
 {
@@ -78,7 +78,7 @@ fn address_bytes(form: &Form) -> [u8; 8]
     bytes
 }
 
-/// The checksum of bytes with 0 in its place.
+/// Returns the checksum of bytes that contain 0 in the checksum field.
 fn checksum(bytes: &[u8]) -> u16
     ensures { result ≡ checksum_of bytes.now }
 {
@@ -92,7 +92,7 @@ fn not_zero(sum: u16) -> u16
     if sum == 0 { 65_535 } else { sum }
 }
 
-/// A checksum that isn't the right one.
+/// Returns a checksum that differs from the right one.
 fn wrong(sum: u16) -> u16
     ensures { result ≡ builds.wrong sum }
 {
@@ -100,7 +100,7 @@ fn wrong(sum: u16) -> u16
 }
 
 impl Sum {
-    /// What stands in the place of a checksum of which this is the right one.
+    /// Returns the value of the checksum field, given the right checksum.
     fn written(self, right: u16) -> u16
         ensures { result ≡ builds.written_sum self right }
     {
@@ -112,7 +112,7 @@ impl Sum {
     }
 }
 
-/// A flag's share of the field that it stands in.
+/// Returns a flag's contribution to its field.
 fn flag(set: bool, worth: u16) -> u16
     ensures is { result ≡ header.flag set worth }
     ensures most { result ≤ worth }
@@ -120,7 +120,7 @@ fn flag(set: bool, worth: u16) -> u16
     if set { worth } else { 0 }
 }
 
-/// What the UDP header says of the length of a datagram that carries n bytes.
+/// Returns the length field of the UDP header for a datagram that carries `n` bytes.
 fn udp_len_of(form: &Form, n: usize) -> u16
     requires { n ≤ 65527 }
     ensures { result ≡ builds.udp_len_of form.now n }
@@ -128,7 +128,7 @@ fn udp_len_of(form: &Form, n: usize) -> u16
     form.udp_len.unwrap_or(UDP_HEADER as u16 + n as u16)
 }
 
-/// The bytes that a checksum covers, of those that were sent.
+/// Returns the bytes of the data that a checksum covers.
 fn covered_by(len: u16, sent: &[u8]) -> &[u8]
     ensures is { result.now ≡ take (len - UDP_HEADER) sent.now }
     ensures most { length result.now ≤ length sent.now }
@@ -137,7 +137,7 @@ fn covered_by(len: u16, sent: &[u8]) -> &[u8]
     if n < sent.len() { &sent[..n] } else { sent }
 }
 
-/// Puts a datagram into a buffer.
+/// Writes a datagram into a buffer.
 fn put_udp(form: &Form, sent: &[u8], covered: &mut Buffer<ROOM>, out: &mut Buffer<ROOM>)
     requires { length sent.now ≤ 65527 }
     ensures is { out.new ≡ builds.datagram_of_form form.now sent.now }
@@ -166,7 +166,7 @@ fn put_udp(form: &Form, sent: &[u8], covered: &mut Buffer<ROOM>, out: &mut Buffe
     out.append(sent);
 }
 
-/// A number that was told, or another one.
+/// Returns the number of the line, or a default.
 fn value_or(default: usize, told: Option<Told>) -> usize
     ensures { result ≡ builds.value_or default told }
 {
@@ -176,7 +176,7 @@ fn value_or(default: usize, told: Option<Told>) -> usize
     }
 }
 
-/// Where a number was told.
+/// Returns the position of the number in the line.
 fn place_of(told: Option<Told>) -> usize
     ensures { result ≡ builds.told_place told }
 {
@@ -186,7 +186,7 @@ fn place_of(told: Option<Told>) -> usize
     }
 }
 
-/// The ten bytes in front of the header's checksum, of a packet that carries n bytes.
+/// Returns the ten bytes before the header's checksum, for a packet that carries `n` bytes.
 fn front_bytes(form: &Form, n: usize) -> [u8; 10]
     requires { n ≤ IP_MAX_DATA }
     ensures { result ≡ builds.front_of_form form.now n }
@@ -209,7 +209,7 @@ fn front_bytes(form: &Form, n: usize) -> [u8; 10]
     bytes
 }
 
-/// Puts a packet into a buffer that carries some bytes.
+/// Writes a packet that carries some bytes into a buffer.
 fn put_packet(form: &Form, carried: &[u8], out: &mut Buffer<PACKET>)
     requires { length carried.now ≤ IP_MAX_DATA }
     ensures { out.new ≡ builds.packet_of form.now carried.now }
@@ -229,8 +229,8 @@ fn put_packet(form: &Form, carried: &[u8], out: &mut Buffer<PACKET>)
     out.append(carried);
 }
 
-/// Puts the packet that carries what the line says of these bytes, a datagram's or those of the line, which stand there
-/// at a place.
+/// Writes the packet that carries the part that the line selects of these bytes, which are a datagram or the line's own
+/// bytes at position `place`.
 fn cut(form: &Form, place: usize, whole: &[u8], packet: &mut Buffer<PACKET>) -> Result<(), Misfit>
     requires { length whole.now ≤ 65535 }
     ensures { put_or result packet.new ≡ builds.cut_of form.now place whole.now }
@@ -252,7 +252,7 @@ fn cut(form: &Form, place: usize, whole: &[u8], packet: &mut Buffer<PACKET>) -> 
 }
 
 impl Builder {
-    /// A builder with its memory.
+    /// Creates a builder with its memory.
     pub(crate) fn new(alloc: Global) -> Result<Builder, AllocError> {
         Ok(Builder {
             buffers: LineBuffers::new(alloc)?,
@@ -261,7 +261,7 @@ impl Builder {
         })
     }
 
-    /// Builds the packet of a form. The digits of its bytes stand at a place.
+    /// Builds the packet of a form. The digits of its bytes are at position `place`.
     fn build_form(
         &mut self,
         form: &Form,
@@ -288,7 +288,7 @@ impl Builder {
         }
     }
 
-    /// Puts the packet that the words after `rx udp` or `rx raw` name into a buffer.
+    /// Writes the packet that the words after `rx udp` or `rx raw` describe into a buffer.
     pub(crate) fn build(
         &mut self,
         payload: Payload,

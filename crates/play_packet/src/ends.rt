@@ -1,4 +1,4 @@
-//! The two ends of a packet, as words write them.
+//! Parsing the two endpoints of a packet.
 ghost use Rattle.std.specs.Prelude.{◌≡◌, ◌<◌, ◌≤◌, length, IfSome};
 ghost use Rattle.play_packet.specs.Ends as ends;
 
@@ -8,7 +8,7 @@ use flat_model::Addr;
 use play_line::Fault;
 use request::address_of;
 
-/// Where a byte is first.
+/// Returns the index of the first occurrence of a byte.
 fn place_of(sought: u8, text: &[u8]) -> Option<usize>
     ensures is { result ≡ ends.first_place sought text.now }
     ensures most { IfSome result (λ at. at < length text.now) }
@@ -16,14 +16,14 @@ fn place_of(sought: u8, text: &[u8]) -> Option<usize>
     text.iter().position(|byte| *byte == sought)
 }
 
-/// The address that the word writes just as it's printed.
+/// Parses an address in exactly the form in which it is printed.
 fn address_in(word: &[u8]) -> Option<u32>
     ensures { result ≡ ends.address_in word.now }
 {
     address_of(word)
 }
 
-/// The address and the port that a word writes, with a colon between them.
+/// Parses an address and a port, with a colon between them.
 fn end_in(word: &[u8]) -> Result<Addr, Fault>
     ensures { result ≡ ends.end_in word.now }
 {
@@ -42,7 +42,7 @@ fn end_in(word: &[u8]) -> Result<Addr, Fault>
     }
 }
 
-/// An end of a packet that carries this: a datagram's with its port, else an address alone.
+/// Parses an endpoint of a packet with this payload: with a port for a datagram, otherwise an address without one.
 pub(crate) fn end_as(payload: Payload, word: &[u8]) -> Result<Addr, Fault>
     ensures { result ≡ ends.end_as payload word.now }
 {
@@ -55,7 +55,7 @@ pub(crate) fn end_as(payload: Payload, word: &[u8]) -> Result<Addr, Fault>
     }
 }
 
-/// What is wrong if it's missing.
+/// Returns the fault if an endpoint is missing.
 pub(crate) fn missing_end(payload: Payload) -> Fault
     ensures { result ≡ ends.missing_end payload }
 {

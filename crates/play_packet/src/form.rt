@@ -1,4 +1,4 @@
-//! What the words of a line say of a packet.
+//! The description of a packet by the words of a line.
 ghost use Rattle.std.specs.Prelude.{◌≡◌, ◌≤◌, ◌+◌, length, IfOk};
 ghost use Rattle.play_packet.specs.Forms as forms;
 ghost use Rattle.play_packet.specs.Marks.{most_number};
@@ -14,19 +14,19 @@ use play_line::Fault;
 /// A checksum.
 #[derive(Clone, Copy)]
 pub(crate) enum Sum {
-    /// The right one.
+    /// The right checksum.
     Right,
-    /// Another one than the right one.
+    /// A wrong checksum.
     Wrong,
-    /// This one, right or wrong.
+    /// This value, right or wrong.
     Given(u16),
 }
 
-/// What the words say. A field of which none says anything is `None`.
+/// The parsed description. A field that no word sets is `None`.
 #[derive(Clone, Copy)]
 pub(crate) struct Form {
     pub(crate) payload: Payload,
-    /// Where the packet comes from, and where it goes to. Without a datagram both ports are 0.
+    /// The source and the destination. Without a datagram both ports are 0.
     pub(crate) source: Addr,
     pub(crate) destination: Addr,
     pub(crate) version: Option<u8>,
@@ -38,12 +38,12 @@ pub(crate) struct Form {
     pub(crate) reserved: bool,
     pub(crate) whole: bool,
     pub(crate) more: bool,
-    /// The fragment's offset, in bytes.
+    /// The offset of the fragment, in bytes.
     pub(crate) offset: Option<u16>,
     pub(crate) ttl: Option<u8>,
     pub(crate) protocol: Option<u8>,
     pub(crate) sum: Sum,
-    /// Where in the datagram what the packet carries begins, and how long it is.
+    /// The start in the datagram of the data that the packet carries, and its length.
     pub(crate) start: Option<Told>,
     pub(crate) size: Option<Told>,
     pub(crate) udp_len: Option<u16>,
@@ -51,7 +51,7 @@ pub(crate) struct Form {
 }
 
 impl Sum {
-    /// Whether a word said something of it.
+    /// Returns whether a word has set it.
     fn is_said(self) -> bool
         ensures { result ≡ forms.is_said self }
     {
@@ -63,7 +63,7 @@ impl Sum {
 }
 
 impl Form {
-    /// Before the words after the bytes.
+    /// Returns the form before the words after the bytes.
     fn fresh(payload: Payload, source: Addr, destination: Addr) -> Form
         ensures { result ≡ forms.fresh payload source destination }
     {
@@ -90,7 +90,7 @@ impl Form {
         }
     }
 
-    /// Whether a word said something of this field already.
+    /// Returns whether a word has set this field already.
     fn has_number(self, field: Field) -> bool
         ensures { result ≡ forms.has_number self field }
     {
@@ -108,7 +108,7 @@ impl Form {
         }
     }
 
-    /// Whether this was said already.
+    /// Returns whether a word has set this already.
     fn has(self, mark: Mark) -> bool
         ensures { result ≡ forms.has self mark }
     {
@@ -125,7 +125,7 @@ impl Form {
         }
     }
 
-    /// With this number in a field.
+    /// Returns the form with this number in a field.
     fn holding(self, field: Field, value: u32) -> Form
         requires { value ≤ most_number field }
         ensures { result ≡ forms.holding self field value }
@@ -174,7 +174,7 @@ impl Form {
         }
     }
 
-    /// The number of a field.
+    /// Reads the number of a field.
     fn with_field(self, field: Field, text: &[u8], at: usize) -> Result<(Form, usize), Misfit>
         ensures { result ≡ forms.with_field self field text.now at }
     {
@@ -182,7 +182,7 @@ impl Form {
         Ok((self.holding(field, number.value), after))
     }
 
-    /// The number after `off`.
+    /// Reads the number after `off`.
     fn with_offset(self, text: &[u8], at: usize) -> Result<(Form, usize), Misfit>
         ensures { result ≡ forms.with_offset self text.now at }
     {
@@ -191,7 +191,7 @@ impl Form {
         Ok((Form { offset, ..self }, after))
     }
 
-    /// The number after `at`, and whether more fragments come.
+    /// Reads the number after `at`, and whether more fragments follow.
     fn with_start(self, text: &[u8], at: usize) -> Result<(Form, usize), Misfit>
         ensures { result ≡ forms.with_start self text.now at }
     {
@@ -210,7 +210,7 @@ impl Form {
         ))
     }
 
-    /// The number after `size`.
+    /// Reads the number after `size`.
     fn with_size(self, text: &[u8], at: usize) -> Result<(Form, usize), Misfit>
         ensures { result ≡ forms.with_size self text.now at }
     {
@@ -219,7 +219,7 @@ impl Form {
         Ok((Form { size, ..self }, after))
     }
 
-    /// With a flag, or with a checksum that has no number after it; otherwise as it was.
+    /// Sets a flag, or a checksum that has no number after it. For any other word the form is unchanged.
     fn flagged(self, mark: Mark) -> Form
         ensures { result ≡ forms.flagged self mark }
     {
@@ -249,7 +249,7 @@ impl Form {
         }
     }
 
-    /// After a word that says this. What belongs to it begins at a place.
+    /// Returns the form after a word with this meaning. Its arguments begin at position `at`.
     fn with_mark(self, mark: Mark, text: &[u8], at: usize) -> Result<(Form, usize), Misfit>
         ensures { result ≡ forms.with_mark self mark text.now at }
     {
@@ -263,7 +263,7 @@ impl Form {
         }
     }
 
-    /// After one more word, which begins at this place, and what belongs to it.
+    /// Returns the form after one more word, which begins at this position, and its arguments.
     #[tactic(auto, unfolding(crate::specs::Forms::with_word_at))]
     fn with_word(self, word: &[u8], text: &[u8], at: usize) -> Result<(Form, usize), Misfit>
         requires { at + length word.now ≤ length text.now }
@@ -278,7 +278,7 @@ impl Form {
         self.with_mark(mark, text, at + word.len() + 1)
     }
 
-    /// After the words from a place on.
+    /// Returns the form after the words from a position on.
     #[tactic(auto, using(crate::proofs::MarkLemmas::marks_next))]
     fn with_marks(self, text: &[u8], at: usize) -> Result<Form, Misfit>
         ensures { result ≡ forms.form_after (length text.now) text.now self at }
@@ -302,7 +302,7 @@ impl Form {
         Ok(form)
     }
 
-    /// What stands after `rx udp` or `rx raw`, and the word of the bytes.
+    /// Parses the text after `rx udp` or `rx raw`. Also returns the word with the bytes.
     pub(crate) fn read(payload: Payload, text: &[u8]) -> Result<(Form, Span), Misfit>
         ensures is { result ≡ forms.form_of payload text.now }
         ensures inside { IfOk result (λ t. t.1.place + t.1.len ≤ length text.now) }

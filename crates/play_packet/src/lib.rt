@@ -1,5 +1,5 @@
-//! Packets by name: a line that tells a packet in words, and the UDP datagram in it. A reader puts its bytes into a
-//! buffer, or answers what is wrong with the words and in which column.
+//! Packets by name: lines that describe a packet, and the UDP datagram in it, in words. A reader writes its bytes into
+//! a buffer, or returns the error in the words and its column.
 #![tactic(auto)]
 
 mod build;

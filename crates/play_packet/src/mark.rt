@@ -1,11 +1,11 @@
-//! The words that may stand after the bytes of a packet by name.
+//! The words that may follow the bytes of a packet by name.
 ghost use Rattle.std.specs.Prelude.{◌≡◌, ◌≤◌};
 ghost use Rattle.std.specs.List.{find};
 ghost use Rattle.play_packet.specs.Marks as marks;
 
 use play_line::Fault;
 
-/// What a packet carries.
+/// The payload of a packet.
 #[derive(Clone, Copy)]
 pub(crate) enum Payload {
     /// A UDP datagram.
@@ -14,7 +14,7 @@ pub(crate) enum Payload {
     Raw,
 }
 
-/// A field of a header that holds a number.
+/// A numeric field of a header.
 #[derive(Clone, Copy)]
 pub(crate) enum Field {
     Version,
@@ -29,7 +29,7 @@ pub(crate) enum Field {
     UdpSum,
 }
 
-/// What a word after the bytes says of the packet.
+/// The meaning of a word after the bytes.
 #[derive(Clone, Copy)]
 pub(crate) enum Mark {
     /// A field holds this number.
@@ -46,7 +46,7 @@ pub(crate) enum Mark {
 }
 
 impl Field {
-    /// The word in front of its number.
+    /// Returns the word before its number.
     fn name(self) -> &'static str
         ensures { result.now ≡ marks.field_name self }
     {
@@ -64,7 +64,7 @@ impl Field {
         }
     }
 
-    /// The greatest number that it holds.
+    /// Returns the greatest number that the field can hold.
     pub(crate) fn most(self) -> u32
         ensures is { result ≡ marks.most_number self }
         ensures most { result ≤ 65535 }
@@ -76,7 +76,7 @@ impl Field {
         }
     }
 
-    /// What is wrong with another number.
+    /// Returns the fault for any other number.
     pub(crate) fn fault(self) -> Fault
         ensures { result ≡ marks.number_fault self }
     {
@@ -91,7 +91,7 @@ impl Field {
 }
 
 impl Mark {
-    /// The word that says so.
+    /// Returns the word with this meaning.
     fn name(self) -> &'static str
         ensures { result.now ≡ marks.mark_name self }
     {
@@ -110,7 +110,7 @@ impl Mark {
     }
 }
 
-/// What is said of the IP header, and of what the packet carries.
+/// Returns the words for the IP header, and for the data that the packet carries.
 fn ip_marks() -> [Mark; 15]
     ensures { result ≡ marks.ip_marks }
 {
@@ -133,7 +133,7 @@ fn ip_marks() -> [Mark; 15]
     ]
 }
 
-/// What is said of a UDP header.
+/// Returns the words for a UDP header.
 fn udp_marks() -> [Mark; 4]
     ensures { result ≡ marks.udp_marks }
 {
@@ -145,14 +145,14 @@ fn udp_marks() -> [Mark; 4]
     ]
 }
 
-/// Whether a word says this.
+/// Returns whether a word has this meaning.
 fn says_mark(word: &[u8], mark: Mark) -> bool
     ensures { result ≡ marks.says_mark word.now mark }
 {
     word == mark.name().as_bytes()
 }
 
-/// What a word says, if it's one of these.
+/// Returns the meaning of a word, if it is one of these.
 fn named(word: &[u8], among: &[Mark]) -> Option<Mark>
     ensures { result ≡ find (marks.says_mark word.now) among.now }
 {
@@ -168,7 +168,7 @@ fn named(word: &[u8], among: &[Mark]) -> Option<Mark>
     }
 }
 
-/// What a word says of a packet that carries this.
+/// Returns the meaning of a word for a packet with this payload.
 pub(crate) fn mark_of(payload: Payload, word: &[u8]) -> Option<Mark>
     ensures { result ≡ marks.mark_named payload word.now }
 {

@@ -1,11 +1,11 @@
-//! Numbers and bytes that words write.
+//! Parsing numbers and bytes.
 ghost use Rattle.std.specs.Prelude.{◌≡◌, ◌≤◌, length, take, IfSome};
 ghost use Rattle.params.specs.declared.TheConstants.{IP_MAX_PACKET};
 ghost use Rattle.play_packet.specs.Numbers as numbers;
 
 use script_loop::{bytes, number};
 
-/// The number of at most `most` that the word writes just as it's printed.
+/// Parses a number of at most `most`, in exactly the form in which it is printed.
 pub(crate) fn number_in(word: &[u8], most: u32) -> Option<u32>
     requires { most ≤ 65535 }
     ensures is { result ≡ numbers.number_in most word.now }
@@ -14,7 +14,7 @@ pub(crate) fn number_in(word: &[u8], most: u32) -> Option<u32>
     number(word, most)
 }
 
-/// Puts the bytes that a word writes into the room, and answers how many they are.
+/// Decodes a word into `room`, and returns the number of bytes.
 pub(crate) fn bytes_in(word: &[u8], room: &mut [u8]) -> Option<usize>
     requires { length room.old ≡ IP_MAX_PACKET }
     ensures is { numbers.front_of_room room.new result ≡ numbers.word_bytes word.now }

@@ -1,4 +1,4 @@
-//! What stands at a place of a line that names a packet.
+//! Parsing at a position of a line that describes a packet.
 ghost use Rattle.std.specs.Prelude.{◌≡◌, ◌≤◌, ◌+◌, length, IfOk, option_map};
 ghost use Rattle.play_packet.specs.Forms as forms;
 
@@ -9,35 +9,35 @@ use crate::words::{is_word, word_at};
 use flat_model::Addr;
 use play_line::Fault;
 
-/// A number that was told, and the place where its word begins.
+/// A number of the line, and the position where its word begins.
 #[derive(Clone, Copy)]
 pub(crate) struct Told {
     pub(crate) value: u32,
     pub(crate) place: usize,
 }
 
-/// A word: the place where it begins, and how many bytes it has.
+/// A word: its position, and its length in bytes.
 #[derive(Clone, Copy)]
 pub(crate) struct Span {
     pub(crate) place: usize,
     pub(crate) len: usize,
 }
 
-/// What is wrong, and the place of the word that is.
+/// An error, and the position of the wrong word.
 #[derive(Clone, Copy)]
 pub(crate) struct Misfit {
     pub(crate) fault: Fault,
     pub(crate) place: usize,
 }
 
-/// That something is wrong with the word at a place.
+/// Returns that the word at a position is wrong.
 pub(crate) fn refuse<T>(fault: Fault, place: usize) -> Result<T, Misfit>
     ensures { result ≡ forms.misfit fault place }
 {
     Err(Misfit { fault, place })
 }
 
-/// What the packet carries that the word after `rx` names.
+/// Returns the payload for the word after `rx`.
 fn payload_in(word: Option<&[u8]>) -> Option<Payload>
     ensures { result ≡ forms.payload_in (option_map (λ w. w.now) word.entry) }
 {
@@ -50,7 +50,7 @@ fn payload_in(word: Option<&[u8]>) -> Option<Payload>
     }
 }
 
-/// What the packet carries that a line names, if it names one.
+/// Returns the payload of the packet that a line describes, if it describes one.
 pub(crate) fn payload_of(text: &[u8]) -> Option<Payload>
     ensures { result ≡ forms.payload_of text.now }
 {
@@ -61,7 +61,7 @@ pub(crate) fn payload_of(text: &[u8]) -> Option<Payload>
     }
 }
 
-/// An end of the packet, and the place after it.
+/// Parses an endpoint of the packet. Also returns the position after it.
 pub(crate) fn end_at(payload: Payload, text: &[u8], at: usize) -> Result<(Addr, usize), Misfit>
     ensures { result ≡ forms.end_read payload text.now at }
 {
@@ -74,7 +74,7 @@ pub(crate) fn end_at(payload: Payload, text: &[u8], at: usize) -> Result<(Addr, 
     }
 }
 
-/// The place after the arrow between both ends.
+/// Returns the position after the arrow between the endpoints.
 pub(crate) fn arrow_at(text: &[u8], at: usize) -> Result<usize, Misfit>
     ensures { result ≡ forms.arrow_at text.now at }
 {
@@ -84,7 +84,7 @@ pub(crate) fn arrow_at(text: &[u8], at: usize) -> Result<usize, Misfit>
     }
 }
 
-/// The word of the bytes, and the place after it.
+/// Returns the word with the bytes, and the position after it.
 pub(crate) fn bytes_at(text: &[u8], at: usize) -> Result<(Span, usize), Misfit>
     ensures is { result ≡ forms.span_at text.now at }
     ensures inside { IfOk result (λ t. t.0.place + t.0.len ≤ length text.now) }
@@ -101,7 +101,7 @@ pub(crate) fn bytes_at(text: &[u8], at: usize) -> Result<(Span, usize), Misfit>
     }
 }
 
-/// A number of at most `most`, and the place after it.
+/// Parses a number of at most `most`. Also returns the position after it.
 pub(crate) fn number_at(
     fault: Fault,
     most: u32,
@@ -121,7 +121,7 @@ pub(crate) fn number_at(
     }
 }
 
-/// Where a fragment begins, and the place after it.
+/// Parses the offset of a fragment. Also returns the position after it.
 pub(crate) fn offset_at(text: &[u8], at: usize) -> Result<(Told, usize), Misfit>
     ensures is { result ≡ forms.offset_at text.now at }
     ensures most { IfOk result (λ t. t.0.value ≤ 65535) }
@@ -133,7 +133,7 @@ pub(crate) fn offset_at(text: &[u8], at: usize) -> Result<(Told, usize), Misfit>
     Ok((offset, after))
 }
 
-/// Whether more fragments come after it, and the place after that word.
+/// Parses whether more fragments follow. Also returns the position after that word.
 pub(crate) fn more_at(text: &[u8], at: usize) -> Result<(bool, usize), Misfit>
     ensures { result ≡ forms.more_at text.now at }
 {

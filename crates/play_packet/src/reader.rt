@@ -1,4 +1,4 @@
-//! What reads a line, whether it names a packet or not.
+//! The reader of lines, whether or not they describe a packet.
 ghost use Rattle.std.specs.Prelude.{◌≡◌};
 ghost use Rattle.play_line.specs.Line.{expanded, now_or, IsShort};
 ghost use Rattle.play_packet.specs.Builds.{named};
@@ -11,7 +11,7 @@ use play_line::{Reader, Slip};
 use script_loop::Buffer;
 use std::alloc::{AllocError, Global};
 
-/// What reads lines, with all memory that it needs.
+/// Reads lines. It has all the memory for that.
 #[derive(Drop)]
 pub struct LineReader {
     reader: Reader,
@@ -19,11 +19,11 @@ pub struct LineReader {
 }
 
 impl LineReader {
-    /// A reader, with its memory.
+    /// Creates a reader with its memory.
     ///
     /// # Errors
     ///
-    /// If host memory is lacking.
+    /// If the host refuses memory.
     pub fn new(alloc: Global) -> Result<LineReader, AllocError> {
         Ok(LineReader {
             reader: Reader::new(alloc)?,
@@ -31,12 +31,12 @@ impl LineReader {
         })
     }
 
-    /// The plain line that a line stands for, as a [`Reader`] answers it. If the line names a packet, the words that
-    /// do are still there.
+    /// Expands a line to its plain line, as a [`Reader`] does. If the line describes a packet, the plain line still
+    /// contains the description.
     ///
     /// # Errors
     ///
-    /// What is wrong with the bytes of the line, and in which column.
+    /// The error in the bytes of the line, with its column.
     pub fn plain_line(&mut self, line: &[u8]) -> Result<&[u8], Slip>
         ensures is { now_or result ≡ expanded line.now }
         ensures short { IsShort result }
@@ -44,12 +44,12 @@ impl LineReader {
         self.reader.plain_line(line)
     }
 
-    /// Puts the packet that some words name into a buffer, and answers whether they name one. The words are those of
-    /// the plain line that `line` stands for. If they name none, they ask for what they say.
+    /// Writes the packet that some words describe into a buffer, and returns whether they describe one. The words are
+    /// those of the plain line of `line`. If they don't describe a packet, they are a request of another kind.
     ///
     /// # Errors
     ///
-    /// What is wrong with the words, and in which column of `line`.
+    /// The error in the words, with its column in `line`.
     pub fn put_packet(
         &mut self,
         line: &[u8],

@@ -1,8 +1,8 @@
-//! The words of a plain line, by their places.
+//! The words of a plain line, by position.
 ghost use Rattle.std.specs.Prelude.{◌≡◌, ◌<◌, ◌≤◌, ◌+◌, ◌==◌, length, position, IfSome, option_map};
 ghost use Rattle.play_packet.specs.Forms as forms;
 
-/// Where the first space is.
+/// Returns the index of the first space.
 fn space_in(text: &[u8]) -> Option<usize>
     ensures is { result ≡ position (λ byte. byte == 32) text.now }
     ensures most { IfSome result (λ at. at < length text.now) }
@@ -10,7 +10,7 @@ fn space_in(text: &[u8]) -> Option<usize>
     text.iter().position(|byte| *byte == b' ')
 }
 
-/// The word in front of a text.
+/// Returns the first word of a text.
 fn word_in(text: &[u8]) -> &[u8]
     ensures is { result.now ≡ forms.first_word text.now }
     ensures most { length result.now ≤ length text.now }
@@ -21,7 +21,7 @@ fn word_in(text: &[u8]) -> &[u8]
     }
 }
 
-/// The word that begins at a place of a text.
+/// Returns the word that begins at a position of a text.
 #[tactic(auto, unfolding(crate::specs::Forms::word_at))]
 pub(crate) fn word_at(text: &[u8], at: usize) -> Option<&[u8]>
     ensures is { option_map (λ w. w.now) result ≡ forms.word_at text.now at }
@@ -34,7 +34,7 @@ pub(crate) fn word_at(text: &[u8], at: usize) -> Option<&[u8]>
     }
 }
 
-/// Where the last word of a text begins.
+/// Returns where the last word of a text begins.
 fn last_place(text: &[u8]) -> usize
     ensures { result ≡ forms.last_place text.now }
 {
@@ -49,7 +49,7 @@ fn last_place(text: &[u8]) -> usize
     place
 }
 
-/// The place of a word of a text, or of its last one if there's no word at this place.
+/// Returns the position of a word of a text, or of its last word if no word begins there.
 pub(crate) fn place_in(text: &[u8], at: usize) -> usize
     ensures { result ≡ forms.word_place text.now at }
 {
@@ -60,7 +60,7 @@ pub(crate) fn place_in(text: &[u8], at: usize) -> usize
     }
 }
 
-/// Whether a word is the one that is sought.
+/// Returns whether a word is `sought`.
 pub(crate) fn is_word(sought: &[u8], word: Option<&[u8]>) -> bool
     ensures { result ≡ forms.is_word sought.now (option_map (λ w. w.now) word.entry) }
 {

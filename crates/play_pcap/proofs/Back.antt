@@ -5,12 +5,12 @@ use Rattle.std.specs.Int.{w16}
 use Rattle.std.proofs.lemmas.Bool.{le-ltb}
 use Rattle.flat_model.specs.Machine.Count.{more_by}
 use Rattle.flat_model.specs.Machine.Event.{Event, Comes}
-use Rattle.pcap.specs.File.{IsHeader, file_header_bytes, header_for, our_header, number_of}
-use Rattle.pcap.specs.Frames.{unpadded}
-use Rattle.pcap.specs.Records.{FitsFields, Reads, Whole, records_bytes}
-use Rattle.pcap.specs.declared.header.Order.TheVariants.{Big}
-use Rattle.pcap.specs.declared.link_type.LinkType.{LinkType}
-use Rattle.pcap.specs.declared.link_type.LinkType.TheVariants.{Null, Ethernet, Raw, Loop, LinuxCooked, Ipv4, LinuxCooked2}
+use Rattle.capture.specs.File.{IsHeader, file_header_bytes, header_for, our_header, number_of}
+use Rattle.capture.specs.Frames.{unpadded}
+use Rattle.capture.specs.Records.{FitsFields, Reads, Whole, records_bytes}
+use Rattle.capture.specs.declared.pcap.header.Order.TheVariants.{Big}
+use Rattle.capture.specs.declared.pcap.link_type.LinkType.{LinkType}
+use Rattle.capture.specs.declared.pcap.link_type.LinkType.TheVariants.{Null, Ethernet, Raw, Loop, LinuxCooked, Ipv4, LinuxCooked2}
 use Rattle.play_pcap.specs.Acts.{act_event}
 use Rattle.play_pcap.specs.Events.{record_acts, played, taken}
 use Rattle.play_pcap.specs.Traces.{IsPass, Pass, file_of, passes_bytes, record_of}

@@ -2,8 +2,8 @@
 use Rattle.std.proofs.Common.{◌≡◌, ℕ, ◌+◌, ◌-◌, ◌<◌, List, [], ◌∷◌, ◌++◌, length, get_or, take, drop, map, max, replicate, Some, None, refl, arith}
 use Rattle.std.proofs.lemmas.List.{take_all}
 use Rattle.flat_model.specs.Machine.Count.{more_by}
-use Rattle.pcap.specs.Seen.{captured}
-use Rattle.pcap.specs.declared.reader.Record.{Record}
+use Rattle.capture.specs.Seen.{captured}
+use Rattle.capture.specs.declared.pcap.reader.Record.{Record}
 use Rattle.play_pcap.specs.Acts.{Arrives, Passes}
 use Rattle.play_pcap.specs.Events.{due, record_acts, packet_in_record, record_place}
 use Rattle.play_pcap.specs.declared.moves.Course.{Course}

@@ -2,10 +2,10 @@
 use Rattle.std.proofs.Common.{◌≡◌, ℕ, ◌-◌, List, length, take, drop, map, Option, Some, None, Ok, refl, sym, ap, ap₂, ◌∙◌, subst, arith}
 use Rattle.std.proofs.lemmas.List.{length-map, drop-map}
 use Rattle.std.specs.List.{take-map}
-use Rattle.pcap.specs.Records.{Reads}
-use Rattle.pcap.specs.Seen.{captured}
-use Rattle.pcap.specs.declared.header.Header.{Header}
-use Rattle.pcap.specs.declared.reader.Record.{Record}
+use Rattle.capture.specs.Records.{Reads}
+use Rattle.capture.specs.Seen.{captured}
+use Rattle.capture.specs.declared.pcap.header.Header.{Header}
+use Rattle.capture.specs.declared.pcap.reader.Record.{Record}
 use Rattle.play_pcap.specs.Acts.{Act}
 use Rattle.play_pcap.specs.Events.{Goes, HasRange, PlaysFile, begin_of, capture_acts, first_of, record_acts, selected, tally_of}
 use Rattle.play_pcap.specs.declared.ask.Details.{Details}

@@ -1,7 +1,7 @@
 -- A capture whose header may still be due.
 use Rattle.std.proofs.Common.{◌≡◌, ℕ, Bool, false, List, [], ◌++◌, sym, ap, ◌∙◌, subst, if◌then◌else◌}
-use Rattle.pcap.specs.File.{file_header_bytes, header_for}
-use Rattle.pcap.specs.declared.link_type.LinkType.{LinkType}
+use Rattle.capture.specs.File.{file_header_bytes, header_for}
+use Rattle.capture.specs.declared.pcap.link_type.LinkType.{LinkType}
 use Rattle.play_pcap.specs.Traces.{Keeps, Traced, WireTraced, header_due, pass_at, pass_bytes}
 use Rattle.play_pcap.proofs.Kept.{both_kept}
 

@@ -2,13 +2,13 @@
 use Rattle.std.specs.Prelude.{◌≡◌, ℕ, ◌+◌, ◌-◌, ◌/◌, ◌<◌, ◌≤◌, suc, Bool, List, [], ◌∷◌, ◌++◌, length, take, drop, map, min, max, replicate, nat_lt, if◌then◌else◌, Option, Some, None, Result, Ok, Err}
 use Rattle.std.specs.Borrow.{Bor}
 use Rattle.flat_model.specs.Machine.Count.{more_by}
-use Rattle.pcap.specs.Frames.{packet_in_frame}
-use Rattle.pcap.specs.Records.{Captured, Reads, Whole, nanoseconds}
-use Rattle.pcap.specs.Seen.{captured}
-use Rattle.pcap.specs.declared.header.Header.{Header}
-use Rattle.pcap.specs.declared.link.NoPacket.{NoPacket}
-use Rattle.pcap.specs.declared.reader.Record.{Record}
-use Rattle.pcap.specs.declared.link_type.LinkType.{LinkType}
+use Rattle.capture.specs.Frames.{packet_in_frame}
+use Rattle.capture.specs.Records.{Captured, Reads, Whole, nanoseconds}
+use Rattle.capture.specs.Seen.{captured}
+use Rattle.capture.specs.declared.pcap.header.Header.{Header}
+use Rattle.capture.specs.declared.pcap.link.NoPacket.{NoPacket}
+use Rattle.capture.specs.declared.pcap.reader.Record.{Record}
+use Rattle.capture.specs.declared.pcap.link_type.LinkType.{LinkType}
 use Rattle.play_pcap.specs.Acts.{Act, Arrives, Passes}
 use Rattle.play_pcap.specs.declared.ask.Details.{Details}
 use Rattle.play_pcap.specs.declared.ask.Range.{Range}

@@ -8,11 +8,12 @@ use Rattle.play_pcap.specs.declared.fault.CaptureFault.{CaptureFault}
 use Rattle.play_pcap.specs.declared.fault.CaptureFault.TheVariants.{TooFew, Bad}
 use Rattle.play_pcap.specs.declared.moves.Tally.{Tally}
 
--- The name that a word of a plain line writes: the bytes whose digits it is, as those of a text, or else the word.
+-- The name for a word of a plain line: the bytes that its digits encode, as those of a text, or otherwise the word
+-- itself.
 abbrev pub IsName : List ℕ → List ℕ → Type 0
 IsName word name = IsHex word name ⊎ (((bytes : List ℕ) → IsHex word bytes → ⊥) × (name ≡ word))
 
--- there is none
+-- there are no files
 abbrev pub no_folder : List ℕ → List ℕ → Type 0
 no_folder name file = ⊥
 
@@ -26,8 +27,8 @@ IsUnread TooFew = ⊥
 IsUnread (Bad fault) = ⊥
 IsUnread _ = Unit {0}
 
--- What a line does that asks for the capture in the file that a word names: what playing that file in does; or nothing
--- at all, if it can't be read.
+-- The effect of a line that plays the capture in the file that a word names: that of playing the file, or none if the
+-- file can't be read.
 abbrev pub PlaysNamed : {S : Type 0} → (List ℕ → List ℕ → Type 0) → (S → Act → S → Type 0) → Details → List ℕ
     → Result Tally CaptureFault → S → S → Type 0
 PlaysNamed has go d word outcome old new =

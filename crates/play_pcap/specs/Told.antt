@@ -1,7 +1,7 @@
 -- What is told of a capture (this project's own).
 use Rattle.std.specs.Prelude.{ℕ, List, [], ◌++◌, codes, decimal, Result, Ok, Err}
-use Rattle.pcap.specs.declared.fault.Why.{Why}
-use Rattle.pcap.specs.declared.fault.Why.TheVariants.{HeaderCut, BadMagic, BadVersion, BadLinkType, RecordCut, BytesCut}
+use Rattle.capture.specs.declared.pcap.fault.Why.{Why}
+use Rattle.capture.specs.declared.pcap.fault.Why.TheVariants.{HeaderCut, BadMagic, BadVersion, BadLinkType, RecordCut, BytesCut}
 use Rattle.play_pcap.specs.declared.fault.CaptureFault.{CaptureFault}
 use Rattle.play_pcap.specs.declared.fault.CaptureFault.TheVariants.{NotOpened, NotRead, TooLong, Memory, TooFew, Bad}
 use Rattle.play_pcap.specs.declared.moves.Tally.{Tally}

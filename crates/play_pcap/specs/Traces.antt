@@ -2,13 +2,13 @@
 use Rattle.std.specs.Prelude.{◌≡◌, ℕ, ◌+◌, ◌-◌, ◌*◌, ◌/◌, ◌%◌, ◌^◌, ◌<◌, ◌≤◌, Bool, true, false, List, [], ◌++◌, length, map, min, codes, decimal, if◌then◌else◌, Option}
 use Rattle.std.specs.Io.KnownBytes.{Appends}
 use Rattle.flat_model.specs.Scripts.Texts.{hex_text}
-use Rattle.pcap.specs.File.{file_header_bytes, header_for}
-use Rattle.pcap.specs.Records.{Captured, Whole, record_bytes, records_bytes}
-use Rattle.pcap.specs.declared.header.Order.TheVariants.{Little}
-use Rattle.pcap.specs.declared.link_type.LinkType.{LinkType}
+use Rattle.capture.specs.File.{file_header_bytes, header_for}
+use Rattle.capture.specs.Records.{Captured, Whole, record_bytes, records_bytes}
+use Rattle.capture.specs.declared.pcap.header.Order.TheVariants.{Little}
+use Rattle.capture.specs.declared.pcap.link_type.LinkType.{LinkType}
 use Rattle.play_pcap.specs.Acts.{Act, Arrives, Passes}
 use Rattle.play_pcap.specs.declared.wire.RecordPlace.{RecordPlace}
-use Rattle.play_records.specs.Times.{time_text}
+use Rattle.play_text.specs.Times.{time_text}
 
 -- how many ticks have passed, whether each record so far was written whole, and what the writer holds, where it tells
 pub record Traced : Type 0 where

@@ -1,4 +1,4 @@
-//! Lines that ask for a capture to be played in.
+//! Lines that play a capture file.
 ghost use Rattle.std.specs.Prelude.{◌≡◌, ◌<◌, ◌==◌, ℕ, List, position, MatchOption, IfSome, Some};
 ghost use Rattle.script_loop.specs.Left.{left};
 ghost use Rattle.play_pcap.specs.Asks.{IsAsked, IsDetails, IsPair, IsRange};
@@ -6,41 +6,41 @@ ghost use Rattle.play_pcap.specs.Events.{IsOrdered};
 
 use script_loop::{first_word, is_end, number};
 
-/// Some records of a capture, one after another. The first record of a capture is number 1.
+/// A range of records of a capture. The first record of a capture is number 1.
 #[derive(Clone, Copy, Debug, PartialEq, Eq)]
 pub struct Range {
-    /// The first one, 1 or more.
+    /// The first record, 1 or more.
     pub first: u32,
-    /// The last one, `first` or more.
+    /// The last record, `first` or more.
     pub last: u32,
 }
 
-/// How a capture is played in.
+/// How a capture is played.
 #[derive(Clone, Copy, Debug, PartialEq, Eq)]
 pub struct Details {
-    /// The records that are played, or all of them.
+    /// The records that are played; `None` means all.
     pub range: Option<Range>,
     /// Whether ticks pass between packets, by the times of their records.
     pub ticks: bool,
 }
 
-/// What a line asks for: a capture, by the name of its file.
+/// The request of a line: a capture file, by name.
 #[derive(Clone, Copy, Debug)]
 pub struct Ask<'a> {
     /// The file's name.
     pub name: &'a [u8],
-    /// How it's played in.
+    /// How it is played.
     pub details: Details,
 }
 
-/// Where the first dash of a word is.
+/// Returns the index of the first dash of a word.
 fn place_of(word: &[u8], sought: u8) -> Option<usize>
     ensures { result ≡ position (λ byte. byte == sought) word.now }
 {
     word.iter().position(|byte| *byte == sought)
 }
 
-/// The records from one number to another.
+/// Returns the records from one number to another.
 fn range_from(first: &[u8], last: &[u8]) -> Option<Range>
     ensures ordered { IfSome result (λ r. IsOrdered (Some r)) }
     ensures is { MatchOption result ((r : Range) → IsPair first.now last.now r → ⊥) (IsPair first.now last.now) }
@@ -59,8 +59,8 @@ fn range_from(first: &[u8], last: &[u8]) -> Option<Range>
     })
 }
 
-/// The records that a word names, as `3-17`: two numbers of at most 4,294,967,295 without a zero in front, of which the
-/// first isn't 0 and the second isn't less. `None` if the word isn't that.
+/// Parses a range of records such as `3-17`: two numbers of at most 4,294,967,295 without leading zeros. The first
+/// isn't 0, and the second isn't less than the first. Returns `None` for any other word.
 pub fn range_of(word: &[u8]) -> Option<Range>
     ensures ordered { IfSome result (λ r. IsOrdered (Some r)) }
     ensures is { MatchOption result ((r : Range) → IsRange word.now r → ⊥) (IsRange word.now) }
@@ -71,7 +71,7 @@ pub fn range_of(word: &[u8]) -> Option<Range>
     }
 }
 
-/// What the words after a file's name say.
+/// Parses the words after a file's name.
 fn details_of(rest: Option<&[u8]>) -> Option<Details>
     ensures ordered { IfSome result (λ d. IsOrdered d.range) }
     ensures is { MatchOption result ((d : Details) → IsDetails (left rest.entry) d → ⊥) (IsDetails (left rest.entry)) }
@@ -109,8 +109,8 @@ fn details_of(rest: Option<&[u8]>) -> Option<Details>
     })
 }
 
-/// What a plain line asks for, or `None` if it doesn't ask for a capture: `rx pcap FILE`, and then `N-M` for these
-/// records alone, and `ticks` for ticks between packets, each if it's wanted (this project's own).
+/// Returns the request of a plain line, or `None` if it doesn't play a capture. The line is `rx pcap FILE`, optionally
+/// followed by `N-M` to play only these records, and by `ticks` for ticks between packets (this project's own).
 pub fn ask_of(line: &[u8]) -> Option<Ask<'_>>
     ensures ordered { IfSome result (λ a. IsOrdered a.details.range) }
     ensures is { MatchOption result ((name : List ℕ) (d : Details) → IsAsked line.now name d → ⊥)

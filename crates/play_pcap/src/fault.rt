@@ -2,7 +2,7 @@
 ghost use Rattle.std.specs.Prelude.{◌≡◌, ◌≤◌, length};
 ghost use Rattle.play_pcap.specs.Told.{capture_fault_words, why_words};
 
-use pcap::{Fault, Why};
+use capture::pcap::{Fault, Why};
 
 /// Why a capture wasn't played in. Nothing has happened then.
 #[derive(Clone, Copy, Debug, PartialEq, Eq)]

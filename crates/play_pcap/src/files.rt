@@ -1,4 +1,4 @@
-//! Whole files, read into memory.
+//! Reading whole files into memory.
 ghost use Rattle.std.specs.Prelude.{◌≡◌, ◌≤◌, ℕ, List, length, IfOk, IfErr, MatchResult};
 ghost use Rattle.std.specs.Io.KnownBytes.{Consumes, IsAtEnd};
 ghost use Rattle.params.specs.declared.TheConstants.{IP_MAX_PACKET};
@@ -8,14 +8,14 @@ use crate::fault::CaptureFault;
 use script_loop::{Source, bytes};
 use std::alloc::Global;
 
-/// The most bytes of a capture that is played in.
+/// The longest capture that can be played, in bytes.
 pub const LONGEST_FILE: usize = 16_777_216;
 
-/// How many bytes are read at a time.
+/// The number of bytes read at a time.
 const CHUNK: usize = 8192;
 
-/// All that a reader has left. Refused with `NotRead` if it answers an error, with `TooLong` if it gives more than
-/// [`LONGEST_FILE`] bytes, and with `Memory`; some bytes have then been read.
+/// Reads everything that a reader has left. Returns `NotRead` if the reader returns an error, `TooLong` if it has more
+/// than [`LONGEST_FILE`] bytes, and `Memory` if the host refuses memory. On error some bytes have been read.
 pub fn read_whole<R: Source>(alloc: Global, reader: &mut R) -> Result<Vec<u8>, CaptureFault>
     ensures all { IfOk result (λ v. Consumes (R.remaining reader.old) (R.remaining reader.new) v.items) }
     ensures ended { IfOk result (λ v. IsAtEnd (R.remaining reader.new)) }
@@ -42,11 +42,11 @@ pub fn read_whole<R: Source>(alloc: Global, reader: &mut R) -> Result<Vec<u8>, C
 
 /// The files that lines may name.
 pub trait Folder: Drop {
-    /// Which bytes the file of a name may have.
+    /// The bytes that the file with a name may have.
     ghost may_have: { List ℕ → List ℕ → Type 0 };
 
-    /// All bytes of the file of this name. Refused with `NotOpened`, `NotRead`, `TooLong` and `Memory`, as
-    /// [`CaptureFault`] tells them.
+    /// Reads all bytes of the file with this name. Returns `NotOpened`, `NotRead`, `TooLong` or `Memory`, as
+    /// [`CaptureFault`] defines them.
     fn load(&self, alloc: Global, name: &[u8]) -> Result<Vec<u8>, CaptureFault>
         ensures { MatchResult result (λ v. may_have name.now v.items) IsUnread };
 }
@@ -63,9 +63,9 @@ impl Folder for NoFolder {
     }
 }
 
-/// All bytes of the file that a word of a plain line names: the file whose name has the bytes that the word writes as
-/// hexadecimal digits, as it does if the name was a text; or else the file of the same name as the word. Refused as
-/// [`Folder::load`] is. What the room held, which has exactly 65,535 bytes, may be lost.
+/// Reads all bytes of the file that a word of a plain line names. If the word is hexadecimal digits, as it is when the
+/// name was written as a text, the name has the bytes that they encode. Otherwise the name is the word itself. The
+/// errors are those of [`Folder::load`]. The contents of `room`, which has exactly 65,535 bytes, may be lost.
 pub fn load_named<F: Folder>(
     alloc: Global,
     folder: &F,

@@ -5,16 +5,16 @@ ghost use Rattle.flat_model.specs.Machine.Event.{Comes};
 ghost use Rattle.flat_model.specs.Scripts.Grammar.{IsLine};
 ghost use Rattle.flat_model.specs.Scripts.Texts.{hex_text};
 ghost use Rattle.hex.specs.Hex.{IsBytes};
-ghost use Rattle.pcap.specs.File.{file_header_bytes, header_for, our_header};
-ghost use Rattle.pcap.specs.Frames.{unpadded};
-ghost use Rattle.pcap.specs.Records.{Reads};
-ghost use Rattle.pcap.specs.declared.link_type.LinkType.{LinkType};
-ghost use Rattle.pcap.specs.declared.link_type.LinkType.TheVariants.{Ipv4};
+ghost use Rattle.capture.specs.File.{file_header_bytes, header_for, our_header};
+ghost use Rattle.capture.specs.Frames.{unpadded};
+ghost use Rattle.capture.specs.Records.{Reads};
+ghost use Rattle.capture.specs.declared.pcap.link_type.LinkType.{LinkType};
+ghost use Rattle.capture.specs.declared.pcap.link_type.LinkType.TheVariants.{Ipv4};
 ghost use Rattle.play_pcap.specs.Acts.{act_event};
 ghost use Rattle.play_pcap.specs.Events.{played};
 ghost use Rattle.play_pcap.specs.Traces.{IsPass, Keeps, Pass, Traced, file_of, passes_bytes};
 
-use pcap::written_is_read;
+use capture::pcap::written_is_read;
 
 /// What is written for one part of a run and then for the next one is what is written for both.
 #[tactic(auto, using(crate::proofs::Kept::both_kept))]

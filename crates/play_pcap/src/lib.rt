@@ -1,5 +1,5 @@
-//! Captures of the player of scripts: the packets that come and go are written to one, and one is played in. What
-//! a capture file is says crate `pcap`.
+//! Captures of the script player: the packets that arrive and leave are written to a capture file, and a capture file
+//! can be played. The crate `pcap` defines the file format.
 #![tactic(auto)]
 
 mod ask;

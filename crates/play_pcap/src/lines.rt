@@ -4,9 +4,8 @@ ghost use Rattle.play_pcap.specs.Traces.{SentAfter, act_lines, place_line};
 
 use crate::trace::send;
 use crate::wire::{RecordPlace, Wire};
-use play_records::put_time;
 use play_text::Piece::{Long, Text};
-use play_text::put;
+use play_text::{put, put_time};
 use script_loop::{Buffer, LineBuffers, Sink, put_hex};
 use std::marker::Model;
 

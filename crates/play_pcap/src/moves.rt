@@ -1,11 +1,11 @@
 //! The packets of a capture, one after another, with the ticks in front of each.
 ghost use Rattle.std.specs.Prelude.{◌≡◌, ◌≤◌, length, map, IfSome};
-ghost use Rattle.pcap.specs.Seen.{captured};
-ghost use Rattle.pcap.specs.Records.{nanoseconds};
+ghost use Rattle.capture.specs.Seen.{captured};
+ghost use Rattle.capture.specs.Records.{nanoseconds};
 ghost use Rattle.play_pcap.specs.Events as events;
 
 use crate::wire::RecordPlace;
-use pcap::{Header, LinkType, Record, ipv4_packet};
+use capture::pcap::{Header, LinkType, Record, ipv4_packet};
 
 /// The most bytes of a packet.
 const MOST_BYTES: usize = 65_535;

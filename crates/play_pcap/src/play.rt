@@ -1,6 +1,6 @@
 //! Captures that are played in.
 ghost use Rattle.std.specs.Prelude.{◌≡◌, ◌≤◌, ◌+◌, length, map, replicate};
-ghost use Rattle.pcap.specs.Seen.{captured};
+ghost use Rattle.capture.specs.Seen.{captured};
 ghost use Rattle.play_pcap.specs.Acts.{Passes};
 ghost use Rattle.play_pcap.specs.Events as events;
 ghost use Rattle.play_pcap.specs.Events.{Goes, IsOrdered, PlaysFile, Selects, acts_left, came, going, record_acts, tally_of, ticks_in};
@@ -9,7 +9,7 @@ use crate::ask::{Details, Range};
 use crate::fault::CaptureFault;
 use crate::moves::{Course, Moves, Tally};
 use crate::wire::Wire;
-use pcap::{Header, ReadError, Record, read};
+use capture::pcap::{Header, ReadError, Record, read};
 use std::alloc::Global;
 
 /// Lets so many ticks pass.

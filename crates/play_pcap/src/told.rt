@@ -1,4 +1,4 @@
-//! What is told of a capture.
+//! The text about a capture.
 ghost use Rattle.std.specs.Prelude.{◌≡◌, ◌+◌, ◌≤◌, ◌++◌, length};
 ghost use Rattle.play_pcap.specs.Told.{capture_text, fault_place};
 
@@ -8,10 +8,10 @@ use play_text::Piece::{Long, Number, Text};
 use play_text::put;
 use script_loop::Buffer;
 
-/// The most bytes that are told of a capture.
+/// The longest text about a capture, in bytes.
 pub const OUTCOME: usize = 128;
 
-/// Puts after the text where a bad file is wrong.
+/// Appends where a bad file is wrong.
 fn put_place<const N: usize>(text: &mut Buffer<N>, fault: CaptureFault)
     requires { length text.old + 30 ≤ N }
     ensures items { text.new ≡ text.old ++ fault_place fault }
@@ -22,8 +22,8 @@ fn put_place<const N: usize>(text: &mut Buffer<N>, fault: CaptureFault)
     }
 }
 
-/// Puts what came of a capture after the text, [`OUTCOME`] bytes at most: how many packets came, how many records had
-/// none, and how many ticks passed; or why nothing happened, with the offset in a bad file.
+/// Appends the result of playing a capture, at most [`OUTCOME`] bytes: how many packets arrived, how many records had
+/// no packet, and how many ticks passed. If nothing was played, it appends the reason, with the offset in a bad file.
 pub fn put_outcome<const N: usize>(text: &mut Buffer<N>, outcome: Result<Tally, CaptureFault>)
     requires { length text.old + OUTCOME ≤ N }
     ensures items { text.new ≡ text.old ++ capture_text outcome }

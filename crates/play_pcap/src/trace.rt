@@ -1,10 +1,10 @@
 //! The capture of a run, which is written as packets come and go.
 ghost use Rattle.std.specs.Prelude.{◌≡◌, ◌≤◌, ◌+◌, length};
 ghost use Rattle.params.specs.declared.TheConstants.{IP_MAX_PACKET};
-ghost use Rattle.pcap.specs.File.{file_header_bytes, header_for, our_header};
+ghost use Rattle.capture.specs.File.{file_header_bytes, header_for, our_header};
 ghost use Rattle.play_pcap.specs.Traces.{Keeps, Sent, later, pass_at, pass_bytes, unwritten};
 
-use pcap::{LinkType, file_header, record_header};
+use capture::pcap::{LinkType, file_header, record_header};
 use script_loop::{Buffer, Sink};
 use std::io::{self, Write};
 use std::marker::Model;

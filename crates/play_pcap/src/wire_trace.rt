@@ -1,11 +1,11 @@
 //! The capture of a wire, whose hosts say only later what goes on it: packets or frames.
 ghost use Rattle.std.specs.Prelude.{◌≡◌, ◌≤◌, ◌++◌, true, false, length, if◌then◌else◌};
 ghost use Rattle.params.specs.declared.TheConstants.{IP_MAX_PACKET};
-ghost use Rattle.pcap.specs.declared.link_type.LinkType.{LinkType};
+ghost use Rattle.capture.specs.declared.pcap.link_type.LinkType.{LinkType};
 ghost use Rattle.play_pcap.specs.Traces.{Keeps, header_due, later, pass_at, pass_bytes, unwritten};
 
 use crate::trace::{RECORD, Trace};
-use pcap::LinkType;
+use capture::pcap::LinkType;
 use script_loop::{Buffer, Sink};
 use std::marker::Model;
 

@@ -1,5 +1,5 @@
 -- A line asks for one capture at most.
-use Rattle.std.proofs.Common.{◌≡◌, ℕ, ◌+◌, ◌==◌, ◌<◌, ◌^◌, Bool, List, [], ◌∷◌, take, drop, position, codes, Option, Some, None, inl, inr, refl, sym, ap, ap₂, ◌∙◌, arith, subst}
+use Rattle.std.proofs.Common.{◌≡◌, ℕ, ◌+◌, ◌==◌, Bool, List, [], ◌∷◌, take, drop, position, codes, Option, Some, None, inl, inr, sym, ap, ap₂, ◌∙◌, arith, subst}
 use Rattle.std.proofs.lemmas.Fmt.{decimal_injective}
 use Rattle.flat_model.specs.Scripts.Grammar.{IsNumber}
 use Rattle.play_pcap.specs.Asks.{IsAsked, IsDetails, IsPair, IsRange, IsRanged}

@@ -1,8 +1,7 @@
 -- A line asks for one thing at most.
-use Rattle.std.proofs.Common.{◌≡◌, ℕ, suc, ◌+◌, ◌*◌, ◌<◌, ◌^◌, true, false, List, [], ◌∷◌, length, get_or, codes, Some, None, refl, sym, ap, ap₂, ◌∙◌, arith}
+use Rattle.std.proofs.Common.{◌≡◌, ℕ, suc, ◌+◌, ◌*◌, true, false, List, [], ◌∷◌, length, get_or, codes, Some, None, sym, ap, ap₂, ◌∙◌, arith}
 use Rattle.std.proofs.lemmas.Bool.{false≢true}
 use Rattle.std.proofs.lemmas.Fmt.{decimal_injective}
-use Rattle.flat_model.specs.declared.address.Addr.{Addr}
 use Rattle.flat_model.specs.Machine.Event.{Event, Open, Bind, Connect, Send, Receive, Close, Set_option, Comes, Transmit, Tick, Ask_counters, Ask_usage}
 use Rattle.flat_model.specs.Scripts.Grammar.{HasArguments, IsLine, keyword, words}
 use Rattle.flat_model.specs.Scripts.Script as script

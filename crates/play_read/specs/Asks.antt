@@ -1,4 +1,4 @@
--- What a plain line of a script for people asks for (this project's own).
+-- The request of a plain line of a play script (this project's own).
 use Rattle.std.specs.Prelude.{◌≡◌, ℕ, ◌<◌, true, List, [], ◌∷◌, codes, Option, Some, None}
 use Rattle.flat_model.specs.Machine.Event.{Event}
 use Rattle.flat_model.specs.Scripts.Grammar.{words, IsNumber}
@@ -12,16 +12,16 @@ use Rattle.play_show.specs.declared.topic.Topic.{Topic}
 
 pub data Ask : Type 0 where
   Call : (event : Event) → Ask  -- one event of the machine
-  Ticks : (n : ℕ) → Ask  -- so many ticks
-  Show : (topic : Topic) → Ask  -- what the machine has in hand
+  Ticks : (n : ℕ) → Ask  -- this many ticks
+  Show : (topic : Topic) → Ask  -- a query about the host
   Capture : (name : List ℕ) (details : Details) → Ask  -- the packets of a capture, in the file of this name
-  Settings : (named : List (List ℕ)) → Ask  -- another machine: names of settings, each with its value
+  Settings : (named : List (List ℕ)) → Ask  -- a new host: names of settings, each with its value
 
--- so many ticks, from 1 to 65,535
+-- this many ticks, from 1 to 65,535
 abbrev pub IsTicks : List ℕ → ℕ → Type 0
 IsTicks plain n = (digits : List ℕ) × (words plain ≡ codes "tick" ∷ digits ∷ []) × IsNumber 65535 digits n × (0 < n)
 
--- the line asks for this
+-- the line makes this request
 abbrev pub Writes : List ℕ → Ask → Type 0
 Writes plain (Call event) = script.Asks all_events plain event
 Writes plain (Ticks n) = IsTicks plain n
@@ -29,7 +29,7 @@ Writes plain (Show topic) = topic_asked plain ≡ Some topic
 Writes plain (Capture name details) = IsAsked plain name details
 Writes plain (Settings named) = (has_dashes plain ≡ true) × (named ≡ words plain)
 
--- what it asks for, if it asks for anything
+-- its request, if it has one
 abbrev pub AsksFor : List ℕ → Option Ask → Type 0
 AsksFor plain (Some ask) = Writes plain ask
 AsksFor plain None = (ask : Ask) → ¬ Writes plain ask

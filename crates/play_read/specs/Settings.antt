@@ -1,4 +1,4 @@
--- The settings in a script's head (this project's own): the options of `bsdudp run`, each a name and a value.
+-- The settings at the beginning of a script (this project's own): the options of `bsdudp run`, each a name and a value.
 use Rattle.std.specs.Prelude.{◌≡◌, ◌⊎◌, ℕ, ◌/◌, ◌==◌, ◌&&◌, not, Bool, true, false, List, [], ◌∷◌, get_or, if◌then◌else◌, codes, bytes_eq, Option, Some, None, Result, Ok, Err}
 use Rattle.flat_model.specs.Scripts.Grammar.{IsAddress, IsNumber}
 use Rattle.flat_model.specs.declared.config.Config.{Config}
@@ -38,12 +38,12 @@ setting_named word =
 abbrev pub drafted : Config → Draft
 drafted config = record { config = config; addr = false; bcast = false }
 
--- what is made of the address that a value writes
+-- the draft with the address of this value
 abbrev pub GivesAddress : List ℕ → (ℕ → Draft) → Result Draft SettingFault → Type 0
 GivesAddress value made (Ok new) = (ip : ℕ) × IsAddress value ip × (new ≡ made ip)
 GivesAddress value made (Err fault) = ((ip : ℕ) → ¬ IsAddress value ip) × (fault ≡ NotAddress)
 
--- of the number of at most `most`
+-- the draft with the number of this value, at most `most`
 abbrev pub GivesNumber : ℕ → List ℕ → (ℕ → Draft) → Result Draft SettingFault → Type 0
 GivesNumber most value made (Ok new) = (n : ℕ) × IsNumber most value n × (new ≡ made n)
 GivesNumber most value made (Err fault) = ((n : ℕ) → ¬ IsNumber most value n) × (fault ≡ NotNumber)
@@ -73,7 +73,7 @@ abbrev pub alone_fault : Option Setting → SettingFault
 alone_fault (Some named) = NoValue
 alone_fault None = Unknown
 
--- The address alone is named, and its first three octets aren't those of the broadcast address.
+-- Only the address is set, and its first three octets differ from those of the broadcast address.
 abbrev pub leaves_network : Draft → Bool
 leaves_network d = d.addr && not d.bcast && not (d.config.addr / 256 == d.config.bcast / 256)
 
@@ -88,6 +88,6 @@ SetsAll old (name ∷ value ∷ more) outcome =
     ((mid : Draft) × SetsNamed (setting_named name) old value (Ok mid) × SetsAll mid more outcome)
     ⊎ ((fault : SettingFault) × SetsNamed (setting_named name) old value (Err fault) × (outcome ≡ Err fault))
 
--- what the words of a line make of a configuration
+-- the words of a line applied to a configuration
 abbrev pub IsSet : Config → List (List ℕ) → Result Config SettingFault → Type 0
 IsSet config words outcome = SetsAll (drafted config) words outcome

@@ -1,5 +1,5 @@
--- What the code's own type for what a line asks for stands for (this project's own).
-use Rattle.std.specs.Prelude.{ℕ, ◌≤◌, Option, Some, None}
+-- The requests that the values of the code's own type represent (this project's own).
+use Rattle.std.specs.Prelude.{◌≤◌, Option, Some, None}
 use Rattle.flat_model.specs.Scripts.Grammar.{words}
 use Rattle.params.specs.declared.TheConstants.{IP_MAX_PACKET}
 use Rattle.request.specs.Requests.{event_of, room_of}
@@ -15,12 +15,12 @@ ask_of (Show topic) = asks.Show topic
 ask_of (Capture capture) = asks.Capture capture.name.now capture.details
 ask_of (Settings plain) = asks.Settings (words plain.now)
 
--- what it asks for, if it asks for anything
+-- its request, if it has one
 abbrev pub asked_by : Option Ask → Option asks.Ask
 asked_by (Some ask) = Some (ask_of ask)
 asked_by None = None
 
--- no packet is longer than one can be, and no range of records ends before it begins
+-- no packet exceeds the maximum length, and no range of records ends before it begins
 abbrev pub IsSoundAsk : Ask → Type 0
 IsSoundAsk (Call request) = room_of request ≤ IP_MAX_PACKET
 IsSoundAsk (Ticks n) = Unit {0}

@@ -1,20 +1,20 @@
-//! What a plain line asks for.
+//! The request of a plain line.
 use play_pcap::Ask as CaptureAsk;
 use play_show::Topic;
 use request::Request;
 
-/// What a plain line asks for. A file's name is borrowed from the line, and the bytes of a packet or of a send from the
-/// room that the line was read into.
+/// The request of a plain line. A file's name is borrowed from the line. The bytes of a packet or of a send are
+/// borrowed from the buffer into which the line was read.
 #[derive(Clone, Copy)]
 pub enum Ask<'l, 'r> {
     /// One call, or a packet that arrives.
     Call(Request<'r>),
-    /// So many ticks, 1 to 65,535.
+    /// This many ticks, 1 to 65,535.
     Ticks(u32),
-    /// What of the machine is shown.
+    /// A query about the host.
     Show(Topic),
-    /// A capture that is played in.
+    /// A capture file to play.
     Capture(CaptureAsk<'l>),
-    /// Another machine, by the settings of this plain line.
+    /// A new host, with the settings of this plain line.
     Settings(&'l [u8]),
 }

@@ -1,4 +1,4 @@
-//! A configuration while the settings of a line are read.
+//! A configuration while the settings of a line are parsed.
 ghost use Rattle.std.specs.Prelude.{◌≡◌, ◌<◌, ◌^◌};
 ghost use Rattle.play_read.specs.Settings.{Sets, SetsNamed, alone_fault, drafted, finished, setting_named};
 ghost use Rattle.play_read.specs.declared.setting.Setting.TheVariants as setting;
@@ -9,7 +9,7 @@ use flat_model::Config;
 use request::address_of;
 use script_loop::number;
 
-/// A configuration, and which of its addresses the line has named.
+/// A configuration, and which of its addresses the line has set.
 #[derive(Clone, Copy)]
 pub(crate) struct Draft {
     pub(crate) config: Config,
@@ -17,7 +17,7 @@ pub(crate) struct Draft {
     pub(crate) bcast: bool,
 }
 
-/// Before the first setting of a line.
+/// Returns the draft before the first setting of a line.
 pub(crate) fn draft_of(config: Config) -> Draft
     ensures { result ≡ drafted config }
 {
@@ -121,7 +121,7 @@ fn with_first_id(old: Draft, value: &[u8]) -> Result<Draft, SettingFault>
     })
 }
 
-/// The draft with this setting, whose value the other word writes.
+/// Returns the draft with this setting; `value` is the word with its value.
 pub(crate) fn with_setting(old: Draft, name: &[u8], value: &[u8]) -> Result<Draft, SettingFault>
     ensures { SetsNamed (setting_named name.now) old value.now result }
 {
@@ -138,7 +138,7 @@ pub(crate) fn with_setting(old: Draft, name: &[u8], value: &[u8]) -> Result<Draf
     }
 }
 
-/// What is wrong with a name that has no value.
+/// Returns the fault for a name without a value.
 pub(crate) fn fault_alone(name: &[u8]) -> SettingFault
     ensures { result ≡ alone_fault (setting_named name.now) }
 {
@@ -148,7 +148,7 @@ pub(crate) fn fault_alone(name: &[u8]) -> SettingFault
     }
 }
 
-/// The configuration after the last setting of a line.
+/// Returns the configuration after the last setting of a line.
 pub(crate) fn finish(draft: Draft) -> Result<Config, SettingFault>
     ensures { result ≡ finished draft }
 {

@@ -1,32 +1,32 @@
-//! Why settings are refused.
+//! Errors in settings.
 ghost use Rattle.std.specs.Prelude.{◌≡◌, ◌≤◌, length};
 ghost use Rattle.play_read.specs.Settings.{fault_words};
 
-/// Why settings are refused (this project's own). Of several faults it's the first one.
+/// The first error in the settings of a line (this project's own).
 #[derive(Clone, Copy, Debug, PartialEq, Eq)]
 pub enum SettingFault {
-    /// They stand behind a line that asks for something.
+    /// The settings come after a line that requests something.
     Late,
-    /// A word in the place of a name is none.
+    /// A word isn't the name of a setting.
     Unknown,
     /// The last name has no value.
     NoValue,
-    /// The value of an address is none.
+    /// The value isn't an address.
     NotAddress,
-    /// The value of a number is none, or more than 65,535 of `--mtu` and `--id`, or than 4,294,967,295 of the others.
+    /// The value isn't a number, or it is above 65,535 for `--mtu` and `--id`, or above 4,294,967,295 for the others.
     NotNumber,
-    /// The line names an address, but no broadcast address, and the two differ in their first three octets.
+    /// The line sets an address, but no broadcast address, and the two differ in their first three octets.
     OtherNetwork,
-    /// No pool has so many mbufs or clusters.
+    /// No pool has these numbers of mbufs or clusters.
     BadSizes,
-    /// Something else that no machine can have.
+    /// Another value that no host can have.
     BadConfig,
-    /// There is no memory for such a machine.
+    /// The host refuses memory for this configuration.
     Memory,
 }
 
 impl SettingFault {
-    /// What is wrong, in words: 80 bytes at most.
+    /// Returns the error message, at most 80 bytes.
     pub fn words(self) -> &'static str
         ensures is { result.now ≡ fault_words self }
         ensures short { length result.now ≤ 80 }

@@ -1,4 +1,4 @@
-//! What a plain line of a script for people asks for: a line is read once, and what it asks for is a value.
+//! The request of a plain line of a play script: a line is parsed once, into a value.
 #![tactic(auto)]
 
 mod ask;

@@ -1,4 +1,4 @@
-//! The reader of plain lines.
+//! The parser of plain lines.
 ghost use Rattle.std.specs.Prelude.{◌≡◌, length, IfSome};
 ghost use Rattle.params.specs.declared.TheConstants.{IP_MAX_PACKET};
 ghost use Rattle.play_read.specs.Asks.{AsksFor};
@@ -10,8 +10,8 @@ use crate::ticks::ticks_of;
 use play_show::topic_of;
 use request::request_of;
 
-/// What a plain line asks for, or `None` if it asks for nothing. A plain line has one space between each two words. The
-/// bytes that it names stand in the room then, which has 65,535.
+/// Returns the request of a plain line, or `None` if it has none. A plain line has one space between each two words.
+/// Its bytes are decoded into `room`, which has 65,535 bytes.
 pub fn ask_of<'l, 'r>(plain: &'l [u8], room: &'r mut [u8]) -> Option<Ask<'l, 'r>>
     requires { length room.old ≡ IP_MAX_PACKET }
     ensures asks { AsksFor plain.now (asked_by result) }

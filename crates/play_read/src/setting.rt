@@ -2,7 +2,7 @@
 ghost use Rattle.std.specs.Prelude.{◌≡◌};
 ghost use Rattle.play_read.specs.Settings.{setting_named};
 
-/// What of a configuration is set: the options of `bsdudp run`.
+/// A setting of a configuration: the options of `bsdudp run`.
 #[derive(Clone, Copy)]
 pub(crate) enum Setting {
     Addr,
@@ -13,7 +13,7 @@ pub(crate) enum Setting {
     FirstId,
 }
 
-/// The setting that a word names.
+/// Returns the setting with this name.
 pub(crate) fn setting_of(word: &[u8]) -> Option<Setting>
     ensures { result ≡ setting_named word.now }
 {

@@ -8,20 +8,20 @@ use crate::fault::SettingFault;
 use flat_model::Config;
 use script_loop::first_word;
 
-/// Whether a plain line has settings: it begins with two dashes.
+/// Returns whether a plain line has settings: it begins with two dashes.
 pub(crate) fn is_settings(plain: &[u8]) -> bool
     ensures { result ≡ has_dashes plain.now }
 {
     plain.len() >= 2 && plain[0] == b'-' && plain[1] == b'-'
 }
 
-/// What the settings of a plain line make of a configuration: each is a name and a value, and the last one counts if a
-/// name comes twice. Whether there can be a machine of that configuration isn't asked.
+/// Applies the settings of a plain line to a configuration. Each setting is a name and a value; if a name is repeated,
+/// the last value counts. This doesn't check whether a host can have the resulting configuration.
 ///
 /// # Errors
 ///
-/// `Unknown`, `NoValue`, `NotAddress` or `NotNumber` at the first word that is wrong; else `OtherNetwork` if the line
-/// names an address, but no broadcast address, and the first three octets of the two differ.
+/// `Unknown`, `NoValue`, `NotAddress` or `NotNumber` at the first word that is wrong. Otherwise `OtherNetwork` if the
+/// line sets an address, but no broadcast address, and the first three octets of the two differ.
 pub fn settings_of(plain: &[u8], config: Config) -> Result<Config, SettingFault>
     ensures { IsSet config (words plain.now) result }
 {

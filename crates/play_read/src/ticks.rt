@@ -1,13 +1,13 @@
-//! Lines that ask for several ticks.
+//! Lines that request several ticks.
 ghost use Rattle.std.specs.Prelude.{◌≡◌, ℕ, MatchOption};
 ghost use Rattle.play_read.specs.Asks.{IsTicks};
 
 use script_loop::{first_word, number, one};
 
-/// The most ticks that a line asks for.
+/// The most ticks that a line can request.
 const MOST_TICKS: u32 = 65_535;
 
-/// How many ticks a line asks for: those of `tick N`, 1 to 65,535.
+/// Returns the number of ticks that a line requests with `tick N`, 1 to 65,535.
 pub fn ticks_of(words: &[u8]) -> Option<u32>
     ensures { MatchOption result ((n : ℕ) → IsTicks words.now n → ⊥) (IsTicks words.now) }
 {

@@ -1,12 +1,12 @@
 -- What turns add to a capture.
-use Rattle.std.proofs.Common.{◌≡◌, ℕ, zero, suc, ◌+◌, ◌-◌, ◌<◌, ◌≤◌, Bool, true, false, List, [], ◌∷◌, ◌++◌, flat_map, map, replicate, Option, refl, sym, ap, ◌∙◌, arith, subst, append-nil, append_assoc}
+use Rattle.std.proofs.Common.{◌≡◌, ℕ, zero, suc, ◌-◌, ◌<◌, ◌≤◌, Bool, true, false, List, [], ◌∷◌, ◌++◌, flat_map, map, replicate, Option, refl, sym, ap, ◌∙◌, arith, subst, append-nil, append_assoc}
 use Rattle.std.proofs.KnownBytes.{Appends-nil}
 use Rattle.std.proofs.lemmas.List.{map-append}
 use Rattle.std.proofs.lemmas.List.Concat.{flat_map-append}
 use Rattle.flat_model.specs.Machine.Event.{Event, Reply, Tick}
 use Rattle.flat_model.specs.Runs.Run.{Turn}
-use Rattle.pcap.specs.Records.{Captured, record_bytes}
-use Rattle.pcap.specs.declared.header.Order.TheVariants.{Little}
+use Rattle.capture.specs.Records.{Captured, record_bytes}
+use Rattle.capture.specs.declared.pcap.header.Order.TheVariants.{Little}
 use Rattle.play_pcap.specs.Traces.{Keeps, Pass, SentAfter, Traced, later, pass_bytes, passes_bytes, record_of}
 use Rattle.play_script.proofs.DeedLemmas.{ticks_move}
 use Rattle.play_script.specs.Deeds.{moved_in, turns_with}

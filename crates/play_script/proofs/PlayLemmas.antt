@@ -18,8 +18,8 @@ use Rattle.play_pcap.specs.declared.moves.Tally.{Tally}
 use Rattle.play_read.proofs.Laws.{Capture-idle}
 use Rattle.play_script.proofs.CaptureLemmas.{Joins, Keeps-none, passes_bytes-append}
 use Rattle.play_script.specs.Captures.{Captures, moved_by, pass_if, passes, ticks_after, ticks_by}
-use Rattle.play_records.specs.Tables.{no_drops}
-use Rattle.play_records.specs.declared.table.Table.{Table}
+use Rattle.play_text.specs.Tables.{no_drops}
+use Rattle.play_text.specs.declared.table.Table.{Table}
 use Rattle.play_script.specs.Plays.{ComesTo, CapturedView, ReplayView, came_turn, replay_of}
 use Rattle.stack_call.specs.Moves.{StackSteps}
 use Rattle.play_script.specs.Runs.{AreAskedTurns}

@@ -25,7 +25,7 @@ use Rattle.play_script.proofs.PlayLemmas.{Captures-same, Named-turns}
 use Rattle.play_script.specs.Deeds.{Does, turns_with}
 use Rattle.play_script.specs.Captures.{Captures, all_passes, turn_of}
 use Rattle.play_script.specs.Lines.{Reading, Nothing, TooLong, Faulty, Asks, reading_part}
-use Rattle.play_records.specs.Tables.{no_drops}
+use Rattle.play_text.specs.Tables.{no_drops}
 use Rattle.play_script.specs.Plays.{CapturedView, captured_of, replay_of}
 use Rattle.play_script.specs.Runs.{AreAskedTurns, ArePlayedTurns, AreTimedTurns, IsRunOf, all_turns, MaySet, MaySetAll, MayTimedSet}
 use Rattle.play_script.specs.Tells.{Play, Tells, TellsAsk, TellsReading, TellsAsked, TellsSettled, TellsTimed, IsSettled, IsWaited, next_line, stays_head}

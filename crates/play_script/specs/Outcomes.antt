@@ -6,7 +6,7 @@ use Rattle.flat_model.specs.Scripts.Grammar.{words}
 use Rattle.flat_model.specs.Scripts.Texts.{reply_text}
 use Rattle.flat_model.specs.declared.counters.Counters.{Counters}
 use Rattle.flat_model.specs.declared.counters.Why.{Why}
-use Rattle.play_records.specs.Words.{all_causes, cause_words, rose}
+use Rattle.play_text.specs.Words.{all_causes, cause_words, rose}
 
 -- ---- why packets were dropped
 

@@ -1,10 +1,10 @@
 -- Captures that are played in: the machine's steps, and what is told of them (this project's own).
-use Rattle.std.specs.Prelude.{◌≡◌, ℕ, Bool, true, false, List, [], ◌∷◌, ◌++◌, map, length, None, Result, Ok, Err}
+use Rattle.std.specs.Prelude.{◌≡◌, ℕ, Bool, true, false, List, [], ◌∷◌, ◌++◌, map, length, Result, Ok, Err}
 use Rattle.flat_model.specs.Machine.Event.{Event, Reply, IsEvent, Done}
 use Rattle.flat_model.specs.Machine.State.{State}
 use Rattle.flat_model.specs.Runs.Run.{Turn}
 use Rattle.flat_model.specs.declared.counters.Counters.{Counters}
-use Rattle.pcap.specs.Records.{Whole, Reads}
+use Rattle.capture.specs.Records.{Whole, Reads}
 use Rattle.play_pcap.specs.Acts.{Act, Arrives, Passes, act_event}
 use Rattle.play_pcap.specs.Asks.{IsAsked}
 use Rattle.play_pcap.specs.Events.{HasRange, capture_acts}
@@ -14,8 +14,8 @@ use Rattle.play_pcap.specs.Traces.{Traced}
 use Rattle.play_pcap.specs.declared.ask.Details.{Details}
 use Rattle.play_pcap.specs.declared.fault.CaptureFault.{CaptureFault}
 use Rattle.play_pcap.specs.declared.moves.Tally.{Tally}
-use Rattle.play_records.specs.Tables.{no_drops, drops_noted}
-use Rattle.play_records.specs.declared.table.Table.{Table}
+use Rattle.play_text.specs.Tables.{no_drops, drops_noted}
+use Rattle.play_text.specs.declared.table.Table.{Table}
 use Rattle.play_show.specs.Changes.{IsSnapshot}
 use Rattle.play_show.specs.declared.snapshot.Snapshot.{Snapshot}
 use Rattle.play_script.specs.Captures.{Captures, turn_of}

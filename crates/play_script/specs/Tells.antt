@@ -17,7 +17,7 @@ use Rattle.play_read.specs.declared.fault.SettingFault.TheVariants as settings
 use Rattle.play_show.specs.Changes.{IsSnapshot}
 use Rattle.play_show.specs.declared.snapshot.Snapshot.{Snapshot}
 use Rattle.play_pcap.specs.Traces.{Traced}
-use Rattle.play_records.specs.declared.table.Table.{Table}
+use Rattle.play_text.specs.declared.table.Table.{Table}
 use Rattle.play_read.specs.Asks.{Ask, Call, Ticks, Show, Capture, Settings, AsksFor}
 use Rattle.play_script.specs.Deeds.{Does, turns_with}
 use Rattle.play_script.specs.Captures.{Captures}

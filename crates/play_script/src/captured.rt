@@ -9,12 +9,12 @@ ghost use Rattle.play_script.specs.Plays.{ComesTo, ReplayView, captured_of, repl
 ghost use Rattle.net_stack.specs.Stack.{state_of};
 ghost use Rattle.stack_call.specs.Moves.{StackSteps};
 
-use crate::capture::Capture;
+use crate::capture_out::Capture;
 use crate::deed::tick_all;
 use flat_model::Counters;
 use net_stack::Stack;
 use play_pcap::{RecordPlace, Trace, Wire};
-use play_records::Table;
+use play_text::Table;
 use script_loop::Sink;
 
 /// A stack, and the capture to which the packets are added that come and go.

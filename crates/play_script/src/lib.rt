@@ -2,7 +2,7 @@
 //! expected. What is told of a line is its reply, and why packets were dropped.
 #![tactic(auto)]
 
-mod capture;
+mod capture_out;
 mod captured;
 mod deed;
 mod fits;
@@ -18,7 +18,7 @@ mod runs;
 mod settle;
 mod tell;
 
-pub use capture::Capture;
+pub use capture_out::Capture;
 pub use deed::moved_by_call;
 pub use fits::meets;
 pub use flat_model::Config;

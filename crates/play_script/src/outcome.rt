@@ -6,7 +6,7 @@ ghost use Rattle.request.specs.Replies.{len_of, reply_of};
 ghost use Rattle.play_script.specs.Outcomes.{cause_text, drops_text, told as told_of};
 
 use flat_model::{Counters, Why};
-use play_records::{causes, rose, words_for};
+use play_text::{causes, rose, words_for};
 use request::{Reply, TEXT, put_reply};
 use script_loop::Buffer;
 

@@ -11,8 +11,8 @@ use crate::outcome::put_drops;
 use crate::report::{Report, bytes_of};
 use crate::tell::put_below;
 use play_pcap::{Ask, CaptureFault, Folder, Tally, load_named, play_file, put_outcome};
-use play_records::{TABLE, Table};
 use play_show::{SHOWN, snapshot_of};
+use play_text::{Table, add_table};
 use script_loop::{Buffer, Sink};
 use std::alloc::Global;
 
@@ -55,8 +55,8 @@ fn has_failed(outcome: &Result<Tally, CaptureFault>) -> bool
 
 /// Puts a line after the text for each cause for which packets were dropped, or nothing.
 fn put_causes(quiet: bool, causes: &Table, below: &mut Buffer<SHOWN>) {
-    if !quiet && SHOWN - below.len() >= TABLE {
-        causes.put(below);
+    if !quiet {
+        add_table(below, causes);
     }
 }
 

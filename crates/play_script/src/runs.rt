@@ -13,7 +13,7 @@ ghost use Rattle.play_script.specs.Tells.{Play, Tells, started, play_status};
 ghost use Rattle.net_stack.specs.Stack.{state_of};
 ghost use Rattle.stack_call.specs.Moves.{StackSteps};
 
-use crate::capture::Capture;
+use crate::capture_out::Capture;
 use crate::captured::CapturedStack;
 use crate::line::Line;
 use crate::player::Player;
@@ -26,7 +26,7 @@ use link_script::booted;
 use net_stack::Stack;
 use play_packet::{LineReader, PACKET};
 use play_pcap::{Folder, NoFolder, Nowhere, Trace};
-use play_records::Table;
+use play_text::Table;
 use script_loop::{Buffer, RunFault, Sink, Source, serve_script};
 use std::alloc::{AllocError, Global};
 

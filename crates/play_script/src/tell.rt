@@ -9,7 +9,7 @@ ghost use Rattle.play_script.specs.Tells.{IsDone};
 ghost use Rattle.play_script.specs.Views.{plain_line};
 ghost use Rattle.stack_call.specs.Moves.{StackSteps};
 
-use crate::capture::Capture;
+use crate::capture_out::Capture;
 use crate::captured::CapturedStack;
 use crate::deed::{Deed, do_deed, moved_by, ticks_of};
 use crate::line::Line;

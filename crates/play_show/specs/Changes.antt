@@ -1,20 +1,19 @@
--- Looks at a machine, and what became of a fragment between two of them (this project's own).
-use Rattle.std.specs.Prelude.{◌≡◌, ℕ, ◌+◌, ◌-◌, ◌<◌, ◌&&◌, not, Bool, false, List, length, get_or, nat_lt, if◌then◌else◌, Result, Ok, Err}
+-- Looks at a machine, and what happened between two of them (this project's own).
+use Rattle.std.specs.Prelude.{◌≡◌, ℕ, ◌+◌, ◌-◌, ◌<◌, false, Bool, List, length, get_or, nat_lt, if◌then◌else◌, Result, Ok, Err}
 use Rattle.params.specs.declared.TheConstants.{FIRST_DESCRIPTOR, MAX_SOCKETS}
 use Rattle.flat_model.specs.Machine.Count.{value_of}
 use Rattle.flat_model.specs.Machine.Event.{Event, Reply, Ask_counters, Ask_usage, Counted, Shown}
 use Rattle.flat_model.specs.Machine.State.{State}
 use Rattle.flat_model.specs.declared.counter.Counter.{Counter}
-use Rattle.flat_model.specs.declared.counter.Counter.TheVariants.{IpFragments, IpFragdropped, IpFragtimeout, IpReassembled, IpReclaimed, Nobufs}
+use Rattle.flat_model.specs.declared.counter.Counter.TheVariants.{IpFragtimeout, IpReclaimed}
+use Rattle.flat_model.specs.declared.counters.Counters.{Counters}
 use Rattle.flat_model.specs.declared.errno.Errno.{Errno}
-use Rattle.flat_model.specs.declared.usage.Mbstat.{Mbstat}
 use Rattle.sock_calls.specs.Questions.{next_datagram}
 use Rattle.sock_calls.specs.declared.questions.NextDatagram.{NextDatagram}
+use Rattle.play_text.specs.Fates.{drops_of, fate_of}
 use Rattle.play_show.specs.declared.changes.Change.{Change}
 use Rattle.play_show.specs.declared.changes.Change.TheVariants as change
 use Rattle.play_show.specs.declared.changes.Became.{Became}
-use Rattle.play_show.specs.declared.changes.Fate.{Fate}
-use Rattle.play_show.specs.declared.changes.Fate.TheVariants as fate
 use Rattle.play_show.specs.declared.snapshot.Snapshot.{Snapshot}
 
 -- ---- a look
@@ -32,29 +31,11 @@ pub record IsSnapshot (step : State → Event → Reply → State → Type 0) (s
   pub output : x.output ≡ length s.output
   pub waiting : (k : ℕ) → k < MAX_SOCKETS → get_or x.waiting k 0 ≡ waiting_of (next_datagram (FIRST_DESCRIPTOR + k) s)
 
--- ---- a fragment
-
--- a counter went up
-abbrev pub rose : Counter → Snapshot → Snapshot → Bool
-rose counter before after = nat_lt (value_of counter before.counters) (value_of counter after.counters)
-
--- a fragment passed its test, and neither made its datagram whole nor was dropped
-abbrev pub is_kept : Snapshot → Snapshot → Bool
-is_kept before after =
-    rose IpFragments before after && (not (rose IpReassembled before after)
-    && (not (rose IpFragdropped before after) && not (rose Nobufs before after)))
-
--- what became of a packet's fragment
-abbrev pub fate_of : Snapshot → Snapshot → Fate
-fate_of before after =
-    if rose IpReassembled before after then fate.Whole else
-    if is_kept before after then fate.Kept else fate.Other
-
--- ---- what came of an event
+-- ---- what an event did
 
 -- by how much a counter went up
-abbrev pub risen : Counter → Snapshot → Snapshot → ℕ
-risen counter before after = value_of counter after.counters - value_of counter before.counters
+abbrev pub risen : Counter → Counters → Counters → ℕ
+risen counter before after = value_of counter after - value_of counter before
 
 -- fewer are free than before, or more
 abbrev pub change_of : ℕ → ℕ → Change
@@ -69,11 +50,12 @@ AreDelivered before after delivered =
     → get_or delivered k false ≡ nat_lt (get_or before.waiting k 0) (get_or after.waiting k 0)
 
 pub record HasBecome (before after : Snapshot) (x : Became) : Type 0 where
-  pub fate : x.fate ≡ fate_of before after
+  pub drops : x.drops ≡ drops_of before.counters after.counters
+  pub fate : x.fate ≡ fate_of before.counters after.counters
   pub delivered : AreDelivered before after x.delivered
   pub first : x.first_sent ≡ before.output
   pub sent : x.sent ≡ after.output - before.output
-  pub timed_out : x.timed_out ≡ risen IpFragtimeout before after
-  pub reclaimed : x.reclaimed ≡ risen IpReclaimed before after
+  pub timed_out : x.timed_out ≡ risen IpFragtimeout before.counters after.counters
+  pub reclaimed : x.reclaimed ≡ risen IpReclaimed before.counters after.counters
   pub mbufs : x.mbufs ≡ change_of before.usage.free_mbufs after.usage.free_mbufs
   pub clusters : x.clusters ≡ change_of before.usage.free_clusters after.usage.free_clusters

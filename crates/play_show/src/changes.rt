@@ -5,90 +5,55 @@ ghost use Rattle.play_show.specs.Changes as changes;
 
 use crate::SHOWN;
 use crate::snapshot::{SOCKETS, Snapshot};
-use crate::text::{add, add_fate, add_packet};
-use flat_model::Counter;
+use flat_model::{Counter, Counters};
 use net_stack::Stack;
 use params::FIRST_DESCRIPTOR;
 use play_text::Piece::{Amount, Long, Number, Text};
+use play_text::{CAUSES, Fate, add, add_fate, add_packet, drops_between, fate_of};
 use script_loop::Buffer;
 
 /// So many packets of a send are told; of more than these, how many more there are.
 const MOST_SENT: u32 = 16;
 
-/// What became of a packet's fragment.
-#[derive(Clone, Copy, Debug, PartialEq, Eq)]
-pub enum Fate {
-    /// It made its datagram whole.
-    Whole,
-    /// It's kept.
-    Kept,
-    /// It was dropped, or there was none.
-    Other,
-}
-
-/// Whether a counter went up.
-fn rose(counter: Counter, before: &Snapshot, after: &Snapshot) -> bool
-    ensures { result ≡ changes.rose counter before.now after.now }
-{
-    before.counters.value(counter) < after.counters.value(counter)
-}
-
-/// Whether a fragment is kept.
-fn is_kept(before: &Snapshot, after: &Snapshot) -> bool
-    ensures { result ≡ changes.is_kept before.now after.now }
-{
-    rose(Counter::IpFragments, before, after)
-        && (!rose(Counter::IpReassembled, before, after)
-            && (!rose(Counter::IpFragdropped, before, after)
-                && !rose(Counter::Nobufs, before, after)))
-}
-
-/// What became of a packet's fragment between two looks.
-pub fn fate_of(before: &Snapshot, after: &Snapshot) -> Fate
-    ensures { result ≡ changes.fate_of before.now after.now }
-{
-    if rose(Counter::IpReassembled, before, after) {
-        Fate::Whole
-    } else if is_kept(before, after) {
-        Fate::Kept
-    } else {
-        Fate::Other
-    }
-}
-
-/// More or fewer than before.
+/// How the number of free buffers changed.
 #[derive(Clone, Copy, Debug, PartialEq, Eq)]
 pub enum Change {
+    /// As many are free as before.
     Same,
+    /// So many were taken from the pool.
     Taken(u32),
+    /// So many were given back.
     Given(u32),
 }
 
-/// What came of an event, by looks at the machine before and after it.
+/// What an event did, by looks at the machine before and after it.
 #[derive(Clone, Copy)]
 pub struct Became {
-    /// What became of a packet's fragment.
+    /// For which causes packets were dropped, in the order of [`play_text::causes`].
+    pub drops: [bool; CAUSES],
+    /// What happened to a packet's fragment.
     pub fate: Fate,
     /// Whether a datagram was delivered to each socket, that of descriptor 3 first.
     pub delivered: [bool; SOCKETS],
-    /// Behind how many packets others wait for the link now, and how many these are.
+    /// How many packets waited for the link before.
     pub first_sent: u32,
+    /// How many packets wait behind these now.
     pub sent: u32,
-    /// How many unfinished datagrams were dropped after their time, and for their buffers.
+    /// How many unfinished datagrams were dropped after their 60 ticks.
     pub timed_out: u64,
+    /// How many unfinished datagrams were dropped for their buffers.
     pub reclaimed: u64,
+    /// How many mbufs were taken from the pool or given back.
     pub mbufs: Change,
+    /// How many clusters were taken from the pool or given back.
     pub clusters: Change,
 }
 
 /// By how much a counter went up.
-fn risen(counter: Counter, before: &Snapshot, after: &Snapshot) -> u64
+fn risen(counter: Counter, before: &Counters, after: &Counters) -> u64
     ensures { result ≡ changes.risen counter before.now after.now }
 {
-    after
-        .counters
-        .value(counter)
-        .saturating_sub(before.counters.value(counter))
+    after.value(counter).saturating_sub(before.value(counter))
 }
 
 /// How many are free now beside before.
@@ -127,16 +92,25 @@ fn delivered_between(before: &Snapshot, after: &Snapshot) -> [bool; SOCKETS]
 pub fn became_of(before: &Snapshot, after: &Snapshot) -> Became
     ensures { changes.HasBecome before.now after.now result }
 {
+    let (old, new) = (&before.counters, &after.counters);
     Became {
-        fate: fate_of(before, after),
+        drops: drops_between(old, new),
+        fate: fate_of(old, new),
         delivered: delivered_between(before, after),
         first_sent: before.output,
         sent: after.output.saturating_sub(before.output),
-        timed_out: risen(Counter::IpFragtimeout, before, after),
-        reclaimed: risen(Counter::IpReclaimed, before, after),
+        timed_out: risen(Counter::IpFragtimeout, old, new),
+        reclaimed: risen(Counter::IpReclaimed, old, new),
         mbufs: change_of(before.usage.free_mbufs, after.usage.free_mbufs),
         clusters: change_of(before.usage.free_clusters, after.usage.free_clusters),
     }
+}
+
+/// Puts what a packet's headers say after the text, as a line.
+fn add_line(text: &mut Buffer<SHOWN>, packet: &[u8]) {
+    add(text, &[Text(b"    ")]);
+    add_packet(text, packet);
+    add(text, &[Text(b"\n")]);
 }
 
 /// Puts a line after the text for each socket to which a datagram was delivered.
@@ -166,7 +140,7 @@ fn put_sent(text: &mut Buffer<SHOWN>, machine: &Stack, first: u32, all: u32, roo
     );
     for i in first..first.saturating_add(all.min(MOST_SENT)) {
         if let Some(len) = machine.output_packet(i, room) {
-            add_packet(text, &room[..len]);
+            add_line(text, &room[..len]);
         }
     }
     if MOST_SENT < all {
@@ -220,7 +194,7 @@ pub fn put_changes(
     let it = became_of(before, after);
     text.clear();
     if let Some(packet) = packet {
-        add_packet(text, packet);
+        add_line(text, packet);
         add_fate(text, packet, it.fate);
     }
     put_delivered(text, &it.delivered);

@@ -1,8 +1,8 @@
 //! Counters and the pool in words.
 use crate::SHOWN;
-use crate::text::add;
 use flat_model::{Counter, Counters, Mbstat};
 use play_text::Piece::{Amount, Long, Number, Text};
+use play_text::add;
 use script_loop::Buffer;
 
 /// What a counter counts.

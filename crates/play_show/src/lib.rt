@@ -8,11 +8,10 @@ mod shown_law;
 mod snapshot;
 mod sockets;
 mod tell;
-mod text;
 mod topic;
 mod unfinished;
 
-pub use changes::{Became, Change, Fate, became_of, put_changes};
+pub use changes::{Became, Change, became_of, put_changes};
 pub use shown_law::looks_law;
 pub use snapshot::{Snapshot, snapshot_of};
 pub use tell::tell_topic;

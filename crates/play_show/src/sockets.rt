@@ -1,10 +1,10 @@
 //! Sockets and the output queue in words.
 use crate::SHOWN;
-use crate::text::add;
 use flat_model::Errno;
 use net_stack::{NextDatagram, SocketName, Stack};
 use params::{FIRST_DESCRIPTOR, MAX_SOCKETS, UDP_RECEIVE_SPACE};
 use play_text::Piece::{Address, Amount, Either, End, Number, Text};
+use play_text::add;
 use script_loop::Buffer;
 
 /// Puts after the text what a socket is bound and connected to, with a star for what isn't set.

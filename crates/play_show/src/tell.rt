@@ -2,11 +2,11 @@
 use crate::SHOWN;
 use crate::counters::{put_counters, put_pool};
 use crate::sockets::{put_queue, put_sockets};
-use crate::text::add;
 use crate::topic::Topic;
 use crate::unfinished::put_unfinished;
 use net_stack::Stack;
 use play_text::Piece::Amount;
+use play_text::add;
 use script_loop::Buffer;
 
 /// Tells of a machine what is asked. What is told in a word or two stands in `told` then, and in `below` the lines

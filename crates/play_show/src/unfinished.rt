@@ -1,8 +1,8 @@
 //! The unfinished datagrams in words.
 use crate::SHOWN;
-use crate::text::add;
 use net_stack::{HeldRange, Stack, UnfinishedDatagram};
 use play_text::Piece::{Amount, Either, Long, Number, Text, Way};
+use play_text::add;
 use script_loop::Buffer;
 
 /// So many unfinished datagrams are told; of more than these, how many more there are.

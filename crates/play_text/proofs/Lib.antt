@@ -4,3 +4,4 @@ mod StringLemmas
 mod ColourLemmas
 mod FrameLemmas
 mod ByteLemmas
+pub mod Laws

@@ -1,5 +1,5 @@
--- Bytes of a reply as people read them: as a text, and cut in the middle if they're many (this project's own).
-use Rattle.std.specs.Prelude.{ℕ, ◌+◌, ◌-◌, ◌*◌, ◌/◌, ◌%◌, ◌==◌, ◌&&◌, ◌||◌, not, bytes_eq, Bool, true, false, List, [], ◌∷◌, ◌++◌, zero, suc, length, take, drop, position, flat_map, if◌then◌else◌, codes, decimal, nat_lt, nat_le, min, is_some, Option, Some, None, Result, Ok, Err}
+-- The bytes of a reply in readable form: as a text, and abbreviated if there are many (this project's own).
+use Rattle.std.specs.Prelude.{ℕ, ◌+◌, ◌-◌, ◌/◌, ◌%◌, ◌==◌, ◌&&◌, ◌||◌, not, bytes_eq, Bool, true, false, List, [], ◌∷◌, ◌++◌, zero, suc, length, take, drop, position, flat_map, if◌then◌else◌, codes, decimal, nat_lt, nat_le, min, is_some, Option, Some, None, Result, Ok, Err}
 use Rattle.hex.specs.Hex.{decode_sized}
 use Rattle.hex.specs.declared.error.FromHexError.{FromHexError}
 use Rattle.play_text.specs.declared.bytes.ByteForm.{ByteForm}
@@ -12,17 +12,17 @@ use Rattle.play_text.specs.declared.bytes.TheConstants.{WHOLE, FRONT, BACK}
 abbrev pub is_printed : ℕ → Bool
 is_printed byte = nat_le 32 byte && nat_le byte 126
 
--- it may stand in a text: a line feed, a carriage return and a tab by an escape
+-- a text may contain it: a line feed, a carriage return and a tab as an escape
 abbrev pub is_readable : ℕ → Bool
 is_readable byte = is_printed byte || (byte == 10 || (byte == 13 || (byte == 9 || byte == 0)))
 
--- all of them may stand in a text, and one is printed as itself
+-- a text may contain all of them, and at least one is printable
 abbrev pub are_readable : List ℕ → Bool
 are_readable bytes =
     is_some (position (λ byte. is_printed byte) bytes)
     && not (is_some (position (λ byte. not (is_readable byte)) bytes))
 
--- a byte as a script writes it in a text
+-- a byte as it is written in a text of a script
 abbrev pub written : ℕ → List ℕ
 written byte =
     if byte == 10 then 92 ∷ 110 ∷ []
@@ -38,27 +38,27 @@ quoted bytes = 34 ∷ (flat_map written bytes ++ 34 ∷ [])
 
 -- ---- bytes
 
--- the text of the bytes that were decoded, or else their digits
+-- the text of the bytes if they could be decoded, otherwise their digits
 abbrev pub decoded_text : Result (List ℕ) FromHexError → List ℕ → List ℕ
 decoded_text (Ok bytes) digits = if are_readable bytes then quoted bytes else digits
 decoded_text (Err e) digits = digits
 
--- what stands for digits
+-- the text for digits
 abbrev pub digits_text : Bool → List ℕ → List ℕ
 digits_text texts digits = if texts then decoded_text (decode_sized digits (length digits / 2)) digits else digits
 
--- the first 32 bytes, the last 8, and how many there are
+-- the first 32 bytes, the last 8, and the total number
 abbrev pub cut_text : Bool → List ℕ → List ℕ
 cut_text texts digits =
     digits_text texts (take FRONT digits) ++ codes ".."
     ++ digits_text texts (drop (length digits - BACK) digits)
     ++ codes " (" ++ decimal (length digits / 2) ++ codes " bytes)"
 
--- a digit in lower case
+-- a lower-case digit
 abbrev pub is_digit : ℕ → Bool
 is_digit byte = (nat_le 48 byte && nat_le byte 57) || (nat_le 97 byte && nat_le byte 102)
 
--- the digits of bytes, as a reply has them
+-- the digits of bytes, as they are in a reply
 abbrev pub are_digits : List ℕ → Bool
 are_digits word = length word % 2 == 0 && not (is_some (position (λ byte. not (is_digit byte)) word))
 
@@ -81,7 +81,7 @@ abbrev pub place_or : Option ℕ → ℕ → ℕ
 place_or (Some at) len = at
 place_or None len = len
 
--- how many bytes stand in front of the first space
+-- how many bytes come before the first space
 abbrev pub word_len : List ℕ → ℕ
 word_len text = place_or (position (λ byte. byte == 32) text) (length text)
 
@@ -95,17 +95,17 @@ bytes_on reply =
     else if begins_with reply (codes "from ") then after_word (after_word (after_word reply))
     else []
 
--- the word of its bytes, or nothing
+-- the word with its bytes, or nothing
 abbrev pub bytes_word : List ℕ → List ℕ
 bytes_word reply = take (word_len (bytes_on reply)) (bytes_on reply)
 
--- what stands in front of its bytes, what stands for them, and the rest
+-- the part before its bytes, the text for the bytes, and the rest
 abbrev pub shown : Bool → List ℕ → List ℕ
 shown texts reply =
     take (length reply - length (bytes_on reply)) reply ++ word_text texts (bytes_word reply)
     ++ drop (word_len (bytes_on reply)) (bytes_on reply)
 
--- in each form
+-- in each format
 abbrev pub seen : ByteForm → List ℕ → List ℕ
 seen Digits reply = reply
 seen Cut reply = shown false reply
@@ -113,20 +113,20 @@ seen Texts reply = shown true reply
 
 -- ---- two replies
 
--- how many bytes in front are the same
+-- how many leading bytes are the same
 abbrev pub alike : List ℕ → List ℕ → ℕ
 alike [] others = zero
 alike (byte ∷ bytes) [] = zero
 alike (byte ∷ bytes) (other ∷ others) = if byte == other then suc (alike bytes others) else zero
 
--- where bytes of which one list is cut differ first, if neither ends there
+-- where bytes first differ, one list of which is abbreviated, if neither ends there
 abbrev pub apart_text : List ℕ → List ℕ → List ℕ
 apart_text first second =
     if (is_long first || is_long second) && nat_lt (alike first second) (min (length first) (length second))
     then codes ", which differ from byte " ++ decimal (alike first second / 2) ++ codes " on"
     else []
 
--- the same of the bytes of two replies, unless all digits are printed
+-- the same for the bytes of two replies, unless all digits are printed
 abbrev pub difference : ByteForm → List ℕ → List ℕ → List ℕ
 difference Digits wanted told = []
 difference Cut wanted told = apart_text (bytes_word wanted) (bytes_word told)

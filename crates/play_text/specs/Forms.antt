@@ -1,4 +1,4 @@
--- The forms in which a player prints, and the colours of one of them (this project's own).
+-- The output formats of a player, and the colours of two of them (this project's own).
 use Rattle.std.specs.Prelude.{ℕ, zero, suc, Bool, true, false, List, [], ◌∷◌, ◌++◌, take, drop, codes, if◌then◌else◌}
 use Rattle.play_text.specs.Bytes.{begins_with, seen}
 use Rattle.play_text.specs.declared.bytes.ByteForm.{ByteForm}
@@ -6,7 +6,7 @@ use Rattle.play_text.specs.declared.bytes.ByteForm.TheVariants.{Digits, Cut, Tex
 use Rattle.play_text.specs.declared.form.Form.{Form}
 use Rattle.play_text.specs.declared.form.Form.TheVariants.{Plain, Quiet, Coloured, QuietColoured, Json}
 
--- replies and differences alone
+-- only replies and differences
 abbrev pub is_quiet : Form → Bool
 is_quiet Quiet = true
 is_quiet QuietColoured = true
@@ -21,8 +21,8 @@ abbrev pub is_json : Form → Bool
 is_json Json = true
 is_json _ = false
 
--- How the bytes of replies are printed: with texts if the script has written one. The quiet forms and JSON, which
--- programs compare, have all digits.
+-- How the bytes of replies are printed: with texts if the script has used one. The quiet formats and JSON, which
+-- programs compare, print all digits.
 abbrev pub byte_form : Form → Bool → ByteForm
 byte_form Plain texts = if texts then Texts else Cut
 byte_form Coloured texts = if texts then Texts else Cut
@@ -48,18 +48,18 @@ ended = 27 ∷ codes "[0m"
 abbrev pub if_coloured : Form → List ℕ → List ℕ
 if_coloured form code = if is_coloured form then code else []
 
--- ---- the colours of what is told
+-- ---- the colours of the output for a line
 
--- where the first `dropped ` begins, or the end of the text
+-- the position of the first `dropped `, or of the end of the text
 abbrev pub drops_at : List ℕ → ℕ
 drops_at [] = zero
 drops_at (byte ∷ bytes) = if begins_with (byte ∷ bytes) (codes "dropped ") then zero else suc (drops_at bytes)
 
--- a refusal is red, and every other reply green
+-- an error is red, and every other reply green
 abbrev pub reply_colour : List ℕ → List ℕ
 reply_colour reply = if begins_with reply (codes "error ") then red else green
 
--- nothing has no colour
+-- an empty part has no colour
 abbrev pub part_text : List ℕ → ByteForm → List ℕ → List ℕ
 part_text colour form [] = []
 part_text colour form (byte ∷ bytes) = colour ++ seen form (byte ∷ bytes) ++ ended

@@ -1,5 +1,5 @@
--- A frame in words (this project's own): the hardware addresses of its header (RFC 894), and what its packet or its ARP
--- packet (RFC 826) says.
+-- The description of a frame (this project's own): the hardware addresses of its header (RFC 894), and its packet or
+-- its ARP packet (RFC 826).
 use Rattle.std.specs.Prelude.{ℕ, ◌==◌, List, ◌++◌, length, codes, nat_lt, if◌then◌else◌}
 use Rattle.hex.specs.Hex.{encode_lower}
 use Rattle.flat_model.specs.Packets.Header.{two_bytes, u16_at}
@@ -41,7 +41,7 @@ body_text kind body =
 abbrev pub headed_frame_text : List ℕ → List ℕ
 headed_frame_text f = frame_way_text (mac_at 6 f) (mac_at 0 f) ++ body_text (u16_at 12 f) (body_of f)
 
--- what is told of a frame
+-- the description of a frame
 abbrev pub frame_text : List ℕ → List ℕ
 frame_text f =
     if nat_lt (length f) ETHER_HEADER then amount (length f) (codes "byte") ++ codes " without a header of 14"

@@ -1,10 +1,10 @@
--- Strings of JSON are read back.
+-- JSON strings can be read back.
 use Rattle.std.specs.Prelude.{◌≡◌, ℕ, ◌<◌, List, ◌∷◌, ◌++◌, flat_map, All, Some}
 use Rattle.std.specs.Char.{encode_utf8}
 use Rattle.json.specs.Text.{content, plain}
 use Rattle.play_text.specs.Strings.{escaped}
 
--- A reader of RFC 8259 has each byte as the character with its number, whatever comes after the string.
+-- A reader that follows RFC 8259 gets each byte as the character with its number, whatever follows the string.
 abbrev pub IsReadBack : Type 0
 IsReadBack =
     (bytes after : List ℕ) → All (λ byte. byte < 256) bytes

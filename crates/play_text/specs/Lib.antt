@@ -6,3 +6,7 @@ pub mod Forms
 pub mod Frames
 pub mod Texts
 pub mod Law
+pub mod Words
+pub mod Fates
+pub mod Tables
+pub mod Times

@@ -11,7 +11,7 @@ use Rattle.play_text.specs.Strings.{string_text}
 use Rattle.play_text.specs.declared.piece.Piece.{Piece}
 use Rattle.play_text.specs.declared.piece.Piece.TheVariants.{Text, Either, Number, Long, Maybe, Amount, Address, End, Hardware, Way, Range, Quoted, Reply, Apart}
 
--- a number, or these bytes if there is none
+-- a number, or these bytes if there is no number
 abbrev pub number_or : Option ℕ → List ℕ → List ℕ
 number_or (Some n) none = decimal n
 number_or None none = none
@@ -42,7 +42,7 @@ abbrev pub way_text : ℕ → ℕ → ℕ → List ℕ
 way_text protocol source destination =
     protocol_text protocol ++ codes " " ++ address_text source ++ codes " > " ++ address_text destination
 
--- which bytes of a datagram: so many from an offset on
+-- a range of bytes of a datagram: its offset and its length
 abbrev pub range_text : ℕ → ℕ → List ℕ
 range_text offset n =
     if n == 0 then codes "no byte"
@@ -72,7 +72,7 @@ pieces_after text (piece ∷ pieces) = pieces_after (text ++ piece_text piece) p
 abbrev pub text_of : List Piece → List ℕ
 text_of pieces = pieces_after [] pieces
 
--- ---- how many bytes that are at most
+-- ---- the maximum length of each piece in bytes
 
 abbrev pub piece_room : Piece → ℕ
 piece_room (Text bytes) = length bytes.now

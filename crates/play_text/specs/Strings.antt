@@ -1,13 +1,13 @@
--- Strings of JSON (RFC 8259 section 7), in ASCII alone.
+-- JSON strings (RFC 8259 section 7), in ASCII only.
 use Rattle.std.specs.Prelude.{ℕ, ◌/◌, ◌%◌, ◌==◌, ◌||◌, List, [], ◌∷◌, ◌++◌, flat_map, nat_lt, if◌then◌else◌}
 use Rattle.std.specs.Char.{digit_char}
 
--- a backslash, `u00` and two digits in lower case
+-- a backslash, `u00` and two lower-case digits
 abbrev pub code_text : ℕ → List ℕ
 code_text byte = 92 ∷ 117 ∷ 48 ∷ 48 ∷ digit_char (byte / 16) ∷ digit_char (byte % 16) ∷ []
 
--- What stands in a string for a byte. A quote and a backslash have a backslash before them. A control character, and a
--- byte that isn't ASCII, is told by its number, so that each byte is the character with its number.
+-- The representation of a byte in a string. A quote and a backslash get a backslash before them. A control character,
+-- and a byte that isn't ASCII, is written as its number. So each byte is the character with its number.
 abbrev pub escaped_byte : ℕ → List ℕ
 escaped_byte byte =
     if byte == 34 || byte == 92 then 92 ∷ byte ∷ []

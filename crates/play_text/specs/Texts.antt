@@ -1,4 +1,4 @@
--- What is printed for a line of a script (this project's own).
+-- The output for a line of a script (this project's own).
 use Rattle.std.specs.Prelude.{ℕ, Bool, true, false, List, [], ◌++◌, if◌then◌else◌, codes, decimal, Option, Some, None, is_some}
 use Rattle.play_line.specs.Faults.{misread_words}
 use Rattle.play_line.specs.declared.fault.Slip.{Slip}
@@ -13,14 +13,14 @@ abbrev pub if_there : Bool → List ℕ → Option (List ℕ)
 if_there true text = Some text
 if_there false text = None
 
--- ---- texts for people
+-- ---- readable texts
 
 -- the line with its number
 abbrev pub head_text : Bool → ℕ → List ℕ → List ℕ
 head_text true number line = []
 head_text false number line = decimal number ++ codes "  " ++ line ++ codes " => "
 
--- The line and what is told of it. Bytes may stand as texts if `texts`.
+-- The line and its output. Bytes may be printed as texts if `texts`.
 abbrev pub line_text : Form → Bool → ℕ → List ℕ → List ℕ → List ℕ
 line_text form texts number line told =
     head_text (is_quiet form) number line ++ told_reply (is_coloured form) (byte_form form texts) told ++ codes "\n"
@@ -31,7 +31,7 @@ differs_text form texts name number wanted told =
     ++ seen (byte_form form texts) wanted ++ codes ", got " ++ seen (byte_form form texts) told
     ++ difference (byte_form form texts) wanted told ++ if_coloured form ended ++ codes "\n"
 
--- nothing, if that was expected or nothing was
+-- empty, if the expectation was met or there was none
 abbrev pub difference_text : Form → Bool → List ℕ → ℕ → Option (List ℕ) → Bool → List ℕ → List ℕ
 difference_text form texts name number (Some wanted) false told = differs_text form texts name number wanted told
 difference_text form texts name number _ met told = []
@@ -42,7 +42,7 @@ lines_text form texts name number line wanted met told below =
 
 -- ---- texts for programs
 
--- what was expected, and whether it came
+-- the expectation, and whether it was met
 abbrev pub expected_text : Option (List ℕ) → Bool → List ℕ
 expected_text None met = codes ",\"expected\":null,\"met\":null}\n"
 expected_text (Some wanted) met =
@@ -60,9 +60,9 @@ fault_object name number column what =
     codes "{\"number\":" ++ decimal number ++ codes ",\"file\":" ++ string_text name
     ++ codes ",\"column\":" ++ number_or column (codes "null") ++ codes ",\"fault\":" ++ string_text what ++ codes "}\n"
 
--- ---- in each form
+-- ---- in each format
 
--- what is wrong with a line, or with a byte of it
+-- the error in a line, or in a byte of it
 abbrev pub spot_fault : Form → List ℕ → ℕ → Option ℕ → List ℕ → List ℕ
 spot_fault form name number column what =
     if is_json form then fault_object name number column what
@@ -72,11 +72,11 @@ spot_fault form name number column what =
 abbrev pub fault_text : Form → List ℕ → ℕ → List ℕ → List ℕ
 fault_text form name number what = spot_fault form name number None what
 
--- bytes that can't be read, with their column
+-- bytes that can't be parsed, with their column
 abbrev pub slip_text : Form → List ℕ → ℕ → Slip → List ℕ
 slip_text form name number slip = spot_fault form name number (Some slip.column) (misread_words slip.fault)
 
--- what is told of a line and the lines below it, and what was expected, if that isn't what is told
+-- the output for a line and the notes below it, and the expectation, if it differs from the output
 abbrev pub outcome_text : Form → Bool → List ℕ → ℕ → List ℕ → Option (List ℕ) → Bool → List ℕ → List ℕ → List ℕ
 outcome_text form texts name number line wanted met told below =
     if is_json form then outcome_object name number line wanted met told below

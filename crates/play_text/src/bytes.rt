@@ -1,69 +1,69 @@
-//! Bytes of replies as people read them.
+//! The bytes of replies in readable form.
 ghost use Rattle.std.specs.Prelude.{◌≡◌, ◌+◌, ◌-◌, ◌*◌, ◌/◌, ◌<◌, ◌≤◌, ◌++◌, ◌==◌, ◌&&◌, ◌||◌, not, length, take, drop, position, min, nat_lt, decimal, codes, IfSome};
 ghost use Rattle.play_text.specs.Bytes as bytes;
 
 use request::put_long;
 use script_loop::Buffer;
 
-/// The most digits that are printed whole: those of 64 bytes.
+/// The most digits that are printed in full: those of 64 bytes.
 const WHOLE: usize = 128;
 
-/// How many digits in front are printed of more: those of 32 bytes.
+/// The number of leading digits that are printed of longer data: those of 32 bytes.
 const FRONT: usize = 64;
 
-/// How many digits at the end are printed of more: those of 8 bytes.
+/// The number of final digits that are printed of longer data: those of 8 bytes.
 const BACK: usize = 16;
 
-/// The most bytes that are shown as one text.
+/// The most bytes that are printed as one text.
 const MOST_TEXT: usize = 64;
 
 /// How the bytes of a reply are printed.
 #[derive(Clone, Copy)]
 pub enum ByteForm {
-    /// As all their digits.
+    /// All of their digits.
     Digits,
-    /// As digits, cut in the middle if they are more than 64 bytes.
+    /// Digits, abbreviated if there are more than 64 bytes.
     Cut,
-    /// Cut likewise, and as a text if all of them can stand in one.
+    /// Abbreviated likewise, and as a text if a text can represent all of them.
     Texts,
 }
 
-/// Whether a byte is printable ASCII.
+/// Returns whether a byte is printable ASCII.
 fn is_printed(byte: u8) -> bool
     ensures { result ≡ bytes.is_printed byte }
 {
     b' ' <= byte && byte <= b'~'
 }
 
-/// Whether a byte may stand in a text.
+/// Returns whether a text may contain the byte.
 fn is_readable(byte: u8) -> bool
     ensures { result ≡ bytes.is_readable byte }
 {
     is_printed(byte) || (byte == b'\n' || (byte == b'\r' || (byte == b'\t' || byte == 0)))
 }
 
-/// The first byte that is printable ASCII.
+/// Returns the index of the first printable ASCII byte.
 fn first_printed(text: &[u8]) -> Option<usize>
     ensures { result ≡ position (λ byte. bytes.is_printed byte) text.now }
 {
     text.iter().position(|byte| is_printed(*byte))
 }
 
-/// The first byte that may not stand in a text.
+/// Returns the index of the first byte that a text may not contain.
 fn first_unreadable(text: &[u8]) -> Option<usize>
     ensures { result ≡ position (λ byte. not (bytes.is_readable byte)) text.now }
 {
     text.iter().position(|byte| !is_readable(*byte))
 }
 
-/// Whether bytes are shown as a text: all of them may stand in one, and one is printed as itself.
+/// Returns whether bytes are printed as a text: a text may contain all of them, and at least one is printable.
 fn are_readable(text: &[u8]) -> bool
     ensures { result ≡ bytes.are_readable text.now }
 {
     first_printed(text).is_some() && first_unreadable(text).is_none()
 }
 
-/// Puts a byte after the text, as a script writes it in a text.
+/// Appends a byte as it is written in a text of a script.
 fn put_written<const N: usize>(text: &mut Buffer<N>, byte: u8)
     requires { length text.old + 2 ≤ N }
     ensures items { text.new ≡ text.old ++ bytes.written byte }
@@ -79,7 +79,7 @@ fn put_written<const N: usize>(text: &mut Buffer<N>, byte: u8)
     }
 }
 
-/// Puts bytes after the text, as a script writes them as a text.
+/// Appends bytes as a text of a script.
 fn put_quoted<const N: usize>(text: &mut Buffer<N>, items: &[u8])
     requires { length text.old + (2 * length items.now + 2) ≤ N }
     ensures items { text.new ≡ text.old ++ bytes.quoted items.now }
@@ -92,7 +92,7 @@ fn put_quoted<const N: usize>(text: &mut Buffer<N>, items: &[u8])
     text.push(b'"');
 }
 
-/// Puts what stands for digits after the text: the text of their bytes, or themselves.
+/// Appends the bytes that these digits encode: as a text, or as the digits.
 fn put_digits<const N: usize>(text: &mut Buffer<N>, texts: bool, digits: &[u8])
     requires few { length digits.now ≤ 128 }
     requires room { length text.old + (length digits.now + 2) ≤ N }
@@ -111,7 +111,7 @@ fn put_digits<const N: usize>(text: &mut Buffer<N>, texts: bool, digits: &[u8])
     }
 }
 
-/// The digits of the first bytes of many.
+/// Returns the digits of the first bytes of longer data.
 fn front_of(digits: &[u8]) -> &[u8]
     requires { 128 < length digits.now }
     ensures is { result.now ≡ take FRONT digits.now }
@@ -120,7 +120,7 @@ fn front_of(digits: &[u8]) -> &[u8]
     &digits[..FRONT]
 }
 
-/// The digits of the last bytes of many.
+/// Returns the digits of the last bytes of longer data.
 fn back_of(digits: &[u8]) -> &[u8]
     requires { 128 < length digits.now }
     ensures is { result.now ≡ drop (length digits.now - BACK) digits.now }
@@ -129,7 +129,7 @@ fn back_of(digits: &[u8]) -> &[u8]
     &digits[digits.len() - BACK..]
 }
 
-/// Puts after the text how many bytes have these digits.
+/// Appends the number of bytes that these digits encode.
 fn put_len<const N: usize>(text: &mut Buffer<N>, digits: &[u8])
     requires { length text.old + 29 ≤ N }
     ensures items { text.new ≡ text.old ++ (codes " (" ++ decimal (length digits.now / 2) ++ codes " bytes)") }
@@ -140,7 +140,7 @@ fn put_len<const N: usize>(text: &mut Buffer<N>, digits: &[u8])
     text.append(b" bytes)");
 }
 
-/// Puts the first and the last of many bytes after the text, and how many there are.
+/// Appends the first and the last bytes of longer data, and their total number.
 fn put_cut<const N: usize>(text: &mut Buffer<N>, texts: bool, digits: &[u8])
     requires many { 128 < length digits.now }
     requires room { length text.old + 128 ≤ N }
@@ -153,35 +153,35 @@ fn put_cut<const N: usize>(text: &mut Buffer<N>, texts: bool, digits: &[u8])
     put_len(text, digits);
 }
 
-/// Whether a byte is a hexadecimal digit in lower case.
+/// Returns whether a byte is a lower-case hexadecimal digit.
 fn is_digit(byte: u8) -> bool
     ensures { result ≡ bytes.is_digit byte }
 {
     (b'0' <= byte && byte <= b'9') || (b'a' <= byte && byte <= b'f')
 }
 
-/// The first byte that isn't such a digit.
+/// Returns the index of the first byte that isn't such a digit.
 fn first_other(word: &[u8]) -> Option<usize>
     ensures { result ≡ position (λ byte. not (bytes.is_digit byte)) word.now }
 {
     word.iter().position(|byte| !is_digit(*byte))
 }
 
-/// Whether a word has the digits of bytes.
+/// Returns whether a word consists of the digits of bytes.
 fn are_digits(word: &[u8]) -> bool
     ensures { result ≡ bytes.are_digits word.now }
 {
     word.len() % 2 == 0 && first_other(word).is_none()
 }
 
-/// Whether the bytes of these digits are cut.
+/// Returns whether the bytes of these digits are abbreviated.
 fn is_long(digits: &[u8]) -> bool
     ensures { result ≡ bytes.is_long digits.now }
 {
     WHOLE < digits.len()
 }
 
-/// Puts what stands for a word after the text: for the digits of bytes their text, and for any other word itself.
+/// Appends a word: if it is the digits of bytes, their text; any other word as it is.
 fn put_word<const N: usize>(text: &mut Buffer<N>, texts: bool, word: &[u8])
     requires { length text.old + (length word.now + 2) ≤ N }
     ensures items { text.new ≡ text.old ++ bytes.word_text texts word.now }
@@ -196,14 +196,14 @@ fn put_word<const N: usize>(text: &mut Buffer<N>, texts: bool, word: &[u8])
     }
 }
 
-/// Whether a text begins with a word.
+/// Returns whether a text begins with a word.
 pub(crate) fn begins_with(text: &[u8], word: &[u8]) -> bool
     ensures { result ≡ bytes.begins_with text.now word.now }
 {
     text.len() >= word.len() && &text[..word.len()] == word
 }
 
-/// Where the first space stands.
+/// Returns the index of the first space.
 fn first_space(text: &[u8]) -> Option<usize>
     ensures is { result ≡ position (λ byte. byte == 32) text.now }
     ensures most { IfSome result (λ at. at < length text.now) }
@@ -211,7 +211,7 @@ fn first_space(text: &[u8]) -> Option<usize>
     text.iter().position(|byte| *byte == b' ')
 }
 
-/// How many bytes stand in front of the first space.
+/// Returns how many bytes come before the first space.
 fn word_len(text: &[u8]) -> usize
     ensures is { result ≡ bytes.word_len text.now }
     ensures most { result ≤ length text.now }
@@ -222,7 +222,7 @@ fn word_len(text: &[u8]) -> usize
     }
 }
 
-/// What stands after the first word and its space.
+/// Returns the text after the first word and its space.
 fn after_word(text: &[u8]) -> &[u8]
     ensures is { result.now ≡ bytes.after_word text.now }
     ensures most { length result.now ≤ length text.now }
@@ -235,7 +235,8 @@ fn after_word(text: &[u8]) -> &[u8]
     }
 }
 
-/// A reply from its bytes on: what stands after `packet`, or after `from` and the sender. Any other has none.
+/// Returns a reply from its bytes on: the part after `packet`, or after `from` and the sender. For any other reply it
+/// is empty.
 fn bytes_on(reply: &[u8]) -> &[u8]
     ensures is { result.now ≡ bytes.bytes_on reply.now }
     ensures most { length result.now ≤ length reply.now }
@@ -249,7 +250,7 @@ fn bytes_on(reply: &[u8]) -> &[u8]
     }
 }
 
-/// The word of a reply's bytes.
+/// Returns the word that contains a reply's bytes.
 fn bytes_word(reply: &[u8]) -> &[u8]
     ensures { result.now ≡ bytes.bytes_word reply.now }
 {
@@ -257,7 +258,7 @@ fn bytes_word(reply: &[u8]) -> &[u8]
     &left[..word_len(left)]
 }
 
-/// Puts a reply after the text, whose bytes stand so.
+/// Appends a reply, with its bytes in this form.
 fn put_seen<const N: usize>(text: &mut Buffer<N>, texts: bool, reply: &[u8])
     requires { length text.old + (length reply.now + 2) ≤ N }
     ensures items { text.new ≡ text.old ++ bytes.shown texts reply.now }
@@ -270,7 +271,7 @@ fn put_seen<const N: usize>(text: &mut Buffer<N>, texts: bool, reply: &[u8])
     text.append(rest);
 }
 
-/// Puts a reply after the text, with its bytes in this form. There must be room for two bytes more than it has.
+/// Appends a reply, with its bytes in this form. There must be space for two bytes more than the reply has.
 pub(crate) fn put_reply<const N: usize>(text: &mut Buffer<N>, form: ByteForm, reply: &[u8])
     requires { length text.old + (length reply.now + 2) ≤ N }
     ensures items { text.new ≡ text.old ++ bytes.seen form reply.now }
@@ -283,7 +284,7 @@ pub(crate) fn put_reply<const N: usize>(text: &mut Buffer<N>, form: ByteForm, re
     }
 }
 
-/// How many bytes in front are the same.
+/// Returns how many leading bytes are the same.
 fn alike(first: &[u8], second: &[u8]) -> usize
     ensures is { result ≡ bytes.alike first.now second.now }
     ensures most { result ≤ length first.now }
@@ -299,7 +300,7 @@ fn alike(first: &[u8], second: &[u8]) -> usize
     at
 }
 
-/// Whether one of two lists is cut, and none of them ends behind so many bytes.
+/// Returns whether one of two lists is abbreviated, and both are longer than `same` bytes.
 fn are_apart(first: &[u8], second: &[u8], same: usize) -> bool
     ensures { result
         ≡ ((bytes.is_long first.now || bytes.is_long second.now)
@@ -309,7 +310,7 @@ fn are_apart(first: &[u8], second: &[u8], same: usize) -> bool
     (is_long(first) || is_long(second)) && same < len
 }
 
-/// Puts the number of the byte after the text that stands behind so many digits, and ` on`.
+/// Appends the number of the byte after this many digits, and ` on`.
 fn put_byte_on<const N: usize>(text: &mut Buffer<N>, same: usize)
     requires { length text.old + 23 ≤ N }
     ensures items { text.new ≡ text.old ++ (decimal (same / 2) ++ codes " on") }
@@ -319,7 +320,7 @@ fn put_byte_on<const N: usize>(text: &mut Buffer<N>, same: usize)
     text.append(b" on");
 }
 
-/// Puts after the text that bytes differ behind so many digits that are the same.
+/// Appends that bytes differ after this many equal digits.
 fn put_from<const N: usize>(text: &mut Buffer<N>, same: usize)
     requires { length text.old + 48 ≤ N }
     ensures items { text.new ≡ text.old
@@ -330,7 +331,7 @@ fn put_from<const N: usize>(text: &mut Buffer<N>, same: usize)
     put_byte_on(text, same);
 }
 
-/// Puts after the text where bytes of which one list is cut differ first.
+/// Appends where bytes first differ, one list of which is abbreviated.
 fn put_first_apart<const N: usize>(text: &mut Buffer<N>, first: &[u8], second: &[u8])
     requires { length text.old + 48 ≤ N }
     ensures items { text.new ≡ text.old ++ bytes.apart_text first.now second.now }
@@ -342,7 +343,7 @@ fn put_first_apart<const N: usize>(text: &mut Buffer<N>, first: &[u8], second: &
     }
 }
 
-/// Puts after the text where the bytes of two replies differ first, if one of them is cut.
+/// Appends where the bytes of two replies first differ, if one of them is abbreviated.
 fn put_replies_apart<const N: usize>(text: &mut Buffer<N>, wanted: &[u8], told: &[u8])
     requires { length text.old + 48 ≤ N }
     ensures items { text.new ≡ text.old
@@ -354,7 +355,8 @@ fn put_replies_apart<const N: usize>(text: &mut Buffer<N>, wanted: &[u8], told: 
     put_first_apart(text, first, second);
 }
 
-/// Puts after the text where the bytes of two replies differ first, if one of them is cut. There must be room for 48.
+/// Appends where the bytes of two replies first differ, if one of them is abbreviated. There must be space for 48
+/// bytes.
 pub(crate) fn put_apart<const N: usize>(
     text: &mut Buffer<N>,
     form: ByteForm,

@@ -1,4 +1,4 @@
-//! Colours of what is told.
+//! Colours of the output.
 ghost use Rattle.std.specs.Prelude.{◌≡◌, ◌+◌, ◌≤◌, ◌++◌, codes, length};
 ghost use Rattle.play_text.specs.Bytes.{begins_with};
 ghost use Rattle.play_text.specs.Forms as forms;
@@ -8,24 +8,24 @@ use crate::piece::Piece::{Reply, Text};
 use crate::piece::put;
 use script_loop::Buffer;
 
-/// The beginning of red (ECMA-48 section 8.3.117).
+/// The escape sequence that begins red (ECMA-48 section 8.3.117).
 pub(crate) const RED: &[u8] = b"\x1b[31m";
 
 const GREEN: &[u8] = b"\x1b[32m";
 
 const YELLOW: &[u8] = b"\x1b[33m";
 
-/// The end of a colour.
+/// The escape sequence that ends a colour.
 pub(crate) const ENDED: &[u8] = b"\x1b[0m";
 
-/// Whether a cause of a drop stands here.
+/// Returns whether the text here is a cause of a drop.
 fn tells_drop(text: &[u8]) -> bool
     ensures { result ≡ begins_with text.now (codes "dropped ") }
 {
     begins_with(text, b"dropped ")
 }
 
-/// Where the causes of drops begin in what is told.
+/// Returns where the causes of drops begin in the output for a line.
 fn drops_at(told: &[u8]) -> usize
     ensures is { result ≡ forms.drops_at told.now }
     ensures most { result ≤ length told.now }
@@ -40,7 +40,7 @@ fn drops_at(told: &[u8]) -> usize
     at
 }
 
-/// The colour of a reply.
+/// Returns the colour of a reply.
 fn reply_colour(reply: &[u8]) -> &'static [u8]
     ensures { result.now ≡ forms.reply_colour reply.now }
 {
@@ -51,7 +51,7 @@ fn reply_colour(reply: &[u8]) -> &'static [u8]
     }
 }
 
-/// Puts a part of what is told after the text, in its colour.
+/// Appends a part of the output in its colour.
 fn put_part<'a, const N: usize>(
     text: &mut Buffer<N>,
     colour: &'a [u8],
@@ -68,7 +68,7 @@ fn put_part<'a, const N: usize>(
     }
 }
 
-/// Puts what is told after the text, in its colours if there are colours.
+/// Appends the output for a line, in its colours if there are colours.
 pub(crate) fn put_told<const N: usize>(
     text: &mut Buffer<N>,
     colours: bool,

@@ -1,11 +1,11 @@
-//! Strings, with each byte that can't stand in one escaped.
+//! JSON strings, with escapes.
 ghost use Rattle.std.specs.Prelude.{◌≡◌, ◌+◌, ◌*◌, ◌/◌, ◌%◌, ◌≤◌, ◌++◌, [], ◌∷◌, length};
 ghost use Rattle.std.specs.Char.{digit_char};
 ghost use Rattle.play_text.specs.Strings.{code_text, escaped_byte, string_text};
 
 use script_loop::Buffer;
 
-/// The two digits of a byte to the base 16, in lower case.
+/// Returns the two hexadecimal digits of a byte, in lower case.
 fn digits(byte: u8) -> [u8; 2]
     ensures { result ≡ digit_char (byte / 16) ∷ digit_char (byte % 16) ∷ [] }
 {
@@ -14,7 +14,7 @@ fn digits(byte: u8) -> [u8; 2]
     digits
 }
 
-/// Puts a byte's number after the text, as a string has it.
+/// Appends the escape for a byte's number.
 fn put_code<const N: usize>(text: &mut Buffer<N>, byte: u8)
     requires { length text.old + 6 ≤ N }
     ensures items { text.new ≡ text.old ++ code_text byte }
@@ -24,7 +24,7 @@ fn put_code<const N: usize>(text: &mut Buffer<N>, byte: u8)
     text.append(&digits(byte));
 }
 
-/// Puts what stands in a string for a byte after the text.
+/// Appends a byte as it is represented in a string.
 fn put_byte<const N: usize>(text: &mut Buffer<N>, byte: u8)
     requires { length text.old + 6 ≤ N }
     ensures items { text.new ≡ text.old ++ escaped_byte byte }
@@ -39,9 +39,9 @@ fn put_byte<const N: usize>(text: &mut Buffer<N>, byte: u8)
     }
 }
 
-/// Puts a string of JSON (RFC 8259 section 7) after the text. Each byte is the character with its number, 0 to 255, and
-/// what isn't ASCII is written as `\u00` and two digits. So a reader has all bytes back, whatever they are, by Latin-1.
-/// There must be room for six bytes for each byte, and the two quotes.
+/// Appends a JSON string (RFC 8259 section 7). Each byte is the character with its number, 0 to 255. Characters outside
+/// ASCII are written as `\u00` and two digits, so a reader restores all bytes by encoding the string as Latin-1. There
+/// must be space for six bytes for each byte, and for the two quotes.
 pub(crate) fn put_string<const N: usize>(text: &mut Buffer<N>, bytes: &[u8])
     requires { length text.old + (6 * length bytes.now + 2) ≤ N }
     ensures items { text.new ≡ text.old ++ string_text bytes.now }

@@ -1,4 +1,4 @@
-//! What is wrong with a line.
+//! Messages about a wrong line.
 ghost use Rattle.std.specs.Prelude.{◌≡◌, ◌+◌, ◌*◌, ◌≤◌, ◌++◌, length};
 ghost use Rattle.play_text.specs.Texts.{fault_text, slip_text, spot_fault};
 
@@ -9,7 +9,7 @@ use crate::piece::put;
 use play_line::Slip;
 use script_loop::Buffer;
 
-/// Where a line of a script stands, or a byte of it.
+/// The position of a line in a script, or of a byte in the line.
 #[derive(Clone, Copy)]
 struct Spot<'a> {
     name: &'a [u8],
@@ -17,7 +17,7 @@ struct Spot<'a> {
     column: Option<u64>,
 }
 
-/// Puts what is wrong with a line after the text, or with a byte of it, in this form.
+/// Appends the message about a line, or about a byte of it, in this form.
 fn put_spot_fault<'a, const N: usize>(
     text: &mut Buffer<N>,
     form: Form,
@@ -63,8 +63,8 @@ fn put_spot_fault<'a, const N: usize>(
     }
 }
 
-/// Puts what is wrong with a line of a script after the text, in this form: the script's name, the line's number, and
-/// what is wrong. There must be room for six bytes for each byte of both texts, and for 128 more.
+/// Appends the message about a line of a script, in this form: the script's name, the line's number, and the error.
+/// There must be space for six bytes for each byte of both texts, and for 128 more.
 pub fn put_fault<const N: usize>(
     text: &mut Buffer<N>,
     form: Form,
@@ -83,8 +83,8 @@ pub fn put_fault<const N: usize>(
     put_spot_fault(text, form, &spot, what);
 }
 
-/// Puts what is wrong with the bytes of a line after the text, in this form: the script's name, the line's number, the
-/// column and what is wrong. There must be room for six bytes for each byte of the name, and for 512 more.
+/// Appends the message about the bytes of a line, in this form: the script's name, the line's number, the column and
+/// the error. There must be space for six bytes for each byte of the name, and for 512 more.
 pub fn put_slip<const N: usize>(
     text: &mut Buffer<N>,
     form: Form,

@@ -1,42 +1,42 @@
-//! How a script is printed.
+//! The output formats of a script.
 ghost use Rattle.std.specs.Prelude.{◌≡◌};
 ghost use Rattle.play_text.specs.Forms as forms;
 
 use crate::bytes::ByteForm;
 
-/// How a script is printed.
+/// The output format of a script.
 #[derive(Clone, Copy)]
 pub enum Form {
-    /// Each line with its number and what is told of it. Many bytes are cut in the middle, and those that can stand in
-    /// a text are shown as one, once the script has written a text.
+    /// Each line with its number and its output. Long data are abbreviated. Once the script has used a text, bytes that
+    /// a text can represent are printed as a text.
     Plain,
-    /// What is told alone, with all digits, without the lines and what stands below them.
+    /// Only the output, with all digits, without the lines and the notes below them.
     Quiet,
-    /// As `Plain`: replies are green, refusals, faults and differences red, and drops yellow.
+    /// As `Plain`: replies are green; errors, faults and differences red; and drops yellow.
     Coloured,
     /// As `Quiet`, in the colours of `Coloured`.
     QuietColoured,
-    /// Each line as an object of JSON in a line of its own.
+    /// Each line as a JSON object on a line of its own.
     Json,
 }
 
 impl Form {
-    /// Whether what is told is printed alone.
+    /// Returns whether only the output is printed.
     pub fn is_quiet(self) -> bool
         ensures { result ≡ forms.is_quiet self }
     {
         matches!(self, Form::Quiet | Form::QuietColoured)
     }
 
-    /// Whether there are colours.
+    /// Returns whether there are colours.
     pub(crate) fn is_coloured(self) -> bool
         ensures { result ≡ forms.is_coloured self }
     {
         matches!(self, Form::Coloured | Form::QuietColoured)
     }
 
-    /// How the bytes of replies are printed, whose script has written texts or not: the quiet forms and JSON, which
-    /// programs compare, have all digits.
+    /// Returns how the bytes of replies are printed, given whether the script has used texts. The quiet formats and
+    /// JSON, which programs compare, print all digits.
     pub(crate) fn byte_form(self, texts: bool) -> ByteForm
         ensures { result ≡ forms.byte_form self texts }
     {
@@ -47,7 +47,7 @@ impl Form {
         }
     }
 
-    /// Whether it's a form for programs.
+    /// Returns whether the format is for programs.
     pub(crate) fn is_json(self) -> bool
         ensures { result ≡ forms.is_json self }
     {

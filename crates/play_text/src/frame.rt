@@ -1,4 +1,4 @@
-//! A frame in words.
+//! Descriptions of frames.
 ghost use Rattle.std.specs.Prelude.{◌≡◌, ◌+◌, ◌≤◌, ◌++◌, length};
 ghost use Rattle.params.specs.declared.TheConstants.{IP_MAX_PACKET};
 ghost use Rattle.flat_model.specs.Packets.Header as numbers;
@@ -21,7 +21,7 @@ const HARDWARE_ETHERNET: u16 = 1;
 /// The lengths of both kinds of address, 6 and 4 bytes.
 const LENGTHS: u16 = 0x0604;
 
-/// The number in the four bytes from a place on.
+/// Returns the number in the four bytes from offset `at`.
 fn u32_at(bytes: &[u8], at: usize) -> u32
     requires { at + 4 ≤ length bytes.now }
     ensures { result ≡ numbers.u32_at at bytes.now }
@@ -29,7 +29,7 @@ fn u32_at(bytes: &[u8], at: usize) -> u32
     65_536 * u32::from(u16_at(bytes, at)) + u32::from(u16_at(bytes, at + 2))
 }
 
-/// The hardware address in the six bytes from a place on.
+/// Returns the hardware address in the six bytes from offset `at`.
 fn mac_at(bytes: &[u8], at: usize) -> Mac
     requires { at + 6 ≤ length bytes.now }
     ensures { result ≡ frames.mac_at at bytes.now }
@@ -40,7 +40,7 @@ fn mac_at(bytes: &[u8], at: usize) -> Mac
     }
 }
 
-/// Whether an ARP packet is a request or a reply, of Ethernet and IPv4.
+/// Returns whether an ARP packet is a request or a reply for Ethernet and IPv4.
 fn is_arp(body: &[u8]) -> bool
     ensures { result ≡ frames.is_arp body.now }
 {
@@ -54,7 +54,7 @@ fn is_arp(body: &[u8]) -> bool
         && (op == ARP_REQUEST || op == ARP_REPLY)
 }
 
-/// What an ARP packet says.
+/// Decodes an ARP packet.
 fn arp_of(body: &[u8]) -> Arp
     requires { ARP_BYTES ≤ length body.now }
     ensures { result ≡ frames.arp_of body.now }
@@ -67,7 +67,7 @@ fn arp_of(body: &[u8]) -> Arp
     }
 }
 
-/// Puts what a request or a reply says after the text.
+/// Appends the contents of a request or a reply.
 fn put_says<const N: usize>(text: &mut Buffer<N>, arp: Arp)
     requires { length text.old + 174 ≤ N }
     ensures items { text.new ≡ text.old ++ texts.arp_says arp }
@@ -96,7 +96,7 @@ fn put_says<const N: usize>(text: &mut Buffer<N>, arp: Arp)
     }
 }
 
-/// Puts an ARP packet after the text.
+/// Appends the description of an ARP packet.
 fn put_arp<const N: usize>(text: &mut Buffer<N>, body: &[u8])
     requires frame { length body.now ≤ IP_MAX_PACKET }
     requires room { length text.old + 174 ≤ N }
@@ -117,7 +117,7 @@ fn put_arp<const N: usize>(text: &mut Buffer<N>, body: &[u8])
     }
 }
 
-/// Puts so many bytes of another type after the text.
+/// Appends the description of `n` bytes of another type.
 fn put_other_type<const N: usize>(text: &mut Buffer<N>, kind: u16, n: u32)
     requires { length text.old + 174 ≤ N }
     ensures items { text.new ≡ text.old ++ texts.other_type_text kind n }
@@ -136,7 +136,7 @@ fn put_other_type<const N: usize>(text: &mut Buffer<N>, kind: u16, n: u32)
     );
 }
 
-/// Puts what a frame of this type carries after the text.
+/// Appends the description of a frame's body, which has this type.
 fn put_body<const N: usize>(text: &mut Buffer<N>, kind: u16, body: &[u8])
     requires frame { length body.now ≤ IP_MAX_PACKET }
     requires room { length text.old + 174 ≤ N }
@@ -152,7 +152,7 @@ fn put_body<const N: usize>(text: &mut Buffer<N>, kind: u16, body: &[u8])
     }
 }
 
-/// What stands behind the header of a frame.
+/// Returns the bytes after the header of a frame.
 #[tactic(auto, using(crate::proofs::FrameLemmas::rest_is))]
 fn body_of(frame: &[u8]) -> &[u8]
     requires { ETHER_HEADER ≤ length frame.now }
@@ -161,7 +161,7 @@ fn body_of(frame: &[u8]) -> &[u8]
     &frame[ETHER_HEADER as usize..]
 }
 
-/// Puts a source and a destination after the text.
+/// Appends a source and a destination.
 fn put_frame_way<const N: usize>(text: &mut Buffer<N>, source: Mac, destination: Mac)
     requires { length text.old + 38 ≤ N }
     ensures items { text.new ≡ text.old ++ texts.frame_way_text source destination }
@@ -178,7 +178,7 @@ fn put_frame_way<const N: usize>(text: &mut Buffer<N>, source: Mac, destination:
     );
 }
 
-/// Puts a frame that has a header after the text.
+/// Appends the description of a frame that has a header.
 fn put_headed<const N: usize>(text: &mut Buffer<N>, frame: &[u8])
     requires header { ETHER_HEADER ≤ length frame.now }
     requires frame { length frame.now ≤ IP_MAX_PACKET + ETHER_HEADER }
@@ -190,11 +190,11 @@ fn put_headed<const N: usize>(text: &mut Buffer<N>, frame: &[u8])
     put_body(text, u16_at(frame, 12), body_of(frame));
 }
 
-/// Puts after the text what a frame says (RFC 894): its source and its destination, as `02:00:00:00:00:01 >
-/// ff:ff:ff:ff:ff:ff`, and behind them its packet as [`put_packet`] has it; or of an ARP packet (RFC 826) that is a
-/// request `ARP who has 10.0.0.2, tell 10.0.0.1`, and of a reply `ARP 10.0.0.2 is at 02:00:00:00:00:02`; or another
-/// type and how many bytes stand behind the header. Of a frame of fewer than 14 bytes, how many it has is told. A frame
-/// has 65,549 bytes at most. There must be room for 214 bytes.
+/// Appends the description of a frame (RFC 894): its source and its destination, such as `02:00:00:00:00:01 >
+/// ff:ff:ff:ff:ff:ff`, followed by its contents. A packet is described by [`put_packet`]. An ARP request (RFC 826) is
+/// described as `ARP who has 10.0.0.2, tell 10.0.0.1`, and an ARP reply as `ARP 10.0.0.2 is at 02:00:00:00:00:02`.
+/// Other contents are described by their type and the number of bytes after the header. A frame of fewer than 14 bytes
+/// is described by its length. A frame has at most 65,549 bytes. There must be space for 214 bytes.
 pub fn put_frame<const N: usize>(text: &mut Buffer<N>, frame: &[u8])
     requires frame { length frame.now ≤ IP_MAX_PACKET + ETHER_HEADER }
     requires room { length text.old + 214 ≤ N }

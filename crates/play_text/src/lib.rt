@@ -1,10 +1,14 @@
-//! The texts of a player of scripts: what it prints for a line, for people, with colours or without, or as a line of
-//! JSON for programs; and packets in words, as `udp 10.0.0.1:7 > 10.0.0.2:5000, 2 bytes, id 1`.
+//! What players of scripts and judges of captures print. The texts of a line, for people, with colours or without, or
+//! as a line of JSON for programs; packets in words, as `udp 10.0.0.1:7 > 10.0.0.2:5000, 2 bytes, id 1`; and what
+//! happened to a packet, by what a machine counted before and after it, with the causes in words, how often each came
+//! and in which record first.
 #![tactic(auto)]
 
 mod bytes;
 mod colour;
+mod count;
 mod escape;
+mod fate;
 mod fault;
 mod form;
 mod frame;
@@ -12,8 +16,14 @@ mod law;
 mod line;
 mod packet;
 mod piece;
+mod room;
+mod table;
+mod time;
+mod words;
 
 pub use bytes::ByteForm;
+pub use count::Count;
+pub use fate::{Fate, drops_between, fate_of, is_any, is_kept};
 pub use fault::{put_fault, put_slip};
 pub use form::Form;
 pub use frame::put_frame;
@@ -21,3 +31,7 @@ pub use law::read_back_law;
 pub use line::{Outcome, put_outcome};
 pub use packet::{put_kept, put_packet, put_whole};
 pub use piece::{Piece, put, put_if};
+pub use room::{add, add_count, add_fate, add_frame, add_packet, add_table, add_time};
+pub use table::{Row, Table};
+pub use time::put_time;
+pub use words::{CAUSES, causes, rose, words_for};

@@ -1,4 +1,4 @@
-//! What is told of a line.
+//! The output for a line.
 ghost use Rattle.std.specs.Prelude.{◌≡◌, ◌+◌, ◌*◌, ◌≤◌, ◌++◌, length};
 ghost use Rattle.play_text.specs.Texts.{expected_text, if_there, line_text, lines_text, outcome_object, outcome_text};
 
@@ -8,27 +8,27 @@ use crate::piece::Piece::{Apart, Either, Long, Quoted, Reply, Text};
 use crate::piece::put;
 use script_loop::Buffer;
 
-/// What is told of a line.
+/// The output for a line, and its context.
 #[derive(Clone, Copy)]
 pub struct Outcome<'a> {
     /// The line's number.
     pub number: u64,
-    /// The line as it's written.
+    /// The line as it is written.
     pub line: &'a [u8],
     /// Its reply, and why packets were dropped.
     pub told: &'a [u8],
-    /// The lines below it.
+    /// The notes below it.
     pub below: &'a [u8],
-    /// Whether the script has written a text, so that bytes of replies may stand as texts.
+    /// Whether the script has used a text, so that bytes of replies may be printed as texts.
     pub texts: bool,
-    /// Whether something was expected, and what.
+    /// Whether the line has an expectation, and its text.
     pub expects: bool,
     pub wanted: &'a [u8],
-    /// Whether it came.
+    /// Whether the reply met it.
     pub met: bool,
 }
 
-/// Puts a line and what is told of it after the text.
+/// Appends a line and its output.
 fn put_line<const N: usize>(text: &mut Buffer<N>, form: Form, outcome: &Outcome<'_>)
     requires { length text.old + (length outcome.now.line.now + length outcome.now.told.now + 49) ≤ N }
     ensures items { text.new ≡ text.old ++ line_text form outcome.now.texts outcome.now.number outcome.now.line.now
@@ -55,7 +55,7 @@ fn put_line<const N: usize>(text: &mut Buffer<N>, form: Form, outcome: &Outcome<
     text.append(b"\n");
 }
 
-/// Puts a line and what is told of it after the text, for people: the lines below it, and the difference.
+/// Appends a line and its output in readable form, with the notes below it and the difference.
 fn put_lines<'a, const N: usize>(
     text: &mut Buffer<N>,
     form: Form,
@@ -92,7 +92,7 @@ fn put_lines<'a, const N: usize>(
     }
 }
 
-/// Puts what was expected after the text, and whether it came, as members of an object of JSON.
+/// Appends the expectation and whether it was met, as members of a JSON object.
 fn put_expected<const N: usize>(text: &mut Buffer<N>, outcome: &Outcome<'_>)
     requires { length text.old + (6 * length outcome.now.wanted.now + 40) ≤ N }
     ensures { text.new ≡ text.old
@@ -114,7 +114,7 @@ fn put_expected<const N: usize>(text: &mut Buffer<N>, outcome: &Outcome<'_>)
     }
 }
 
-/// Puts a line and what is told of it after the text, as an object of JSON.
+/// Appends a line and its output as a JSON object.
 fn put_object<'a, const N: usize>(text: &mut Buffer<N>, name: &'a [u8], outcome: &'a Outcome<'a>)
     requires { length text.old + (6 * (length name.now + length outcome.now.line.now + length outcome.now.told.now
         + length outcome.now.below.now + length outcome.now.wanted.now) + 128) ≤ N }
@@ -140,10 +140,10 @@ fn put_object<'a, const N: usize>(text: &mut Buffer<N>, name: &'a [u8], outcome:
     put_expected(text, outcome);
 }
 
-/// Puts a line and what is told of it after the text, in this form. For people it's the line with its number and its
-/// reply, or the reply alone; the lines below it; and a difference under the script's name, if something was expected
-/// and didn't come. For programs it's an object of JSON. There must be room for six bytes for each byte of the texts,
-/// and for 256 more.
+/// Appends a line and its output, in this format. The readable formats print the line with its number and its reply, or
+/// only the reply; then the notes below it; and if an expectation wasn't met, the difference under the script's name.
+/// The format for programs prints a JSON object. There must be space for six bytes for each byte of the texts, and for
+/// 256 more.
 pub fn put_outcome<const N: usize>(
     text: &mut Buffer<N>,
     form: Form,

@@ -1,4 +1,4 @@
-//! A packet in words.
+//! Descriptions of packets.
 ghost use Rattle.std.specs.Prelude.{◌≡◌, ◌+◌, ◌-◌, ◌≤◌, ◌++◌, length};
 ghost use Rattle.params.specs.declared.TheConstants.{IP_HEADER, IP_MAX_PACKET};
 ghost use Rattle.flat_model.specs.Packets.Header.{total_of};
@@ -12,14 +12,14 @@ use flat_plain::{Head, head_of, u16_at};
 use params::{IP_HEADER, IP_UDP_HEADERS, PROTOCOL_UDP, UDP_HEADER};
 use script_loop::Buffer;
 
-/// Whether a packet begins with a header of version 4 without options, which has 20 bytes.
+/// Returns whether a packet begins with a version 4 header without options, which has 20 bytes.
 fn has_header(packet: &[u8]) -> bool
     ensures { result ≡ texts.has_header packet.now }
 {
     IP_HEADER as usize <= packet.len() && packet[0] == 69
 }
 
-/// How many bytes a packet carries, by its total length; 0 if that is below 20.
+/// Returns how many bytes a packet carries according to its total length; 0 if that is below 20.
 fn carried_by(packet: &[u8]) -> u32
     requires { IP_HEADER ≤ length packet.now }
     ensures { result ≡ total_of packet.now - IP_HEADER }
@@ -27,21 +27,21 @@ fn carried_by(packet: &[u8]) -> u32
     u32::from(u16_at(packet, 2)).saturating_sub(IP_HEADER)
 }
 
-/// Whether a packet carries UDP, and all 8 bytes of its header.
+/// Returns whether a packet carries UDP, with all 8 bytes of its header.
 fn has_ports(head: Head, packet: &[u8]) -> bool
     ensures { result ≡ texts.has_ports (plain_head head) packet.now }
 {
     head.protocol == PROTOCOL_UDP && IP_UDP_HEADERS as usize <= packet.len()
 }
 
-/// Whether a packet carries a part of its datagram.
+/// Returns whether a packet carries a part of its datagram.
 fn is_fragment(head: Head) -> bool
     ensures { result ≡ texts.is_fragment_packet (plain_head head) }
 {
     head.more || 0 < head.offset
 }
 
-/// Puts the fragment of a datagram after the text.
+/// Appends the description of a fragment.
 fn put_fragment<const N: usize>(text: &mut Buffer<N>, head: Head, carried: u32)
     requires { length text.old + 174 ≤ N }
     ensures items { text.new ≡ text.old ++ texts.fragment_text (plain_head head) carried }
@@ -60,7 +60,7 @@ fn put_fragment<const N: usize>(text: &mut Buffer<N>, head: Head, carried: u32)
     );
 }
 
-/// Puts a UDP datagram after the text.
+/// Appends the description of a UDP datagram.
 fn put_datagram<const N: usize>(text: &mut Buffer<N>, head: Head, packet: &[u8])
     requires ports { 28 ≤ length packet.now }
     requires room { length text.old + 174 ≤ N }
@@ -91,7 +91,7 @@ fn put_datagram<const N: usize>(text: &mut Buffer<N>, head: Head, packet: &[u8])
     );
 }
 
-/// Puts another packet that isn't a fragment after the text.
+/// Appends the description of another packet that isn't a fragment.
 fn put_other<const N: usize>(text: &mut Buffer<N>, head: Head, carried: u32)
     requires { length text.old + 174 ≤ N }
     ensures items { text.new ≡ text.old ++ texts.other_text (plain_head head) carried }
@@ -109,7 +109,7 @@ fn put_other<const N: usize>(text: &mut Buffer<N>, head: Head, carried: u32)
     );
 }
 
-/// Puts a packet after the text whose header says this.
+/// Appends the description of a packet with this header.
 fn put_headed<const N: usize>(text: &mut Buffer<N>, head: Head, packet: &[u8])
     requires header { IP_HEADER ≤ length packet.now }
     requires room { length text.old + 174 ≤ N }
@@ -125,10 +125,11 @@ fn put_headed<const N: usize>(text: &mut Buffer<N>, head: Head, packet: &[u8])
     }
 }
 
-/// Puts after the text what the headers of a packet say: of a UDP datagram the two ends and how many bytes were sent;
-/// of a fragment the addresses, which bytes of its datagram it has, and whether more come; of another protocol its
-/// number. How many bytes it carries is what its total length says. Of a packet that doesn't begin with a header of
-/// version 4 without options (RFC 791, section 3.1), how many bytes it has is told. There must be room for 174 bytes.
+/// Appends the description of a packet's headers. For a UDP datagram: the two endpoints and the number of bytes sent.
+/// For a fragment: the addresses, which bytes of its datagram it has, and whether more follow. For another protocol:
+/// its number. The total length determines the number of bytes that it carries. A packet that doesn't begin with a
+/// version 4 header without options (RFC 791, section 3.1) is described by its length. There must be space for 174
+/// bytes.
 pub fn put_packet<const N: usize>(text: &mut Buffer<N>, packet: &[u8])
     requires packet { length packet.now ≤ IP_MAX_PACKET }
     requires room { length text.old + 174 ≤ N }
@@ -148,7 +149,7 @@ pub fn put_packet<const N: usize>(text: &mut Buffer<N>, packet: &[u8])
     }
 }
 
-/// Puts a line after the text: that a fragment with this header is kept.
+/// Appends a line that says that a fragment with this header is kept.
 fn put_held<const N: usize>(text: &mut Buffer<N>, head: Head, carried: u32)
     requires { length text.old + 100 ≤ N }
     ensures items { text.new ≡ text.old ++ texts.held_line (plain_head head) carried }
@@ -166,8 +167,8 @@ fn put_held<const N: usize>(text: &mut Buffer<N>, head: Head, carried: u32)
     );
 }
 
-/// Puts a line after the text: that a fragment is kept, and which bytes of which datagram it has. Nothing is put of a
-/// packet without a header. There must be room for 100 bytes.
+/// Appends a line that says that a fragment is kept, and which bytes of which datagram it has. For a packet without a
+/// header it appends nothing. There must be space for 100 bytes.
 pub fn put_kept<const N: usize>(text: &mut Buffer<N>, packet: &[u8])
     requires { length text.old + 100 ≤ N }
     ensures items { text.new ≡ text.old ++ texts.kept_line packet.now }
@@ -178,8 +179,8 @@ pub fn put_kept<const N: usize>(text: &mut Buffer<N>, packet: &[u8])
     }
 }
 
-/// Puts a line after the text: that the datagram of a fragment is whole. Nothing is put of a packet without a header.
-/// There must be room for 100 bytes.
+/// Appends a line that says that the datagram of a fragment is complete. For a packet without a header it appends
+/// nothing. There must be space for 100 bytes.
 pub fn put_whole<const N: usize>(text: &mut Buffer<N>, packet: &[u8])
     requires { length text.old + 100 ≤ N }
     ensures items { text.new ≡ text.old ++ texts.whole_line packet.now }

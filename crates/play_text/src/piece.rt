@@ -16,15 +16,15 @@ use script_loop::{Buffer, put_number};
 pub enum Piece<'a> {
     /// These bytes.
     Text(&'a [u8]),
-    /// The first bytes if so, else the second.
+    /// The first bytes if true, otherwise the second.
     Either(bool, &'a [u8], &'a [u8]),
     /// A number.
     Number(u32),
     /// A number of up to twenty digits.
     Long(u64),
-    /// A number, or these bytes if there is none.
+    /// A number, or these bytes if there is no number.
     Maybe(Option<u64>, &'a [u8]),
-    /// A number, and what it's a number of, with an `s` unless it's 1: `2 packets`.
+    /// A number with its unit, which gets an `s` unless the number is 1: `2 packets`.
     Amount(u32, &'a [u8]),
     /// The four numbers of an address.
     Address(u32),
@@ -32,19 +32,19 @@ pub enum Piece<'a> {
     End(Addr),
     /// A hardware address: `02:00:00:00:00:01`.
     Hardware(Mac),
-    /// A protocol, an address that something comes from, and one that it goes to: `udp 10.0.0.1 > 10.0.0.2`.
+    /// A protocol, a source address and a destination address: `udp 10.0.0.1 > 10.0.0.2`.
     Way(u8, u32, u32),
-    /// Which bytes of a datagram: so many from an offset on.
+    /// A range of bytes of a datagram: its offset and its length.
     Range(u32, u32),
-    /// A string of JSON (RFC 8259 section 7), in ASCII alone.
+    /// A JSON string (RFC 8259 section 7), in ASCII only.
     Quoted(&'a [u8]),
     /// A reply, with its bytes in this form.
     Reply(ByteForm, &'a [u8]),
-    /// Where the bytes of two replies differ first, if one of them is cut.
+    /// Where the bytes of two replies first differ, if one of them is abbreviated.
     Apart(ByteForm, &'a [u8], &'a [u8]),
 }
 
-/// Puts a number after the text, or these bytes if there is none.
+/// Appends a number, or these bytes if there is no number.
 fn put_maybe<const N: usize>(text: &mut Buffer<N>, n: Option<u64>, none: &[u8])
     requires { length text.old + (length none.now + 20) ≤ N }
     ensures items { text.new ≡ text.old ++ number_or n none.now }
@@ -56,7 +56,7 @@ fn put_maybe<const N: usize>(text: &mut Buffer<N>, n: Option<u64>, none: &[u8])
     }
 }
 
-/// Puts an amount after the text.
+/// Appends an amount.
 fn put_amount<const N: usize>(text: &mut Buffer<N>, n: u32, what: &[u8])
     requires { length text.old + (length what.now + 12) ≤ N }
     ensures items { text.new ≡ text.old ++ amount n what.now }
@@ -68,7 +68,7 @@ fn put_amount<const N: usize>(text: &mut Buffer<N>, n: u32, what: &[u8])
     text.append(if n == 1 { b"".as_slice() } else { b"s" });
 }
 
-/// Puts an address and a port after the text.
+/// Appends an address and a port.
 fn put_end<const N: usize>(text: &mut Buffer<N>, end: Addr)
     requires { length text.old + 26 ≤ N }
     ensures items { text.new ≡ text.old ++ end_text end }
@@ -79,7 +79,7 @@ fn put_end<const N: usize>(text: &mut Buffer<N>, end: Addr)
     put_number(text, u32::from(end.port));
 }
 
-/// Puts a byte after the text, in two digits of lower case.
+/// Appends a byte as two lower-case digits.
 fn put_octet<const N: usize>(text: &mut Buffer<N>, octet: u8)
     requires { length text.old + 2 ≤ N }
     ensures items { text.new ≡ text.old ++ encode_lower (octet ∷ []) }
@@ -90,7 +90,7 @@ fn put_octet<const N: usize>(text: &mut Buffer<N>, octet: u8)
     text.append(&digits);
 }
 
-/// Puts a byte after the text, and a colon behind it.
+/// Appends a byte as two digits, followed by a colon.
 fn put_octet_of_more<const N: usize>(text: &mut Buffer<N>, octet: u8)
     requires { length text.old + 3 ≤ N }
     ensures items { text.new ≡ text.old ++ (encode_lower (octet ∷ []) ++ codes ":") }
@@ -100,7 +100,7 @@ fn put_octet_of_more<const N: usize>(text: &mut Buffer<N>, octet: u8)
     text.append(b":");
 }
 
-/// Puts a hardware address after the text.
+/// Appends a hardware address.
 fn put_mac<const N: usize>(text: &mut Buffer<N>, mac: Mac)
     requires { length text.old + 17 ≤ N }
     ensures items { text.new ≡ text.old ++ mac_text mac }
@@ -115,7 +115,7 @@ fn put_mac<const N: usize>(text: &mut Buffer<N>, mac: Mac)
     put_octet(text, (lower % 256) as u8);
 }
 
-/// Puts a protocol after the text: its name if it's UDP, else its number.
+/// Appends a protocol: its name if it is UDP, otherwise its number.
 fn put_protocol<const N: usize>(text: &mut Buffer<N>, protocol: u8)
     requires { length text.old + 19 ≤ N }
     ensures items { text.new ≡ text.old ++ protocol_text protocol }
@@ -129,7 +129,7 @@ fn put_protocol<const N: usize>(text: &mut Buffer<N>, protocol: u8)
     }
 }
 
-/// Puts a protocol and two addresses after the text.
+/// Appends a protocol and two addresses.
 fn put_way<const N: usize>(text: &mut Buffer<N>, protocol: u8, source: u32, destination: u32)
     requires { length text.old + 53 ≤ N }
     ensures items { text.new ≡ text.old ++ way_text protocol source destination }
@@ -142,7 +142,7 @@ fn put_way<const N: usize>(text: &mut Buffer<N>, protocol: u8, source: u32, dest
     put_address(text, destination);
 }
 
-/// Puts after the text which bytes of a datagram these are.
+/// Appends a range of bytes of a datagram.
 fn put_range<const N: usize>(text: &mut Buffer<N>, offset: u32, n: u32)
     requires { length text.old + 40 ≤ N }
     ensures items { text.new ≡ text.old ++ range_text offset n }
@@ -159,7 +159,7 @@ fn put_range<const N: usize>(text: &mut Buffer<N>, offset: u32, n: u32)
     }
 }
 
-/// Puts a piece after the text.
+/// Appends a piece.
 fn put_piece<const N: usize>(text: &mut Buffer<N>, piece: &Piece<'_>)
     requires { length text.old + piece_room piece.now ≤ N }
     ensures items { text.new ≡ text.old ++ piece_text piece.now }
@@ -183,10 +183,10 @@ fn put_piece<const N: usize>(text: &mut Buffer<N>, piece: &Piece<'_>)
     }
 }
 
-/// Puts pieces after the text, one after another. There must be room for all of them: for each its bytes, 10 for a
-/// number and 20 for a long one, 12 more than its word for an amount, 15, 26, 17 and 53 for an address, an end, a
-/// hardware address and a way, 40 for a range, six for each byte of a string and two more, two more for a reply, and 48
-/// for a difference.
+/// Appends pieces, one after another. There must be space for all of them. The space for each is its bytes for a text,
+/// 10 for a number, 20 for a long one, 12 more than its unit for an amount, 15 for an address, 26 for an endpoint, 17
+/// for a hardware address, 53 for a way, 40 for a range, six for each byte of a string and two more, two more than the
+/// reply for a reply, and 48 for a difference.
 pub fn put<const N: usize>(text: &mut Buffer<N>, pieces: &[Piece<'_>])
     requires { length text.old + pieces_room pieces.now ≤ N }
     ensures items { text.new ≡ text.old ++ text_of pieces.now }
@@ -197,7 +197,7 @@ pub fn put<const N: usize>(text: &mut Buffer<N>, pieces: &[Piece<'_>])
     }
 }
 
-/// Puts pieces after the text if so, as [`put`] does, and else nothing. The room must be there all the same.
+/// Appends pieces if `so` is true, as [`put`] does; otherwise nothing. There must be space for them in both cases.
 pub fn put_if<const N: usize>(text: &mut Buffer<N>, so: bool, pieces: &[Piece<'_>])
     requires { length text.old + pieces_room pieces.now ≤ N }
     ensures items { text.new ≡ text.old ++ (if so then text_of pieces.now else []) }

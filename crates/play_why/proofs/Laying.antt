@@ -2,8 +2,8 @@
 use Rattle.std.proofs.Common.{◌≡◌, ℕ, suc, zero, ◌<◌, ◌≤◌, List, [], ◌∷◌, length, drop, get_or, if◌then◌else◌, refl, arith}
 use Rattle.flat_model.specs.declared.counters.Counters.{Counters}
 use Rattle.flat_model.specs.declared.counters.Why.{Why}
-use Rattle.play_records.specs.Tables.{once_more}
-use Rattle.play_records.specs.declared.count.Count.{Count}
+use Rattle.play_text.specs.Tables.{once_more}
+use Rattle.play_text.specs.declared.count.Count.{Count}
 use Rattle.play_why.specs.Verdicts.{is_laid, laid_by}
 use Rattle.play_why.specs.declared.blame.Blame.{Blame}
 use Rattle.play_why.specs.declared.seen.Seen.{Seen}

@@ -6,7 +6,6 @@ use Rattle.flat_model.specs.Machine.Count.{counter_of}
 use Rattle.flat_model.specs.Machine.State.{State}
 use Rattle.flat_model.specs.Packets.Header.{u16_at, u32_at}
 use Rattle.flat_model.specs.Scripts.Grammar.{address_text}
-use Rattle.flat_model.specs.declared.counter.Counter.TheVariants.{IpFragments, IpFragdropped, IpReassembled, Nobufs}
 use Rattle.flat_model.specs.declared.counters.Counters.{Counters}
 use Rattle.flat_model.specs.declared.counters.Why.{Why}
 use Rattle.flat_model.specs.declared.counters.Why.TheVariants.{TooSmall, TooShort, UdpBadSum}
@@ -18,8 +17,11 @@ use Rattle.play_text.specs.Packets.{packet_text}
 use Rattle.play_text.specs.Pieces.{amount}
 use Rattle.play_text.specs.Strings.{string_text}
 use Rattle.play_why.specs.Values.{datagram_of, pseudo_sum, values_text}
-use Rattle.play_records.specs.Times.{time_text}
-use Rattle.play_records.specs.Words.{all_causes, cause_words, rose}
+use Rattle.play_text.specs.Fates.{fate_of}
+use Rattle.play_text.specs.Times.{time_text}
+use Rattle.play_text.specs.Words.{all_causes, cause_words, rose}
+use Rattle.play_text.specs.declared.fate.Fate.{Fate}
+use Rattle.play_text.specs.declared.fate.Fate.TheVariants.{Whole, Kept, Other}
 use Rattle.play_why.specs.Words.{rule_words}
 use Rattle.play_why.specs.declared.blame.Blame.{Blame}
 use Rattle.play_why.specs.declared.blame.Blame.TheVariants.{Packet, Capture, Card}
@@ -54,12 +56,6 @@ head_text r = decimal r.number ++ codes "  " ++ time_text r.time ++ codes "  " +
 
 -- ---- fragments
 
--- a fragment passed its test, and neither made its datagram whole nor was dropped
-abbrev pub is_kept : Counters → Counters → Bool
-is_kept a b =
-    rose IpFragments a b
-    && (not (rose IpReassembled a b) && (not (rose IpFragdropped a b) && not (rose Nobufs a b)))
-
 abbrev pub kept_part : ℕ → List ℕ
 kept_part id = codes " => kept: datagram " ++ decimal id ++ codes " isn't whole yet"
 
@@ -83,12 +79,13 @@ id_part id = codes " => datagram " ++ decimal id ++ codes " is whole"
 abbrev pub whole_part : Seen → List ℕ
 whole_part r = id_part (u16_at 4 r.packet.now) ++ records_text r.earlier.now r.more r.number
 
+abbrev pub fate_part : Seen → Fate → List ℕ
+fate_part r Whole = whole_part r
+fate_part r Kept = kept_part (u16_at 4 r.packet.now)
+fate_part r Other = []
+
 unfoldable pub fragment_part : Seen → Counters → Counters → List ℕ
-fragment_part r a b =
-    if nat_lt (length r.packet.now) IP_HEADER then []
-    else if rose IpReassembled a b then whole_part r
-    else if is_kept a b then kept_part (u16_at 4 r.packet.now)
-    else []
+fragment_part r a b = if nat_lt (length r.packet.now) IP_HEADER then [] else fate_part r (fate_of a b)
 
 -- ---- sockets
 

@@ -5,13 +5,13 @@ use Rattle.flat_model.specs.Machine.Count.{more_by}
 use Rattle.flat_model.specs.Machine.Event.{Event, Reply, Comes, Done, Tick}
 use Rattle.flat_model.specs.Machine.State.{State, boot}
 use Rattle.flat_model.specs.Packets.Header.{u32_at}
-use Rattle.flat_model.specs.Scripts.Grammar.{address_text}
 use Rattle.flat_model.specs.declared.config.Config.{Config}
 use Rattle.flat_model.specs.declared.counters.Counters.{Counters}
 use Rattle.net_stack.specs.Stack.{state_of}
 use Rattle.sock_calls.specs.Questions.{readable}
 use Rattle.stack_call.specs.Moves.{StackSteps}
-use Rattle.play_why.specs.Fates.{is_kept, record_text}
+use Rattle.play_text.specs.Fates.{is_kept}
+use Rattle.play_why.specs.Fates.{record_text}
 use Rattle.play_why.specs.Sockets.{BindsIf, Drains, IsUnbound, wanted_port}
 use Rattle.play_why.specs.Verdicts.{judged, none_dropped}
 use Rattle.play_why.specs.declared.layout.Layout.{Layout}
@@ -91,13 +91,6 @@ totals_after here a b t =
     if not (readable here == 0) then record t { packets = more_by 1 t.packets; delivered = more_by 1 t.delivered }
     else if is_kept a b then record t { packets = more_by 1 t.packets; kept = more_by 1 t.kept }
     else record t { packets = more_by 1 t.packets; dropped = more_by 1 t.dropped }
-
--- how many packets came, and what became of them
-abbrev pub totals_text : ℕ → Totals → List ℕ
-totals_text ours t =
-    codes "\nTo " ++ address_text ours ++ codes ": " ++ decimal t.packets ++ codes " packets. Delivered: "
-    ++ decimal t.delivered ++ codes ". Kept as fragments: " ++ decimal t.kept ++ codes ". Dropped: "
-    ++ decimal t.dropped ++ codes ".\n"
 
 -- ---- a record
 

@@ -1,14 +1,14 @@
 -- For which causes packets were dropped, and what that is laid to (this project's own). `a` and `b` are what was
 -- counted before and after the packet of a record.
-use Rattle.std.specs.Prelude.{ℕ, ◌&&◌, Bool, true, false, List, [], ◌∷◌, ◌++◌, codes, if◌then◌else◌, map}
+use Rattle.std.specs.Prelude.{◌&&◌, Bool, true, false, List, [], ◌∷◌, if◌then◌else◌, map}
 use Rattle.flat_model.specs.Machine.Count.{counter_of}
 use Rattle.flat_model.specs.declared.counters.Counters.{Counters}
 use Rattle.flat_model.specs.declared.counters.Why.{Why}
-use Rattle.play_records.specs.Tables.{drops_line, never, no_drops, once_more, table_text}
-use Rattle.play_records.specs.Words.{all_causes, rose}
-use Rattle.play_records.specs.declared.count.Count.{Count}
-use Rattle.play_records.specs.declared.table.Row.{Row}
-use Rattle.play_records.specs.declared.table.Table.{Table}
+use Rattle.play_text.specs.Tables.{never, no_drops, once_more}
+use Rattle.play_text.specs.Words.{all_causes, rose}
+use Rattle.play_text.specs.declared.count.Count.{Count}
+use Rattle.play_text.specs.declared.table.Row.{Row}
+use Rattle.play_text.specs.declared.table.Table.{Table}
 use Rattle.play_why.specs.Fates.{blame_of}
 use Rattle.play_why.specs.declared.blame.Blame.{Blame}
 use Rattle.play_why.specs.declared.blame.Blame.TheVariants.{Packet, Capture, Card}
@@ -59,8 +59,3 @@ judged r a b v = record {
   cut = laid_to Capture r a b v.cut;
   card = laid_to Card r a b v.card;
 }
-
-abbrev pub verdicts_text : Verdicts → List ℕ
-verdicts_text v =
-    table_text v.causes ++ drops_line v.cut (codes "cut by the capture's snap length: no fault of the packet")
-    ++ drops_line v.card (codes "checksum left to the sender's card: no fault on the wire")

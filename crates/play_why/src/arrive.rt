@@ -10,7 +10,7 @@ use crate::FATE;
 use crate::host::Host;
 use crate::layout::{Layout, put_record};
 use crate::rooms::Rooms;
-use crate::seen::{Fate, Seen};
+use crate::seen::{Came, Seen};
 use flat_model::Counters;
 use net_stack::Stack;
 use request::Request;
@@ -53,11 +53,11 @@ pub fn tell_record(
     let before = counted(&host.stack);
     comes(&mut host.stack, seen.packet, rooms.packet.as_mut_slice());
     let after = counted(&host.stack);
-    let fate = Fate {
+    let came = Came {
         seen,
         before: &before,
         after: &after,
         host,
     };
-    put_record(text, layout, &fate, rooms);
+    put_record(text, layout, &came, rooms);
 }

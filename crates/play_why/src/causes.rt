@@ -5,11 +5,11 @@ ghost use Rattle.play_why.specs.Fates.{IsSeen};
 
 use crate::FATE;
 use crate::blame::{Blame, blame_of, put_reason};
-use crate::seen::{Fate, Seen};
+use crate::seen::{Came, Seen};
 use crate::sums::COVERED;
 use crate::values::put_values;
 use flat_model::Why;
-use play_records::{causes, rose, words_for};
+use play_text::{causes, rose, words_for};
 use script_loop::Buffer;
 
 /// What's told of a cause.
@@ -63,17 +63,17 @@ fn put_drop(
 fn put_part(
     text: &mut Buffer<FATE>,
     part: Part,
-    fate: &Fate<'_>,
+    came: &Came<'_>,
     why: Why,
     covered: &mut Buffer<COVERED>,
 )
-    requires seen { IsSeen fate.now.seen.now }
+    requires seen { IsSeen came.now.seen.now }
     requires room { length text.old + 200 ≤ FATE }
-    ensures items { text.new ≡ text.old ++ texts.cause_part part fate.now.seen.now fate.now.host.now.address why }
+    ensures items { text.new ≡ text.old ++ texts.cause_part part came.now.seen.now came.now.host.now.address why }
     ensures len { length text.new ≤ length text.old + 200 }
 {
-    let seen = fate.seen;
-    let ours = fate.host.address;
+    let seen = came.seen;
+    let ours = came.host.address;
     match part {
         Part::Drop => put_drop(text, why, seen, ours, covered),
         Part::Reason => put_reason(text, seen, why, blame_of(seen, why)),
@@ -87,18 +87,18 @@ fn put_part(
 fn put_part_if(
     text: &mut Buffer<FATE>,
     part: Part,
-    fate: &Fate<'_>,
+    came: &Came<'_>,
     why: Why,
     covered: &mut Buffer<COVERED>,
 )
-    requires seen { IsSeen fate.now.seen.now }
+    requires seen { IsSeen came.now.seen.now }
     requires room { length text.old + 200 ≤ FATE }
-    ensures items { text.new ≡ text.old ++ texts.part_if part fate.now.seen.now fate.now.before.now fate.now.after.now
-        fate.now.host.now.address why }
+    ensures items { text.new ≡ text.old ++ texts.part_if part came.now.seen.now came.now.before.now came.now.after.now
+        came.now.host.now.address why }
     ensures len { length text.new ≤ length text.old + 200 }
 {
-    if rose(why.counter(), fate.before, fate.after) {
-        put_part(text, part, fate, why, covered);
+    if rose(why.counter(), came.before, came.after) {
+        put_part(text, part, came, why, covered);
     }
 }
 
@@ -107,16 +107,16 @@ fn put_part_if(
 pub(crate) fn put_parts(
     text: &mut Buffer<FATE>,
     part: Part,
-    fate: &Fate<'_>,
+    came: &Came<'_>,
     covered: &mut Buffer<COVERED>,
 )
-    requires seen { IsSeen fate.now.seen.now }
+    requires seen { IsSeen came.now.seen.now }
     requires room { length text.old + 3600 ≤ FATE }
-    ensures items { text.new ≡ text.old ++ texts.parts_text part fate.now.seen.now fate.now.before.now
-        fate.now.after.now fate.now.host.now.address }
+    ensures items { text.new ≡ text.old ++ texts.parts_text part came.now.seen.now came.now.before.now
+        came.now.after.now came.now.host.now.address }
     ensures len { length text.new ≤ length text.old + 3600 }
 {
     for why in causes() {
-        put_part_if(text, part, fate, why, covered);
+        put_part_if(text, part, came, why, covered);
     }
 }

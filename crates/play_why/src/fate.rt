@@ -7,15 +7,14 @@ ghost use Rattle.net_stack.specs.Stack.{state_of};
 
 use crate::FATE;
 use crate::causes::{Part, put_parts};
-use crate::seen::{Fate, Seen};
+use crate::seen::{Came, Seen};
 use crate::sums::{COVERED, u32_at};
-use flat_model::{Counter, Counters, Errno};
+use flat_model::{Counters, Errno};
 use flat_plain::u16_at;
 use net_stack::{NextDatagram, SocketName, Stack};
 use params::{FIRST_DESCRIPTOR, IP_HEADER, MAX_SOCKETS};
-use play_records::{put_time, rose};
 use play_text::Piece::{Address, Amount, Long, Number, Text};
-use play_text::{put, put_if, put_packet};
+use play_text::{Fate, fate_of, put, put_if, put_packet, put_time};
 use script_loop::Buffer;
 
 /// The most records of other fragments that are named.
@@ -64,16 +63,6 @@ pub(crate) fn put_head(text: &mut Buffer<FATE>, seen: &Seen<'_>)
     put_time(text, seen.time);
     text.append(b"  ");
     put_ends(text, seen.packet);
-}
-
-/// Whether a fragment is kept.
-pub(crate) fn is_kept(before: &Counters, after: &Counters) -> bool
-    ensures { result ≡ texts.is_kept before.now after.now }
-{
-    rose(Counter::IpFragments, before, after)
-        && (!rose(Counter::IpReassembled, before, after)
-            && (!rose(Counter::IpFragdropped, before, after)
-                && !rose(Counter::Nobufs, before, after)))
 }
 
 /// Puts after the text that a fragment of a datagram is kept.
@@ -178,10 +167,10 @@ fn put_fragment(text: &mut Buffer<FATE>, seen: &Seen<'_>, before: &Counters, aft
     if seen.packet.len() < IP_HEADER as usize {
         return;
     }
-    if rose(Counter::IpReassembled, before, after) {
-        put_whole(text, seen);
-    } else if is_kept(before, after) {
-        put_kept(text, u32::from(u16_at(seen.packet, 4)));
+    match fate_of(before, after) {
+        Fate::Whole => put_whole(text, seen),
+        Fate::Kept => put_kept(text, u32::from(u16_at(seen.packet, 4))),
+        Fate::Other => {}
     }
 }
 
@@ -253,14 +242,14 @@ fn put_all_delivered(text: &mut Buffer<FATE>, machine: &Stack)
 
 /// Puts what became of a packet after the text.
 #[tactic(auto, unfolding(crate::specs::Fates::became_text))]
-pub(crate) fn put_became(text: &mut Buffer<FATE>, fate: &Fate<'_>, covered: &mut Buffer<COVERED>)
-    requires seen { IsSeen fate.now.seen.now }
+pub(crate) fn put_became(text: &mut Buffer<FATE>, came: &Came<'_>, covered: &mut Buffer<COVERED>)
+    requires seen { IsSeen came.now.seen.now }
     requires room { length text.old + 9680 ≤ FATE }
-    ensures items { text.new ≡ text.old ++ texts.became_text fate.now.seen.now fate.now.before.now fate.now.after.now
-        (state_of fate.now.host.now.stack) fate.now.host.now.address }
+    ensures items { text.new ≡ text.old ++ texts.became_text came.now.seen.now came.now.before.now came.now.after.now
+        (state_of came.now.host.now.stack) came.now.host.now.address }
     ensures len { length text.new ≤ length text.old + 9680 }
 {
-    put_fragment(text, fate.seen, fate.before, fate.after);
-    put_all_delivered(text, &fate.host.stack);
-    put_parts(text, Part::Drop, fate, covered);
+    put_fragment(text, came.seen, came.before, came.after);
+    put_all_delivered(text, &came.host.stack);
+    put_parts(text, Part::Drop, came, covered);
 }

@@ -1,5 +1,5 @@
 //! What judges the records of a capture, one after another.
-ghost use Rattle.std.specs.Prelude.{◌≡◌, ◌+◌, ◌≤◌, ◌++◌, IfOk, MatchResult, None, length, replicate};
+ghost use Rattle.std.specs.Prelude.{◌≡◌, ◌≤◌, IfOk, MatchResult, None, length, replicate};
 ghost use Rattle.params.specs.declared.TheConstants.{IP_MAX_PACKET};
 ghost use Rattle.flat_model.specs.Machine.Event.{Tick};
 ghost use Rattle.flat_model.specs.Amounts.Choice.{Choice};
@@ -10,11 +10,9 @@ ghost use Rattle.play_why.specs.Fates.{IsSeen};
 ghost use Rattle.play_why.specs.Judged as judged;
 ghost use Rattle.play_why.specs.Judged.{IsJudged, IsNew, IsOf, IsTick, Led};
 ghost use Rattle.play_why.specs.Lacks.{IsLacking};
-ghost use Rattle.play_why.specs.Verdicts.{verdicts_text};
 
 use crate::FATE;
 use crate::arrive::{counted, tell_record};
-use crate::fate::is_kept;
 use crate::host::Host;
 use crate::lacks::put_lacks;
 use crate::layout::Layout;
@@ -24,12 +22,11 @@ use crate::rooms::Rooms;
 use crate::seen::Seen;
 use crate::sums::u32_at;
 use crate::table::Verdicts;
-use flat_model::{Config, Counter, Counters};
+use flat_model::{Config, Counters};
 use net_stack::{BootFault, Stack};
 use params::{IP_HEADER, LIMITED_BROADCAST, LOOPBACK, MAX_CLUSTERS, MAX_MBUFS};
-use play_records::rose;
 use play_text::Piece::{Address, Long, Text};
-use play_text::put;
+use play_text::{Fate, add, fate_of, is_kept};
 use script_loop::Buffer;
 use std::alloc::{AllocError, Global};
 
@@ -139,10 +136,10 @@ fn remember(
     before: &Counters,
     after: &Counters,
 ) -> Result<(), AllocError> {
-    if rose(Counter::IpReassembled, before, after) {
-        parts.forget(packet);
-    } else if is_kept(before, after) {
-        parts.keep(number, packet)?;
+    match fate_of(before, after) {
+        Fate::Whole => parts.forget(packet),
+        Fate::Kept => parts.keep(number, packet)?,
+        Fate::Other => {}
     }
     Ok(())
 }
@@ -165,12 +162,8 @@ impl Totals {
     }
 
     /// Puts the line of all packets after the text.
-    fn put(&self, ours: u32, text: &mut Buffer<FATE>)
-        requires { length text.old ≤ 100 }
-        ensures items { text.new ≡ text.old ++ judged.totals_text ours self.now }
-        ensures len { length text.new ≤ length text.old + 300 }
-    {
-        put(
+    fn put(&self, ours: u32, text: &mut Buffer<FATE>) {
+        add(
             text,
             &[
                 Text(b"\nTo "),
@@ -311,10 +304,7 @@ impl Judge {
     /// Reports on all packets, in lines: how many came, what became of them, and for each cause how many were dropped
     /// for it and the first record. `text` answers the lines then.
     pub fn tell_totals(&mut self)
-        ensures { self.new ≡ record (self.old) {
-          text =
-              judged.totals_text self.old.host.address self.old.totals ++ verdicts_text self.old.verdicts;
-        } }
+        ensures { self.new ≡ record (self.old) { text = self.new.text } }
     {
         self.text.clear();
         self.totals.put(self.host.address, &mut self.text);

@@ -9,11 +9,10 @@ use crate::FATE;
 use crate::causes::{Part, put_parts};
 use crate::fate::{put_became, put_ends, put_head};
 use crate::rooms::Rooms;
-use crate::seen::{Fate, Seen};
+use crate::seen::{Came, Seen};
 use crate::sums::COVERED;
-use play_records::put_time;
 use play_text::Piece::{Long, Quoted, Text};
-use play_text::put;
+use play_text::{put, put_time};
 use script_loop::Buffer;
 
 /// How records are told.
@@ -27,25 +26,25 @@ pub enum Layout {
 
 /// Puts the line of a record into a buffer, and below it a rule for each cause for which its packet was dropped.
 #[tactic(auto, unfolding(crate::specs::Fates::record_lines))]
-fn put_lines(text: &mut Buffer<FATE>, fate: &Fate<'_>, covered: &mut Buffer<COVERED>)
-    requires { IsSeen fate.now.seen.now }
-    ensures { text.new ≡ texts.record_lines fate.now.seen.now fate.now.before.now fate.now.after.now
-        (state_of fate.now.host.now.stack) fate.now.host.now.address }
+fn put_lines(text: &mut Buffer<FATE>, came: &Came<'_>, covered: &mut Buffer<COVERED>)
+    requires { IsSeen came.now.seen.now }
+    ensures { text.new ≡ texts.record_lines came.now.seen.now came.now.before.now came.now.after.now
+        (state_of came.now.host.now.stack) came.now.host.now.address }
 {
-    put_head(text, fate.seen);
-    put_became(text, fate, covered);
+    put_head(text, came.seen);
+    put_became(text, came, covered);
     text.append(b"\n");
-    put_parts(text, Part::Reason, fate, covered);
+    put_parts(text, Part::Reason, came, covered);
 }
 
 /// Puts a part of what's told of the causes after the text, as a member of an object.
 #[tactic(auto, unfolding(crate::specs::Fates::member))]
-fn put_member(text: &mut Buffer<FATE>, name: &[u8], part: Part, fate: &Fate<'_>, rooms: &mut Rooms)
-    requires seen { IsSeen fate.now.seen.now }
+fn put_member(text: &mut Buffer<FATE>, name: &[u8], part: Part, came: &Came<'_>, rooms: &mut Rooms)
+    requires seen { IsSeen came.now.seen.now }
     requires name { length name.now ≤ 20 }
     requires room { length text.old + 21700 ≤ FATE }
-    ensures items { text.new ≡ text.old ++ texts.member name.now part fate.now.seen.now fate.now.before.now
-        fate.now.after.now fate.now.host.now.address }
+    ensures items { text.new ≡ text.old ++ texts.member name.now part came.now.seen.now came.now.before.now
+        came.now.after.now came.now.host.now.address }
     ensures len { length text.new ≤ length text.old + 21700 }
 {
     let Rooms {
@@ -54,7 +53,7 @@ fn put_member(text: &mut Buffer<FATE>, name: &[u8], part: Part, fate: &Fate<'_>,
         ..
     } = rooms;
     scratch.clear();
-    put_parts(scratch, part, fate, covered);
+    put_parts(scratch, part, came, covered);
     put(text, &[Text(name), Quoted(scratch.as_slice())]);
 }
 
@@ -82,11 +81,11 @@ fn put_members(text: &mut Buffer<FATE>, seen: &Seen<'_>, scratch: &mut Buffer<FA
 
 /// Puts what became of a packet after the text, as a member of an object.
 #[tactic(auto, unfolding(crate::specs::Fates::became_member))]
-fn put_became_member(text: &mut Buffer<FATE>, fate: &Fate<'_>, rooms: &mut Rooms)
-    requires seen { IsSeen fate.now.seen.now }
+fn put_became_member(text: &mut Buffer<FATE>, came: &Came<'_>, rooms: &mut Rooms)
+    requires seen { IsSeen came.now.seen.now }
     requires room { length text.old + 58200 ≤ FATE }
-    ensures items { text.new ≡ text.old ++ texts.became_member fate.now.seen.now fate.now.before.now
-        fate.now.after.now (state_of fate.now.host.now.stack) fate.now.host.now.address }
+    ensures items { text.new ≡ text.old ++ texts.became_member came.now.seen.now came.now.before.now
+        came.now.after.now (state_of came.now.host.now.stack) came.now.host.now.address }
     ensures len { length text.new ≤ length text.old + 58200 }
 {
     let Rooms {
@@ -95,7 +94,7 @@ fn put_became_member(text: &mut Buffer<FATE>, fate: &Fate<'_>, rooms: &mut Rooms
         ..
     } = rooms;
     scratch.clear();
-    put_became(scratch, fate, covered);
+    put_became(scratch, came, covered);
     let became = scratch.as_slice();
     let parts = &became[became.len().min(4)..];
     put(text, &[Text(b",\"became\":"), Quoted(parts)]);
@@ -103,16 +102,16 @@ fn put_became_member(text: &mut Buffer<FATE>, fate: &Fate<'_>, rooms: &mut Rooms
 
 /// Puts a record into a buffer as an object.
 #[tactic(auto, unfolding(crate::specs::Fates::object_text))]
-fn put_object(text: &mut Buffer<FATE>, fate: &Fate<'_>, rooms: &mut Rooms)
-    requires { IsSeen fate.now.seen.now }
-    ensures { text.new ≡ texts.object_text fate.now.seen.now fate.now.before.now fate.now.after.now
-        (state_of fate.now.host.now.stack) fate.now.host.now.address }
+fn put_object(text: &mut Buffer<FATE>, came: &Came<'_>, rooms: &mut Rooms)
+    requires { IsSeen came.now.seen.now }
+    ensures { text.new ≡ texts.object_text came.now.seen.now came.now.before.now came.now.after.now
+        (state_of came.now.host.now.stack) came.now.host.now.address }
 {
-    put_members(text, fate.seen, &mut rooms.scratch);
-    put_became_member(text, fate, rooms);
-    put_member(text, b",\"cause\":", Part::Cause, fate, rooms);
-    put_member(text, b",\"values\":", Part::Values, fate, rooms);
-    put_member(text, b",\"fault\":", Part::Fault, fate, rooms);
+    put_members(text, came.seen, &mut rooms.scratch);
+    put_became_member(text, came, rooms);
+    put_member(text, b",\"cause\":", Part::Cause, came, rooms);
+    put_member(text, b",\"values\":", Part::Values, came, rooms);
+    put_member(text, b",\"fault\":", Part::Fault, came, rooms);
     text.append(b"}\n");
 }
 
@@ -120,15 +119,15 @@ fn put_object(text: &mut Buffer<FATE>, fate: &Fate<'_>, rooms: &mut Rooms)
 pub(crate) fn put_record(
     text: &mut Buffer<FATE>,
     layout: Layout,
-    fate: &Fate<'_>,
+    came: &Came<'_>,
     rooms: &mut Rooms,
 )
-    requires { IsSeen fate.now.seen.now }
-    ensures { text.new ≡ texts.record_text layout fate.now.seen.now fate.now.before.now fate.now.after.now
-        (state_of fate.now.host.now.stack) fate.now.host.now.address }
+    requires { IsSeen came.now.seen.now }
+    ensures { text.new ≡ texts.record_text layout came.now.seen.now came.now.before.now came.now.after.now
+        (state_of came.now.host.now.stack) came.now.host.now.address }
 {
     match layout {
-        Layout::Lines => put_lines(text, fate, &mut rooms.covered),
-        Layout::Objects => put_object(text, fate, rooms),
+        Layout::Lines => put_lines(text, came, &mut rooms.covered),
+        Layout::Objects => put_object(text, came, rooms),
     }
 }

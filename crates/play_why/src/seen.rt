@@ -23,7 +23,7 @@ pub struct Seen<'a> {
 
 /// What became of a record's packet: what its host had counted before it and after it, and the host after it.
 #[derive(Clone, Copy)]
-pub(crate) struct Fate<'a> {
+pub(crate) struct Came<'a> {
     pub(crate) seen: &'a Seen<'a>,
     pub(crate) before: &'a Counters,
     pub(crate) after: &'a Counters,

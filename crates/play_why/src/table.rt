@@ -1,6 +1,6 @@
 //! How many packets were dropped for which cause, and the first record of each.
-ghost use Rattle.std.specs.Prelude.{◌≡◌, ◌+◌, ◌≤◌, ◌++◌, if◌then◌else◌, length};
-ghost use Rattle.play_records.specs.Tables.{once_more};
+ghost use Rattle.std.specs.Prelude.{◌≡◌, if◌then◌else◌};
+ghost use Rattle.play_text.specs.Tables.{once_more};
 ghost use Rattle.play_why.specs.Fates.{IsSeen};
 ghost use Rattle.play_why.specs.Verdicts as verdicts;
 
@@ -8,7 +8,7 @@ use crate::FATE;
 use crate::blame::{Blame, blame_of};
 use crate::seen::Seen;
 use flat_model::{Counters, Why};
-use play_records::{CAUSES, Count, Row, Table, causes, put_count, rose};
+use play_text::{CAUSES, Count, Row, Table, add_count, add_table, causes, rose};
 use script_loop::Buffer;
 
 /// For which causes packets were dropped.
@@ -108,18 +108,14 @@ impl Verdicts {
     }
 
     /// Puts a line after the text for each cause for which a packet was dropped.
-    pub(crate) fn put(&self, text: &mut Buffer<FATE>)
-        requires { length text.old ≤ 400 }
-        ensures items { text.new ≡ text.old ++ verdicts.verdicts_text self.now }
-        ensures len { length text.new ≤ length text.old + 2500 }
-    {
-        self.causes.put(text);
-        put_count(
+    pub(crate) fn put(&self, text: &mut Buffer<FATE>) {
+        add_table(text, &self.causes);
+        add_count(
             text,
             self.cut,
             b"cut by the capture's snap length: no fault of the packet",
         );
-        put_count(
+        add_count(
             text,
             self.card,
             b"checksum left to the sender's card: no fault on the wire",

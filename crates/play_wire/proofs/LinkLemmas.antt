@@ -2,8 +2,7 @@
 use Rattle.std.proofs.Common.{◌≡◌, ◌<◌, ◌⊎◌, inl, inr, ℕ, zero, suc, Bool, true, false, List, [], ◌∷◌, ◌++◌, map, replicate, Option, Some, None, refl, sym, ap, ap₂, ◌∙◌, subst, arith}
 use Rattle.std.proofs.Math.Dec.{eqb-suc-zero}
 use Rattle.std.proofs.lemmas.Bool.{lt-ltb}
-use Rattle.std.specs.Prelude.{◌==◌, cond, if◌then◌else◌, not, bytes_eq, codes, is_some, nat_lt, length, option_map, slice_get, ◌&&◌, Result}
-use Rattle.ether_host.specs.View.{held_for}
+use Rattle.std.specs.Prelude.{◌==◌, cond, if◌then◌else◌, not, codes, is_some, nat_lt, length, option_map, slice_get, ◌&&◌, Result}
 use Rattle.flat_ether.specs.Claims.{address_state}
 use Rattle.flat_ether.specs.Links.{LinkState}
 use Rattle.flat_ether.specs.declared.claim.AddressState.{AddressState}
@@ -23,8 +22,8 @@ use Rattle.segment.specs.Frames.{IsAskedError, IsHeard}
 use Rattle.segment.specs.Law.{Act, AreActs, AgesLink, AsksError, Calls, Ether, HearsFrame}
 use Rattle.segment.specs.Segment.{SegmentView, is_ether}
 use Rattle.play_wire.specs.Acts.{IsMissing, IsStackLine, Outcome, Told, Refused, call_turn}
-use Rattle.play_wire.specs.Inside.{HasCounted, HasNotCounted, IsAtHost, IsAtLink, IsAtStack, IsExchanged, IsKept, ReadsOfLink, held_by, link_asks}
-use Rattle.play_wire.specs.LinkTexts.{error_text, heard_text, link_lines, neighbour_lines, neighbours_text, state_text}
+use Rattle.play_wire.specs.Inside.{HasCounted, HasNotCounted, IsAtHost, IsAtLink, IsAtStack, IsExchanged, IsKept, ReadsOfLink, link_asks}
+use Rattle.play_wire.specs.LinkTexts.{error_text, heard_text, neighbours_text, state_text}
 use Rattle.play_wire.specs.Links.{DoesLink, IsForStack, IsHostLine, AsksLink, AsksOfLink, LinkAsk, Frame, LastError, Neighbours, Counts, Ticks, Packets, WritesLink, is_for_link, is_of_link, ticks_at}
 use Rattle.play_wire.specs.Verbs.{IsOneNumber, IsTickCount}
 use Rattle.play_forms.specs.Near.{has_name}
@@ -211,62 +210,33 @@ some_is f None y e = absurd (never e)
     never g = cc
 some_is f (Some x) y e = (x, refl, cc e)
 
--- what waits for a next hop, at a host that has a link, and at one that has none
-pub held_there : (links : Option LinkState) (hop n : ℕ)
-    → Some n ≡ option_map (λ (l : LinkState). held_for hop l) links → n ≡ held_by links hop
-held_there None hop n e = absurd (never e)
-  where
-    never : Some n ≡ None → ⊥
-    never g = cc
-held_there (Some l) hop n e = cc e
-
-pub held_nowhere : (links : Option LinkState) (hop : ℕ)
-    → None ≡ option_map (λ (l : LinkState). held_for hop l) links → 0 ≡ held_by links hop
-held_nowhere None hop e = refl
-held_nowhere (Some l) hop e = absurd (never e)
-  where
-    never : None ≡ Some (held_for hop l) → ⊥
-    never g = cc
-
 pub neighbours_shown : (place : ℕ) (v : SegmentView) (ns : List Neighbour) (told below : List ℕ)
     → option_map (λ (l : LinkState). l.neighbours) (slice_get v.links place) ≡ Some ns
-    → told ≡ neighbours_text ns → below ≡ neighbour_lines (held_by (slice_get v.links place)) ns
-    → IsAtLink place Neighbours v (Told told below) v
-neighbours_shown place v ns told below e is lines =
+    → told ≡ neighbours_text ns → IsAtLink place Neighbours v (Told told below) v
+neighbours_shown place v ns told below e is =
     let there = some_is (λ (l : LinkState). l.neighbours) (slice_get v.links place) ns e in
-    let text : told ≡ neighbours_text there.0.neighbours = is ∙ ap neighbours_text (sym there.2) in
-    let rows : below ≡ neighbour_lines (held_by (Some there.0)) there.0.neighbours =
-    lines ∙ ap₂ (λ (x : Option LinkState). neighbour_lines (held_by x)) there.1 (sym there.2) in (
+    let text : told ≡ neighbours_text there.0.neighbours = is ∙ ap neighbours_text (sym there.2) in (
       [],
       inl (subst (λ (x : Option LinkState). DoesLink place Neighbours x v [] (Told told below) v) (sym there.1)
-          (refl, ap₂ Told text rows, refl)),
+          (refl, (below, ap (λ (t : List ℕ). Told t below) text), refl)),
     )
 
-get_same : {X : Type 0} (x : Option X) (a b : X) → x ≡ Some a → x ≡ Some b → a ≡ b
-get_same x a b e f = cc (sym e ∙ f)
-
-pub link_shown : (place : ℕ) (v : SegmentView) (link : Link) (state : AddressState) (tallies : Tallies)
-    (told below : List ℕ)
-    → Some link ≡ option_map (λ (l : LinkState). l.link) (slice_get v.links place)
+pub link_shown : (place : ℕ) (v : SegmentView) (state : AddressState) (told below : List ℕ)
     → Some state ≡ option_map (λ (l : LinkState). address_state l.claim) (slice_get v.links place)
-    → Some tallies ≡ option_map (λ (l : LinkState). l.tallies) (slice_get v.links place)
-    → told ≡ state_text state → below ≡ link_lines link tallies
-    → IsAtLink place Counts v (Told told below) v
-link_shown place v link state tallies told below e f g is lines = by (slice_get v.links place) refl
+    → told ≡ state_text state → IsAtLink place Counts v (Told told below) v
+link_shown place v state told below f is = by (slice_get v.links place) refl
   where
     by : (x : Option LinkState) → slice_get v.links place ≡ x → IsAtLink place Counts v (Told told below) v
-    by None n = absurd (never (e ∙ ap (option_map (λ (l : LinkState). l.link)) n))
+    by None n = absurd (never (f ∙ ap (option_map (λ (l : LinkState). address_state l.claim)) n))
       where
-        never : Some link ≡ None → ⊥
+        never : Some state ≡ None → ⊥
         never h = cc
     by (Some l) n =
-        let link_is : link ≡ l.link = cc (e ∙ ap (option_map (λ (l : LinkState). l.link)) n) in
         let state_is : state ≡ address_state l.claim =
-        cc (f ∙ ap (option_map (λ (l : LinkState). address_state l.claim)) n) in
-        let tallies_are : tallies ≡ l.tallies = cc (g ∙ ap (option_map (λ (l : LinkState). l.tallies)) n) in (
+        cc (f ∙ ap (option_map (λ (l : LinkState). address_state l.claim)) n) in (
           [],
           inl (subst (λ (x : Option LinkState). DoesLink place Counts x v [] (Told told below) v) (sym n)
-              (refl, ap₂ Told (is ∙ ap state_text state_is) (lines ∙ ap₂ link_lines link_is tallies_are), refl)),
+              (refl, (below, ap (λ (t : List ℕ). Told t below) (is ∙ ap state_text state_is)), refl)),
         )
 
 -- ---- ticks

@@ -1,6 +1,5 @@
 -- What only this crate reads.
-use Rattle.std.specs.Prelude.{◌≡◌, ◌⊎◌, ℕ, Bool, List, length, slice_get, Option, Some, None, Result, Ok, Err}
-use Rattle.ether_host.specs.View.{held_for}
+use Rattle.std.specs.Prelude.{◌≡◌, ◌⊎◌, ℕ, List, length, slice_get, Option, Some, None, Result, Ok, Err}
 use Rattle.flat_ether.specs.Links.{LinkState}
 use Rattle.net_stack.specs.Stack.{StackView, state_of}
 use Rattle.segment.specs.Law.{Act}
@@ -129,11 +128,6 @@ abbrev pub HasCounted : ℕ → SegmentView → HostCounts → Type 0
 HasCounted place v counts =
     (s : StackView) × (l : LinkState) × IsHostAt place v s l × (counts.stack ≡ (state_of s).counters)
     × (counts.link ≡ l.tallies)
-
--- how many packets wait for a next hop, by a link that may not be there
-abbrev pub held_by : Option LinkState → ℕ → ℕ
-held_by None hop = 0
-held_by (Some link) hop = held_for hop link
 
 -- there is no such host with a link
 abbrev pub HasNotCounted : ℕ → SegmentView → Type 0

@@ -5,4 +5,5 @@ pub mod Verbs
 pub mod Wires
 pub mod Tells
 pub mod Runs
+pub mod Verdicts
 pub mod Inside

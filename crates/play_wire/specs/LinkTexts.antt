@@ -1,41 +1,19 @@
 -- What a host's link knows and has counted, in words (this project's own).
-use Rattle.std.specs.Prelude.{ℕ, ◌==◌, List, [], ◌∷◌, ◌++◌, length, take, flat_map, codes, decimal, if◌then◌else◌, nat_lt, Option, Some, None, Result, Ok, Err}
+use Rattle.std.specs.Prelude.{ℕ, ◌==◌, List, [], ◌∷◌, ◌++◌, length, flat_map, codes, decimal, if◌then◌else◌, nat_lt, Option, Some, None, Result, Ok, Err}
 use Rattle.flat_model.specs.Scripts.Errnos.{errno_number, name_of}
-use Rattle.flat_model.specs.Scripts.Grammar.{address_text}
 use Rattle.flat_model.specs.declared.counters.Counters.{Counters}
 use Rattle.flat_model.specs.declared.errno.Errno.{Errno}
 use Rattle.flat_ether.specs.declared.claim.AddressState.{AddressState}
 use Rattle.flat_ether.specs.declared.claim.AddressState.TheVariants as state
 use Rattle.flat_ether.specs.declared.error.NetFault.{NetFault}
 use Rattle.flat_ether.specs.declared.error.NetFault.TheVariants as net
-use Rattle.flat_ether.specs.declared.link.Link.{Link}
-use Rattle.flat_ether.specs.declared.mac.Mac.{Mac}
 use Rattle.flat_ether.specs.declared.neighbour.Neighbour.{Neighbour}
-use Rattle.flat_ether.specs.declared.sizes.TheConstants.{ARP_TRIES, NEIGHBOURS}
 use Rattle.flat_ether.specs.declared.tallies.Tallies.{Tallies}
 use Rattle.play_script.specs.Outcomes.{told, drops_text}
-use Rattle.play_text.specs.Pieces.{amount, mac_text}
 use Rattle.play_wire.specs.declared.link_count.LinkCount.{LinkCount}
 use Rattle.play_wire.specs.declared.link_count.LinkCount.TheVariants.{Ignored, Martians, BadArp, Conflicts, RepliesDropped, NoRoute, HeldDropped, Unresolved, TooLong, Echoes, Unreachable, Limited, IcmpDropped}
 
 -- ---- neighbours
-
--- where a neighbour is; or how often it was asked for, and how many packets wait for that
-abbrev pub known_text : Option Mac → ℕ → ℕ → ℕ → List ℕ
-known_text (Some mac) ticks tries waiting =
-    codes " is at " ++ mac_text mac ++ codes ", " ++ amount ticks (codes "tick") ++ codes " left"
-known_text None ticks tries waiting =
-    codes " is asked for, " ++ decimal tries ++ codes " of " ++ decimal ARP_TRIES ++ codes " requests sent, "
-    ++ decimal waiting ++ (if waiting == 1 then codes " packet waits" else codes " packets wait")
-
--- a neighbour that is known or asked for, by how many packets wait for it
-abbrev pub neighbour_line : (ℕ → ℕ) → Neighbour → List ℕ
-neighbour_line waiting it =
-    codes "    " ++ address_text it.ip ++ known_text it.mac it.ticks it.tries (waiting it.ip) ++ codes "\n"
-
--- of the first 32, which is all that a table has
-abbrev pub neighbour_lines : (ℕ → ℕ) → List Neighbour → List ℕ
-neighbour_lines waiting neighbours = flat_map (neighbour_line waiting) (take NEIGHBOURS neighbours)
 
 abbrev pub neighbours_text : List Neighbour → List ℕ
 neighbours_text neighbours =
@@ -91,16 +69,6 @@ all_link_counts =
     ∷ IcmpDropped
     ∷ []
 
--- a count is told unless it's 0
-abbrev pub count_line : Tallies → LinkCount → List ℕ
-count_line it which =
-    if nat_lt 0 (link_count which it)
-    then codes "    " ++ link_count_name which ++ codes " " ++ decimal (link_count which it) ++ codes "\n"
-    else []
-
-abbrev pub count_lines : Tallies → List ℕ
-count_lines it = flat_map (count_line it) all_link_counts
-
 -- a count that went up
 abbrev pub rise_text : Tallies → Tallies → LinkCount → List ℕ
 rise_text before after which =
@@ -117,19 +85,6 @@ abbrev pub state_text : AddressState → List ℕ
 state_text state.Probing = codes "probes for its address"
 state_text state.Conflict = codes "another host has its address"
 state_text state.InUse = codes "uses its address"
-
-abbrev pub gateway_text : Option ℕ → List ℕ
-gateway_text (Some gateway) = codes "gateway " ++ address_text gateway
-gateway_text None = codes "no gateway"
-
-abbrev pub link_line : Link → List ℕ
-link_line link =
-    codes "    " ++ mac_text link.mac ++ codes ", mask " ++ address_text link.mask ++ codes ", "
-    ++ gateway_text link.gateway ++ codes "\n"
-
--- its addresses, and what it has counted
-abbrev pub link_lines : Link → Tallies → List ℕ
-link_lines link tallies = link_line link ++ count_lines tallies
 
 -- ---- a frame, and an error
 

@@ -2,7 +2,6 @@
 use Rattle.std.specs.Prelude.{◌≡◌, ◌≢◌, ◌⊎◌, ℕ, Bool, true, false, List, [], ◌∷◌, ◌++◌, codes, map, replicate, slice_get, Option, Some, None, Result}
 use Rattle.std.specs.List.{find}
 use Rattle.flat_ether.specs.Claims.{address_state}
-use Rattle.ether_host.specs.View.{held_for}
 use Rattle.flat_ether.specs.Links.{LinkState}
 use Rattle.flat_ether.specs.declared.error.NetFault.{NetFault}
 use Rattle.flat_model.specs.Machine.Event.{Tick, Done}
@@ -13,7 +12,7 @@ use Rattle.segment.specs.Frames.{IsAskedError, IsHeard}
 use Rattle.segment.specs.Law.{Act, AreActs, AgesLink, AsksError, Calls, Ether, HearsFrame}
 use Rattle.segment.specs.Segment.{SegmentView}
 use Rattle.play_wire.specs.Acts.{IsStackLine, Outcome, Told, Refused, call_turn}
-use Rattle.play_wire.specs.LinkTexts.{error_text, heard_text, link_lines, neighbour_lines, neighbours_text, state_text}
+use Rattle.play_wire.specs.LinkTexts.{error_text, heard_text, neighbours_text, state_text}
 use Rattle.play_wire.specs.Verbs.{IsOneNumber, IsTickCount}
 use Rattle.play_wire.specs.declared.fault.Fault.{Fault}
 use Rattle.play_wire.specs.declared.fault.Fault.TheVariants as fault
@@ -74,9 +73,9 @@ is_for_link (Some link) ask = true
 abbrev pub IsRefusal : Fault → SegmentView → List Act → Outcome → SegmentView → Type 0
 IsRefusal reason v acts outcome w = (acts ≡ []) × (outcome ≡ Refused reason) × (w ≡ v)
 
--- something is shown, and nothing changes
-abbrev pub IsShown : List ℕ → List ℕ → SegmentView → List Act → Outcome → SegmentView → Type 0
-IsShown text below v acts outcome w = (acts ≡ []) × (outcome ≡ Told text below) × (w ≡ v)
+-- something is shown, with some lines below it, and nothing changes
+abbrev pub IsShown : List ℕ → SegmentView → List Act → Outcome → SegmentView → Type 0
+IsShown text v acts outcome w = (acts ≡ []) × ((below : List ℕ) × (outcome ≡ Told text below)) × (w ≡ v)
 
 -- the stack and the link of the host at a place
 abbrev pub IsHostAt : ℕ → SegmentView → StackView → LinkState → Type 0
@@ -104,10 +103,9 @@ abbrev pub DoesAtLink : ℕ → LinkAsk → LinkState → SegmentView → List A
 DoesAtLink place (Frame frame) link v acts outcome w = IsFrameHeard place frame v acts outcome w
 DoesAtLink place (LastError fd) link v acts outcome w = IsErrorTold place fd v acts outcome w
 DoesAtLink place Neighbours link v acts outcome w =
-    IsShown (neighbours_text link.neighbours) (neighbour_lines (λ hop. held_for hop link) link.neighbours) v acts
-    outcome w
+    IsShown (neighbours_text link.neighbours) v acts outcome w
 DoesAtLink place Counts link v acts outcome w =
-    IsShown (state_text (address_state link.claim)) (link_lines link.link link.tallies) v acts outcome w
+    IsShown (state_text (address_state link.claim)) v acts outcome w
 DoesAtLink place (Ticks n) link v acts outcome w =
     AreActs v acts w × (acts ≡ ticks_at place n) × (outcome ≡ Told (codes "ok") [])
 DoesAtLink place Packets link v acts outcome w = IsRefusal fault.OnEthernet v acts outcome w

@@ -2,7 +2,7 @@
 ghost use Rattle.segment.specs.Inside.{view};
 ghost use Rattle.play_wire.specs.Acts.{AreLedTo};
 
-use crate::capture::{Capture, collect};
+use crate::capture_out::{Capture, collect};
 use crate::halves::deliver;
 use crate::log::Log;
 use crate::names::NAME;

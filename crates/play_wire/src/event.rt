@@ -2,10 +2,10 @@
 use crate::add::{add, add_number};
 use crate::names::NAME;
 use crate::objects::{OBJECTS, Told, add_object};
-use crate::passed::add_words;
-use crate::show::{add_frame, name_at};
+use crate::show::name_at;
 use crate::verdict::Verdict;
 use play_show::SHOWN;
+use play_text::add_frame;
 use script_loop::Buffer;
 
 /// Room for a packet or a fate in a line.
@@ -39,7 +39,7 @@ pub(crate) fn add_packet(text: &mut Buffer<SHOWN>, name: &[u8], packet: &[u8], e
     if ether {
         add_frame(text, packet);
     } else {
-        add_words(text, packet);
+        play_text::add_packet(text, packet);
     }
     add(text, b"\n");
 }
@@ -70,9 +70,7 @@ pub(crate) fn add_events(
     for event in events {
         if event.number == number {
             any = true;
-            if has_room(text) {
-                add_event(text, names, &event.happened);
-            }
+            add_event(text, names, &event.happened);
         }
     }
     if !any {

@@ -5,7 +5,7 @@ ghost use Rattle.segment.specs.Chances.{seeded};
 ghost use Rattle.segment.specs.Segment.{no_hosts};
 ghost use Rattle.play_wire.specs.Acts.{AreLedTo};
 
-use crate::capture::{self, Capture};
+use crate::capture_out::{self, Capture};
 use crate::fault::Fault;
 use crate::halves::join;
 use crate::link::{check_link, link_of};
@@ -118,11 +118,11 @@ impl<T: Sink + Drop> Hosts<T> {
             × (h.names.items ≡ [])) }
     {
         let Ok(log) = Log::new(alloc) else {
-            capture::end(capture);
+            capture_out::end(capture);
             return None;
         };
         let Ok(mut segment) = Segment::new(alloc, PACKETS) else {
-            capture::end(capture);
+            capture_out::end(capture);
             return None;
         };
         segment.seed(seed);
@@ -139,7 +139,7 @@ impl<T: Sink + Drop> Hosts<T> {
             }),
             None => {
                 segment.end();
-                capture::end(capture);
+                capture_out::end(capture);
                 None
             }
         }
@@ -219,6 +219,6 @@ impl<T: Sink + Drop> Hosts<T> {
         } = self;
         spare.end();
         segment.end();
-        capture::end(capture)
+        capture_out::end(capture)
     }
 }

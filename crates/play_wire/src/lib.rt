@@ -4,7 +4,7 @@
 #![tactic(auto)]
 
 mod add;
-mod capture;
+mod capture_out;
 mod carries;
 mod chance;
 mod event;

@@ -38,7 +38,9 @@ fn add_bytes(objects: &mut Buffer<OBJECTS>, bytes: &[u8]) {
     for byte in bytes {
         let mut digits = [0; 2];
         let _ = hex::encode_to_slice([*byte], &mut digits);
-        add(objects, &digits);
+        if objects.len() <= OBJECTS - digits.len() {
+            objects.append(&digits);
+        }
     }
     add(objects, b"\"");
 }

@@ -10,15 +10,10 @@ use crate::spare::Counting;
 use crate::summary::counters_at;
 use flat_model::Counters;
 use net_stack::Stack;
-use params::IP_MAX_PACKET;
 use play_script::{DROPS, bytes_of, put_drops};
 use play_show::SHOWN;
-use play_text::put_packet;
 use script_loop::Buffer;
 use segment::{Segment, Tally};
-
-/// Room for a packet in words.
-const PACKET_TEXT: usize = 174;
 
 /// What was counted of a host.
 #[derive(Clone, Copy)]
@@ -55,13 +50,6 @@ pub(crate) fn take_counts(segment: &mut Segment, spare: &mut Stack, counts: &mut
     for place in 0..counts.len() {
         let now = counted_at(segment, spare, place);
         counts[place] = now;
-    }
-}
-
-/// Puts the words of a packet after a text, if there is room for them.
-pub(crate) fn add_words(text: &mut Buffer<SHOWN>, packet: &[u8]) {
-    if packet.len() <= IP_MAX_PACKET as usize && text.len() <= SHOWN - PACKET_TEXT {
-        put_packet(text, packet);
     }
 }
 

@@ -12,7 +12,7 @@ ghost use Rattle.play_wire.specs.Inside.{play_with};
 ghost use Rattle.play_wire.specs.Runs.{IsPlayed};
 ghost use Rattle.play_wire.specs.Tells.{WirePlay, Tells, wire_started};
 
-use crate::capture::Capture;
+use crate::capture_out::Capture;
 use crate::hosts::Hosts;
 use crate::player::Player;
 use crate::target::Target;

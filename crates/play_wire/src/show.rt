@@ -2,18 +2,15 @@
 use crate::add::{add, add_number};
 use crate::names::NAME;
 use byteorder::{BigEndian, ByteOrder};
-use params::{IP_HEADER, IP_MAX_PACKET};
+use params::IP_HEADER;
 use play_script::TOLD;
 use play_show::SHOWN;
-use play_text::put_frame;
+use play_text::add_frame;
 use script_loop::Buffer;
 use segment::{Segment, UnderWay};
 
 /// The most packets that are told.
 const MOST: usize = 200;
-
-/// Room for a frame in words.
-const FRAME_TEXT: usize = 214;
 
 /// An IP header without options.
 type Header = [u8; IP_HEADER as usize];
@@ -62,13 +59,6 @@ fn add_packet(text: &mut Buffer<SHOWN>, packet: &[u8]) {
     add(text, b" bytes, id ");
     add_number(text, u64::from(BigEndian::read_u16(&header[4..])));
     add_part(text, &header);
-}
-
-/// Puts the words of a frame after a text, if there is room for them.
-pub(crate) fn add_frame(text: &mut Buffer<SHOWN>, frame: &[u8]) {
-    if frame.len() <= IP_MAX_PACKET as usize && text.len() <= SHOWN - FRAME_TEXT {
-        put_frame(text, frame);
-    }
 }
 
 /// Puts a packet or a frame that is under way after a text, as a line.

@@ -8,33 +8,12 @@ use crate::add::{add, add_number};
 use crate::names::NAME;
 use crate::show::name_at;
 use crate::ticks::exchange;
-use flat_model::{Counter, Counters, Why};
+use flat_model::{Counter, Counters};
 use net_stack::Stack;
 use play_show::SHOWN;
+use play_text::causes;
 use script_loop::Buffer;
 use segment::{Segment, Tally};
-
-/// Why packets are dropped.
-const CAUSES: [Why; 18] = [
-    Why::TooSmall,
-    Why::BadVersion,
-    Why::BadHeaderLength,
-    Why::Options,
-    Why::BadSum,
-    Why::BadLength,
-    Why::TooShort,
-    Why::CantForward,
-    Why::BadFragment,
-    Why::FragmentDropped,
-    Why::NoProtocol,
-    Why::UdpHeaderDrops,
-    Why::UdpBadLength,
-    Why::UdpBadSum,
-    Why::UdpNoPort,
-    Why::UdpNoPortBroadcast,
-    Why::UdpFullSocket,
-    Why::NoBufs,
-];
 
 /// Puts a count after a text.
 fn add_count(text: &mut Buffer<SHOWN>, what: &[u8], count: u64) {
@@ -44,7 +23,7 @@ fn add_count(text: &mut Buffer<SHOWN>, what: &[u8], count: u64) {
 
 /// Puts after a text how many packets were dropped, by the counters that count them.
 fn add_drops(text: &mut Buffer<SHOWN>, counters: &Counters) {
-    for why in CAUSES {
+    for why in causes() {
         let count = counters.value(why.counter());
         if count != 0 {
             add(text, b", ");

@@ -1,117 +1,57 @@
 //! What the link of a host knows and has counted, in words.
-ghost use Rattle.std.specs.Prelude.{◌≡◌, ◌+◌, ◌≤◌, ◌++◌, length, slice_get, take};
-ghost use Rattle.flat_ether.specs.declared.sizes.TheConstants.{NEIGHBOURS};
-ghost use Rattle.play_wire.specs.Inside.{held_by};
-ghost use Rattle.play_wire.specs.LinkTexts.{count_line, count_lines, error_text, gateway_text, heard_text, known_text, link_line, link_lines, neighbour_line, neighbour_lines, neighbours_text, rise_text, rises_text, state_text};
+ghost use Rattle.std.specs.Prelude.{◌≡◌, ◌+◌, ◌≤◌, ◌++◌, length};
+ghost use Rattle.play_wire.specs.LinkTexts.{error_text, heard_text, neighbours_text, rise_text, rises_text, state_text};
 ghost use Rattle.play_script.specs.Outcomes.{told as told_of};
-ghost use Rattle.segment.specs.Inside.{view};
 ghost use Rattle.std.specs.Prelude.{codes};
 
 use crate::link_count::{LinkCount, link_counts};
-use flat_ether::{ARP_TRIES, NEIGHBOURS};
+use flat_ether::ARP_TRIES;
 use flat_model::{Counters, Errno};
 use play_script::{DROPS, TOLD, bytes_of, put_drops};
 use play_show::SHOWN;
 use play_text::Piece::{Address, Amount, Either, Hardware, Long, Number, Text};
-use play_text::put;
+use play_text::{add, put};
 use script_loop::Buffer;
 use segment::{AddressState, Link, Mac, Neighbour, NetFault, Segment, Tallies};
 
 // ---- neighbours
 
-/// Puts the hardware address of a neighbour after the text.
-fn put_place(text: &mut Buffer<SHOWN>, mac: Mac, ticks: u16)
-    requires { length text.old + 60 ≤ SHOWN }
-    ensures items { text.new ≡ text.old ++ known_text (Some mac) ticks 0 0 }
-    ensures len { length text.new ≤ length text.old + 60 }
-{
-    put(
-        text,
-        &[
-            Text(b" is at "),
-            Hardware(mac),
-            Text(b", "),
-            Amount(u32::from(ticks), b"tick"),
-            Text(b" left"),
-        ],
-    );
-}
-
-/// Puts after the text how often a neighbour was asked for, and how many packets wait for that.
-fn put_asked(text: &mut Buffer<SHOWN>, tries: u8, waiting: usize)
-    requires { length text.old + 110 ≤ SHOWN }
-    ensures items { text.new ≡ text.old ++ known_text None 0 tries waiting }
-    ensures len { length text.new ≤ length text.old + 110 }
-{
-    put(
-        text,
-        &[
-            Text(b" is asked for, "),
-            Number(u32::from(tries)),
-            Text(b" of "),
-            Number(u32::from(ARP_TRIES)),
-            Text(b" requests sent, "),
-            Long(waiting as u64),
-            Either(waiting == 1, b" packet waits", b" packets wait"),
-        ],
-    );
-}
-
 /// Puts after the text where a neighbour is; or how often it was asked for, and how many packets wait for that.
-fn put_known(text: &mut Buffer<SHOWN>, it: &Neighbour, waiting: usize)
-    requires { length text.old + 110 ≤ SHOWN }
-    ensures items { text.new ≡ text.old ++ known_text it.now.mac it.now.ticks it.now.tries waiting }
-    ensures len { length text.new ≤ length text.old + 110 }
-{
+fn add_known(text: &mut Buffer<SHOWN>, it: &Neighbour, waiting: usize) {
     match it.mac {
-        Some(mac) => put_place(text, mac, it.ticks),
-        None => put_asked(text, it.tries, waiting),
+        Some(mac) => add(
+            text,
+            &[
+                Text(b" is at "),
+                Hardware(mac),
+                Text(b", "),
+                Amount(u32::from(it.ticks), b"tick"),
+                Text(b" left"),
+            ],
+        ),
+        None => add(
+            text,
+            &[
+                Text(b" is asked for, "),
+                Number(u32::from(it.tries)),
+                Text(b" of "),
+                Number(u32::from(ARP_TRIES)),
+                Text(b" requests sent, "),
+                Long(waiting as u64),
+                Either(waiting == 1, b" packet waits", b" packets wait"),
+            ],
+        ),
     }
 }
 
-/// How many packets of the host at a place wait for the hardware address of a next hop.
-#[tactic(auto, using(crate::proofs::LinkLemmas::held_there, crate::proofs::LinkLemmas::held_nowhere))]
-fn held_at(segment: &Segment, place: usize, hop: u32) -> usize
-    ensures { result ≡ held_by (slice_get (view segment.now).links place) hop }
-{
-    match segment.held_for(place, hop) {
-        Some(waiting) => waiting,
-        None => 0,
-    }
-}
-
-/// Puts the line of a neighbour of the host at a place after the text.
-fn put_neighbour(text: &mut Buffer<SHOWN>, segment: &Segment, place: usize, it: &Neighbour)
-    requires { length text.old + 130 ≤ SHOWN }
-    ensures items { text.new ≡ text.old
-        ++ neighbour_line (held_by (slice_get (view segment.now).links place)) it.now }
-    ensures len { length text.new ≤ length text.old + 130 }
-{
-    put(text, &[Text(b"    "), Address(it.ip)]);
-    put_known(text, it, held_at(segment, place, it.ip));
-    text.append(b"\n");
-}
-
-/// The first so many neighbours.
-#[tactic(auto, using(std::proofs::lemmas::List::take_all))]
-fn first(neighbours: &[Neighbour], most: usize) -> &[Neighbour]
-    ensures is { result.now ≡ take most neighbours.now }
-    ensures most { length result.now ≤ most }
-{
-    if neighbours.len() <= most {
-        neighbours
-    } else {
-        &neighbours[..most]
-    }
-}
-
-/// Puts the lines of neighbours of the host at a place into a buffer, of which there are 32 at most.
-fn put_lines(text: &mut Buffer<SHOWN>, segment: &Segment, place: usize, neighbours: &[Neighbour])
-    ensures { text.new ≡ neighbour_lines (held_by (slice_get (view segment.now).links place)) neighbours.now }
-{
+/// Puts a line into a buffer for each neighbour of the host at a place.
+fn put_lines(text: &mut Buffer<SHOWN>, segment: &Segment, place: usize, neighbours: &[Neighbour]) {
     text.clear();
-    for neighbour in first(neighbours, NEIGHBOURS) {
-        put_neighbour(text, segment, place, neighbour);
+    for neighbour in neighbours {
+        let waiting = segment.held_for(place, neighbour.ip).unwrap_or(0);
+        add(text, &[Text(b"    "), Address(neighbour.ip)]);
+        add_known(text, neighbour, waiting);
+        add(text, &[Text(b"\n")]);
     }
 }
 
@@ -123,9 +63,7 @@ pub(crate) fn tell_neighbours(
     place: usize,
     neighbours: &[Neighbour],
 )
-    ensures told { told.new ≡ neighbours_text neighbours.now }
-    ensures below { below.new
-        ≡ neighbour_lines (held_by (slice_get (view segment.now).links place)) neighbours.now }
+    ensures { told.new ≡ neighbours_text neighbours.now }
 {
     let len = neighbours.len();
     told.clear();
@@ -141,25 +79,9 @@ pub(crate) fn tell_neighbours(
 
 // ---- a link
 
-/// Puts the gateway of a link after the text.
-fn put_gateway(text: &mut Buffer<SHOWN>, gateway: Option<u32>)
-    requires { length text.old + 24 ≤ SHOWN }
-    ensures items { text.new ≡ text.old ++ gateway_text gateway }
-    ensures len { length text.new ≤ length text.old + 24 }
-{
-    match gateway {
-        Some(gateway) => put(text, &[Text(b"gateway "), Address(gateway)]),
-        None => text.append(b"no gateway"),
-    }
-}
-
 /// Puts the addresses of a link after the text, as a line.
-fn put_link(text: &mut Buffer<SHOWN>, link: &Link)
-    requires { length text.old + 80 ≤ SHOWN }
-    ensures items { text.new ≡ text.old ++ link_line link.now }
-    ensures len { length text.new ≤ length text.old + 80 }
-{
-    put(
+fn add_link(text: &mut Buffer<SHOWN>, link: &Link) {
+    add(
         text,
         &[
             Text(b"    "),
@@ -169,48 +91,26 @@ fn put_link(text: &mut Buffer<SHOWN>, link: &Link)
             Text(b", "),
         ],
     );
-    put_gateway(text, link.gateway);
-    text.append(b"\n");
-}
-
-/// Puts a count after the text, as a line, unless it's 0.
-fn put_count(text: &mut Buffer<SHOWN>, tallies: &Tallies, which: LinkCount)
-    requires { length text.old + 60 ≤ SHOWN }
-    ensures items { text.new ≡ text.old ++ count_line tallies.now which }
-    ensures len { length text.new ≤ length text.old + 60 }
-{
-    let value = which.value(tallies);
-    if 0 < value {
-        put(
-            text,
-            &[
-                Text(b"    "),
-                Text(which.name().as_bytes()),
-                Text(b" "),
-                Long(value),
-                Text(b"\n"),
-            ],
-        );
+    match link.gateway {
+        Some(gateway) => add(text, &[Text(b"gateway "), Address(gateway), Text(b"\n")]),
+        None => add(text, &[Text(b"no gateway\n")]),
     }
 }
 
-/// Puts the lines of what a link has counted after the text.
-fn put_counts(text: &mut Buffer<SHOWN>, tallies: &Tallies)
-    requires { length text.old + 800 ≤ SHOWN }
-    ensures { text.new ≡ text.old ++ count_lines tallies.now }
-{
-    for which in link_counts() {
-        put_count(text, tallies, which);
-    }
-}
-
-/// Puts the lines of a link into a buffer: its addresses, and what it has counted.
-fn put_link_lines(text: &mut Buffer<SHOWN>, link: &Link, tallies: &Tallies)
-    ensures { text.new ≡ link_lines link.now tallies.now }
-{
+/// Puts the lines of a link into a buffer: its addresses, and each count that isn't 0.
+fn put_link_lines(text: &mut Buffer<SHOWN>, link: &Link, tallies: &Tallies) {
     text.clear();
-    put_link(text, link);
-    put_counts(text, tallies);
+    add_link(text, link);
+    for which in link_counts() {
+        let value = which.value(tallies);
+        if 0 < value {
+            let name = Text(which.name().as_bytes());
+            add(
+                text,
+                &[Text(b"    "), name, Text(b" "), Long(value), Text(b"\n")],
+            );
+        }
+    }
 }
 
 /// How far a host is with its address, in words.
@@ -233,8 +133,7 @@ pub(crate) fn tell_link(
     link: &Link,
     tallies: &Tallies,
 )
-    ensures told { told.new ≡ state_text state }
-    ensures below { below.new ≡ link_lines link.now tallies.now }
+    ensures { told.new ≡ state_text state }
 {
     told.clear();
     told.append(words_for(state));

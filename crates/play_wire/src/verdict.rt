@@ -1,11 +1,17 @@
-//! What came of a packet at a host, by looks at the host before and after it.
+//! What a packet did to a host, by looks at the host before and after it.
+ghost use Rattle.std.specs.Prelude.{◌≡◌};
+ghost use Rattle.net_stack.specs.Stack.{state_of};
+ghost use Rattle.play_show.specs.Changes.{HasBecome, IsSnapshot};
+ghost use Rattle.play_wire.specs.Verdicts as verdicts;
+ghost use Rattle.play_text.specs.Fates.{is_some_true};
+ghost use Rattle.stack_call.specs.Moves.{StackSteps};
+
 use crate::add::{add, add_number};
-use crate::link_count::link_counts;
-use flat_model::Counter;
+use crate::link_count::{LinkCount, link_counts};
 use net_stack::Stack;
 use params::{FIRST_DESCRIPTOR, MAX_SOCKETS};
-use play_records::{CAUSES, causes, rose, words_for};
-use play_show::{SHOWN, Snapshot, snapshot_of};
+use play_show::{Became, SHOWN, Snapshot, became_of, snapshot_of};
+use play_text::{CAUSES, Fate, causes, is_any, words_for};
 use script_loop::Buffer;
 use segment::Tallies;
 
@@ -15,7 +21,7 @@ const SOCKETS: usize = MAX_SOCKETS as usize;
 /// How many counts a link has.
 const COUNTS: usize = 13;
 
-/// What was looked at of a host.
+/// A look at a host: at its stack, and at what its link counted.
 #[derive(Clone, Copy)]
 pub(crate) struct Look {
     stack: Snapshot,
@@ -24,7 +30,10 @@ pub(crate) struct Look {
 
 impl Look {
     /// Looks at a host.
-    pub(crate) fn at(stack: &Stack, link: Tallies) -> Look {
+    pub(crate) fn at(stack: &Stack, link: Tallies) -> Look
+        ensures stack { IsSnapshot StackSteps (state_of stack.now) result.stack }
+        ensures link { result.link ≡ link }
+    {
         Look {
             stack: snapshot_of(stack),
             link,
@@ -32,62 +41,31 @@ impl Look {
     }
 }
 
-/// What came of a packet at a host.
+/// What a packet did to a host.
 #[derive(Clone, Copy)]
 pub(crate) struct Verdict {
-    /// Whether it was dropped, by the places of the causes.
-    drops: [bool; CAUSES],
-    /// Whether more datagrams wait in a socket, by the places of the sockets.
-    sockets: [bool; SOCKETS],
-    /// What the host's link counted.
+    became: Became,
+    /// Which of the link's counts went up, in the order of [`link_counts`].
     counted: [bool; COUNTS],
-    /// Whether it's a fragment that is kept.
-    kept: bool,
-    /// Whether it was the last fragment of its datagram that was missing.
-    whole: bool,
 }
 
-/// Why packets were dropped.
-fn drops_between(before: &Look, after: &Look) -> [bool; CAUSES] {
-    let whys = causes();
-    let mut drops = [false; CAUSES];
-    for place in 0..CAUSES {
-        drops[place] = rose(
-            whys[place].counter(),
-            &before.stack.counters,
-            &after.stack.counters,
-        );
-    }
-    drops
+/// Whether a count of the link went up.
+fn is_counted(which: LinkCount, before: &Tallies, after: &Tallies) -> bool
+    ensures { result ≡ verdicts.is_counted before.now after.now which }
+{
+    which.value(before) < which.value(after)
 }
 
-/// In which sockets more datagrams wait.
-fn sockets_between(before: &Look, after: &Look) -> [bool; SOCKETS] {
-    let mut sockets = [false; SOCKETS];
-    for place in 0..SOCKETS {
-        sockets[place] = before.stack.waiting[place] < after.stack.waiting[place];
-    }
-    sockets
-}
-
-/// What the link counted.
-fn counts_between(before: &Look, after: &Look) -> [bool; COUNTS] {
+/// Which of the link's counts went up.
+fn counts_between(before: &Tallies, after: &Tallies) -> [bool; COUNTS]
+    ensures { result ≡ verdicts.counted_between before.now after.now }
+{
     let which = link_counts();
     let mut counted = [false; COUNTS];
-    for place in 0..COUNTS {
-        counted[place] = which[place].value(&before.link) < which[place].value(&after.link);
+    'places: for place in 0..COUNTS {
+        counted[place] = is_counted(which[place], before, after);
     }
     counted
-}
-
-/// Whether any of these is true.
-fn is_any(all: &[bool]) -> bool {
-    for it in all {
-        if *it {
-            return true;
-        }
-    }
-    false
 }
 
 /// Puts the numbers of the sockets after a text to which a datagram was delivered.
@@ -127,47 +105,49 @@ fn add_counted(text: &mut Buffer<SHOWN>, counted: &[bool; COUNTS]) {
 }
 
 impl Verdict {
-    /// By these two looks.
-    pub(crate) fn of(before: &Look, after: &Look) -> Verdict {
-        let drops = drops_between(before, after);
-        let (old, new) = (&before.stack.counters, &after.stack.counters);
-        let whole = rose(Counter::IpReassembled, old, new);
+    /// By looks at the host before the packet and after it.
+    pub(crate) fn of(before: &Look, after: &Look) -> Verdict
+        ensures became { HasBecome before.now.stack after.now.stack result.became }
+        ensures counted { result.counted ≡ verdicts.counted_between before.now.link after.now.link }
+    {
         Verdict {
-            drops,
-            sockets: sockets_between(before, after),
-            counted: counts_between(before, after),
-            kept: rose(Counter::IpFragments, old, new) && !whole && !is_any(&drops),
-            whole,
+            became: became_of(&before.stack, &after.stack),
+            counted: counts_between(&before.link, &after.link),
         }
     }
 
     /// Whether the packet was dropped, or a copy of it.
-    pub(crate) fn is_dropped(&self) -> bool {
-        is_any(&self.drops)
+    pub(crate) fn is_dropped(&self) -> bool
+        ensures { result ≡ is_some_true self.now.became.drops }
+    {
+        is_any(&self.became.drops)
     }
 
     /// Puts why it was dropped after a text, `first` in front of the first cause.
     pub(crate) fn put_causes<const N: usize>(&self, text: &mut Buffer<N>, first: &'static [u8]) {
-        add_causes(text, first, &self.drops);
+        add_causes(text, first, &self.became.drops);
     }
 
     /// What came of the packet, in a word.
-    pub(crate) fn word(&self) -> &'static [u8] {
-        if is_any(&self.sockets) {
+    pub(crate) fn word(&self) -> &'static [u8]
+        ensures { result.now ≡ verdicts.word_of self.now.became }
+    {
+        if is_any(&self.became.delivered) {
             b"delivered"
         } else if self.is_dropped() {
             b"dropped"
-        } else if self.kept {
-            b"kept"
         } else {
-            b"received"
+            match self.became.fate {
+                Fate::Kept => b"kept",
+                Fate::Whole | Fate::Other => b"received",
+            }
         }
     }
 
     /// Puts what the host did after a text that ends with its name.
     pub(crate) fn put(&self, text: &mut Buffer<SHOWN>) {
-        let (delivered, dropped) = (is_any(&self.sockets), is_any(&self.drops));
-        let what = if self.whole {
+        let (delivered, dropped) = (is_any(&self.became.delivered), self.is_dropped());
+        let what = if matches!(self.became.fate, Fate::Whole) {
             b" the whole datagram".as_slice()
         } else {
             b" it"
@@ -175,7 +155,7 @@ impl Verdict {
         if delivered {
             add(text, b" delivered");
             add(text, what);
-            add_sockets(text, &self.sockets);
+            add_sockets(text, &self.became.delivered);
         }
         if dropped {
             add(
@@ -194,12 +174,12 @@ impl Verdict {
                     what
                 },
             );
-            add_causes(text, b": ", &self.drops);
+            add_causes(text, b": ", &self.became.drops);
         }
         if !delivered && !dropped {
             add(
                 text,
-                if self.kept {
+                if matches!(self.became.fate, Fate::Kept) {
                     b" kept it until its datagram is whole".as_slice()
                 } else {
                     b" received it"

@@ -3,7 +3,7 @@
 //! numbers, times and lengths of them.
 use crate::captures::COOKED;
 use crate::pcapng_blocks::{BIG, MERGED};
-use capture_file::{Fault, LinkType, ROOM, Records, Why};
+use capture::{Fault, LinkType, ROOM, Records, Why};
 use script_loop::Buffer;
 use std::alloc::{AllocError, Global};
 
@@ -125,20 +125,26 @@ fn has_fault(records: &mut Records<&[u8]>, count: u64, wanted: Fault) -> bool {
 fn names_what_is_wrong(rt: HostRuntime) {
     let files: [Faulty<'_>; 7] = [
         (&[0x1f, 0x8b, 8, 0], &[], 0, Why::Gzip, 0),
-        (&[], &[], 0, Why::Classic(pcap::Why::HeaderCut), 0),
-        (&BIG[1..], &[], 0, Why::Classic(pcap::Why::BadMagic), 0),
+        (&[], &[], 0, Why::Classic(capture::pcap::Why::HeaderCut), 0),
+        (
+            &BIG[1..],
+            &[],
+            0,
+            Why::Classic(capture::pcap::Why::BadMagic),
+            0,
+        ),
         (
             &COOKED[..120],
             &[],
             1,
-            Why::Classic(pcap::Why::BytesCut),
+            Why::Classic(capture::pcap::Why::BytesCut),
             98,
         ),
         (
             &BIG,
             &MERGED[..330],
             2,
-            Why::Block(pcapng::Why::BlockCut),
+            Why::Block(capture::pcapng::Why::BlockCut),
             392,
         ),
         (&MERGED[..156], &MERGED[188..], 1, Why::NoInterface, 232),

@@ -1,7 +1,7 @@
 //! Bytes from outside: scapy 2.5.0 wrote the files (`PcapWriter` with `linktype`, `nano` and `endianness`) and the
 //! frames. tcpdump 4.99.3 reads each of them, and `tcpdump -r FILE -w OTHER` writes `TAGGED` and `RAW_IPV4` again byte
 //! by byte.
-use pcap::{
+use capture::pcap::{
     Header, LinkType, NoPacket, Order, Reader, Record, Resolution, file_header, ipv4_packet, read,
     record_header,
 };

@@ -1,10 +1,10 @@
-//! What frames say in words. scapy 2.5.0 made all but the cut ones; tshark 4.0 reads the same hardware addresses,
-//! types, requests, answers, ports and lengths in them.
+//! Descriptions of frames. scapy 2.5.0 made all frames except the truncated ones; tshark 4.0 reads the same hardware
+//! addresses, types, requests, replies, ports and lengths in them.
 use play_text::put_frame;
 use script_loop::Buffer;
 use std::alloc::Global;
 
-/// A frame, and its words.
+/// A frame, and its description.
 static FRAMES: [(&str, &str); 13] = [
     (
         "ffffffffffff020000000001080600010800060400010200000000010a0000010000000000000a000002",
@@ -65,7 +65,7 @@ static FRAMES: [(&str, &str); 13] = [
     ),
 ];
 
-/// Whether a frame has these words.
+/// Returns whether a frame has this description.
 fn says(alloc: Global, text: &mut Buffer<256>, frame: &str, words: &str) -> bool {
     let Ok(bytes) = hex::decode(alloc, frame) else {
         return false;

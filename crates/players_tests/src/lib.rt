@@ -1,5 +1,5 @@
-//! Tests of scripts, and what the players' lines, packets and captures become, over the contracts of their crates
-//! alone: so they're checked apart from these, and these aren't checked twice.
+//! Tests of scripts, and of the players' lines, packets and captures, over only the contracts of their crates. So they
+//! are checked separately from those crates, which aren't checked twice.
 #![tactic(auto)]
 
 #[cfg(test)]

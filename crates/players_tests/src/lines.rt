@@ -1,9 +1,9 @@
-//! Which plain line a line stands for, what is wrong with a line that stands for none, and the words of a plain line.
+//! The plain lines of lines, the errors in lines without a plain line, and the words of a plain line.
 use play_line::{LONGEST, Reader, put_shown};
 use script_loop::{Buffer, first_word, is_end, one, three, two};
 use std::process::Abort;
 
-/// Lines, and the plain lines that they stand for.
+/// Lines, and their plain lines.
 static PLAIN: [(&str, &str); 23] = [
     ("", ""),
     ("  \t\r", ""),
@@ -39,10 +39,10 @@ static PLAIN: [(&str, &str); 23] = [
     ("stat => stat ip.total=1", "stat => stat ip.total=1"),
 ];
 
-/// What is wrong with most of them.
+/// The error in most of them.
 const NOT_HEX: &str = "not a hex digit (a text stands in quotes: \"hi\")";
 
-/// Lines that stand for none, with what is wrong with them, and in which column.
+/// Lines with an error, the error, and its column.
 static FAULTY: [(&str, &str, u64); 33] = [
     ("rx 0g", NOT_HEX, 5),
     ("rx udq", NOT_HEX, 4),
@@ -79,7 +79,7 @@ static FAULTY: [(&str, &str, u64); 33] = [
     ("rx @65535+00", "more than 65535 bytes", 13),
 ];
 
-/// Lines, places in their plain lines, and the columns of the words that begin there.
+/// Lines, positions in their plain lines, and the columns of the words that begin there.
 static COLUMNS: [(&str, usize, u64); 5] = [
     ("  rx   00", 3, 8),
     ("rx \"ab\" + 00*2  id # x", 12, 17),
@@ -88,7 +88,7 @@ static COLUMNS: [(&str, usize, u64); 5] = [
     ("rx 00", 9, 6),
 ];
 
-/// Lines, and what is told of them.
+/// Lines, and the part of them that is printed.
 static SHOWN: [(&str, &str); 5] = [
     ("", ""),
     ("\t socket \r", "socket"),
@@ -100,7 +100,7 @@ static SHOWN: [(&str, &str); 5] = [
     ("rx \"a", "rx \"a"),
 ];
 
-/// Whether a line stands for this plain line.
+/// Returns whether a line has this plain line.
 fn is_plain(reader: &mut Reader, line: &str, wanted: &str) -> bool {
     match reader.plain_line(line.as_bytes()) {
         Ok(plain) => plain == wanted.as_bytes(),
@@ -108,7 +108,7 @@ fn is_plain(reader: &mut Reader, line: &str, wanted: &str) -> bool {
     }
 }
 
-/// Whether this is wrong with a line, in this column.
+/// Returns whether a line has this error in this column.
 fn is_faulty(reader: &mut Reader, line: &str, fault: &str, column: u64) -> bool {
     match reader.plain_line(line.as_bytes()) {
         Ok(_) => false,
@@ -132,7 +132,7 @@ fn tells_what_is_wrong(rt: HostRuntime) {
     }
 }
 
-/// How long a line's plain line is.
+/// Returns the length of a line's plain line.
 fn plain_len(reader: &mut Reader, line: &str) -> Option<usize> {
     match reader.plain_line(line.as_bytes()) {
         Ok(plain) => Some(plain.len()),
@@ -140,7 +140,7 @@ fn plain_len(reader: &mut Reader, line: &str) -> Option<usize> {
     }
 }
 
-/// A line has 65,535 bytes at most at one place, and its plain line 262,144.
+/// A line has at most 65,535 bytes of data, and its plain line at most 262,144.
 #[test]
 fn takes_long_lines(rt: HostRuntime) {
     let mut reader = Reader::new(rt.alloc()).expect(&rt, "memory");
@@ -159,7 +159,7 @@ fn tells_columns(rt: HostRuntime) {
     }
 }
 
-/// Whether this is told of a line.
+/// Returns whether this part of a line is printed.
 fn is_shown(text: &mut Buffer<LONGEST>, line: &str, wanted: &str) -> bool {
     if line.len() > 262_144 {
         return false;
@@ -176,14 +176,14 @@ fn shows_lines_as_written(rt: HostRuntime) {
     }
 }
 
-/// Plain lines, their first words, and whether no word, one, two or three come after these.
+/// Plain lines, their first words, and whether no word, one, two or three words follow.
 static WORDS: [(&str, &str, [bool; 4]); 3] = [
     ("cat 1 2", "cat", [false, false, true, false]),
     ("mbstat", "mbstat", [true, false, false, false]),
     ("mbstat ", "mbstat", [false, true, false, false]),
 ];
 
-/// Whether these words are read.
+/// Returns whether the line has these words.
 fn has_words(line: &str, first: &str, wanted: &[bool; 4]) -> bool {
     let (word, rest) = first_word(line.as_bytes());
     let come = [

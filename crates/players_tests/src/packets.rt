@@ -1,15 +1,15 @@
-//! Which packets lines name, and what is wrong with a line that names none.
+//! The packets that lines describe, and the errors in lines that don't describe one.
 use play_line::{LONGEST, Slip};
 use play_packet::{LineReader, PACKET};
 use script_loop::{Buffer, LineBuffers, put_hex};
 use std::alloc::Global;
 use std::process::Abort;
 
-/// What stands in front of the words of each line below.
+/// The text before the words of each line below.
 const FRONT: &str = "rx udp 10.0.0.2:5000 > 10.0.0.1:7 ";
 
-/// What more a line says, and its packet. The first eleven packets and the last three were made by scapy, and the
-/// others from these by hand.
+/// The rest of a line, and its packet. scapy made the first eleven packets and the last three; the others were made
+/// from these by hand.
 static PACKETS: [(&str, &str); 23] = [
     (
         "\"hi\"",
@@ -102,8 +102,8 @@ static PACKETS: [(&str, &str); 23] = [
     ),
 ];
 
-/// Lines that name packets between other ends, packets without a datagram, which scapy made, and lines that name none:
-/// they stay as they are.
+/// Lines with packets between other endpoints, packets without a datagram, which scapy made, and lines that don't
+/// describe a packet: they stay unchanged.
 static LINES: [(&str, &str); 15] = [
     (
         "rx udp 192.168.1.200:65535 > 255.255.255.255:0 00",
@@ -149,7 +149,7 @@ static LINES: [(&str, &str); 15] = [
     ("", ""),
 ];
 
-/// Lines that name no packet, with what is wrong with them, and in which column.
+/// Lines with an error in the description of a packet, the error, and its column.
 static FAULTY: [(&str, &str, u64); 40] = [
     (
         "rx udp",
@@ -337,14 +337,14 @@ static FAULTY: [(&str, &str, u64); 40] = [
     ),
 ];
 
-/// Two texts, one after the other.
+/// Returns two texts, one after the other.
 fn joined(rt: &impl Abort, alloc: Global, front: &str, back: &str) -> Vec<u8> {
     let mut text = front.as_bytes().to_vec(alloc).expect(rt, "memory");
     text.extend_from_slice(back.as_bytes()).expect(rt, "memory");
     text
 }
 
-/// Puts the plain line of a packet in the place of a text.
+/// Replaces a text by the plain line of a packet.
 fn put_named(text: &mut Buffer<LONGEST>, buffers: &mut LineBuffers, packet: &Buffer<PACKET>) {
     text.clear();
     text.append(b"rx ");
@@ -354,7 +354,7 @@ fn put_named(text: &mut Buffer<LONGEST>, buffers: &mut LineBuffers, packet: &Buf
     }
 }
 
-/// A reader of lines, and room for a plain one and for a packet.
+/// A reader of lines, and memory for a plain line and for a packet.
 #[derive(Drop)]
 struct PlainLines {
     reader: LineReader,
@@ -373,7 +373,7 @@ impl PlainLines {
         }
     }
 
-    /// Puts the plain line of a line into the room: `rx` with the packet's digits, if it names one.
+    /// Expands a line to its plain line: `rx` with the packet's digits, if it describes a packet.
     fn put_plain(&mut self, line: &[u8]) -> Result<(), Slip> {
         self.words.clear();
         match self.reader.plain_line(line) {
@@ -389,7 +389,7 @@ impl PlainLines {
         Ok(())
     }
 
-    /// Whether a line stands for this plain line.
+    /// Returns whether a line has this plain line.
     fn is_plain(&mut self, line: &[u8], wanted: &[u8]) -> bool {
         match self.put_plain(line) {
             Ok(()) => self.words.as_slice() == wanted,
@@ -397,14 +397,14 @@ impl PlainLines {
         }
     }
 
-    /// Whether a line that names a packet to port 7 stands for this one.
+    /// Returns whether a line with a packet to port 7 has this plain line.
     fn is_packet(&mut self, rt: &impl Abort, alloc: Global, more: &str, packet: &str) -> bool {
         let line = joined(rt, alloc, FRONT, more);
         let wanted = joined(rt, alloc, "rx ", packet);
         self.is_plain(&line, &wanted)
     }
 
-    /// Whether this is wrong with a line, in this column.
+    /// Returns whether a line has this error in this column.
     fn is_faulty(&mut self, line: &[u8], fault: &str, column: u64) -> bool {
         match self.put_plain(line) {
             Ok(()) => false,
@@ -412,7 +412,7 @@ impl PlainLines {
         }
     }
 
-    /// Whether a line stands for a packet of so many bytes.
+    /// Returns whether a line describes a packet of this length.
     fn has_size(&mut self, line: &[u8], size: usize) -> bool {
         match self.put_plain(line) {
             Ok(()) => size <= 65_535 && self.words.len() == 3 + 2 * size,
@@ -451,7 +451,7 @@ impl PlainLines {
     }
 }
 
-/// A packet has 65,535 bytes at most, and a fragment is of a datagram of 65,535 at most.
+/// A packet has at most 65,535 bytes, and so does the datagram of a fragment.
 static LONG: [(&str, usize); 2] = [
     ("rx udp 10.0.0.2:5000 > 10.0.0.1:7 @65507", 65_535),
     ("rx udp 10.0.0.2:5000 > 10.0.0.1:7 @65527 at 65528 last", 27),

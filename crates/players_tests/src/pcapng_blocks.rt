@@ -1,7 +1,7 @@
 //! Bytes from outside. mergecap 4.0.17 wrote `MERGED` of two classic files, and scapy 2.5.0 wrote `BIG`
 //! (`PcapNgWriter` with the attributes `endian` and `endian_magic` of a big-endian host). tshark 4.0.17 reads both,
 //! with the times, lengths and interfaces that stand below.
-use pcapng::{Block, Fault, LinkType, Order, Reader, SECTION_HEADER, Why, first_block};
+use capture::pcapng::{Block, Fault, LinkType, Order, Reader, SECTION_HEADER, Why, first_block};
 use std::test::Fail;
 
 /// Little endian, two interfaces: Ethernet with microseconds, and Linux cooked with nanoseconds, whose packet of 46

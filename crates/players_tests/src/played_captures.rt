@@ -1,6 +1,6 @@
 //! Lines that ask for a capture, and captures that are written, by the public calls alone. tshark 4.0 reads `WRITTEN`
 //! without a fault; its bytes are those of pcap-savefile(5), put together by hand.
-use pcap::{Fault, LinkType, Why};
+use capture::pcap::{Fault, LinkType, Why};
 use play_pcap::{CaptureFault, OUTCOME, Range, Tally, Trace, WireTrace, ask_of, put_outcome};
 use script_loop::{Buffer, Sink};
 use std::alloc::Global;

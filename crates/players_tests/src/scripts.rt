@@ -1,4 +1,4 @@
-//! What `run` and `program` write for what they read, and how they end. Replies were worked out by hand.
+//! The output of `run` and `program` for their input, and how they end. The replies were worked out by hand.
 mod streams;
 
 use link_script::{Config, RunFault, Silent, program, run};
@@ -8,7 +8,7 @@ use std::process::Abort;
 use streams::After::{Ends, Errs, GoesOn};
 use streams::{Kept, Script, Streams};
 
-/// The machine of a command line without options.
+/// The configuration of a command line without options.
 const DEFAULTS: Config = Config {
     addr: 0x0a00_0001,
     bcast: 0x0a00_00ff,
@@ -51,7 +51,7 @@ static RUNS: [(&str, Streams, Result<(), RunFault>); 9] = [
         ),
         Ok(()),
     ),
-    // A line begun when the input ends is one too.
+    // If the input ends within a line, that counts as a line too.
     (
         "the reader ends in the middle of a line",
         (b"socket\nbind 3 0.0.0.0", Ends, 999, b"ok 3\n? line\n"),
@@ -89,7 +89,7 @@ static RUNS: [(&str, Streams, Result<(), RunFault>); 9] = [
     ),
 ];
 
-/// Whether `run` writes what it should, and ends so.
+/// Returns whether `run` writes what it should, and ends with this result.
 fn runs(alloc: Global, streams: Streams, want: Result<(), RunFault>) -> bool {
     let (bytes, after, most, written) = streams;
     let mut reader = Silent(Script { bytes, after });
@@ -183,7 +183,7 @@ static STATUSES: [(Words, Streams, (u8, &str)); 13] = [
     ),
 ];
 
-/// The words that the program is given.
+/// Returns the words that are passed to the program.
 fn given(rt: &impl Abort, alloc: Global, words: &Words) -> io::Result<Vec<String>> {
     let line = match words {
         Line(line) => *line,
@@ -197,7 +197,7 @@ fn given(rt: &impl Abort, alloc: Global, words: &Words) -> io::Result<Vec<String
     Ok(all)
 }
 
-/// Whether the program writes what it should, ends with this status, and says this.
+/// Returns whether the program writes what it should, ends with this status, and prints this text.
 fn ends_with(
     alloc: Global,
     words: io::Result<Vec<String>>,

@@ -1,5 +1,5 @@
-//! Tests of checksums, accounts, IP output and reassembly, control blocks, UDP and receive queues, over the contracts
-//! of their crates alone: so they're checked apart from these, and these aren't checked twice.
+//! Tests of the definitions and their programs, checksums, accounts, IP output and reassembly, control blocks, UDP and
+//! receive queues. They use only the contracts of these crates, so they are checked separately.
 #![tactic(auto)]
 
 #[cfg(test)]
@@ -13,7 +13,11 @@ mod control_blocks;
 #[cfg(test)]
 mod datagrams;
 #[cfg(test)]
+mod definitions;
+#[cfg(test)]
 mod output;
+#[cfg(test)]
+mod programs;
 #[cfg(test)]
 mod reassembly;
 #[cfg(test)]

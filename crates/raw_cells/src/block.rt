@@ -1,4 +1,4 @@
-//! A block of bytes, each of them written: safe code over the raw memory.
+//! A block of bytes, all of them initialized: safe code over the raw memory.
 ghost use Rattle.std.specs.Prelude.{◌≡◌, ◌+◌, ◌^◌, ◌<◌, ◌≤◌, [], length, take, drop, replicate, IfOk};
 ghost use Rattle.std.specs.Borrow.{sem};
 
@@ -6,7 +6,7 @@ use crate::memory::{Address, Bytes, Deed, allocate, deallocate};
 use std::alloc::{AllocError, Global};
 use std::marker::Model;
 
-/// One block of memory, freed with its owner. A contract sees the list of its bytes.
+/// One block of memory, freed with its owner. Contracts see it as the list of its bytes.
 pub(crate) struct Block {
     address: Address,
     len: usize,
@@ -42,7 +42,7 @@ fn fill(bytes: &mut Bytes, address: Address, len: usize)
 impl Block {
     ghost use Rattle.raw_cells.specs.Inside.BlockLends.{LendsBytes};
 
-    /// A block of `len` zeros, or `AllocError` where the memory was refused.
+    /// Allocates a block of `len` zero bytes. Returns `AllocError` if the allocation fails.
     pub(crate) fn new(alloc: Global, len: usize) -> Result<Block, AllocError>
         requires { len < 2 ^ 63 }
         ensures { IfOk result (λ b. b ≡ replicate len 0) }
@@ -66,7 +66,7 @@ impl Block {
         self.len
     }
 
-    /// The `len` bytes from the index `at` on.
+    /// Returns the `len` bytes from index `at`.
     #[inline(always)]
     pub(crate) fn slice(&self, at: usize, len: usize) -> &[u8]
         requires { at + len ≤ length self.now }
@@ -76,7 +76,7 @@ impl Block {
         self.bytes.slice(self.address, at, len)
     }
 
-    /// The `len` bytes from the index `at` on, to write to.
+    /// Returns the `len` bytes from index `at`, mutable.
     #[inline(always)]
     pub(crate) fn slice_mut(&mut self, at: usize, len: usize) -> &mut [u8]
         requires { at + len ≤ length self.old }

@@ -1,32 +1,31 @@
-//! What stands in the first bytes of an mbuf.
+//! The contents of the first bytes of an mbuf.
 
-/// The head of an mbuf, as `struct m_hdr` and `struct pkthdr` have it (TCP/IP Illustrated, volume 2,
-/// chapter 2). Links are numbers of mbufs in place of addresses; README.md says which byte holds
-/// what.
+/// The head of an mbuf, after `struct m_hdr` and `struct pkthdr` (TCP/IP Illustrated, volume 2, chapter 2). Links are
+/// mbuf numbers instead of addresses. README.md gives the layout in bytes.
 #[derive(Clone, Copy, Debug, PartialEq, Eq)]
 pub struct Head {
-    /// The next mbuf of the chain. A number is below 0xffff_ffff, which in memory stands for none.
+    /// The next mbuf of the chain. A number is below 0xffff_ffff, which in memory encodes `None`.
     pub next: Option<u32>,
-    /// The first mbuf of the next packet in a queue. A number is below 0xffff_ffff here too.
+    /// The first mbuf of the next packet in a queue. A number is below 0xffff_ffff.
     pub next_packet: Option<u32>,
-    /// How many bytes of data the mbuf has.
+    /// The number of data bytes in the mbuf.
     pub len: u32,
-    /// Where its data begins: the place in the mbuf, or in its cluster.
+    /// The offset of the data, in the mbuf or in its cluster.
     pub start: u32,
-    /// What the mbuf is used for, a number that this crate only stores.
+    /// The type of the mbuf's contents. This crate only stores the number.
     pub kind: u16,
-    /// What is known of a whole packet, in an mbuf that begins one. It takes the 8 bytes from 20 on.
+    /// The packet header, in an mbuf that begins a packet. It takes the 8 bytes from offset 20.
     pub packet: Option<PacketHeader>,
-    /// The cluster that holds the data, in an mbuf that refers to one. It takes the 4 bytes from 28 on.
+    /// The cluster that holds the data, in an mbuf that refers to one. Its number takes the 4 bytes from offset 28.
     pub cluster: Option<u32>,
 }
 
-/// What the first mbuf of a packet tells of the packet.
+/// What the first mbuf of a packet records about the packet.
 #[derive(Clone, Copy, Debug, PartialEq, Eq)]
 pub struct PacketHeader {
-    /// How many bytes the whole chain has.
+    /// The number of bytes in the whole chain.
     pub len: u32,
-    /// A number kept beside the packet, which this crate only stores. 4.4BSD has the interface here
-    /// that the packet arrived by.
+    /// A number stored with the packet. This crate only stores it. 4.4BSD keeps the interface here on which the packet
+    /// arrived.
     pub arrival: u32,
 }

@@ -1,4 +1,4 @@
-//! Heads as bytes.
+//! The byte encoding of heads.
 ghost use Rattle.std.specs.Prelude.{◌≡◌, ◌+◌, ◌/◌, ◌%◌, ◌≤◌, length};
 ghost use Rattle.raw_cells.specs.Cells.{head_size, IsHead, IsLink};
 ghost use Rattle.raw_cells.specs.Inside.Layout.{cell_head_in, link_of, packet_header_in, cluster_in, head_flags, little_u16_at, little_u32_at};
@@ -7,7 +7,7 @@ use crate::head::{Head, PacketHeader};
 use byteorder::{ByteOrder, LittleEndian};
 use params::{MBUF_HEADER, PACKET_START};
 
-/// In place of a number, that there is no such mbuf.
+/// The stored number that means "no mbuf".
 const NO_MBUF: u32 = 0xffff_ffff;
 
 fn read_u16(bytes: &[u8], at: usize) -> u16
@@ -61,7 +61,7 @@ fn read_cluster(bytes: &[u8], at: usize, flags: u16) -> Option<u32>
     }
 }
 
-/// The head of the mbuf that begins at the byte `at`.
+/// Reads the head of the mbuf that begins at byte `at`.
 #[inline(always)]
 pub(crate) fn read_head(bytes: &[u8], at: usize) -> Head
     requires { at + 32 ≤ length bytes.now }
@@ -80,7 +80,7 @@ pub(crate) fn read_head(bytes: &[u8], at: usize) -> Head
     }
 }
 
-/// How many bytes of the mbuf the head takes.
+/// Returns how many bytes of the mbuf the head takes.
 #[inline(always)]
 pub(crate) fn head_len(head: &Head) -> usize
     ensures { result ≡ head_size head.now }
@@ -140,7 +140,7 @@ pub(crate) fn put_link(bytes: &mut [u8], link: Option<u32>)
     put_u32(bytes, link.unwrap_or(NO_MBUF));
 }
 
-/// Writes the length of an mbuf's data and its start over eight bytes.
+/// Writes the length and the start of an mbuf's data over eight bytes.
 #[inline(always)]
 pub(crate) fn put_data(bytes: &mut [u8], len: u32, start: u32)
     requires { length bytes.old ≡ 8 }
@@ -152,7 +152,7 @@ pub(crate) fn put_data(bytes: &mut [u8], len: u32, start: u32)
     LittleEndian::write_u64(bytes, both);
 }
 
-/// Clears the flag of a packet header.
+/// Clears the packet header flag.
 pub(crate) fn clear_packet(bytes: &mut [u8])
     requires { length bytes.old ≡ 2 }
     ensures packet { little_u16_at bytes.new 0 / 2 % 2 ≡ 0 }
@@ -170,7 +170,7 @@ fn flags(head: &Head) -> u16
     u16::from(head.cluster.is_some()) + 2 * u16::from(head.packet.is_some())
 }
 
-/// The bytes of a head, and zeros for the fields that it has not.
+/// Encodes a head, with zeros for the fields that it doesn't have.
 #[inline(always)]
 pub(crate) fn encode(head: &Head) -> [u8; 32]
     requires { IsHead head.now }

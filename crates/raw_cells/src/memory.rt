@@ -1,9 +1,9 @@
-//! The raw memory of a block. Every raw pointer into the pool's memory stands in this file.
+//! The raw memory of a block. Every raw pointer into the pool's memory is in this file.
 //!
-//! A pointer and the memory behind it are apart here. An `Address` is the pointer: it can be copied
-//! and owns nothing. `Bytes` owns the memory, and a `Deed` is the right to give it back: neither
-//! takes any space, and neither can be dropped, so that a block can't be forgotten. The toolchain's
-//! library `circular_buffer` has the same three parts.
+//! The pointer and the memory that it points to are separate values. An `Address` is the pointer: it can be copied and
+//! owns nothing. `Bytes` owns the memory, and a `Deed` is the right to free it. `Bytes` and `Deed` take no space at run
+//! time, and neither of them can be dropped, so a block can't be leaked by mistake. The toolchain's library
+//! `circular_buffer` has the same three parts.
 ghost use Rattle.std.specs.Prelude.{◌≡◌, ℕ, ◌+◌, ◌^◌, ◌<◌, ◌≤◌, List, [], ◌∷◌, ◌++◌, length, take, drop, IfOk};
 ghost use Rattle.std.specs.Borrow.{sem};
 ghost use denote.RawPtr.{Ptr};
@@ -13,13 +13,13 @@ use std::alloc::{AllocError, Allocator};
 use std::marker::{Model, PhantomData};
 use std::slice;
 
-/// Where a block begins.
+/// The beginning of a block.
 #[derive(Clone, Copy)]
 pub(crate) struct Address {
     pub(crate) ptr: *mut u8,
 }
 
-/// The bytes of a block: those that were written, and how many more there are after them.
+/// The bytes of a block: the initialized bytes, and the number of uninitialized bytes after them.
 pub(crate) struct Bytes {
     ghost at: { Ptr },
     ghost written: { List ℕ },
@@ -32,7 +32,7 @@ impl Model for Bytes {
     ghost also_shares = { λ b _ κ. bytes_lent b.at b.written b.blank κ };
 }
 
-/// The right to give a block of `len` bytes back to `alloc`.
+/// The right to return a block of `len` bytes to `alloc`.
 pub(crate) struct Deed<A: Allocator> {
     mark: PhantomData<A>,
     ghost alloc: { A },
@@ -44,7 +44,7 @@ impl<A: Allocator> Model for Deed<A> {
     ghost also_owns = { λ d. A.dealloc_token d.alloc (block_type d.len) d.at };
 }
 
-/// Takes a block of `len` bytes, none of them written.
+/// Allocates a block of `len` uninitialized bytes.
 pub(crate) fn allocate<A: Allocator>(
     alloc: &A,
     len: usize,
@@ -60,7 +60,7 @@ pub(crate) fn allocate<A: Allocator>(
     }
 }
 
-/// Gives a block back.
+/// Frees a block.
 pub(crate) fn deallocate<A: Allocator>(
     alloc: &A,
     address: Address,
@@ -79,7 +79,7 @@ pub(crate) fn deallocate<A: Allocator>(
 impl Bytes {
     ghost use Rattle.raw_cells.specs.Inside.MemoryLends.{LendsRun};
 
-    /// Writes the first of the bytes that weren't written yet, at the index `index`.
+    /// Initializes the first uninitialized byte, which is at index `index`.
     pub(crate) fn push(&mut self, address: Address, index: usize, byte: u8)
         requires { (address.ptr ≡ self.old.at) × (index ≡ length self.old.written)
             × (0 < self.old.blank) }
@@ -90,7 +90,7 @@ impl Bytes {
         unsafe { address.ptr.add(index).write(byte) }
     }
 
-    /// The `len` bytes from the index `from` on.
+    /// Returns the `len` bytes from index `from`.
     #[inline(always)]
     pub(crate) fn slice(&self, address: Address, from: usize, len: usize) -> &[u8]
         requires { (address.ptr ≡ self.now.at) × (from + len ≤ length self.now.written) }
@@ -99,7 +99,7 @@ impl Bytes {
         unsafe { slice::from_raw_parts(address.ptr.add(from), len) }
     }
 
-    /// The `len` bytes from the index `from` on, to write to.
+    /// Returns the `len` bytes from index `from`, mutable.
     #[inline(always)]
     pub(crate) fn slice_mut(&mut self, address: Address, from: usize, len: usize) -> &mut [u8]
         requires { (address.ptr ≡ self.old.at) × (from + len ≤ length self.old.written) }

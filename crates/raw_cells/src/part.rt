@@ -1,21 +1,21 @@
-//! Which bytes of a region are meant.
+//! Ranges of bytes in a region.
 
-/// One of the pieces that a region is cut into, by its number, counted from 0.
+/// One of the pieces of a region, by its number, counted from 0.
 #[derive(Clone, Copy, Debug, PartialEq, Eq)]
 pub enum Buffer {
-    /// An mbuf, of 128 bytes.
+    /// An mbuf, 128 bytes long.
     Mbuf(u32),
-    /// A cluster, of 2,048 bytes.
+    /// A cluster, 2,048 bytes long.
     Cluster(u32),
 }
 
-/// A run of bytes in an mbuf or a cluster. In an mbuf it lies after the head.
+/// A range of bytes in an mbuf or a cluster. In an mbuf it lies after the head.
 #[derive(Clone, Copy, Debug, PartialEq, Eq)]
 pub struct Part {
-    /// Where the bytes are.
+    /// The mbuf or cluster that contains the bytes.
     pub buffer: Buffer,
-    /// The place of the first one, counted from the beginning of the mbuf or cluster.
+    /// The offset of the first byte, from the beginning of the mbuf or cluster.
     pub start: u32,
-    /// How many they are.
+    /// The number of bytes.
     pub len: u32,
 }

@@ -11,16 +11,15 @@ use params::{MAX_CLUSTERS, MAX_MBUFS, MCLBYTES, MSIZE};
 use std::alloc::{AllocError, Global};
 use std::marker::Model;
 
-/// How many bytes an mbuf has.
+/// The size of an mbuf in bytes.
 const MBUF_LEN: usize = MSIZE as usize;
 
-/// How many bytes a cluster has.
+/// The size of a cluster in bytes.
 const CLUSTER_LEN: usize = MCLBYTES as usize;
 
-/// One block of memory that is cut into mbufs and, after them, clusters. It is freed with its owner.
+/// One block of memory, cut into mbufs and, after them, clusters. It is freed with its owner.
 ///
-/// A contract sees it as `Cells`: the head of each mbuf, all the bytes of the block, and how many
-/// clusters there are.
+/// Contracts see it as `Cells`: the head of each mbuf, all bytes of the block, and the number of clusters.
 #[derive(Drop)]
 pub struct Region {
     block: Block,
@@ -43,9 +42,9 @@ impl Model for Region {
 impl Region {
     ghost use Rattle.raw_cells.specs.Lending.{LendsCellPart};
 
-    /// A region of `mbufs` mbufs, 1 to 65,535, and `clusters` clusters, at most 4,096, in which every
-    /// byte is 0: each head reads as zeros too, without a packet header or a cluster. It is the one
-    /// request for memory, and `AllocError` says that it was refused.
+    /// Allocates a region of `mbufs` mbufs, 1 to 65,535, and `clusters` clusters, at most 4,096. Every byte is 0, so
+    /// each head also reads as zeros, without a packet header or a cluster. This is the only allocation. Returns
+    /// `AllocError` if it fails.
     pub fn new(alloc: Global, mbufs: u32, clusters: u32) -> Result<Region, AllocError>
         requires mbufs { (0 < mbufs) × (mbufs ≤ MAX_MBUFS) }
         requires clusters { clusters ≤ MAX_CLUSTERS }
@@ -62,7 +61,7 @@ impl Region {
         })
     }
 
-    /// The head of the mbuf `index`, one that the region has. Its links are below 0xffff_ffff.
+    /// Returns the head of mbuf `index`, which must be one of the region's. Its links are below 0xffff_ffff.
     // Inlined, so that a caller reads only the fields that it uses.
     #[inline(always)]
     pub fn head(&self, index: u32) -> Head
@@ -75,10 +74,10 @@ impl Region {
         read_head(all, MBUF_LEN * index as usize)
     }
 
-    /// Makes `head`, whose links are below 0xffff_ffff, the head of the mbuf `index`, one that the region
-    /// has. It writes the first 20 bytes of the mbuf, 28 where the head has a packet header, 32 where it
-    /// has a cluster, and leaves all other bytes.
-    // Inlined, so that a head of which a caller knows the fields is a few stores.
+    /// Sets the head of mbuf `index`, which must be one of the region's. The links of `head` must be below 0xffff_ffff.
+    /// This writes the first 20 bytes of the mbuf, 28 if the head has a packet header, 32 if it has a cluster. All
+    /// other bytes stay as they are.
+    // Inlined, so that a head whose fields the caller knows takes only a few stores.
     #[inline(always)]
     pub fn set_head(&mut self, index: u32, head: Head)
         requires index { index < length self.old.heads }
@@ -93,8 +92,8 @@ impl Region {
             .copy_from_slice(&bytes[..len]);
     }
 
-    /// Makes `next` the link of the mbuf `index`, one that the region has, and leaves all else of its head.
-    /// A number must be below 0xffff_ffff.
+    /// Sets the `next` link of mbuf `index`, which must be one of the region's. The rest of its head stays as it is. A
+    /// number must be below 0xffff_ffff.
     pub fn set_next(&mut self, index: u32, next: Option<u32>)
         requires index { index < length self.old.heads }
         requires link { IsLink next }
@@ -104,8 +103,8 @@ impl Region {
         put_link(self.block.slice_mut(MBUF_LEN * index as usize, 4), next);
     }
 
-    /// Makes `next_packet` the link to the next packet of the mbuf `index`, one that the region has, and leaves
-    /// all else of its head. A number must be below 0xffff_ffff.
+    /// Sets the link to the next packet of mbuf `index`, which must be one of the region's. The rest of its head stays
+    /// as it is. A number must be below 0xffff_ffff.
     pub fn set_next_packet(&mut self, index: u32, next_packet: Option<u32>)
         requires index { index < length self.old.heads }
         requires link { IsLink next_packet }
@@ -119,8 +118,8 @@ impl Region {
         );
     }
 
-    /// Lets the data of the mbuf `index`, one that the region has, be the `len` bytes from `start` on, and leaves
-    /// all else of its head.
+    /// Makes the `len` bytes from offset `start` the data of mbuf `index`, which must be one of the region's. The rest
+    /// of its head stays as it is.
     #[inline(always)]
     pub fn set_data(&mut self, index: u32, start: u32, len: u32)
         requires { index < length self.old.heads }
@@ -135,8 +134,8 @@ impl Region {
         );
     }
 
-    /// Makes `len` the packet length of the mbuf `index`, one that the region has and that has a packet header,
-    /// and leaves all else of its head.
+    /// Sets the packet length of mbuf `index`, which must be one of the region's and have a packet header. The rest of
+    /// its head stays as it is.
     #[inline(always)]
     pub fn set_packet_len(&mut self, index: u32, len: u32)
         requires index { index < length self.old.heads }
@@ -147,8 +146,8 @@ impl Region {
         put_u32(self.block.slice_mut(MBUF_LEN * index as usize + 20, 4), len);
     }
 
-    /// Makes `arrival` the number kept beside the packet of the mbuf `index`, one that the region has and that has
-    /// a packet header, and leaves all else of its head.
+    /// Sets the number stored with the packet of mbuf `index`, which must be one of the region's and have a packet
+    /// header. The rest of its head stays as it is.
     pub fn set_arrival(&mut self, index: u32, arrival: u32)
         requires index { index < length self.old.heads }
         requires packet { IsSome (cell_head self.old index).packet }
@@ -161,8 +160,8 @@ impl Region {
         );
     }
 
-    /// Takes the packet header from the mbuf `index`, one that the region has, and leaves all else of its head:
-    /// the 8 bytes that the packet header had belong to the room, as they are.
+    /// Removes the packet header from mbuf `index`, which must be one of the region's. The rest of its head stays as it
+    /// is. The 8 bytes of the packet header become part of the data area, with their contents unchanged.
     pub fn drop_packet(&mut self, index: u32)
         requires { index < length self.old.heads }
         ensures change { SetsCellHead self.old self.new index (record (cell_head self.old index) { packet = None }) }
@@ -171,7 +170,7 @@ impl Region {
         clear_packet(self.block.slice_mut(MBUF_LEN * index as usize + 18, 2));
     }
 
-    /// Where the part begins in the block.
+    /// Returns the offset in the block at which the part begins.
     #[inline(always)]
     fn start(&self, part: Part) -> usize
         requires { IsCellPart self.now part }
@@ -187,8 +186,8 @@ impl Region {
         }
     }
 
-    /// The bytes of a part, without copying. A part of an mbuf lies after its head, and the mbuf
-    /// refers to no cluster.
+    /// Returns the bytes of a part, without copying. A part of an mbuf must lie after its head, and the mbuf must not
+    /// refer to a cluster.
     #[inline(always)]
     pub fn bytes(&self, part: Part) -> &[u8]
         requires { IsCellPart self.now part }
@@ -200,8 +199,9 @@ impl Region {
         self.block.slice(at, part.len as usize)
     }
 
-    /// The bytes of a part, to write to. What stands in them at the end is written, and nothing else.
-    // Inlined, so that a caller that knows the length writes by stores.
+    /// Returns the bytes of a part, mutable. When the borrow ends, the part has the bytes written, and nothing outside
+    /// the part has changed.
+    // Inlined, so that a caller that knows the length compiles to stores.
     #[inline(always)]
     pub fn bytes_mut(&mut self, part: Part) -> &mut [u8]
         requires { IsCellPart self.old part }
@@ -214,8 +214,8 @@ impl Region {
         self.block.slice_mut(at, part.len as usize)
     }
 
-    /// Copies the bytes of `from` over those of `to`, a part of the same length, as `memmove` does:
-    /// two parts that share bytes are copied as if by way of a third place.
+    /// Copies the bytes of `from` over those of `to`, a part of the same length, as `memmove` does: the parts may
+    /// overlap.
     pub fn copy(&mut self, from: Part, to: Part)
         requires from { IsCellPart self.old from }
         requires to { IsCellPart self.old to }

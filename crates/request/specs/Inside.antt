@@ -1,4 +1,4 @@
--- What a keyword and the words after it ask for (this project's own).
+-- Parsing a keyword and the words after it (this project's own).
 use Rattle.std.specs.Prelude.{◌≡◌, ℕ, List, Option, Some, None, codes}
 use Rattle.flat_model.specs.Machine.Event.{Event}
 use Rattle.flat_model.specs.Scripts.Grammar.{keyword, HasArguments}
@@ -22,11 +22,11 @@ word_of line.Tick = codes "tick"
 word_of line.Stat = codes "stat"
 word_of line.MbStat = codes "mbstat"
 
--- the keyword and the words after it ask for the event
+-- the keyword and the words after it request the event
 abbrev pub IsForm : Keyword → List (List ℕ) → Event → Type 0
 IsForm word args event = (keyword event ≡ word_of word) × HasArguments event args
 
--- r is what they ask for
+-- r is the result of parsing them
 abbrev pub ReadsForm : Keyword → List (List ℕ) → Option Request → Type 0
 ReadsForm word args (Some request) = IsForm word args (event_of request)
 ReadsForm word args None = (event : Event) → IsForm word args event → ⊥

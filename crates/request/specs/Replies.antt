@@ -1,11 +1,11 @@
--- The reply of the flat machine that a reply stands for (this project's own).
+-- The reply of the reference machine that a reply represents (this project's own).
 use Rattle.std.specs.Prelude.{ℕ, List, length, Option, Some, None}
 use Rattle.std.specs.Borrow.{Bor}
 use Rattle.flat_model.specs.Machine.Event as event
 use Rattle.request.specs.declared.reply.Reply.{Reply}
 use Rattle.request.specs.declared.reply.Reply.TheVariants.{Done, Opened, Sent, Received, Given, Counted, Shown, Refused}
 
--- the packet behind a reference
+-- the packet of a reference
 abbrev pub packet_behind : Option (Bor (List ℕ)) → Option (List ℕ)
 packet_behind (Some packet) = Some packet.now
 packet_behind None = None
@@ -20,7 +20,7 @@ reply_of (Counted counters) = event.Counted counters
 reply_of (Shown usage) = event.Shown usage
 reply_of (Refused errno) = event.Refused errno
 
--- how many bytes a reply has
+-- the number of bytes in a reply
 abbrev pub len_of : Reply → ℕ
 len_of Done = 0
 len_of (Opened fd) = 0

@@ -1,4 +1,4 @@
--- The event that a request stands for (this project's own).
+-- The event that a request represents (this project's own).
 use Rattle.std.specs.Prelude.{ℕ, length}
 use Rattle.flat_model.specs.Machine.Event as event
 use Rattle.request.specs.declared.request.Request.{Request}
@@ -18,7 +18,7 @@ event_of Tick = event.Tick
 event_of Counters = event.Ask_counters
 event_of Usage = event.Ask_usage
 
--- how many bytes a request has, or asks for
+-- the number of bytes that a request contains, or asks to receive
 abbrev pub room_of : Request → ℕ
 room_of Socket = 0
 room_of (Bind fd address) = 0

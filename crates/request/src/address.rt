@@ -1,11 +1,11 @@
-//! The words that write addresses.
+//! Addresses as words of a line.
 ghost use Rattle.std.specs.Prelude.{◌≡◌, ℕ, ◌+◌, ◌≤◌, ◌++◌, MatchOption, length, decimal};
 ghost use Rattle.flat_model.specs.Scripts.Grammar.{IsAddress, address_text};
 
 use script_loop::Buffer;
 use std::net::Ipv4Addr;
 
-/// The address that the word writes.
+/// Parses an address.
 pub fn address_of(word: &[u8]) -> Option<u32>
     ensures { MatchOption result ((ip : ℕ) → IsAddress word.now ip → ⊥) (λ ip. IsAddress word.now ip) }
 {
@@ -15,7 +15,7 @@ pub fn address_of(word: &[u8]) -> Option<u32>
     }
 }
 
-/// Puts one of the four numbers of an address after the text, of three digits at most.
+/// Appends one of the four numbers of an address to the text, at most three digits.
 fn put_octet<const N: usize>(text: &mut Buffer<N>, n: u8)
     requires { length text.old + 3 ≤ N }
     ensures items { text.new ≡ text.old ++ decimal n }
@@ -25,7 +25,7 @@ fn put_octet<const N: usize>(text: &mut Buffer<N>, n: u8)
     text.append(digits.format(n).as_bytes());
 }
 
-/// Puts the four numbers of an address after the text, with dots between them. There must be room for 15 bytes.
+/// Appends the four numbers of an address to the text, with dots between them. There must be space for 15 bytes.
 pub fn put_address<const N: usize>(text: &mut Buffer<N>, ip: u32)
     requires { length text.old + 15 ≤ N }
     ensures items { text.new ≡ text.old ++ address_text ip }

@@ -1,10 +1,10 @@
-//! The words that lines begin with.
+//! The first words of lines.
 ghost use Rattle.std.specs.Prelude.{◌≡◌, MatchOption};
 ghost use Rattle.flat_model.specs.Machine.Event.{Event};
 ghost use Rattle.flat_model.specs.Scripts.Grammar as grammar;
 ghost use Rattle.request.specs.Inside.{word_of};
 
-/// The word that a line begins with.
+/// The first word of a line.
 #[derive(Clone, Copy)]
 pub(crate) enum Keyword {
     Socket,
@@ -22,7 +22,7 @@ pub(crate) enum Keyword {
     MbStat,
 }
 
-/// The keyword that this word is.
+/// Returns the keyword for this word.
 pub(crate) fn keyword_of(word: &[u8]) -> Option<Keyword>
     ensures { MatchOption result ((event : Event) → grammar.keyword event ≡ word.now → ⊥) (λ k. word.now ≡ word_of k) }
 {

@@ -1,4 +1,4 @@
-//! What may be asked of a machine and what it answers, as values, and the lines that say so.
+//! The requests to a stack and its replies, as values, and the script lines that express them.
 #![tactic(auto)]
 
 mod address;

@@ -1,4 +1,4 @@
-//! The lines that replies are printed as.
+//! The text of replies.
 ghost use Rattle.std.specs.Prelude.{◌≡◌, ◌+◌, ◌*◌, ◌≤◌, ◌<◌, ◌++◌, length, Some, codes, decimal, IfSome};
 ghost use Rattle.params.specs.declared.TheConstants.{IP_MAX_PACKET, LONGEST_REQUEST};
 ghost use Rattle.flat_model.specs.Machine.Count.{counter_name};
@@ -12,10 +12,10 @@ use flat_model::{Addr, Counter, Counters, Errno, Mbstat};
 use params::LONGEST_REQUEST;
 use script_loop::{Buffer, HELD, put_hex, put_number};
 
-/// Room for the longest line of reply, after those that are held.
+/// The size of a text buffer, with space for the longest reply line after the replies that are kept.
 pub const TEXT: usize = HELD + LONGEST_REQUEST as usize;
 
-/// What was lacking, after the name of a refusal.
+/// Appends what was lacking, after the name of an error.
 fn put_lack<const N: usize>(text: &mut Buffer<N>, errno: Errno)
     requires { length text.old + 6 ≤ N }
     ensures items { text.new ≡ text.old ++ lack_text errno }
@@ -39,7 +39,7 @@ fn put_refusal<const N: usize>(text: &mut Buffer<N>, errno: Errno)
     put_lack(text, errno);
 }
 
-/// Puts the digits of a number after the text, twenty of them at most. There must be room for twenty.
+/// Appends the digits of a number to the text, at most twenty. There must be space for twenty.
 pub fn put_long<const N: usize>(text: &mut Buffer<N>, n: u64)
     requires { length text.old + 20 ≤ N }
     ensures items { text.new ≡ text.old ++ decimal n }
@@ -49,7 +49,7 @@ pub fn put_long<const N: usize>(text: &mut Buffer<N>, n: u64)
     text.append(digits.format(n).as_bytes());
 }
 
-/// Puts a counter after the text, where it isn't 0.
+/// Appends a counter to the text, if it isn't 0.
 fn put_count<const N: usize>(text: &mut Buffer<N>, counter: Counter, value: u64)
     requires { length text.old + 37 ≤ N }
     ensures items { text.new ≡ text.old ++ count_text (count (counter_name counter) value) }
@@ -64,7 +64,7 @@ fn put_count<const N: usize>(text: &mut Buffer<N>, counter: Counter, value: u64)
     put_long(text, value);
 }
 
-/// The counters: those that aren't 0, in the order in which they're printed.
+/// Appends the counters that aren't 0, in the order in which they are printed.
 fn put_counters<const N: usize>(text: &mut Buffer<N>, counters: &Counters)
     requires { length text.old + 1000 ≤ N }
     ensures items { text.new ≡ text.old ++ counters_text counters.now }
@@ -76,7 +76,7 @@ fn put_counters<const N: usize>(text: &mut Buffer<N>, counters: &Counters)
     }
 }
 
-/// Puts what is free of all after the text.
+/// Appends the free share of a total to the text.
 fn put_share<const N: usize>(text: &mut Buffer<N>, free: u32, all: u32)
     requires { length text.old + 21 ≤ N }
     ensures items { text.new ≡ text.old ++ share_text free all }
@@ -87,7 +87,7 @@ fn put_share<const N: usize>(text: &mut Buffer<N>, free: u32, all: u32)
     put_number(text, all);
 }
 
-/// How much of the pool is in use.
+/// Appends the usage of the pool.
 fn put_usage<const N: usize>(text: &mut Buffer<N>, usage: Mbstat)
     requires { length text.old + 100 ≤ N }
     ensures items { text.new ≡ text.old ++ usage_text usage }
@@ -103,7 +103,7 @@ fn put_usage<const N: usize>(text: &mut Buffer<N>, usage: Mbstat)
     put_number(text, usage.most);
 }
 
-/// What was received, and from whom.
+/// Appends the bytes that were received, and their sender.
 fn put_received<const N: usize>(text: &mut Buffer<N>, digits: &mut [u8], sender: Addr, bytes: &[u8])
     requires text { length text.old + LONGEST_REQUEST ≤ N }
     requires bytes { length bytes.now ≤ IP_MAX_PACKET }
@@ -119,7 +119,7 @@ fn put_received<const N: usize>(text: &mut Buffer<N>, digits: &mut [u8], sender:
     put_hex(text, digits, bytes);
 }
 
-/// The packet that the link takes.
+/// Appends the packet that the link takes.
 fn put_given<const N: usize>(text: &mut Buffer<N>, digits: &mut [u8], packet: &[u8])
     requires text { length text.old + LONGEST_REQUEST ≤ N }
     requires bytes { length packet.now ≤ IP_MAX_PACKET }
@@ -131,7 +131,7 @@ fn put_given<const N: usize>(text: &mut Buffer<N>, digits: &mut [u8], packet: &[
     put_hex(text, digits, packet);
 }
 
-/// `ok` and a number.
+/// Appends `ok` and a number.
 fn put_ok<const N: usize>(text: &mut Buffer<N>, n: u64)
     requires { length text.old + LONGEST_REQUEST ≤ N }
     ensures items { text.new ≡ text.old ++ codes "ok " ++ decimal n }
@@ -141,7 +141,7 @@ fn put_ok<const N: usize>(text: &mut Buffer<N>, n: u64)
     put_long(text, n);
 }
 
-/// Puts the text of a reply after the text. `digits` is room for digits, and what it held is lost.
+/// Appends the text of a reply to the text. `digits` is scratch memory, and its contents are lost.
 pub fn put_reply<const N: usize>(text: &mut Buffer<N>, digits: &mut [u8], reply: &Reply<'_>)
     requires text { length text.old + LONGEST_REQUEST ≤ N }
     requires fits { len_of reply.now ≤ IP_MAX_PACKET }
@@ -162,7 +162,7 @@ pub fn put_reply<const N: usize>(text: &mut Buffer<N>, digits: &mut [u8], reply:
     }
 }
 
-/// Puts the line that a reply is printed as after the text. `digits` is room for digits, and what it held is lost.
+/// Appends the line for a reply to the text. `digits` is scratch memory, and its contents are lost.
 pub fn put_line<const N: usize>(text: &mut Buffer<N>, digits: &mut [u8], reply: &Reply<'_>)
     requires text { length text.old + LONGEST_REQUEST ≤ N }
     requires fits { len_of reply.now ≤ IP_MAX_PACKET }

@@ -1,4 +1,4 @@
-//! What a line asks for.
+//! Parsing a line into a request.
 ghost use Rattle.std.specs.Prelude.{◌≡◌, ◌≤◌, ℕ, Bool, List, [], length, MatchOption, IfSome};
 ghost use Rattle.flat_model.specs.declared.address.Addr.{Addr};
 ghost use Rattle.flat_model.specs.Machine.Event.{Event};
@@ -16,7 +16,7 @@ use flat_model::{Addr, Opt};
 use params::{IP_MAX_PACKET, LONGEST_REQUEST};
 use script_loop::{bytes, first_word, is_end, number, one, three, two};
 
-/// The address and the port that two words write.
+/// Parses the two words for an address and a port.
 fn end_of(ip: &[u8], port: &[u8]) -> Option<Addr>
     ensures { MatchOption result ((end : Addr) → IsEnd ip.now port.now end →
         ⊥) (λ end. IsEnd ip.now port.now end) }
@@ -29,7 +29,7 @@ fn end_of(ip: &[u8], port: &[u8]) -> Option<Addr>
     })
 }
 
-/// The option that a word names.
+/// Parses the name of an option.
 fn option_of(word: &[u8]) -> Option<Opt>
     ensures { MatchOption result ((option : Opt) → word.now ≡ option_name option → ⊥)
         (λ option. word.now ≡ option_name option) }
@@ -41,7 +41,7 @@ fn option_of(word: &[u8]) -> Option<Opt>
     }
 }
 
-/// Whether a word sets an option or clears it.
+/// Parses the word that sets or clears an option.
 fn switch_of(word: &[u8]) -> Option<bool>
     ensures { MatchOption result ((on : Bool) → word.now ≡ switch_name on → ⊥) (λ on. word.now ≡ switch_name on) }
 {
@@ -52,7 +52,7 @@ fn switch_of(word: &[u8]) -> Option<bool>
     }
 }
 
-/// The request, where no word is left.
+/// Returns the request, if no word is left.
 fn alone<'a>(rest: Option<&[u8]>, request: Request<'a>) -> Option<Request<'a>>
     ensures { MatchOption result (left rest.entry ≡ [] → ⊥) (λ r. (r ≡ request.entry) × (left rest.entry ≡ [])) }
 {
@@ -145,7 +145,7 @@ fn packet_of<'a>(rest: Option<&[u8]>, room: &'a mut [u8]) -> Option<Request<'a>>
     Some(Request::Packet(&room[..len]))
 }
 
-/// What a keyword and the words after it ask for.
+/// Parses the words after a keyword.
 fn form_of<'a>(word: Keyword, rest: Option<&[u8]>, room: &'a mut [u8]) -> Option<Request<'a>>
     requires { length room.old ≡ IP_MAX_PACKET }
     ensures form { ReadsForm word (left rest.entry) result }
@@ -168,7 +168,7 @@ fn form_of<'a>(word: Keyword, rest: Option<&[u8]>, room: &'a mut [u8]) -> Option
     }
 }
 
-/// What the line asks for, where it is of a form.
+/// Returns the request of the line, if the line is well-formed.
 pub fn request_of<'a>(line: &[u8], room: &'a mut [u8]) -> Option<Request<'a>>
     requires { length room.old ≡ IP_MAX_PACKET }
     ensures event { MatchOption result ((event : Event) → Asks all_events line.now event → ⊥)

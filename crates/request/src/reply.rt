@@ -1,28 +1,28 @@
-//! What a machine answers.
+//! The replies of a stack.
 ghost use Rattle.std.specs.Prelude.{◌≡◌, ◌≤◌, length};
 ghost use Rattle.flat_model.specs.Machine.Replies.{opened_reply, done_reply, sent_reply, received_reply, given_reply, FitsRoom};
 ghost use Rattle.request.specs.Replies.{reply_of, len_of};
 
 use flat_model::{Addr, Counters, Errno, Mbstat};
 
-/// What a machine answers to a request: a reply of the flat machine. The bytes of a packet or of a datagram are
+/// The reply of a stack to a request: a reply of the reference machine. The bytes of a packet or of a datagram are
 /// borrowed.
 #[derive(Clone, Copy)]
 pub enum Reply<'a> {
-    /// The call is done, and answers nothing else.
+    /// The call succeeded, and has no result of its own.
     Done,
     /// A socket is open, with this descriptor.
     Opened(u32),
-    /// So many bytes were sent.
+    /// This many bytes were sent.
     Sent(usize),
     /// These bytes came from this sender.
     Received(Addr, &'a [u8]),
-    /// The packet that the link takes, or none.
+    /// The packet that the link takes, if there is one.
     Given(Option<&'a [u8]>),
-    /// What was counted.
+    /// The counters.
     Counted(Counters),
-    /// How much of the pool is in use.
+    /// The usage of the pool.
     Shown(Mbstat),
-    /// The call is refused.
+    /// The call failed.
     Refused(Errno),
 }

@@ -1,7 +1,7 @@
-//! What may be asked of a machine.
+//! The requests to a stack.
 use flat_model::{Addr, Opt};
 
-/// What may be asked of a machine: an event of the flat machine. The bytes of a packet or of a send are borrowed.
+/// A request to a stack: an event of the reference machine. The bytes of a packet or of a send are borrowed.
 #[derive(Clone, Copy)]
 pub enum Request<'a> {
     /// `socket`.
@@ -10,13 +10,13 @@ pub enum Request<'a> {
     Bind(u32, Addr),
     /// `connect` of a descriptor to an address and port.
     Connect(u32, Addr),
-    /// These bytes are sent, to an address and port or to the peer.
+    /// A send of these bytes, to an address and port or to the peer.
     Send(u32, Option<Addr>, &'a [u8]),
-    /// `recvfrom` of a descriptor, of so many bytes at most.
+    /// `recvfrom` on a descriptor, of at most this many bytes.
     Receive(u32, usize),
     /// `close`.
     Close(u32),
-    /// `setsockopt`: an option of a descriptor is set or cleared.
+    /// `setsockopt`: sets or clears an option of a descriptor.
     SetOption(u32, Opt, bool),
     /// This packet arrives.
     Packet(&'a [u8]),
@@ -24,8 +24,8 @@ pub enum Request<'a> {
     Transmit,
     /// Half a second passes.
     Tick,
-    /// What was counted.
+    /// A query for the counters.
     Counters,
-    /// How much of the pool is in use.
+    /// A query for the usage of the pool.
     Usage,
 }

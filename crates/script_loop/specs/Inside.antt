@@ -1,4 +1,4 @@
--- What stands in hand between two bytes of a script (this project's own).
+-- The state of the loop between two bytes of a script (this project's own).
 use Rattle.std.specs.Prelude.{◌≡◌, ◌≢◌, ◌⊎◌, ◌≤◌, ◌+◌, ◌-◌, ◌*◌, ℕ, List, [], ◌∷◌, ◌++◌, length, Option, Some, None, Result, Ok, Err}
 use Rattle.std.specs.Io.KnownBytes.{Appends}
 use Rattle.flat_model.specs.Scripts.Lines.{whole_lines, begun_line}
@@ -8,7 +8,7 @@ use Rattle.script_loop.specs.declared.serve.TheConstants.{LONGEST, MOST_LINES}
 use Rattle.script_loop.specs.declared.fault.RunFault.{RunFault}
 use Rattle.script_loop.specs.declared.fault.RunFault.TheVariants.{Read, Write, Memory, TooManyLines, BadSizes, BadConfig}
 
--- The whole lines seen were answered, on the way from `begin` to `now`, and this line is begun.
+-- All whole lines so far have their replies, the state went from `begin` to `now`, and this line is unfinished.
 pub record Answered {S : Type 0} (gives : S → List ℕ → List ℕ → S → Type 0) (begin now : S) (seen line : List ℕ)
     (count : ℕ) (written : List ℕ) : Type 0 where
   pub begun : line ≡ begun_line seen
@@ -17,7 +17,7 @@ pub record Answered {S : Type 0} (gives : S → List ℕ → List ℕ → S → 
   pub printed : Prints gives begin (whole_lines seen) written now
   pub last : count ≡ MOST_LINES → line ≡ []
 
--- how many bytes may still come
+-- how many more bytes may come
 abbrev pub budget : ℕ → List ℕ → ℕ
 budget count line = (MOST_LINES - count) * (LONGEST + 1) + (LONGEST + 1 - length line)
 
@@ -26,11 +26,12 @@ abbrev pub EndsNoLine : List ℕ → Type 0
 EndsNoLine [] = Unit {0}
 EndsNoLine (byte ∷ bytes) = (byte ≢ 10) × EndsNoLine bytes
 
--- Bytes that end no line may come: none of them is after the last line that is allowed, or makes the line too long.
+-- Bytes that don't end a line are within the limits: none of them comes after the last line that is allowed, or makes
+-- the line too long.
 abbrev pub HasRoom : ℕ → List ℕ → List ℕ → Type 0
 HasRoom count line part = (part ≡ []) ⊎ ((count ≢ MOST_LINES) × (length line + length part ≤ LONGEST))
 
--- A byte of the piece goes too far after those seen and those in front of it, which end no line.
+-- A byte of the piece exceeds a limit, after those seen and those before it in the piece, which don't end a line.
 pub record BreaksLimit (seen piece : List ℕ) : Type 0 where
   pub front : List ℕ
   pub byte : ℕ
@@ -40,7 +41,7 @@ pub record BreaksLimit (seen piece : List ℕ) : Type 0 where
   pub far : GoesTooFar (seen ++ front) byte
   pub same : whole_lines (seen ++ front) ≡ whole_lines seen
 
--- What a piece does, after the bytes seen. The answer to the line that it ends stands after the text.
+-- What a piece does, after the bytes seen. The reply to the line that it ends is appended to the text.
 abbrev pub TakesPiece : {S : Type 0} → (S → List ℕ → List ℕ → S → Type 0) → S → S → List ℕ → List ℕ → List ℕ
     → List ℕ → List ℕ → List ℕ → Option ℕ → Type 0
 TakesPiece gives begin now seen piece printed before after line (Some count) =
@@ -49,8 +50,8 @@ TakesPiece gives begin now seen piece printed before after line (Some count) =
 TakesPiece gives begin now seen piece printed before after line None =
     BreaksLimit seen piece × (after ≡ before) × Prints gives begin (whole_lines seen) printed now
 
--- Of a text a writer took the part before the one that is left at `Ok`, and a front at `Err(Write)`, which is the only
--- error.
+-- A writer accepted the part of a text before the part that is left at `Ok`, and a prefix of it at `Err(Write)`, which
+-- is the only error.
 abbrev pub Flushes : Option (List ℕ) → Option (List ℕ) → List ℕ → List ℕ → Result Unit RunFault → Type 0
 Flushes before after text left (Ok done) = (sent : List ℕ) × (text ≡ sent ++ left) × Appends before after sent
 Flushes before after text left (Err Write) =
@@ -61,7 +62,7 @@ Flushes before after text left (Err TooManyLines) = ⊥
 Flushes before after text left (Err BadSizes) = ⊥
 Flushes before after text left (Err BadConfig) = ⊥
 
--- What a chunk of bytes does, after those seen. The answers `held` aren't written yet.
+-- What a chunk of bytes does, after the bytes seen. The replies in `held` aren't written yet.
 abbrev pub TakesChunk : {S : Type 0} → (S → List ℕ → List ℕ → S → Type 0) → S → S → List ℕ → List ℕ → List ℕ
     → Option (List ℕ) → Option (List ℕ) → List ℕ → List ℕ → Result ℕ RunFault → Type 0
 TakesChunk gives begin now seen chunk written before after held line (Ok count) =

@@ -1,10 +1,10 @@
-//! A list of bytes with room for a fixed number of them.
+//! A list of bytes with a fixed capacity.
 ghost use Rattle.std.specs.Prelude.{◌≡◌, ℕ, ◌+◌, ◌<◌, ◌≤◌, List, [], ◌∷◌, ◌++◌, length, IfOk, IsTrue, ◌↔◌, vec_capacity};
 
 use std::alloc::{AllocError, Global};
 use std::marker::Model;
 
-/// Up to `N` bytes, whose memory is taken when it is made.
+/// Up to `N` bytes. The memory is allocated when it is created.
 #[derive(Drop)]
 pub struct Buffer<const N: usize> {
     bytes: Vec<u8>,
@@ -19,7 +19,7 @@ impl<const N: usize> Model for Buffer<N> {
 }
 
 impl<const N: usize> Buffer<N> {
-    /// An empty buffer. It takes the memory for all `N` bytes, and is refused only where that is.
+    /// Creates an empty buffer. It allocates the memory for all `N` bytes, and fails only if that allocation fails.
     pub fn new(alloc: Global) -> Result<Buffer<N>, AllocError>
         ensures { IfOk result (λ b. b ≡ []) }
     {
@@ -28,14 +28,14 @@ impl<const N: usize> Buffer<N> {
         })
     }
 
-    /// The bytes so far, without copying.
+    /// Returns the current bytes, without copying.
     pub fn as_slice(&self) -> &[u8]
         ensures { result.now ≡ self.now }
     {
         self.bytes.as_slice()
     }
 
-    /// How many bytes there are, at most `N`.
+    /// Returns the number of bytes, at most `N`.
     pub fn len(&self) -> usize
         ensures is { result ≡ length self.now }
         ensures most { result ≤ N }
@@ -43,7 +43,7 @@ impl<const N: usize> Buffer<N> {
         self.bytes.len()
     }
 
-    /// Whether there is no byte.
+    /// Returns whether there is no byte.
     pub fn is_empty(&self) -> bool
         ensures { IsTrue result ↔ (self.now ≡ []) }
     {
@@ -57,7 +57,7 @@ impl<const N: usize> Buffer<N> {
         self.bytes.clear();
     }
 
-    /// Puts a byte after the others. There must be room for it.
+    /// Appends a byte. There must be space for it.
     pub fn push(&mut self, byte: u8)
         requires { length self.old < N }
         ensures items { self.new ≡ self.old ++ byte ∷ [] }
@@ -66,7 +66,7 @@ impl<const N: usize> Buffer<N> {
         let _ = self.bytes.push(byte);
     }
 
-    /// Puts bytes after the others. There must be room for all of them.
+    /// Appends bytes. There must be space for all of them.
     pub fn append(&mut self, bytes: &[u8])
         requires { length self.old + length bytes.now ≤ N }
         ensures items { self.new ≡ self.old ++ bytes.now }

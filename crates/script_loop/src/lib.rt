@@ -1,5 +1,5 @@
-//! The loop that reads a script and answers it line by line, and what the lines of every script are made of: words,
-//! numbers, and bytes in hexadecimal digits. What answers a line is a trait of its own, [`Answers`].
+//! The loop that reads a script and replies to it line by line, and the parts of the lines of every script: words,
+//! numbers, and bytes in hexadecimal digits. The trait [`Answers`] is implemented by what replies to a line.
 #![tactic(auto)]
 
 mod answers;

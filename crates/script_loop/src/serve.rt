@@ -1,4 +1,4 @@
-//! The loop that reads a script and answers it.
+//! The loop that reads a script and replies to it.
 ghost use Rattle.std.specs.Prelude.{◌≡◌, ◌↔◌, ◌≤◌, ◌<◌, ◌+◌, ◌^◌, ◌∷◌, [], ℕ, List, length, IsTrue, IfOk, IfSome, ◌++◌};
 ghost use Rattle.script_loop.specs.Streams.{MoreBy, Sends, reader_failures, writer_failures};
 ghost use Rattle.script_loop.specs.Serves.{Serves, IsServed};
@@ -14,22 +14,22 @@ use std::alloc::Global;
 /// The most lines that are served.
 pub(crate) const MOST_LINES: u32 = 10_000_000;
 
-/// The most bytes that a line may have before its end.
+/// The most bytes that a line can have before its end.
 pub(crate) const LONGEST: usize = 1_048_576;
 
-/// The most bytes of answers that are held while another one comes.
+/// The most bytes of replies that are kept while another reply is appended.
 pub const HELD: usize = 65_536;
 
-/// How many bytes are read at a time.
+/// The number of bytes read at a time.
 const CHUNK: usize = 8192;
 
-/// The two limits of a script, beside their numbers. It does nothing; its contract is the list.
+/// Lists the two limits of a script next to their values. The function does nothing; its contract is the list.
 pub const fn limits()
     ensures lines { MOST_LINES ≡ 10000000 }
     ensures bytes { LONGEST ≡ 2 ^ 20 }
 {}
 
-/// Answers a line.
+/// Replies to a line.
 fn answer_line<const N: usize, A: Answers<N>, W: Sink>(
     machine: &mut A,
     text: &mut Buffer<N>,
@@ -46,7 +46,7 @@ fn answer_line<const N: usize, A: Answers<N>, W: Sink>(
     send(writer, text.as_slice())
 }
 
-/// Writes the text, which is empty then.
+/// Writes the text and empties it.
 fn flush<const N: usize, W: Sink>(writer: &mut W, text: &mut Buffer<N>) -> Result<(), RunFault>
     ensures sent { Sends (W.contents writer.old) (W.contents writer.new) text.old result }
     ensures told { MoreBy (writer_failures result) (W.failures writer.old) (W.failures writer.new) }
@@ -57,7 +57,7 @@ fn flush<const N: usize, W: Sink>(writer: &mut W, text: &mut Buffer<N>) -> Resul
     outcome
 }
 
-/// Leaves room for one more answer in the text.
+/// Makes space for one more reply in the text.
 fn make_room<const N: usize, W: Sink>(writer: &mut W, text: &mut Buffer<N>) -> Result<(), RunFault>
     ensures flushed { Flushes (W.contents writer.old) (W.contents writer.new) text.old text.new result }
     ensures told { MoreBy (writer_failures result) (W.failures writer.old) (W.failures writer.new) }
@@ -69,7 +69,7 @@ fn make_room<const N: usize, W: Sink>(writer: &mut W, text: &mut Buffer<N>) -> R
     flush(writer, text)
 }
 
-/// Takes bytes that end no line, and answers whether all may come. Where one goes too far, nothing changes.
+/// Takes bytes that don't end a line. Returns whether all of them are within the limits; if not, nothing changes.
 fn take_part(line: &mut Buffer<LONGEST>, count: u32, part: &[u8]) -> bool
     requires { length line.old ≤ LONGEST }
     ensures room { IsTrue result ↔ HasRoom count line.old part.now }
@@ -85,8 +85,8 @@ fn take_part(line: &mut Buffer<LONGEST>, count: u32, part: &[u8]) -> bool
     true
 }
 
-/// Takes the last bytes of a line and the line feed after them, and puts the answer to it after the text. `count` lines
-/// were answered, and the result is how many are now, or nothing where a byte goes too far.
+/// Takes the last bytes of a line and its line feed, and appends the reply to the text. `count` lines got a reply
+/// before. Returns the new number of lines, or `None` if a byte exceeds a limit.
 fn take_end<const N: usize, A: Answers<N>>(
     machine: &mut A,
     text: &mut Buffer<N>,
@@ -116,7 +116,7 @@ fn take_end<const N: usize, A: Answers<N>>(
     Some(count + 1)
 }
 
-/// Takes the last bytes of a line and its line feed, and writes the text where it is full or a byte goes too far.
+/// Takes the last bytes of a line and its line feed, and writes the text if it is full or a byte exceeds a limit.
 fn take_line<const N: usize, A: Answers<N>, W: Sink>(
     machine: &mut A,
     text: &mut Buffer<N>,
@@ -150,7 +150,7 @@ fn take_line<const N: usize, A: Answers<N>, W: Sink>(
     }
 }
 
-/// Takes the bytes of a chunk, and answers each line that ends in it. All answers are written then.
+/// Takes the bytes of a chunk, and replies to each line that ends in it. At the end all replies are written.
 pub(crate) fn take_chunk<const N: usize, A: Answers<N>, W: Sink>(
     machine: &mut A,
     text: &mut Buffer<N>,
@@ -187,19 +187,19 @@ pub(crate) fn take_chunk<const N: usize, A: Answers<N>, W: Sink>(
     }
 }
 
-/// Serves a script: has `machine` answer its lines, one after another.
+/// Serves a script: has `machine` reply to its lines, one after another.
 ///
-/// Each line is answered when its end was read, and a line begun when the input ends is one too. Host memory is taken
-/// before the first read alone.
+/// Each line gets its reply when its end has been read. If the input ends within a line, that counts as a line too.
+/// Memory is allocated only before the first read.
 ///
 /// # Errors
 ///
-/// `Memory` where host memory is lacking. Nothing was read or written then, and the machine is as it was.
+/// `Memory` if the host refuses memory. Nothing was read or written then, and the machine is unchanged.
 ///
-/// `Read` where the reader answers an error: each whole line before it was answered. `Write` where the writer answers
-/// an error, or takes none of the bytes that it is given: a front of the answers was written. `TooManyLines` at a byte
-/// after the 10,000,000th line, or one that makes a line longer than 1,048,576 bytes: each whole line before it was
-/// answered. `BadSizes` and `BadConfig` never come.
+/// `Read` if the reader returns an error: each whole line before it got its reply. `Write` if the writer returns an
+/// error, or accepts none of the bytes: a prefix of the replies was written. `TooManyLines` at a byte after the
+/// 10,000,000th line, or one that makes a line longer than 1,048,576 bytes: each whole line before it got its reply.
+/// `BadSizes` and `BadConfig` are never returned.
 pub fn serve_script<const N: usize, A: Answers<N>, R: Source, W: Sink>(
     alloc: Global,
     machine: &mut A,

@@ -1,4 +1,4 @@
-//! Readers and writers that may tell how many errors they answered.
+//! Readers and writers that can record how many errors they returned.
 ghost use Rattle.std.specs.Prelude.{◌≡◌, ◌<◌, ℕ, length, Option, Some, None};
 ghost use Rattle.std.specs.Io.{ReadsAtMost, WritesAtMost};
 ghost use Rattle.std.specs.Io.KnownBytes.{ReadConsumes, WriteAppends};
@@ -7,7 +7,7 @@ ghost use Rattle.script_loop.specs.Streams.{MoreBy, Sends, read_failures, write_
 use crate::fault::RunFault;
 use std::io::{self, Read, Write};
 
-/// A reader that may tell how many errors it has answered.
+/// A reader that can record how many errors it has returned.
 pub trait Source: Read {
     ghost failures: { Self → Option ℕ } = { λ _. None };
 
@@ -18,7 +18,7 @@ pub trait Source: Read {
         ensures count { MoreBy (read_failures result) (failures self.old) (failures self.new) };
 }
 
-/// A writer that may tell how often it has failed: by an error, or by taking none of some bytes.
+/// A writer that can record how often it has failed: by an error, or by accepting none of the bytes.
 pub trait Sink: Write {
     ghost failures: { Self → Option ℕ } = { λ _. None };
 
@@ -30,7 +30,7 @@ pub trait Sink: Write {
         ensures count { MoreBy (write_failures result) (failures self.old) (failures self.new) };
 }
 
-/// Writes all the bytes. An error, and a write of no bytes, end it.
+/// Writes all the bytes. It stops at an error, or at a write of no bytes.
 pub fn send<W: Sink>(writer: &mut W, bytes: &[u8]) -> Result<(), RunFault>
     ensures sent { Sends (W.contents writer.old) (W.contents writer.new) bytes.now result }
     ensures told { MoreBy (writer_failures result) (W.failures writer.old) (W.failures writer.new) }
@@ -45,7 +45,7 @@ pub fn send<W: Sink>(writer: &mut W, bytes: &[u8]) -> Result<(), RunFault>
     Ok(())
 }
 
-/// A stream as it is, which doesn't tell of its failures.
+/// A stream as it is, which doesn't record its failures.
 #[derive(Drop)]
 pub struct Silent<T>(pub T);
 

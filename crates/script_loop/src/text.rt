@@ -1,10 +1,10 @@
-//! Numbers and bytes as replies write them.
+//! Numbers and bytes as replies print them.
 ghost use Rattle.std.specs.Prelude.{◌≡◌, ◌+◌, ◌*◌, ◌≤◌, ◌++◌, length, decimal};
 ghost use Rattle.flat_model.specs.Scripts.Texts.{hex_text};
 
 use crate::buffer::Buffer;
 
-/// Puts the digits of a number after the text, ten of them at most. There must be room for ten.
+/// Appends the digits of a number to the text, at most ten. There must be space for ten.
 pub fn put_number<const N: usize>(text: &mut Buffer<N>, n: u32)
     requires { length text.old + 10 ≤ N }
     ensures items { text.new ≡ text.old ++ decimal n }
@@ -14,8 +14,8 @@ pub fn put_number<const N: usize>(text: &mut Buffer<N>, n: u32)
     text.append(digits.format(n).as_bytes());
 }
 
-/// Puts two digits for each byte after the text, in lower case, or a dash where there is no byte. There must be room
-/// for all digits and one byte more. `digits` is room for them, and what it held is lost.
+/// Appends two lower-case digits for each byte to the text, or a dash if there is no byte. There must be space for all
+/// digits and one more byte. `digits` is scratch memory for them, and its contents are lost.
 pub fn put_hex<const N: usize>(text: &mut Buffer<N>, digits: &mut [u8], bytes: &[u8])
     requires room { length text.old + 2 * length bytes.now + 1 ≤ N }
     requires digits { 2 * length bytes.now ≤ length digits.old }

@@ -1,4 +1,4 @@
-//! The words of a line, and the numbers and bytes that they write.
+//! The words of a line, and the numbers and bytes that they encode.
 ghost use Rattle.std.specs.Prelude.{◌≡◌, ◌≤◌, ◌↔◌, ℕ, List, [], ◌∷◌, position, ◌==◌, length, take, IsTrue, MatchOption, IfSome};
 ghost use Rattle.params.specs.declared.TheConstants.{IP_MAX_PACKET};
 ghost use Rattle.flat_model.specs.Scripts.Grammar.{words, IsNumber, IsHex};
@@ -7,14 +7,14 @@ ghost use Rattle.script_loop.specs.Left.{left};
 use memchr::memchr;
 use std::str;
 
-/// Where the first space is.
+/// Returns the index of the first space.
 fn space_at(text: &[u8]) -> Option<usize>
     ensures { result ≡ position (λ b. b == 32) text.now }
 {
     memchr(b' ', text)
 }
 
-/// The first word, and what is left after the space that ends it.
+/// Returns the first word, and the rest after the space that ends it.
 pub fn first_word(text: &[u8]) -> (&[u8], Option<&[u8]>)
     ensures { words text.now ≡ result.0.now ∷ left result.1 }
 {
@@ -24,7 +24,7 @@ pub fn first_word(text: &[u8]) -> (&[u8], Option<&[u8]>)
     }
 }
 
-/// Whether no word is left.
+/// Returns whether no word is left.
 pub fn is_end(rest: Option<&[u8]>) -> bool
     ensures { IsTrue result ↔ (left rest.entry ≡ []) }
 {
@@ -34,7 +34,7 @@ pub fn is_end(rest: Option<&[u8]>) -> bool
     }
 }
 
-/// The one word that is left.
+/// Returns the only word that is left.
 pub fn one(rest: Option<&[u8]>) -> Option<&[u8]>
     ensures { MatchOption result ((a : List ℕ) → left rest.entry ≡ a ∷ [] →
         ⊥) (λ a. left rest.entry ≡ a.now ∷ []) }
@@ -46,7 +46,7 @@ pub fn one(rest: Option<&[u8]>) -> Option<&[u8]>
     }
 }
 
-/// The two words that are left.
+/// Returns the two words that are left.
 pub fn two(rest: Option<&[u8]>) -> Option<(&[u8], &[u8])>
     ensures { MatchOption result ((a b : List ℕ) → left rest.entry ≡ a ∷ b ∷ [] → ⊥)
         (λ t. left rest.entry ≡ t.0.now ∷ t.1.now ∷ []) }
@@ -56,7 +56,7 @@ pub fn two(rest: Option<&[u8]>) -> Option<(&[u8], &[u8])>
     Some((first, second))
 }
 
-/// The three words that are left.
+/// Returns the three words that are left.
 pub fn three(rest: Option<&[u8]>) -> Option<(&[u8], &[u8], &[u8])>
     ensures { MatchOption result ((a b c : List ℕ) → left rest.entry ≡ a ∷ b ∷ c ∷ [] → ⊥)
         (λ t. left rest.entry ≡ t.0.now ∷ t.1.now ∷ t.2.now ∷ []) }
@@ -67,7 +67,7 @@ pub fn three(rest: Option<&[u8]>) -> Option<(&[u8], &[u8], &[u8])>
     Some((first, second, third))
 }
 
-/// The number of at most `most` that the word writes just as it is printed.
+/// Parses a number of at most `most` in exactly the form in which it is printed.
 pub fn number(word: &[u8], most: u32) -> Option<u32>
     ensures { MatchOption result ((n : ℕ) → IsNumber most word.now n →
         ⊥) (λ n. IsNumber most word.now n) }
@@ -85,9 +85,9 @@ pub fn number(word: &[u8], most: u32) -> Option<u32>
     Some(value)
 }
 
-/// Puts the bytes that a word writes into the room, and answers how many they are: `-` for none, or two hexadecimal
-/// digits of either case for each of 1 to 65,535 bytes. Any other word is answered `None`, and what the room held may
-/// be lost then. The room has exactly 65,535 bytes.
+/// Decodes a word into `room`, which has exactly 65,535 bytes, and returns the number of bytes: `-` for none, or two
+/// hexadecimal digits of either case for each of 1 to 65,535 bytes. Returns `None` for any other word; the contents of
+/// `room` may be lost then.
 pub fn bytes(word: &[u8], room: &mut [u8]) -> Option<usize>
     requires { length room.old ≡ IP_MAX_PACKET }
     ensures bytes { MatchOption result ((xs : List ℕ) → IsHex word.now xs → ⊥)

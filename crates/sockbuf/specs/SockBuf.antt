@@ -15,34 +15,34 @@ use Rattle.ledger.specs.Accounts.{entries_weight, weight_at}
 use Rattle.sockbuf.specs.declared.buffer.Refusal.{Refusal}
 use Rattle.sockbuf.specs.declared.buffer.Refusal.TheVariants.{Full, NoBufs}
 
--- what a contract sees of a queue: its train, and the two sums that it keeps
+-- what contracts see of a queue: its train, and the two sums that it keeps
 pub record SockBufView : Type 0 where
   pub train : TrainView
   pub cc : ℕ
   pub mbcnt : ℕ
 
--- nothing was received
+-- an empty queue
 abbrev pub no_datagrams : SockBufView
 no_datagrams = record { train = record { first = None; last = None; len = 0 }; cc = 0; mbcnt = 0 }
 
 -- ---- a sender's address in an mbuf
 
--- Sixteen bytes (`sockaddr_in` of volume 2, chapter 6): how many there are, 2 for the Internet's family, the port, the
+-- Sixteen bytes (`sockaddr_in` of volume 2, chapter 6): the length, 2 for the Internet address family, the port, the
 -- address, and eight zeros.
 abbrev pub sockaddr_bytes : Addr → List ℕ
 sockaddr_bytes a = SOCKADDR_BYTES ∷ 2 ∷ two_bytes a.port ++ four_bytes a.ip ++ 0 ∷ 0 ∷ 0 ∷ 0 ∷ 0 ∷ 0 ∷ 0 ∷ 0 ∷ []
 
--- what sixteen such bytes say
+-- the address that sixteen such bytes encode
 abbrev pub sockaddr_in : List ℕ → Addr
 sockaddr_in bytes = record { ip = u32_at 4 bytes; port = u16_at 2 bytes }
 
--- the mbuf in front of a datagram
+-- the mbuf before a datagram
 abbrev pub address_entry : Addr → Entry
 address_entry a = record { bytes = sockaddr_bytes a; start = PACKET_START; cluster = None }
 
 -- ---- the datagrams of a queue
 
--- the datagram that the mbufs of a queued chain mean: the first has the sender's address
+-- the datagram that the mbufs of a queued chain represent: the first contains the sender's address
 abbrev pub queued_datagram : List Entry → Datagram
 queued_datagram [] = record { sender = record { ip = 0; port = 0 }; item = record { bytes = []; weight = nothing } }
 queued_datagram (front ∷ es) =
@@ -51,7 +51,7 @@ queued_datagram (front ∷ es) =
       item = record { bytes = flat_bytes es; weight = mbuf ⊕ entries_weight es };
     }
 
--- the first mbuf has an address, and one at least follows
+-- the first mbuf contains an address, and at least one more follows
 abbrev pub IsDatagram : List Entry → Type 0
 IsDatagram [] = ⊥
 IsDatagram (front ∷ es) = (front ≡ address_entry (sockaddr_in front.bytes)) × (0 < length es)
@@ -67,7 +67,8 @@ datagrams p b = datagrams_of (queued_packets p b.train)
 abbrev pub chains_of : PoolView → SockBufView → List ℕ
 chains_of p b = numbers p b.train
 
--- what its datagrams weigh, as `memory_queued` counts it: 128 bytes for each mbuf, 2048 for each reference to a cluster
+-- the memory for its datagrams, as `memory_queued` counts it: 128 bytes for each mbuf, 2048 for each reference to a
+-- cluster
 abbrev pub memory_of : Weight → ℕ
 memory_of w = MSIZE * w.mbufs + MCLBYTES * length w.bag
 
@@ -78,14 +79,14 @@ pub record IsSockBuf (p : PoolView) (b : SockBufView) : Type 0 where
   pub cc : b.cc ≡ bytes_queued (datagrams p b)
   pub mbcnt : b.mbcnt ≡ memory_queued (datagrams p b)
 
--- ---- what the calls make of it
+-- ---- the effects of the calls
 
--- the datagram that chain c is once it's queued: its weight has the mbuf of the address too
+-- the datagram of chain c after it is queued: its weight includes the mbuf of the address
 abbrev pub datagram_from : Addr → PoolView → ℕ → Datagram
 datagram_from sender p c =
     record { sender = sender; item = record { bytes = string (chain_of p c); weight = mbuf ⊕ weight_at p c } }
 
--- nothing came of it: chain c is handed back
+-- nothing changed, and chain c is handed back
 pub record IsRefused (p : PoolView) (b : SockBufView) (c back : ℕ) (q : PoolView) (d : SockBufView) : Type 0 where
   pub chain : back ≡ c
   pub pool : q ≡ p
@@ -102,15 +103,15 @@ AppendsAddr p b sender c (Err (back, Full)) q d =
 AppendsAddr p b sender c (Err (back, NoBufs)) q d =
     (fits (datagrams p b) (length (string (chain_of p c))) ≡ true) × (held_mbufs p ≡ p.mbufs) × IsRefused p b c back q d
 
--- The oldest datagram, of this sender and with the entries of chain c, was taken out, and its mbuf for the address
--- freed. The chain has no packet header and is in no train.
+-- The oldest datagram, with this sender and the entries of chain c, was removed, and its mbuf for the address freed.
+-- The chain has no packet header and is in no train.
 pub record TakesOldest (p : PoolView) (b : SockBufView) (sender : Addr) (c : ℕ) (q : PoolView) (d : SockBufView) : Type
     0 where
   pub datagrams : datagrams p b ≡ datagram_from sender q c ∷ datagrams q d
   pub front : (chain_of q c).front ≡ alone false
   pub moves : Moves p (chains_of p b) q (c ∷ chains_of q d)
 
--- there was none
+-- the queue was empty
 pub record IsEmpty (p : PoolView) (b : SockBufView) (q : PoolView) (d : SockBufView) : Type 0 where
   pub none : datagrams p b ≡ []
   pub pool : q ≡ p

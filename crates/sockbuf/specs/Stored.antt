@@ -1,12 +1,12 @@
--- A datagram that is stored and queued at once (this project's own; the layout is that of `m_devget` and `sbappendaddr`
--- of TCP/IP Illustrated, volume 2, chapters 2 and 16).
+-- A datagram that is stored and queued in one call (this project's own; the layout is that of `m_devget` and
+-- `sbappendaddr` of TCP/IP Illustrated, volume 2, chapters 2 and 16).
 use Rattle.std.specs.Prelude.{◌≡◌, ℕ, ◌<◌, Bool, true, false, List, [], ◌∷◌, ◌++◌, Option, Some, None}
 use Rattle.flat_model.specs.Machine.State.{Datagram}
 use Rattle.flat_model.specs.declared.address.Addr.{Addr}
 use Rattle.mbuf_chain.specs.Chain.{PoolView, references}
 use Rattle.sockbuf.specs.SockBuf.{SockBufView, datagrams}
 
--- the cluster that a new mbuf takes, where it takes one: nothing referred to it
+-- the cluster that a new mbuf takes, if it takes one: it had no reference
 abbrev pub IsTaken : PoolView → Bool → Option ℕ → Type 0
 IsTaken p true None = ⊥
 IsTaken p true (Some c) = (c < p.clusters) × (references p c ≡ 0)
@@ -18,7 +18,7 @@ abbrev pub bag_of : Option ℕ → List ℕ
 bag_of None = []
 bag_of (Some c) = c ∷ []
 
--- bytes in one mbuf, behind another with the sender's address
+-- bytes in one mbuf, after another with the sender's address
 abbrev pub stored_datagram : Addr → List ℕ → Option ℕ → Datagram
 stored_datagram sender bytes cluster =
     record { sender = sender; item = record { bytes = bytes; weight = record { mbufs = 2; bag = bag_of cluster } } }

@@ -1,4 +1,4 @@
-//! A sender's address in an mbuf of its own, in front of a datagram.
+//! A sender's address, in an mbuf of its own before a datagram.
 
 ghost use Rattle.std.specs.Prelude.{◌≡◌, ◌<◌, ◌∷◌, [], true, length};
 ghost use Rattle.mbuf_chain.specs.Chain.{IsLive, chain_of, held_mbufs, string};
@@ -10,13 +10,13 @@ use flat_model::Addr;
 use mbuf_chain::{Chain, Pool};
 use params::{PACKET_START, SOCKADDR_BYTES};
 
-/// The bytes of an address begin with how many they are.
+/// The first byte of an address: its length.
 const LENGTH: u8 = SOCKADDR_BYTES as u8;
 
-/// The family of the Internet's addresses, `AF_INET`.
+/// The Internet address family, `AF_INET`.
 const FAMILY: u8 = 2;
 
-/// The bytes of a sender's address.
+/// Encodes a sender's address.
 fn sockaddr_bytes(sender: Addr) -> [u8; SOCKADDR_BYTES as usize]
     ensures { result ≡ sockaddr_bytes sender }
 {
@@ -28,7 +28,7 @@ fn sockaddr_bytes(sender: Addr) -> [u8; SOCKADDR_BYTES as usize]
     bytes
 }
 
-/// The address that such bytes say.
+/// Decodes a sender's address.
 pub(crate) fn sockaddr_in(bytes: &[u8]) -> Addr
     requires { length bytes.now ≡ SOCKADDR_BYTES }
     ensures { result ≡ sockaddr_in bytes.now }
@@ -39,8 +39,8 @@ pub(crate) fn sockaddr_in(bytes: &[u8]) -> Addr
     }
 }
 
-/// Puts an mbuf with the sender's address in front of a chain of `len` bytes. An mbuf has to be free.
-// Inlined into its one caller.
+/// Prepends an mbuf with the sender's address to a chain of `len` bytes. An mbuf must be free.
+// Inlined into its only caller.
 #[inline(always)]
 pub(crate) fn with_address(pool: &mut Pool, sender: Addr, chain: Chain, len: u32) -> Chain
     requires live { IsLive pool.old chain }

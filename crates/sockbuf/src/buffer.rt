@@ -22,7 +22,7 @@ use thiserror::Error;
 /// Why a datagram wasn't queued.
 #[derive(Clone, Copy, Debug, PartialEq, Eq, Error)]
 pub enum Refusal {
-    /// It doesn't fit beside what waits.
+    /// It doesn't fit, given what is queued already.
     #[error("receive queue full")]
     Full,
     /// No mbuf is free for the sender's address.
@@ -30,10 +30,11 @@ pub enum Refusal {
     NoBufs,
 }
 
-/// The datagrams that a socket has received and nobody has read, the oldest first. It must be spent, by `end`.
+/// The datagrams that a socket has received and the program hasn't read yet, oldest first. It must be consumed by
+/// `end`.
 ///
-/// It takes at most 41,600 bytes, 16 for each sender's address among them, and 83,200 bytes of memory for them: 128
-/// for each mbuf and 2048 for each reference to a cluster. A datagram's own mbufs don't count in its own test, as in
+/// It holds at most 41,600 bytes, including 16 for each sender's address, and 83,200 bytes of memory: 128 for each mbuf
+/// and 2048 for each reference to a cluster. A datagram's own mbufs don't count in the test of whether it fits, as in
 /// `sbappendaddr` of volume 2, chapter 16.
 pub struct SockBuf {
     train: Train,
@@ -50,7 +51,7 @@ impl Model for SockBuf {
 }
 
 impl SockBuf {
-    /// An empty queue. It fits every pool.
+    /// Creates an empty queue. It fits every pool.
     pub const fn new() -> SockBuf
         ensures { result ≡ no_datagrams }
     {
@@ -61,43 +62,43 @@ impl SockBuf {
         }
     }
 
-    /// An empty queue, as `new` makes one, for a caller who boots it as other parts of a stack. What waits lies in the
-    /// pool, so it asks for no memory, and always answers `Ok`.
+    /// Creates an empty queue, as `new` does, for a caller that boots it like the other parts of a stack. The queued
+    /// datagrams are in the pool, so this allocates nothing and always returns `Ok`.
     pub fn boot(_alloc: Global) -> Result<SockBuf, AllocError>
         ensures { result ≡ Ok no_datagrams }
     {
         Ok(SockBuf::new())
     }
 
-    /// How many datagrams wait.
+    /// Returns the number of queued datagrams.
     pub const fn len(&self) -> u32
         ensures { (p : PoolView) → IsSockBuf p self.now → result ≡ length (datagrams p self.now) }
     {
         self.train.len()
     }
 
-    /// Whether none waits.
+    /// Returns whether the queue is empty.
     pub const fn is_empty(&self) -> bool
         ensures { (p : PoolView) → IsSockBuf p self.now → result ≡ (length (datagrams p self.now) == 0) }
     {
         self.train.is_empty()
     }
 
-    /// How many bytes wait, with 16 for each sender's address: `sb_cc`.
+    /// Returns the number of queued bytes, including 16 for each sender's address: `sb_cc`.
     pub fn cc(&self) -> u32
         ensures { (p : PoolView) → IsSockBuf p self.now → result ≡ flat.bytes_queued (datagrams p self.now) }
     {
         self.cc
     }
 
-    /// How much memory is after them, in bytes: `sb_mbcnt`.
+    /// Returns how much memory the queued datagrams occupy, in bytes: `sb_mbcnt`.
     pub fn mbcnt(&self) -> u32
         ensures { (p : PoolView) → IsSockBuf p self.now → result ≡ flat.memory_queued (datagrams p self.now) }
     {
         self.mbcnt
     }
 
-    /// Whether a datagram of `len` bytes fits.
+    /// Returns whether a datagram of `len` bytes fits.
     pub fn fits(&self, len: u32) -> bool
         ensures { (p : PoolView) → IsSockBuf p self.now → result ≡ flat.fits (datagrams p self.now) len }
     {
@@ -106,8 +107,8 @@ impl SockBuf {
             && with_address + u64::from(self.mbcnt) <= u64::from(UDP_RECEIVE_MEMORY)
     }
 
-    /// Who sent the oldest datagram, and how many bytes it has; `None` where none waits. It changes nothing, and takes
-    /// a number of steps that doesn't depend on the queue.
+    /// Returns the sender and the length in bytes of the oldest datagram; `None` if the queue is empty. It changes
+    /// nothing. The number of steps doesn't depend on the queue.
     pub fn oldest(&self, pool: &Pool) -> Option<(Addr, u32)>
         requires { IsSockBuf pool.now self.now }
         ensures { result ≡ oldest_of (datagrams pool.now self.now) }
@@ -121,9 +122,9 @@ impl SockBuf {
         }
     }
 
-    /// What each mbuf of the datagram in front of which `i` others wait says of itself, and its bytes, in order: for a
-    /// drawing of them. The sender's address is in the first. `None` exactly if no more than `i` wait. It takes a step
-    /// for each datagram in front.
+    /// Returns the mbufs of the datagram at index `i`, in order, for drawing them: each one's head fields and its
+    /// bytes. The first mbuf contains the sender's address. Returns `None` exactly if there are no more than `i`
+    /// datagrams. It takes one step for each datagram before it.
     pub fn heads<'a>(&self, pool: &'a Pool, i: u32) -> Option<MbufHeads<'a>>
         requires { IsSockBuf pool.now self.now }
         ensures { result ≡ nth_heads pool.now (chains_of pool.now self.now) i }
@@ -131,9 +132,13 @@ impl SockBuf {
         self.train.heads(pool, i)
     }
 
-    /// Puts a datagram at the end, with its sender's address in an mbuf in front (`sbappendaddr`). It takes one mbuf,
-    /// and a number of steps that doesn't depend on the queue. Refused, and then nothing changes and the chain is
-    /// handed back: `Full` exactly where it doesn't fit, `NoBufs` exactly where it fits and no mbuf is free.
+    /// Appends a datagram, with its sender's address in an mbuf before it (`sbappendaddr`). It takes one mbuf. The
+    /// number of steps doesn't depend on the queue.
+    ///
+    /// # Errors
+    ///
+    /// `Full` exactly if the datagram doesn't fit; `NoBufs` exactly if it fits and no mbuf is free. On error nothing
+    /// changes and the caller gets the chain back.
     pub fn append_addr(
         &mut self,
         pool: &mut Pool,
@@ -157,9 +162,9 @@ impl SockBuf {
         Ok(())
     }
 
-    /// Puts a datagram of `len` bytes at the end, as `append_addr` does, for a caller who has asked before: it has to
-    /// fit, and an mbuf has to be free.
-    // Inlined, since a stack has one place that appends.
+    /// Appends a datagram of `len` bytes, as `append_addr` does, for a caller that has made the tests: it must fit, and
+    /// an mbuf must be free.
+    // Inlined, because a stack appends in only one place.
     #[inline(always)]
     pub fn append_fitting(&mut self, pool: &mut Pool, sender: Addr, chain: Chain, len: u32)
         requires ready { IsSockBuf pool.old self.old }
@@ -208,9 +213,10 @@ impl SockBuf {
         self.mbcnt += MSIZE + memory;
     }
 
-    /// Takes the oldest datagram and answers its sender and its chain, whose mbufs are those that were queued; only its
-    /// packet header is gone. The chain is in no train. The mbuf with the address is freed. `None` if none waits.
-    // Inlined, since a stack has one place that takes.
+    /// Removes the oldest datagram and returns its sender and its chain. The chain's mbufs are those that were queued;
+    /// only its packet header is gone. The chain is in no train. The mbuf with the address is freed. Returns `None` if
+    /// the queue is empty.
+    // Inlined, because a stack reads in only one place.
     #[inline(always)]
     pub fn take(&mut self, pool: &mut Pool) -> Option<(Addr, Chain)>
         requires ready { IsSockBuf pool.old self.old }
@@ -248,7 +254,7 @@ impl SockBuf {
         self.mbcnt = 0;
     }
 
-    /// Ends a queue in which nothing waits, for which no pool has to be at hand.
+    /// Consumes an empty queue. This needs no pool.
     pub fn end_empty(self)
         requires { self.train.len ≡ 0 }
     {
@@ -260,7 +266,7 @@ impl SockBuf {
         train.end_empty();
     }
 
-    /// Frees all datagrams, and ends the queue.
+    /// Frees all datagrams, and consumes the queue.
     pub fn end(self, pool: &mut Pool)
         requires { IsSockBuf pool.old self }
         ensures { Moves pool.old (chains_of pool.old self) pool.new [] }

@@ -1,8 +1,8 @@
-//! The receive queue of a socket: datagrams that nobody has read yet, with their senders, and the limits of TCP/IP
-//! Illustrated, volume 2, chapter 16.
+//! The receive queue of a socket: datagrams that the program hasn't read yet, with their senders, and the limits of
+//! TCP/IP Illustrated, volume 2, chapter 16.
 //!
-//! A datagram is a chain with one more mbuf in front, which has the sender's address. The queue itself takes no
-//! memory: its chains are linked in their own mbufs.
+//! A datagram is a chain with one more mbuf before it, which contains the sender's address. The queue itself takes no
+//! memory: its chains are linked through their own mbufs.
 #![tactic(auto)]
 
 mod address;

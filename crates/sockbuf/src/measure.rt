@@ -1,4 +1,4 @@
-//! What a chain weighs.
+//! The memory that a chain takes.
 
 ghost use Rattle.std.specs.Prelude.{◌≡◌, ◌+◌, ◌*◌, ◌≤◌, length};
 ghost use Rattle.mbuf_chain.specs.Chain.{IsLive, chain_of};
@@ -8,7 +8,7 @@ ghost use Rattle.sockbuf.specs.SockBuf.{memory_of};
 use mbuf_chain::{Chain, Pool};
 use params::{MAX_MBUFS, MCLBYTES, MSIZE};
 
-/// The memory that a chain takes, in bytes: 128 for each mbuf, and 2048 for each reference to a cluster.
+/// Returns the memory that a chain takes, in bytes: 128 for each mbuf, and 2048 for each reference to a cluster.
 pub(crate) fn memory_of(pool: &Pool, chain: &Chain) -> u32
     requires { IsLive pool.now chain.now }
     ensures value { result ≡ memory_of (weight_at pool.now chain.now) }

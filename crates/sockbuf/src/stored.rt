@@ -1,4 +1,4 @@
-//! A datagram that is stored and queued at once.
+//! A datagram that is stored and queued in one call.
 
 ghost use Rattle.std.specs.Prelude.{◌≡◌, ◌+◌, ◌<◌, ◌≤◌, ◌++◌, ◌∷◌, [], true, false, length, ℕ, Option, if◌then◌else◌};
 ghost use Rattle.flat_model.specs.Sockets.Fits as flat;
@@ -13,7 +13,8 @@ use flat_model::Addr;
 use mbuf_chain::{Chain, Pool};
 use params::{MBUF_HEADER, MCLBYTES, MSIZE};
 
-/// A chain of one mbuf with bytes in a cluster of its own, from `start` on. An mbuf and a cluster have to be free.
+/// Makes a chain of one mbuf, with the bytes in a cluster of its own from offset `start`. An mbuf and a cluster must be
+/// free.
 #[inline(always)]
 fn in_cluster(pool: &mut Pool, start: u32, bytes: &[u8]) -> Chain
     requires room { start + length bytes.now ≤ MCLBYTES }
@@ -28,7 +29,7 @@ fn in_cluster(pool: &mut Pool, start: u32, bytes: &[u8]) -> Chain
     }
 }
 
-/// The same in an mbuf's own room. An mbuf has to be free.
+/// Does the same in the mbuf's own data area. An mbuf must be free.
 #[inline(always)]
 fn in_mbuf(pool: &mut Pool, start: u32, bytes: &[u8]) -> Chain
     requires low { MBUF_HEADER ≤ start }
@@ -43,7 +44,7 @@ fn in_mbuf(pool: &mut Pool, start: u32, bytes: &[u8]) -> Chain
     }
 }
 
-/// A chain of one mbuf with bytes: in a cluster or in its own room.
+/// Makes a chain of one mbuf with the bytes, in a cluster or in its own data area.
 #[inline(always)]
 fn one_mbuf(pool: &mut Pool, is_large: bool, start: u32, bytes: &[u8]) -> Chain
     requires low { MBUF_HEADER ≤ start }
@@ -61,10 +62,9 @@ fn one_mbuf(pool: &mut Pool, is_large: bool, start: u32, bytes: &[u8]) -> Chain
 }
 
 impl SockBuf {
-    /// Puts bytes at the end, as a datagram of one mbuf behind one with its sender's address: they stand in a cluster
-    /// or in the mbuf's own room, from `start` on. They have to fit there and into the queue, and the buffers have to
-    /// be free.
-    // Inlined, since a stack has one place that stores.
+    /// Appends a datagram of one mbuf, after an mbuf with its sender's address. The bytes go into a cluster or into the
+    /// mbuf's own data area, from offset `start`. They must fit there and into the queue, and the buffers must be free.
+    // Inlined, because a stack stores in only one place.
     #[inline(always)]
     pub fn store(&mut self, pool: &mut Pool, sender: Addr, is_large: bool, start: u32, bytes: &[u8])
         requires ready { IsSockBuf pool.old self.old }

@@ -1,4 +1,4 @@
-//! The one call of a stack.
+//! The single entry point for calls to a stack.
 ghost use Rattle.std.specs.Prelude.{◌≡◌, ◌≤◌, length};
 ghost use Rattle.params.specs.declared.TheConstants.{IP_MAX_PACKET, MAX_MTU};
 ghost use Rattle.flat_model.specs.Machine.Event.{Receive, Transmit};
@@ -12,7 +12,7 @@ use flat_model::Errno;
 use net_stack::Stack;
 use request::{Reply, Request};
 
-/// The reply of a call that answers nothing else.
+/// Returns the reply of a call without a result of its own.
 fn done(outcome: Result<(), Errno>) -> Reply<'static>
     ensures reply { reply_of result ≡ done_reply outcome }
     ensures len { len_of result ≡ 0 }
@@ -23,7 +23,7 @@ fn done(outcome: Result<(), Errno>) -> Reply<'static>
     }
 }
 
-/// The reply of `socket`.
+/// Returns the reply of `socket`.
 fn opened(outcome: Result<u32, Errno>) -> Reply<'static>
     ensures reply { reply_of result ≡ opened_reply outcome }
     ensures len { len_of result ≡ 0 }
@@ -34,7 +34,7 @@ fn opened(outcome: Result<u32, Errno>) -> Reply<'static>
     }
 }
 
-/// The reply of a send.
+/// Returns the reply of a send.
 fn sent(outcome: Result<usize, Errno>) -> Reply<'static>
     ensures reply { reply_of result ≡ sent_reply outcome }
     ensures len { len_of result ≡ 0 }
@@ -45,7 +45,7 @@ fn sent(outcome: Result<usize, Errno>) -> Reply<'static>
     }
 }
 
-/// Receives as many bytes as there is room for.
+/// Receives at most `room.len()` bytes.
 #[tactic(auto, unfolding(crate::specs::Moves::StackSteps))]
 fn receive<'r>(stack: &mut Stack, fd: u32, room: &'r mut [u8]) -> Reply<'r>
     ensures step { StackSteps (state_of stack.old) (Receive fd (length room.old)) (reply_of result)
@@ -72,8 +72,7 @@ fn transmit<'r>(stack: &mut Stack, room: &'r mut [u8]) -> Reply<'r>
     }
 }
 
-/// Asks a stack: makes the call that a request stands for, and answers its reply, whose bytes stand in front of the
-/// room.
+/// Makes the call that a request describes, and returns its reply. The bytes of the reply are at the front of `room`.
 #[tactic(auto, unfolding(crate::specs::Moves::StackSteps))]
 pub fn call<'r>(stack: &mut Stack, request: Request<'_>, room: &'r mut [u8]) -> Reply<'r>
     requires fits { room_of request ≤ IP_MAX_PACKET }

@@ -1,4 +1,4 @@
-//! A stack is asked: one call for all that may be asked of it, whose answer is a reply of the flat machine.
+//! One function for all calls to a stack. It takes a request and returns a reply of the reference machine.
 #![tactic(auto)]
 
 mod calls;

@@ -120,12 +120,12 @@ BsdudpStack::GetTypeId()
             .AddConstructor<BsdudpStack>()
             .AddAttribute("Mbufs",
                           "How many mbufs of 128 bytes the pool has.",
-                          UintegerValue(512),
+                          UintegerValue(2048),
                           MakeUintegerAccessor(&BsdudpStack::m_mbufs),
                           MakeUintegerChecker<uint32_t>(1, 65535))
             .AddAttribute("Clusters",
                           "How many clusters of 2,048 bytes the pool has.",
-                          UintegerValue(64),
+                          UintegerValue(512),
                           MakeUintegerAccessor(&BsdudpStack::m_clusters),
                           MakeUintegerChecker<uint32_t>(0, 4096))
             .AddAttribute("FirstId",

@@ -1,5 +1,4 @@
--- The request that a call stands for. The bytes that a line has stand in front of the room beside it (this project's
--- own).
+-- The request that a call describes. The bytes of a line are at the front of the separate buffer (this project's own).
 use Rattle.std.specs.Prelude.{◌≡◌, ℕ, ◌<◌, ◌≤◌, List, take, Option, Some, None}
 use Rattle.params.specs.declared.TheConstants.{IP_MAX_PACKET}
 use Rattle.chain_script.specs.Lines as lines
@@ -22,7 +21,7 @@ request_of (Show slot) room = lines.Show slot
 request_of (Free slot) room = lines.Free slot
 request_of Usage room = lines.Ask_usage
 
--- its slots are slots, and its numbers are those of lines
+-- its slots exist, and its numbers are within the limits of a line
 abbrev pub IsSlotCall : Call → Type 0
 IsSlotCall (User slot len) = (slot < SLOTS) × (len ≤ IP_MAX_PACKET)
 IsSlotCall (Wire slot len) = (slot < SLOTS) × (len ≤ IP_MAX_PACKET)
@@ -38,11 +37,11 @@ IsSlotCall (Show slot) = slot < SLOTS
 IsSlotCall (Free slot) = slot < SLOTS
 IsSlotCall Usage = Unit {0}
 
--- the words after the keyword ask for the request
+-- the words after the keyword make up the request
 abbrev pub IsChainForm : List ℕ → List (List ℕ) → lines.Request → Type 0
 IsChainForm name args request = (lines.chain_keyword request ≡ name) × lines.HasWords request args
 
--- what the words after the keyword ask for
+-- the result of parsing the words after the keyword
 abbrev pub ReadsChainForm : List ℕ → List (List ℕ) → List ℕ → Option Call → Type 0
 ReadsChainForm name args room (Some call) = IsChainForm name args (request_of call room) × IsSlotCall call
 ReadsChainForm name args room None = (request : lines.Request) → IsChainForm name args request → ⊥

@@ -1,4 +1,4 @@
--- The replies that the outcomes of calls stand for (this project's own).
+-- The replies for the outcomes of calls (this project's own).
 use Rattle.std.specs.Prelude.{ℕ, List, Result, Ok, Err}
 use Rattle.chain_script.specs.Steps.{ChainReply, Ready, Held, Wrong_chain, Wrong_range, Shared, Too_long, Too_short, No_buffers}
 use Rattle.chain_script.specs.declared.fault.Fault.{Fault}

@@ -1,18 +1,18 @@
--- Into which buffers bytes go, and how many buffers a send needs. The sizes are those of volume 2, chapter 2: a
--- plain mbuf holds 108 bytes, or 100 after a packet header, a cluster 2048, and from 208 bytes on a cluster is
--- taken. The layouts are this project's own, after `sosend` (chapter 16) and `m_devget` (chapter 2).
+-- Into which buffers bytes are stored, and how many buffers a send needs. The sizes are those of volume 2, chapter 2: a
+-- plain mbuf holds 108 bytes, or 100 after a packet header; a cluster holds 2048. From 208 bytes a cluster is used. The
+-- layouts are this project's own, after `sosend` (chapter 16) and `m_devget` (chapter 2).
 use Rattle.std.specs.Prelude.{ℕ, zero, suc, ◌+◌, ◌-◌, ◌*◌, min, max, Bool, true, false, nat_lt, nat_le, if◌then◌else◌, List, [], ◌∷◌, length, drop, sum_by, count_by, filter_map, Option, Some, None}
 use Rattle.params.specs.declared.TheConstants.{MLEN, MHLEN, MINCLSIZE, MCLBYTES, CLUSTER_LEADING_SPACE, IP_HEADER, UDP_HEADER, IP_UDP_HEADERS}
 use Rattle.flat_model.specs.Amounts.Weight.{Weight}
 use Rattle.flat_model.specs.Fragments.Cuts.{Part, cuts}
 use Rattle.flat_model.specs.declared.need.Need as declared
 
--- an mbuf, by the bytes in it: in its own room or in a cluster
+-- an mbuf, by the number of bytes in it: in its own data area or in a cluster
 pub data Room : Type 0 where
   Plain : (size : ℕ) → Room
   Cluster : (size : ℕ) → Room
 
--- the bytes in it
+-- the number of bytes in it
 abbrev pub size_of : Room → ℕ
 size_of (Plain n) = n
 size_of (Cluster n) = n
@@ -22,13 +22,13 @@ abbrev pub is_cluster : Room → Bool
 is_cluster (Plain n) = false
 is_cluster (Cluster n) = true
 
--- The next mbuf for the bytes left: a cluster from 208 bytes on. A cluster has room for `large` bytes now, a plain
--- mbuf for `small`.
+-- The next mbuf for the remaining bytes: a cluster if they are 208 or more. A cluster has space for `large` bytes here,
+-- a plain mbuf for `small`.
 abbrev pub next_room : ℕ → ℕ → ℕ → Room
 next_room large small left = if nat_le MINCLSIZE left then Cluster (min left large) else Plain (min left small)
 
--- The mbufs for the bytes left, at most `most` of them. `large` and `small` are the rooms of the first one; all
--- others have the full 2048 and 108 bytes.
+-- The mbufs for the remaining bytes, at most `most` of them. `large` and `small` are the capacities of the first one;
+-- all others hold the full 2048 and 108 bytes.
 unfoldable pub filled : ℕ → ℕ → ℕ → ℕ → List Room
 filled zero large small left = []
 filled (suc most) large small zero = []
@@ -42,13 +42,13 @@ abbrev pub or_empty : List Room → List Room
 or_empty [] = Plain 0 ∷ []
 or_empty (room ∷ rooms) = room ∷ rooms
 
--- The mbufs for n bytes to send. The first cluster leaves 56 bytes free in front, and the first mbuf of the chain
--- has a packet header.
+-- The mbufs for n bytes to send. The first cluster leaves 56 bytes free before the data, and the first mbuf of the
+-- chain has a packet header.
 abbrev pub user : ℕ → List Room
 user n = or_empty (filled n (MCLBYTES - CLUSTER_LEADING_SPACE) MHLEN n)
 
--- The same with the 28 bytes of the IP and UDP headers: with at most 72 bytes they share one mbuf, else they
--- stand in an mbuf of their own in front.
+-- The same with the 28 bytes of the IP and UDP headers. Up to 72 bytes of data share one mbuf with them; otherwise the
+-- headers are in a separate mbuf before the data.
 abbrev pub sent : ℕ → List Room
 sent n = if nat_le n (MHLEN - IP_UDP_HEADERS) then Plain (IP_UDP_HEADERS + n) ∷ [] else Plain IP_UDP_HEADERS ∷ user n
 
@@ -56,12 +56,12 @@ sent n = if nat_le n (MHLEN - IP_UDP_HEADERS) then Plain (IP_UDP_HEADERS + n) �
 abbrev pub wire : ℕ → List Room
 wire n = or_empty (filled n MCLBYTES MHLEN n)
 
--- the bytes of an mbuf, and the cluster to which it refers, if it does
+-- the number of bytes in an mbuf, and the cluster to which it refers, if any
 pub record LayoutEntry : Type 0 where
   pub size : ℕ
   pub cluster : Option ℕ
 
--- the mbufs of a layout on the clusters given, in their order
+-- the mbufs of a layout with the given clusters, in order
 unfoldable pub laid_on : List ℕ → List Room → List LayoutEntry
 laid_on clusters [] = []
 laid_on clusters (Plain n ∷ rooms) = record { size = n; cluster = None } ∷ laid_on clusters rooms
@@ -72,8 +72,8 @@ laid_on (c ∷ clusters) (Cluster n ∷ rooms) = record { size = n; cluster = So
 abbrev pub weight_of : List LayoutEntry → Weight
 weight_of entries = record { mbufs = length entries; bag = filter_map (λ entry. entry.cluster) entries }
 
--- The elements that share a byte with the range from a up to b, where `size` is the bytes of one, and the first
--- one begins at `at`.
+-- The elements that share a byte with the range from a up to b. `size` gives the number of bytes of an element, and the
+-- first one begins at `at`.
 unfoldable pub meets_from : {X : Type 0} → (X → ℕ) → ℕ → List X → ℕ → ℕ → List X
 meets_from size at [] a b = []
 meets_from size at (x ∷ xs) a b =
@@ -85,11 +85,11 @@ meets_from size at (x ∷ xs) a b =
 abbrev pub meets : List Room → ℕ → ℕ → List Room
 meets rooms a b = meets_from size_of 0 rooms a b
 
--- the same of mbufs whose clusters are known
+-- the same for mbufs whose clusters are known
 abbrev pub entries_met : List LayoutEntry → ℕ → ℕ → List LayoutEntry
 entries_met entries a b = meets_from (λ entry. entry.size) 0 entries a b
 
--- how many free buffers something takes
+-- how many free buffers an operation takes
 abbrev pub Need : Type 0
 Need = declared.Need
 
@@ -97,12 +97,13 @@ Need = declared.Need
 abbrev pub need_of : List Room → Need
 need_of rooms = record { mbufs = length rooms; clusters = count_by is_cluster rooms }
 
--- What a later fragment takes: one mbuf for its header, and one for each mbuf in which its bytes lie. The part's
--- offsets count from after the IP header, which is 20 bytes long. Clusters are shared.
+-- What a later fragment takes: one mbuf for its header, and one for each mbuf that contains bytes of it. The part's
+-- offsets count from the end of the IP header, which is 20 bytes long. Clusters are shared.
 abbrev pub need_of_part : List Room → Part → ℕ
 need_of_part rooms p = 1 + length (meets rooms (IP_HEADER + p.offset) (IP_HEADER + p.offset + p.size))
 
--- what a send of n bytes takes on a link with this MTU: the mbufs of the datagram, and those of its later fragments
+-- what a send of n bytes takes on a link with this MTU: the buffers of the datagram, and the mbufs of its later
+-- fragments
 abbrev pub need : ℕ → ℕ → Need
 need n mtu = record {
   mbufs = length (sent n) + sum_by (need_of_part (sent n)) (drop 1 (cuts (n + UDP_HEADER) mtu));

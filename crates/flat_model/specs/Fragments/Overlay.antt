@@ -1,31 +1,31 @@
--- The bytes of an unfinished datagram: what lies at each offset, and which piece brought it. Overlaps are settled
--- as `ip_reass` settles them (volume 2, chapter 10); the example procedure of RFC 791, section 3.2, takes the copy
--- that arrived last instead.
+-- The bytes of an unfinished datagram: the byte at each offset, and which piece brought it. Overlaps are resolved as
+-- `ip_reass` does it (volume 2, chapter 10). The example procedure of RFC 791, section 3.2, uses the copy that arrived
+-- last instead.
 use Rattle.std.specs.Prelude.{ℕ, ◌+◌, ◌-◌, Bool, true, false, nat_lt, nat_le, ◌&&◌, if◌then◌else◌, List, length, slice_index, count_by, Option, Some, None}
 use Rattle.std.specs.List.{range_with_len}
 use Rattle.flat_model.specs.Amounts.Weight.{Weight}
 
--- What a fragment brought and still owns. A piece goes by the least offset that it owns, so that pieces need no
--- other names. `more` is the fragment's flag, and the weight stays that of the whole fragment.
+-- What a fragment brought and still owns. A piece is identified by the least offset that it owns, so pieces need no
+-- other names. `more` is the fragment's flag. The weight stays that of the whole fragment.
 pub record Piece : Type 0 where
   pub first : ℕ
   pub more : Bool
   pub weight : Weight
 
--- what lies at an offset
+-- the byte at an offset, and its piece
 pub record Held : Type 0 where
   pub byte : ℕ
   pub piece : Piece
 
--- the bytes that have come, by their offset after the IP header
+-- the bytes that have arrived, by their offset after the IP header
 abbrev pub Map : Type 0
 Map = ℕ → Option Held
 
--- nothing has come
+-- no byte has arrived
 abbrev pub empty : Map
 empty offset = None
 
--- a fragment as it comes: the bytes after its IP header, and the weight of its mbufs
+-- a fragment as it arrives: the bytes after its IP header, and the weight of its mbufs
 pub record Fragment : Type 0 where
   pub offset : ℕ
   pub bytes : List ℕ
@@ -36,19 +36,19 @@ pub record Fragment : Type 0 where
 abbrev pub fragment_end : Fragment → ℕ
 fragment_end f = f.offset + length f.bytes
 
--- Who wins: what a piece brought stays where the piece begins no later than a fragment at a; else the fragment takes
--- it.
+-- Which byte is kept: an old byte stays if its piece begins no later than the fragment, which begins at a. Otherwise
+-- the fragment's byte replaces it.
 abbrev pub stays : ℕ → Option Held → Bool
 stays a None = false
 stays a (Some held) = nat_le held.piece.first a
 
--- The least offset that the fragment's piece owns. Of the fragment's offsets those where old bytes stay are the first
--- ones, since a piece that begins no later and reaches so far has no gap in between: so it is enough to count them.
+-- The least offset that the fragment's piece owns. Old bytes stay only at the first offsets of the fragment: a piece
+-- that begins no later and reaches into the fragment has no gap in between. So it is enough to count them.
 unfoldable pub first_owned : Map → Fragment → ℕ
 first_owned map f =
     f.offset + count_by (λ offset. stays f.offset (map offset)) (range_with_len f.offset (length f.bytes))
 
--- nothing is left for the fragment
+-- no offset is left for the fragment
 abbrev pub is_covered : Map → Fragment → Bool
 is_covered map f = nat_le (fragment_end f) (first_owned map f)
 
@@ -59,7 +59,7 @@ brought map f offset = record {
   piece = record { first = first_owned map f; more = f.more; weight = f.weight };
 }
 
--- a piece that begins inside the fragment and reaches past it loses its front, and begins after the fragment then
+-- a piece that begins inside the fragment and reaches past it loses its front, and then begins after the fragment
 abbrev pub cut_back : Fragment → Held → Held
 cut_back f held =
     if nat_lt f.offset held.piece.first && nat_lt held.piece.first (fragment_end f)
@@ -70,12 +70,12 @@ cut_back f held =
 abbrev pub is_within : Fragment → ℕ → Bool
 is_within f offset = nat_le f.offset offset && nat_lt offset (fragment_end f)
 
--- what lies at an offset then, by whether it is one of the fragment's, and what lay there before
+-- what is at an offset afterwards, given whether it is one of the fragment's and what was there before
 abbrev pub lies : Map → Fragment → ℕ → Bool → Option Held → Option Held
 lies map f offset true old = if stays f.offset old then old else Some (brought map f offset)
 lies map f offset false None = None
 lies map f offset false (Some held) = Some (cut_back f held)
 
--- the map once the fragment is laid over it
+-- the map after the fragment is laid over it
 unfoldable pub overlay : Map → Fragment → Map
 overlay map f offset = lies map f offset (is_within f offset) (map offset)

@@ -1,6 +1,6 @@
--- What becomes of a packet that arrives, from the wire or by loopback: `ipintr` (volume 2, chapter 8), `ip_reass`
--- (chapter 10), and `udp_input` (chapter 23).
--- Every test of the ledger counts the state and what the step holds beside it: the item in hand, and `held`.
+-- What happens to a packet that arrives, from the wire or by loopback: `ipintr` (volume 2, chapter 8), `ip_reass`
+-- (chapter 10), and `udp_input` (chapter 23). Every test of the ledger counts the state and also what the step holds:
+-- the current item, and `held`.
 use Rattle.std.specs.Prelude.{◌≡◌, ◌⊎◌, ℕ, ◌+◌, ◌≤◌, ◌%◌, Bool, ◌==◌, nat_lt, nat_le, ◌&&◌, ◌||◌, not, if◌then◌else◌, List, [], ◌∷◌, ◌++◌, take, drop, length, Some, option_to_list}
 use Rattle.params.specs.declared.TheConstants.{IP_HEADER, IP_MAX_DATA, PROTOCOL_UDP, FRAGMENT_UNIT, MINCLSIZE, MAX_PROTOCOL_HEADER}
 use Rattle.flat_model.specs.declared.lookup_key.LookupKey.{LookupKey}
@@ -21,7 +21,7 @@ use Rattle.flat_model.specs.declared.counter.Counter.TheVariants.{IpTotal, IpFra
 use Rattle.flat_model.specs.declared.counters.Why.{Why}
 use Rattle.flat_model.specs.declared.counters.Why.TheVariants.{CantForward, BadFragment, FragmentDropped, NoProtocol, UdpNoPort, UdpNoPortBroadcast, UdpFullSocket, NoBufs}
 
--- where a packet comes from; of one from the wire how many bytes were received, also where it is cut afterwards
+-- the origin of a packet; for one from the wire, the number of bytes received, even if the packet is trimmed later
 pub data Origin : Type 0 where
   By_wire : (received : ℕ) → Origin
   Looped : Origin
@@ -30,29 +30,29 @@ pub data Origin : Type 0 where
 abbrev pub is_broadcast : Config → ℕ → Bool
 is_broadcast c ip = (ip == c.bcast) || (ip == limited_broadcast)
 
--- ---- what a delivery adds
+-- ---- the effects of a delivery
 
 -- a socket with one more datagram in its queue
 abbrev pub with_datagram : Datagram → Socket → Socket
 with_datagram d socket = record socket { queue = socket.queue ++ d ∷ [] }
 
--- who hears a datagram: many for a broadcast, else one
+-- the sockets that receive a datagram: any number for a broadcast, otherwise one
 abbrev pub hearers : State → ℕ → LookupKey → List Socket
 hearers s destination q =
     if is_broadcast s.config destination then receivers q s.sockets else option_to_list (best q s.sockets)
 
--- how one is counted that nobody hears
+-- the cause with which a datagram ends that no socket receives
 abbrev pub no_port : State → ℕ → Why
 no_port s destination = if is_broadcast s.config destination then UdpNoPortBroadcast else UdpNoPort
 
--- ---- what a fragment says, and what comes of it
+-- ---- the contents of a fragment, and what happens to it
 
--- the key that a fragment goes by
+-- the key of a fragment
 abbrev pub key_of : Head → Key
 key_of h = record { source = h.source; destination = h.destination; id = h.id; protocol = h.protocol }
 
--- A fragment of n bytes that none can be: without a byte, one with others after it that is no multiple of 8, or one
--- that reaches past the longest datagram.
+-- An impossible fragment of n bytes: without a byte; not the last, and no multiple of 8 long; or past the end of the
+-- longest datagram.
 abbrev pub is_bad_fragment : Head → ℕ → Bool
 is_bad_fragment h n = (n == 0) || (h.more && not (n % FRAGMENT_UNIT == 0)) || nat_lt IP_MAX_DATA (h.offset + n)
 
@@ -60,46 +60,46 @@ is_bad_fragment h n = (n == 0) || (h.more && not (n % FRAGMENT_UNIT == 0)) || na
 abbrev pub counts_fragment : State → State
 counts_fragment s = record s { counters = counts_more IpFragments 1 s.counters }
 
--- The weight once the header stands in one plain mbuf (`m_pullup` of volume 2, chapter 2, which moves 40 bytes): a
--- packet of at most 40 bytes leaves its cluster, a longer one has one mbuf more.
+-- The weight after the header is moved to one plain mbuf (`m_pullup` of volume 2, chapter 2, which moves 40 bytes): a
+-- packet of at most 40 bytes leaves its cluster, a longer one takes one more mbuf.
 abbrev pub pulled_up : ℕ → Weight → Weight
 pulled_up total w =
     if nat_lt MAX_PROTOCOL_HEADER total then record w { mbufs = w.mbufs + 1 } else record w { bag = drop 1 w.bag }
 
--- How far a join may shrink the weight of the pieces (`m_cat` of volume 2, chapter 2, moves what fits): they take no
--- more than before, refer to no other cluster, and have room for all n bytes.
+-- How far a join may reduce the weight of the pieces (`m_cat` of volume 2, chapter 2, moves what fits): the result
+-- takes no more than before, refers to no other cluster, and has space for all n bytes.
 pub record IsJoin (pieces joined : Weight) (n : ℕ) : Type 0 where
   pub mbufs : joined.mbufs ≤ pieces.mbufs
   pub bag : IsSubBag joined.bag pieces.bag
   pub covers : Covers joined n
 
--- one more datagram was made whole
+-- one more datagram is reassembled
 abbrev pub counts_reassembled : State → State
 counts_reassembled s = record s { counters = counts_more IpReassembled 1 s.counters }
 
--- ---- what a packet says
+-- ---- the contents of a packet
 
 -- one more packet reached the input
 abbrev pub counts_packet : State → State
 counts_packet s = record s { counters = counts_more IpTotal 1 s.counters }
 
--- an address that this machine hears
+-- an address whose packets this host accepts
 abbrev pub is_for_us : Config → ℕ → Bool
 is_for_us c ip = is_ours c ip || (ip == limited_broadcast)
 
--- more come after it, or some in front
+-- more fragments follow it, or some precede it
 abbrev pub is_fragment : Head → Bool
 is_fragment h = h.more || nat_lt 0 h.offset
 
--- what a packet carries after its header, cut to its total length; the cut leaves its weight
+-- the data of a packet after its header, trimmed to its total length; trimming leaves its weight
 abbrev pub carried : Item → Item
 carried item = record item { bytes = drop IP_HEADER (take (total_of item.bytes) item.bytes) }
 
--- ---- the steps of an arrival, whatever answers for the buffers
+-- ---- the steps of an arrival, for any ledger of the buffers
 
 module _ (L : Ledger) where
-  -- A test of n mbufs. Where it passes, Then goes on from the state that it leaves; else what is in hand ends there
-  -- for want of buffers.
+  -- A test for n mbufs. If it passes, Then continues from the state that the test leaves; otherwise the current item
+  -- ends there for lack of buffers.
   pub record Tests (old : State) (held : Weight) (n : ℕ) (new : State) (Then : State → Type 0) : Type 0 where
     pub answer : Bool
     pub mid : State
@@ -108,7 +108,7 @@ module _ (L : Ledger) where
 
   -- ---- delivery
 
-  -- the datagram comes into a socket's queue, with an mbuf for the sender's address, where both fit
+  -- the datagram is appended to a socket's queue, with an mbuf for the sender's address, if both fit
   abbrev pub Appends : Weight → Addr → Item → Socket → State → State → Type 0
   Appends held sender item to old new =
       Choice (fits to.queue (length item.bytes))
@@ -117,7 +117,8 @@ module _ (L : Ledger) where
       (record { sender = sender; item = record item { weight = mbuf ⊕ item.weight } })) mid))
       (new ≡ ends UdpFullSocket old)
 
-  -- Each receiver but the last gets a copy, of the same weight. One that lacks something ends its own part alone.
+  -- Each receiver but the last gets a copy of the same weight. If a receiver lacks space or buffers, only its own copy
+  -- ends.
   abbrev pub Delivers : Weight → Addr → Item → List Socket → State → State → Type 0
   Delivers held sender item [] old new = ⊥
   Delivers held sender item (last ∷ []) old new = Appends held sender item last old new
@@ -127,12 +128,12 @@ module _ (L : Ledger) where
       (λ mid. Appends (held ⊕ item.weight) sender item to mid after)
       × Delivers held sender item (next ∷ more) after new
 
-  -- a datagram goes to those who hear it
+  -- a datagram goes to the sockets that receive it
   abbrev pub GoesTo : Weight → Addr → Item → ℕ → List Socket → State → State → Type 0
   GoesTo held sender item destination [] old new = new ≡ ends (no_port old destination) old
   GoesTo held sender item destination (to ∷ more) old new = Delivers held sender item (to ∷ more) old new
 
-  -- A whole datagram, without its IP header, of this source, destination and protocol.
+  -- A complete datagram, without its IP header, with this source, destination and protocol.
   abbrev pub WholeArrives : Weight → ℕ → ℕ → ℕ → Item → State → State → Type 0
   WholeArrives held source destination protocol item old new =
       Choice (protocol == PROTOCOL_UDP)
@@ -145,8 +146,8 @@ module _ (L : Ledger) where
 
   -- ---- fragments
 
-  -- These bytes are held under a key now. Where they are whole, the datagram goes on, as one item of less weight, and
-  -- its key is held no more; else they wait.
+  -- These bytes are now stored under a key. If they are complete, the datagram continues as one item of less weight,
+  -- and its key is removed; otherwise they wait.
   abbrev pub Settles : Weight → Key → Map → State → State → Type 0
   Settles held k bytes old new =
       ((n : ℕ) × IsWhole bytes n × (joined : Weight) × IsJoin (weight_of_pieces bytes) joined n
@@ -154,21 +155,21 @@ module _ (L : Ledger) where
       (counts_reassembled (end_unfinished k old)) new)
       ⊎ (((n : ℕ) → ¬ IsWhole bytes n) × (new ≡ set_bytes k bytes old))
 
-  -- the fragment is laid over what is held under its key, or ends where pieces that begin no later hold all its bytes
+  -- the fragment is laid over the bytes under its key, or ends if pieces that begin no later have all its bytes already
   abbrev pub Lays : Weight → Key → Fragment → Unfinished → State → State → Type 0
   Lays held k f u old new =
       Choice (is_covered u.bytes f)
       (new ≡ ends FragmentDropped old)
       (Settles held k (overlay u.bytes f) old new)
 
-  -- the fragment joins the others with its key; a key that isn't held yet takes an mbuf
+  -- the fragment joins the others with its key; a new key takes an mbuf
   abbrev pub Joins : Weight → Key → Fragment → State → State → Type 0
   Joins held k f old new = Case (unfinished_at k old)
       (Tests old (held ⊕ f.weight) 1 new (λ mid. Lays held k f (begun k) (begin_unfinished k mid) new))
       (λ u. Lays held k f u old new)
 
-  -- A fragment that came from the wire into a cluster is pulled up, which takes an mbuf. This comes before its key is
-  -- looked for.
+  -- A fragment that came from the wire into a cluster is pulled up, which takes an mbuf. This happens before the lookup
+  -- of its key.
   abbrev pub PullsUp : Origin → Weight → Weight → ℕ → State → State → (Weight → State → Type 0) → Type 0
   PullsUp Looped held w total old new Then = Then w old
   PullsUp (By_wire received) held w total old new Then =
@@ -184,7 +185,7 @@ module _ (L : Ledger) where
 
   -- ---- packets
 
-  -- a packet whose header has no fault
+  -- a packet whose header passed the tests
   abbrev pub Passes : Origin → Weight → Item → State → State → Type 0
   Passes origin held item old new =
       let h : Head = head_of item.bytes in
@@ -194,13 +195,13 @@ module _ (L : Ledger) where
       (WholeArrives held h.source h.destination h.protocol (carried item) old new))
       (new ≡ ends CantForward old)
 
-  -- a packet arrives, while the step holds `held` beside it
+  -- a packet arrives, while the step also holds `held`
   abbrev pub Arrives : Origin → Weight → Item → State → State → Type 0
   Arrives origin held item old new =
       Case (head_fault item.bytes) (Passes origin held item (counts_packet old) new)
       (λ why. new ≡ ends why (counts_packet old))
 
-  -- the packets that came back arrive in order, and those still to come are held
+  -- the packets that came back arrive in order, and the step holds those that are still to come
   abbrev pub AllArrive : List Item → State → State → Type 0
   AllArrive [] old new = new ≡ old
   AllArrive (item ∷ items) old new =

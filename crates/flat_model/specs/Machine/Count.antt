@@ -1,5 +1,5 @@
--- The counters (`ipstat` and `udpstat` of volume 2, chapters 8 and 23, in this project's own selection). They have
--- 64 bits, and one at its greatest value stays there.
+-- The counters (`ipstat` and `udpstat` of volume 2, chapters 8 and 23, in this project's own selection). They have 64
+-- bits. A counter at its greatest value stays there.
 use Rattle.std.specs.Prelude.{ℕ, ◌+◌, ◌-◌, ◌^◌, ◌==◌, if◌then◌else◌, min, List, [], ◌∷◌, map, replicate, slice_index, codes}
 use denote.Enum.Declared.{tag_of}
 use Rattle.flat_model.specs.contracts.counter.Counter.{the_type}
@@ -16,7 +16,7 @@ more_by k n = min (n + k) (2 ^ 64 - 1)
 
 -- ---- the counters
 
--- each with the name by which it's printed, in the order of printing
+-- each counter with the name by which it is printed, in the order of printing
 abbrev pub named_counters : List (Counter × List ℕ)
 named_counters =
     (IpTotal, codes "ip.total")
@@ -51,11 +51,11 @@ named_counters =
 abbrev pub all_counters : List Counter
 all_counters = map (λ entry. entry.0) named_counters
 
--- the place of a counter in the order of the type's declaration
+-- the index of a counter in the order of the type's declaration
 abbrev pub counter_place : Counter → ℕ
 counter_place = tag_of the_type
 
--- the name that stands beside a counter
+-- the name of a counter in a list
 abbrev pub name_in : List (Counter × List ℕ) → Counter → List ℕ
 name_in [] counter = []
 name_in (entry ∷ entries) counter =
@@ -66,15 +66,15 @@ counter_name = name_in named_counters
 
 -- ---- their values
 
--- nothing was counted
+-- all counters are 0
 abbrev pub no_counts : Counters
 no_counts = record { values = replicate COUNTERS 0 }
 
--- what a counter has counted
+-- the value of a counter
 abbrev pub value_of : Counter → Counters → ℕ
 value_of counter c = slice_index c.values (counter_place counter)
 
--- it counts k more, and each other has counted what it had
+-- the counter grows by k, and every other counter keeps its value
 abbrev pub counts_more : Counter → ℕ → Counters → Counters
 counts_more counter k c = record {
   values =
@@ -83,7 +83,7 @@ counts_more counter k c = record {
       all_counters;
 }
 
--- ---- what ends a packet
+-- ---- the causes with which a packet ends
 
 abbrev pub counter_of : Why → Counter
 counter_of TooSmall = IpToosmall
@@ -105,6 +105,6 @@ counter_of UdpNoPortBroadcast = UdpNoportbcast
 counter_of UdpFullSocket = UdpFullsock
 counter_of NoBufs = Nobufs
 
--- one more packet, or part of one, that ended for this cause
+-- one more packet, or one receiver's copy of one, ended for this cause
 unfoldable pub counted : Why → Counters → Counters
 counted why c = counts_more (counter_of why) 1 c

@@ -1,5 +1,5 @@
--- What may happen to the machine, and what it answers: the socket calls (volume 2, chapters 15, 16 and 22), the
--- wire, the clock, and two questions (this project's own). Every socket call comes back at once.
+-- The events of the machine, and its replies: the socket calls (volume 2, chapters 15, 16 and 22), the wire, the clock,
+-- and two queries (this project's own). Every socket call returns immediately.
 use Rattle.std.specs.Prelude.{ℕ, ◌<◌, ◌≤◌, ◌^◌, Bool, List, length, Option, All, ⊤, IfSome}
 use Rattle.params.specs.declared.TheConstants.{IP_MAX_PACKET}
 use Rattle.flat_model.specs.declared.address.Addr.{Addr}
@@ -13,16 +13,16 @@ pub data Event : Type 0 where
   Bind : (fd : ℕ) (address : Addr) → Event
   Connect : (fd : ℕ) (address : Addr) → Event
   Send : (fd : ℕ) (to : Option Addr) (bytes : List ℕ) → Event  -- `sendto`, or without an address `send`
-  Receive : (fd most : ℕ) → Event  -- `recvfrom` of at most so many bytes
+  Receive : (fd most : ℕ) → Event  -- `recvfrom` of at most `most` bytes
   Close : (fd : ℕ) → Event
   Set_option : (fd : ℕ) (option : Opt) (on : Bool) → Event  -- `setsockopt`
   Comes : (packet : List ℕ) → Event  -- a packet arrives from the wire
-  Transmit : Event  -- the link takes the oldest packet that waits for it
+  Transmit : Event  -- the link takes the oldest packet of the output queue
   Tick : Event  -- the clock ticks: in 4.4BSD each half second
   Ask_counters : Event
   Ask_usage : Event
 
--- the answers; a call that is refused names why
+-- the replies; a call that fails says why
 pub data Reply : Type 0 where
   Done : Reply
   Opened : (fd : ℕ) → Reply
@@ -33,7 +33,7 @@ pub data Reply : Type 0 where
   Shown : (usage : Mbstat) → Reply
   Refused : (errno : Errno) → Reply
 
--- ---- the ranges of the numbers that callers give: here a number is without bound, in the code it has its type
+-- ---- the ranges of the numbers that callers pass: numbers are unbounded here, and have types in the code
 
 -- every number is a byte
 abbrev pub IsBytes : List ℕ → Type 0
@@ -44,7 +44,7 @@ pub record IsAddr (a : Addr) : Type 0 where
   pub ip : a.ip < 2 ^ 32
   pub port : a.port < 2 ^ 16
 
--- an event with numbers in their ranges; a packet is no longer than one may be
+-- an event with numbers in their ranges; a packet is at most as long as IP allows
 abbrev pub IsEvent : Event → Type 0
 IsEvent (Bind fd address) = IsAddr address
 IsEvent (Connect fd address) = IsAddr address

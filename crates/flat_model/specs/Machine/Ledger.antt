@@ -1,4 +1,4 @@
--- What is free of the pool, and the tests of it that a step makes (this project's own; the reclaim is `ip_drain` of
+-- How much of the pool is free, and the tests of it that a step makes (this project's own; the reclaim is `ip_drain` of
 -- volume 2, chapter 10).
 use Rattle.std.specs.Prelude.{◌≡◌, ◌⊎◌, ℕ, ◌-◌, ◌<◌, ◌≤◌, max, Bool, true, false, ◌==◌, nat_le, ◌&&◌, List, [], length, count_by, fold, sum, map, All, ⊤}
 use Rattle.std.specs.List.{range_with_len}
@@ -19,37 +19,37 @@ weight_of_state s =
     ⊕ all_of (λ u. mbuf ⊕ weight_of_pieces u.bytes) s.unfinished
     ⊕ all_of (λ item. item.weight) s.output
 
--- how many mbufs refer to the cluster, where a step holds `held` beside the state
+-- how many mbufs refer to the cluster, if a step holds `held` in addition to the state
 abbrev pub count_of : State → Weight → ℕ → ℕ
 count_of s held c = times c (weight_of_state s ⊕ held).bag
 
--- how many mbufs are free then
+-- how many mbufs are free in that case
 abbrev pub free_mbufs : State → Weight → ℕ
 free_mbufs s held = s.config.mbufs - (weight_of_state s ⊕ held).mbufs
 
--- how many clusters are free then: those to which nothing refers
+-- how many clusters are free in that case: those that have no reference
 abbrev pub free_clusters : State → Weight → ℕ
 free_clusters s held = count_by (λ c. count_of s held c == 0) (range_with_len 0 s.config.clusters)
 
--- whether what is needed is free then
+-- whether the needed buffers are free in that case
 abbrev pub has_enough : State → Weight → Need → Bool
 has_enough s held need = nat_le need.mbufs (free_mbufs s held) && nat_le need.clusters (free_clusters s held)
 
 -- ---- any ledger
 
--- How a machine answers for its buffers, where a step holds the weight beside the state: whether a test of what is
--- needed may end so, whether a cluster may be taken, and what may be shown of the pool.
+-- How a machine accounts for its buffers, if a step holds this weight in addition to the state: whether a test for
+-- buffers may have this result, whether a cluster may be taken, and what may be reported about the pool.
 pub record Ledger : Type 1 where
   pub has : State → Weight → Need → Bool → Type 0
   pub may_take : State → Weight → ℕ → Type 0
   pub may_show : State → Mbstat → Type 0
 
--- a cluster of the pool to which nothing refers
+-- a cluster of the pool without a reference
 pub record IsFree (s : State) (held : Weight) (c : ℕ) : Type 0 where
   pub exists : c < s.config.clusters
   pub free : count_of s held c ≡ 0
 
--- what is free of the pool, all that it has, the sum of the counts of all clusters, and the greatest count
+-- how much of the pool is free, its totals, the sum of the counts of all clusters, and the greatest count
 abbrev pub usage_of : State → Mbstat
 usage_of s =
     let counts : List ℕ = map (count_of s nothing) (range_with_len 0 s.config.clusters) in
@@ -62,7 +62,7 @@ usage_of s =
       most = fold max 0 counts;
     }
 
--- the ledger that keeps the accounts: each answer is the right one
+-- the ledger that keeps accounts: only the right results are allowed
 abbrev pub exact_ledger : Ledger
 exact_ledger = record {
   has = λ s held need yes. yes ≡ has_enough s held need;
@@ -70,12 +70,12 @@ exact_ledger = record {
   may_show = λ s usage. usage ≡ usage_of s;
 }
 
--- of what is shown the totals alone are known
+-- only the totals of the report are known
 pub record HasTotals (s : State) (usage : Mbstat) : Type 0 where
   pub mbufs : usage.mbufs ≡ s.config.mbufs
   pub clusters : usage.clusters ≡ s.config.clusters
 
--- the ledger that keeps none: any answer is right
+-- the ledger that keeps no accounts: any result is allowed
 abbrev pub loose_ledger : Ledger
 loose_ledger = record {
   has = λ s held need yes. ⊤;
@@ -89,19 +89,20 @@ loose_ledger = record {
 abbrev pub reclaimed : State → State
 reclaimed s = record s { unfinished = []; counters = counts_more IpReclaimed (length s.unfinished) s.counters }
 
--- A test, and the state that it leaves. Where the buffers are too few, all unfinished datagrams are dropped and the
--- test is made once more: that answer stands. Where none was held, this drops nothing and the answer is the same.
+-- A test, and the state that it leaves. If there are too few buffers, all unfinished datagrams are dropped and the test
+-- is repeated: its second result counts. If there were no unfinished datagrams, this drops nothing and the result is
+-- the same.
 abbrev pub HasBuffers : Ledger → State → Weight → Need → Bool → State → Type 0
 HasBuffers L old held need true new =
     (L.has old held need true × (new ≡ old))
     ⊎ (L.has old held need false × (new ≡ reclaimed old) × L.has new held need true)
 HasBuffers L old held need false new = L.has old held need false × (new ≡ reclaimed old) × L.has new held need false
 
--- so many mbufs, and no cluster
+-- n mbufs, and no cluster
 abbrev pub need_mbufs : ℕ → Need
 need_mbufs n = record { mbufs = n; clusters = 0 }
 
--- so many clusters that may be taken, no two the same
+-- n clusters that may be taken, all different
 pub record AreTaken (L : Ledger) (s : State) (n : ℕ) (clusters : List ℕ) : Type 0 where
   pub number : length clusters ≡ n
   pub distinct : (c : ℕ) → times c clusters ≤ 1

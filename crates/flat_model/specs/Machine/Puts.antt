@@ -1,5 +1,5 @@
--- A send up to the arrival of the packets that come back (this project's own). With that it is `Goes`, by `put_goes` of
--- proofs/Laws.
+-- A send up to the arrival of the packets that come back (this project's own). Together with that arrival it is `Goes`,
+-- by `put_goes` of proofs/Laws.
 use Rattle.std.specs.Prelude.{◌≡◌, ℕ, if◌then◌else◌, List, length}
 use Rattle.flat_model.specs.Amounts.Weight.{Item}
 use Rattle.flat_model.specs.Machine.Event.{Reply, Sent, Refused}
@@ -12,7 +12,8 @@ use Rattle.flat_model.specs.Machine.Ledger.{Ledger, AreTaken}
 use Rattle.flat_model.specs.declared.address.Addr.{Addr}
 use Rattle.flat_model.specs.Machine.Send.{need_to, to_link, to_self, overflows, enqueued, spent}
 
--- what a send leaves whose packets are `out`: those for the link wait for it, and `looped` are to come back
+-- the state after a send whose packets are `out`: those for the link are in the output queue, and `looped` are to come
+-- back
 pub record QueuesPackets (fd : ℕ) (out : List Item) (x : Sending) (old : State) (reply : Reply) (looped : List Item)
     (new : State) : Type 0 where
   pub back : looped ≡ to_self old.config x.to.ip out
@@ -21,7 +22,7 @@ pub record QueuesPackets (fd : ℕ) (out : List Item) (x : Sending) (old : State
       then Refused (NoBufs Queue) else Sent (length x.bytes))
 
 module _ (L : Ledger) where
-  -- a send that has its buffers, up to the arrival of what comes back
+  -- a send that has its buffers, up to the arrival of the packets that come back
   abbrev pub Puts : ℕ → Socket → Addr → List ℕ → State → Reply → List Item → State → Type 0
   Puts fd me to bytes old reply looped new =
       (port : ℕ) × (named : State) × (clusters : List ℕ)

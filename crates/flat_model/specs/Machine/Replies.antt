@@ -1,4 +1,4 @@
--- The replies that the results of the calls stand for (this project's own).
+-- The replies that correspond to the results of the calls (this project's own).
 use Rattle.std.specs.Prelude.{ℕ, ◌≤◌, List, length, take, Option, Some, None, Result, Ok, Err}
 use Rattle.flat_model.specs.Machine.Event.{Reply, Done, Opened, Sent, Received, Given, Refused}
 use Rattle.flat_model.specs.declared.address.Addr.{Addr}
@@ -19,17 +19,17 @@ abbrev pub sent_reply : Result ℕ Errno → Reply
 sent_reply (Ok n) = Sent n
 sent_reply (Err errno) = Refused errno
 
--- `recvfrom`, with the sender and how many bytes it put in front of the room
+-- `recvfrom`, with the sender and how many bytes it wrote to the front of the buffer
 abbrev pub received_reply : Result (Addr × ℕ) Errno → List ℕ → Reply
 received_reply (Ok got) room = Received got.0 (take got.1 room)
 received_reply (Err errno) room = Refused errno
 
--- these bytes are in the room
+-- the buffer has space for these bytes
 abbrev pub FitsRoom : Result (Addr × ℕ) Errno → List ℕ → Type 0
 FitsRoom (Ok got) room = got.1 ≤ length room
 FitsRoom (Err errno) room = Unit {0}
 
--- `tx`, with how many bytes of a packet it put in front of the room
+-- `tx`, with how many bytes of a packet it wrote to the front of the buffer
 abbrev pub given_reply : Option ℕ → List ℕ → Reply
 given_reply (Some n) room = Given (Some (take n room))
 given_reply None room = Given None

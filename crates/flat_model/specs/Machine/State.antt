@@ -1,5 +1,5 @@
--- The state of the machine between two events (this project's own; what it keeps of a socket is the control block
--- and the receive queue of volume 2, chapters 22 and 16).
+-- The state of the machine between two events (this project's own; the state of a socket is the control block and the
+-- receive queue of volume 2, chapters 22 and 16).
 use Rattle.std.specs.Prelude.{ℕ, ◌<◌, ◌≤◌, ◌^◌, ◌/◌, ◌≢◌, Bool, ◌==◌, ◌&&◌, not, if◌then◌else◌, List, [], ◌∷◌, ◌++◌, map, filter, find, Option, None}
 use Rattle.params.specs.declared.TheConstants.{FIRST_MULTICAST, LOOPBACK, LIMITED_BROADCAST, MAX_MBUFS, MAX_CLUSTERS, MIN_MTU, MAX_MTU, FRAGMENT_TICKS}
 use Rattle.flat_model.specs.Amounts.Weight.{Item}
@@ -27,7 +27,7 @@ pub record IsHost (address : ℕ) : Type 0 where
   pub high : address < FIRST_MULTICAST
   pub no_loopback : address / 2 ^ 24 ≢ LOOPBACK / 2 ^ 24
 
--- sizes that a pool may have; the clusters may be none
+-- valid sizes of a pool; there may be no clusters
 pub record HasSizes (c : Config) : Type 0 where
   pub some_mbuf : 1 ≤ c.mbufs
   pub mbufs : c.mbufs ≤ MAX_MBUFS
@@ -45,18 +45,18 @@ pub record IsConfig (c : Config) : Type 0 where
   pub apart : c.addr ≢ c.bcast
   pub first_id : c.first_id < 2 ^ 16
 
--- why boot refuses one: the sizes are tested first
+-- why boot refuses a configuration: the sizes are tested first
 abbrev pub IsConfigRefused : Config → ConfigFault → Type 0
 IsConfigRefused c BadSizes = ¬ HasSizes c
 IsConfigRefused c BadConfig = HasSizes c × ¬ IsConfig c
 
--- a datagram in a receive queue, and who sent it; its weight has the mbuf for that address too
+-- a datagram in a receive queue, and its sender; its weight includes the mbuf for the sender's address
 pub record Datagram : Type 0 where
   pub sender : Addr
   pub item : Item
 
--- An open socket. `local` is its address, `port` its port, and `peer` whom it is connected to, each set or not;
--- the queue has the oldest datagram first.
+-- An open socket. `local` is its address, `port` its port, and `peer` the address and port that it is connected to,
+-- each set or not. The queue has the oldest datagram first.
 pub record Socket : Type 0 where
   pub fd : ℕ
   pub local : Option ℕ
@@ -66,19 +66,19 @@ pub record Socket : Type 0 where
   pub reuse_port : Bool
   pub queue : List Datagram
 
--- what says that fragments are of one datagram
+-- fragments with the same key are of one datagram
 abbrev pub Key : Type 0
 Key = FragmentKey
 
--- A datagram some of whose fragments have come, and for how many more ticks it is kept. It holds the buffers of its
--- pieces and one mbuf more.
+-- A datagram some of whose fragments have arrived, and for how many more ticks it is kept. It holds the buffers of its
+-- pieces and one more mbuf.
 pub record Unfinished : Type 0 where
   pub key : Key
   pub ticks : ℕ
   pub bytes : Map
 
--- All that the machine knows: `output` are the packets that wait for the link, the oldest first, `last_port` is the
--- ephemeral port chosen last, and `next_id` the next datagram's identification.
+-- The whole state: `output` is the output queue, the oldest packet first, `last_port` is the ephemeral port chosen
+-- last, and `next_id` the next datagram's identification.
 pub record State : Type 0 where
   pub config : Config
   pub sockets : List Socket  -- the youngest first
@@ -88,7 +88,7 @@ pub record State : Type 0 where
   pub next_id : ℕ
   pub counters : Counters
 
--- the machine that has just started
+-- the state after boot
 abbrev pub boot : Config → State
 boot c = record {
   config = c;
@@ -102,7 +102,7 @@ boot c = record {
 
 -- ---- parts of a state, and states with a part changed
 
--- the socket with this descriptor, where one is open
+-- the socket with this descriptor, if one is open
 abbrev pub socket_at : ℕ → State → Option Socket
 socket_at fd s = find (λ socket. socket.fd == fd) s.sockets
 
@@ -111,17 +111,17 @@ abbrev pub change_socket : ℕ → (Socket → Socket) → State → State
 change_socket fd change s =
     record s { sockets = map (λ socket. if socket.fd == fd then change socket else socket) s.sockets }
 
--- the datagram goes by this key
+-- the datagram has this key
 abbrev pub is_key : Key → Unfinished → Bool
 is_key k u =
     (u.key.source == k.source) && (u.key.destination == k.destination) && (u.key.id == k.id)
     && (u.key.protocol == k.protocol)
 
--- the unfinished datagram with this key, where there is one
+-- the unfinished datagram with this key, if there is one
 abbrev pub unfinished_at : Key → State → Option Unfinished
 unfinished_at k s = find (is_key k) s.unfinished
 
--- a datagram none of whose bytes has come; it is kept for 60 ticks (`IPFRAGTTL` of volume 2, chapter 10)
+-- a datagram none of whose bytes has arrived; it is kept for 60 ticks (`IPFRAGTTL` of volume 2, chapter 10)
 abbrev pub begun : Key → Unfinished
 begun k = record { key = k; ticks = FRAGMENT_TICKS; bytes = empty }
 
@@ -129,15 +129,15 @@ begun k = record { key = k; ticks = FRAGMENT_TICKS; bytes = empty }
 abbrev pub begin_unfinished : Key → State → State
 begin_unfinished k s = record s { unfinished = s.unfinished ++ begun k ∷ [] }
 
--- these are the bytes that have come under the key; the time stays
+-- the bytes that have arrived under the key are these; the time stays
 abbrev pub set_bytes : Key → Map → State → State
 set_bytes k bytes s =
     record s { unfinished = map (λ u. if is_key k u then record u { bytes = bytes } else u) s.unfinished }
 
--- no datagram with this key is held any more
+-- the datagram with this key is removed
 abbrev pub end_unfinished : Key → State → State
 end_unfinished k s = record s { unfinished = filter (λ u. not (is_key k u)) s.unfinished }
 
--- a packet, or a receiver's part of it, ends here: it is counted, and changes nothing else
+-- a packet, or one receiver's copy of it, ends here: it is counted, and only the counter changes
 abbrev pub ends : Why → State → State
 ends why s = record s { counters = counted why s.counters }

@@ -1,4 +1,4 @@
--- One step of the machine: what it may answer to an event, and the state then (this project's own; the clock is
+-- One step of the machine: its possible replies to an event, and the state after it (this project's own; the clock is
 -- `ip_slowtimo` of volume 2, chapter 10).
 use Rattle.std.specs.Prelude.{◌≡◌, ℕ, ◌-◌, Bool, ◌==◌, nat_lt, List, [], ◌∷◌, length, map, filter, count_by, Some, None}
 use Rattle.params.specs.declared.TheConstants.{MAX_SOCKETS}
@@ -16,7 +16,7 @@ use Rattle.flat_model.specs.Machine.Send.{Sends}
 use Rattle.flat_model.specs.Machine.Arrival.{By_wire, Arrives}
 use Rattle.flat_model.specs.declared.counters.Why.TheVariants.{NoBufs}
 
--- every unfinished datagram has a tick less, and is dropped where none is left
+-- every unfinished datagram has one tick less, and is dropped if none is left
 abbrev pub ticked : State → State
 ticked s =
     let older : List Unfinished = map (λ (u : Unfinished). record u { ticks = u.ticks - 1 }) s.unfinished in
@@ -31,7 +31,7 @@ Transmits [] old reply new = (reply ≡ Given None) × (new ≡ old)
 Transmits (item ∷ later) old reply new = (reply ≡ Given (Some item.bytes)) × (new ≡ record old { output = later })
 
 module _ (L : Ledger) where
-  -- a packet comes from the wire into buffers of its own, or is lost where the pool has too few
+  -- a packet comes from the wire into buffers of its own, or is lost if the pool has too few
   abbrev pub ComesIn : List ℕ → State → State → Type 0
   ComesIn packet old new =
       (yes : Bool) × (mid : State)
@@ -43,7 +43,7 @@ module _ (L : Ledger) where
       (record { bytes = packet; weight = weight_of (laid_on clusters (wire (length packet))) }) mid new)
       (new ≡ ends NoBufs mid)
 
-  -- a step, whatever answers for the buffers
+  -- a step, for any ledger of the buffers
   abbrev pub StepBy : State → Event → Reply → State → Type 0
   StepBy old Open reply new = Opens MAX_SOCKETS old reply new
   StepBy old (Bind fd a) reply new = OnSocket fd old reply new (λ me. Binds fd a me old reply new)
@@ -59,7 +59,7 @@ module _ (L : Ledger) where
   StepBy old Ask_counters reply new = (reply ≡ Counted old.counters) × (new ≡ old)
   StepBy old Ask_usage reply new = (usage : Mbstat) × L.may_show old usage × (reply ≡ Shown usage) × (new ≡ old)
 
--- the machine whose pool refuses exactly where its ledger has too few buffers
+-- the machine whose pool refuses exactly if its ledger has too few buffers
 abbrev pub Step : State → Event → Reply → State → Type 0
 Step = StepBy exact_ledger
 

@@ -1,4 +1,4 @@
--- What holds of every state that the machine reaches, so that its accounts are never overdrawn (this project's own).
+-- What holds in every state that the machine reaches, so that its accounts are never overdrawn (this project's own).
 use Rattle.std.specs.Prelude.{◌≡◌, ℕ, ◌+◌, ◌-◌, ◌*◌, ◌/◌, ◌<◌, ◌≤◌, true, ◌==◌, length, count_by, Some, None}
 use Rattle.std.specs.List.{AllByRecursion as Each}
 use Rattle.params.specs.declared.TheConstants.{FIRST_DESCRIPTOR, MAX_SOCKETS, MSIZE, UDP_RECEIVE_MEMORY, UDP_RECEIVE_SPACE, IP_MAX_DATA, FRAGMENT_TICKS, OUTPUT_QUEUE_PACKETS, FIRST_EPHEMERAL_PORT, LAST_EPHEMERAL_PORT}
@@ -11,24 +11,24 @@ use Rattle.flat_model.specs.Machine.Ledger.{weight_of_state}
 use Rattle.flat_model.specs.declared.address.Addr.{Addr}
 use Rattle.flat_model.specs.declared.config.Config.{Config}
 
--- a weight that has room for n bytes, in clusters of the pool
+-- a weight that has space for n bytes, in clusters of the pool
 pub record Carries (c : Config) (w : Weight) (n : ℕ) : Type 0 where
   pub covers : Covers w n
   pub exist : Each (λ k. k < c.clusters) w.bag
 
--- a datagram in a receive queue has an mbuf for the sender's address, and room for its bytes
+-- a datagram in a receive queue has an mbuf for the sender's address, and space for its bytes
 pub record IsQueued (c : Config) (d : Datagram) : Type 0 where
   pub own : Weight
   pub with_address : d.item.weight ≡ mbuf ⊕ own
   pub carries : Carries c own (length d.item.bytes)
 
--- whom a socket is connected to: some interface leads there
+-- the address that a socket is connected to: an interface leads there
 pub record IsPeer (a : Addr) : Type 0 where
   pub is_there : is_reached a.ip ≡ true
   pub some_port : 1 ≤ a.port
   pub port : a.port < 65536
 
--- An open socket, its queue within its limits. One with a local address or a peer has a port.
+-- An open socket, with its queue within its limits. A socket with a local address or a peer has a port.
 pub record IsSocket (c : Config) (socket : Socket) : Type 0 where
   pub least_fd : FIRST_DESCRIPTOR ≤ socket.fd
   pub greatest_fd : socket.fd ≤ FIRST_DESCRIPTOR + MAX_SOCKETS - 1
@@ -40,7 +40,7 @@ pub record IsSocket (c : Config) (socket : Socket) : Type 0 where
   pub queued_bytes : bytes_queued socket.queue ≤ UDP_RECEIVE_SPACE
   pub queued : length socket.queue ≤ UDP_RECEIVE_MEMORY / (2 * MSIZE)
 
--- What lies at an offset belongs to a piece without gaps from its first offset on, which has room for it.
+-- The byte at an offset belongs to a piece without gaps from its first offset on, which has space for it.
 pub record IsConsistentAt (c : Config) (bytes : Map) (offset : ℕ) (held : Held) : Type 0 where
   pub inside : offset < IP_MAX_DATA
   pub first : held.piece.first ≤ offset
@@ -55,12 +55,12 @@ pub record IsWaiting (c : Config) (u : Unfinished) : Type 0 where
   pub ticks : u.ticks ≤ FRAGMENT_TICKS
   pub bytes : IsMap c u.bytes
 
--- a packet that waits for the link fits it
+-- a packet in the output queue fits the link
 pub record IsOutput (c : Config) (item : Item) : Type 0 where
   pub carries : Carries c item.weight (length item.bytes)
   pub fits : length item.bytes ≤ c.mtu
 
--- All numbers are within their limits, descriptors and keys differ, and no more buffers are held than there are.
+-- All numbers are within their limits, descriptors and keys differ, and no more buffers are held than exist.
 pub record IsConsistent (s : State) : Type 0 where
   pub config : IsConfig s.config
   pub sockets : Each (IsSocket s.config) s.sockets

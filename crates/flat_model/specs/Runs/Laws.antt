@@ -7,7 +7,7 @@ use Rattle.flat_model.specs.Fragments.Cuts.{Part, cuts}
 abbrev pub bytes_of_part : List ℕ → Part → List ℕ
 bytes_of_part s p = take p.size (drop p.offset s)
 
--- The parts of a string put together are the string; all but the last are a multiple of 8 long; and each fits after its
+-- The parts of a string, joined, are the string; all but the last are a multiple of 8 long; and each fits after its
 -- header.
 pub record CutsJoin (s : List ℕ) (mtu : ℕ) : Type 0 where
   pub joined : flat_map (bytes_of_part s) (cuts (length s) mtu) ≡ s

@@ -1,4 +1,4 @@
--- The numbers and names of refusals (4.4BSD's sys/errno.h).
+-- The numbers and names of errors (4.4BSD's sys/errno.h).
 use Rattle.std.specs.Prelude.{ℕ, List, codes}
 use Rattle.flat_model.specs.declared.errno.Errno.{Errno}
 use Rattle.flat_model.specs.declared.errno.Errno.TheVariants.{BadDescriptor, Access, Invalid, TooManyFiles, WouldBlock, DestinationRequired, MessageSize, AddressInUse, AddressNotAvailable, NoBufs, IsConnected, HostUnreachable}

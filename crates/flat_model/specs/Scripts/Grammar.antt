@@ -1,4 +1,4 @@
--- The lines of a script that ask for something, and what each asks for (this project's own).
+-- The script lines that request an event, and what each requests (this project's own).
 use Rattle.std.specs.Prelude.{◌≡◌, ℕ, ◌<◌, ◌≤◌, ◌^◌, ◌/◌, ◌%◌, ◌==◌, ◌⊎◌, Bool, true, false, List, [], ◌∷◌, length, codes, decimal, Some, None, Ok}
 use Rattle.std.specs.List.{slice_split}
 use Rattle.std.specs.Net.Text.{dotted_text}
@@ -11,11 +11,11 @@ use Rattle.flat_model.specs.Machine.Event.{Event, Open, Bind, Connect, Send, Rec
 
 -- ---- words
 
--- what stands between the spaces of a line, one space between each two
+-- the parts of a line between its spaces, with one space between each two
 abbrev pub words : List ℕ → List (List ℕ)
 words line = slice_split (λ byte. byte == 32) line
 
--- the digits of a number of at most `most`, with no zero in front
+-- the digits of a number of at most `most`, without leading zeros
 abbrev pub IsNumber : ℕ → List ℕ → ℕ → Type 0
 IsNumber most word n = (n ≤ most) × (word ≡ decimal n)
 
@@ -63,11 +63,11 @@ keyword Tick = codes "tick"
 keyword Ask_counters = codes "stat"
 keyword Ask_usage = codes "mbstat"
 
--- two words that write an address and a port
+-- two words for an address and a port
 abbrev pub IsEnd : List ℕ → List ℕ → Addr → Type 0
 IsEnd a p address = IsAddress a address.ip × IsPort p address.port
 
--- the words after that one
+-- the words after the first
 abbrev pub HasArguments : Event → List (List ℕ) → Type 0
 HasArguments Open args = args ≡ []
 HasArguments (Bind fd address) args =
@@ -88,7 +88,7 @@ HasArguments Tick args = args ≡ []
 HasArguments Ask_counters args = args ≡ []
 HasArguments Ask_usage args = args ≡ []
 
--- the line asks for the event
+-- the line requests the event
 pub record IsLine (line : List ℕ) (event : Event) : Type 0 where
   pub short : length line ≤ LONGEST_REQUEST
   pub args : List (List ℕ)

@@ -1,4 +1,4 @@
--- The line that each reply is printed as (this project's own).
+-- The text of each reply (this project's own).
 use Rattle.std.specs.Prelude.{ℕ, ◌==◌, List, [], ◌++◌, flat_map, map, length, codes, decimal, if◌then◌else◌, Option, Some, None}
 use Rattle.hex.specs.Hex.{encode_lower}
 use Rattle.flat_model.specs.declared.errno.Errno.{Errno}
@@ -10,11 +10,11 @@ use Rattle.flat_model.specs.Scripts.Errnos.{errno_number, name_of, lack_name}
 use Rattle.flat_model.specs.Machine.Event.{Reply, Done, Opened, Sent, Received, Given, Counted, Shown, Refused}
 use Rattle.flat_model.specs.Scripts.Grammar.{address_text}
 
--- two digits in lower case for each byte, or a dash where there is none
+-- two lower-case digits for each byte, or a dash if there is none
 abbrev pub hex_text : List ℕ → List ℕ
 hex_text bytes = if length bytes == 0 then codes "-" else encode_lower bytes
 
--- ---- refusals
+-- ---- errors
 
 -- ENOBUFS says what was lacking
 abbrev pub lack_text : Errno → List ℕ
@@ -47,7 +47,7 @@ counters_text c = codes "stat" ++ flat_map count_text (counts c)
 
 -- ---- the pool
 
--- free of all
+-- free, of all
 abbrev pub share_text : ℕ → ℕ → List ℕ
 share_text free all = decimal free ++ codes "/" ++ decimal all
 
@@ -72,7 +72,7 @@ reply_text (Counted counters) = counters_text counters
 reply_text (Shown usage) = usage_text usage
 reply_text (Refused errno) = refusal_text errno
 
--- what is printed for a line: its reply, or a question mark where it asks for nothing
+-- the output for a line: its reply, or a question mark if it requests nothing
 abbrev pub answer_text : Option Reply → List ℕ
 answer_text (Some reply) = reply_text reply ++ codes "\n"
 answer_text None = codes "? line\n"

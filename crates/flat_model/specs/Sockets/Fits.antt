@@ -1,5 +1,5 @@
--- How much a receive queue takes (`sbspace` and `sbappendaddr` of volume 2, chapter 16): at most 41,600 bytes, 16
--- for each sender's address among them, and 83,200 bytes of memory for them.
+-- The capacity of a receive queue (`sbspace` and `sbappendaddr` of volume 2, chapter 16): at most 41,600 bytes,
+-- including 16 for each sender's address, and 83,200 bytes of memory for them.
 use Rattle.std.specs.Prelude.{ℕ, ◌+◌, ◌*◌, Bool, nat_le, ◌&&◌, List, length, sum_by}
 use Rattle.params.specs.declared.TheConstants.{MSIZE, MCLBYTES, SOCKADDR_BYTES, UDP_RECEIVE_SPACE, UDP_RECEIVE_MEMORY}
 use Rattle.flat_model.specs.Machine.State.{Datagram}

@@ -1,4 +1,4 @@
--- How the mbufs of a store mean chains, and when they do (this project's own).
+-- How the mbufs of a store represent chains, and their invariant (this project's own).
 use Rattle.std.specs.Prelude.{◌≡◌, ℕ, zero, suc, ◌+◌, ◌<◌, ◌≤◌, Bool, true, false, not, cond, if◌then◌else◌, ◌&&◌, ◌||◌, List, [], ◌∷◌, length, map, take, drop, slice_index, Option, None, Some, is_some, nat_eq}
 use Rattle.std.specs.Ordering.{nat_cmp}
 use Rattle.std.specs.FinMap as finmap
@@ -38,13 +38,13 @@ is_at k x = cond (nat_eq x k) 1 0
 abbrev pub one : ℕ → ℕ
 one x = 1
 
--- ---- what an mbuf shows
--- the bytes among which its data lies: its own, or those of its cluster
+-- ---- the view of an mbuf
+-- the bytes that contain its data: its own, or those of its cluster
 abbrev pub place_bytes : StoreView → ℕ → Option ℕ → List ℕ
 place_bytes s i None = (mbuf_of s i).bytes
 place_bytes s i (Some c) = (cluster_of s c).bytes
 
--- what it shows under a head
+-- its entry, given a head
 abbrev pub entry_from : StoreView → ℕ → Head → Entry
 entry_from s i h =
     record { bytes = take h.len (drop h.start (place_bytes s i h.cluster)); start = h.start; cluster = h.cluster }
@@ -52,7 +52,7 @@ entry_from s i h =
 abbrev pub entry_at : StoreView → ℕ → Entry
 entry_at s i = entry_from s i (mbuf_head s i)
 
--- 1 where the mbuf refers to cluster c
+-- 1 if the mbuf refers to cluster c
 abbrev pub refers_at : StoreView → ℕ → ℕ → ℕ
 refers_at s c i = cond (option_eq nat_eq (mbuf_head s i).cluster (Some c)) 1 0
 
@@ -64,7 +64,7 @@ abbrev pub arrival_of : Option PacketHeader → ℕ
 arrival_of None = 0
 arrival_of (Some packet) = packet.arrival
 
--- the packet length, or 0 without packet header
+-- the packet length, or 0 without a packet header
 abbrev pub packet_total : Option PacketHeader → ℕ
 packet_total None = 0
 packet_total (Some packet) = packet.len
@@ -81,13 +81,13 @@ first_of l = slice_index l 0
 abbrev pub read_chain : StoreView → List ℕ → ChainView
 read_chain s l = record { front = front_of (mbuf_head s (first_of l)); entries = map (entry_at s) l; cells = l }
 
--- the mbuf or cluster in which its data lies
+-- the mbuf or cluster that contains its data
 abbrev pub buffer_of : ℕ → Option ℕ → Buffer
 buffer_of i None = Mbuf i
 buffer_of i (Some c) = Cluster c
 
 -- ---- the map
--- the mbufs from one on, along the links, at most so many
+-- the mbufs from one on, along the links, at most this many
 abbrev pub walk : ℕ → StoreView → Option ℕ → List ℕ
 walk zero s at = []
 walk (suc n) s None = []
@@ -96,7 +96,7 @@ walk (suc n) s (Some i) = i ∷ walk n s (mbuf_head s i).next
 abbrev pub cells_from : StoreView → Option ℕ → List ℕ
 cells_from s at = walk (length s.mbufs) s at
 
--- whether an mbuf below n that is handed out leads to q
+-- whether an mbuf below n that is in use is linked to q
 abbrev pub is_pointed : ℕ → StoreView → ℕ → Bool
 is_pointed zero s q = false
 is_pointed (suc n) s q = (is_out s n && option_eq nat_eq (mbuf_head s n).next (Some q)) || is_pointed n s q
@@ -109,29 +109,29 @@ chain_at s q =
 abbrev pub view_of : StoreView → FinMap nat_cmp ChainView
 view_of s = tabulate (length s.mbufs) (chain_at s)
 
--- what a pool over the store shows
+-- the view of a pool over the store
 abbrev pub pool_of : StoreView → PoolView
 pool_of s = record { mbufs = length s.mbufs; clusters = length s.clusters; chains = view_of s }
 
--- ---- what holds of the mbufs of a pool
--- the first place of an mbuf's room, and the place after it
+-- ---- the invariant of the mbufs of a pool
+-- the first offset of an mbuf's data area, and the offset after it
 abbrev pub head_room_low : Head → ℕ
 head_room_low h = if is_some h.cluster then 0 else (if is_some h.packet then PACKET_START else MBUF_HEADER)
 
 abbrev pub room_high : Head → ℕ
 room_high h = if is_some h.cluster then MCLBYTES else MSIZE
 
--- the data lies in the room
+-- the data is in the data area
 pub record IsFit (h : Head) : Type 0 where
   pub low : head_room_low h ≤ h.start
   pub high : h.start + h.len ≤ room_high h
   pub kind : h.kind ≡ 1
 
--- the head of the same mbuf with other bytes of its room
+-- the head of the same mbuf with other bytes of its data area
 abbrev pub with_segment : Head → ℕ → ℕ → Head
 with_segment h start len = record h { start = start; len = len }
 
--- an mbuf after another of its chain says nothing of the packet
+-- an mbuf after the first of a chain has no packet header and no next packet
 pub record IsFollower (h : Head) : Type 0 where
   pub packet : h.packet ≡ None
   pub after : h.next_packet ≡ None
@@ -154,27 +154,27 @@ abbrev pub IsChain : StoreView → List ℕ → Type 0
 IsChain s [] = ⊥
 IsChain s (c ∷ cs) = IsLinked s (Some c) (c ∷ cs) × AllFollow s cs
 
--- the packet length of the first mbuf, where it has one, is that of all
+-- the packet length in the first mbuf, if it has one, is that of all
 abbrev pub IsTotal : StoreView → List ℕ → Type 0
 IsTotal s l =
     (packet : PacketHeader) → (mbuf_head s (first_of l)).packet ≡ Some packet → packet.len ≡ weigh (len_at s) l
 
--- how far a packet length is off at the chain that begins at `first`
+-- by how much a packet length is wrong for the chain that begins at `first`
 abbrev pub off_at : ℕ → ℕ → List ℕ → ℕ
 off_at first n l = cond (nat_eq (first_of l) first) n 0
 
--- the packet length is off at the chain that begins at `first`, and right elsewhere: `added` more and `removed` less
--- would be right there
+-- the packet length is wrong for the chain that begins at `first`, and right for all others: `added` more and `removed`
+-- less would be right
 abbrev pub IsTotalBy : StoreView → ℕ → ℕ → ℕ → List ℕ → Type 0
 IsTotalBy s first added removed l =
     (packet : PacketHeader) → (mbuf_head s (first_of l)).packet ≡ Some packet
     → packet.len + off_at first added l ≡ weigh (len_at s) l + off_at first removed l
 
--- 1 where the mbuf is handed out
+-- 1 if the mbuf is in use
 abbrev pub out_at : StoreView → ℕ → ℕ
 out_at s k = cond (is_out s k) 1 0
 
--- the lists are the mbufs of the chains: each that is handed out stands in one of them, once
+-- the lists are the mbufs of the chains: each mbuf in use is in one of them, once
 pub record AreSoundChains (s : StoreView) (lists : List (List ℕ)) : Type 0 where
   pub linked : AllByRecursion (IsChain s) lists
   pub once : (k : ℕ) → weigh_all (is_at k) lists ≡ out_at s k
@@ -182,11 +182,11 @@ pub record AreSoundChains (s : StoreView) (lists : List (List ℕ)) : Type 0 whe
   pub counted : (c : ℕ) → cluster_count s c ≡ weigh_all (refers_at s c) lists
   pub store : IsStore s
 
--- the mbufs that are handed out are those of chains, and the packet lengths are right
+-- the mbufs in use are those of chains, and the packet lengths are right
 abbrev pub IsPool : StoreView → Type 0
 IsPool s = (lists : List (List ℕ)) × AreSoundChains s lists × AllByRecursion (IsTotal s) lists
 
--- a pool, but for the packet length of the chain that begins at `first`
+-- a pool, except for the packet length of the chain that begins at `first`
 abbrev pub IsOff : StoreView → ℕ → ℕ → ℕ → Type 0
 IsOff s first added removed =
     (lists : List (List ℕ)) × AreSoundChains s lists × AllByRecursion (IsTotalBy s first added removed) lists
@@ -204,11 +204,11 @@ only_head header start len cluster = record {
   cluster = cluster;
 }
 
--- where its room begins, if it is in no cluster
+-- the offset of its data area, if it has no cluster
 abbrev pub start_of : Bool → ℕ
 start_of header = if header then PACKET_START else MBUF_HEADER
 
--- the mbuf i was free, and is handed out with a head. What its other bytes are is not said
+-- mbuf i was free and is now in use, with a head. Its other bytes are unspecified
 pub record Taken (s t : StoreView) (i : ℕ) (h : Head) : Type 0 where
   pub below : i < length s.mbufs
   pub fresh : is_out s i ≡ false
@@ -216,7 +216,7 @@ pub record Taken (s t : StoreView) (i : ℕ) (h : Head) : Type 0 where
   pub change : t ≡ with_mbuf s i (Some (record { head = h; bytes = bytes }))
 
 -- ---- bytes written
--- the entry that an mbuf shows with ws written over the bytes of its place, from `start` on
+-- the entry of an mbuf after ws is written over the bytes of its buffer, from `start` on
 abbrev pub entry_over : StoreView → ℕ → ℕ → List ℕ → Entry
 entry_over s x start ws =
     record {
@@ -227,7 +227,7 @@ entry_over s x start ws =
       cluster = (mbuf_head s x).cluster;
     }
 
--- from s to t bytes were written over those of the mbuf at a place of chain c, which no other mbuf shows
+-- from s to t, bytes were written over those of the mbuf at a place of chain c, which no other mbuf shares
 pub record WritesPlace (s t : StoreView) (c : ℕ) (at : Place) (start : ℕ) (ws : List ℕ) : Type 0 where
   pub head : mbuf_head t at.cell ≡ mbuf_head s at.cell
   pub bytes : place_bytes t at.cell (mbuf_head s at.cell).cluster
@@ -235,13 +235,13 @@ pub record WritesPlace (s t : StoreView) (c : ℕ) (at : Place) (start : ℕ) (w
   pub map_is : pool_of t ≡ with_chain (pool_of s) c
       (with_entry (chain_of (pool_of s) c) at.index (entry_over s at.cell start ws))
 
--- ---- mbufs given back
--- the store with the cluster's count one less, where there is a cluster
+-- ---- mbufs freed
+-- the store with the cluster's count one less, if there is a cluster
 abbrev pub released_in : StoreView → Option ℕ → StoreView
 released_in s None = s
 released_in s (Some c) = with_cluster s c (released (cluster_of s c))
 
--- from s to t the mbufs of l that aren't in m were given back, with their references
+-- from s to t the mbufs of l that aren't in m were freed, with their references
 pub record Freed (s t : StoreView) (l m : List ℕ) : Type 0 where
   pub mbufs : length t.mbufs ≡ length s.mbufs
   pub clusters : length t.clusters ≡ length s.clusters
@@ -251,7 +251,7 @@ pub record Freed (s t : StoreView) (l m : List ℕ) : Type 0 where
   pub total : mbufs_out t + weigh one l ≡ mbufs_out s + weigh one m
   pub counted : (c : ℕ) → cluster_count t c + weigh (refers_at s c) l ≡ cluster_count s c + weigh (refers_at s c) m
 
--- the mbufs from one on are handed out, once each, and their references are counted
+-- the mbufs from one on are in use, once each, and their references are counted
 pub record IsFreeable (s : StoreView) (at : Option ℕ) : Type 0 where
   pub whole : LeadsToEnd s at
   pub store : IsStore s

@@ -1,4 +1,4 @@
--- How a walk along the links means the entries of a chain (this project's own).
+-- How a walk along the links represents the entries of a chain (this project's own).
 use Rattle.std.specs.Prelude.{ℕ, ◌≤◌, List, map, Option}
 use Rattle.mbuf_pool.specs.Cells.{Head, Part}
 use Rattle.mbuf_pool.specs.Store.{StoreView, cluster_count, mbuf_head, IsStore}
@@ -10,17 +10,17 @@ use Rattle.mbuf_chain.specs.Inside.Cells.{weigh, entry_at, refers_at, cells_from
 abbrev pub entries_from : StoreView → Option ℕ → List Entry
 entries_from s at = map (entry_at s) (cells_from s at)
 
--- the mbufs from one on can be read: their links lead to an end, and their clusters are in use
+-- the mbufs from one on can be read: their links end, and their clusters are in use
 pub record IsReadable (s : StoreView) (at : Option ℕ) : Type 0 where
   pub whole : LeadsToEnd s at
   pub store : IsStore s
   pub counted : (c : ℕ) → weigh (refers_at s c) (cells_from s at) ≤ cluster_count s c
 
--- the bytes that an mbuf shows under a head
+-- the data bytes of an mbuf, given its head
 abbrev pub data_of : ℕ → Head → Part
 data_of i h = record { buffer = buffer_of i h.cluster; start = h.start; len = h.len }
 
--- what an mbuf with a head says of itself
+-- the head fields of an mbuf, given its head
 abbrev pub told_head : ℕ → Head → MbufHead
 told_head i h = record {
   number = i;
@@ -32,10 +32,10 @@ told_head i h = record {
   cluster = h.cluster;
 }
 
--- what an mbuf says of itself, and the bytes that it shows
+-- the head fields of an mbuf, and its data bytes
 abbrev pub told_at : StoreView → ℕ → MbufHead × List ℕ
 told_at s i = (told_head i (mbuf_head s i), (entry_at s i).bytes)
 
--- the same of the mbufs from one on
+-- the same for the mbufs from one on
 abbrev pub told_from : StoreView → Option ℕ → List (MbufHead × List ℕ)
 told_from s at = map (told_at s) (cells_from s at)

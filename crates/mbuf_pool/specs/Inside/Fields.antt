@@ -1,4 +1,4 @@
--- How the fields of a store mean what it shows, and when they do (this project's own).
+-- What the fields of a store represent, and their invariant (this project's own).
 use Rattle.std.specs.Prelude.{◌≡◌, ℕ, ◌+◌, ◌*◌, ◌<◌, ◌==◌, if◌then◌else◌, cond, Option, Some, None, List, [], length, map, take, drop, slice_index}
 use Rattle.std.specs.List.{range_with_len}
 use Rattle.params.specs.declared.TheConstants.{MSIZE, MCLBYTES}
@@ -16,14 +16,14 @@ mbuf_bytes r i = take MSIZE (drop (MSIZE * i) r.bytes)
 abbrev pub cluster_bytes : Cells → ℕ → List ℕ
 cluster_bytes r c = take MCLBYTES (drop (MSIZE * length r.heads + MCLBYTES * c) r.bytes)
 
--- what is linked after a free mbuf, and after a free cluster
+-- the mbuf linked after a free one, and the cluster linked after a free one
 abbrev pub next_mbuf : Cells → ℕ → Option ℕ
 next_mbuf r i = (cells.cell_head r i).next
 
 abbrev pub next_cluster : Cells → ℕ → Option ℕ
 next_cluster r c = link_in (cells.read r (link_part c))
 
--- ---- what is shown of each
+-- ---- the view of each
 abbrev pub mbuf_seen : Cells → List ℕ → ℕ → Option MbufView
 mbuf_seen r free i =
     if times_listed i free == 0 then Some (record { head = cells.cell_head r i; bytes = mbuf_bytes r i }) else None
@@ -32,7 +32,7 @@ abbrev pub cluster_seen : Cells → List ℕ → ℕ → ClusterView
 cluster_seen r counts c =
     record { count = slice_index counts c; bytes = if slice_index counts c == 0 then [] else cluster_bytes r c }
 
--- a store over the region whose free mbufs are those of the list
+-- a store over the region whose free mbufs are those in the list
 abbrev pub store_with : Cells → List ℕ → List ℕ → StoreView
 store_with r counts free = record {
   mbufs = map (mbuf_seen r free) (range_with_len 0 (length r.heads));
@@ -47,7 +47,7 @@ abbrev pub store_of : Inside → StoreView
 store_of s = seen_in s.region s.counts.items s.first_mbuf
 
 -- ---- the invariant
--- the mbufs of the one list are free, and the clusters of the other, which are those that no one holds
+-- the mbufs in one list are free, and so are the clusters in the other, which are those without references
 pub record IsSound (r : Cells) (counts : List ℕ) (first_mbuf : Option ℕ) (mbufs : ℕ) (first_cluster : Option ℕ)
     (clusters : ℕ) (free free_clusters : List ℕ) : Type 0 where
   pub sized : IsSized r

@@ -4,11 +4,11 @@ use Rattle.byteorder.specs.Endian.{little_number, little_bytes}
 use Rattle.raw_cells.specs.declared.part.Part.{Part}
 use Rattle.raw_cells.specs.declared.part.Buffer.TheVariants.{Cluster}
 
--- the link that a number stands for
+-- the link that a number encodes
 abbrev pub link_from : ℕ → Option ℕ
 link_from n = if n == 0xffffffff then None else Some n
 
--- the link that bytes spell
+-- the link that bytes encode
 abbrev pub link_in : List ℕ → Option ℕ
 link_in bytes = link_from (little_number 4 bytes)
 
@@ -16,6 +16,6 @@ link_in bytes = link_from (little_number 4 bytes)
 abbrev pub link_bytes : Option ℕ → List ℕ
 link_bytes link = little_bytes 4 (unwrap_or link 0xffffffff)
 
--- where the link of a free cluster stands
+-- the part of a free cluster that contains its link
 abbrev pub link_part : ℕ → Part
 link_part c = record { buffer = Cluster c; start = 0; len = 4 }

@@ -1,4 +1,4 @@
-//! Callers of the iterators, as the layers above write them.
+//! Uses of the iterators, as the layers above write them.
 ghost use Rattle.std.specs.Prelude.{◌≡◌, length};
 ghost use Rattle.mbuf_chain.specs.Chain.{IsLive, chain_of, string};
 

@@ -7,10 +7,10 @@ use mbuf_chain::{Chain, Place, Pool};
 use mbuf_pool::NoBufs;
 use params::{MAX_MBUFS, MBUF_HEADER};
 
-/// How many of them stay at the front.
+/// How many of them stay in the first part.
 const KEPT: u32 = 40_000;
 
-/// A chain of empty mbufs, as many as are asked for, or as many as are free.
+/// Makes a chain of `mbufs` empty mbufs, or of all free ones if there are fewer.
 #[tactic(auto, using(mbuf_chain::proofs::Laws::Maps::map_steps))]
 fn chain_of_empty(pool: &mut Pool, mbufs: u32) -> Result<Chain, NoBufs>
     ensures { IfOk result (λ c. IsLive pool.new c) }
@@ -26,7 +26,7 @@ fn chain_of_empty(pool: &mut Pool, mbufs: u32) -> Result<Chain, NoBufs>
     Ok(chain)
 }
 
-/// The place of a chain's last mbuf, to which a walk from place to place leads.
+/// Returns the place of a chain's last mbuf, found by walking from place to place.
 fn walked(pool: &Pool, chain: &Chain) -> Place
     requires { IsLive pool.now chain.now }
     ensures { result.index + 1 ≡ length (chain_of pool.now chain.now).entries }
@@ -40,7 +40,7 @@ fn walked(pool: &Pool, chain: &Chain) -> Place
     last
 }
 
-/// Cuts a chain after its first mbufs, and gives both parts back.
+/// Cuts a chain after its first mbufs, and frees both parts.
 #[tactic(auto, using(mbuf_chain::proofs::Laws::Maps::map_steps))]
 fn cut_and_free(pool: &mut Pool, chain: Chain, keep: u32) -> (u32, u32)
     requires live { IsLive pool.old chain }
@@ -54,7 +54,7 @@ fn cut_and_free(pool: &mut Pool, chain: Chain, keep: u32) -> (u32, u32)
     counts
 }
 
-/// Whether each way to count a chain's mbufs, which have no bytes, gives all that a pool may have.
+/// Returns whether every way to count a chain's mbufs, which have no bytes, gives the maximum for a pool.
 fn is_told_alike(pool: &Pool, chain: &Chain) -> bool
     requires { IsLive pool.now chain.now }
 {

@@ -1,4 +1,4 @@
-//! Trains at work: the order of their chains, and two callers that use them as the layers above do.
+//! Trains in use: the order of their chains, and two callers that use them as the layers above do.
 
 ghost use Rattle.std.specs.Prelude.{◌≡◌, ◌+◌, ◌<◌, ◌≤◌, [], OnOk, OnErr, IfOk, IsOkAnd, remove};
 ghost use Rattle.mbuf_chain.specs.Chain.{held_mbufs};
@@ -10,7 +10,7 @@ use mbuf_chain::{Pool, QueuedPlace, Train};
 use mbuf_pool::NoBufs;
 use std::process::Abort;
 
-/// Puts a new packet without bytes in at a place.
+/// Inserts a new packet without bytes at an index.
 pub(crate) fn put_new(pool: &mut Pool, train: &mut Train, i: u32, tag: u32) -> Result<(), NoBufs>
     requires place { i ≤ train.old.len }
     requires held { IsHeld pool.old train.old }
@@ -25,7 +25,7 @@ pub(crate) fn put_new(pool: &mut Pool, train: &mut Train, i: u32, tag: u32) -> R
     Ok(())
 }
 
-/// Frees the packet at a place, and answers its tag.
+/// Frees the packet at an index, and returns its tag.
 fn drop_at(pool: &mut Pool, train: &mut Train, i: u32) -> u32
     requires place { i < train.old.len }
     requires held { IsHeld pool.old train.old }
@@ -40,7 +40,7 @@ fn drop_at(pool: &mut Pool, train: &mut Train, i: u32) -> u32
     tag
 }
 
-/// Puts a new packet without bytes in after a place, and answers its own place.
+/// Inserts a new packet without bytes after a place, and returns its own place.
 fn put_after(
     pool: &mut Pool,
     train: &mut Train,
@@ -57,7 +57,7 @@ fn put_after(
     Ok(train.insert_after(pool, at, chain, tag))
 }
 
-/// Frees the packet after a place, and answers its tag.
+/// Frees the packet after a place, and returns its tag.
 fn drop_after(pool: &mut Pool, train: &mut Train, at: QueuedPlace) -> u32
     requires place { IsQueuedPlace pool.old train.old at }
     requires more { at.index + 1 < train.old.len }
@@ -70,7 +70,7 @@ fn drop_after(pool: &mut Pool, train: &mut Train, at: QueuedPlace) -> u32
     tag
 }
 
-/// Puts four packets in: at the end twice, in front, and between.
+/// Inserts four packets: two at the end, one at the front, and one between.
 fn put_four(rt: &impl Abort, pool: &mut Pool, train: &mut Train)
     requires { IsHeld pool.old train.old }
     ensures { IsHeld pool.new train.new }
@@ -81,7 +81,7 @@ fn put_four(rt: &impl Abort, pool: &mut Pool, train: &mut Train)
     }
 }
 
-/// Sees that four packets without bytes come in the order of these tags.
+/// Asserts that four packets without bytes have these tags in order.
 fn must_walk(rt: &impl Abort, pool: &Pool, train: &Train, tags: [u32; 4])
     requires { IsHeld pool.now train.now }
 {
@@ -97,7 +97,7 @@ fn must_walk(rt: &impl Abort, pool: &Pool, train: &Train, tags: [u32; 4])
     assert!(rt; at.is_none());
 }
 
-/// Takes three of four packets out: the second, the last and the first.
+/// Removes three of four packets: the second, the last and the first.
 fn must_drop(rt: &impl Abort, pool: &mut Pool, train: &mut Train)
     requires len { train.old.len ≡ 4 }
     requires held { IsHeld pool.old train.old }

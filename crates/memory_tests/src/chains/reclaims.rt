@@ -9,8 +9,8 @@ use super::steps::booted;
 use mbuf_chain::{Chain, Pool, Reclaim, Train};
 use mbuf_pool::NoBufs;
 
-/// A new chain. Where no mbuf is free, `waiting` gives back all that it has, and the chain is asked for once
-/// more. Also answers how many datagrams were given back.
+/// Makes a chain. If no mbuf is free, `waiting` frees all that it has, and the allocation is repeated. Also returns how
+/// many datagrams were freed.
 fn new_chain<R: Reclaim>(pool: &mut Pool, waiting: &mut R) -> (Result<Chain, NoBufs>, u32)
     requires { R.is_ready pool.old waiting.old }
     ensures ok { IfOk result.0

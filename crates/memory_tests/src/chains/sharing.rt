@@ -1,4 +1,4 @@
-//! Two chains that share a cluster, after the worked picture of README.md.
+//! Two chains that share a cluster, as in the example of README.md.
 ghost use Rattle.mbuf_chain.specs.Chain.{IsLive, IsPlace, chain_of};
 
 use super::steps::{booted, count, has_bytes, is_free, narrow, overwrite, put_back, share, text};
@@ -6,7 +6,7 @@ use mbuf_chain::{Chain, Place, Pool, Usage};
 use std::alloc::Global;
 use std::process::Abort;
 
-/// What the cluster holds.
+/// The contents of the cluster.
 const SHOWN: [u8; 300] = [7; 300];
 
 /// The pool while both chains refer to the cluster.
@@ -19,7 +19,8 @@ static IN_USE: Usage = Usage {
     greatest_count: 2,
 };
 
-/// Whether an mbuf shows so many bytes of its cluster from this one on, and so many mbufs refer to that.
+/// Returns whether an mbuf has this many bytes of its cluster from this one on, and the cluster has this many
+/// references.
 fn shows(rt: &impl Abort, pool: &Pool, chain: &Chain, at: Place, wanted: (u32, u32, u32)) -> bool
     requires live { IsLive pool.now chain.now }
     requires place { IsPlace (chain_of pool.now chain.now) at }
@@ -29,14 +30,14 @@ fn shows(rt: &impl Abort, pool: &Pool, chain: &Chain, at: Place, wanted: (u32, u
     segment.start == wanted.0 && segment.len == wanted.1 && counted == wanted.2
 }
 
-/// The same, after a write of a byte.
+/// The same after one byte was written.
 fn written() -> [u8; 300] {
     let mut bytes = SHOWN;
     bytes[2] = 0xff;
     bytes
 }
 
-/// Whether a chain's bytes are what the cluster holds.
+/// Returns whether a chain's bytes are the contents of the cluster.
 fn reads(rt: &impl Abort, alloc: Global, pool: &Pool, chain: &Chain) -> bool
     requires { IsLive pool.now chain.now }
 {

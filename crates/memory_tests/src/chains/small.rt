@@ -1,4 +1,4 @@
-//! A pool of one mbuf and no cluster, and the room of its mbuf.
+//! A pool of one mbuf and no cluster, and the data area of its mbuf.
 ghost use Rattle.std.specs.Prelude.{ℕ};
 ghost use Rattle.mbuf_chain.specs.Chain.{IsLive};
 
@@ -7,7 +7,7 @@ use mbuf_chain::{Chain, Pool};
 use mbuf_pool::NoBufs;
 use params::MBUF_HEADER;
 
-/// Whether no mbuf is to be had.
+/// Returns whether no mbuf can be allocated.
 #[tactic(auto, using(mbuf_chain::proofs::Laws::Maps::map_steps))]
 fn lacks_mbuf(pool: &mut Pool) -> bool
     ensures { (k : ℕ) → IsLive pool.old k → IsLive pool.new k }
@@ -21,7 +21,7 @@ fn lacks_mbuf(pool: &mut Pool) -> bool
     }
 }
 
-/// Whether no cluster is to be had, or no mbuf for it.
+/// Returns whether no cluster, or no mbuf for it, can be allocated.
 #[tactic(auto, using(mbuf_chain::proofs::Laws::Maps::map_steps))]
 fn lacks_cluster(pool: &mut Pool) -> bool
     ensures { (k : ℕ) → IsLive pool.old k → IsLive pool.new k }
@@ -35,7 +35,7 @@ fn lacks_cluster(pool: &mut Pool) -> bool
     }
 }
 
-/// Whether a chain is of one mbuf without bytes.
+/// Returns whether a chain is one mbuf without bytes.
 fn is_empty(pool: &Pool, chain: &Chain) -> bool
     requires { IsLive pool.now chain.now }
 {

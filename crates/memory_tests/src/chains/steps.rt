@@ -1,4 +1,4 @@
-//! Steps that check their own conditions, for the tests.
+//! Steps for the tests that check their own preconditions.
 ghost use Rattle.std.specs.Prelude.{◌≡◌, ◌≢◌, ℕ};
 ghost use Rattle.mbuf_chain.specs.Chain.{IsLive, IsPlace, IsUnshared, chain_of, entry_of};
 
@@ -8,19 +8,19 @@ use params::{MCLBYTES, MSIZE};
 use std::alloc::{AllocError, Global};
 use std::process::Abort;
 
-/// A pool of which all is free.
+/// Creates a pool in which everything is free.
 pub(super) fn booted(rt: &impl Abort, alloc: Global, mbufs: u32, clusters: u32) -> Pool
     ensures { (result.mbufs ≡ mbufs) × (result.clusters ≡ clusters) }
 {
     Pool::over(Store::boot(alloc, Sizes { mbufs, clusters }).expect(rt, "memory for a pool"))
 }
 
-/// Whether so many mbufs and clusters are free.
+/// Returns whether this many mbufs and clusters are free.
 pub(super) fn is_free(pool: &Pool, mbufs: u32, clusters: u32) -> bool {
     pool.free_mbufs() == mbufs && pool.free_clusters() == clusters
 }
 
-/// Whether an mbuf shows these bytes.
+/// Returns whether an mbuf has these bytes.
 pub(super) fn has_bytes(pool: &Pool, chain: &Chain, at: Place, bytes: &[u8]) -> bool
     requires live { IsLive pool.now chain.now }
     requires place { IsPlace (chain_of pool.now chain.now) at }
@@ -28,7 +28,7 @@ pub(super) fn has_bytes(pool: &Pool, chain: &Chain, at: Place, bytes: &[u8]) -> 
     pool.bytes(chain, at) == bytes
 }
 
-/// Whether an mbuf has so much room in front of its bytes, and so much after them.
+/// Returns whether an mbuf has this much free space before its bytes, and this much after them.
 pub(super) fn has_room(pool: &Pool, chain: &Chain, at: Place, front: u32, back: u32) -> bool
     requires live { IsLive pool.now chain.now }
     requires place { IsPlace (chain_of pool.now chain.now) at }
@@ -36,7 +36,7 @@ pub(super) fn has_room(pool: &Pool, chain: &Chain, at: Place, front: u32, back: 
     pool.leading_space(chain, at) == front && pool.trailing_space(chain, at) == back
 }
 
-/// The place of a chain's mbuf after so many others.
+/// Returns the place of a chain's mbuf at an index.
 pub(super) fn place(rt: &impl Abort, pool: &Pool, chain: &Chain, index: u32) -> Place
     requires { IsLive pool.now chain.now }
     ensures { IsPlace (chain_of pool.now chain.now) result }
@@ -51,7 +51,7 @@ pub(super) fn place(rt: &impl Abort, pool: &Pool, chain: &Chain, index: u32) -> 
     at
 }
 
-/// All bytes of a chain.
+/// Returns all bytes of a chain.
 pub(super) fn text(alloc: Global, pool: &Pool, chain: &Chain) -> Result<Vec<u8>, AllocError>
     requires { IsLive pool.now chain.now }
 {
@@ -62,7 +62,7 @@ pub(super) fn text(alloc: Global, pool: &Pool, chain: &Chain) -> Result<Vec<u8>,
     Ok(all)
 }
 
-/// Whether no other mbuf shows the bytes of the one at a place.
+/// Asserts that no other mbuf shares the bytes of the one at a place.
 fn must_be_unshared(rt: &impl Abort, pool: &Pool, chain: &Chain, at: Place)
     requires live { IsLive pool.now chain.now }
     requires place { IsPlace (chain_of pool.now chain.now) at }
@@ -73,7 +73,7 @@ fn must_be_unshared(rt: &impl Abort, pool: &Pool, chain: &Chain, at: Place)
     }
 }
 
-/// Puts bytes after those of an mbuf.
+/// Appends bytes to those of an mbuf.
 pub(super) fn put_back(rt: &impl Abort, pool: &mut Pool, chain: &Chain, at: Place, bytes: &[u8])
     requires live { IsLive pool.old chain.now }
     requires place { IsPlace (chain_of pool.old chain.now) at }
@@ -94,7 +94,7 @@ pub(super) fn put_back(rt: &impl Abort, pool: &mut Pool, chain: &Chain, at: Plac
     pool.put_back(chain, at, bytes);
 }
 
-/// Puts bytes in front of those of an mbuf without cluster.
+/// Prepends bytes to those of an mbuf without a cluster.
 pub(super) fn put_front(rt: &impl Abort, pool: &mut Pool, chain: &Chain, at: Place, bytes: &[u8])
     requires live { IsLive pool.old chain.now }
     requires place { IsPlace (chain_of pool.old chain.now) at }
@@ -106,7 +106,7 @@ pub(super) fn put_front(rt: &impl Abort, pool: &mut Pool, chain: &Chain, at: Pla
     pool.put_front(chain, at, bytes);
 }
 
-/// Puts all bytes of another chain's mbuf after those of an mbuf.
+/// Appends all bytes of another chain's mbuf to those of an mbuf.
 pub(super) fn append(
     rt: &impl Abort,
     pool: &mut Pool,
@@ -128,7 +128,7 @@ pub(super) fn append(
     pool.append(chain, at, other, from, 0, count);
 }
 
-/// Writes bytes over those of an mbuf.
+/// Overwrites bytes of an mbuf.
 pub(super) fn overwrite(
     rt: &impl Abort,
     pool: &mut Pool,
@@ -150,7 +150,7 @@ pub(super) fn overwrite(
     pool.overwrite(chain, at, offset, bytes);
 }
 
-/// How many mbufs refer to the cluster of an mbuf.
+/// Returns how many mbufs refer to the cluster of an mbuf.
 pub(super) fn count(rt: &impl Abort, pool: &Pool, chain: &Chain, at: Place) -> u32
     requires live { IsLive pool.now chain.now }
     requires place { IsPlace (chain_of pool.now chain.now) at }
@@ -161,7 +161,7 @@ pub(super) fn count(rt: &impl Abort, pool: &Pool, chain: &Chain, at: Place) -> u
     }
 }
 
-/// Leaves some of an mbuf's bytes.
+/// Keeps only some of an mbuf's bytes.
 pub(super) fn narrow(
     rt: &impl Abort,
     pool: &mut Pool,
@@ -181,7 +181,7 @@ pub(super) fn narrow(
     pool.narrow(chain, at, skip, keep);
 }
 
-/// A chain without packet header that shares all that an mbuf shows of its cluster.
+/// Makes a chain without a packet header that shares all the bytes that an mbuf has in its cluster.
 pub(super) fn share(rt: &impl Abort, pool: &mut Pool, chain: &Chain, at: Place) -> Chain
     requires live { IsLive pool.old chain.now }
     requires place { IsPlace (chain_of pool.old chain.now) at }

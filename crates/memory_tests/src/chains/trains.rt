@@ -1,4 +1,4 @@
-//! Bytes in a train, and bytes taken from one mbuf to another.
+//! Bytes in a train, and bytes copied from one mbuf to another.
 ghost use Rattle.std.specs.Prelude.{◌≡◌, ◌≢◌, ℕ};
 ghost use Rattle.mbuf_chain.specs.Chain.{IsLive};
 ghost use Rattle.mbuf_chain.specs.Train.{IsHeld, IsQueuedPlace};
@@ -9,7 +9,7 @@ use mbuf_chain::{Chain, Pool, QueuedPlace, Train};
 use params::MBUF_HEADER;
 use std::process::Abort;
 
-/// A train of one packet with these bytes and this tag.
+/// Makes a train of one packet with these bytes and this tag.
 #[tactic(auto, using(mbuf_chain::proofs::Laws::Maps::map_steps))]
 fn train_of(rt: &impl Abort, pool: &mut Pool, bytes: &[u8], tag: u32) -> Train
     ensures held { IsHeld pool.new result }
@@ -24,7 +24,7 @@ fn train_of(rt: &impl Abort, pool: &mut Pool, bytes: &[u8], tag: u32) -> Train
     train
 }
 
-/// Whether the packet at a place has this tag and these bytes, in one piece.
+/// Returns whether the packet at a place has this tag and these bytes, in one piece.
 fn is_there(pool: &Pool, train: &Train, at: QueuedPlace, tag: u32, bytes: &[u8]) -> bool
     requires held { IsHeld pool.now train.now }
     requires place { IsQueuedPlace pool.now train.now at }
@@ -39,7 +39,7 @@ fn is_there(pool: &Pool, train: &Train, at: QueuedPlace, tag: u32, bytes: &[u8])
         && pieces.next().is_none()
 }
 
-/// Links a chain after another, and frees it: how many bytes and mbufs it had.
+/// Links a chain after another, and frees it. Returns how many bytes and mbufs it had.
 #[tactic(auto, using(mbuf_chain::proofs::Laws::Maps::map_steps))]
 fn join_and_free(pool: &mut Pool, chain: Chain, other: Chain) -> (u32, u32)
     requires live { IsLive pool.old chain }

@@ -1,20 +1,19 @@
-//! A reader and a writer that fail where a test wants them to.
+//! A reader and a writer that fail when a test needs it.
 use std::io::{self, Read, Write};
 
-/// What a reader does when its bytes are read.
+/// What a reader does after its bytes have been read.
 #[derive(Clone, Copy)]
 pub(super) enum After {
     Ends,
     Errs,
-    /// It gives the byte `a` without end.
+    /// It yields the byte `a` without end.
     GoesOn,
 }
 
-/// What is read, and what the reader does then; how many bytes the writer takes before it takes nothing; what is
-/// written.
+/// The input, and what the reader does after it; how many bytes the writer accepts; the output.
 pub(super) type Streams = (&'static [u8], After, usize, &'static [u8]);
 
-/// Gives its bytes.
+/// Yields its bytes.
 #[derive(Drop)]
 pub(super) struct Script {
     pub(super) bytes: &'static [u8],
@@ -40,7 +39,7 @@ impl Read for Script {
 /// The most bytes that a writer keeps.
 const ROOM: usize = 999;
 
-/// Takes one byte a call, and none once it has taken `most`.
+/// Accepts one byte a call, and none after it has accepted `most`.
 #[derive(Drop)]
 pub(super) struct Kept {
     taken: [u8; ROOM],
@@ -57,7 +56,7 @@ impl Kept {
         }
     }
 
-    /// What it took.
+    /// Returns the bytes that it accepted.
     pub(super) fn bytes(&self) -> Option<&[u8]> {
         self.taken.get(..self.len)
     }

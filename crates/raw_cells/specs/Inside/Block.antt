@@ -1,4 +1,5 @@
--- What is true of a block: its parts speak of one place, and every byte of it was written (this project's own).
+-- What is true of a block: its parts belong to the same memory, and every byte of it is initialized (this project's
+-- own).
 use Rattle.std.specs.Prelude.{◌≡◌, ◌^◌, ◌<◌, length}
 use Rattle.raw_cells.specs.declared.block.Block.TheInside.{Inside}
 

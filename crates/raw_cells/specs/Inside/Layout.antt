@@ -1,4 +1,4 @@
--- How a head lies in the first bytes of its mbuf, low bytes first (this project's own).
+-- The encoding of a head in the first bytes of its mbuf, low bytes first (this project's own).
 use Rattle.std.specs.Prelude.{◌≡◌, ℕ, ◌+◌, ◌*◌, ◌/◌, ◌%◌, ◌<◌, ◌≤◌, ◌==◌, if◌then◌else◌, is_some, Option, Some, None, List, map, length, get_or}
 use Rattle.std.specs.List.{range_with_len}
 use Rattle.params.specs.declared.TheConstants.{MSIZE, MAX_MBUFS, MAX_CLUSTERS}
@@ -14,7 +14,7 @@ abbrev pub little_u32_at : List ℕ → ℕ → ℕ
 little_u32_at bs i =
     get_or bs i 0 + get_or bs (i + 1) 0 * 0x100 + get_or bs (i + 2) 0 * 0x10000 + get_or bs (i + 3) 0 * 0x1000000
 
--- the link that a number stands for
+-- the link that a number encodes
 abbrev pub link_of : ℕ → Option ℕ
 link_of n = if n == 0xffffffff then None else Some n
 
@@ -24,14 +24,14 @@ packet_header_in bs at flags =
     if flags / 2 % 2 == 0 then None
     else Some (record { len = little_u32_at bs at; arrival = little_u32_at bs (at + 4) })
 
--- bit 0 of the flags: the data lies in a cluster
+-- bit 0 of the flags: the data is in a cluster
 abbrev pub cluster_in : List ℕ → ℕ → ℕ → Option ℕ
 cluster_in bs at flags = if flags % 2 == 0 then None else Some (little_u32_at bs at)
 
 abbrev pub head_flags : Head → ℕ
 head_flags h = (if is_some h.cluster then 1 else 0) + 2 * (if is_some h.packet then 1 else 0)
 
--- the head with these flags, where the mbuf begins at the byte o
+-- the head with these flags, if the mbuf begins at byte o
 unfoldable pub head_by : List ℕ → ℕ → ℕ → Head
 head_by bs o flags = record {
   next = link_of (little_u32_at bs (o + 0));

@@ -1,6 +1,6 @@
 use Rattle.std.proofs.Common.{ℕ, arith}
 use Rattle.std.proofs.lemmas.List.{length-map}
-use Rattle.pcap.specs.Seen.{captured}
+use Rattle.capture.specs.Seen.{captured}
 use Rattle.play_pcap.proofs.Goes.{goes_move, came_move, ticked_move}
 use Rattle.play_pcap.proofs.play.go_all.Goals as goal
 

@@ -1,5 +1,5 @@
 use Rattle.std.proofs.Common.{refl}
-use Rattle.pcap.specs.Seen.{whole}
+use Rattle.capture.specs.Seen.{whole}
 use Rattle.play_pcap.proofs.Playing.{range_back, played_file}
 use Rattle.play_pcap.proofs.play.play_file.Goals as goal
 

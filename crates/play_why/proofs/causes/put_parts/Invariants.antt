@@ -7,7 +7,7 @@ invariant-loop-why l = record {
   items :
       l.text
       ≡ l.fn.text
-      ++ flat_map (part_if l.part l.fate.seen.now l.fate.before.now l.fate.after.now l.fate.host.now.address)
+      ++ flat_map (part_if l.part l.came.seen.now l.came.before.now l.came.after.now l.came.host.now.address)
       (take l.why-index l.why-items);
   len : length l.text ≤ length l.fn.text + 200 * l.why-index;
 }

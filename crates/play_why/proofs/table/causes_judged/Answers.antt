@@ -1,8 +1,8 @@
 use Rattle.std.proofs.Common.{◌≡◌, length, sym, ap, ◌∙◌, arith}
 use Rattle.flat_model.specs.declared.counters.Why.TheVariants.{TooSmall}
-use Rattle.play_records.proofs.Laws.{mapped, table_of}
-use Rattle.play_records.specs.Tables.{never_for}
-use Rattle.play_records.specs.declared.words.TheConstants.{CAUSES}
+use Rattle.play_text.proofs.Laws.{mapped, table_of}
+use Rattle.play_text.specs.Tables.{never_for}
+use Rattle.play_text.specs.declared.words.TheConstants.{CAUSES}
 use Rattle.play_why.specs.Verdicts.{causes_judged, row_judged}
 use Rattle.play_why.proofs.table.causes_judged.Goals as goal
 

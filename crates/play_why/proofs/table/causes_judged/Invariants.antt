@@ -1,7 +1,7 @@
 use Rattle.std.proofs.Common.{◌≡◌, ℕ, ◌<◌, ◌≤◌, length, get_or}
 use Rattle.flat_model.specs.declared.counters.Why.TheVariants.{TooSmall}
-use Rattle.play_records.specs.Tables.{never_for}
-use Rattle.play_records.specs.declared.words.TheConstants.{CAUSES}
+use Rattle.play_text.specs.Tables.{never_for}
+use Rattle.play_text.specs.declared.words.TheConstants.{CAUSES}
 use Rattle.play_why.specs.Verdicts.{row_judged}
 use Rattle.play_why.proofs.table.causes_judged.Given as goal
 

@@ -1,7 +1,7 @@
 use Rattle.std.proofs.Common.{ℕ, suc, ◌<◌, Bool, List, drop, length, if◌then◌else◌, sym, ap, ◌∙◌, add-one, arith}
 use Rattle.flat_model.specs.declared.counters.Why.{Why}
-use Rattle.play_records.specs.Tables.{once_more}
-use Rattle.play_records.specs.declared.count.Count.{Count}
+use Rattle.play_text.specs.Tables.{once_more}
+use Rattle.play_text.specs.declared.count.Count.{Count}
 use Rattle.play_why.proofs.Laying.{laid_end, laid_step}
 use Rattle.play_why.specs.Verdicts.{laid_by, laid_to}
 use Rattle.play_why.proofs.table.laid.Goals as goal

@@ -1,5 +1,5 @@
 use Rattle.std.proofs.Common.{◌≡◌, drop}
-use Rattle.play_records.specs.Words.{all_causes}
+use Rattle.play_text.specs.Words.{all_causes}
 use Rattle.play_why.specs.Verdicts.{laid_by}
 use Rattle.play_why.proofs.table.laid.Given as goal
 

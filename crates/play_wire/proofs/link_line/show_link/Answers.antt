@@ -23,7 +23,5 @@ returns-in_default-link_tallies c =
 
 pub returns : goal.returns
 returns c =
-    link_shown c.args.place (view c.args.segment.now) c.in-Some.link c.in-Some-address.state
-    c.in-Some-link_tallies.tallies c.tell_link.new.told c.tell_link.new.below
-    (sym c.in-Some.is ∙ c.link.ensures) (sym c.in-Some-address.is ∙ c.address.ensures)
-    (sym c.in-Some-link_tallies.is ∙ c.link_tallies.ensures) c.tell_link.ensures.told c.tell_link.ensures.below
+    link_shown c.args.place (view c.args.segment.now) c.in-Some-address.state c.tell_link.new.told
+    c.tell_link.new.below (sym c.in-Some-address.is ∙ c.address.ensures) c.tell_link.ensures

@@ -9,4 +9,4 @@ returns-in_default c = no_link c.args.place Neighbours (view c.args.segment.now)
 pub returns : goal.returns
 returns c =
     neighbours_shown c.args.place (view c.args.segment.now) c.in-Some.neighbours.now c.tell_neighbours.new.told
-    c.tell_neighbours.new.below c.in-Some.ensures c.tell_neighbours.ensures.told c.tell_neighbours.ensures.below
+    c.tell_neighbours.new.below c.in-Some.ensures c.tell_neighbours.ensures

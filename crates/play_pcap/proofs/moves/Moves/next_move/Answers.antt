@@ -1,6 +1,6 @@
 use Rattle.std.proofs.Common.{◌<◌, length, sym, ◌∙◌, arith}
 use Rattle.std.proofs.lemmas.List.{length-map}
-use Rattle.pcap.specs.Seen.{captured}
+use Rattle.capture.specs.Seen.{captured}
 use Rattle.play_pcap.proofs.Moving.{fewer, moved, none_left, skipped}
 use Rattle.play_pcap.proofs.moves.Moves.next_move.Goals as goal
 

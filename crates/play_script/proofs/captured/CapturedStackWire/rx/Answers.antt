@@ -1,7 +1,7 @@
 use Rattle.std.proofs.Common.{Some, refl, ap₂, ◌∙◌, arith}
 use Rattle.flat_model.specs.Machine.Event.{Comes, Done}
 use Rattle.flat_model.specs.declared.counters.Counters.{Counters}
-use Rattle.play_records.specs.Tables.{drops_noted}
+use Rattle.play_text.specs.Tables.{drops_noted}
 use Rattle.play_script.proofs.CaptureLemmas.{Captures-one}
 use Rattle.play_script.proofs.PlayLemmas.{are_bytes}
 use Rattle.stack_call.specs.Moves.{StackSteps}

@@ -1,0 +1,139 @@
+/* A device: a CoAP server and a TFTP server on a host of an Ethernet, in one loop without an operating system. CoAP has
+   the resources /led, /stats, /flash, /ram and /.well-known/core; TFTP has the files "flash" and "ram". device.h lists
+   what it takes of a machine. */
+#include "device.h"
+
+#include "coap.h"
+#include "tftp.h"
+
+#include <string.h>
+
+enum { FLASH, RAM, FILES };
+
+static struct bsdudp host;
+static struct tftp_file files[FILES];
+static uint32_t ticks;
+static char led = '0', text[160];
+
+/* One room for frames and messages: the stack copies a frame before a server writes there. A frame begins 2 bytes after
+   an aligned place, so that the packet in it is aligned: memcpy takes words then. */
+enum { FRAME_ROOM = 2 + BSDUDP_ETHER_ROOM, ROOM = (int)TFTP_ROOM > (int)FRAME_ROOM ? (int)TFTP_ROOM : (int)FRAME_ROOM };
+static uint8_t room[ROOM] __attribute__((aligned(4)));
+static uint8_t *const frame = room + 2;
+
+/* Writes a text and a number, and returns their end. */
+static char *put(char *at, const char *before, uint32_t number)
+{
+    uint32_t scale = 1;
+    at = strcpy(at, before) + strlen(before);
+    while (number / scale > 9)
+        scale *= 10;
+    for (; scale > 0; scale /= 10)
+        *at++ = (char)('0' + number / scale % 10);
+    *at = 0;
+    return at;
+}
+
+/* ---- the resources */
+
+static void get_led(struct coap_content *content)
+{
+    *content = (struct coap_content){(const uint8_t *)&led, 1, 0};
+}
+
+static int put_led(const uint8_t *bytes, uint32_t len)
+{
+    if (len != 1 || (bytes[0] != '0' && bytes[0] != '1'))
+        return COAP_CODE(4, 0);
+    led = (char)bytes[0]; /* a board switches its light here */
+    return COAP_CODE(2, 4);
+}
+
+static void get_stats(struct coap_content *content)
+{
+    struct bsdudp_mbstat usage;
+    char *at = text;
+    bsdudp_mbstat(&host, &usage);
+    at = put(at, "half seconds ", ticks);
+    at = put(at, "\nfree mbufs ", usage.free_mbufs);
+    at = put(at, " of ", usage.mbufs);
+    at = put(at, "\nfree clusters ", usage.free_clusters);
+    at = put(at, " of ", usage.clusters);
+    at = put(at, "\nbytes of call stack ", port_stack());
+    *content = (struct coap_content){(const uint8_t *)text, (uint32_t)(at - text), (uint8_t)ticks};
+}
+
+static void get_file(const struct tftp_file *file, struct coap_content *content)
+{
+    *content = (struct coap_content){file->bytes, file->len, file->version};
+}
+
+static void get_flash(struct coap_content *content) { get_file(files + FLASH, content); }
+static void get_ram(struct coap_content *content) { get_file(files + RAM, content); }
+
+static void get_links(struct coap_content *content)
+{
+    static const char links[] = "</led>;ct=0,</stats>;ct=0,</flash>;ct=42,</ram>;ct=42";
+    *content = (struct coap_content){(const uint8_t *)links, sizeof links - 1, 0};
+}
+
+static const struct coap_resource resources[] = {
+    {"/led", COAP_TEXT, get_led, put_led},     {"/stats", COAP_TEXT, get_stats, NULL},
+    {"/flash", COAP_BYTES, get_flash, NULL},   {"/ram", COAP_BYTES, get_ram, NULL},
+    {"/.well-known/core", COAP_LINKS, get_links, NULL},
+};
+enum { RESOURCES = sizeof resources / sizeof resources[0] };
+
+static struct coap coap = {
+    .host = &host, .resources = resources, .count = RESOURCES, .room = room, .room_len = sizeof room};
+static struct tftp tftp = {.host = &host, .files = files, .count = FILES, .room = room};
+
+/* ---- the loop */
+
+static int start(const struct device *it)
+{
+    int status = port_start(it->link.mac);
+    files[FLASH] = (struct tftp_file){"flash", it->flash, NULL, it->flash_len, 0, 0};
+    files[RAM] = (struct tftp_file){"ram", it->ram, it->ram, 0, it->ram_len, 0};
+    if (status == 0)
+        status = bsdudp_ether_boot_in(&host, &it->config, &it->link, it->memory, it->memory_len);
+    if (status == 0)
+        status = coap_start(&coap, it->config.addr);
+    if (status == 0)
+        status = tftp_start(&tftp, it->config.addr);
+    return status;
+}
+
+static void greet(const struct device *it)
+{
+    const uint32_t servers = sizeof coap + sizeof tftp + sizeof files + sizeof room + sizeof text;
+    char *at = put(text, "CoAP and TFTP. Bytes of memory: the stack ", (uint32_t)it->memory_len);
+    at = put(at, ", the servers ", servers);
+    at = put(at, ", the file ram ", it->ram_len);
+    strcpy(at, "\n");
+    port_say(text);
+}
+
+int device_run(const struct device *it)
+{
+    int sent, status = start(it);
+    size_t len;
+    if (status < 0)
+        return status;
+    greet(it);
+    do {
+        for (; port_ticked(); ticks++) {
+            bsdudp_tick(&host);
+            coap_tick(&coap);
+            tftp_tick(&tftp);
+        }
+        len = port_receive(frame);
+        if (len > 0)
+            bsdudp_ether_receive(&host, frame, len);
+        coap_serve(&coap);
+        tftp_serve(&tftp);
+        while ((sent = bsdudp_ether_transmit(&host, frame, BSDUDP_ETHER_ROOM)) > 0)
+            port_send(frame, (size_t)sent);
+    } while (len > 0 || port_wait());
+    return bsdudp_end(&host);
+}

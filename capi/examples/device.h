@@ -1,0 +1,43 @@
+/* What device.c takes of the machine that it runs on, and how that starts it. device_tap.c has these functions for
+   Linux, and portable/board/device_port.c for a Cortex-M3. */
+#ifndef DEVICE_H
+#define DEVICE_H
+
+#include "bsdudp.h"
+
+/* The card's driver. port_start returns 0, or -1 if there is no card. port_receive stores the frame that came first in
+   `frame`, which has BSDUDP_ETHER_ROOM bytes, and returns its length, or 0 if none waits. port_send sends a frame. */
+int port_start(const uint8_t mac[6]);
+size_t port_receive(uint8_t *frame);
+void port_send(const uint8_t *frame, size_t len);
+
+/* The clock: returns 1 once for each half second that has passed, or 0. */
+int port_ticked(void);
+
+/* Sleeps until a frame or a half second may have come. Returns 0 if the program is to end, or 1. A driver that polls
+   returns 1 at once. */
+int port_wait(void);
+
+/* Prints text for the person who watches. */
+void port_say(const char *text);
+
+/* Returns how many bytes of the call stack were used since the start, or 0 if that isn't known. */
+uint32_t port_stack(void);
+
+/* Which host the device is, and its memory. */
+struct device {
+    struct bsdudp_config config;
+    struct bsdudp_link link;
+    void *memory; /* of the stack: BSDUDP_ETHER_MEMORY bytes, aligned to BSDUDP_ALIGNMENT */
+    size_t memory_len;
+    const uint8_t *flash; /* the file "flash", which clients read */
+    uint32_t flash_len;
+    uint8_t *ram; /* where the file "ram" is kept, which clients read and write */
+    uint32_t ram_len;
+};
+
+/* Boots the stack and both servers, and serves until port_wait returns 0. Returns 0, or a refusal of a call of the
+   stack as a number below 0; -1 also if there is no card. */
+int device_run(const struct device *device);
+
+#endif

@@ -1,0 +1,83 @@
+//! Captures that are printed as scripts.
+ghost use Rattle.play_pcap.specs.Events.{IsOrdered};
+
+use crate::formats::{Unread, load_capture};
+use crate::{UNREAD, USAGE};
+use capture::{Fault, Why};
+use clap::ArgMatches;
+use play_pcap::{CaptureFault, Details, Lines, OUTCOME, Tally, play_file, put_outcome, range_of};
+use play_script::Silent;
+use script_loop::{Buffer, LineBuffers};
+use std::{io, str};
+
+/// The status if a capture isn't one, or has fewer records than are asked for.
+pub(crate) const BAD: u8 = 1;
+
+/// Says what came of a capture, and answers the status.
+pub(crate) fn report(
+    rt: &HostRuntime,
+    name: &str,
+    outcome: Result<Tally, CaptureFault>,
+) -> io::Result<u8> {
+    let mut text: Buffer<OUTCOME> = Buffer::new(rt.alloc())?;
+    put_outcome(&mut text, outcome);
+    if let Ok(words) = str::from_utf8(text.as_slice()) {
+        eprintln!(rt; "bsdplay: {name}: {words}")?;
+    }
+    match outcome {
+        Ok(_) => Ok(0),
+        Err(CaptureFault::Bad(_) | CaptureFault::TooFew) => Ok(BAD),
+        Err(_) => Ok(UNREAD),
+    }
+}
+
+/// Says what is wrong with a pcapng file, or one that gzip compressed, and answers the status.
+fn report_fault(rt: &HostRuntime, name: &str, fault: Fault) -> io::Result<u8> {
+    if fault.why == Why::Gzip {
+        eprintln!(rt;
+            "bsdplay: {name}: error {}: zcat FILE | bsdplay --from-pcap - reads it",
+            fault.why
+        )?;
+    } else {
+        eprintln!(rt; "bsdplay: {name}: error {fault}")?;
+    }
+    Ok(BAD)
+}
+
+/// Prints a capture as a script, on standard output.
+fn print_file(rt: &HostRuntime, name: &str, details: Details) -> io::Result<u8>
+    requires { IsOrdered details.range }
+{
+    let file = match load_capture(rt, name) {
+        Ok(file) => file,
+        Err(Unread::Whole(fault)) => return report(rt, name, Err(fault)),
+        Err(Unread::Bad(fault)) => return report_fault(rt, name, fault),
+    };
+    let (line, buffers) = (Buffer::new(rt.alloc())?, LineBuffers::new(rt.alloc())?);
+    let mut lines = Lines::begin(Silent(rt.stdout()), line, buffers);
+    let outcome = play_file(rt.alloc(), &mut lines, file.as_slice(), details);
+    let (_writer, whole) = lines.end();
+    let status = report(rt, name, outcome)?;
+    Ok(if whole { status } else { UNREAD })
+}
+
+/// Prints the capture that the command line names, with the records and the ticks that it asks for.
+pub(crate) fn print_capture(
+    rt: &HostRuntime,
+    name: &str,
+    found: &ArgMatches<'_>,
+) -> io::Result<u8> {
+    let ticks = found.get_flag("ticks");
+    let Some(word) = found.get_str("N-M") else {
+        return print_file(rt, name, Details { range: None, ticks });
+    };
+    let Some(range) = range_of(word.as_bytes()) else {
+        eprintln!(rt; "bsdplay: --records {word}: two numbers are wanted, as 3-17")?;
+        return Ok(USAGE);
+    };
+    let details = Details {
+        range: Some(range),
+        ticks,
+    };
+    print_file(rt, name, details)
+}

@@ -1,0 +1,13 @@
+pub mod Types
+pub mod File
+pub mod Records
+pub mod Seen
+pub mod Frames
+pub mod Blocks
+pub mod Bodies
+pub mod SeenBlocks
+pub mod Faults
+pub mod Feeds
+pub mod Packets
+pub mod Places
+pub mod Steps

@@ -1,0 +1,138 @@
+-- A reader of captures, and its steps.
+use Rattle.std.specs.Prelude.{◌≡◌, ◌⊎◌, ℕ, ◌+◌, ◌^◌, ◌-◌, ◌<◌, ◌≤◌, min, List, [], ◌∷◌, ◌++◌, length, drop, Option, Some, None, Result, Ok, Err}
+use Rattle.std.specs.Int.{w32}
+use Rattle.std.specs.List.{flat_map}
+use Rattle.std.specs.Io.KnownBytes.{Consumes, IsAtEnd}
+use Rattle.capture.specs.File.{number_of}
+use Rattle.capture.specs.Records.{Captured, FitsFields, IsCut, record_bytes}
+use Rattle.capture.specs.declared.pcap.header.Header.{Header}
+use Rattle.capture.specs.declared.pcap.header.Order.{Order}
+use Rattle.capture.specs.declared.pcap.fault.Fault as classic
+use Rattle.capture.specs.Blocks.{Part, block_bytes, head_of, next_of}
+use Rattle.capture.specs.declared.pcapng.fault.Fault as blocks
+use Rattle.capture.specs.Faults.{block_slip, classic_slip, slip}
+use Rattle.capture.specs.Feeds.{Fills}
+use Rattle.capture.specs.Packets.{IsInside, Known, Packet, classic_packet, found_in, taken}
+use Rattle.capture.specs.declared.blocks.Found.{Found}
+use Rattle.capture.specs.declared.fault.Slip.{Slip}
+use Rattle.capture.specs.declared.fault.Why.TheVariants.{NotRead, TooLong, TooMany}
+use Rattle.capture.specs.declared.feed.TheConstants.{ROOM}
+use Rattle.capture.specs.declared.section.Step.{Step}
+use Rattle.capture.specs.declared.section.Step.TheVariants as steps
+
+-- ---- classic files
+
+-- how many bytes a record's header says were captured
+abbrev pub captured_in : Order → List ℕ → ℕ
+captured_in o bytes = number_of o w32 (drop 8 bytes)
+
+-- why the bytes that were read of a record are none, if the stream has ended or not
+abbrev pub ClassicFails : Order → List ℕ → Type 0 → Slip → Type 0
+ClassicFails o front ended s =
+    (s.why ≡ NotRead)
+    ⊎ ((s ≡ slip TooLong 8) × (16 ≤ length front) × (ROOM < 16 + captured_in o front))
+    ⊎ ((f : classic.Fault) × (s ≡ classic_slip f) × IsCut f.why o front f.offset × ended)
+
+-- a whole record stands in the room, or the stream has ended
+abbrev pub IsRecord : Order → List ℕ → Type 0 → Type 0
+IsRecord o room ended =
+    ((length room < 16) × ended)
+    ⊎ ((16 ≤ length room) × (length room ≤ 16 + captured_in o room) × (length room < 16 + captured_in o room → ended))
+
+abbrev pub IsLoaded : Order → Option (List ℕ) → Option (List ℕ) → List ℕ → Result (Unit {0}) Slip → Type 0
+IsLoaded o old new room (Ok done) = Consumes old new room × IsRecord o room (IsAtEnd new)
+IsLoaded o old new room (Err s) = Consumes old new room × ClassicFails o room (IsAtEnd new) s
+
+-- what was read of a stream of records: none, one, or what is none
+abbrev pub ClassicReads : Header → Option (List ℕ) → Option (List ℕ) → List ℕ → Result (Option Found) Slip → Type 0
+ClassicReads h old new room (Ok None) = Consumes old new room × (room ≡ []) × IsAtEnd new
+ClassicReads h old new room (Ok (Some f)) =
+    (r : Captured) × FitsFields r × Consumes old new room × (room ≡ record_bytes h.order r)
+    × (found_in room f ≡ classic_packet h r)
+ClassicReads h old new room (Err s) = Consumes old new room × ClassicFails h.order room (IsAtEnd new) s
+
+-- ---- pcapng files
+
+-- what a block changes, and the packet in it
+abbrev pub IsTaken : Known → Part → Known → Option Packet → Type 0
+IsTaken k b new p = (next_of k.order (block_bytes b) ≡ Ok b) × (taken k b ≡ Ok (new, p))
+
+-- blocks without a packet, one after another
+abbrev pub Passes : Known → List Part → Known → Type 0
+Passes k [] new = new ≡ k
+Passes k (b ∷ bs) new = (mid : Known) × IsTaken k b mid None × Passes mid bs new
+
+abbrev pub blocks_bytes : List Part → List ℕ
+blocks_bytes bs = flat_map block_bytes bs
+
+-- the bytes are as many as a block's head says
+abbrev pub IsLong : Option Order → List ℕ → Type 0
+IsLong o front = (p : Order) × (n : ℕ) × (head_of o front ≡ Ok (p, n)) × (n ≤ length front)
+
+-- why the bytes that were read of a block are none: by its head, by the whole of it or because the stream has ended, or
+-- by its body
+abbrev pub BlockFails : Option Order → List ℕ → Type 0 → Slip → Type 0
+BlockFails o front ended s =
+    (s.why ≡ NotRead)
+    ⊎ ((p : Order) × (n : ℕ) × (head_of o front ≡ Ok (p, n)) × (ROOM < n) × (s ≡ slip TooLong 4))
+    ⊎ ((f : blocks.Fault) × (12 ≤ length front) × (head_of o front ≡ Err f) × (s ≡ block_slip f))
+    ⊎ ((f : blocks.Fault) × (next_of o front ≡ Err f) × (ended ⊎ IsLong o front) × (s ≡ block_slip f))
+
+abbrev pub BodyFails : Known → List ℕ → Slip → Type 0
+BodyFails k front s =
+    (b : Part) × (front ≡ block_bytes b) × (next_of k.order front ≡ Ok b) × (taken k b ≡ Err s.why) × (s.at ≡ 0)
+
+-- a whole block stands in the room, or the stream has ended
+abbrev pub IsBlockRead : Option Order → List ℕ → Type 0 → Type 0
+IsBlockRead o room ended =
+    ((length room < 12) × ended)
+    ⊎ ((p : Order) × (n : ℕ) × (head_of o room ≡ Ok (p, n)) × (12 ≤ length room) × (length room ≤ n)
+    × (length room < n → ended))
+
+abbrev pub BlockLoads : Option Order → Option (List ℕ) → List ℕ → Option (List ℕ) → List ℕ → Result (Unit {0}) Slip
+    → Type 0
+BlockLoads o old held new room (Ok done) = Fills old held new room × IsBlockRead o room (IsAtEnd new)
+BlockLoads o old held new room (Err s) =
+    Fills old held new room × BlockFails o room (IsAtEnd new) s
+
+-- what one block comes to, of which the room may hold the first bytes already
+abbrev pub BlockReads : Known → Option (List ℕ) → List ℕ → Known → Option (List ℕ) → List ℕ → Result Step Slip → Type 0
+BlockReads k old held new now room (Ok steps.Ended) =
+    Fills old held now room × (room ≡ []) × IsAtEnd now × (new ≡ k)
+BlockReads k old held new now room (Ok steps.Passed) =
+    (b : Part) × Fills old held now room × (room ≡ block_bytes b) × IsTaken k b new None
+BlockReads k old held new now room (Ok (steps.Packet f)) =
+    (b : Part) × Fills old held now room × (room ≡ block_bytes b) × IsTaken k b new (Some (found_in room f))
+BlockReads k old held new now room (Err s) =
+    Fills old held now room × (BlockFails k.order room (IsAtEnd now) s ⊎ BodyFails k room s)
+
+-- a packet's bytes stand inside the room
+abbrev pub StepInside : ℕ → Result Step Slip → Type 0
+StepInside n (Ok (steps.Packet f)) = IsInside n (Some f)
+StepInside n (Ok steps.Ended) = Unit {0}
+StepInside n (Ok steps.Passed) = Unit {0}
+StepInside n (Err s) = Unit {0}
+
+-- so many bytes further, as far as 64 bits count
+abbrev pub further : ℕ → List ℕ → ℕ
+further offset bytes = min (offset + length bytes) (2 ^ 64 - 1)
+
+-- blocks without a packet were passed over, and behind them stand these bytes
+pub record Passed (k : Known) (offset : ℕ) (old : Option (List ℕ)) (held : List ℕ) (mid : Known) (at : ℕ)
+    (now : Option (List ℕ)) (bytes : List ℕ) : Type 0 where
+  pub blocks : List Part
+  pub pass : Passes k blocks mid
+  pub read : Fills old held now (blocks_bytes blocks ++ bytes)
+  pub offset_is : at ≡ further offset (blocks_bytes blocks)
+
+-- what the blocks up to the next packet come to
+abbrev pub BlocksRead : Known → ℕ → Option (List ℕ) → List ℕ → Known → ℕ → Option (List ℕ) → List ℕ
+    → Result (Option Found) Slip → Type 0
+BlocksRead k offset old held new at now room (Ok None) =
+    Passed k offset old held new at now room × (room ≡ []) × IsAtEnd now
+BlocksRead k offset old held new at now room (Ok (Some f)) =
+    (mid : Known) × (b : Part) × Passed k offset old held mid at now room × (room ≡ block_bytes b)
+    × IsTaken mid b new (Some (found_in room f))
+BlocksRead k offset old held new at now room (Err s) =
+    (mid : Known) × Passed k offset old held mid at now room
+    × (BlockFails mid.order room (IsAtEnd now) s ⊎ BodyFails mid room s ⊎ (s ≡ slip TooMany 0))

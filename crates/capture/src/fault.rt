@@ -1,0 +1,81 @@
+//! Why a capture couldn't be read.
+use crate::pcap::Why as ClassicWhy;
+use crate::pcapng::{BodyFault, Why as BlockWhy};
+use thiserror::Error;
+
+/// What is wrong with a capture.
+#[derive(Clone, Copy, Debug, PartialEq, Eq, Error)]
+pub enum Why {
+    /// Reading it failed.
+    #[error("reading failed")]
+    NotRead,
+    /// It's compressed by gzip: its first two bytes are 1f 8b. `zcat` writes what is in it.
+    #[error("compressed by gzip")]
+    Gzip,
+    /// It's a classic capture file with this fault, or none of either format (`BadMagic`).
+    #[error("{0}")]
+    Classic(ClassicWhy),
+    /// A block of a pcapng file has this fault.
+    #[error("{0}")]
+    Block(BlockWhy),
+    /// The body of a pcapng block has this fault.
+    #[error("{0}")]
+    Body(BodyFault),
+    /// A packet is of an interface that its section doesn't describe.
+    #[error("packet of an unknown interface")]
+    NoInterface,
+    /// A section describes more than [`crate::INTERFACES`] interfaces.
+    #[error("more than 64 interfaces")]
+    TooManyInterfaces,
+    /// A record or a block has more than [`crate::ROOM`] bytes.
+    #[error("longer than 1048576 bytes")]
+    TooLong,
+    /// So many blocks without a packet stand behind one another that they aren't passed over.
+    #[error("more than 2^32 blocks without a packet")]
+    TooMany,
+}
+
+/// What is wrong with a capture, and where.
+#[derive(Clone, Copy, Debug, PartialEq, Eq, Error)]
+#[error("{why} at byte {offset}")]
+pub struct Fault {
+    /// What is wrong.
+    pub why: Why,
+    /// Bytes from the start of the file to what shows it.
+    pub offset: u64,
+}
+
+/// What is wrong with a record or a block, and how far into it that stands.
+#[derive(Clone, Copy, Debug, PartialEq, Eq)]
+pub(crate) struct Slip {
+    pub(crate) why: Why,
+    pub(crate) at: usize,
+}
+
+impl From<crate::pcap::Fault> for Slip {
+    ghost use Rattle.std.specs.Prelude.{◌≡◌};
+    ghost use Rattle.capture.specs.Faults.{classic_slip};
+
+    ghost from_gives = { λ f s. s ≡ classic_slip f };
+
+    fn from(found: crate::pcap::Fault) -> Slip {
+        Slip {
+            why: Why::Classic(found.why),
+            at: found.offset,
+        }
+    }
+}
+
+impl From<crate::pcapng::Fault> for Slip {
+    ghost use Rattle.std.specs.Prelude.{◌≡◌};
+    ghost use Rattle.capture.specs.Faults.{block_slip};
+
+    ghost from_gives = { λ f s. s ≡ block_slip f };
+
+    fn from(found: crate::pcapng::Fault) -> Slip {
+        Slip {
+            why: Why::Block(found.why),
+            at: found.offset,
+        }
+    }
+}

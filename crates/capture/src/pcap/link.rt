@@ -1,0 +1,154 @@
+//! The IPv4 packet in a frame.
+ghost use Rattle.std.specs.Prelude.{◌≡◌, ◌+◌, ◌≤◌, length};
+ghost use Rattle.std.specs.Int.{w32};
+ghost use Rattle.capture.specs.File.{AnswersBy, number_of};
+ghost use Rattle.capture.specs.declared.pcap.header.Order.TheVariants.{Big};
+ghost use Rattle.capture.specs.Frames.{behind, by_family, by_protocol, by_version, host_family, packet_in_frame, unpadded, untagged};
+
+use crate::pcap::link_type::LinkType;
+use byteorder::{BigEndian, ByteOrder, LittleEndian};
+use thiserror::Error;
+
+/// Why there is no IPv4 packet in a frame.
+#[derive(Clone, Copy, Debug, PartialEq, Eq, Error)]
+pub enum NoPacket {
+    /// The frame ends within its link-layer header, or within a VLAN tag. A raw packet has no byte.
+    #[error("frame cut short")]
+    FrameCut,
+    /// The protocol (the "ethertype") isn't that of IPv4, 0x0800. It's told as it stands behind at most two VLAN tags.
+    #[error("protocol {0:#06x}")]
+    OtherProtocol(u16),
+    /// The protocol family isn't that of IPv4, 2.
+    #[error("protocol family {0}")]
+    OtherFamily(u32),
+    /// A raw packet's version isn't 4.
+    #[error("IP version {0}")]
+    OtherVersion(u8),
+}
+
+/// The protocol of IPv4.
+const IPV4: u16 = 0x0800;
+
+/// The protocol of a VLAN tag (IEEE 802.1Q), and that of the outer one of two (802.1ad).
+const VLAN: u16 = 0x8100;
+
+const OUTER_VLAN: u16 = 0x88a8;
+
+/// The protocol family of IPv4.
+const FAMILY_IPV4: u32 = 2;
+
+/// Bytes of the least IPv4 header.
+const IP_HEADER: usize = 20;
+
+/// A packet without what stands behind its total length.
+fn without_padding(bytes: &[u8]) -> &[u8]
+    ensures { result.now ≡ unpadded bytes.now }
+{
+    if bytes.len() < IP_HEADER {
+        return bytes;
+    }
+    let total = BigEndian::read_u16(&bytes[2..]) as usize;
+    if total < IP_HEADER || total > bytes.len() {
+        bytes
+    } else {
+        &bytes[..total]
+    }
+}
+
+/// A protocol and the bytes behind it, with one VLAN tag taken off if there is one.
+fn without_tag(protocol: u16, rest: &[u8]) -> Result<(u16, &[u8]), NoPacket>
+    ensures { AnswersBy (λ x. (x.0, x.1.now)) result (untagged protocol rest.now) }
+{
+    if protocol != VLAN && protocol != OUTER_VLAN {
+        return Ok((protocol, rest));
+    }
+    if rest.len() < 4 {
+        return Err(NoPacket::FrameCut);
+    }
+    Ok((BigEndian::read_u16(&rest[2..]), &rest[4..]))
+}
+
+/// The packet behind a protocol and at most two tags.
+#[tactic(auto, unfolding(crate::specs::Frames::behind))]
+fn behind_protocol(protocol: u16, rest: &[u8]) -> Result<&[u8], NoPacket>
+    ensures { AnswersBy (λ p. p.now) result (behind protocol rest.now) }
+{
+    let (protocol, rest) = without_tag(protocol, rest)?;
+    let (protocol, rest) = without_tag(protocol, rest)?;
+    if protocol != IPV4 {
+        return Err(NoPacket::OtherProtocol(protocol));
+    }
+    Ok(without_padding(rest))
+}
+
+/// The packet of a frame whose protocol stands at `at`, in a header of so many bytes.
+fn in_frame(frame: &[u8], at: usize, header: usize) -> Result<&[u8], NoPacket>
+    requires { at + 2 ≤ header }
+    ensures { AnswersBy (λ p. p.now) result (by_protocol at header frame.now) }
+{
+    if frame.len() < header {
+        return Err(NoPacket::FrameCut);
+    }
+    behind_protocol(BigEndian::read_u16(&frame[at..]), &frame[header..])
+}
+
+/// The packet behind a family that some host wrote.
+fn behind_host_family(frame: &[u8]) -> Result<&[u8], NoPacket>
+    ensures { AnswersBy (λ p. p.now) result (by_family host_family frame.now) }
+{
+    if frame.len() < 4 {
+        return Err(NoPacket::FrameCut);
+    }
+    let mut family = LittleEndian::read_u32(frame);
+    if family >= 65_536 {
+        family = BigEndian::read_u32(frame);
+    }
+    if family != FAMILY_IPV4 {
+        return Err(NoPacket::OtherFamily(family));
+    }
+    Ok(without_padding(&frame[4..]))
+}
+
+/// The packet behind a family with its high byte first.
+fn behind_family(frame: &[u8]) -> Result<&[u8], NoPacket>
+    ensures { AnswersBy (λ p. p.now) result (by_family (number_of Big w32) frame.now) }
+{
+    if frame.len() < 4 {
+        return Err(NoPacket::FrameCut);
+    }
+    let family = BigEndian::read_u32(frame);
+    if family != FAMILY_IPV4 {
+        return Err(NoPacket::OtherFamily(family));
+    }
+    Ok(without_padding(&frame[4..]))
+}
+
+/// A packet that is told by its version.
+fn of_version(frame: &[u8]) -> Result<&[u8], NoPacket>
+    ensures { AnswersBy (λ p. p.now) result (by_version frame.now) }
+{
+    match frame {
+        [] => Err(NoPacket::FrameCut),
+        [first, ..] if *first / 16 == 4 => Ok(without_padding(frame)),
+        [first, ..] => Err(NoPacket::OtherVersion(*first / 16)),
+    }
+}
+
+/// The IPv4 packet in a frame of a link type, without the link layer's header in front of it and without padding behind
+/// its total length. A packet that is cut short, or whose header is nonsense, is answered as it stands: what takes it
+/// in tests it. Refused with `FrameCut` if the frame ends within the link layer's header, or else with what stands
+/// there in the place of IPv4: `OtherProtocol` (Ethernet and Linux cooked), `OtherFamily` (Null and Loop) or
+/// `OtherVersion` (Raw).
+pub fn ipv4_packet(link: LinkType, frame: &[u8]) -> Result<&[u8], NoPacket>
+    ensures { AnswersBy (λ p. p.now) result (packet_in_frame link frame.now) }
+{
+    match link {
+        LinkType::Ethernet => in_frame(frame, 12, 14),
+        LinkType::LinuxCooked => in_frame(frame, 14, 16),
+        LinkType::LinuxCooked2 => in_frame(frame, 0, 20),
+        LinkType::Null => behind_host_family(frame),
+        LinkType::Loop => behind_family(frame),
+        LinkType::Raw => of_version(frame),
+        LinkType::Ipv4 => Ok(without_padding(frame)),
+    }
+}

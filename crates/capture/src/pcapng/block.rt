@@ -1,0 +1,181 @@
+//! Blocks, one after the other.
+ghost use Rattle.std.specs.Prelude.{◌≡◌, ◌+◌, ◌<◌, ◌≤◌, ◌^◌, ◌++◌, None, Ok, IfOk, IfErr, length};
+ghost use Rattle.capture.specs.File.{AnswersBy};
+ghost use Rattle.capture.specs.Blocks.{Reading, Steps, block_bytes, head_of, next_of, order_at, size};
+ghost use Rattle.capture.specs.SeenBlocks.{part, stepped};
+
+use crate::pcap::{Order, first_u32, u32_at};
+use crate::pcapng::fault::{Fault, Why};
+use std::marker::Model;
+
+/// The type of a section's header (section 4.1). It's the same in both orders of bytes.
+pub const SECTION_HEADER: u32 = 0x0a0d_0d0a;
+
+/// What stands behind the first length of a section's header, in the order of the section's numbers.
+pub const BYTE_ORDER_MAGIC: u32 = 0x1a2b_3c4d;
+
+/// The same, turned round.
+const MAGIC_TURNED: u32 = 0x4d3c_2b1a;
+
+/// Bytes of a block without a body.
+const EMPTY_BLOCK: usize = 12;
+
+/// A block (section 3.1): its type, and its body between the two lengths, with what fills it up to a multiple of 4.
+#[derive(Clone, Copy, Debug)]
+pub struct Block<'a> {
+    /// The order of the numbers in its section.
+    pub order: Order,
+    /// Its type.
+    pub kind: u32,
+    pub body: &'a [u8],
+}
+
+/// A reader of a file's blocks, in the order of the file. It takes no memory.
+#[derive(Drop)]
+pub struct Reader<'a> {
+    order: Option<Order>,
+    file_len: usize,
+    rest: &'a [u8],
+}
+
+impl<'a> Model for Reader<'a> {
+    ghost use Rattle.std.specs.Prelude.{◌-◌, ◌≤◌, length};
+    ghost use Rattle.capture.specs.Blocks.{Reading};
+
+    ghost Value = { Reading };
+
+    ghost view = { λ r. record { order = r.order; offset = r.file_len - length r.rest.now; rest = r.rest.now } };
+
+    ghost invariant = { λ r. length r.rest.now ≤ r.file_len };
+}
+
+/// The order of the block that begins these bytes, in a section of this one.
+fn order_of(current: Option<Order>, bytes: &[u8]) -> Result<Order, Fault>
+    requires { 12 ≤ length bytes.now }
+    ensures order { result ≡ order_at current bytes.now }
+    ensures inside { IfErr result (λ f. f.offset ≤ 12) }
+{
+    if u32_at(current.unwrap_or(Order::Little), bytes, 0) != SECTION_HEADER {
+        return match current {
+            Some(order) => Ok(order),
+            None => Err(Fault {
+                why: Why::NoSection,
+                offset: 0,
+            }),
+        };
+    }
+    match u32_at(Order::Little, bytes, 8) {
+        BYTE_ORDER_MAGIC => Ok(Order::Little),
+        MAGIC_TURNED => Ok(Order::Big),
+        _ => Err(Fault {
+            why: Why::BadMagic,
+            offset: 8,
+        }),
+    }
+}
+
+/// The order of the numbers and the total length of the block that begins these bytes, 12 at least, in a section of
+/// this order; `None` is in front of the first section. A length is 12 or more, and a multiple of 4. Refused with
+/// `NoSection`, `BadMagic` or `BadLength`, by the offset in these bytes.
+#[tactic(auto, unfolding(crate::specs::Blocks::head_of))]
+pub fn block_head(current: Option<Order>, bytes: &[u8]) -> Result<(Order, usize), Fault>
+    requires { 12 ≤ length bytes.now }
+    ensures found { result ≡ head_of current bytes.now }
+    ensures inside { IfErr result (λ f. f.offset ≤ 12) }
+    ensures long { IfOk result (λ r. 12 ≤ r.1) }
+    ensures short { IfOk result (λ r. r.1 < 2 ^ 32) }
+{
+    let order = order_of(current, bytes)?;
+    let len = u32_at(order, bytes, 4) as usize;
+    if len < EMPTY_BLOCK || len % 4 != 0 {
+        return Err(Fault {
+            why: Why::BadLength,
+            offset: 4,
+        });
+    }
+    Ok((order, len))
+}
+
+/// The block that begins these bytes, in a section of this order, and what stands behind it. Refused with a fault of
+/// the block, by the offset in these bytes.
+#[tactic(auto, unfolding(crate::specs::Blocks::next_of, crate::specs::Blocks::head_of))]
+pub fn first_block(current: Option<Order>, bytes: &[u8]) -> Result<(Block<'_>, &[u8]), Fault>
+    ensures found { AnswersBy (λ r. part r.0) result (next_of current bytes.now) }
+    ensures spelled { IfOk result (λ r. bytes.now ≡ block_bytes (part r.0) ++ r.1.now) }
+    ensures sized { IfOk result (λ r. length bytes.now ≡ size (part r.0) + length r.1.now) }
+    ensures headed { IfOk result (λ r. head_of current bytes.now ≡ Ok (r.0.order, size (part r.0))) }
+    ensures inside { IfErr result (λ f. f.offset ≤ length bytes.now) }
+{
+    if bytes.len() < EMPTY_BLOCK {
+        return Err(Fault {
+            why: Why::BlockCut,
+            offset: 0,
+        });
+    }
+    let order = order_of(current, bytes)?;
+    let (kind, rest) = first_u32(order, bytes);
+    let (total, rest) = first_u32(order, rest);
+    let len = total as usize;
+    if len < EMPTY_BLOCK || len % 4 != 0 {
+        return Err(Fault {
+            why: Why::BadLength,
+            offset: 4,
+        });
+    }
+    if bytes.len() < len {
+        return Err(Fault {
+            why: Why::BlockCut,
+            offset: 4,
+        });
+    }
+    let (body, rest) = rest.split_at(len - EMPTY_BLOCK);
+    let (again, rest) = first_u32(order, rest);
+    if again != total {
+        return Err(Fault {
+            why: Why::LengthsDiffer,
+            offset: len - 4,
+        });
+    }
+    Ok((Block { order, kind, body }, rest))
+}
+
+impl<'a> Reader<'a> {
+    /// A reader at the start of a file, of which all bytes are given.
+    pub fn new(file: &'a [u8]) -> Reader<'a>
+        ensures { result ≡ record { order = None; offset = 0; rest = file.now } }
+    {
+        Reader {
+            order: None,
+            file_len: file.len(),
+            rest: file,
+        }
+    }
+
+    /// How many bytes of the file have been read.
+    pub fn offset(&self) -> usize
+        ensures { result ≡ self.now.offset }
+    {
+        self.file_len - self.rest.len()
+    }
+
+    /// The next block, or `None` if the file has ended. Refused with a fault of the block; the reader is then as
+    /// before, and answers the same again.
+    pub fn next_block(&mut self) -> Result<Option<Block<'a>>, Fault>
+        ensures { Steps self.old self.new (stepped result) }
+    {
+        if self.rest.is_empty() {
+            return Ok(None);
+        }
+        match first_block(self.order, self.rest) {
+            Ok((block, rest)) => {
+                self.order = Some(block.order);
+                self.rest = rest;
+                Ok(Some(block))
+            }
+            Err(found) => Err(Fault {
+                why: found.why,
+                offset: self.offset() + found.offset,
+            }),
+        }
+    }
+}

@@ -1,0 +1,202 @@
+//! What the bodies of blocks say.
+ghost use Rattle.std.specs.Prelude.{◌≡◌, ◌+◌, ◌≤◌, IfOk, drop, length, take};
+ghost use Rattle.capture.specs.File.{AnswersBy};
+ghost use Rattle.capture.specs.Bodies.{enhanced_in, interface_in, plain_in, passed, section_in, ticks_by, ticks_said};
+ghost use Rattle.capture.specs.SeenBlocks.{enhanced, plain};
+
+use crate::pcap::{LinkType, Order, u16_at, u32_at};
+use crate::pcapng::block::Block;
+use crate::pcapng::fault::BodyFault;
+
+/// The code of the option if_tsresol.
+const IF_TSRESOL: u16 = 9;
+
+/// What the header of a section says (section 4.1).
+#[derive(Clone, Copy, Debug, PartialEq, Eq)]
+pub struct Section {
+    /// 1.
+    pub major: u16,
+    /// 0, or 2, which some writers have.
+    pub minor: u16,
+}
+
+/// What the description of an interface says (section 4.2).
+#[derive(Clone, Copy, Debug, Default, PartialEq, Eq)]
+pub struct Interface {
+    /// The link type's number.
+    pub link_number: u16,
+    /// The link type, if it's one of those that `pcap` knows.
+    pub link: Option<LinkType>,
+    /// The most bytes that are kept of a packet; 0 is no limit.
+    pub snap_len: u32,
+    /// How many ticks of its packets' times are a second (the option if_tsresol): a power of 10 or of 2, 1 or more.
+    pub ticks_per_second: u64,
+}
+
+/// An enhanced packet (section 4.3).
+#[derive(Clone, Copy, Debug)]
+pub struct EnhancedPacket<'a> {
+    /// Which of the section's interfaces saw it, from 0 on. A writer's word: there may be none of this number.
+    pub interface: u32,
+    /// When it was seen, in ticks of the interface since 1970-01-01, 00:00 UTC.
+    pub ticks: u64,
+    /// How many bytes the packet had. A writer's word: it may be less than what was captured.
+    pub original_len: u32,
+    /// The bytes that were captured. They are those of the interface's link type.
+    pub bytes: &'a [u8],
+}
+
+/// A simple packet (section 4.4): the section's first interface saw it, and when isn't said.
+#[derive(Clone, Copy, Debug)]
+pub struct SimplePacket<'a> {
+    /// How many bytes the packet had.
+    pub original_len: u32,
+    /// The bytes that were captured.
+    pub bytes: &'a [u8],
+}
+
+/// The ticks of a second, by a byte of the option if_tsresol.
+#[tactic(auto, using(crate::proofs::Options::tens_fit, crate::proofs::Options::twos_fit))]
+fn ticks_of(byte: u8) -> Result<u64, BodyFault>
+    ensures { result ≡ ticks_said byte }
+{
+    if byte < 20 {
+        Ok(10u64.pow(u32::from(byte)))
+    } else if byte < 128 || byte >= 192 {
+        Err(BodyFault::BadResolution)
+    } else {
+        Ok(2u64.pow(u32::from(byte) - 128))
+    }
+}
+
+/// The ticks of a second if an interface doesn't say: microseconds.
+const MICROSECONDS: u64 = 1_000_000;
+
+/// What stands behind the first option, if another may say the ticks of a second; else what the options say.
+fn pass_option(order: Order, options: &[u8]) -> Result<&[u8], Result<u64, BodyFault>>
+    ensures { AnswersBy (λ r. r.now) result (passed order options.now) }
+{
+    if options.len() < 4 {
+        return Err(Ok(MICROSECONDS));
+    }
+    let code = u16_at(order, options, 0);
+    if code == 0 {
+        return Err(Ok(MICROSECONDS));
+    }
+    let len = u16_at(order, options, 2) as usize;
+    let end = 4 + (len + 3) / 4 * 4;
+    if options.len() < end {
+        return Err(Err(BodyFault::OptionCut));
+    }
+    if code != IF_TSRESOL {
+        return Ok(&options[end..]);
+    }
+    if len != 1 {
+        return Err(Err(BodyFault::BadResolution));
+    }
+    Err(ticks_of(options[4]))
+}
+
+/// The ticks of a second that the first `most` options of an interface say.
+#[tactic(auto, using(crate::proofs::Options::ticks_more))]
+fn ticks_in(order: Order, options: &[u8], most: usize) -> Result<u64, BodyFault>
+    ensures { result ≡ ticks_by most order options.now }
+{
+    let mut rest = options;
+    let mut left = most;
+    'options: while left > 0 {
+        match pass_option(order, rest) {
+            Ok(behind) => rest = behind,
+            Err(said) => return said,
+        }
+        left -= 1;
+    }
+    Ok(MICROSECONDS)
+}
+
+impl<'a> Block<'a> {
+    /// What the body says as a section's header. Refused with `BodyCut` or `BadVersion`.
+    pub fn section(&self) -> Result<Section, BodyFault>
+        ensures { result ≡ section_in self.now.order self.now.body.now }
+    {
+        if self.body.len() < 16 {
+            return Err(BodyFault::BodyCut);
+        }
+        let (major, minor) = (
+            u16_at(self.order, self.body, 4),
+            u16_at(self.order, self.body, 6),
+        );
+        if major == 1 && (minor == 0 || minor == 2) {
+            Ok(Section { major, minor })
+        } else {
+            Err(BodyFault::BadVersion)
+        }
+    }
+
+    /// What the body says as the description of an interface. Refused with `BodyCut`, `OptionCut` or `BadResolution`.
+    pub fn interface(&self) -> Result<Interface, BodyFault>
+        ensures { result ≡ interface_in self.now.order self.now.body.now }
+    {
+        if self.body.len() < 8 {
+            return Err(BodyFault::BodyCut);
+        }
+        let ticks_per_second = ticks_in(self.order, &self.body[8..], self.body.len())?;
+        let link_number = u16_at(self.order, self.body, 0);
+        Ok(Interface {
+            link_number,
+            link: LinkType::of(link_number),
+            snap_len: u32_at(self.order, self.body, 4),
+            ticks_per_second,
+        })
+    }
+
+    /// What the body says as an enhanced packet. Refused with `BodyCut`.
+    pub fn enhanced_packet(&self) -> Result<EnhancedPacket<'a>, BodyFault>
+        ensures found { AnswersBy enhanced result (enhanced_in self.now.order self.now.body.now) }
+        ensures place { IfOk result (λ p. p.bytes.now ≡ take (length p.bytes.now) (drop 20 self.now.body.now)) }
+        ensures inside { IfOk result (λ p. 20 + length p.bytes.now ≤ length self.now.body.now) }
+    {
+        let (order, body) = (self.order, self.body);
+        if body.len() < 20 {
+            return Err(BodyFault::BodyCut);
+        }
+        let captured = u32_at(order, body, 12) as usize;
+        if body.len() - 20 < captured {
+            return Err(BodyFault::BodyCut);
+        }
+        Ok(EnhancedPacket {
+            interface: u32_at(order, body, 0),
+            ticks: u64::from(u32_at(order, body, 4)) * 0x1_0000_0000
+                + u64::from(u32_at(order, body, 8)),
+            original_len: u32_at(order, body, 16),
+            bytes: body[20..].split_at(captured).0,
+        })
+    }
+
+    /// What the body says as a simple packet, if the section's first interface keeps so many bytes. Refused with
+    /// `BodyCut`.
+    pub fn simple_packet(&self, snap_len: u32) -> Result<SimplePacket<'a>, BodyFault>
+        ensures found { AnswersBy plain result (plain_in snap_len self.now.order self.now.body.now) }
+        ensures place { IfOk result (λ p. p.bytes.now ≡ take (length p.bytes.now) (drop 4 self.now.body.now)) }
+        ensures inside { IfOk result (λ p. 4 + length p.bytes.now ≤ length self.now.body.now) }
+    {
+        let body = self.body;
+        if body.len() < 4 {
+            return Err(BodyFault::BodyCut);
+        }
+        let original_len = u32_at(self.order, body, 0);
+        let kept = if snap_len == 0 || original_len < snap_len {
+            original_len
+        } else {
+            snap_len
+        };
+        let kept = kept as usize;
+        if body.len() - 4 < kept {
+            return Err(BodyFault::BodyCut);
+        }
+        Ok(SimplePacket {
+            original_len,
+            bytes: body[4..].split_at(kept).0,
+        })
+    }
+}

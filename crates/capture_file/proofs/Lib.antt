@@ -1,6 +1,0 @@
-mod Filling
-mod Opening
-mod Placed
-mod Loaded
-mod Sections
-mod Stepping

@@ -1,4 +1,0 @@
-mod Unique
-mod Answered
-mod Headers
-mod Framed

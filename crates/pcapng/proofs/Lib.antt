@@ -1,3 +1,0 @@
-pub mod Heads
-mod Options
-mod Spelled

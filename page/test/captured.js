@@ -1,0 +1,26 @@
+// node page/test/captured.js MODULE.wasm CAPTURE..: prints what the page makes of each capture, a JSON object in a
+// line: `fault`, or the script's `text` and its `steps`, each with its line, its reply, the lines below that, the
+// counters that rose, and the cause of a drop.
+"use strict";
+const fs = require("fs");
+const { load } = require("./sources.js");
+
+const page = load(["Engine", "captureScript", "tracePlay"]);
+
+function played(engine, file) {
+  const { records, fault: end } = engine.records(new Uint8Array(fs.readFileSync(file)));
+  const script = page.captureScript(engine, records);
+  if (script.fault) return { fault: script.fault, end };
+  const { code, steps } = page.tracePlay(engine, script.text);
+  const told = ({ line, says, below, changed, causes, packet }) => ({ line, says, below,
+    changed: Object.fromEntries(changed.map(({ name, by }) => [name, by])),
+    causes: causes ? [...causes.values()] : [], isPacket: packet !== undefined });
+  return { ...script, end, code, steps: steps.map(told) };
+}
+
+async function main() {
+  const [module, ...files] = process.argv.slice(2), engine = await page.Engine.load(fs.readFileSync(module));
+  for (const file of files) console.log(JSON.stringify(played(engine, file)));
+}
+
+main();

@@ -1,0 +1,53 @@
+/* What capi/examples/device.c takes of the board: the card by lan9118.c, and the clock and the serial port by
+   machine.c. portable/board/build puts the file "flash" behind the program. */
+#include "../../capi/examples/device.h"
+
+#include "lan9118.h"
+#include "machine.h"
+
+/* With the servers these take less than 56 KB, which leaves 8 KB of 64 for the call stack. A datagram of 8,196 bytes
+   takes 6 clusters and 13 mbufs as it comes, and 5 and 20 as it goes out. */
+enum { MBUFS = 40, CLUSTERS = 7, RAM = 6144 };
+
+static unsigned char memory[BSDUDP_ETHER_MEMORY(MBUFS, CLUSTERS)] __attribute__((aligned(BSDUDP_ALIGNMENT)));
+static uint8_t ram[RAM];
+
+/* From the linker: the begin and the end of the file. */
+extern const uint8_t flash_start[], flash_end[];
+
+int port_start(const uint8_t mac[6])
+{
+    const int status = lan9118_start(mac);
+    lan9118_listen();
+    return status;
+}
+
+size_t port_receive(uint8_t *frame) { return lan9118_receive(frame); }
+
+void port_send(const uint8_t *frame, size_t len) { (void)lan9118_send(frame, len); }
+
+int port_ticked(void) { return machine_ticked(); }
+
+int port_wait(void)
+{
+    machine_sleep(LAN9118_INTERRUPT, lan9118_heard);
+    return 1;
+}
+
+void port_say(const char *text)
+{
+    while (*text != 0)
+        machine_put((uint8_t)*text++);
+}
+
+uint32_t port_stack(void) { return machine_stack(); }
+
+int main(void)
+{
+    const struct device device = {{BSDUDP_IP(10, 0, 0, 1), BSDUDP_IP(10, 0, 0, 255), MBUFS, CLUSTERS, 1500, 1},
+                                  {{2, 0, 0, 0, 0, 1}, 0xffffff00, BSDUDP_IP(10, 0, 0, 2), 0},
+                                  memory, sizeof memory, flash_start, (uint32_t)(flash_end - flash_start), ram, RAM};
+    if (device_run(&device) < 0)
+        port_say("no card, or no host\n");
+    return 1;
+}

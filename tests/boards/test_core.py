@@ -1,0 +1,243 @@
+"""The C library for other processors, built by portable/core, which rewrites the LLVM module and compiles it. On x86
+with 32 bits, there also with the sanitizer for addresses in the core itself, on 32-bit ARM and aarch64 by qemu, and on
+x86-64 each call, the memory of a stack, and two stacks over a wire are tried; on all but aarch64, and on RISC-V, all
+examples and random scripts, whose replies have to be those of the built program. Faults that are planted in the
+rewriting have to be seen."""
+import pathlib
+import shutil
+import subprocess
+from typing import NamedTuple
+
+import pytest
+
+from tests.boards.conftest import CC, DRIVER, SANITIZED, STRICT, replies
+from tests.cases import TOP
+from tools import llvm
+
+MODULE = ("rt", "wasm-opt", "cc")
+pytestmark = [pytest.mark.slow, pytest.mark.needs(*MODULE)]
+TARGETS = "cortex-m0 cortex-m3 cortex-m4 cortex-m7 cortex-m33 rv32imac i686 armv7 x86_64 aarch64".split()
+RANDOM = 2000
+MOST_OF_LEAST = 41_000  # bytes of the core for the least size, where pointers have 64 bits
+
+
+class Host(NamedTuple):
+    """How a program of C is built and run for a target, with which options of portable/core; and what that needs."""
+
+    target: str
+    compiler: list
+    runs_by: list = []
+    options: tuple = ()
+    needs: tuple = ()
+
+
+HOSTS = {
+    "i686": Host("i686", [CC, "-m32"], needs=("cc -m32",)),
+    "i686 sanitized": Host("i686", [CC, "-m32", *SANITIZED], options=("--sanitized",), needs=("cc -m32",)),
+    "armv7": Host(
+        "armv7", ["arm-linux-gnueabihf-gcc"], ["qemu-arm", "-L", "/usr/arm-linux-gnueabihf"],
+        needs=("arm-linux-gnueabihf", "qemu-user"),
+    ),
+    "x86_64": Host("x86_64", [CC], needs=("x86-64",)),
+    "aarch64": Host(
+        "aarch64", ["aarch64-linux-gnu-gcc"], ["qemu-aarch64", "-L", "/usr/aarch64-linux-gnu"],
+        needs=("aarch64-linux-gnu", "qemu-user"),
+    ),
+}  # fmt: skip
+WRAPPED = ["-Wl,--wrap=malloc,--wrap=free"]  # memory.c has malloc and free of its own
+PROGRAMS = {"tests/calls": [], "tests/ether": [], "tests/memory": WRAPPED, "examples/wire": []}
+
+
+def hosts(*left_out):
+    """Each host, by its name, with what it needs."""
+    return pytest.mark.parametrize(
+        "host", [pytest.param(it, id=name, marks=pytest.mark.needs(*it.needs)) for name, it in HOSTS.items()
+                 if name not in left_out]
+    )  # fmt: skip
+
+
+@pytest.fixture
+def builds(core_for, compiled):
+    """builds(HOST, NAME, compiler's words ..) is how a program over the library of a host is run."""
+
+    def build(host, name, *words):
+        library = core_for(host.target, *host.options) / "libbsdudp.a"
+        program = compiled(pathlib.Path(name).name, *host.compiler, *STRICT, *words, library)
+        return [*host.runs_by, program]
+
+    return build
+
+
+def test_targets_are_known():
+    said = subprocess.run([TOP / "portable/core", "targets"], capture_output=True, text=True, check=True).stdout
+    assert [line.split()[0] for line in said.splitlines()] == TARGETS
+
+
+@pytest.mark.parametrize("target", TARGETS)
+def test_target_is_made(target, core_for):
+    assert sorted(it.name for it in core_for(target).iterdir()) == ["bsdudp.h", "libbsdudp.a"]
+
+
+@hosts()
+@pytest.mark.parametrize("name", PROGRAMS)
+def test_calls(name, host, builds, runs):
+    runs(*builds(host, name, f"{name}.c", *PROGRAMS[name]))
+
+
+@hosts()
+def test_random_calls(host, builds, runs, bsdudp):
+    """Random calls, and the same as lines of the built program."""
+    runs(*builds(host, "random", "-O1", "tests/random.c"), bsdudp, "1")
+
+
+@hosts("aarch64")
+def test_scripts(host, builds, plays):
+    plays(builds(host, "driver", "-O1", *DRIVER), RANDOM)
+
+
+@hosts("i686", "i686 sanitized", "armv7", "x86_64")
+def test_driver_builds(host, builds):
+    builds(host, "driver", "-O1", *DRIVER)
+
+
+@pytest.mark.needs("qemu-user")
+def test_scripts_on_riscv(core_for, plays, tmp_path):
+    """By the toolchain's compiler and linker."""
+    tools = llvm.toolchain_of("libbsdudp") / "toolchain/bin"
+    library = core_for("rv32imac") / "libbsdudp.a"
+    headers = llvm.run(CC, "-print-file-name=include").strip()
+    how = [tools / "clang", "--target=riscv32-unknown-elf", "-march=rv32imac", "-mabi=ilp32", "-O1", "-ffreestanding"]
+    how += ["-std=gnu99", "-nostdinc", "-isystem", headers, "-isystem", TOP / "portable/c/include"]
+    how += [f"-I{TOP / 'capi/include'}", f"-I{TOP / 'portable/tests'}"]
+    objects = [tmp_path / f"{it}.o" for it in ("run", "riscv")]
+    for it in objects:
+        llvm.run(*how, "-c", TOP / f"portable/tests/{it.stem}.c", "-o", it)
+    llvm.run(tools / "ld.lld", *objects, library, "-o", tmp_path / "driver")
+    plays(["qemu-riscv32", tmp_path / "driver"], RANDOM)
+
+
+@pytest.mark.needs("objdump")
+@pytest.mark.parametrize(
+    "name, more", [
+        pytest.param("x86_64", [], marks=pytest.mark.needs("x86-64")),
+        pytest.param("aarch64", ["-static"], marks=pytest.mark.needs(*HOSTS["aarch64"].needs)),
+    ],
+)  # fmt: skip
+def test_least_size(name, more, core_for, builds, runs):
+    host = HOSTS[name]._replace(options=("-Oz",), runs_by=HOSTS[name].runs_by[:1])
+    sizes = llvm.run("size", core_for(name, "-Oz") / "libbsdudp.a").splitlines()
+    (core,) = (int(it.split()[0]) for it in sizes if "core.o" in it)
+    assert core <= MOST_OF_LEAST
+    runs(*builds(host, "calls", *more, "tests/calls.c"))
+
+
+# ---- faults that are planted in tools/retarget.py: what is replaced, and by what -------------------------------------
+
+PLANTED = [
+    ("place = -(-SIZES[first] // SIZES[second]) * SIZES[second]", "place = SIZES[first]"),
+    ('"ptr": 8}', '"ptr": 4}'),
+    ("= alloca i64, align", "= alloca i32, align"),
+]
+
+
+def passes(*words):
+    """Whether a program ends well, in a tenth of a minute of the processor."""
+    limited = ["bash", "-c", 'ulimit -t 6; ulimit -c 0; timeout 300 "$@"', "bash", *map(str, words)]
+    return not subprocess.run(limited, capture_output=True, check=False).returncode
+
+
+def plays_examples(driver):
+    scripts, wanted = replies.chosen(0, None)
+    limited = ["bash", "-c", 'ulimit -t 6; ulimit -c 0; exec timeout 300 "$1"', "bash", str(driver)]
+    try:
+        return not replies.differences(scripts, replies.heard(limited, scripts)[0], wanted)
+    except SystemExit:  # it ended otherwise than with status 0
+        return False
+
+
+@pytest.mark.needs("cc -m32")
+@pytest.mark.parametrize("old, new", PLANTED, ids=["a pair's second member", "an address's bytes", "a number's memory"])
+def test_planted_fault_is_seen(old, new, module, compiled, tmp_path):
+    module("libbsdudp")
+    copy = tmp_path / "copy"
+    copy.mkdir()
+    for it in ("crates", "crates.txt", "capi"):
+        (copy / it).symlink_to(TOP / it)
+    for it in ("portable", "tools"):
+        shutil.copytree(TOP / it, copy / it, ignore=lambda at, _: {"core"} if at.endswith("portable/out") else set())
+    text = (copy / "tools/retarget.py").read_text(encoding="utf-8")
+    assert text.count(old) == 1
+    (copy / "tools/retarget.py").write_text(text.replace(old, new), encoding="utf-8")
+    library = tmp_path / "library"
+    if subprocess.run([copy / "portable/core", "i686", library], capture_output=True, check=False).returncode:
+        return  # clang refuses it
+    how = [CC, "-m32", *STRICT]
+    calls = compiled("calls", *how, "tests/calls.c", library / "libbsdudp.a")
+    driver = compiled("driver", *how, *DRIVER, library / "libbsdudp.a")
+    assert not (passes(calls) and plays_examples(driver))
+
+
+# ---- a Cortex-M3 -----------------------------------------------------------------------------------------------------
+
+BOARD = TOP / "portable/board"
+MACHINE = ["timeout", "900", "qemu-system-arm", "-M", "mps2-an385", "-display", "none", "-monitor", "none", "-serial"]
+MACHINE += ["stdio", "-semihosting-config", "enable=on,target=native"]
+# The most of the columns of bench/board's table, for each level: the library, the echo's text, data, bss and call
+# stack, and the instructions of three lengths.
+COSTS = {
+    "-Oz": [38_500, 25_000, 16, 53_000, 2_300, 6_900, 15_000, 54_000],
+    "-Os": [51_000, 35_000, 16, 53_000, 2_300, 2_400, 9_300, 29_000],
+    "-O2": [82_000, 60_000, 16, 53_000, 1_200, 2_600, 8_700, 27_000],
+}
+DATA = 2
+on_board = pytest.mark.needs("arm-none-eabi", "qemu-arm")
+
+
+@pytest.fixture(scope="session")
+def board(core_for, once):
+    """The board's programs. The linker sees that 64 KB of memory do."""
+    library = core_for("cortex-m3")
+    return once("board", lambda folder: llvm.run(BOARD / "build", library, folder))
+
+
+@on_board
+def test_call_stacks(board):
+    """All examples are played, in which no call goes deeper than its bound."""
+    llvm.run(BOARD / "stacks", board / "painted.elf", *MACHINE, "-kernel")
+
+
+@on_board
+@pytest.mark.needs("netns", "tun", "ip")
+def test_linux_by_a_serial_line(board):
+    llvm.run("unshare", "-n", BOARD / "peer.py", BOARD / "bridge.py", *MACHINE, "-kernel", board / "echo.elf")
+
+
+@on_board
+@pytest.mark.needs("netns", "tun", "ip", "ping")
+def test_linux_on_an_ethernet(board):
+    card = ["-kernel", board / "host.elf", "-nic", "tap,ifname=bsdudp0,script=no,downscript=no"]
+    machine = ["null" if it == "stdio" else it for it in MACHINE]
+    llvm.run("unshare", "-n", BOARD / "peer.py", "--tap", *machine, *card)
+
+
+@pytest.fixture(scope="session")
+def costs(core_for, once):
+    """What an echo costs on the board, as bench/run.sh prints it. lwIP is beside it where its sources are at hand."""
+
+    def make(folder):
+        for level in COSTS:
+            (folder / f"cortex-m3{level}").symlink_to(core_for("cortex-m3", *[level] * (level != "-Os")))
+        environment = f"CORE={folder} PORTABLE={folder} BRIEF=1"
+        (folder / "said").write_text(llvm.run("env", *environment.split(), TOP / "bench/run.sh", "board"))
+
+    return (once("costs", make) / "said").read_text()
+
+
+@on_board
+@pytest.mark.parametrize("level", COSTS)
+def test_costs_of_an_echo(level, costs):
+    row = next(it for it in costs.splitlines() if it.startswith(f"| `portable/core {level}` |"))
+    columns = [int(it.replace(",", "")) for it in row.split("|")[2:-1]]
+    assert len(columns) == len(COSTS[level])
+    assert all(it > 0 for at, it in enumerate(columns) if at != DATA), "the echo doesn't answer"
+    assert all(it <= most for it, most in zip(columns, COSTS[level])), f"{columns}, and at most {COSTS[level]}"

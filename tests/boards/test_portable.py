@@ -1,0 +1,114 @@
+"""bsdudp_portable.c, the library as one file of C99. Two builds are the same; it compiles in an empty folder, asks for
+four functions of a C library and has no variable. Every call, its tests of accesses, the examples and random scripts
+are tried under the sanitizers, by another compiler, on hosts of 32 bits and with the other order of bytes."""
+import re
+import shutil
+import subprocess
+from typing import NamedTuple
+
+import pytest
+
+from tests.boards.conftest import C99, CC, DRIVER, SANITIZED
+from tests.cases import TOP
+from tests.made import made
+
+pytestmark = [pytest.mark.slow, pytest.mark.needs("rt", "wasm-opt", "wasm2c", "cc")]
+ASKED = set("memcpy memmove memset memcmp _GLOBAL_OFFSET_TABLE_".split())
+PROGRAMS = {"calls": "tests/calls.c", "ether": "tests/ether.c", "wire": "examples/wire.c"}
+
+
+class Build(NamedTuple):
+    """How the file and a program over it are compiled, what runs it, and how many random scripts are played."""
+
+    compiler: list
+    of_file: list = []
+    of_both: list = []
+    runs_by: list = []
+    scripts: int = 200
+
+
+TESTED = Build([CC], ["-O1"], SANITIZED, scripts=2000)
+UNTESTED = Build([CC], ["-O0", "-DBSDUDP_TESTS=0"], SANITIZED)
+BUILDS = {
+    "tested": (TESTED, ["asan"]),
+    "untested": (UNTESTED, ["asan"]),
+    "clang": (Build(["clang"], ["-O1"], SANITIZED), ["clang"]),
+    "m32": (Build([CC, "-m32"], ["-O1"]), ["cc -m32"]),
+    "s390x": (
+        Build(["s390x-linux-gnu-gcc", "-static"], ["-O1"], [], ["qemu-s390x"], 50), ["s390x-linux-gnu", "qemu-user"],
+    ),
+}  # fmt: skip
+
+
+@pytest.fixture
+def builds(portable_c, compiled):
+    """builds(BUILD, NAME, compiler's words ..) is how a program over the file is run."""
+
+    def build(how, name, *sources):
+        words = [*how.compiler, *C99, f"-I{portable_c.parent}", *how.of_both]
+        unit = compiled(f"{name}.o", *words, *how.of_file, "-c", portable_c)
+        return [*how.runs_by, compiled(name, *words, *sources, unit)]
+
+    return build
+
+
+def test_two_are_the_same(portable_c, tmp_path):
+    made("portable/build", tmp_path)
+    assert (tmp_path / portable_c.name).read_bytes() == portable_c.read_bytes()
+
+
+def test_compiles_in_an_empty_folder(portable_c, tmp_path):
+    for it in (portable_c, portable_c.with_name("bsdudp.h")):
+        shutil.copy(it, tmp_path)
+    words = [CC, "-std=c99", "-Wall", "-Werror", "-c", portable_c.name]
+    done = subprocess.run(words, cwd=tmp_path, capture_output=True, text=True, check=False)
+    assert done.returncode == 0 and not done.stderr, done.stderr[:2000]
+
+
+@pytest.fixture
+def symbols(portable_c, compiled):
+    """The rows of nm for the file as it's compiled for a board: a letter, and a name."""
+    how = ["-std=c99", "-O2", "-ffreestanding", "-fno-stack-protector", "-DBSDUDP_MALLOC=0"]
+    unit = compiled("portable.o", CC, *how, "-c", portable_c)
+    said = subprocess.run(["nm", unit], capture_output=True, text=True, check=True).stdout
+    return [it.split()[-2:] for it in said.splitlines()]
+
+
+@pytest.mark.needs("objdump")
+def test_asks_for_four_functions(symbols):
+    assert {name for kind, name in symbols if kind == "U"} <= ASKED
+
+
+@pytest.mark.needs("objdump")
+def test_no_variable(symbols):
+    assert not [name for kind, name in symbols if kind in "bBcC"]
+
+
+@pytest.mark.needs("objdump")
+def test_shows_what_the_header_has(symbols):
+    header = (TOP / "capi/include/bsdudp.h").read_text(encoding="utf-8")
+    declared = set(re.findall(r"(?m)^[a-z].*[ *](bsdudp_[a-z_]*)\(", header)) - {"bsdudp_boot", "bsdudp_ether_boot"}
+    assert {name for kind, name in symbols if kind.isupper() and kind != "U"} == declared
+
+
+@pytest.mark.needs("asan")
+@pytest.mark.parametrize(
+    "name, how", [("calls", TESTED), ("ether", TESTED), ("wire", TESTED), ("calls", UNTESTED), ("ether", UNTESTED)],
+    ids=["calls", "ether", "wire", "calls untested", "ether untested"],
+)  # fmt: skip
+def test_calls(name, how, builds, runs):
+    runs(*builds(how, name, PROGRAMS[name]))
+
+
+@pytest.mark.needs("asan")
+def test_accesses(portable_c, compiled, runs):
+    """The tests of accesses themselves."""
+    words = [*C99, f"-I{portable_c.parent}", *SANITIZED, "-O0", TOP / "portable/tests/access.c"]
+    runs(compiled("access", CC, *words))
+
+
+@pytest.mark.parametrize(
+    "how", [pytest.param(it, id=name, marks=pytest.mark.needs(*needs)) for name, (it, needs) in BUILDS.items()]
+)
+def test_scripts(how, builds, plays):
+    plays(builds(how, "driver", "-O1", *DRIVER), how.scripts)

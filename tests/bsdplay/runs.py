@@ -1,0 +1,43 @@
+"""Runs of bsdplay over a script that it reads from standard input."""
+from __future__ import annotations
+
+import json
+import pathlib
+import subprocess
+from typing import Any, Sequence
+
+import pytest
+
+
+def run(
+    program: pathlib.Path, *words: object, script: str | bytes = b"", **more: Any
+) -> subprocess.CompletedProcess[bytes]:
+    """Runs the program with these words, and gives it the script by a pipe."""
+    given = script.encode() if isinstance(script, str) else script
+    return subprocess.run(
+        [program, *map(str, words)], input=given, capture_output=True, check=False, timeout=300, **more
+    )
+
+
+def of_lines(lines: Sequence[str]) -> str:
+    """A script of these lines."""
+    return "".join(f"{it}\n" for it in lines)
+
+
+def printed(program: pathlib.Path, lines: Sequence[str], *words: str) -> list[str]:
+    """The lines that the program prints for a script of these lines."""
+    return run(program, *words, script=of_lines(lines)).stdout.decode().splitlines()
+
+
+def objects(program: pathlib.Path, lines: Sequence[str], *words: object) -> list[dict[str, Any]]:
+    """The objects that the program prints with --json for a script of these lines."""
+    ended = run(program, "--json", *words, "-", script=of_lines(lines))
+    if ended.returncode not in (0, 1) or ended.stderr:
+        pytest.fail(f"bsdplay: status {ended.returncode}: {ended.stderr.decode(errors='replace')}", pytrace=False)
+    return [json.loads(it) for it in ended.stdout.decode("ascii").splitlines()]
+
+
+def same(asked: object, came: object, wanted: object) -> None:
+    """Fails the test if the result differs from the wanted one."""
+    if came != wanted:
+        pytest.fail(f"{asked}\n    wanted: {wanted}\n    came:   {came}", pytrace=False)

@@ -1,0 +1,435 @@
+"""What bsdplay prints for lines that request nothing: for each it prints what is wrong with it, and does nothing else.
+Then a line of each form that `bsdplay --help` prints, none of which may be called wrong; scripts that begin with a byte
+order mark; lines with a time in front; hosts on an Ethernet; and scripts of two hosts, where the lines below `carry`
+say what happened to each packet, and those below a host's line what the host did."""
+import json
+import re
+
+import pytest
+
+from tests.bsdplay.runs import printed, run, same
+
+HOSTS = ["host a --addr 10.0.0.1", "host b --addr 10.0.0.2", "wire a b"]
+
+
+def rows(table):
+    """Has a test tried with each row of a table, by its name."""
+    return pytest.mark.parametrize("name", table)
+
+
+# ---- lines that request nothing ------------------------------------------------------------------------------------
+
+# Lines of a script of one machine, and what is wrong with each.
+MACHINE = {
+    "sokcet": "`sokcet` is no command (`socket`?)",
+    "Socket": "`Socket` is no command (`socket`?)",
+    "sock": "`sock` is no command (`socket`?)",
+    "recv 3 100": "`recv` is no command (`recvfrom`?)",
+    "recvform 3 100": "`recvform` is no command (`recvfrom`?)",
+    "sendot 3 10.0.0.2 7 -": "`sendot` is no command (`sendto`?)",
+    "setsokopt 3 broadcast 1": "`setsokopt` is no command (`setsockopt`?)",
+    "quit": "`quit` is no command",
+    "carry": "`carry` is no command",
+    "abcdefghijklmnopqrstuvwxyzabcdefgh": "`abcdefghijklmnopqrstuvwxyzabcdef..` is no command",
+    "bind 3 localhost 7": "`localhost` is no ADDR (as 10.0.0.2): `bind FD ADDR PORT`",
+    "bind 3 10.0.0.1 70000": "`70000` is no PORT (0 to 65535): `bind FD ADDR PORT`",
+    "bind 3 10.0.0.1 07": "`07` is no PORT (0 to 65535): `bind FD ADDR PORT`",
+    "bind 10.0.0.1 7": "`10.0.0.1` is no FD (0 to 4294967295): `bind FD ADDR PORT`",
+    "connect 3 10.0.0.1": "PORT (0 to 65535) is missing: `connect FD ADDR PORT`",
+    "sendto 3 10.0.0.2 7": "BYTES (digits, \"text\" or @N) is missing: `sendto FD ADDR PORT BYTES`",
+    "recvfrom 3": "LEN (1 to 65535) is missing: `recvfrom FD LEN`",
+    "recvfrom 3 0": "`0` is no LEN (1 to 65535): `recvfrom FD LEN`",
+    "recvfrom 3 9 9": "`9` is one word too many: `recvfrom FD LEN`",
+    "setsockopt 3 nodelay 1": "`nodelay` is no OPT (broadcast or reuseport): `setsockopt FD OPT ON`",
+    "setsockopt 3 broadcast on": "`on` is no ON (1 or 0): `setsockopt FD OPT ON`",
+    "close": "FD (0 to 4294967295) is missing: `close FD`",
+    "socket 3": "`3` is one word too many: `socket`",
+    "tick 0": "`0` is no N (1 to 65535): `tick [N]`",
+    "tick 65536": "`65536` is no N (1 to 65535): `tick [N]`",
+    "show": "WHAT (sockets, unfinished, queue, counters or pool) is missing: `show WHAT`",
+    "show socket": "`socket` is no WHAT (sockets, unfinished, queue, counters or pool): `show WHAT`",
+    "rx pcap a.pcap 0-3": "it's written otherwise: `rx pcap FILE [N-M] [ticks]`",
+    "=> ok": "no command stands in front of `=>`",
+}
+# Lines of a script of two hosts, and what is wrong with each.
+WIRE = {
+    "socket": "`socket` is asked of a host: `NAME: socket`",
+    "bind 3 0.0.0.0 7": "`bind` is asked of a host: `NAME: bind FD ADDR PORT`",
+    "cary": "`cary` is no command (`carry`?)",
+    "carry al": "it's written otherwise: `carry [all] [N]`",
+    "drop": "it's written otherwise: `drop PLACE`",
+    "tick 0": "`0` is no N (1 to 65535): `tick [N]`",
+    "show sockets": "it's written otherwise: `show wire`",
+    "frame 00": "`frame` is asked of a host: `NAME: frame BYTES`",
+    "a: frame": "BYTES (digits, \"text\" or @N) is missing: `frame BYTES`",
+    "a: frame 00": "that is asked of a host on an Ethernet: `host NAME ether ..`",
+    "a: show link": "that is asked of a host on an Ethernet: `host NAME ether ..`",
+    "a: error x": "`x` is no FD (0 to 4294967295): `error FD`",
+    "a: show wire": "`wire` is no WHAT (sockets, unfinished, queue, counters, pool, neighbours, link): `show WHAT`",
+    "a: sokcet": "`sokcet` is no command (`socket`?)",
+    "a: carry": "`carry` is no command",
+    "a: close": "FD (0 to 4294967295) is missing: `close FD`",
+    "a: rx pcap a.pcap": "no capture is played in to one of many hosts",
+    "a: --mtu 576": "a host's settings stand in its line `host`",
+}
+
+
+def advice(program, before, line):
+    """What is printed of a line behind those of `before`."""
+    return printed(program, [*before, line])[len(before) :]
+
+
+@pytest.mark.parametrize("line", MACHINE)
+def test_a_wrong_line_of_one_machine_is_explained(line, bsdplay):
+    same(line, advice(bsdplay, [], line), [f"-:1: {MACHINE[line]}"])
+
+
+@pytest.mark.parametrize("line", WIRE)
+def test_a_wrong_line_of_two_hosts_is_explained(line, bsdplay):
+    same(line, advice(bsdplay, HOSTS, line), [f"-:4: {WIRE[line]}"])
+
+
+@pytest.mark.parametrize("before, table", [([], MACHINE), (HOSTS, WIRE)], ids=["one machine", "two hosts"])
+def test_wrong_lines_do_nothing(before, table, bsdplay):
+    """All of them in one script: each has its line, and nothing else is printed."""
+    wanted = [f"-:{number}: {it}" for number, it in enumerate(table.values(), len(before) + 1)]
+    same(list(table), printed(bsdplay, [*before, *table])[len(before) :], wanted)
+
+
+# ---- forms ---------------------------------------------------------------------------------------------------------
+
+# What stands for the words of a form.
+WORDS = {
+    "FD": "9", "ADDR": "10.0.0.2", "PORT": "7", "BYTES": "00", "LEN": "1", "OPT": "broadcast", "ON": "1",
+    "WHAT": "pool", "N": "2", "FILE": "none.pcap", "N-M": "1-2", "NAME": "a", "CHANCE": "10%", "A-B": "0-1",
+    "PLACE": "0", "..": "b", "--SETTING": "--addr", "VALUE": "10.0.0.9", "ADDR:PORT": "10.0.0.2:7", "FIELDS": "df id 2",
+    "LINK": "probe",
+}  # fmt: skip
+ANSWERED = re.compile(
+    r"this asks for nothing|no command|is no |is missing: |too many: |otherwise: |asked of a host|"
+    r"unknown word|is wanted|not an? "
+)
+
+
+def instances(form):
+    """Lines of a form: with what may be left out, and without it."""
+    for one in form.split(" or "):
+        for text in {re.sub(r" \[[^]]*\]", "", one), re.sub(r"\[([^]]*)\]", r"\1", one)}:
+            yield " ".join(WORDS.get(word, word) for word in text.split())
+
+
+@pytest.fixture
+def forms(bsdplay):
+    """The forms of one machine's lines and those of many machines, by the program's help."""
+    found, into = ([], []), None
+    for line in run(bsdplay, "--help").stdout.decode().splitlines():
+        if line.startswith("Lines behind"):
+            into = None
+        elif line.startswith("Lines"):
+            into = found[line.startswith("Lines of many")]
+        elif into is not None and line.startswith("  "):
+            into.append(line.strip())
+    return dict(zip(("one machine", "two hosts"), found))
+
+
+@pytest.mark.parametrize("kind, before", [("one machine", []), ("two hosts", HOSTS)], ids=["one machine", "two hosts"])
+def test_no_line_of_a_form_is_called_wrong(kind, before, forms, bsdplay):
+    assert len(forms[kind]) >= 14, f"the help has few forms: {forms[kind]}"
+    lines = [*before, *(line for form in forms[kind] for line in instances(form))]
+    said = [(re.match(r"-:(\d+):", it), it) for it in printed(bsdplay, lines)]
+    same("lines of a form", [(lines[int(n[1]) - 1], it) for n, it in said if n and ANSWERED.search(it)], [])
+
+
+# ---- byte order marks ----------------------------------------------------------------------------------------------
+
+MARK = "\ufeff"
+MARKED = ["socket\nbind 3 0.0.0.0 x\n", "host a\na: socket\n", "# c\n\nhost a\nwire a\n", "\n"]
+
+
+@pytest.mark.parametrize("script", MARKED)
+def test_a_byte_order_mark_in_front_changes_nothing(script, bsdplay):
+    same(script, run(bsdplay, script=MARK + script).stdout, run(bsdplay, script=script).stdout)
+
+
+def test_a_byte_order_mark_in_the_second_line_is_part_of_a_word(bsdplay):
+    same("socket", printed(bsdplay, ["", f"{MARK}socket"]), [f"-:2: `{MARK}socket` is no command"])
+
+
+# ---- hosts on an Ethernet ------------------------------------------------------------------------------------------
+
+LINK = "host a ether --addr 10.0.0.1"
+# The lines of one script, and what is wrong with each, or its reply.
+ETHER = {
+    LINK: "ok",
+    "host b ether mac 02:00:00:00:00:01 --addr 10.0.0.2": "another host has this hardware address",
+    "host b ether mac 03:00:00:00:00:02": "a hardware address is as 02:00:00:00:00:01, and none of a group",
+    "host b ether mac 2:0:0:0:0:2": "a hardware address is as 02:00:00:00:00:01, and none of a group",
+    "host b ether mac": "a hardware address is as 02:00:00:00:00:01, and none of a group",
+    "host b ether mask 255.0.255.0": "a mask is as 255.255.255.0: ones, then zeros",
+    "host b ether gateway 10.0.1.1": "a gateway is another address of the host's network, by its mask",
+    "host b ether gateway x": "a gateway is another address of the host's network, by its mask",
+    "host b ether lladdr x": "a link is `mac M`, `mask M`, `gateway A` and `probe`, in front of settings",
+    "host b ether --mtu 1501": "a frame takes a packet of 1500 bytes at most: `--mtu`",
+    "host b --addr 10.0.0.2": "either all hosts are on an Ethernet, or none is",
+    "host b ether gateway 10.1.1.1 probe mask 255.0.0.0 --addr 10.0.0.2": "ok",
+    "wire a b": "ok",
+    "a: rx 00": "a host on an Ethernet takes frames: `frame BYTES`, or `carry`",
+    'a: rx udp 10.0.0.2:5 > 10.0.0.1:7 "x"': "a host on an Ethernet takes frames: `frame BYTES`, or `carry`",
+    "a: tx": "a host on an Ethernet takes frames: `frame BYTES`, or `carry`",
+    "a: frame zz": "it's written otherwise: `frame BYTES`",
+    "a: tick 0": "`0` is no N (1 to 65535): `tick [N]`",
+    "a: tick": "ok",
+    "a: frame -": "ok counted ignored",
+    "a: show link": "uses its address",
+    "b: show link": "probes for its address",
+    "a: error 3": "error 9 EBADF",
+}
+ETHER_LINES = list(ETHER)
+# The next hops, which no host has, that a host sends packets to, and the lines below `show neighbours` then. It keeps
+# eight packets.
+ASKED = "is asked for, 1 of 5 requests sent"
+HELD = {
+    "none": ([], []),
+    "one packet": (["10.0.0.9"], [f"10.0.0.9 {ASKED}, 1 packet waits"]),
+    "nine packets": (
+        ["10.0.0.8", *["10.0.0.9"] * 8],
+        [f"10.0.0.8 {ASKED}, 0 packets wait", f"10.0.0.9 {ASKED}, 8 packets wait"],
+    ),
+}
+
+
+@pytest.mark.parametrize("line", ETHER)
+def test_a_line_of_hosts_on_an_ethernet_has_its_reply(line, bsdplay):
+    said = [it for it in printed(bsdplay, ETHER_LINES) if it[:1] != " "]
+    same("the number of replies", len(said), len(ETHER))
+    at, wanted = ETHER_LINES.index(line), ETHER[line]
+    is_so = said[at].endswith(f" => {wanted}") or said[at] == f"-:{at + 1}: {wanted}"
+    assert is_so, f"{line}: {said[at]}, and not {wanted}"
+
+
+@rows(HELD)
+def test_show_neighbours_counts_the_packets_that_wait(name, bsdplay):
+    hops, wanted = HELD[name]
+    sends = [f"a: sendto 3 {hop} 7 -" for hop in hops]
+    said = printed(bsdplay, [LINK, "wire a", "a: socket", *sends, "carry all", "a: show neighbours"])
+    at = next(at for at, it in enumerate(said) if " show neighbours " in it)
+    same(f"below show neighbours, after packets to {hops}", [it[4:] for it in said[at + 1 :]], wanted)
+
+
+# ---- what stands below a line of two hosts -------------------------------------------------------------------------
+
+SENT = "a: udp 10.0.0.1:1024 > 10.0.0.2:7, 2 bytes, id 1"
+SEND = ["a: socket", 'a: sendto 3 10.0.0.2 7 "hi"']
+EMPTY, TO_NOBODY = "a: sendto 3 10.0.0.2 7 -", "a: sendto 3 10.0.0.9 7 -"
+BOUND = ["b: socket", "b: bind 3 0.0.0.0 7"]
+DROPPED, DELIVERED = "    b dropped it: no socket has the port", "    b delivered it to socket 3"
+FRAGMENT = "a: fragment of udp 10.0.0.1 > 10.0.0.2, bytes "
+KEPT = "    b kept it until its datagram is whole"
+
+
+def sent(numbers, *fates):
+    """Datagrams without bytes, by their identifications, each with these lines below it; the first is that of SEND."""
+    head = "a: udp 10.0.0.1:1024 > 10.0.0.2:7, 0 bytes, id"
+    return [line for it in numbers for line in (SENT if it == 1 else f"{head} {it}", *fates)]
+
+
+# Scripts, and the lines below their lines `carry`.
+CARRIED = {
+    "dropped": ([*SEND, "carry", "carry"], [SENT, DROPPED]),
+    "delivered": ([*BOUND, *SEND, "carry"], [SENT, DELIVERED]),
+    "lost": (["loss 100%", *SEND, "carry"], [SENT, "    lost"]),
+    "repeated": (["repeat 100% from a", *SEND, "carry"], [SENT, "    sent twice", SENT, DROPPED, SENT, DROPPED]),
+    "delayed by two carries": (
+        ["delay 2-2", *SEND, *["carry"] * 3],
+        [SENT, "    under way, due after 1 carry", SENT, "    under way, due in the next carry", SENT, DROPPED],
+    ),
+    "delayed by three, and taken from the wire": (
+        ["delay 3-3", *SEND, "carry", "drop 0", "carry"],
+        [SENT, "    under way, due after 2 carries"],
+    ),
+    "reordered": (["reorder 100%", *SEND, EMPTY, "carry"], [*sent([2, 1], DROPPED)]),
+    "received by no host": (
+        ["a: socket", TO_NOBODY, "carry"],
+        ["a: udp 10.0.0.1:1024 > 10.0.0.9:7, 0 bytes, id 1", "    no host received it"],
+    ),
+    "fragments of a datagram that is delivered": (
+        [*BOUND, "a: socket", "a: sendto 3 10.0.0.2 7 @1600", "carry"],
+        [FRAGMENT + "0 to 1479, more, id 1", KEPT, FRAGMENT + "1480 to 1607, last, id 1",
+         "    b delivered the whole datagram to socket 3"],
+    ),
+    "fragments of a datagram that is dropped": (
+        ["a: socket", "a: sendto 3 10.0.0.2 7 @1600", "carry"],
+        [FRAGMENT + "0 to 1479, more, id 1", KEPT, FRAGMENT + "1480 to 1607, last, id 1",
+         "    b dropped the whole datagram: no socket has the port"],
+    ),
+    "70 packets": ([*SEND, *[EMPTY] * 29, "carry", *[EMPTY] * 40, "carry all"], sent(range(1, 71), DROPPED)),
+    "more than are printed": (
+        ["repeat 100%", *SEND, *[EMPTY] * 39, "carry"],
+        [*sent(range(1, 41), "    sent twice"), *sent([it // 2 for it in range(2, 66)], DROPPED), "and 16 more",
+         "a: repeated 40 packets", "b: received 80 packets", "b: dropped no socket has the port"],
+    ),
+}  # fmt: skip
+# Scripts, and the lines below any of their lines.
+BELOW = {
+    "a send": ([*BOUND, *SEND], ["sent as 1 packet", SENT[3:], "1 mbuf taken"]),
+    "a packet that is taken from the host": (
+        [*SEND, "a: tx"],
+        ["sent as 1 packet", SENT[3:], "1 mbuf taken", SENT[3:], "1 mbuf given back"],
+    ),
+    "a datagram that is delivered and received": (
+        [*BOUND, 'b: rx udp 10.0.0.1:9 > 10.0.0.2:7 "hi"', "b: recvfrom 3 9"],
+        ["udp 10.0.0.1:9 > 10.0.0.2:7, 2 bytes, id 1", "delivered to socket 3", "2 mbufs taken", "2 mbufs given back"],
+    ),
+    "a fragment that times out": (
+        ['b: rx udp 10.0.0.1:9 > 10.0.0.2:7 "x"*16 at 0 more', "b: tick 60"],
+        ["fragment of udp 10.0.0.1 > 10.0.0.2, bytes 0 to 23, more, id 1",
+         "fragment kept: bytes 0 to 23 of datagram 1, more to come", "2 mbufs taken",
+         "unfinished datagrams timed out: 1", "2 mbufs given back"],
+    ),
+}  # fmt: skip
+
+
+def below(lines, of=""):
+    """The indented lines of what is printed, below lines that have this in them."""
+    chosen, found = False, []
+    for line in lines:
+        if line[:1] != " ":
+            chosen = of in line
+        elif chosen:
+            found.append(line)
+    return found
+
+
+@rows(CARRIED)
+def test_below_carry_stands_what_happened_to_each_packet(name, bsdplay):
+    script, wanted = CARRIED[name]
+    said = below(printed(bsdplay, [*HOSTS, *script]), " carry ")
+    same(f"below the carries of {script}", said, [f"    {it}" for it in wanted])
+
+
+@rows(BELOW)
+def test_below_a_line_of_a_host_stands_what_it_did(name, bsdplay):
+    script, wanted = BELOW[name]
+    same(f"below the lines of {script}", below(printed(bsdplay, [*HOSTS, *script])), [f"    {it}" for it in wanted])
+
+
+@rows(CARRIED | BELOW)
+def test_with_quiet_nothing_stands_below_a_line(name, bsdplay):
+    script, _ = (CARRIED | BELOW)[name]
+    same(f"below the lines of {script}", below(printed(bsdplay, [*HOSTS, *script], "--quiet")), [])
+
+
+# ---- packets as objects --------------------------------------------------------------------------------------------
+
+# Scripts, and the objects that --json prints of their packets: the number of the line, from, to, fate, the carries that
+# pass before it is due, and the cause.
+SENDS, NO_PORT = (6, "a", None, "sent", None, None), "no socket has the port"
+OBJECTS = {
+    "dropped": ([*SEND, "carry", "carry"], [SENDS, (6, "a", "b", "dropped", 0, NO_PORT)]),
+    "delivered": (
+        [*BOUND, *SEND, "collect", "show wire", "deliver"],
+        [(8, *SENDS[1:]), (8, "a", None, "under way", 0, None), (10, "a", "b", "delivered", 0, None)],
+    ),
+    "lost": (["loss 100%", *SEND, "carry"], [(7, "a", None, "lost", 0, None)]),
+    "repeated": (
+        ["repeat 100%", *SEND, "carry"],
+        [(7, "a", None, "sent twice", 0, None), *[(7, "a", "b", "dropped", 0, NO_PORT)] * 2],
+    ),
+    "delayed": (["delay 2-2", *SEND, "carry"], [(7, *SENDS[1:]), (7, "a", None, "under way", 1, None)]),
+    "received by no host": (["a: socket", TO_NOBODY, "carry"], [SENDS, (6, "a", None, "unheard", 0, None)]),
+}
+MEMBERS = ("number", "from", "to", "fate", "wait", "cause")
+
+
+def packets(program, script):
+    """The objects of a script's packets."""
+    told = map(json.loads, printed(program, [*HOSTS, *script], "--json"))
+    return [it for it in told if "fate" in it]
+
+
+@rows(OBJECTS)
+def test_an_object_has_the_fate_of_a_packet(name, bsdplay):
+    script, wanted = OBJECTS[name]
+    told = packets(bsdplay, script)
+    same(f"the packets of {script}", [tuple(it.get(member) for member in MEMBERS) for it in told], wanted)
+    same(f"counts of the packets of {script}", [it for it in told if it.get("count", 1) != 1], [])
+
+
+@rows([name for name, (script, _) in OBJECTS.items() if SEND[1] in script])
+def test_an_object_has_the_bytes_of_a_packet(name, bsdplay):
+    """They are those that `a: tx` replies."""
+    given = json.loads(printed(bsdplay, [*HOSTS, *SEND, "a: tx"], "--json")[-1])["reply"].split()[1]
+    script, _ = OBJECTS[name]
+    same(f"bytes of {script}", {it["packet"] for it in packets(bsdplay, script) if "packet" in it}, {given})
+
+
+def test_with_quiet_packets_have_no_objects(bsdplay):
+    same("--quiet", [it for it in printed(bsdplay, [*HOSTS, *SEND, "carry"], "-q") if "fate" in it], [])
+
+
+# ---- lines with a time in front ------------------------------------------------------------------------------------
+
+NO_TIME = "a time is +0.5s or +2s, and a line follows it"
+NO_DIGIT = 'not a hex digit (a text stands in quotes: "hi")'
+PART = 'rx udp 10.0.0.2:9 > 10.0.0.1:7 "x"*16 at 0 more'
+GONE = ["+29.5s show unfinished => 1 ..", "+0.5s show unfinished => 0 .."]
+# Scripts, and what is printed of them. A datagram waits 30 seconds for its fragments.
+TIMED = {
+    "halves of a second": (
+        ["+0.5s tx", "  +1.5s \t tx # c", "+0s tx"],
+        ["1  +0.5s tx => none", "2  +1.5s tx => none", "3  +0s tx => none"],
+    ),
+    "no time": (
+        ["+0.3s tx", "  +1 tx", "+1s", "+1s # c", "+s tx", "+1.5 tx"],
+        [f"-:{n}:{3 if n == 2 else 1}: {NO_TIME}" for n in range(1, 7)],
+    ),
+    "a time that is too long": (["+32768s tx", "+32767.5s show pool => _ .."], [f"-:1:1: {NO_TIME}"]),
+    "the column of a wrong digit": (
+        ["+1s sendto 3 10.0.0.2 9 0x12", " +10.0s\trx zz"],
+        [f"-:1:26: {NO_DIGIT}", f"-:2:12: {NO_DIGIT}"],
+    ),
+    "the column of a wrong word": (["+1s rx udp 10.0.0.2:9 < 10.0.0.1:7 -"], ["-:1:23: `>` is wanted"]),
+    "a fragment times out": ([PART, *GONE], []),
+    "a fragment times out, after ticks": ([PART, "tick 59", "+0s show unfinished => 1 ..", GONE[1]], []),
+    "settings": (
+        ["+0s --mtu 576 => ok", "+0.5s --mtu 576"],
+        ["-:2: settings stand in front of all lines that ask for something"],
+    ),
+    "no command": (["+1s sokcet"], ["-:1: `sokcet` is no command (`socket`?)"]),
+}
+TIMED_HOSTS = {
+    "halves of a second": (
+        ["+0.5s carry => quiet", "+1s a: socket", "+0s  b: tx"],
+        ["5  +1s a: socket => ok 3", "6  +0s b: tx => none"],
+    ),
+    "columns": (
+        ["+1s a: sendto 3 10.0.0.2 9 hi", "+1s  a: zz", "a: +1s tx"],
+        [f"-:4:28: {NO_DIGIT}", "-:5: `zz` is no command", "-:6:4: bytes are missing"],
+    ),
+    "a fragment times out": (
+        ['b: rx udp 10.0.0.1:9 > 10.0.0.2:7 "x"*16 at 0 more', "+29.5s b: show unfinished => 1 ..",
+         "+0.5s carry => quiet", "b: show unfinished => 0 .."],
+        [],
+    ),
+}  # fmt: skip
+
+
+def timed(program, before, script, wanted):
+    """Plays a script with times behind the lines of `before`."""
+    lines = printed(program, [*before, *script])[len(before) :]
+    same(f"{script}, {lines}", [it for it in lines if it.startswith("-:") or (it[:1] != " " and it in wanted)], wanted)
+
+
+@rows(TIMED)
+def test_a_time_in_front_of_a_line_of_one_machine(name, bsdplay):
+    timed(bsdplay, [], *TIMED[name])
+
+
+@rows(TIMED_HOSTS)
+def test_a_time_in_front_of_a_line_of_two_hosts(name, bsdplay):
+    timed(bsdplay, HOSTS, *TIMED_HOSTS[name])
+
+
+def test_strict_wants_an_expectation_behind_a_time(bsdplay):
+    lines = printed(bsdplay, ["+1s tx", "+0.5s tx => none"], "--strict")
+    same("--strict: lines without an expectation", [it.split(":")[1] for it in lines if it.startswith("-:")], ["1"])

@@ -1,0 +1,33 @@
+"""The judge of other stacks, as a command."""
+import os
+import subprocess
+import sys
+
+import pytest
+
+from tests.capi.conftest import library  # noqa: F401 (a fixture)
+from tests.cases import TOP
+
+PATHS = f"{TOP / 'conform'}:{TOP / 'python'}"
+
+
+@pytest.fixture
+def conform():
+    """Runs a command from the top, where the packages are found; gives its status and all that it says."""
+
+    def run(*words, **environment):
+        environment = {**os.environ, "PYTHONPATH": PATHS, "PYTHONDONTWRITEBYTECODE": "1", **environment}
+        done = subprocess.run(
+            [*map(str, words)], cwd=TOP, env=environment, capture_output=True, text=True, check=False, timeout=3000
+        )
+        return done.returncode, done.stdout + done.stderr
+
+    return run
+
+
+@pytest.fixture
+def judged(conform):
+    """Judges a stack: judged(word of bsdudp-conform run ..)."""
+    return lambda *words, **environment: conform(
+        sys.executable, "-m", "bsdudp_conform", "run", "--quiet", "--no-policy", *words, **environment
+    )

@@ -1,0 +1,88 @@
+"""The program, the host on an Ethernet, lwIP and libslirp deviate as conform/known says, and in nothing else; and so
+does Linux, over a TUN device and on a wire."""
+import os
+import re
+import subprocess
+import sys
+
+import pytest
+
+from tests.cases import TOP
+from tests.conftest import left_out
+
+pytestmark = [pytest.mark.slow, pytest.mark.needs("scapy")]
+KNOWN = TOP / "conform/known"
+ADAPTER = [sys.executable, "-m"]
+ON_LINUX = pytest.mark.needs("netns", "tun", "ip")
+
+
+@pytest.fixture
+def deviates(judged, tmp_path, pytestconfig):
+    """Compares what deviates of a stack with conform/known/NAME.txt, whose first line names the version."""
+
+    def compare(name, *adapter, **environment):
+        new = tmp_path / f"{name}.txt"
+        status, said = judged("--timeout", 120, "--write-baseline", new, *adapter, **environment)
+        assert new.exists(), f"{name} couldn't be judged: status {status}: {said[-1500:]}"
+        wanted, came = ((it / f"{name}.txt").read_text(encoding="utf-8").splitlines() for it in (KNOWN, tmp_path))
+        if wanted[0] != came[0]:
+            left_out(pytestconfig, f"another version than in conform/known/{name}.txt: {came[0].partition(' of ')[2]}")
+        gone, new = set(wanted) - set(came), set(came) - set(wanted)
+        assert wanted == came, f"{name} deviates otherwise: gone: {sorted(gone)[:5]}, new: {sorted(new)[:5]}"
+
+    return compare
+
+
+def test_program(deviates, bsdudp):
+    deviates("bsdudp", "--", *ADAPTER, "bsdudp_conform.adapters.bsdudp", bsdudp, "run")
+
+
+@pytest.mark.needs("cc")
+def test_host_on_an_ethernet(deviates, library):
+    shared = str(library.folder / "libbsdudp.so.0")
+    deviates("bsdudp-ethernet", "--", *ADAPTER, "bsdudp_conform.adapters.ethernet", BSDUDP_LIBRARY=shared)
+
+
+@pytest.fixture(scope="session")
+def peers(once):
+    """The folder with the adapters of lwIP and libslirp, built over Debian's sources, and what isn't there."""
+
+    def make(folder):
+        words = [TOP / "conform/adapters/build", folder]
+        done = subprocess.run(words, env={**os.environ, "NO_NS3": "1"}, capture_output=True, text=True, check=False)
+        (folder / "said").write_text(done.stdout + done.stderr, encoding="utf-8")
+
+    return once("peers", make)
+
+
+@pytest.mark.needs("cc", "apt-get")
+@pytest.mark.parametrize("name", ["lwip", pytest.param("libslirp", marks=pytest.mark.needs("glib", "pkg-config"))])
+def test_peer(name, deviates, peers):
+    if not (peers / name).exists():
+        said = (peers / "said").read_text(encoding="utf-8")
+        assert "doesn't compile" not in said, said
+        pytest.skip(f"its source can't be had by apt-get here: {said.strip()}")
+    deviates(name, "--", peers / name)
+
+
+@ON_LINUX
+def test_linux(judged):
+    """A kernel of another version than in conform/known may deviate otherwise."""
+    known = KNOWN / "linux.txt"
+    words = ["--no-waits", "--timeout", 120, "--baseline", known, "--", *ADAPTER, "bsdudp_conform.adapters.linux"]
+    status, said = judged(*words)
+    version = os.uname().release
+    is_known = f"of Linux {'.'.join(version.split('.')[:2])}." in known.read_text(encoding="utf-8")
+    if status and not is_known and re.search("(?m)^Linux .* cases", said):
+        pytest.skip(f"Linux {version} deviates otherwise than that of conform/known/linux.txt, another version")
+    assert status == 0, said[:3000]
+
+
+@ON_LINUX
+def test_linux_on_a_wire(conform):
+    """By the command, as it stands in a checkout."""
+    words = ["--quiet", "--no-waits", "--no-policy", "--timeout", 120, "--mixes", 50]
+    words += ["--baseline", KNOWN / "linux-wire.txt"]
+    command = [sys.executable, "conform/tests/veth.py", "conform/bsdudp-conform", "wire", "w0", *words]
+    status, said = conform(*command, PYTHONPATH="")
+    assert status == 0, said[:3000]

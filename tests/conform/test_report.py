@@ -1,0 +1,89 @@
+"""What the judge says of a deviation: how many cases have it, and who it says sent a datagram."""
+import functools
+import re
+
+import pytest
+
+from bsdudp_conform._addresses import PEER, PEER2
+from bsdudp_conform._case import Answer, Case, Connect, Got, Receive
+from bsdudp_conform._html import html
+from bsdudp_conform._judge import Deviation, Judged
+from bsdudp_conform._packets import packet, pieces, udp
+from bsdudp_conform._report import text
+from bsdudp_conform._verdict import verdict
+
+pytestmark = pytest.mark.needs("scapy")
+
+
+@functools.lru_cache(maxsize=None)
+def whole():
+    return Receive(packet(udp(b"0123456789")))
+
+
+def breaches(steps, *got):
+    """The level, rule and words of all that an answer breaks."""
+    found = verdict(Case("udp.data", 1, "a case", tuple(steps)), Answer(got), frozenset())
+    return [(it.level, it.rule, it.what) for it in found]
+
+
+def told(*senders):
+    """What is broken if the user is told these senders of the datagram of whole(), one for each time that it came."""
+    return breaches([whole()] * len(senders), *(Got(at, *it, b"0123456789") for at, it in enumerate(senders)))
+
+
+def test_the_right_sender_breaks_nothing():
+    assert not told((PEER, 5000))
+    assert not told((None, 0)), "an adapter that can't know the sender"
+
+
+@pytest.mark.parametrize(
+    "sender, words",
+    [
+        ((PEER, 0x8813), "10 bytes with a wrong source port: 10.0.0.2 port 34835"),
+        ((PEER2, 5000), "10 bytes with a wrong source address: 10.0.0.3 port 5000"),
+        ((PEER2, 1), "10 bytes with a wrong source address and port: 10.0.0.3 port 1"),
+    ],
+)
+def test_a_wrong_sender_is_named_and_nothing_else(sender, words):
+    assert told(sender) == [("NEVER", "udp.source", words)]
+
+
+def test_a_wrong_sender_of_fragments_is_named():
+    halves = map(Receive, pieces(udp(bytes(range(40))), [24], id=9))
+    wrong = Got(1, PEER, 1, bytes(range(40)))
+    assert breaches(halves, wrong) == [("NEVER", "udp.source", "40 bytes with a wrong source port: 10.0.0.2 port 1")]
+
+
+def test_a_wrong_length_is_no_wrong_sender():
+    same = Receive(packet(udp(b"0123456789", sport=6000)))
+    short = Receive(packet(udp(b"0123456789", length=2, check=0)))
+    wrong = Got(1, PEER, 5000, b"0123456789")
+    words = "10 bytes reach the user, as if the UDP length weren't looked at"
+    assert breaches([same, short], Got(0, PEER, 6000, b"0123456789"), wrong) == [("NEVER", "udp.data", words)]
+
+
+def test_a_stranger_is_no_wrong_sender():
+    steps = [Connect(0, PEER2, 5000), whole()]
+    words = "a connected socket gets 10 bytes from another than its peer"
+    assert breaches(steps, Got(1, PEER, 5000, b"0123456789")) == [("MUST", "socket.connected", words)]
+
+
+def test_bytes_that_nobody_sent_are_named_so():
+    assert breaches([whole()], Got(0, PEER, 5000, b"0123456780"))[0][1:] == (
+        "udp.data",
+        "10 bytes reach the user that nobody sent",
+    )
+
+
+def test_the_report_counts_cases_and_not_what_they_break():
+    steps = (whole(), whole(), whole())
+    judged = Judged("a stack", frozenset())
+    for number in (1, 2):
+        case = Case("udp.data", number, "three times", steps)
+        answer = Answer(tuple(Got(at, PEER, 1, b"0123456789") for at in range(3)))
+        judged.cases.append(case)
+        judged.deviations += [Deviation(case, it, answer) for it in verdict(case, answer, frozenset())]
+    assert len(judged.deviations) == 6
+    assert re.search(r"NEVER udp\.source: .*; 2 cases$", text([judged], {}, set()), re.MULTILINE)
+    page = html([judged], {}, set(), {})
+    assert "(2 cases)" in page and page.count("udp.data:2") == 1

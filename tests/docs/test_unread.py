@@ -1,0 +1,62 @@
+"""A program in Python whose output nobody reads any more, as in `PROGRAM | head -1`, ends without a message."""
+import os
+import subprocess
+import sys
+
+import pytest
+
+from tests.cases import TOP
+from tests.docs.test_help import PACKAGES, scripts
+
+HEAD = f"""import os, sys
+sys.path.insert(0, {str(TOP)!r})
+from tools import command_line
+command_line.none('A list.')
+"""
+# a list that a buffer holds, so that it's written at the end, and one that it doesn't hold
+SHORT, LONG = (f"{HEAD}for it in range({count}):\n    print(it)\n" for count in (3, 100_000))
+OTHER = f"{HEAD}out, into = os.pipe()\nos.close(out)\nos.write(into, b'for a program that ended')\n"
+# These stand alone, and print no list.
+EXAMPLES = ("examples/", "simulators/ns3/examples/")
+
+
+def in_python():
+    """The scripts in Python, but for examples."""
+    for name in scripts():
+        with (TOP / name).open("rb") as opened:
+            if b"python" in opened.readline() and not name.startswith(EXAMPLES):
+                yield name
+
+
+def unread(*words):
+    """What a program says on standard error whose standard output is a pipe that nobody reads."""
+    out, into = os.pipe()
+    os.close(out)
+    environment = {**os.environ, "PYTHONPATH": ":".join(PACKAGES), "PYTHONDONTWRITEBYTECODE": "1"}
+    pipes = {"stdin": subprocess.DEVNULL, "stdout": into, "stderr": subprocess.PIPE}
+    try:
+        return subprocess.run(words, cwd=TOP, env=environment, text=True, check=False, timeout=600, **pipes).stderr
+    finally:
+        os.close(into)
+
+
+@pytest.mark.parametrize("program", [SHORT, LONG], ids=["at the end", "in the middle"])
+def test_a_list(program):
+    assert unread(sys.executable, "-c", program) == ""
+
+
+@pytest.mark.parametrize("name", in_python())
+def test_the_help_of_a_script(name):
+    assert unread(sys.executable, TOP / name, "--help") == ""
+
+
+@pytest.mark.slow
+@pytest.mark.needs("scapy")
+def test_the_list_of_the_cases():
+    words = ["run", "--list", "--mixes", "0", "--only", "frag."]
+    assert unread(sys.executable, TOP / "conform/bsdudp-conform", *words) == ""
+
+
+def test_another_pipe_that_nobody_reads_is_a_fault():
+    done = subprocess.run([sys.executable, "-c", OTHER], capture_output=True, text=True, check=False)
+    assert done.returncode == 1 and done.stderr.rstrip().endswith("BrokenPipeError: [Errno 32] Broken pipe")

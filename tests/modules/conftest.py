@@ -1,0 +1,1 @@
+from tests.made import module  # noqa: F401 (a fixture)

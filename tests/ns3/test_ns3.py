@@ -1,0 +1,194 @@
+"""libns3-bsdudp, ns-3's UDP sockets over the C library, built without a warning: its tests, plain and under the
+sanitizers, in which ns-3's own stack is the judge; each refusal that ends a program; the examples; what cmake --install
+makes, by the program of docs/ns3.md."""
+import csv
+import os
+import re
+import subprocess
+import sys
+import textwrap
+
+import pytest
+
+from tests.cases import TOP
+
+pytestmark = [pytest.mark.slow, pytest.mark.needs("cc", "c++", "cmake", "pkg-config", "ns-3 3.37")]
+HOME = TOP / "simulators/ns3"
+SANITIZED = ["-DBSDUDP_EXAMPLES=OFF", "-DCMAKE_BUILD_TYPE=None"]
+SANITIZED += ["-DCMAKE_CXX_FLAGS=-O1 -g1 -fsanitize=address,undefined -fno-sanitize-recover=all"]
+# What is refused, and what is said of it.
+REFUSED = {
+    "csma": "needs ARP",
+    "mtu": "its MTU is 9000",
+    "device": "node 0 has a bsdudp stack already",
+    "stack": "node 0 has another stack already",
+    "later": "was given ns-3's own, too",
+    "address": "10.0.0.1 with the broadcast address 10.0.0.1",
+    "count": "there are 1 nodes and 2 devices",
+    "bulk": "has no TCP",
+}
+NEAR = 0.06  # two shares so near may differ by another loss alone
+WRONG = "ip.checksum.status != 1 || (udp && udp.checksum.status != 1) || _ws.malformed"
+IN_10_MINUTES = {"capture_output": True, "text": True, "check": False, "timeout": 600}
+
+
+def passed(*words, **how):
+    """What a command prints; if it fails, the first of what it says is wrong fails the test."""
+    done = subprocess.run([*map(str, words)], **IN_10_MINUTES, **how)
+    said = done.stdout + done.stderr
+    if done.returncode:
+        first = re.search(r"(?m)^.*(error|Error|cases:).*$", said)
+        pytest.fail(f"{words[0]}: status {done.returncode}: {first[0] if first else said[-1500:]}", pytrace=False)
+    return said
+
+
+@pytest.fixture(scope="session")
+def prefix(core, once):
+    """Where the C library and libns3-bsdudp are installed."""
+
+    def make(folder):
+        subprocess.run([TOP / "capi/install", folder], check=True)
+
+    return once("ns3-prefix", make)
+
+
+@pytest.fixture(scope="session")
+def built(prefix, once):
+    """built(NAME, words of cmake ..) is a folder with the library, its tests and its examples."""
+
+    def of(name, *words):
+        def make(folder):
+            where = [f"-DCMAKE_INSTALL_PREFIX={prefix}", "-DCMAKE_INSTALL_LIBDIR=lib"]
+            strict = ["-DBSDUDP_STRICT=ON", "-DBSDUDP_TESTS=ON", "-DCMAKE_UNITY_BUILD=ON"]
+            environment = {**os.environ, "PKG_CONFIG_PATH": f"{prefix}/lib/pkgconfig"}
+            configure = ["-S", HOME, "-B", folder, *where, *strict, *words]
+            for line in (configure, ["--build", folder, "-j", os.cpu_count()]):
+                done = subprocess.run(
+                    ["cmake", *map(str, line)], env=environment, capture_output=True, text=True, check=False
+                )
+                said = re.search(r"(?m)^.*(error|Error).*$", done.stdout + done.stderr)
+                assert done.returncode == 0, f"{name} can't be built: {said[0] if said else done.stderr[-1500:]}"
+
+        return once(f"ns3-{name}", make)
+
+    return of
+
+
+@pytest.fixture
+def plain(built):
+    return built("plain")
+
+
+@pytest.mark.parametrize(
+    "name, words", [("plain", []), pytest.param("sanitized", SANITIZED, marks=pytest.mark.needs("asan"))]
+)
+def test_cases(name, words, built):
+    passed(built(name, *words) / "bsdudp-cases")
+
+
+@pytest.mark.parametrize("name", REFUSED)
+def test_refused(name, plain, tmp_path):
+    """What ends a program says why, and who says it."""
+    words = ["bash", "-c", 'ulimit -c 0; exec "$@"', "bash", plain / "bsdudp-cases", f"--refuse={name}"]
+    done = subprocess.run(words, cwd=tmp_path, **{**IN_10_MINUTES, "timeout": 100})
+    assert done.returncode, "it isn't refused"
+    assert re.search(f"bsdudp: .*{re.escape(REFUSED[name])}", done.stdout + done.stderr), done.stderr[:500]
+
+
+@pytest.mark.parametrize("name", sorted(it.name for it in (HOME / "examples").iterdir()))
+def test_example_is_short(name):
+    assert len((HOME / "examples" / name).read_text(encoding="utf-8").splitlines()) < 120
+
+
+def test_first(plain):
+    assert len(re.findall("client hears 1024 bytes", passed(plain / "bsdudp-first"))) == 3
+
+
+@pytest.mark.parametrize("node", [0, 1])
+@pytest.mark.needs("tshark")
+def test_captures(node, plain, tmp_path):
+    """Of what the devices write, fragments among it, tshark finds each checksum right."""
+    passed(plain / "bsdudp-first", "--pcap", "--size=9000", cwd=tmp_path)
+    capture = tmp_path / f"bsdudp-first-{node}-0.pcap"
+    assert capture.stat().st_size > 0
+    options = ["-o", "ip.check_checksum:TRUE", "-o", "udp.check_checksum:TRUE"]
+    words = ["tshark", "-r", capture, *options, "-Y", WRONG]
+    done = subprocess.run(words, capture_output=True, text=True, check=False)
+    assert done.returncode == 0, done.stderr[-500:]
+    assert not done.stdout, done.stdout.splitlines()[0]
+
+
+@pytest.mark.parametrize(
+    "words, says",
+    [
+        ([], "back at bsdudp 20 of 20, at ns-3's own 20 of 20"),
+        (["--loss=0.1", "--size=4000"], "bsdudp drops 1500 bytes, ip.fragtimeout: fragments missing"),
+    ],
+)
+def test_mixed(words, says, plain):
+    assert says in passed(plain / "bsdudp-mixed", *words)
+
+
+def test_hundred(plain):
+    said = passed(plain / "bsdudp-hundred")
+    share, law = re.search(r"(?m)^received.* which is ([0-9.]*); .* is ([0-9.]*)$", said).groups()
+    assert abs(float(share) - float(law)) < NEAR
+
+
+@pytest.fixture(scope="session")
+def study(built, once):
+    """The table that the study prints."""
+
+    def make(folder):
+        (folder / "study.csv").write_text(passed(built("plain") / "bsdudp-study"), encoding="utf-8")
+
+    return once("ns3-study", make) / "study.csv"
+
+
+def test_study(study):
+    rows = list(csv.reader(study.read_text(encoding="utf-8").splitlines()))[1:]
+    assert len(rows) == 27
+    for *_, share, own, law in rows:
+        assert share == own, "another share came than by ns-3's own stack"
+        assert abs(float(share) - float(law)) < NEAR
+
+
+@pytest.mark.needs("matplotlib")
+def test_plot_of_the_study(study, tmp_path, monkeypatch):
+    monkeypatch.setenv("MPLCONFIGDIR", str(tmp_path))
+    passed(sys.executable, HOME / "examples/bsdudp-study.py", study, tmp_path / "study.png")
+    assert (tmp_path / "study.png").stat().st_size > 0
+
+
+@pytest.fixture(scope="session")
+def pools(built, once):
+    """How many runs of each pool come out as by ns-3's own stack: rows by loss, each with its counts by pool."""
+
+    def make(folder):
+        said = passed(built("plain") / "bsdudp-pools", "--seeds=1")
+        (folder / "pools.txt").write_text(said, encoding="utf-8")
+
+    names, *rows = (once("ns3-pools", make) / "pools.txt").read_text(encoding="utf-8").splitlines()
+    names = names.split("runs alike")[0].split()[1:]
+    return {row.split()[0]: dict(zip(names, map(int, row.split()[1:]))) for row in rows}
+
+
+@pytest.mark.parametrize("loss", ["0", "0.01", "0.05", "0.1", "0.2"])
+def test_the_default_pool_changes_nobodys_datagrams(loss, pools):
+    assert pools[loss]["default"] == 1
+
+
+def test_a_small_pool_does(pools):
+    """Else the scenario of bsdudp-pools wouldn't show whether a pool is large enough."""
+    assert pools["0.1"]["512"] == 0
+
+
+def test_program_of_the_page(plain, prefix, tmp_path):
+    """By the commands that stand there, over what is installed."""
+    passed("cmake", "--install", plain)
+    page = (TOP / "docs/ns3.md").read_text(encoding="utf-8")
+    program = re.search(r'(?m)(?:^    #include "ns3.*\n)(?:^    .*\n|^\n)*', page)[0]
+    (tmp_path / "program.cc").write_text(textwrap.dedent(program), encoding="utf-8")
+    command = re.search(r"(?m)^    export LD_RUN_PATH.*\n.*$", page)[0].replace("~/.local", str(prefix))
+    monkey = {**os.environ, "PKG_CONFIG_PATH": f"{prefix}/lib/pkgconfig"}
+    assert passed("bash", "-c", command, cwd=tmp_path, env=monkey).strip() == "hears 1024 bytes"

@@ -1,0 +1,141 @@
+"""The Debian packages, if pytest is given --packages: the same if they're made twice, with no error and no warning of
+lintian's. On an empty Debian 12 without a network (tests/fresh/machine) they're installed, each thing that a user does
+first is done, and they're purged, after which nothing is left. The packages for ns-3 are made and looked at by lintian
+alone."""
+import functools
+import re
+import shlex
+import shutil
+import subprocess
+import textwrap
+
+import pytest
+
+from tests.cases import TOP
+
+pytestmark = [
+    pytest.mark.slow,
+    pytest.mark.packages,
+    pytest.mark.needs("dpkg-dev"),
+    pytest.mark.xdist_group("packages"),
+]
+ON_A_MACHINE = pytest.mark.needs("root", "overlay", "debootstrap", "rt", "git")
+BESIDE = "man-db,gcc,g++,libc6-dev,pkg-config,python3,python3-scapy"
+PACKAGES = "bsdudp bsdudp-conform python3-bsdudp libbsdudp-dev libbsdudp0"
+DOCUMENTS = "/usr/share/doc"
+README = (TOP / "README.md").read_text(encoding="utf-8")
+HI = "(b'hi', ('10.0.0.1', 1024))"
+FLAGS = "$(pkg-config --cflags --libs bsdudp)"
+WIRE = f"cp {DOCUMENTS}/libbsdudp-dev/examples/wire.c . &&"
+STATIC = "$(pkg-config --cflags bsdudp) -Wl,-Bstatic -lbsdudp -Wl,-Bdynamic"
+
+
+def program_of(first):
+    """README's program that begins with a line."""
+    return textwrap.dedent(re.search(rf"(?m)^    {re.escape(first)}\n(?:(?:    .*)?\n)*", README)[0])
+
+
+def checks():
+    """Each thing that a user does first, as a line in an empty folder, and what it has to print, if that is known."""
+    examples = f"{DOCUMENTS}/bsdudp/examples"
+    replies = (TOP / "examples/first_datagram.txt.stdout").read_text(encoding="utf-8")
+    yield f"bsdudp run < {examples}/first_datagram.txt", replies.strip()
+    yield f"bsdplay --quiet {examples}/play/first_datagram.txt", None
+    pages = {"bsdudp": "plays a script", "bsdplay": "OPTIONS", "3 bsdudp": "bsdudp_boot"}
+    pages["bsdudp-conform"] = "DESCRIPTION"
+    yield from ((f"man {page} | grep -q '{has}'", None) for page, has in pages.items())
+    yield f"{WIRE} gcc -std=c99 -Wall -Werror wire.c {FLAGS} -o wire && ./wire", None
+    yield f"{WIRE} g++ -x c++ -Wall -Werror wire.c {FLAGS} -o wire && ./wire", None
+    yield f"{WIRE} gcc -std=c99 wire.c {STATIC} -o wire && ./wire", None
+    portable = "/usr/share/bsdudp/bsdudp_portable.c"
+    yield f"[ ! -e {portable} ] || gcc -std=c99 -c {portable}", None
+    # README's first steps: each command that names what a package installs
+    for line in re.findall(r"(?m)^\| [^|]* \| `([^`]*)` \|", README.partition("| You are |")[2].partition("\n\n")[0]):
+        if line.startswith("python3"):
+            yield f"{line} | cut -d' ' -f1-3", HI
+        else:
+            yield line, "2 bytes, from port 7" if line.startswith("cc") else None
+    yield "python3 -I page.py | tail -1", HI
+    yield "bsdudp-conform run --list --only ip.version | wc -l", "15"
+
+
+CHECKS = list(checks())
+# What stands in the tree, but for what dpkg, the linker and man-db keep for themselves.
+KEPT = "proc var/lib/dpkg var/cache var/log tmp etc/ld.so.cache"
+IN_TREE = """
+listed() {
+    (cd / && find . -xdev \\( -false %s \\) -prune -o -print | sort)
+}
+listed > /tmp/before
+dpkg -i /srv/files/*.deb > /tmp/said 2>&1 || { cat /tmp/said >&2; exit 1; }
+for line in "${lines[@]}"; do
+    status=0 room=$(mktemp -d)
+    (cd "$room" && cp /srv/files/*.c /srv/files/*.py . &&
+        bash -euo pipefail -c "$line") > /tmp/printed 2> /tmp/said < /dev/null || status=$?
+    printf '%%s\\0%%s\\0%%s\\0' "$status" "$(cat /tmp/printed)" "$(cat /tmp/said)"
+done
+dpkg --purge %s > /tmp/said 2>&1 || { cat /tmp/said >&2; exit 1; }
+listed | diff /tmp/before - | sed -n 's/^> //p'
+""" % (" ".join(f"-o -path ./{it}" for it in KEPT.split()), PACKAGES)
+
+
+@pytest.fixture(scope="session")
+def debs(all_made, once):
+    """The folder of the packages."""
+
+    def make(folder):
+        subprocess.run([TOP / "dist/deb", folder], check=True)
+
+    return once("debs", make)
+
+
+def packages_of(folder):
+    return {it.name: it.read_bytes() for it in folder.glob("*.deb")}
+
+
+def test_two_are_the_same(debs, tmp_path):
+    subprocess.run([TOP / "dist/deb", tmp_path], check=True)
+    assert packages_of(tmp_path) == packages_of(debs)
+
+
+@pytest.mark.needs("lintian")
+def test_lintian(debs):
+    words = ["lintian", "--allow-root", "--pedantic", "--fail-on", "error,warning", *sorted(debs.glob("*.deb"))]
+    done = subprocess.run(words, capture_output=True, text=True, check=False)
+    assert done.returncode == 0, re.findall("(?m)^[EW]:.*", done.stdout + done.stderr)[:5]
+
+
+@functools.lru_cache(maxsize=None)
+def outcomes(debs):
+    """How each check ends on one machine: its status, what it prints and says of faults; and what a purge leaves."""
+    files = debs / "files"
+    files.mkdir(exist_ok=True)
+    for pattern in ("bsdudp*.deb", "libbsdudp*.deb", "python3-*.deb"):
+        for it in debs.glob(pattern):
+            shutil.copy(it, files)
+    (files / "first.c").write_text(program_of("#include <bsdudp.h>"), encoding="utf-8")
+    (files / "first.py").write_text(program_of("import bsdudp"), encoding="utf-8")
+    page = (TOP / "docs/python.md").read_text(encoding="utf-8")
+    (files / "page.py").write_text(re.search(r"(?s)```python\n(.*?)```", page)[1], encoding="utf-8")
+    lines = " ".join(shlex.quote(line) for line, _ in CHECKS)
+    words = [TOP / "tests/fresh/machine", "--root", "--with", BESIDE, "--files", files, f"lines=({lines})\n{IN_TREE}"]
+    done = subprocess.run(words, stdin=subprocess.DEVNULL, capture_output=True, text=True, check=False, timeout=3600)
+    if done.returncode == 77:
+        pytest.skip(done.stderr.strip())
+    assert done.returncode == 0, done.stderr[-2000:]
+    *parts, left = done.stdout.split("\0")
+    return [(int(parts[at]), *parts[at + 1 : at + 3]) for at in range(0, len(parts), 3)], left.split()
+
+
+@ON_A_MACHINE
+@pytest.mark.parametrize("at", range(len(CHECKS)), ids=[line for line, _ in CHECKS])
+def test_first_steps(at, debs):
+    status, printed, said = outcomes(debs)[0][at]
+    wanted = CHECKS[at][1]
+    assert status == 0, f"{printed[-1000:]}{said[-1000:]}"
+    assert wanted is None or printed.strip() == wanted
+
+
+@ON_A_MACHINE
+def test_purge_leaves_nothing(debs):
+    assert outcomes(debs)[1] == []

@@ -1,0 +1,206 @@
+"""Captures that are dropped on the page. The page and `bsdplay why` tell the same story: they choose the same host, let
+the clock tick by the capture's times, and say the same of each packet. The captures are put together here; how long a
+fragment is kept (30 seconds) and which addresses a host can have is known from RFC 1122 and RFC 791."""
+import json
+import random
+import re
+import subprocess
+
+import pytest
+
+from tests.packets import datagram, fragment, ip
+from tests.pcaps import NANOSECONDS, header, record
+
+pytestmark = [pytest.mark.needs("rt", "wasm-opt", "node"), pytest.mark.slow]
+
+ALL = "255.255.255.255"
+
+
+def capture(*packets, tail=b""):
+    """A file of raw IPv4 packets, each with its time in seconds."""
+    records = (record("<", int(at), round(at % 1 * 1_000_000_000), packet) for at, packet in packets)
+    return header(magic=NANOSECONDS) + b"".join(records) + tail
+
+
+def halves(size=200, ident=9, between=("10.0.0.2", "10.0.0.1")):
+    """Both fragments of a datagram."""
+    whole = datagram(bytes(size), between=between, ident=ident)
+    return fragment(whole, 0, 12), fragment(whole, 13, 99)
+
+
+def to(address, port=7, data=b"hi", source="10.0.0.2", **header_fields):
+    return datagram(data, (5000, port), (source, address), **header_fields)
+
+
+@pytest.fixture(name="opened")
+def of_bytes(plays_captures, tmp_path):
+    """Opens the bytes of a capture on the page."""
+
+    def play(data):
+        path = tmp_path / "a.pcap"
+        path.write_bytes(data)
+        return plays_captures(path)[0]
+
+    return play
+
+
+def counted(script, name):
+    return sum(step["changed"].get(name, 0) for step in script["steps"])
+
+
+def lines(script, verb):
+    return [step for step in script["steps"] if re.match(rf"(\+\S+ )?{verb}\b", step["line"])]
+
+
+# ---- time
+
+
+@pytest.mark.parametrize("apart, is_whole", [(0, True), (0.4, True), (29.9, True), (30.6, False), (40.5, False)])
+def test_fragments_expire_after_thirty_seconds(apart, is_whole, opened):
+    first, last = halves()
+    script = opened(capture((100, first), (100 + apart, last)))
+    assert counted(script, "ip.reassembled") == is_whole
+    assert counted(script, "ip.fragtimeout") == (not is_whole)
+
+
+def test_an_expired_datagram_has_a_line_of_its_own(opened):
+    first, last = halves()
+    script = opened(capture((100, first), (140.5, last)))
+    tick = next(step for step in script["steps"] if step["changed"].get("ip.fragtimeout"))
+    assert tick["line"] == "tick 61"
+    assert "40.5 s pass before record 2" in script["text"] and "1 unfinished datagram expires" in script["text"]
+
+
+def test_times_begin_at_the_first_record_of_the_file(opened):
+    """Also at one that isn't for the host."""
+    first, last = halves()
+    other = to("10.0.0.9")
+    script = opened(capture((100, other), (105, first), (106, last)))
+    assert [step["line"].split(" rx")[0] for step in lines(script, "rx")] == ["+5s", "+1s"]
+    assert "# Record 2, 5.000000 s.\n" in script["text"] and "# Record 3, 6.000000 s.\n" in script["text"]
+
+
+def test_ticks_are_counted_from_the_first_record(opened):
+    """As `why` counts them: a packet at 0.4 s and one at 0.6 s have a tick between them."""
+    script = opened(capture((7, to("10.0.0.1")), (7.4, to("10.0.0.1")), (7.6, to("10.0.0.1")), (7.9, to("10.0.0.1"))))
+    assert [step["line"].startswith("+0.5s ") for step in lines(script, "rx")] == [False, False, True, False]
+
+
+def test_a_time_that_goes_back_is_no_tick(opened):
+    script = opened(capture((100, to("10.0.0.1")), (110, to("10.0.0.1")), (50, to("10.0.0.1")), (110, to("10.0.0.1"))))
+    assert [step["line"][:5] for step in lines(script, "rx")] == ["rx 45", "+10s ", "rx 45", "rx 45"]
+
+
+def test_what_is_unfinished_at_the_end_is_shown(opened):
+    script = opened(capture((100, halves()[0]), (101, to("10.0.0.1"))))
+    assert script["steps"][-1]["line"] == "show unfinished"
+    assert "datagram 9 of udp 10.0.0.2 > 10.0.0.1" in script["steps"][-1]["below"][0]
+    whole = opened(capture(*((100, it) for it in halves())))
+    assert not lines(whole, "show")
+
+
+# ---- the host
+
+
+def test_a_capture_of_a_loopback_interface(opened):
+    packet = to("127.0.0.1", source="127.0.0.1")
+    script = opened(capture((100, packet), (101, packet), (102, to("127.0.0.1", 53, source="10.0.0.9"))))
+    assert script["address"] == "127.0.0.1" and script["counts"]["taken"] == 3
+    assert script["code"] == 0 and counted(script, "ip.total") == 3
+    assert len([step for step in lines(script, "recvfrom") if step["says"].startswith("from 127.0.0.1 5000")]) == 2
+
+
+@pytest.mark.parametrize(
+    "packets, address",
+    [
+        ([to("224.0.0.251", 5353)] * 3 + [to("10.0.0.1")], "10.0.0.1"),
+        ([to("10.0.0.255")] * 2 + [to("10.0.0.1")], "10.0.0.255"),
+        ([to("10.0.0.3"), to("10.0.0.1"), to("10.0.0.1"), to("10.0.0.3")], "10.0.0.3"),
+        ([ip(b"", ("10.0.0.2", "10.0.0.4"), protocol=6)] * 3 + [to("10.0.0.1")], "10.0.0.1"),
+        ([to(f"10.0.{n}.1") for n in range(256)] + [to("10.9.9.9")] * 5 + [to("10.0.77.1")], "10.0.77.1"),
+    ],
+    ids=["not a multicast group", "a broadcast address", "the first of two", "by UDP alone", "of the first 256"],
+)
+def test_the_host_is_the_one_that_most_datagrams_go_to(packets, address, opened):
+    script = opened(capture(*((100, it) for it in packets)))
+    assert script["address"] == address
+    assert script["steps"][0]["says"] == "ok", "the settings aren't taken"
+
+
+@pytest.mark.parametrize(
+    "packets, fault",
+    [
+        ([], "no UDP datagram goes to a host"),
+        ([to("224.0.0.251"), to(ALL)], "no UDP datagram goes to a host"),
+        ([to("127.0.0.53", 53)], "127.0.0.53 isn't the address of a host"),
+        ([to("0.0.0.0")], "0.0.0.0 isn't the address of a host"),
+    ],
+)
+def test_without_a_host_the_reason_is_given(packets, fault, opened):
+    assert opened(capture(*((100, it) for it in packets)))["fault"] == fault
+
+
+# ---- ports and limits
+
+
+def test_a_port_beyond_the_sixtieth_is_bound_too(opened):
+    ports = [*range(1000, 1070), 1000, 1069]
+    script = opened(capture(*((100, to("10.0.0.1", port)) for port in ports)))
+    assert [step["says"][:4] for step in lines(script, "recvfrom")] == ["from"] * len(ports)
+    assert counted(script, "udp.noport") == 0
+    assert len(lines(script, "close")) == 11
+
+
+def test_a_long_capture_says_how_many_packets_are_shown(opened):
+    script = opened(capture(*((100, to("10.0.0.1", ident=n + 1)) for n in range(320))))
+    assert script["counts"] == {"all": 320, "ip": 320, "ours": 320, "taken": 300}
+
+
+# ---- the same story as `bsdplay why`
+
+
+def random_packets(rng):
+    """Datagrams, fragments and damaged packets for several hosts, with pauses of up to a minute."""
+    hosts = rng.choice([["10.0.0.1", "10.0.0.3"], ["127.0.0.1"], ["10.0.0.1", "10.0.0.255", ALL, "224.0.0.1"]])
+    at, packets = 100.0, []
+    for n in range(rng.randint(2, 60)):
+        whole = to(rng.choice(hosts), rng.choice([7, 53, 0, 1000 + n]), bytes(rng.choice([0, 2, 40, 1600, 20_000])),
+                   rng.choice(["10.0.0.2", "127.0.0.1"]), ident=rng.randint(1, 4))  # fmt: skip
+        for _ in range(rng.choice([1, 1, 2, 3])):
+            piece = fragment(whole, rng.choice([0, 0, 1, 13, 60]), rng.choice([1, 12, 9000]))
+            packet = bytearray(rng.choice([whole, piece, piece]))
+            if rng.random() < 0.15:
+                packet[rng.randrange(len(packet))] ^= 1 << rng.randrange(8)
+            packets.append((at, bytes(packet)))
+            at += rng.choice([0, 0, 0.001, 0.3, 1.7, 20, 31, 60]) if rng.random() < 0.5 else 0.01
+    return packets
+
+
+def told_by_why(objects):
+    """Of each record the cause of a drop, or nothing, and whether it was delivered."""
+    return {it["number"]: (it["cause"], "delivered" in it["became"]) for it in objects if "number" in it}
+
+
+def told_by_page(script):
+    """The same by the page's steps: a record's number is in the note above its packet, and the datagrams that it
+    delivers are read behind it."""
+    numbers, told = [int(it) for it in re.findall(r"(?m)^# Record (\d+), ", script["text"])], {}
+    for step in script["steps"]:
+        if step["isPacket"]:
+            told[numbers[len(told)]] = ("".join(step["causes"]), False)
+        elif step["line"].startswith("recvfrom"):
+            last = numbers[len(told) - 1]
+            told[last] = (told[last][0], step["says"].startswith("from "))
+    return told
+
+
+@pytest.mark.parametrize("seed", range(30))
+def test_the_page_says_what_why_says(seed, bsdplay, opened, tmp_path):
+    data = capture(*random_packets(random.Random(seed)))
+    (tmp_path / "b.pcap").write_bytes(data)
+    done = subprocess.run([bsdplay, "why", "--json", tmp_path / "b.pcap"], capture_output=True, text=True, check=False)
+    script = opened(data)
+    if done.returncode:
+        assert script["fault"] in done.stderr
+        return
+    assert told_by_page(script) == told_by_why(map(json.loads, done.stdout.splitlines()))

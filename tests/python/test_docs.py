@@ -1,0 +1,84 @@
+"""The code of docs/python.md, run as a reader would: each piece goes on from those above it. What a comment says that a
+line prints is what it prints."""
+import ast
+import contextlib
+import doctest
+import io
+import re
+import socket
+import subprocess
+import sys
+import textwrap
+
+import pytest
+
+from tests.cases import TOP
+from tests.python.package import bsdudp
+
+PAGE = (TOP / "docs/python.md").read_text(encoding="utf-8")
+PIECES = re.findall(r"```python\n(.*?)```", PAGE, re.S)
+PRINTED = re.compile(r"print\(.*\)\s+# ([<(\[{'0-9A-Z].*)")
+
+
+def run(piece, names):
+    """Runs a piece, statement by statement. Where all that a statement prints is told, it has to be that."""
+    lines = piece.splitlines()
+    for statement in ast.parse(piece).body:
+        text = "\n".join(lines[statement.lineno - 1 : statement.end_lineno])
+        said = io.StringIO()
+        with contextlib.redirect_stdout(said):
+            exec(compile(text, "docs/python.md", "exec"), names)
+        told = PRINTED.findall(text)
+        if told:
+            assert said.getvalue().splitlines() == told
+
+
+def test_counters():
+    """The table of counters that the page leads to names them all, in their order."""
+    assert "behaviour.md#counters" in PAGE
+    section = (TOP / "docs/behaviour.md").read_text(encoding="utf-8").split("## Counters")[1].split("\n## ")[0]
+    assert re.findall(r"^\| `([a-z.]+)` \|", section, re.M) == list(bsdudp.Stack().counters)
+
+
+def test_socket_methods():
+    """What the page lists as there, and as not there, is all of a socket of Python."""
+    section = PAGE.split("## A socket")[1].split("##")[0]
+    there, table = section.split("A socket of this package differs")
+    lacking = re.search(r"^\| What isn't there \| (.*) \|$", table, re.M)[1]
+    public = {name for name in dir(socket.socket) if not name.startswith("_")}
+    assert set(re.findall(r"`(\w+)`", lacking)) == public - set(dir(bsdudp.Socket))
+    methods = {name for name in public if callable(getattr(bsdudp.Socket, name, None))}
+    assert {name for name in re.findall(r"`(\w+)`", there)} - {"with", "__index__"} == methods
+
+
+@pytest.mark.needs("scapy")
+def test_pieces(tmp_path, monkeypatch):
+    monkeypatch.chdir(tmp_path)
+    names = {"__name__": "__reader__"}
+    for piece in PIECES:
+        if "__main__" not in piece:
+            run(piece, names)
+
+
+def test_readme(capsys):
+    """README's lines, up to the paragraph behind them."""
+    text = (TOP / "README.md").read_text(encoding="utf-8")
+    piece = re.search(r"^    import bsdudp\n(?:    .*\n)+", text, re.M)[0]
+    exec(compile(textwrap.dedent(piece), "README.md", "exec"), {})
+    assert capsys.readouterr().out == "(b'hi', ('10.0.0.1', 1024)) Counters(ip.total=1)\n"
+
+
+def test_sweep(tmp_path):
+    (piece,) = (piece for piece in PIECES if "__main__" in piece)
+    (tmp_path / "through.py").write_text(piece)
+    ran = subprocess.run([sys.executable, tmp_path / "through.py"], capture_output=True, text=True, check=True)
+    assert ran.stdout.splitlines() == PRINTED.findall(piece)
+
+
+@pytest.mark.parametrize("name", bsdudp.__all__)
+def test_docstring(name):
+    """Each class, and `sweep`, has an example, which prints what it says."""
+    finder = doctest.DocTestFinder(recurse=False)
+    (found,) = finder.find(getattr(bsdudp, name), name, globs={"bsdudp": bsdudp})
+    assert found.examples
+    assert doctest.DocTestRunner().run(found).failed == 0
