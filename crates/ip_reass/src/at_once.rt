@@ -34,9 +34,8 @@ pub fn is_sound(head: &IpHead, packet: &[u8]) -> bool
     u32::from(head.total) == len && !is_bad(head, len - IP_HEADER)
 }
 
-/// Whether a packet, whose header says `head`, can be laid at once by `Reass::arrive_bytes`: it takes one cluster or two
-/// mbufs (101 to 2048 bytes), `is_sound` is true for it, and two mbufs and a cluster are free. The header's offset is at
-/// most 65,535.
+/// Whether a packet with this header can be stored by `Reass::arrive_bytes`: it takes one cluster or two mbufs (101 to
+/// 2048 bytes), `is_sound` is true for it, and two mbufs and a cluster are free. The header's offset is at most 65,535.
 #[inline(always)]
 pub fn fits_at_once(pool: &Pool, head: &IpHead, packet: &[u8]) -> bool
     requires { head.now.offset ≤ IP_MAX_PACKET }

@@ -71,7 +71,7 @@ fn space_in_cluster(pool: &Pool, len: u32) -> Option<Space>
     }
 }
 
-/// The space for a packet of `len` bytes that takes several mbufs, if it takes two without a cluster, and these are free.
+/// The space for a packet of `len` bytes that takes several mbufs, if two without a cluster are enough and are free.
 // The last fragment of most datagrams takes two.
 #[inline(always)]
 fn space_in_two(pool: &Pool, len: u32) -> Option<Space>
