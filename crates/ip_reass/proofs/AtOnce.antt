@@ -208,15 +208,15 @@ pub fits_is : (p : PoolView) (h : IpHead) (packet : List ℕ) → fits_at_once p
 fits_is p h packet e =
     let a = both _ _ e in
     let b = both _ _ a.0 in
-    let c = both _ _ b.0 in
-    let d = both _ _ c.0 in
+    let c = both _ _ b.1 in
+    let d = both _ _ b.0 in
     let f = both _ _ a.1 in
-    let total : h.total ≡ length packet = eqb-true h.total (length packet) c.1 in
+    let total : h.total ≡ length packet = eqb-true h.total (length packet) c.0 in
     record {
       many = ltb-true 100 (length packet) d.0;
       few = leb-true (length packet) 2048 d.1;
       total = total;
-      good = ap (λ (n : ℕ). is_bad_fragment (flat_head h) (n - 20)) total ∙ not_bad _ b.1;
+      good = ap (λ (n : ℕ). is_bad_fragment (flat_head h) (n - 20)) total ∙ not_bad _ c.1;
       mbufs = omega (arith, leb-true 2 (p.mbufs - held_mbufs p) f.0);
       clusters = leb-true 1 (free_clusters p) f.1;
     }

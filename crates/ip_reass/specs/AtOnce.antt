@@ -46,12 +46,15 @@ as_stored packet k = stored_by (nat_le MINCLSIZE (length packet)) packet k
 abbrev pub TakesFree : PoolView → List ℕ → ℕ → Type 0
 TakesFree p packet k = MINCLSIZE ≤ length packet → (k < p.clusters) × (references p k ≡ 0)
 
+-- whether a packet whose header says h is as long as that says, and isn't a malformed fragment
+abbrev pub is_sound : IpHead → List ℕ → Bool
+is_sound h packet = (h.total == length packet) && not (is_bad_fragment (flat_head h) (length packet - IP_HEADER))
+
 -- whether a packet whose header says h can be laid at once: it takes one cluster or two mbufs, is as long as its header
 -- says, and isn't a malformed fragment
 abbrev pub can_be_laid : IpHead → List ℕ → Bool
 can_be_laid h packet =
-    (nat_lt MHLEN (length packet) && nat_le (length packet) MCLBYTES) && (h.total == length packet)
-    && not (is_bad_fragment (flat_head h) (length packet - IP_HEADER))
+    (nat_lt MHLEN (length packet) && nat_le (length packet) MCLBYTES) && is_sound h packet
 
 -- and a cluster and two mbufs are free
 abbrev pub fits_at_once : PoolView → IpHead → List ℕ → Bool

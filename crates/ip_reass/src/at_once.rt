@@ -7,7 +7,7 @@ ghost use Rattle.mbuf_chain.specs.Owners.{Moves};
 ghost use Rattle.chain_ops.specs.Makes.{HasMbufs, Makes};
 ghost use Rattle.ledger.specs.Accounts.{IsAccounted, weight_owned};
 ghost use Rattle.ip_reass.specs.Arrivals.{HasWhole, carried_entries, in_hand, machine_with};
-ghost use Rattle.ip_reass.specs.AtOnce.{ArrivesAtOnce, TakesFree, as_stored, can_be_laid, fits_at_once, in_cluster, in_mbufs};
+ghost use Rattle.ip_reass.specs.AtOnce.{ArrivesAtOnce, TakesFree, as_stored, fits_at_once, in_cluster, in_mbufs, is_sound};
 ghost use Rattle.ip_reass.specs.Table.{IsReady, held_all};
 
 use crate::arrival::Arrival;
@@ -21,28 +21,30 @@ use params::{
     PACKET_START,
 };
 
-/// Whether a packet, whose header says `head`, can be laid at once by `Reass::arrive_bytes` if the buffers are free:
-/// it's as long as its header says, takes one cluster or two mbufs (101 to 2048 bytes), and isn't a malformed fragment.
-/// The header's offset is at most 65,535.
+/// Whether a packet of 20 to 65,535 bytes is as long as its header, `head`, says, and isn't a malformed fragment. The
+/// header's offset is at most 65,535.
 #[inline(always)]
-pub fn can_be_laid(head: &IpHead, packet: &[u8]) -> bool
-    requires { head.now.offset ≤ IP_MAX_PACKET }
-    ensures { result ≡ can_be_laid head.now packet.now }
+pub fn is_sound(head: &IpHead, packet: &[u8]) -> bool
+    requires offset { head.now.offset ≤ IP_MAX_PACKET }
+    requires header { IP_HEADER ≤ length packet.now }
+    requires most { length packet.now ≤ IP_MAX_PACKET }
+    ensures { result ≡ is_sound head.now packet.now }
 {
-    if packet.len() <= MHLEN as usize || packet.len() > MCLBYTES as usize {
-        return false;
-    }
     let len = packet.len() as u32;
     u32::from(head.total) == len && !is_bad(head, len - IP_HEADER)
 }
 
-/// Whether `can_be_laid` is true for a packet, and two mbufs and a cluster are free.
+/// Whether a packet with this header can be stored by `Reass::arrive_bytes`: it takes one cluster or two mbufs (101 to
+/// 2048 bytes), `is_sound` is true for it, and two mbufs and a cluster are free. The header's offset is at most 65,535.
 #[inline(always)]
 pub fn fits_at_once(pool: &Pool, head: &IpHead, packet: &[u8]) -> bool
     requires { head.now.offset ≤ IP_MAX_PACKET }
     ensures { result ≡ fits_at_once pool.now head.now packet.now }
 {
-    can_be_laid(head, packet) && pool.free_mbufs() >= 2 && pool.free_clusters() >= 1
+    if packet.len() <= MHLEN as usize || packet.len() > MCLBYTES as usize {
+        return false;
+    }
+    is_sound(head, packet) && pool.free_mbufs() >= 2 && pool.free_clusters() >= 1
 }
 
 /// Stores what a packet carries after its IP header, laid as when the packet is stored in a cluster and its header is

@@ -18,7 +18,7 @@ mod span;
 mod table;
 
 pub use arrival::Arrival;
-pub use at_once::{can_be_laid, fits_at_once};
+pub use at_once::{fits_at_once, is_sound};
 pub use datagram::Datagram;
 pub use questions::{HeldRange, UnfinishedDatagram};
 pub use table::Reass;

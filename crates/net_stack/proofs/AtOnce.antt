@@ -47,7 +47,7 @@ weigh : (m n : ℕ) → flat.weight_of (laid_on [] (Plain m ∷ Plain n ∷ []))
 unfolding laid_on
 weigh m n = refl
 
-two_plain : (n : ℕ) → 100 < n → n < 208 → wire n ≡ Plain 100 ∷ Plain (n - 100) ∷ []
+pub two_plain : (n : ℕ) → 100 < n → n < 208 → wire n ≡ Plain 100 ∷ Plain (n - 100) ∷ []
 two_plain n many few =
     let m : ℕ = n - 100 in
     let first : next_room 2048 100 n ≡ Plain 100 =

@@ -5,7 +5,7 @@ ghost use Rattle.flat_model.specs.Machine.Arrival as flat;
 ghost use Rattle.flat_model.specs.Packets.Header.{head_fault};
 ghost use Rattle.mbuf_chain.specs.Chain.{PoolView, chain_of, string};
 ghost use Rattle.mbuf_chain.specs.Owners.{IsOwned};
-ghost use Rattle.chain_ops.specs.declared.store.Space.TheVariants.{InCluster, InMbuf};
+ghost use Rattle.chain_ops.specs.declared.store.Space.TheVariants.{InCluster, InMbuf, InMore};
 ghost use Rattle.chain_ops.specs.Stored.{Has, IsLaidIn};
 ghost use Rattle.ip_out.specs.Headings.{head_in};
 ghost use Rattle.ip_reass.specs.Arrivals.{flat_head};
@@ -24,10 +24,10 @@ use chain_ops::theorems::stored_layout;
 use chain_ops::{Space, from_wire, space_for, trim_back, wire_need};
 use flat_model::{Counter, Why};
 use ip_out::{Headed, IpHead, read_packet};
-use ip_reass::{Arrival, can_be_laid, fits_at_once};
+use ip_reass::{Arrival, fits_at_once, is_sound};
 use ledger::{are_free, reserve};
 use mbuf_chain::{Chain, Pool};
-use params::IP_MAX_PACKET;
+use params::{IP_MAX_PACKET, MINCLSIZE};
 use udp::{Checked, read};
 
 /// Copies a packet into a new chain. Its buffers have to be free.
@@ -71,8 +71,23 @@ fn space_in_cluster(pool: &Pool, len: u32) -> Option<Space>
     }
 }
 
-/// The space for a packet of `len` bytes, if it takes one mbuf or cluster, this is free, and so is a second mbuf for
-/// the sender's address.
+/// The space for a packet of `len` bytes that takes several mbufs, if two without a cluster are enough and are free.
+// The last fragment of most datagrams takes two.
+#[inline(always)]
+fn space_in_two(pool: &Pool, len: u32) -> Option<Space>
+    requires { IsLaidIn 0 len InMore }
+    ensures space { IfSome result (λ space. HasSpace pool.now len space) }
+    ensures free { IfSome result (λ space. Has pool.now (wire len)) }
+{
+    if len < MINCLSIZE && are_free(pool, 2, 0) {
+        Some(Space::InMore)
+    } else {
+        None
+    }
+}
+
+/// The space for a packet of `len` bytes that takes one mbuf or cluster, if this is free, and so is a second mbuf for
+/// the sender's address; or that takes two mbufs, if these are free.
 #[inline(always)]
 fn one_space(pool: &Pool, len: u32) -> Option<Space>
     ensures space { IfSome result (λ space. HasSpace pool.now len space) }
@@ -81,7 +96,7 @@ fn one_space(pool: &Pool, len: u32) -> Option<Space>
     match space_for(0, len) {
         Space::InMbuf => space_in_mbuf(pool, len),
         Space::InCluster => space_in_cluster(pool, len),
-        Space::InMore => None,
+        Space::InMore => space_in_two(pool, len),
     }
 }
 
@@ -107,7 +122,7 @@ fn can_lay(pool: &Pool, space: Space, head: &IpHead, packet: &[u8]) -> bool
 {
     match space {
         Space::InMbuf => false,
-        Space::InCluster => can_be_laid(head, packet),
+        Space::InCluster => is_sound(head, packet),
         Space::InMore => fits_at_once(pool, head, packet),
     }
 }
@@ -240,7 +255,7 @@ impl Host {
             if can_lay(&self.pool, space, &head, packet) {
                 self.lay_fragment(packet, head);
             } else {
-                self.store_fragment(packet, head);
+                self.store_fragment(packet, headed);
             }
             return;
         }
@@ -363,20 +378,22 @@ impl Host {
     /// A fragment for this machine comes from the wire, is copied into a new chain, and arrives. Its buffers have to be
     /// free.
     #[inline(never)]
-    fn store_fragment(&mut self, packet: &[u8], head: IpHead)
+    // It reads the header anew, since a header that is handed on would lie in memory for every packet.
+    fn store_fragment(&mut self, packet: &[u8], headed: Headed<'_>)
         requires socks { IsSocks self.old.pool self.old.socks }
         requires reass { IsReady self.old.pool self.old.reass }
         requires owned { IsOwned self.old.pool (chains_at (arrival_view self.old)) }
         requires most { length packet.now ≤ IP_MAX_PACKET }
         requires free { Has self.old.pool (wire (length packet.now)) }
-        requires faultless { head_fault packet.now ≡ None }
-        requires says { head ≡ head_in packet.now }
-        requires fragment { flat.is_fragment (flat_head head) ≡ true }
-        requires ours { is_ours_or_all self.old.socks.pcbs.addr self.old.socks.pcbs.bcast head.dst ≡ true }
+        requires same { headed.packet.now ≡ packet.now }
+        requires fragment { flat.is_fragment (flat_head (head_in packet.now)) ≡ true }
+        requires ours { is_ours_or_all self.old.socks.pcbs.addr self.old.socks.pcbs.bcast
+            (head_in packet.now).dst ≡ true }
         ensures came { HasCome (arrival_view self.old) packet.now (arrival_view self.new) }
         ensures reass { IsReady self.new.pool self.new.reass }
         ensures output { KeepsOutput self.old.net self.new.net }
     {
+        let head = headed.head();
         let chain = put_packet(&mut self.pool, packet);
         self.arrive_fragment(chain, head);
     }

@@ -1,5 +1,6 @@
 -- A datagram that is stored and queued at once.
-use Rattle.std.proofs.Common.{◌≡◌, ℕ, ◌+◌, false, List, [], ◌∷◌, length, Option, Some, None, refl, sym, ap, ◌∙◌, subst, arith}
+use Rattle.std.proofs.Common.{◌≡◌, ℕ, ◌+◌, Bool, true, false, List, [], ◌∷◌, length, Option, Some, None, refl, sym, ap, ◌∙◌, subst, arith}
+use Rattle.std.specs.Prelude.{if◌then◌else◌}
 use Rattle.std.proofs.lemmas.List.{append-nil}
 use Rattle.flat_model.specs.Amounts.Weight.{mbuf, ◌⊕◌}
 use Rattle.flat_model.specs.declared.address.Addr.{Addr}
@@ -8,9 +9,9 @@ use Rattle.mbuf_chain.specs.Owners.{times_among, Moves}
 use Rattle.mbuf_chain.specs.Steps.{one_mbuf}
 use Rattle.mbuf_chain.proofs.Laws.Owners.{live_adds, moves_adds, moves_beside, shown_adds}
 use Rattle.mbuf_chain.proofs.Laws.Accounts.{held-adds}
-use Rattle.ledger.specs.Accounts.{entries_weight}
-use Rattle.sockbuf.specs.SockBuf.{SockBufView, IsSockBuf, chains_of, datagrams, datagram_from}
-use Rattle.sockbuf.specs.Stored.{bag_of, stored_datagram}
+use Rattle.ledger.specs.Accounts.{entries_weight, weight_at}
+use Rattle.sockbuf.specs.SockBuf.{SockBufView, IsSockBuf, chains_of, datagrams, datagram_from, memory_of}
+use Rattle.sockbuf.specs.Stored.{IsTaken, bag_of, stored_datagram}
 use Rattle.sockbuf.proofs.Beside.{apart_ready, chains_same, datagrams_same, made_beside, ready_made}
 
 -- one mbuf of bytes, in no queue yet
@@ -27,7 +28,16 @@ pub record InHand (p : PoolView) (b : SockBufView) (bytes : List ℕ) (o : Optio
   pub held : held_mbufs q ≡ held_mbufs p + 1
   pub mbufs : q.mbufs ≡ p.mbufs
   pub moves : Moves p (chains_of p b) q (d ∷ chains_of q b)
+  pub memory : (is_large : Bool) → IsTaken p is_large o
+      → (if is_large then 2176 else 128) ≡ memory_of (weight_at q d)
   pub is : (sender : Addr) → datagram_from sender q d ≡ stored_datagram sender bytes o
+
+one_takes : (p : PoolView) (bytes : List ℕ) (start : ℕ) (o : Option ℕ) (is_large : Bool) → IsTaken p is_large o
+    → (if is_large then 2176 else 128) ≡ memory_of (entries_weight (entry bytes start o ∷ []))
+one_takes p bytes start None false taken = refl
+one_takes p bytes start (Some c) true taken = refl
+one_takes p bytes start None true taken = elim taken [ ]
+one_takes p bytes start (Some c) false taken = elim taken [ ]
 
 one_weighs : (bytes : List ℕ) (start : ℕ) (o : Option ℕ)
     → mbuf ⊕ entries_weight (entry bytes start o ∷ []) ≡ record { mbufs = 2; bag = bag_of o }
@@ -49,6 +59,8 @@ in_hand {p} {q} {b} {d} bytes start o ready adds =
       same = datagrams_same p q b (made_beside b made ready);
       held = held-adds adds;
       mbufs = made.mbufs;
+      memory = λ is_large taken. one_takes p bytes start o is_large taken
+          ∙ ap (λ (v : ChainView). memory_of (entries_weight v.entries)) (sym shown);
       moves = subst (λ (xs : List ℕ). Moves p (chains_of p b) q (d ∷ xs)) (sym chains)
           (moves_beside (chains_of p b) (d ∷ chains_of p b) (chains_of p b) made (λ k. omega arith) (λ k. omega arith));
       is = λ sender i. record {

@@ -1,12 +1,14 @@
 //! The queue and its calls.
 
-ghost use Rattle.std.specs.Prelude.{◌≡◌, ◌==◌, ◌<◌, ◌∷◌, [], ◌++◌, true, length, MatchOption, Ok, ℕ};
+ghost use Rattle.std.specs.Prelude.{◌≡◌, ◌+◌, ◌*◌, ◌==◌, ◌<◌, ◌≤◌, ◌∷◌, [], ◌++◌, true, length, MatchOption, Ok, ℕ};
+ghost use Rattle.params.specs.declared.TheConstants.{MAX_MBUFS, MCLBYTES};
 ghost use Rattle.flat_model.specs.Sockets.Fits as flat;
 ghost use Rattle.mbuf_chain.specs.Chain.{IsLive, PoolView, chain_of, held_mbufs, string};
 ghost use Rattle.mbuf_chain.specs.Heads.{nth_heads};
 ghost use Rattle.mbuf_chain.specs.Owners.{times_among, Moves};
+ghost use Rattle.ledger.specs.Accounts.{weight_at};
 ghost use Rattle.sockbuf.specs.Questions.{oldest_of};
-ghost use Rattle.sockbuf.specs.SockBuf.{AppendsAddr, IsEmpty, IsSockBuf, TakesOldest, chains_of, datagram_from, datagrams, no_datagrams};
+ghost use Rattle.sockbuf.specs.SockBuf.{AppendsAddr, IsEmpty, IsSockBuf, TakesOldest, chains_of, datagram_from, datagrams, memory_of, no_datagrams};
 
 use crate::address::{sockaddr_in, with_address};
 use crate::measure::memory_of;
@@ -176,8 +178,34 @@ impl SockBuf {
         ensures ready { IsSockBuf pool.new self.new }
         ensures moves { Moves pool.old (chain ∷ chains_of pool.old self.old) pool.new (chains_of pool.new self.new) }
     {
-        pool.laws();
         let memory = memory_of(pool, &chain);
+        self.append_sized(pool, sender, chain, len, memory);
+    }
+
+    /// `append_fitting` of a chain that takes `memory` bytes.
+    #[inline(always)]
+    pub(crate) fn append_sized(
+        &mut self,
+        pool: &mut Pool,
+        sender: Addr,
+        chain: Chain,
+        len: u32,
+        memory: u32,
+    )
+        requires ready { IsSockBuf pool.old self.old }
+        requires live { IsLive pool.old chain }
+        requires apart { times_among chain (chains_of pool.old self.old) ≡ 0 }
+        requires len { len ≡ length (string (chain_of pool.old chain)) }
+        requires memory { memory ≡ memory_of (weight_at pool.old chain) }
+        requires bound { memory ≤ (MSIZE + MCLBYTES) * MAX_MBUFS }
+        requires fits { flat.fits (datagrams pool.old self.old) len ≡ true }
+        requires free { held_mbufs pool.old < pool.old.mbufs }
+        ensures datagrams { datagrams pool.new self.new
+            ≡ datagrams pool.old self.old ++ datagram_from sender pool.old chain ∷ [] }
+        ensures ready { IsSockBuf pool.new self.new }
+        ensures moves { Moves pool.old (chain ∷ chains_of pool.old self.old) pool.new (chains_of pool.new self.new) }
+    {
+        pool.laws();
         let whole = with_address(pool, sender, chain, len);
         let end = self.train.len();
         self.train.insert(pool, end, whole, 0);

@@ -78,6 +78,7 @@ impl SockBuf {
         ensures moves { Moves pool.old (chains_of pool.old self.old) pool.new (chains_of pool.new self.new) }
     {
         let chain = one_mbuf(pool, is_large, start, bytes);
-        self.append_fitting(pool, sender, chain, bytes.len() as u32);
+        let memory = if is_large { MSIZE + MCLBYTES } else { MSIZE };
+        self.append_sized(pool, sender, chain, bytes.len() as u32, memory);
     }
 }

@@ -10,6 +10,7 @@ returns-then-are_free-clause-space c = record {
   mbufs = enough_mbufs c.args.pool.now 2 1 (sym c.are_free.ensures ∙ c.if-are_free.true) (omega arith);
   clusters = enough_clusters c.args.pool.now 2 1 (sym c.are_free.ensures ∙ c.if-are_free.true);
   fits = omega (arith, c.requires.1);
+  begins = omega (arith, c.requires.0);
 }
 
 pub returns-then-are_free-clause-free : goal.returns-then-are_free-clause-free
@@ -19,5 +20,6 @@ returns-then-are_free-clause-free c =
       mbufs = enough_mbufs c.args.pool.now 2 1 (sym c.are_free.ensures ∙ c.if-are_free.true) (omega arith);
       clusters = enough_clusters c.args.pool.now 2 1 (sym c.are_free.ensures ∙ c.if-are_free.true);
       fits = omega (arith, c.requires.1);
+      begins = omega (arith, c.requires.0);
     } in
     has_one true one

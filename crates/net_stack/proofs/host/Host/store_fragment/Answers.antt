@@ -1,6 +1,10 @@
 use Rattle.std.proofs.Common.{◌≡◌, ℕ, List, None, length, refl, sym, ap, subst, ◌∙◌}
 use Rattle.flat_model.specs.Packets.Header.{head_fault}
+use Rattle.flat_model.specs.Machine.Arrival.{is_fragment}
 use Rattle.ip_out.specs.Headings.{head_in}
+use Rattle.ip_out.specs.declared.head.IpHead.{IpHead}
+use Rattle.ip_reass.specs.Arrivals.{flat_head}
+use Rattle.net_stack.specs.Inside.Arrivals.{is_ours_or_all}
 use Rattle.net_stack.proofs.Coming.{laid_ready, came}
 use Rattle.net_stack.proofs.Whole.{asked_now}
 use Rattle.net_stack.proofs.host.Host.store_fragment.Goals as goal
@@ -31,7 +35,20 @@ returns-clause-came c =
 
 pub arrive_fragment-requires-clause-faultless : goal.arrive_fragment-requires-clause-faultless
 arrive_fragment-requires-clause-faultless c =
-    ap head_fault c.put_packet-chain.ensures.bytes_are ∙ c.requires.faultless
+    ap head_fault c.put_packet-chain.ensures.bytes_are
+    ∙ subst (λ (xs : List ℕ). head_fault xs ≡ None) c.requires.same c.args.headed.is_headed.faultless
 
 pub arrive_fragment-requires-clause-says : goal.arrive_fragment-requires-clause-says
-arrive_fragment-requires-clause-says c = c.requires.says ∙ sym (ap head_in c.put_packet-chain.ensures.bytes_are)
+arrive_fragment-requires-clause-says c =
+    c.head-head.ensures ∙ ap head_in (c.requires.same ∙ sym c.put_packet-chain.ensures.bytes_are)
+
+pub arrive_fragment-requires-clause-fragment : goal.arrive_fragment-requires-clause-fragment
+arrive_fragment-requires-clause-fragment c =
+    ap (λ (x : IpHead). is_fragment (flat_head x)) (c.head-head.ensures ∙ ap head_in c.requires.same)
+    ∙ c.requires.fragment
+
+pub arrive_fragment-requires-clause-ours : goal.arrive_fragment-requires-clause-ours
+arrive_fragment-requires-clause-ours c =
+    let t = c.args.self.now.socks.pcbs in
+    ap (λ (x : IpHead). is_ours_or_all t.addr t.bcast x.dst) (c.head-head.ensures ∙ ap head_in c.requires.same)
+    ∙ c.requires.ours

@@ -5,7 +5,7 @@ use Rattle.mbuf_chain.specs.Chain.{chain_of}
 use Rattle.mbuf_chain.specs.Train.{QueuedPacket, queued_packets}
 use Rattle.sockbuf.specs.SockBuf.{SockBufView, IsSockBuf, chains_of}
 use Rattle.sockbuf.proofs.Queues.{appended, Appended, held_beside, apart_beside}
-use Rattle.sockbuf.proofs.buffer.SockBuf.append_fitting.Goals as goal
+use Rattle.sockbuf.proofs.buffer.SockBuf.append_sized.Goals as goal
 
 pub insert-requires-clause-held : goal.insert-requires-clause-held
 insert-requires-clause-held c =
@@ -29,7 +29,7 @@ queued : (c : goal.After-self-2-1)
     (record {
       train = c.insert.new.self;
       cc = c.self.inside.cc + (16 + c.args.len);
-      mbcnt = c.self.inside.mbcnt + (128 + c.memory_of-memory.result);
+      mbcnt = c.self.inside.mbcnt + (128 + c.args.memory);
     })
 queued c =
     let ready = subst (IsSockBuf c.args.pool.now) (sym c.self.view_is) c.requires.ready in
@@ -47,7 +47,7 @@ queued c =
     (record {
       train = c.insert.new.self;
       cc = c.self.inside.cc + (16 + c.args.len);
-      mbcnt = c.self.inside.mbcnt + (128 + c.memory_of-memory.result);
+      mbcnt = c.self.inside.mbcnt + (128 + c.args.memory);
     })) c.self.view_is
     (appended {b = record { train = c.self.inside.train; cc = c.self.inside.cc; mbcnt = c.self.inside.mbcnt }}
     {a = c.args.sender} _ _ ready (record {
@@ -59,7 +59,7 @@ queued c =
       queued_packets = c.insert.ensures.queued_packets ∙ ap (λ (n : ℕ). insert old n new) c.len-end.ensures;
       held = c.insert.ensures.held;
       moves = c.insert.ensures.moves;
-    }) (omega (arith, c.requires.len)) (omega (arith, c.memory_of-memory.ensures.value)))
+    }) (omega (arith, c.requires.len)) (omega (arith, c.requires.memory)))
 
 pub returns-clause-datagrams : goal.returns-clause-datagrams
 returns-clause-datagrams c = (queued c).datagrams
