@@ -270,7 +270,7 @@ int bsdudp_tick(struct bsdudp *stack);
    792). All other calls work as for a bare stack, except bsdudp_rx and bsdudp_tx. */
 
 /* The size in bytes of the memory for a host with these numbers of mbufs and clusters. It is a constant if they are. */
-#define BSDUDP_ETHER_MEMORY(mbufs, clusters) (BSDUDP_MEMORY(mbufs, clusters) + 14752)
+#define BSDUDP_ETHER_MEMORY(mbufs, clusters) (BSDUDP_MEMORY(mbufs, clusters) + 14784)
 
 /* Boots a host in memory that the caller provides, as bsdudp_boot_in boots a stack; it takes BSDUDP_ETHER_MEMORY bytes.
    Its table of neighbours is empty. The host announces its address (RFC 5227). With `link->probe` it first probes

@@ -144,6 +144,44 @@ static int from_malloc(void)
     return 0;
 }
 
+/* The same of a host: one that is refused for its link, or for its stack, keeps none. */
+static int host_from_malloc(void)
+{
+    struct bsdudp s = BSDUDP_NONE;
+    struct bsdudp_config config = config_of(64, 16);
+    struct bsdudp_link link = {{2, 0, 0, 0, 0, 1}, 0xffffff00, 0, 0};
+    int k;
+    taken = given_back = 0;
+    is_refused = 1;
+    WANT(bsdudp_ether_boot(&s, &config, &link), -BSDUDP_ENOMEM);
+    is_refused = 0;
+    for (k = 0; k < 6; k++) {
+        struct bsdudp_config wrong = config;
+        struct bsdudp_link bad = link;
+        if (k == 0)
+            bad.mac[0] = 1;
+        else if (k == 1)
+            bad.gateway = config.addr;
+        else if (k == 2)
+            wrong.mtu = 1501;
+        else if (k == 3)
+            wrong.mtu = 67;
+        else if (k == 4)
+            wrong.bcast = 0xe0000001;
+        else
+            wrong.mbufs = 65536;
+        WANT(bsdudp_ether_boot(&s, &wrong, &bad), k == 5 ? -BSDUDP_EDOM : -BSDUDP_EINVAL);
+        WANT(bsdudp_socket(&s), -BSDUDP_ENXIO);
+        WANT(taken, given_back);
+    }
+    taken = given_back = 0;
+    WANT(bsdudp_ether_boot(&s, &config, &link), 0);
+    WANT(taken == 1 && given_back == 0, 1);
+    WANT(bsdudp_end(&s), 0);
+    WANT(taken == 1 && given_back == 1, 1);
+    return 0;
+}
+
 /* A handle that has a stack keeps it, whichever boot comes next, and whatever that asks for. */
 static int booted_twice(void)
 {
@@ -178,5 +216,5 @@ static int booted_twice(void)
 int main(void)
 {
     return grows(1, 0, BLOCK) || grows(64, 16, BLOCK) || grows(65535, 4096, 5000 * BLOCK) || from_malloc() ||
-           booted_twice();
+           host_from_malloc() || booted_twice();
 }

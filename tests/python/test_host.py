@@ -78,6 +78,20 @@ def with_sum(data, at):
     return data[:at] + (~(total + (total >> 16)) & 0xFFFF).to_bytes(2, "big") + data[at + 2 :]
 
 
+def test_a_reply_longer_than_the_mtu_goes_out_in_fragments():
+    data = bytes(range(250)) * 4
+    request = with_sum(bytes([8, 0, 0, 0, 0, 1, 0, 1]) + data, 2)
+    packet = with_sum(bytes.fromhex("45000404 00070000 40010000 0a000002 0a000001"), 10) + request
+    with bsdudp.Host(mtu=576) as host:
+        host.receive(REQUEST)
+        assert list(host.frames()) == [ANNOUNCED, REPLY]
+        host.receive(bytes.fromhex("020000000001 020000000002 0800") + packet)
+        bodies = [frame.body for frame in host.frames()]
+        assert [(len(body), body[6:8].hex()) for body in bodies] == [(572, "2000"), (476, "0045")]
+        assert b"".join(body[20:] for body in bodies) == with_sum(bytes([0, 0, 0, 0, 0, 1, 0, 1]) + data, 2)
+        assert host.tallies.echoes == 1
+
+
 def test_what_others_report_is_returned_once():
     with bsdudp.Host("10.0.0.1") as host:
         sock = host.socket()

@@ -2,10 +2,12 @@
 import array
 import copy
 import errno
+import gc
 import importlib
 import pickle
 import resource
 import socket as host
+import tracemalloc
 
 import pytest
 
@@ -17,6 +19,24 @@ def refused(number, call, *arguments):
         call(*arguments)
     assert fault.value.errno == number
     return fault.value
+
+
+@pytest.mark.parametrize("name", ["Stack", "Host"])
+def test_a_refused_boot_keeps_no_memory(name, monkeypatch):
+    kind = getattr(bsdudp, name)
+    boot_in = kind._boot_in
+    tracemalloc.start()
+    try:
+        with monkeypatch.context() as less:
+            less.setattr(kind, "_boot_in", lambda self, at, size: boot_in(self, at, 64))
+            for _ in range(3):
+                refused(errno.ENOMEM, kind)
+        gc.collect()
+        assert tracemalloc.get_traced_memory()[0] < 20_000
+        with kind():
+            assert tracemalloc.get_traced_memory()[0] > 20_000
+    finally:
+        tracemalloc.stop()
 
 
 @pytest.fixture

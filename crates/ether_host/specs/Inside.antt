@@ -1,7 +1,8 @@
 -- How the fields mean the link's state (this project's own).
-use Rattle.std.specs.Prelude.{ℕ, ◌+◌, List, ◌++◌, length, map, take, drop, if◌then◌else◌, Some, None}
+use Rattle.std.specs.Prelude.{ℕ, ◌+◌, List, ◌++◌, length, map, take, drop}
 use Rattle.flat_ether.specs.Links.{LinkState}
 use Rattle.ether_host.specs.Buffers.{held_in}
+use Rattle.ether_host.specs.Replies.{packets_left}
 use Rattle.ether_host.specs.declared.layer.LinkLayer.{LinkLayer}
 
 -- bytes written over others, from a place on
@@ -16,7 +17,7 @@ link_seen l = record {
   neighbours = l.neighbours.items;
   replies = l.replies.items;
   held = map held_in l.held.items;
-  answer = if l.answered then Some (held_in l.answer).packet else None;
+  answer = packets_left l.answer;
   errors = l.errors.items;
   claim = l.claim;
   unreachables = l.unreachables;

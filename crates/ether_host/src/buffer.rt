@@ -21,7 +21,9 @@ impl PacketBuffer {
     ghost use Rattle.ether_host.specs.Buffers.{held_in};
 
     /// One with no bytes.
-    pub(crate) fn blank() -> PacketBuffer {
+    pub(crate) fn blank() -> PacketBuffer
+        ensures { result.len ≡ 0 }
+    {
         PacketBuffer {
             hop: 0,
             len: 0,
@@ -43,6 +45,7 @@ impl PacketBuffer {
     /// Its bytes.
     pub(crate) fn bytes(&self) -> &[u8]
         ensures is { result.now ≡ take self.now.len self.now.room }
+        ensures long { length result.now ≡ self.now.len }
         ensures most { length result.now ≤ ETHER_MTU }
     {
         &self.room[..self.len]

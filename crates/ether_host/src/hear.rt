@@ -124,7 +124,7 @@ impl LinkLayer {
         if answer == Answer::Silence {
             return;
         }
-        if self.answered {
+        if self.answer.waits() {
             self.tallies.icmp_dropped = self.tallies.icmp_dropped.saturating_add(1);
             return;
         }
@@ -144,6 +144,5 @@ impl LinkLayer {
             }
             Answer::Silence => {}
         }
-        self.answered = true;
     }
 }

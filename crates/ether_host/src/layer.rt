@@ -3,6 +3,7 @@ ghost use Rattle.std.specs.Prelude.{◌≡◌, ◌≤◌, IfOk, vec_capacity};
 ghost use Rattle.flat_ether.specs.declared.sizes.TheConstants.{HELD_PACKETS};
 
 use crate::buffer::PacketBuffer;
+use crate::reply::Reply;
 use arrayvec::ArrayVec;
 use flat_ether::{
     Claim, HELD_PACKETS, Link, NEIGHBOURS, Neighbour, PENDING_REPLIES, PendingReply, SOCKET_ERRORS,
@@ -19,8 +20,7 @@ pub struct LinkLayer {
     pub(crate) neighbours: ArrayVec<Neighbour, NEIGHBOURS>,
     pub(crate) replies: ArrayVec<PendingReply, PENDING_REPLIES>,
     pub(crate) held: Vec<PacketBuffer>,
-    pub(crate) answer: PacketBuffer,
-    pub(crate) answered: bool,
+    pub(crate) answer: Reply,
     pub(crate) errors: ArrayVec<SocketError, SOCKET_ERRORS>,
     pub(crate) claim: Claim,
     pub(crate) unreachables: u8,
@@ -43,8 +43,7 @@ impl LinkLayer {
             neighbours: ArrayVec::new(),
             replies: ArrayVec::new(),
             held,
-            answer: PacketBuffer::blank(),
-            answered: false,
+            answer: Reply::blank(),
             errors: ArrayVec::new(),
             claim: Claim::new(link.probe),
             unreachables: UNREACHABLES,

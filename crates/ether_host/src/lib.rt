@@ -13,7 +13,9 @@ mod host;
 mod layer;
 mod own;
 mod packets;
+mod reply;
 mod send;
+mod share;
 mod table;
 mod tick;
 

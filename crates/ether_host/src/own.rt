@@ -133,19 +133,14 @@ impl LinkLayer {
         Some(self.framed(room, mac, len))
     }
 
-    /// The answer that waits goes as each packet does.
+    /// The next packet of the answer that waits goes as each packet does.
     fn give_answer(&mut self, room: &mut [u8]) -> Option<usize>
         requires { ETHER_HEADER + ETHER_MTU ≤ length room.old }
         ensures frame { room_front result room.new ≡ (gives_answer (link_seen self.old)).0 }
         ensures link { link_seen self.new ≡ (gives_answer (link_seen self.old)).1 }
         ensures fits { IfSome result (λ n. n ≤ length room.new) }
     {
-        if !self.answered {
-            return None;
-        }
-        self.answered = false;
-        let len = self.answer.len;
-        put_body(room, self.answer.bytes());
+        let len = self.answer.next(room)?;
         self.send(room, len)
     }
 

@@ -1,5 +1,5 @@
 -- How often a host that runs dropped a martian: nothing else that's done with it changes that tally.
-use Rattle.std.proofs.Common.{◌≡◌, ℕ, ◌+◌, Bool, true, false, cond, List, [], ◌∷◌, length, Option, Some, None, refl, sym, ap, ◌∙◌, subst, arith}
+use Rattle.std.proofs.Common.{◌≡◌, ℕ, ◌+◌, Bool, true, false, cond, List, [], ◌∷◌, length, drop, Option, Some, None, refl, sym, ap, ◌∙◌, subst, arith}
 use Rattle.std.specs.Prelude.{◌==◌, All, Result, is_some, nat_lt, position, slice_get}
 use Rattle.std.specs.List.{AllByRecursion as Each}
 use Rattle.std.proofs.lemmas.List.Elements.{All-from_recursion}
@@ -17,7 +17,7 @@ use Rattle.flat_ether.specs.Frames.{arp_of, body_of, is_heard, is_martian, kind_
 use Rattle.flat_ether.specs.Hosts.{HostAct, AreHostActs, Asks_error, Ages, Calls, Clock, Comes_in, Drained, Goes_out, HearsKind, Host, IsHostAct, drained, error_of_socket, gives, gives_claimed, gives_drained, gives_probe, host_up, is_to_us, or_drains}
 use Rattle.flat_ether.specs.Icmp.{answer_to, counted_more}
 use Rattle.flat_ether.specs.Laws.{martian_if, martian_in, martians_in, packet_if, packets_in}
-use Rattle.flat_ether.specs.Links.{Gives, WaitingPacket, LinkState, answers_with, asks, asks_at, by_route, claim_frame, drops_first, finds_conflict, first_ready, gives_answer, gives_claim, gives_held, gives_own, gives_reply, gives_request, hears_arp, holds_packet, is_asked, is_conflict, is_request_due, is_learned, is_sound_arp, learns, mac_of, notes, notes_error, or_then, owes, neighbour_place, replies_to, route_of, sends, sends_answer, sends_at, sends_held, takes_at, takes_error, to_hop}
+use Rattle.flat_ether.specs.Links.{Gives, WaitingPacket, LinkState, answers_with, asks, asks_at, by_route, claim_frame, drops_first, finds_conflict, first_ready, gives_answer, gives_claim, gives_held, gives_own, gives_reply, gives_request, hears_arp, holds_packet, is_answering, is_asked, is_conflict, is_request_due, is_learned, is_sound_arp, learns, mac_of, notes, notes_error, or_then, owes, neighbour_place, replies_to, route_of, sends, sends_answer, sends_at, sends_held, takes_at, takes_error, to_hop}
 use Rattle.flat_ether.specs.declared.answer.Answer.{Answer}
 use Rattle.flat_ether.specs.declared.answer.Answer.TheVariants.{Echo, Unreachable, Silence}
 use Rattle.flat_ether.specs.declared.arp.Arp.{Arp}
@@ -59,9 +59,9 @@ by_host false s g h e f = f
 
 answers_same : (a : Answer) (came : List ℕ) (s : LinkState) → tally (answers_with a came s) ≡ tally s
 answers_same Silence came s = refl
-answers_same Echo came s = by_cond (is_some s.answer) s _ _ refl refl
+answers_same Echo came s = by_cond (is_answering s) s _ _ refl refl
 answers_same Unreachable came s =
-    by_cond (is_some s.answer) s _ _ refl (by_cond (nat_lt 0 s.unreachables) s _ _ refl refl)
+    by_cond (is_answering s) s _ _ refl (by_cond (nat_lt 0 s.unreachables) s _ _ refl refl)
 
 notes_same : (b : Bool) (came : List ℕ) (s : LinkState) → tally (notes b came s) ≡ tally s
 notes_same b came s = by_cond b s _ _ (go (error_in s.config came)) refl
@@ -139,11 +139,11 @@ held_same s = go (first_ready s.neighbours s.held)
     go (Some found) = one found.0 found.1 (slice_get s.held found.0)
 
 answer_same : (s : LinkState) → tally (gives_answer s).1 ≡ tally s
-answer_same s = go s.answer
+answer_same s = go (slice_get s.answer 0)
   where
     go : (packet : Option (List ℕ)) → tally (sends_answer packet s).1 ≡ tally s
     go None = refl
-    go (Some packet) = sends_same packet (record s { answer = None })
+    go (Some packet) = sends_same packet (record s { answer = drop 1 s.answer })
 
 then_same : (g : Gives) (next : LinkState → Gives) (s : LinkState) → tally g.1 ≡ tally s
     → ((t : LinkState) → tally (next t).1 ≡ tally t)

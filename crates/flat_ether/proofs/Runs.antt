@@ -3,7 +3,6 @@ use Rattle.std.proofs.Common.{◌≡◌, inl, ℕ, Bool, true, false, cond, List
 use Rattle.std.specs.Prelude.{Contains, filter_map, is_some, option_to_list, Result}
 use Rattle.std.specs.List.{AllByRecursion as Each}
 use Rattle.std.proofs.lemmas.List.Elements.{All-from_recursion, recursion_from_All, All-contains_itself, All-head, Contains-append_right, filter_map-append}
-use Rattle.std.proofs.lemmas.Option.{none-some}
 use Rattle.flat_model.specs.Amounts.Weight.{Item}
 use Rattle.flat_model.specs.Machine.Event.{Transmit, Given, Comes, Done, Tick}
 use Rattle.flat_model.specs.Machine.Ledger.{exact_ledger}
@@ -41,7 +40,7 @@ module _ (c : Config) (l : Link) where
     held =
         each-weaker (λ h is. record { made = Sent.more_made c l F G G' h.packet is.made; route = is.route }) s.held
         good.held;
-    answer = λ p e. Sent.more_made c l F G G' p (good.answer p e);
+    answer = each-weaker (Sent.more_made c l F G G') s.answer good.answer;
   }
 
   -- What an act makes of a machine and its link, after these frames came and these packets were given: `then'` are the
@@ -333,7 +332,7 @@ module _ (c : Config) (l : Link) where
         neighbours = tt;
         distinct = tt;
         held = tt;
-        answer = λ p e. absurd (none-some p e);
+        answer = tt;
       }
 
   abbrev made_by : (acts : List HostAct) (new : Host) → MakesAll [] [] (host_up c l).machine new.machine new.link acts

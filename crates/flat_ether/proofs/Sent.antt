@@ -2,7 +2,7 @@
 use Rattle.std.proofs.Common.{◌≡◌, ◌≢◌, ◌⊎◌, inl, inr, ℕ, Bool, true, false, cond, List, [], ◌∷◌, ◌++◌, length, take, drop, Option, Some, None, refl, sym, ap, ◌∙◌, subst, zero, suc, ◌+◌, ◌-◌, add-one, get_or}
 use Rattle.std.specs.Prelude.{Contains, ◌==◌, ◌&&◌, ◌||◌, not, filter, is_some, map, nat_lt, position, slice_get, remove}
 use Rattle.std.specs.List.{AllByRecursion as Each}
-use Rattle.std.proofs.lemmas.List.Elements.{All-contains_itself, All-head, Contains-append_left, Contains-append_right}
+use Rattle.std.proofs.lemmas.List.Elements.{All-contains_itself, All-head, Contains-append_left, Contains-append_right, recursion_from_All}
 use Rattle.std.proofs.lemmas.List.Quantifiers.{position-Some}
 use Rattle.std.proofs.lemmas.Option.{none-some, same_Some}
 use Rattle.std.proofs.lemmas.Bool.{and_parts, eq-eqb, eqb-false, eqb-true, false≢true, ne_eqb, not-true}
@@ -16,7 +16,7 @@ use Rattle.flat_model.specs.declared.address.Addr.{Addr}
 use Rattle.flat_ether.specs.Frames.{arp_bytes, arp_of, body_of, ether_broadcast, frame, kind_of, no_mac}
 use Rattle.flat_ether.specs.Icmp.{echo_reply, port_unreachable}
 use Rattle.flat_ether.specs.Laws.{IsMade, IsRoute, IsFrameSent, arp_if, last_told, tells, told_in}
-use Rattle.flat_ether.specs.Links.{Gives, WaitingPacket, LinkState, neighbour_aged, answers_with, asked_at, asks, asks_at, by_route, claim_frame, counts_echo, counts_unreachable, drops_first, finds_bad, finds_conflict, finds_long, finds_no_place, first_ready, gives_answer, gives_claim, gives_held, gives_own, gives_reply, gives_request, has_hope, has_ip, heard, hears_arp, holds_packet, ignores, is_asked, is_conflict, is_request_due, is_rival, is_sound_arp, learns, limits, mac_known, mac_in, notes, notes_error, takes_at, takes_error, mac_of, or_then, owes, neighbour_place, put, puts_answer, ready_or, refuses, replies_to, sends, sends_answer, sends_at, sends_held, neighbour_stays, takes_place, tells_unreachable, ticks, to_hop, unknown, route_of, route_to}
+use Rattle.flat_ether.specs.Links.{Gives, WaitingPacket, LinkState, neighbour_aged, answers_with, asked_at, asks, asks_at, by_route, claim_frame, counts_echo, counts_unreachable, drops_first, finds_bad, finds_conflict, finds_long, finds_no_place, first_ready, gives_answer, gives_claim, gives_held, gives_own, gives_reply, gives_request, has_hope, has_ip, heard, hears_arp, holds_packet, ignores, is_answering, is_asked, is_conflict, is_request_due, is_rival, is_sound_arp, learns, limits, mac_known, mac_in, notes, notes_error, takes_at, takes_error, mac_of, or_then, owes, neighbour_place, put, puts_answer, ready_or, refuses, replies_to, sends, sends_answer, sends_at, sends_held, neighbour_stays, takes_place, tells_unreachable, ticks, to_hop, unknown, route_of, route_to}
 use Rattle.flat_ether.specs.Routes.{is_near, is_neighbour}
 use Rattle.flat_ether.specs.declared.answer.Answer.{Answer}
 use Rattle.flat_ether.specs.declared.answer.Answer.TheVariants.{Echo, Unreachable, Silence}
@@ -82,7 +82,7 @@ module _ (c : Config) (l : Link) (F G : List (List ℕ)) where
     pub neighbours : Each IsKnown s.neighbours
     pub distinct : AreDistinct s.neighbours
     pub held : Each IsWaiting s.held
-    pub answer : (p : List ℕ) → s.answer ≡ Some p → IsMade c F G p
+    pub answer : Each (IsMade c F G) s.answer
 
   pub record IsGiven (g : Gives) : Type 0 where
     pub good : IsGood g.1
@@ -371,9 +371,9 @@ module _ (c : Config) (l : Link) (F G : List (List ℕ)) where
           (found_ready s.neighbours s.held found good.neighbours e)
 
   answer_given : (s : LinkState) → IsGood s → IsGiven (gives_answer s)
-  answer_given s good = go s.answer refl
+  answer_given s good = go (slice_get s.answer 0) refl
     where
-      free : IsGood (record s { answer = None })
+      free : IsGood (record s { answer = drop 1 s.answer })
       free =
           record {
             config = good.config;
@@ -381,12 +381,14 @@ module _ (c : Config) (l : Link) (F G : List (List ℕ)) where
             neighbours = good.neighbours;
             distinct = good.distinct;
             held = good.held;
-            answer = λ p e. absurd (none-some p e);
+            answer = each-drop (IsMade c F G) 1 s.answer good.answer;
           }
 
-      go : (answer : Option (List ℕ)) → s.answer ≡ answer → IsGiven (sends_answer answer s)
+      go : (answer : Option (List ℕ)) → slice_get s.answer 0 ≡ answer → IsGiven (sends_answer answer s)
       go None e = nothing s good
-      go (Some packet) e = sends_given packet (record s { answer = None }) free (good.answer packet e)
+      go (Some packet) e =
+          sends_given packet (record s { answer = drop 1 s.answer }) free
+          (each-get (IsMade c F G) s.answer 0 packet good.answer e)
 
   or_given : (g : Gives) (next : LinkState → Gives) → IsGiven g → ((s : LinkState) → IsGood s → IsGiven (next s))
       → IsGiven (or_then g next)
@@ -416,7 +418,7 @@ module _ (c : Config) (l : Link) (F G : List (List ℕ)) where
     neighbours = subst (Each IsKnown) (sym n) good.neighbours;
     distinct = subst AreDistinct (sym n) good.distinct;
     held = subst (Each IsWaiting) (sym h) good.held;
-    answer = λ p e. good.answer p (sym w ∙ e);
+    answer = subst (Each (IsMade c F G)) (sym w) good.answer;
   }
 
   pub ignores_good : (s : LinkState) → IsGood s → IsGood (ignores s)
@@ -480,10 +482,13 @@ module _ (c : Config) (l : Link) (F G : List (List ℕ)) where
   pub answers_good : (f : List ℕ) (a : Answer) (s : LinkState) → IsGood s → Contains F f
       → IsGood (answers_with a (body_of f) s)
   answers_good f Silence s good came = good
-  answers_good f Echo s good came = go (is_some s.answer)
+  answers_good f Echo s good came = go (is_answering s)
     where
-      made : IsMade c F G (echo_reply s.config (body_of f))
-      made = inr (f, came, inl (ap (λ (x : Config). echo_reply x (body_of f)) good.config))
+      made : Each (IsMade c F G) (echo_reply s.config (body_of f))
+      made =
+          subst (λ (x : Config). Each (IsMade c F G) (echo_reply x (body_of f))) (sym good.config)
+          (each-weaker (λ p is. inr (f, came, inl is)) (echo_reply c (body_of f))
+          (recursion_from_All _ (echo_reply c (body_of f)) (All-contains_itself (echo_reply c (body_of f)))))
 
       go : (b : Bool) → IsGood (cond b (finds_no_place s)
           (counts_echo (puts_answer (echo_reply s.config (body_of f)) s)))
@@ -495,12 +500,16 @@ module _ (c : Config) (l : Link) (F G : List (List ℕ)) where
             neighbours = good.neighbours;
             distinct = good.distinct;
             held = good.held;
-            answer = λ p e. subst (IsMade c F G) (same_Some _ p e) made;
+            answer = made;
           }
-  answers_good f Unreachable s good came = go (is_some s.answer) (nat_lt 0 s.unreachables)
+  answers_good f Unreachable s good came = go (is_answering s) (nat_lt 0 s.unreachables)
     where
-      made : IsMade c F G (port_unreachable s.config (body_of f))
-      made = inr (f, came, inr (ap (λ (x : Config). port_unreachable x (body_of f)) good.config))
+      made : Each (IsMade c F G) (port_unreachable s.config (body_of f))
+      made =
+          subst (λ (x : Config). Each (IsMade c F G) (port_unreachable x (body_of f))) (sym good.config)
+          (each-weaker (λ p is. inr (f, came, inr is)) (port_unreachable c (body_of f))
+          (recursion_from_All _ (port_unreachable c (body_of f))
+          (All-contains_itself (port_unreachable c (body_of f)))))
 
       told : LinkState
       told =
@@ -517,7 +526,7 @@ module _ (c : Config) (l : Link) (F G : List (List ℕ)) where
             neighbours = good.neighbours;
             distinct = good.distinct;
             held = good.held;
-            answer = λ p e. subst (IsMade c F G) (same_Some _ p e) made;
+            answer = made;
           }
       inner false = same_good s _ good refl refl refl refl refl
 
@@ -559,7 +568,8 @@ module _ (c : Config) (l : Link) (F G : List (List ℕ)) (f : List ℕ) where
         subst (Each (IsWaiting c l (f ∷ F) G)) (sym h)
         (each-weaker (λ x is. record { made = later_made c F G f x.packet is.made; route = is.route }) s.held
         good.held);
-    answer = λ p e. later_made c F G f p (good.answer p (sym w ∙ e));
+    answer =
+        subst (Each (IsMade c (f ∷ F) G)) (sym w) (each-weaker (later_made c F G f) s.answer good.answer);
   }
 
   known_later : (n : Neighbour) → ((mac : Mac) → n.mac ≡ Some mac → Told n.ip ≡ last_told c l n.ip F)

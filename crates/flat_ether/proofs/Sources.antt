@@ -314,42 +314,51 @@ goes_on_sourced c old new event reply k is step =
 
 -- ---- what the machine gave to the link
 
--- the packet, if there is one
-abbrev OwnIf : Config → Option (List ℕ) → Type 0
-OwnIf c None = Unit {0}
-OwnIf c (Some packet) = IsOwn c packet
+-- of the packet, if there is one
+abbrev HoldsIf : (List ℕ → Type 0) → Option (List ℕ) → Type 0
+HoldsIf P None = Unit {0}
+HoldsIf P (Some packet) = P packet
 
-module _ (c : Config) (old new : State) (reply : Reply) (k : IsSourced c old) where
-  gives_own_packet : (output : List Item) → old.output ≡ output → Transmits output old reply new
-      → OwnIf c (given Transmit reply)
-  gives_own_packet [] e h = subst (λ (r : Reply). OwnIf c (given Transmit r)) (sym h.0) tt
-  gives_own_packet (item ∷ later) e h =
-      subst (λ (r : Reply). OwnIf c (given Transmit r)) (sym h.0)
-      (subst (λ (items : List Item). Each (λ (i : Item). IsOwn c i.bytes) items) e k.output).0
+module _ (P : List ℕ → Type 0) (old new : State) (reply : Reply) where
+  abbrev Waiting : List Item → Type 0
+  Waiting = Each (λ (item : Item). P item.bytes)
 
-  gave_own : (event : Event) → Step old event reply new → OwnIf c (given event reply)
-  gave_own Open h = tt
-  gave_own (Bind fd a) h = tt
-  gave_own (Connect fd a) h = tt
-  gave_own (Send fd to bytes) h = tt
-  gave_own (Receive fd most) h = tt
-  gave_own (Close fd) h = tt
-  gave_own (Set_option fd option on) h = tt
-  gave_own (Comes bytes) h = tt
-  gave_own Transmit h = gives_own_packet old.output refl h
-  gave_own Tick h = tt
-  gave_own Ask_counters h = tt
-  gave_own Ask_usage h = tt
+  gives_waiting : Waiting old.output → (output : List Item) → old.output ≡ output → Transmits output old reply new
+      → HoldsIf P (given Transmit reply)
+  gives_waiting k [] e h = subst (λ (r : Reply). HoldsIf P (given Transmit r)) (sym h.0) tt
+  gives_waiting k (item ∷ later) e h =
+      subst (λ (r : Reply). HoldsIf P (given Transmit r)) (sym h.0) (subst Waiting e k).0
 
-own_then : (c : Config) (o : Option (List ℕ)) (packets : List (List ℕ)) → OwnIf c o → Each (IsOwn c) packets
-    → Each (IsOwn c) (cons_option o packets)
-own_then c None packets h later = later
-own_then c (Some packet) packets h later = (h, later)
+  gave : Waiting old.output → (event : Event) → Step old event reply new → HoldsIf P (given event reply)
+  gave k Open h = tt
+  gave k (Bind fd a) h = tt
+  gave k (Connect fd a) h = tt
+  gave k (Send fd to bytes) h = tt
+  gave k (Receive fd most) h = tt
+  gave k (Close fd) h = tt
+  gave k (Set_option fd option on) h = tt
+  gave k (Comes bytes) h = tt
+  gave k Transmit h = gives_waiting k old.output refl h
+  gave k Tick h = tt
+  gave k Ask_counters h = tt
+  gave k Ask_usage h = tt
+
+holds_then : (P : List ℕ → Type 0) (o : Option (List ℕ)) (packets : List (List ℕ)) → HoldsIf P o → Each P packets
+    → Each P (cons_option o packets)
+holds_then P None packets h later = later
+holds_then P (Some packet) packets h later = (h, later)
+
+-- what holds of each packet that waits for the link holds of each that the machine gave
+pub given_each : (c : Config) (P : List ℕ → Type 0)
+    → ((s : State) → IsSourced c s → Each (λ (item : Item). P item.bytes) s.output) → (old new : State)
+    → (turns : List Turn) → IsSourced c old → Leads exact_ledger old turns new → Each P (filter_map packet_out turns)
+given_each c P holds old new [] k h = tt
+given_each c P holds old new (turn ∷ turns) k (is, mid, step, later) =
+    holds_then P (packet_out turn) (filter_map packet_out turns)
+    (gave P old mid turn.reply (holds old k) turn.event step)
+    (given_each c P holds mid new turns (goes_on_sourced c old mid turn.event turn.reply k is step) later)
 
 -- each packet that it gave has an address of its own as its source
 pub given_own : (c : Config) (old new : State) (turns : List Turn) → IsSourced c old → Leads exact_ledger old turns new
     → Each (IsOwn c) (filter_map packet_out turns)
-given_own c old new [] k h = tt
-given_own c old new (turn ∷ turns) k (is, mid, step, later) =
-    own_then c (packet_out turn) (filter_map packet_out turns) (gave_own c old mid turn.reply k turn.event step)
-    (given_own c mid new turns (goes_on_sourced c old mid turn.event turn.reply k is step) later)
+given_own c = given_each c (IsOwn c) (λ s k. k.output)

@@ -1,5 +1,5 @@
 -- What holds of whole runs of a host (this project's own).
-use Rattle.std.specs.Prelude.{◌≡◌, ◌≢◌, ◌⊎◌, ℕ, ◌<◌, ◌+◌, ◌^◌, List, [], ◌∷◌, ◌++◌, slice_index, filter_map, option_to_list, All, Contains, Option, Some, None, Bool, true, ◌==◌, ◌&&◌, if◌then◌else◌}
+use Rattle.std.specs.Prelude.{◌≡◌, ◌≢◌, ◌⊎◌, ℕ, ◌<◌, ◌≤◌, ◌+◌, ◌^◌, List, [], ◌∷◌, ◌++◌, length, slice_index, filter_map, option_to_list, All, Contains, Option, Some, None, Bool, true, ◌==◌, ◌&&◌, if◌then◌else◌}
 use Rattle.params.specs.declared.TheConstants.{PROTOCOL_UDP}
 use Rattle.flat_model.specs.Machine.Ledger.{exact_ledger}
 use Rattle.flat_model.specs.Machine.Count.{value_of}
@@ -107,12 +107,12 @@ abbrev pub last_told : Config → Link → ℕ → List (List ℕ) → Option Ma
 last_told c l ip [] = None
 last_told c l ip (f ∷ before) = told_in l ip (arp_if (kind_of c l.mac f) f) (last_told c l ip before)
 
--- the machine gave the packet, or it answers that of a frame which came before
+-- the machine gave the packet, or it's one of those that answer the packet of a frame which came before
 abbrev pub IsMade : Config → List (List ℕ) → List (List ℕ) → List ℕ → Type 0
 IsMade c frames given packet =
     Contains given packet
     ⊎ ((frame : List ℕ) × Contains frames frame
-    × ((packet ≡ echo_reply c (body_of frame)) ⊎ (packet ≡ port_unreachable c (body_of frame))))
+    × (Contains (echo_reply c (body_of frame)) packet ⊎ Contains (port_unreachable c (body_of frame)) packet))
 
 -- to all, where that is the packet's route; else to the hardware address that was last told for its next hop
 abbrev pub IsRoute : Config → Link → List (List ℕ) → List ℕ → Mac → Type 0
@@ -165,6 +165,10 @@ pub record MakesTurns (c : Config) (l : Link) (acts : List HostAct) (new : Host)
 -- the packet's source is one of the host's addresses
 abbrev pub IsOwn : Config → List ℕ → Type 0
 IsOwn c packet = is_ours c (ip_source packet) ≡ true
+
+-- a packet that the frame has is no longer than this
+abbrev pub IsWithin : ℕ → List ℕ → Type 0
+IsWithin mtu f = u16_at 12 f ≡ ETHER_TYPE_IP → length (body_of f) ≤ mtu
 
 -- the frame has a packet of UDP
 abbrev pub IsUdpFrame : List ℕ → Type 0

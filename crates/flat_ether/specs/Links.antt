@@ -34,16 +34,16 @@ pub record WaitingPacket : Type 0 where
   pub packet : List ℕ
 
 -- The machine's configuration and its link; the neighbours, the one that was put last at the end; who is owed an ARP
--- reply; the packets that wait, the oldest first; the ICMP answer that waits; the errors that nobody has asked for yet;
--- the claim to the address; how many senders may still be told before the next tick that a port is unreachable; and
--- what was counted.
+-- reply; the packets that wait, the oldest first; the packets of the ICMP answer that waits; the errors that nobody has
+-- asked for yet; the claim to the address; how many senders may still be told before the next tick that a port is
+-- unreachable; and what was counted.
 pub record LinkState : Type 0 where
   pub config : Config
   pub link : Link
   pub neighbours : List Neighbour
   pub replies : List PendingReply
   pub held : List WaitingPacket
-  pub answer : Option (List ℕ)
+  pub answer : List (List ℕ)
   pub errors : List SocketError
   pub claim : Claim
   pub unreachables : ℕ
@@ -77,7 +77,7 @@ link_up c l =
       neighbours = [];
       replies = [];
       held = [];
-      answer = None;
+      answer = [];
       errors = [];
       claim = claim_up l.probe;
       unreachables = UNREACHABLES;
@@ -312,13 +312,13 @@ sends_at (Some found) s = sends_held found.0 found.1 (slice_get s.held found.0) 
 abbrev pub gives_held : LinkState → Gives
 gives_held s = sends_at (first_ready s.neighbours s.held) s
 
--- the ICMP answer goes as each packet does, and its place is free then
+-- the next packet of the ICMP answer goes as each packet does; after the last one the answer's place is free
 abbrev pub sends_answer : Option (List ℕ) → LinkState → Gives
 sends_answer None s = (None, s)
-sends_answer (Some packet) s = sends packet (record s { answer = None })
+sends_answer (Some packet) s = sends packet (record s { answer = drop 1 s.answer })
 
 abbrev pub gives_answer : LinkState → Gives
-gives_answer s = sends_answer s.answer s
+gives_answer s = sends_answer (slice_get s.answer 0) s
 
 -- where the first has nothing, the second
 abbrev pub or_then : Gives → (LinkState → Gives) → Gives
@@ -358,9 +358,13 @@ ticks s =
 
 -- ---- ICMP
 
+-- packets of an answer wait still
+abbrev pub is_answering : LinkState → Bool
+is_answering s = is_some (slice_get s.answer 0)
+
 -- an answer gets the place, if it's free
-abbrev pub puts_answer : List ℕ → LinkState → LinkState
-puts_answer packet s = record s { answer = Some packet }
+abbrev pub puts_answer : List (List ℕ) → LinkState → LinkState
+puts_answer packets s = record s { answer = packets }
 
 abbrev pub finds_no_place : LinkState → LinkState
 finds_no_place s = record s { tallies = record s.tallies { icmp_dropped = more_by 1 s.tallies.icmp_dropped } }
@@ -385,8 +389,8 @@ tells_unreachable came s =
 abbrev pub answers_with : Answer → List ℕ → LinkState → LinkState
 answers_with Silence came s = s
 answers_with Echo came s =
-    if is_some s.answer then finds_no_place s else counts_echo (puts_answer (echo_reply s.config came) s)
-answers_with Unreachable came s = if is_some s.answer then finds_no_place s else tells_unreachable came s
+    if is_answering s then finds_no_place s else counts_echo (puts_answer (echo_reply s.config came) s)
+answers_with Unreachable came s = if is_answering s then finds_no_place s else tells_unreachable came s
 
 -- ---- errors that others tell
 

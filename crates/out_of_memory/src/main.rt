@@ -1,7 +1,8 @@
-//! What becomes of a refusal of host memory: a boot of the stack, one of a host on an Ethernet, a script of calls on
-//! sockets and one of calls on chains, each made once, and made again where memory was refused. `.ci/memory` runs it
-//! once for each of its allocations, with that one refused: the answer has to be `Memory`, with nothing read or
-//! written, and the second try has to succeed. It takes no memory of its own.
+//! What happens when host memory is refused. It boots a stack and a host on an Ethernet, lets a host join a segment,
+//! without and with a link, and runs a script of calls on sockets and one of calls on chains. Each is done again if
+//! memory was refused. The test runs the program once for each of its allocations, with that one refused: the call has
+//! to return `Memory`, with nothing read or written, and the second try has to succeed. The program allocates nothing
+//! itself, so at each line that it prints as many blocks have to be held as at the first.
 #![tactic(auto)]
 
 mod streams;
@@ -10,6 +11,7 @@ use chain_script::{Sizes, run_chains};
 use ether_host::{EtherFault, EtherHost, Link, Mac};
 use link_script::{Config, RunFault, Silent, run};
 use net_stack::{BootFault, Stack};
+use segment::{JoinFault, Segment};
 use std::alloc::Global;
 use std::io;
 use streams::{Counted, Page};
@@ -68,6 +70,23 @@ fn boots_a_host(alloc: Global) -> End {
     }
 }
 
+/// A segment is made, a host joins it, with this link if there is one, and all ends.
+fn joins(alloc: Global, link: Option<Link>) -> End {
+    let Ok(mut segment) = Segment::new(alloc, 4) else {
+        return End::Refused;
+    };
+    let joined = match link {
+        Some(link) => segment.join_ether(alloc, MACHINE, link),
+        None => segment.join(alloc, MACHINE),
+    };
+    segment.end();
+    match joined {
+        Ok(()) => End::Done,
+        Err(JoinFault::Unbooted(BootFault::Memory)) => End::Refused,
+        Err(_) => End::Wrong,
+    }
+}
+
 /// Says how a run ended, of which these are the outcome and the streams.
 fn end_of(outcome: Result<(), RunFault>, reader: &Counted, writer: &Page, want: &[u8]) -> End {
     match outcome {
@@ -97,6 +116,8 @@ fn runs_chains(alloc: Global) -> End {
 enum Call {
     Boot,
     BootHost,
+    Join,
+    JoinEther,
     Run,
     RunChains,
 }
@@ -106,6 +127,8 @@ impl Call {
         match self {
             Call::Boot => boots(alloc),
             Call::BootHost => boots_a_host(alloc),
+            Call::Join => joins(alloc, None),
+            Call::JoinEther => joins(alloc, Some(LINK)),
             Call::Run => runs(alloc),
             Call::RunChains => runs_chains(alloc),
         }
@@ -126,8 +149,11 @@ impl Call {
 
 fn main(rt: HostRuntime) -> io::Result<()> {
     let alloc = rt.alloc();
+    println!(rt; "nothing is asked for yet")?;
     println!(rt; "Stack::boot {}", Call::Boot.report(alloc))?;
     println!(rt; "EtherHost::boot {}", Call::BootHost.report(alloc))?;
+    println!(rt; "Segment::join {}", Call::Join.report(alloc))?;
+    println!(rt; "Segment::join_ether {}", Call::JoinEther.report(alloc))?;
     println!(rt; "run {}", Call::Run.report(alloc))?;
     println!(rt; "run_chains {}", Call::RunChains.report(alloc))?;
     Ok(())

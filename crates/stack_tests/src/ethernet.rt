@@ -5,9 +5,9 @@ mod steps;
 use ether_host::{AddressState, EtherFault, EtherHost, Link, Mac, NetFault, Tallies};
 use flat_model::{Addr, Config};
 use frames::{
-    ANNOUNCEMENT, ASKED, BY_GATEWAY, FROM_ALL, FROM_GROUP, FROM_LOOPBACK, FROM_NOBODY, PING,
-    PING_TO_ALL, POLL, PONG, PORT_9, PROBE, REFUSED, REPLY, REPLY_TO_RIVAL, REQUEST, RIVAL,
-    RIVAL_PROBE, SENT, TO_LOOPBACK, TOLD,
+    ANNOUNCEMENT, ASKED, BY_GATEWAY, FROM_ALL, FROM_GROUP, FROM_LOOPBACK, FROM_NOBODY, LONG_PING,
+    LONG_PONG_1, LONG_PONG_2, LONG_PONG_3, PING, PING_TO_ALL, POLL, PONG, PORT_9, PROBE, REFUSED,
+    REPLY, REPLY_TO_RIVAL, REQUEST, RIVAL, RIVAL_PROBE, SENT, TO_LOOPBACK, TOLD,
 };
 use std::alloc::Global;
 use steps::Step::{
@@ -25,6 +25,9 @@ const CONFIG: Config = Config {
     clusters: 16,
     first_id: 1,
 };
+
+/// The same host with the smallest MTU.
+const NARROW: Config = Config { mtu: 68, ..CONFIG };
 
 /// Its link, with the gateway 10.0.0.2.
 const LINK: Link = Link {
@@ -95,6 +98,26 @@ static ANSWERS: [Step; 16] = [
     Transmit(ANNOUNCEMENT),
     Step::Unreachables(1),
     Nothing,
+];
+
+/// An echo reply that is longer than the MTU goes out in fragments. Until the last one has gone, no other request is
+/// answered.
+static CUT: [Step; 11] = [
+    Transmit(ANNOUNCEMENT),
+    Frame(ASKED),
+    Transmit(REPLY),
+    Frame(LONG_PING),
+    Transmit(LONG_PONG_1),
+    Frame(PING),
+    Transmit(LONG_PONG_2),
+    Transmit(LONG_PONG_3),
+    Frame(PING),
+    Transmit(PONG),
+    Counted(Tallies {
+        echoes: 2,
+        icmp_dropped: 1,
+        ..NONE
+    }),
 ];
 
 /// A datagram waits for the hardware address of its next hop, and one behind the gateway for that of the gateway.
@@ -256,6 +279,7 @@ static FRONTS: [Step; 5] = [
 #[test]
 fn answers_and_asks(rt: HostRuntime) {
     play(&rt, rt.alloc(), CONFIG, LINK, &ANSWERS);
+    play(&rt, rt.alloc(), NARROW, LINK, &CUT);
     play(&rt, rt.alloc(), CONFIG, LINK, &HOLDS);
     play(&rt, rt.alloc(), CONFIG, LINK, &GIVES_UP);
     play(&rt, rt.alloc(), CONFIG, LINK, &POLLS);
