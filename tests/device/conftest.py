@@ -23,7 +23,6 @@ DEVICE, LINUX = "10.0.0.1", "10.0.0.2"
 COAP, TFTP = 5683, 69
 CLONE_NEWNET = 0x40000000
 MEBIBYTE = 1 << 20
-LOSS = 0.05
 MACHINE = ["qemu-system-arm", "-M", "mps2-an385", "-display", "none", "-monitor", "none", "-serial", "stdio"]
 
 
@@ -73,10 +72,10 @@ class Device:
             return self.said.read().decode()
 
     @contextlib.contextmanager
-    def lossy(self, seed: int) -> Iterator[None]:
-        """One frame in twenty is lost, in either direction."""
+    def lossy(self, seed: int, share: float = 0.05) -> Iterator[None]:
+        """This share of the frames is lost, in either direction."""
         rng = random.Random(seed)
-        self.relay.loses = lambda frame: rng.random() < LOSS
+        self.relay.loses = lambda frame: rng.random() < share
         try:
             yield
         finally:

@@ -80,18 +80,6 @@ def test_clients_at_once(device, tmp_path, size):
     read_back(tmp_path, data)
 
 
-@pytest.mark.parametrize("running", [HASTY, BOARD], indirect=True)
-@pytest.mark.parametrize("size, length", [(1428, 1 << 20), (8192, 1 << 18)])
-def test_over_a_wire_that_loses(device, tmp_path, size, length):
-    """1 MB both ways on the TAP device; the board takes less, and its tick is 25 times as long."""
-    data = device.flash[: min(device.most, length)]
-    (tmp_path / "data").write_bytes(data)
-    with device.lossy(size):
-        run(*curl("--tftp-blksize", size, "-T", tmp_path / "data", url("ram")))
-        run(*curl("--tftp-blksize", size, "-o", tmp_path / "back", url("ram")))
-    assert (tmp_path / "back").read_bytes() == data
-
-
 # ---- a client of this file
 
 
@@ -170,6 +158,44 @@ def peer(device, client):
     for it in peers:
         with contextlib.suppress(OSError):
             it.give_up()
+
+
+def written(it, data, size):
+    """Writes bytes to "ram", and repeats what isn't acknowledged within 30 ms."""
+    it.socket.settimeout(0.03)
+    sent, wanted = request(WRQ, "ram", blksize=size), (OACK, {b"blksize": str(size).encode()})
+    for number in range(1, len(data) // size + 3):
+        for _ in range(50):
+            it.send(sent)
+            with contextlib.suppress(TimeoutError):
+                while it.came()[:2] != wanted:
+                    pass
+                break
+        else:
+            raise AssertionError(f"no {wanted}")
+        sent, wanted = word(DATA) + word(number) + data[size * (number - 1) : size * number], (ACK, number)
+
+
+@pytest.mark.parametrize("size, length, share", [(1428, 1 << 20, 0.05), (8192, 1 << 18, 0.02)])
+@pytest.mark.parametrize("running", [HASTY], indirect=True)
+def test_over_a_wire_that_loses(device, peer, tmp_path, size, length, share):
+    """1 MB is read by curl. It's written by the client of this file: curl waits for 5 seconds, in which a server whose
+    ticks are so short gives up."""
+    with device.lossy(size, share):
+        run(*curl("--tftp-blksize", size, "-o", tmp_path / "came", url("flash")))
+        written(peer(), device.flash[:length], size)
+    assert (tmp_path / "came").read_bytes() == device.flash
+    read_back(tmp_path, device.flash[:length])
+
+
+@pytest.mark.parametrize("size", [512, 1428])
+@pytest.mark.parametrize("running", [BOARD], indirect=True)
+def test_board_over_a_wire_that_loses(device, tmp_path, size):
+    """By curl, as much as the board takes, and back."""
+    (tmp_path / "data").write_bytes(device.flash[: device.most])
+    with device.lossy(size):
+        run(*curl("--tftp-blksize", size, "-T", tmp_path / "data", url("ram")))
+    read_back(tmp_path, device.flash[: device.most])
 
 
 def stranger(peer, port):
@@ -366,6 +392,16 @@ def test_last_block_that_comes_again_is_acknowledged_again(device, peer):
     assert peer().ask(RRQ, "ram", blksize=1024, tsize=0) == (OACK, {b"blksize": b"1024", b"tsize": b"513"})
     assert it.drained() == []
     assert peer().ask(RRQ, "ram") == (DATA, 1, b"a" * 512)
+
+
+def test_finished_transfers_keep_no_place(device, peer):
+    """More clients than places write a file, and each finds a place at once."""
+    for number in range(6):
+        it = peer()
+        assert it.ask(WRQ, "ram") == (ACK, 0, b"")
+        it.send(word(DATA) + word(1) + b"%d" % number)
+        assert it.came() == (ACK, 1, b"")
+    assert peer().ask(RRQ, "ram") == (DATA, 1, b"5")
 
 
 def test_request_that_comes_again_begins_nothing(device, peer):
