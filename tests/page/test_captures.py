@@ -178,7 +178,7 @@ def random_packets(rng):
 
 def told_by_why(objects):
     """Of each record the cause of a drop, or nothing, and whether it was delivered."""
-    return {it["number"]: (it["cause"], "delivered" in it["became"]) for it in objects if "number" in it}
+    return {it["number"]: (it["cause"], "delivered" in it["became"]) for it in objects if "became" in it}
 
 
 def told_by_page(script):
@@ -194,12 +194,23 @@ def told_by_page(script):
     return told
 
 
-@pytest.mark.parametrize("seed", range(30))
-def test_the_page_says_what_why_says(seed, bsdplay, opened, tmp_path):
-    data = capture(*random_packets(random.Random(seed)))
-    (tmp_path / "b.pcap").write_bytes(data)
-    done = subprocess.run([bsdplay, "why", "--json", tmp_path / "b.pcap"], capture_output=True, text=True, check=False)
-    script = opened(data)
+SEEDS = range(30)
+
+
+@pytest.fixture(scope="module")
+def stories(plays_captures, tmp_path_factory):
+    """Random captures by their seeds, each with what the page makes of it. One process plays all of them."""
+    files = [tmp_path_factory.mktemp("stories") / f"{seed}.pcap" for seed in SEEDS]
+    for seed, file in zip(SEEDS, files):
+        file.write_bytes(capture(*random_packets(random.Random(seed))))
+    return list(zip(files, plays_captures(*files)))
+
+
+@pytest.mark.xdist_group("stories")
+@pytest.mark.parametrize("seed", SEEDS)
+def test_the_page_says_what_why_says(seed, bsdplay, stories):
+    file, script = stories[seed]
+    done = subprocess.run([bsdplay, "why", "--json", file], capture_output=True, text=True, check=False)
     if done.returncode:
         assert script["fault"] in done.stderr
         return
