@@ -27,11 +27,9 @@ class Build(NamedTuple):
     scripts: int = 200
 
 
-TESTED = Build([CC], ["-O1"], SANITIZED, scripts=2000)
-UNTESTED = Build([CC], ["-O0", "-DBSDUDP_TESTS=0"], SANITIZED)
 BUILDS = {
-    "tested": (TESTED, ["asan"]),
-    "untested": (UNTESTED, ["asan"]),
+    "tested": (Build([CC], ["-O1"], SANITIZED, scripts=2000), ["asan"]),
+    "untested": (Build([CC], ["-O0", "-DBSDUDP_TESTS=0"], SANITIZED), ["asan"]),
     "clang": (Build(["clang"], ["-O1"], SANITIZED), ["clang"]),
     "m32": (Build([CC, "-m32"], ["-O1"]), ["cc -m32"]),
     "s390x": (
@@ -41,13 +39,17 @@ BUILDS = {
 
 
 @pytest.fixture
-def builds(portable_c, compiled):
-    """builds(BUILD, NAME, compiler's words ..) is how a program over the file is run."""
+def builds(portable_c, compiled, once):
+    """builds(NAME OF A BUILD, NAME, compiler's words ..) is how a program over the file is run. A compiler takes half a
+    minute for the file, so each build has one object of it."""
 
-    def build(how, name, *sources):
+    def build(of, name, *sources):
+        how, _ = BUILDS[of]
         words = [*how.compiler, *C99, f"-I{portable_c.parent}", *how.of_both]
-        unit = compiled(f"{name}.o", *words, *how.of_file, "-c", portable_c)
-        return [*how.runs_by, compiled(name, *words, *sources, unit)]
+        folder = once(
+            f"portable-{of}", lambda room: made(*words, *how.of_file, "-c", portable_c, "-o", room / "portable.o")
+        )
+        return [*how.runs_by, compiled(name, *words, *sources, folder / "portable.o")]
 
     return build
 
@@ -93,11 +95,11 @@ def test_shows_what_the_header_has(symbols):
 
 @pytest.mark.needs("asan")
 @pytest.mark.parametrize(
-    "name, how", [("calls", TESTED), ("ether", TESTED), ("wire", TESTED), ("calls", UNTESTED), ("ether", UNTESTED)],
-    ids=["calls", "ether", "wire", "calls untested", "ether untested"],
-)  # fmt: skip
-def test_calls(name, how, builds, runs):
-    runs(*builds(how, name, PROGRAMS[name]))
+    "of, name",
+    [("tested", "calls"), ("tested", "ether"), ("tested", "wire"), ("untested", "calls"), ("untested", "ether")],
+)
+def test_calls(of, name, builds, runs):
+    runs(*builds(of, name, PROGRAMS[name]))
 
 
 @pytest.mark.needs("asan")
@@ -107,8 +109,6 @@ def test_accesses(portable_c, compiled, runs):
     runs(compiled("access", CC, *words))
 
 
-@pytest.mark.parametrize(
-    "how", [pytest.param(it, id=name, marks=pytest.mark.needs(*needs)) for name, (it, needs) in BUILDS.items()]
-)
-def test_scripts(how, builds, plays):
-    plays(builds(how, "driver", "-O1", *DRIVER), how.scripts)
+@pytest.mark.parametrize("of", [pytest.param(it, marks=pytest.mark.needs(*BUILDS[it][1])) for it in BUILDS])
+def test_scripts(of, builds, plays):
+    plays(builds(of, "driver", "-O1", *DRIVER), BUILDS[of][0].scripts)
