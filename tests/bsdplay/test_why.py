@@ -207,7 +207,8 @@ def made(once):
 def judged(program, path, *words, piped=b""):
     """What `bsdplay why` says of each record, by its number, and the status."""
     ended = run(program, "why", path, "--json", *words, script=piped)
-    return {it["number"]: it for it in map(json.loads, ended.stdout.splitlines())}, ended.returncode
+    rows = map(json.loads, ended.stdout.splitlines())
+    return {it["number"]: it for it in rows if "number" in it}, ended.returncode
 
 
 def by_tshark(path):

@@ -77,7 +77,27 @@ fn is_wanted(range: Option<Range>, number: u64) -> bool {
     }
 }
 
-/// Lets the packet of a record come, and prints what became of it, if the record is for the machine and wanted.
+/// Prints what is told of the datagrams that were dropped unfinished, if one of their records is wanted.
+fn put_lost<W: Write>(choice: Choice, judge: &mut Judge, out: &mut W) -> Result<(), End> {
+    for _ in 0..u64::MAX {
+        match judge.tell_lost() {
+            Ok(Some(_)) => {}
+            Ok(None) => break,
+            Err(_) => return Err(End::Memory),
+        }
+        let mut wanted = false;
+        for number in judge.records() {
+            wanted = wanted || is_wanted(choice.range, *number);
+        }
+        if wanted {
+            put(out, judge.text())?;
+        }
+    }
+    Ok(())
+}
+
+/// Lets the packet of a record come, and prints what became of it, if the record is for the machine and wanted. Printed
+/// too are the datagrams that were dropped unfinished since the record before.
 fn tell_packet<W: Write>(
     choice: Choice,
     judge: &mut Judge,
@@ -91,13 +111,17 @@ fn tell_packet<W: Write>(
         others.elsewhere = others.elsewhere.saturating_add(1);
         return Ok(());
     }
+    if judge.pass(arrival.time).is_err() {
+        return Err(End::Memory);
+    }
+    put_lost(choice, judge, out)?;
     if judge.tell(arrival).is_err() {
         return Err(End::Memory);
     }
     if is_wanted(choice.range, arrival.number) {
         put(out, judge.text())?;
     }
-    Ok(())
+    put_lost(choice, judge, out)
 }
 
 /// When records came, from the first one on. A record without a time came with the one before it.
@@ -162,15 +186,20 @@ pub(crate) fn tell_records<S: Source, W: Write>(
     Ok(others)
 }
 
-/// Prints what came of all packets: a table of the causes, and what's unfinished.
-pub(crate) fn tell_totals<W: Write>(judge: &mut Judge, out: &mut W) -> Result<(), End> {
-    judge.tell_totals();
-    put(out, judge.text())?;
+/// Prints the datagrams that are unfinished at the end.
+pub(crate) fn tell_unfinished<W: Write>(judge: &mut Judge, out: &mut W) -> Result<(), End> {
     for i in 0..u32::MAX {
-        if !judge.tell_unfinished(i) {
-            break;
+        match judge.tell_unfinished(i) {
+            Ok(true) => put(out, judge.text())?,
+            Ok(false) => break,
+            Err(_) => return Err(End::Memory),
         }
-        put(out, judge.text())?;
     }
     Ok(())
+}
+
+/// Prints what came of all packets, as a table of the causes.
+pub(crate) fn tell_totals<W: Write>(judge: &mut Judge, out: &mut W) -> Result<(), End> {
+    judge.tell_totals();
+    put(out, judge.text())
 }

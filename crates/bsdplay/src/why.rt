@@ -1,7 +1,7 @@
 //! Why the packets of a capture were dropped: the subcommand, its options, and the capture that it opens.
 use crate::from_pcap::{BAD, report};
 use crate::options::{WHY_OPTIONS, with_options};
-use crate::records::{End, Others, busiest_of, tell_records, tell_totals};
+use crate::records::{End, Others, busiest_of, tell_records, tell_totals, tell_unfinished};
 use crate::{UNREAD, USAGE};
 use capture::{Fault, Records, Why};
 use clap::{Arg, ArgAction, ArgMatches, Command};
@@ -133,12 +133,13 @@ fn judge_records<S: Source>(
     };
     let mut out = rt.stdout();
     let told = tell_records(records, choice, &mut judge, &mut out);
-    let done = match choice.layout {
+    let totals = match choice.layout {
         Layout::Lines => tell_totals(&mut judge, &mut out),
         Layout::Objects => Ok(()),
     };
+    let left = tell_unfinished(&mut judge, &mut out);
     judge.end();
-    if done.is_err() {
+    if totals.is_err() || left.is_err() {
         return Ok(UNREAD);
     }
     match told {

@@ -1,5 +1,5 @@
 -- What the judge of a capture's records does with its machine, and what it prints (this project's own).
-use Rattle.std.specs.Prelude.{◌≡◌, ℕ, ◌+◌, ◌-◌, ◌/◌, ◌*◌, ◌==◌, ◌||◌, Bool, List, [], ◌∷◌, ◌++◌, length, nat_lt, codes, decimal, if◌then◌else◌, max, min, not, Option, replicate}
+use Rattle.std.specs.Prelude.{◌≡◌, ℕ, ◌+◌, ◌-◌, ◌/◌, ◌*◌, ◌==◌, ◌||◌, Bool, List, [], ◌∷◌, ◌++◌, length, nat_lt, codes, decimal, if◌then◌else◌, max, min, not, take, Option, Some, None, replicate}
 use Rattle.params.specs.declared.TheConstants.{IP_HEADER, LIMITED_BROADCAST, LOOPBACK, MAX_CLUSTERS, MAX_MBUFS}
 use Rattle.flat_model.specs.Machine.Count.{more_by}
 use Rattle.flat_model.specs.Machine.Event.{Event, Reply, Comes, Done, Tick}
@@ -11,7 +11,15 @@ use Rattle.net_stack.specs.Stack.{state_of}
 use Rattle.sock_calls.specs.Questions.{readable}
 use Rattle.stack_call.specs.Moves.{StackSteps}
 use Rattle.play_text.specs.Fates.{is_kept}
+use Rattle.play_text.specs.Fates.{fate_of}
+use Rattle.flat_model.specs.Amounts.Choice.{Choice}
+use Rattle.ip_reass.specs.Questions.{nth_unfinished}
+use Rattle.ip_reass.specs.declared.questions.UnfinishedDatagram.{UnfinishedDatagram}
 use Rattle.play_why.specs.Fates.{record_text}
+use Rattle.play_why.specs.Kept.{AreNone, Expires, Gathers, GathersOf, Reclaims, Remembers, TakesLost}
+use Rattle.play_why.specs.declared.parts.Loss.{Loss}
+use Rattle.play_why.specs.declared.parts.Lost.{Lost}
+use Rattle.play_why.specs.declared.parts.Parts.{Parts}
 use Rattle.play_why.specs.Sockets.{BindsIf, Drains, IsUnbound, wanted_port}
 use Rattle.play_why.specs.Verdicts.{judged, none_dropped}
 use Rattle.play_why.specs.declared.layout.Layout.{Layout}
@@ -73,6 +81,7 @@ pub record IsNew (form : Layout) (ours : ℕ) (only : Option ℕ) (judge : Judge
   pub address : judge.host.address ≡ ours
   pub broadcast : judge.broadcast ≡ broadcast_of ours
   pub ports : IsUnbound only judge.ports
+  pub parts : AreNone judge.parts
   pub text : judge.text ≡ []
   pub verdicts : judge.verdicts ≡ none_dropped
   pub totals : judge.totals ≡ none_came
@@ -86,39 +95,90 @@ is_for judge p =
     || (u32_at 16 p == judge.host.address || (u32_at 16 p == judge.broadcast || u32_at 16 p == LIMITED_BROADCAST))
 
 -- one packet more, which was delivered, kept as a fragment, or dropped
-abbrev pub totals_after : State → Counters → Counters → Totals → Totals
-totals_after here a b t =
-    if not (readable here == 0) then record t { packets = more_by 1 t.packets; delivered = more_by 1 t.delivered }
-    else if is_kept a b then record t { packets = more_by 1 t.packets; kept = more_by 1 t.kept }
+abbrev pub counted_as : Bool → Bool → Totals → Totals
+counted_as delivered kept t =
+    if delivered then record t { packets = more_by 1 t.packets; delivered = more_by 1 t.delivered }
+    else if kept then record t { packets = more_by 1 t.packets; kept = more_by 1 t.kept }
     else record t { packets = more_by 1 t.packets; dropped = more_by 1 t.dropped }
+
+abbrev pub totals_after : State → Counters → Counters → Totals → Totals
+totals_after here a b t = counted_as (not (readable here == 0)) (is_kept a b) t
 
 -- ---- a record
 
--- what the judge knows of this record
-pub record IsOf (r : Arrival) (seen : Seen) : Type 0 where
+-- what the judge knows of this record, and of the other fragments of its datagram
+pub record IsOf (r : Arrival) (parts : Parts) (seen : Seen) : Type 0 where
   pub number : seen.number ≡ r.number
   pub time : seen.time ≡ r.time
   pub original : seen.original ≡ r.original
   pub captured : seen.captured ≡ r.captured
   pub packet : seen.packet.now ≡ r.packet.now
+  pub earlier : seen.earlier.now ≡ take 64 parts.numbers.items
+  pub more : seen.more ≡ length parts.numbers.items - 64
 
--- A record was judged. The ticks passed that were due at its time, and the port that it wants was bound; then its
--- packet came. What is printed of it is what became of it in this one step, and the verdicts count it. Then each socket
--- was read.
+-- The ticks passed that were due at a time. If datagrams were dropped by that, their fragments are lost.
+pub record HasPassed (old : Judge) (time : ℕ) (new : Judge) : Type 0 where
+  pub ticks : Led IsTick (replicate (ticks_to time old.ticks) Tick) (state_of old.host.stack) (state_of new.host.stack)
+  pub passed : new.ticks ≡ max old.ticks (ticks_due time)
+  pub parts : Expires (state_of old.host.stack).counters (state_of new.host.stack).counters (state_of new.host.stack)
+      old.parts new.parts
+  pub text : new.text ≡ old.text
+  pub ports : new.ports ≡ old.ports
+  pub verdicts : new.verdicts ≡ old.verdicts
+  pub totals : new.totals ≡ old.totals
+  pub layout : new.layout ≡ old.layout
+  pub address : new.host.address ≡ old.host.address
+  pub broadcast : new.broadcast ≡ old.broadcast
+
+-- A record was judged. The records of the other fragments of its datagram were gathered, and the port that it wants was
+-- bound; then its packet came. What is printed of it is what became of it in this one step, and the verdicts count it.
+-- Then each socket was read. If buffers were taken back, the fragments of other datagrams are lost; its own is kept if
+-- the stack keeps it, and those of its datagram are forgotten if that is whole.
 pub record IsJudged (old : Judge) (r : Arrival) (new : Judge) : Type 0 where
-  pub ticked : State
+  pub gathered : Parts
+  pub spared : Parts
   pub ready : State
   pub here : State
   pub seen : Seen
-  pub is : IsOf r seen
-  pub ticks : Led IsTick (replicate (ticks_to r.time old.ticks) Tick) (state_of old.host.stack) ticked
-  pub opens : BindsIf old.ports (wanted_port old.ports r.packet.now) new.ports ticked ready
+  pub gathers : Gathers r.packet.now old.parts gathered
+  pub is : IsOf r gathered seen
+  pub opens : BindsIf old.ports (wanted_port old.ports r.packet.now) new.ports (state_of old.host.stack) ready
   pub comes : StackSteps ready (Comes r.packet.now) Done here
   pub takes : Drains new.ports.bound.items here (state_of new.host.stack)
   pub tells : new.text ≡ record_text old.layout seen ready.counters here.counters here old.host.address
   pub counts : new.verdicts ≡ judged seen ready.counters here.counters old.verdicts
   pub totals : new.totals ≡ totals_after here ready.counters here.counters old.totals
-  pub passed : new.ticks ≡ max old.ticks (ticks_due r.time)
+  pub reclaims : Reclaims r.packet.now ready.counters here.counters gathered spared
+  pub remembers : Remembers (fate_of ready.counters here.counters) r.number r.packet.now spared new.parts
+  pub ticks : new.ticks ≡ old.ticks
   pub layout : new.layout ≡ old.layout
   pub address : new.host.address ≡ old.host.address
   pub broadcast : new.broadcast ≡ old.broadcast
+
+-- ---- datagrams that aren't whole
+
+-- the first one is told that was dropped and wasn't told yet, with the records of its fragments
+abbrev pub ReportsLostOf : Option Loss → Option Lost → Type 0
+ReportsLostOf None None = Unit {0}
+ReportsLostOf (Some why) (Some first) = first.why ≡ why
+ReportsLostOf _ _ = ⊥
+
+pub record ReportsLost (why : Option Loss) (old new : Judge) : Type 0 where
+  pub first : Option Lost
+  pub takes : TakesLost first old.parts new.parts
+  pub says : ReportsLostOf why first
+  pub machine : new.host ≡ old.host
+
+-- the unfinished datagram at a place is told, with the records of its fragments
+pub record TellsAt (i : ℕ) (old new : Judge) : Type 0 where
+  pub datagram : UnfinishedDatagram
+  pub is : nth_unfinished i (state_of old.host.stack).unfinished ≡ Some datagram
+  pub gathers : GathersOf datagram.key old.parts new.parts
+  pub machine : new.host ≡ old.host
+
+pub record TellsNoneAt (i : ℕ) (old new : Judge) : Type 0 where
+  pub none : nth_unfinished i (state_of old.host.stack).unfinished ≡ None
+  pub same : new ≡ old
+
+abbrev pub ReportsUnfinished : Bool → ℕ → Judge → Judge → Type 0
+ReportsUnfinished there i old new = Choice there (TellsAt i old new) (TellsNoneAt i old new)

@@ -16,7 +16,7 @@ rule_words TooShort = codes "a packet has as many bytes as its total length says
 rule_words CantForward =
     codes "a host accepts its own address and broadcasts, and forwards nothing (RFC 1122, section 3.2.1.3)"
 rule_words BadFragment =
-    codes "all fragments but the last carry a multiple of 8 bytes, and none ends past 65535 (RFC 791, 3.2)"
+    codes "no fragment is empty or ends past byte 65514, and all but the last carry a multiple of 8 bytes (RFC 791)"
 rule_words FragmentDropped = codes "a fragment brings bytes that aren't held yet (TCP/IP Illustrated 2, chapter 10)"
 rule_words NoProtocol = codes "this stack delivers UDP alone, protocol 17"
 rule_words UdpHeaderDrops = codes "a UDP header has 8 bytes (RFC 768)"
@@ -25,5 +25,5 @@ rule_words UdpBadSum =
     codes "the words of pseudo header and datagram add up to 0xffff, unless the checksum is 0 (RFC 768)"
 rule_words UdpNoPort = codes "a socket is bound to the destination port (TCP/IP Illustrated 2, chapter 23)"
 rule_words UdpNoPortBroadcast = codes "a socket is bound to the destination port (TCP/IP Illustrated 2, chapter 23)"
-rule_words UdpFullSocket = codes "a receive queue takes 41600 bytes, 16 for each sender's address among them"
+rule_words UdpFullSocket = codes "an empty receive queue takes 41584 bytes: 41600, less 16 for the sender's address"
 rule_words NoBufs = codes "the pool has mbufs and clusters for the packet"

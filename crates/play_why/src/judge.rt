@@ -2,26 +2,25 @@
 ghost use Rattle.std.specs.Prelude.{◌≡◌, ◌≤◌, IfOk, MatchResult, None, length, replicate};
 ghost use Rattle.params.specs.declared.TheConstants.{IP_MAX_PACKET};
 ghost use Rattle.flat_model.specs.Machine.Event.{Tick};
-ghost use Rattle.flat_model.specs.Amounts.Choice.{Choice};
-ghost use Rattle.ip_reass.specs.Questions.{nth_unfinished};
 ghost use Rattle.net_stack.specs.Boots.{IsUnbooted};
 ghost use Rattle.net_stack.specs.Stack.{state_of};
 ghost use Rattle.play_why.specs.Fates.{IsSeen};
 ghost use Rattle.play_why.specs.Judged as judged;
-ghost use Rattle.play_why.specs.Judged.{IsJudged, IsNew, IsOf, IsTick, Led};
-ghost use Rattle.play_why.specs.Lacks.{IsLacking};
+ghost use Rattle.play_text.specs.Fates.{fate_of};
+ghost use Rattle.play_why.specs.Judged.{HasPassed, IsJudged, IsNew, IsOf, IsTick, Led, ReportsLost, ReportsUnfinished};
+ghost use Rattle.play_why.specs.Kept.{Remembers};
 
 use crate::FATE;
 use crate::arrive::{counted, tell_record};
 use crate::host::Host;
-use crate::lacks::put_lacks;
+use crate::lacks::{End, put_unfinished};
 use crate::layout::Layout;
-use crate::parts::Parts;
+use crate::parts::{Loss, Parts};
 use crate::ports::Ports;
 use crate::rooms::Rooms;
 use crate::seen::Seen;
 use crate::sums::u32_at;
-use crate::table::Verdicts;
+use crate::table::{Losses, Verdicts};
 use flat_model::{Config, Counters};
 use net_stack::{BootFault, Stack};
 use params::{IP_HEADER, LIMITED_BROADCAST, LOOPBACK, MAX_CLUSTERS, MAX_MBUFS};
@@ -70,6 +69,7 @@ pub struct Judge {
     text: Buffer<FATE>,
     verdicts: Verdicts,
     totals: Totals,
+    losses: Losses,
     /// How many ticks have passed.
     ticks: u64,
 }
@@ -113,7 +113,7 @@ fn tick_all(machine: &mut Stack, count: u64)
 fn seen_by<'a>(parts: &'a Parts, arrival: &Arrival<'_>, packet: &'a [u8]) -> Seen<'a>
     requires same { packet.now ≡ arrival.now.packet.now }
     requires short { length packet.now ≤ IP_MAX_PACKET }
-    ensures is { IsOf arrival.now result }
+    ensures is { IsOf arrival.now parts.now result }
     ensures sizes { IsSeen result }
 {
     Seen {
@@ -135,7 +135,10 @@ fn remember(
     packet: &[u8],
     before: &Counters,
     after: &Counters,
-) -> Result<(), AllocError> {
+) -> Result<(), AllocError>
+    ensures { IfOk result
+        (λ u. Remembers (fate_of before.now after.now) number packet.now parts.old parts.new) }
+{
     match fate_of(before, after) {
         Fate::Whole => parts.forget(packet),
         Fate::Kept => parts.keep(number, packet)?,
@@ -145,20 +148,27 @@ fn remember(
 }
 
 impl Totals {
-    /// After one packet more. `here` is the machine after it.
-    fn after(self, here: &Stack, before: &Counters, after: &Counters) -> Totals
-        ensures { result ≡ judged.totals_after (state_of here.now) before.now after.now self }
+    /// With one packet more, which was delivered, kept as a fragment, or else dropped.
+    fn counted(self, is_delivered: bool, kept_as_fragment: bool) -> Totals
+        ensures { result ≡ judged.counted_as is_delivered kept_as_fragment self }
     {
         let mut totals = self;
         totals.packets = self.packets.saturating_add(1);
-        if here.readable() != 0 {
+        if is_delivered {
             totals.delivered = self.delivered.saturating_add(1);
-        } else if is_kept(before, after) {
+        } else if kept_as_fragment {
             totals.kept = self.kept.saturating_add(1);
         } else {
             totals.dropped = self.dropped.saturating_add(1);
         }
         totals
+    }
+
+    /// After one packet more. `here` is the machine after it.
+    fn after(self, here: &Stack, before: &Counters, after: &Counters) -> Totals
+        ensures { result ≡ judged.totals_after (state_of here.now) before.now after.now self }
+    {
+        self.counted(here.readable() != 0, is_kept(before, after))
     }
 
     /// Puts the line of all packets after the text.
@@ -223,6 +233,7 @@ impl Judge {
                 kept: 0,
                 dropped: 0,
             },
+            losses: Losses::none(),
             ticks: 0,
         })
     }
@@ -239,6 +250,7 @@ impl Judge {
             text: _text,
             verdicts: _verdicts,
             totals: _totals,
+            losses: _losses,
             ticks: _ticks,
         } = self;
         let Host {
@@ -261,19 +273,29 @@ impl Judge {
             || (destination == self.broadcast || destination == LIMITED_BROADCAST)
     }
 
-    /// Lets a record's packet come at its time. What's told of it is then answered by `text`. Refused if the host has
-    /// no memory for a fragment; it has come then.
+    /// Lets time pass, in nanoseconds since the first record: a tick each half second. `tell_lost` reports the
+    /// datagrams that expired. Refused if the host has no memory for their records.
+    pub fn pass(&mut self, time: u64) -> Result<(), AllocError>
+        ensures { IfOk result (λ done. HasPassed self.old time self.new) }
+    {
+        let due = time / TICK;
+        let count = due.saturating_sub(self.ticks).min(MOST_TICKS);
+        let passed = self.ticks.max(due);
+        let before = counted(&self.host.stack);
+        tick_all(&mut self.host.stack, count);
+        let after = counted(&self.host.stack);
+        self.ticks = passed;
+        self.parts.expire(&self.host.stack, &before, &after)
+    }
+
+    /// Lets a record's packet come. What's told of it is then answered by `text`; `tell_lost` reports the datagrams
+    /// that were dropped for their buffers. Refused if the host has no memory for a fragment; it has come then.
     pub fn tell(&mut self, arrival: &Arrival<'_>) -> Result<(), AllocError>
         requires { length arrival.now.packet.now ≤ IP_MAX_PACKET }
         ensures { IfOk result (λ done. IsJudged self.old arrival.now self.new) }
     {
         let packet = arrival.packet;
-        let due = arrival.time / TICK;
-        let count = due.saturating_sub(self.ticks).min(MOST_TICKS);
-        let passed = self.ticks.max(due);
-        tick_all(&mut self.host.stack, count);
-        self.ticks = passed;
-        self.parts.gather(&self.host.stack, packet);
+        self.parts.gather(packet)?;
         self.ports.open_for(&mut self.host.stack, packet)?;
         let seen = seen_by(&self.parts, arrival, packet);
         let before = counted(&self.host.stack);
@@ -290,6 +312,7 @@ impl Judge {
         self.totals = totals;
         self.ports
             .drain(&mut self.host.stack, self.rooms.packet.as_mut_slice());
+        self.parts.reclaim(packet, &before, &after)?;
         remember(&mut self.parts, arrival.number, packet, &before, &after)?;
         Ok(())
     }
@@ -309,20 +332,55 @@ impl Judge {
         self.text.clear();
         self.totals.put(self.host.address, &mut self.text);
         self.verdicts.put(&mut self.text);
+        self.losses.put(&mut self.text);
     }
 
-    /// Reports on the unfinished datagram at a place, in a line with the bytes that lack, which `text` answers then.
-    /// Whether there is one; if not, nothing changes.
-    pub fn tell_unfinished(&mut self, i: u32) -> bool
-        ensures lacks { Choice result (IsLacking i (state_of self.old.host.stack) self.new.text)
-            ((nth_unfinished i (state_of self.old.host.stack).unfinished ≡ None) × (self.new.text ≡ self.old.text)) }
-        ensures rest { self.new ≡ record (self.old) { text = self.new.text } }
+    /// Reports on the first datagram that was dropped unfinished and that wasn't reported yet: why, and the records of
+    /// its fragments, which `records` and `text` answer then. `None` if there is none. Refused if the host has no
+    /// memory for the records.
+    pub fn tell_lost(&mut self) -> Result<Option<Loss>, AllocError>
+        ensures { IfOk result (λ why. ReportsLost why self.old self.new) }
+    {
+        let Some(lost) = self.parts.take_lost()? else {
+            return Ok(None);
+        };
+        let numbers = self.parts.records();
+        let datagram = (lost.key, End::Lost(lost.why));
+        put_unfinished(
+            &mut self.text,
+            self.layout,
+            &self.host.stack,
+            datagram,
+            numbers,
+        );
+        self.losses.note(lost.why, numbers);
+        Ok(Some(lost.why))
+    }
+
+    /// Reports on the unfinished datagram at a place: the bytes that lack, and the records of its fragments, which
+    /// `records` and `text` answer then. Whether there is one; if not, nothing changes. Refused if the host has no
+    /// memory for the records.
+    pub fn tell_unfinished(&mut self, i: u32) -> Result<bool, AllocError>
+        ensures { IfOk result (λ there. ReportsUnfinished there i self.old self.new) }
     {
         let Some(datagram) = self.host.stack.unfinished(i) else {
-            return false;
+            return Ok(false);
         };
-        let first = self.parts.first_of(datagram.key);
-        put_lacks(&mut self.text, &self.host.stack, datagram, i, first);
-        true
+        self.parts.gather_of(datagram.key)?;
+        put_unfinished(
+            &mut self.text,
+            self.layout,
+            &self.host.stack,
+            (datagram.key, End::Left(i)),
+            self.parts.records(),
+        );
+        Ok(true)
+    }
+
+    /// The records of the datagram that was reported last.
+    pub fn records(&self) -> &[u64]
+        ensures { result.now ≡ self.now.parts.numbers.items }
+    {
+        self.parts.records()
     }
 }

@@ -1,130 +1,146 @@
-//! The unfinished datagrams, with what lacks.
-ghost use Rattle.std.specs.Prelude.{◌≡◌, ◌+◌, ◌*◌, ◌≤◌, ◌++◌, length};
-ghost use Rattle.ip_reass.specs.Questions.{nth_range};
-ghost use Rattle.net_stack.specs.Stack.{state_of};
-ghost use Rattle.play_why.specs.Lacks as texts;
-
+//! The unfinished datagrams in words: what they lack, or why they were dropped, and the records of their fragments. No
+//! contract says which the words are.
 use crate::FATE;
-use net_stack::{HeldRange, Stack, UnfinishedDatagram};
-use play_text::Piece::{Long, Number, Text, Way};
-use play_text::{put, put_if};
+use crate::layout::Layout;
+use crate::parts::Loss;
+use flat_model::FragmentKey;
+use net_stack::Stack;
+use play_text::Piece::{Either, Long, Number, Text, Way};
+use play_text::add;
 use script_loop::Buffer;
 
 /// So many ranges of a datagram are looked at.
 const MOST_RANGES: u32 = 32;
 
-/// Where some ranges of a datagram end, and whether more bytes come after them.
-#[derive(Clone, Copy)]
-struct Reached {
-    end: u64,
-    more: bool,
+/// So many records of a datagram are named in a line.
+const MOST_NAMED: usize = 64;
+
+/// What happened to a datagram that didn't become whole.
+#[derive(Clone, Copy, Debug, PartialEq, Eq)]
+pub(crate) enum End {
+    /// It was dropped.
+    Lost(Loss),
+    /// At the end of the capture the host still waits for the bytes that lack. It's the one at this place.
+    Left(u32),
 }
 
-/// Puts after the text what a datagram goes by.
-fn put_datagram(text: &mut Buffer<FATE>, datagram: UnfinishedDatagram)
-    requires { length text.old + 120 ≤ FATE }
-    ensures items { text.new ≡ text.old ++ texts.lacking_head datagram }
-    ensures len { length text.new ≤ length text.old + 120 }
-{
-    let key = datagram.key;
-    put(
-        text,
-        &[
-            Text(b"    unfinished: datagram "),
-            Number(u32::from(key.id)),
-            Text(b" of "),
-            Way(key.protocol, key.source, key.destination),
-            Text(b" lacks"),
-        ],
-    );
-}
-
-/// Puts the bytes after the text that lack in front of a range, if some do.
-fn put_gap(text: &mut Buffer<FATE>, end: u64, range: HeldRange)
-    requires { length text.old + 60 ≤ FATE }
-    ensures items { text.new ≡ text.old ++ texts.lacking_gap end range }
-    ensures len { length text.new ≤ length text.old + 60 }
-{
-    let last = range.offset.saturating_sub(1);
-    put_if(
-        text,
-        end < u64::from(range.offset),
-        &[
-            Text(b" bytes "),
-            Long(end),
-            Text(b" to "),
-            Number(last),
-            Text(b","),
-        ],
-    );
-}
-
-/// Puts the bytes after the text that lack in front of the range at a place, if there is one. Answers what is reached
-/// with it.
-fn put_gap_at(text: &mut Buffer<FATE>, machine: &Stack, i: u32, k: u32, before: Reached) -> Reached
-    requires { length text.old + 60 ≤ FATE }
-    ensures items { text.new
-        ≡ text.old ++ texts.lacking_gap_if before.end (nth_range i k (state_of machine.now).unfinished) }
-    ensures reached { result ≡ texts.reaches before (nth_range i k (state_of machine.now).unfinished) }
-    ensures len { length text.new ≤ length text.old + 60 }
-{
-    match machine.unfinished_range(i, k) {
-        Some(range) => {
-            put_gap(text, before.end, range);
-            Reached {
-                end: u64::from(range.offset) + u64::from(range.len),
-                more: range.more,
+/// Puts the bytes after the text that lack in the datagram at a place: those in front of each range, and those behind
+/// them all.
+fn add_lacks(text: &mut Buffer<FATE>, machine: &Stack, i: u32) {
+    let mut end = 0;
+    let mut more = true;
+    add(text, &[Text(b" lacks")]);
+    for k in 0..MOST_RANGES {
+        if let Some(range) = machine.unfinished_range(i, k) {
+            if end < u64::from(range.offset) {
+                let last = range.offset.saturating_sub(1);
+                add(
+                    text,
+                    &[Text(b" bytes "), Long(end), Text(b" to "), Number(last)],
+                );
+                add(text, &[Text(b",")]);
             }
+            end = u64::from(range.offset) + u64::from(range.len);
+            more = range.more;
         }
-        None => before,
+    }
+    if more {
+        add(text, &[Text(b" all from byte "), Long(end), Text(b" on,")]);
     }
 }
 
-/// Puts the bytes after the text that lack between the ranges of the datagram at a place. Answers where the last range
-/// ends, and whether more bytes come after it.
-fn put_gaps(text: &mut Buffer<FATE>, machine: &Stack, i: u32) -> Reached
-    requires { length text.old + 1920 ≤ FATE }
-    ensures items { text.new ≡ text.old ++ texts.gaps_below MOST_RANGES i (state_of machine.now) }
-    ensures reached { result ≡ texts.reached MOST_RANGES i (state_of machine.now) }
-    ensures len { length text.new ≤ length text.old + 1920 }
-{
-    let mut reached = Reached { end: 0, more: true };
-    'pieces: for k in 0..MOST_RANGES {
-        reached = put_gap_at(text, machine, i, k, reached);
-    }
-    reached
-}
-
-/// Puts the first record after the text that has a part of a datagram, if one is known.
-fn put_first(text: &mut Buffer<FATE>, first: Option<u64>)
-    requires { length text.old + 60 ≤ FATE }
-    ensures items { text.new ≡ text.old ++ texts.first_text first }
-    ensures len { length text.new ≤ length text.old + 60 }
-{
-    if let Some(number) = first {
-        put(text, &[Text(b" first fragment in record "), Long(number)]);
+/// Puts after the text what happened to a datagram.
+fn add_end(text: &mut Buffer<FATE>, machine: &Stack, end: End) {
+    match end {
+        End::Lost(Loss::Expired) => add(text, &[Text(b" expired after 30 seconds,")]),
+        End::Lost(Loss::Reclaimed) => add(text, &[Text(b" was dropped for its buffers,")]),
+        End::Left(i) => add_lacks(text, machine, i),
     }
 }
 
-/// Puts a line into a buffer for the unfinished datagram at a place: what it goes by, which bytes lack, and the first
-/// record that has a part of it.
-pub(crate) fn put_lacks(
-    text: &mut Buffer<FATE>,
-    machine: &Stack,
-    datagram: UnfinishedDatagram,
-    i: u32,
-    first: Option<u64>,
-)
-    ensures { text.new ≡ texts.lacking_text datagram i (state_of machine.now) first }
-{
-    text.clear();
-    put_datagram(text, datagram);
-    let reached = put_gaps(text, machine, i);
-    put_if(
+/// Puts the records of fragments after the text, of the first 64.
+fn add_records(text: &mut Buffer<FATE>, numbers: &[u64]) {
+    add(
         text,
-        reached.more,
-        &[Text(b" all from byte "), Long(reached.end), Text(b" on,")],
+        &[Either(numbers.len() == 1, b" with record", b" with records")],
     );
-    put_first(text, first);
-    text.append(b"\n");
+    for (place, number) in numbers.iter().enumerate() {
+        if place < MOST_NAMED {
+            let front = Either(place == 0, b" ", b", ");
+            add(text, &[front, Long(*number)]);
+        }
+    }
+    let rest = numbers.len().saturating_sub(MOST_NAMED);
+    if rest != 0 {
+        add(text, &[Text(b" and "), Long(rest as u64), Text(b" more")]);
+    }
+}
+
+/// The word for what happened to a datagram in an object of JSON.
+fn word_for(end: End) -> &'static [u8] {
+    match end {
+        End::Lost(Loss::Expired) => b"expired",
+        End::Lost(Loss::Reclaimed) => b"reclaimed",
+        End::Left(_) => b"unfinished",
+    }
+}
+
+/// Puts the protocol, the addresses and the identification of a datagram after the text.
+fn add_key(text: &mut Buffer<FATE>, key: FragmentKey) {
+    add(
+        text,
+        &[
+            Way(key.protocol, key.source, key.destination),
+            Text(b", id "),
+            Number(u32::from(key.id)),
+        ],
+    );
+}
+
+/// Puts an object into a buffer for a datagram that didn't become whole.
+fn put_object(text: &mut Buffer<FATE>, key: FragmentKey, end: End, numbers: &[u64]) {
+    add(text, &[Text(b"{\"datagram\":\"")]);
+    add_key(text, key);
+    add(
+        text,
+        &[
+            Text(b"\",\"fate\":\""),
+            Text(word_for(end)),
+            Text(b"\",\"records\":["),
+        ],
+    );
+    for (place, number) in numbers.iter().enumerate() {
+        add(text, &[Either(place == 0, b"", b","), Long(*number)]);
+    }
+    add(text, &[Text(b"]}\n")]);
+}
+
+/// Puts a line or an object into a buffer for a datagram that didn't become whole: what it goes by, what happened to
+/// it, and the records that have fragments of it.
+pub(crate) fn put_unfinished(
+    text: &mut Buffer<FATE>,
+    layout: Layout,
+    machine: &Stack,
+    datagram: (FragmentKey, End),
+    numbers: &[u64],
+) {
+    let (key, end) = datagram;
+    text.clear();
+    match layout {
+        Layout::Lines => {
+            add(
+                text,
+                &[
+                    Text(b"    unfinished: datagram "),
+                    Number(u32::from(key.id)),
+                    Text(b" of "),
+                    Way(key.protocol, key.source, key.destination),
+                ],
+            );
+            add_end(text, machine, end);
+            add_records(text, numbers);
+            add(text, &[Text(b"\n")]);
+        }
+        Layout::Objects => put_object(text, key, end, numbers),
+    }
 }

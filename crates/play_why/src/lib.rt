@@ -18,6 +18,7 @@ mod seen;
 mod sums;
 mod table;
 mod values;
+mod whole;
 mod words;
 
 pub use addresses::{Addresses, Busiest};
@@ -28,6 +29,7 @@ pub use fate::MOST_RECORDS;
 pub use host::Host;
 pub use judge::{Arrival, Judge};
 pub use layout::Layout;
+pub use parts::Loss;
 pub use ports::MOST_PORTS;
 pub use rooms::Rooms;
 pub use seen::Seen;

@@ -6,6 +6,7 @@ ghost use Rattle.play_why.specs.Verdicts as verdicts;
 
 use crate::FATE;
 use crate::blame::{Blame, blame_of};
+use crate::parts::Loss;
 use crate::seen::Seen;
 use flat_model::{Counters, Why};
 use play_text::{CAUSES, Count, Row, Table, add_count, add_table, causes, rose};
@@ -119,6 +120,52 @@ impl Verdicts {
             text,
             self.card,
             b"checksum left to the sender's card: no fault on the wire",
+        );
+    }
+}
+
+/// How many fragments were kept, and dropped later.
+#[derive(Clone, Copy)]
+pub(crate) struct Losses {
+    expired: Count,
+    reclaimed: Count,
+}
+
+impl Losses {
+    /// None was.
+    pub(crate) fn none() -> Losses {
+        Losses {
+            expired: Count::never(),
+            reclaimed: Count::never(),
+        }
+    }
+
+    /// Those with these records were.
+    pub(crate) fn note(&mut self, why: Loss, numbers: &[u64]) {
+        let mut count = match why {
+            Loss::Expired => self.expired,
+            Loss::Reclaimed => self.reclaimed,
+        };
+        for number in numbers {
+            count = count.once_more(*number);
+        }
+        match why {
+            Loss::Expired => self.expired = count,
+            Loss::Reclaimed => self.reclaimed = count,
+        }
+    }
+
+    /// Puts a line after the text for each reason for which some were.
+    pub(crate) fn put(&self, text: &mut Buffer<FATE>) {
+        add_count(
+            text,
+            self.expired,
+            b"kept fragment of a datagram that expired after 30 seconds",
+        );
+        add_count(
+            text,
+            self.reclaimed,
+            b"kept fragment of a datagram that was dropped for its buffers",
         );
     }
 }

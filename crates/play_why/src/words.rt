@@ -23,7 +23,7 @@ pub(crate) fn rule_for(why: Why) -> &'static str
         Why::CantForward =>
             "a host accepts its own address and broadcasts, and forwards nothing (RFC 1122, section 3.2.1.3)",
         Why::BadFragment =>
-            "all fragments but the last carry a multiple of 8 bytes, and none ends past 65535 (RFC 791, 3.2)",
+            "no fragment is empty or ends past byte 65514, and all but the last carry a multiple of 8 bytes (RFC 791)",
         Why::FragmentDropped =>
             "a fragment brings bytes that aren't held yet (TCP/IP Illustrated 2, chapter 10)",
         Why::NoProtocol => "this stack delivers UDP alone, protocol 17",
@@ -35,7 +35,7 @@ pub(crate) fn rule_for(why: Why) -> &'static str
         Why::UdpNoPort | Why::UdpNoPortBroadcast =>
             "a socket is bound to the destination port (TCP/IP Illustrated 2, chapter 23)",
         Why::UdpFullSocket =>
-            "a receive queue takes 41600 bytes, 16 for each sender's address among them",
+            "an empty receive queue takes 41584 bytes: 41600, less 16 for the sender's address",
         Why::NoBufs => "the pool has mbufs and clusters for the packet",
     }
 }
