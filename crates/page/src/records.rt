@@ -3,8 +3,8 @@ ghost use Rattle.std.specs.Prelude.{◌≡◌, ◌⊎◌, ◌+◌, ◌≤◌, �
 ghost use Rattle.page.specs.Recorded.{HasNoWords, IsCaptureText, IsCaptureUnread, ReadsAll, Recorded, record_head, ipv4_of, record_told, nanoseconds_text};
 
 use crate::handed::{hand_over, number_of};
-use capture::pcap::ipv4_packet;
-use capture::{Fault, LinkType, ROOM, Record, Records};
+use capture::pcap::{LinkType, ipv4_packet};
+use capture::{Fault, ROOM, Record, Records};
 use link_script::RunFault;
 use script_loop::Buffer;
 use std::alloc::{AllocError, Global};

@@ -3,7 +3,8 @@
 //! numbers, times and lengths of them.
 use crate::captures::COOKED;
 use crate::pcapng_blocks::{BIG, MERGED};
-use capture::{Fault, LinkType, ROOM, Records, Why};
+use capture::pcap::LinkType;
+use capture::{Fault, ROOM, Records, Why};
 use script_loop::Buffer;
 use std::alloc::{AllocError, Global};
 
