@@ -13,8 +13,6 @@ from tests.docs.commands import SESSIONS, is_of_rt, of_documents
 from tests.docs.pages import TOP, Fault, none_of, read
 
 SECONDS = 600
-# Kit 13f has these, and is newer than the kit that README names.
-OF_OTHER_KITS = {"--anew"}
 
 
 def played(session, room, programs):
@@ -100,13 +98,23 @@ def test_rt_knows_its_words():
             faults.append(Fault(it.place, f"`{it.text}`: there is no folder {place}"))
         if words[0] not in names | {"--help"}:
             faults.append(Fault(it.place, f"`{it.text}`: rt --help has no command {words[0]}"))
-        unknown = {word for word in words[1:] if word.startswith("--") and word not in about} - OF_OTHER_KITS
+        unknown = {word for word in words[1:] if word.startswith("--") and word not in about}
         faults += [Fault(it.place, f"`{it.text}`: rt --help has no option {one}") for one in sorted(unknown)]
     none_of(faults)
 
 
+def age(kit):
+    """A number and letters, so that older kits are less: 13b, 13f, 14."""
+    number, letters = re.fullmatch(r"rattle-kit-(\d+)([a-z]*)", kit).groups()
+    return int(number), len(letters), letters
+
+
 @pytest.mark.needs("rt")
-def test_readme_names_the_kit():
-    kit = subprocess.run(["rt", "version"], capture_output=True, text=True, check=True).stdout.strip()
-    wanted = re.search(r"`rt version` prints `([^`]+)`", read("README.md"))[1]
-    assert kit.startswith(f"{wanted} ") and f"`{kit}`" in read("README.md"), f"README.md names another kit than {kit}"
+@pytest.mark.parametrize("page", ["README.md", "docs/proved.md"])
+def test_page_names_the_kit(page):
+    """The logic that a page names is that of the kit on the path, and no kit that it names is newer than that one."""
+    version = subprocess.run(["rt", "version"], capture_output=True, text=True, check=True).stdout.strip()
+    kit, logic = version.split(" ", 1)
+    named = set(re.findall(r"rattle-kit-\w+", read(page)))
+    assert set(re.findall(r"logic [0-9a-f]{16}", read(page))) == {logic}, f"{page} names another logic than {version}"
+    assert named and all(age(it) <= age(kit) for it in named), f"{page} names {named}, and `rt version` says {version}"
