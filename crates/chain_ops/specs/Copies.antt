@@ -4,7 +4,8 @@ use Rattle.params.specs.declared.TheConstants.{MBUF_HEADER}
 use Rattle.mbuf_chain.specs.Chain.{Entry}
 use Rattle.chain_ops.specs.Rooms.{room_low}
 
--- a copy of n of an entry's bytes, after the first `skip`: on the same cluster, or from place `room` on in a plain mbuf
+-- a copy of n bytes of an entry after its first `skip`: it shares the cluster, or its bytes start at place `room` of a
+-- plain mbuf
 abbrev pub copied_entry : ℕ → Entry → ℕ → ℕ → Entry
 copied_entry room e skip n =
     record {
@@ -13,25 +14,25 @@ copied_entry room e skip n =
       cluster = e.cluster;
     }
 
--- copies of all entries; the first one has its plain bytes from `room` on
+-- copies of all entries; the plain bytes of the first one start at `room`
 abbrev pub copied_all : ℕ → List Entry → List Entry
 copied_all room [] = []
 copied_all room (e ∷ es) = copied_entry room e 0 (length e.bytes) ∷ copied_all MBUF_HEADER es
 
--- copies of the entries that hold `len` bytes, the first `skip` of the first entry not among them
+-- copies of the entries that hold `len` bytes, without the first `skip` bytes of the first entry
 abbrev pub copied_from : ℕ → List Entry → ℕ → ℕ → List Entry
 copied_from room [] skip len = []
 copied_from room (e ∷ es) skip len =
     if len == 0 then [] else copied_entry room e skip (min len (length e.bytes - skip))
     ∷ copied_from MBUF_HEADER es 0 (len - (length e.bytes - skip))
 
--- where a byte lies in a list of entries: what stands there from its entry on, and how many bytes of that entry are in
--- front of it
+-- the position of a byte in a list of entries: the entries from its own entry on, and how many bytes of that entry
+-- precede it
 pub record Position : Type 0 where
   pub entries : List Entry
   pub skip : ℕ
 
--- the position of the byte at `off`: entries that end at it or in front of it are passed, and none is passed for 0
+-- the position of the byte at `off`: entries that end at or before it are passed; for 0 none is passed
 abbrev pub position_of : List Entry → ℕ → Position
 position_of [] off = record { entries = []; skip = off }
 position_of (e ∷ es) off =
@@ -42,6 +43,6 @@ position_of (e ∷ es) off =
 abbrev pub copied : Bool → List Entry → ℕ → ℕ → List Entry
 copied header es off len = copied_from (room_low header) (position_of es off).entries (position_of es off).skip len
 
--- whether the copy has a packet header: that of a range has one where it begins at 0
+-- whether the copy has a packet header: the copy of a range has one if the range begins at 0
 abbrev pub copy_header : Bool → ℕ → Bool
 copy_header header off = header && (off == 0)

@@ -3,14 +3,14 @@ use Rattle.std.specs.Prelude.{nat_lt, if◌then◌else◌, List, [], ◌∷◌, 
 use Rattle.mbuf_chain.specs.Chain.{Entry, trailing_space}
 use Rattle.mbuf_chain.specs.Steps.{with_back}
 
--- an entry, and those that stand after it: as long as the next one is shorter than the room after its bytes, that one
--- is moved into it
+-- an entry, and the entries that follow it: while the next one is shorter than the trailing space, its bytes move into
+-- the entry
 abbrev pub filled_up : Entry → List Entry → List Entry
 filled_up e [] = e ∷ []
 filled_up e (f ∷ fs) =
     if nat_lt (length f.bytes) (trailing_space e) then filled_up (with_back e f.bytes) fs else e ∷ f ∷ fs
 
--- the entries of two chains joined: the last one of the first chain is filled up by those of the second
+-- the entries of two chains joined: entries of the second chain fill up the last entry of the first
 abbrev pub cat : List Entry → List Entry → List Entry
 cat [] fs = fs
 cat (e ∷ []) fs = filled_up e fs

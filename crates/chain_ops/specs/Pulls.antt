@@ -8,8 +8,8 @@ use Rattle.chain_ops.specs.declared.pullup.Refusal.TheVariants.{TooLong, TooShor
 use Rattle.chain_ops.specs.Makes.{LacksMbufs}
 use Rattle.chain_ops.specs.Rooms.{room_low}
 
--- an entry, and those that stand after it: the next n bytes are moved into it. An entry that is emptied goes, and so
--- does one without bytes that is passed
+-- an entry, and the entries that follow it: the next n bytes move into it. An entry that becomes empty is dropped, and
+-- so is an entry without bytes that is passed
 abbrev pub moved : ℕ → Entry → List Entry → List Entry
 moved n e [] = e ∷ []
 moved n e (f ∷ fs) =
@@ -19,7 +19,7 @@ moved n e (f ∷ fs) =
     then moved (n - length f.bytes) (with_back e f.bytes) fs
     else with_back e (take n f.bytes) ∷ narrowed f n (length f.bytes - n) ∷ fs
 
--- whether n bytes have room in a first entry: it's plain, and they end in its mbuf
+-- whether n bytes fit into a first entry: it's plain, and they end within its mbuf
 abbrev pub has_room : Entry → ℕ → Bool
 has_room e n = not (is_some e.cluster) && nat_le (e.start + n) MSIZE
 
@@ -42,7 +42,7 @@ pulled_front v n = if has_room (entry_of v 0) n then v.front else alone v.front.
 abbrev pub pull_need : ChainView → ℕ → ℕ
 pull_need v n = if has_room (entry_of v 0) n then 0 else 1
 
--- what it is refused for: the first that fits
+-- why the call fails: the first reason that applies
 abbrev pub IsPullRefused : PoolView → ChainView → ℕ → Refusal → Type 0
 IsPullRefused p v n TooLong = MHLEN < n
 IsPullRefused p v n TooShort = (n ≤ MHLEN) × (length (string v) < n)

@@ -6,7 +6,7 @@ use Rattle.mbuf_chain.specs.Steps.{narrowed, empty_entry}
 use Rattle.chain_ops.specs.Copies.{copied_entry}
 use Rattle.chain_ops.specs.Rooms.{room_low, end_entry}
 
--- what a new chain begins with that has the bytes of an entry from `off` on: with or without packet header
+-- the first entries of a new chain that has the bytes of an entry from `off` on: with or without packet header
 abbrev pub rest_of : Bool → Entry → ℕ → List Entry
 rest_of header e off =
     if length e.bytes - off == 0
@@ -19,7 +19,8 @@ rest_of header e off =
     else empty_entry (room_low true) None ∷ copied_entry MBUF_HEADER e off (length e.bytes - off) ∷ [])
     else copied_entry MBUF_HEADER e off (length e.bytes - off) ∷ []
 
--- the entries in front of the cut, and those after it: the first entry that is as long as the offset left is cut
+-- the entries before the cut, and those after it: the cut is in the first entry that is at least as long as the
+-- remaining offset
 abbrev pub split_front : List Entry → ℕ → List Entry
 split_front [] off = []
 split_front (e ∷ es) off =

@@ -11,13 +11,13 @@ use Rattle.chain_ops.specs.Rooms.{room_low, at_end}
 use Rattle.chain_ops.specs.declared.store.Space.{Space}
 use Rattle.chain_ops.specs.declared.store.Space.TheVariants.{InMbuf, InCluster, InMore}
 
--- clusters of the pool to which nothing refers, each once
+-- free clusters of the pool (nothing refers to them), each listed once
 pub record AreFree (p : PoolView) (cs : List ℕ) : Type 0 where
   pub exist : AllByRecursion (λ c. c < p.clusters) cs
   pub free : AllByRecursion (λ c. references p c ≡ 0) cs
   pub once : (c : ℕ) → times_among c cs ≤ 1
 
--- the bytes in mbufs of these rooms, after a first one
+-- the bytes in the mbufs of these rooms that follow a first one
 abbrev pub stored : List ℕ → List Room → List ℕ → List Entry
 stored cs [] xs = []
 stored cs (Plain n ∷ rooms) xs =
@@ -30,7 +30,7 @@ stored (c ∷ cs) (Cluster n ∷ rooms) xs =
 abbrev pub first_start : Bool → ℕ → ℕ
 first_start ends n = if ends then at_end true n else room_low true
 
--- the bytes in mbufs of these rooms; in a first cluster they begin at `large`
+-- the bytes in the mbufs of these rooms; in a first cluster they begin at `large`
 abbrev pub stored_first : ℕ → Bool → List ℕ → List Room → List ℕ → List Entry
 stored_first large ends cs [] xs = []
 stored_first large ends cs (Plain n ∷ rooms) xs =
@@ -39,12 +39,12 @@ stored_first large ends [] (Cluster n ∷ rooms) xs = []
 stored_first large ends (c ∷ cs) (Cluster n ∷ rooms) xs =
     record { bytes = take n xs; start = large; cluster = Some c } ∷ stored cs rooms (drop n xs)
 
--- the rooms for n bytes, of which a first cluster begins at `large`: `user` with 56, CLUSTER_LEADING_SPACE, and `wire`
--- with 0
+-- the rooms for n bytes, if bytes in a first cluster begin at `large`: 56 (CLUSTER_LEADING_SPACE) for `user`, 0 for
+-- `wire`
 abbrev pub rooms_for : ℕ → ℕ → List Room
 rooms_for large n = or_empty (filled n (MCLBYTES - large) MHLEN n)
 
--- where n bytes go, if a first cluster takes them from its byte `large` on
+-- where n bytes are stored, if bytes in a first cluster begin at `large`
 abbrev pub IsLaidIn : ℕ → ℕ → Space → Type 0
 IsLaidIn large n InMbuf = (n ≤ MHLEN) × (rooms_for large n ≡ Plain n ∷ [])
 IsLaidIn large n InCluster = (MINCLSIZE ≤ n) × (n ≤ MCLBYTES - large) × (rooms_for large n ≡ Cluster n ∷ [])
@@ -57,7 +57,7 @@ Lacks p rooms = LacksMbufs p (length rooms) ⊎ (free_clusters p < count_by is_c
 abbrev pub Has : PoolView → List Room → Type 0
 Has p rooms = HasMbufs p (length rooms) × (count_by is_cluster rooms ≤ free_clusters p)
 
--- the cluster that a new mbuf takes, where it takes one
+-- the cluster that a new mbuf takes, if it takes one
 abbrev pub IsClusterTaken : PoolView → Bool → Option ℕ → Type 0
 IsClusterTaken p true None = ⊥
 IsClusterTaken p true (Some c) = (c < p.clusters) × (references p c ≡ 0)

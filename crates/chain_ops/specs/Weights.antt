@@ -1,4 +1,4 @@
--- A chain's mbufs in the words of the flat machine (this project's own).
+-- A chain's mbufs in the terms of the flat machine (this project's own).
 use Rattle.std.specs.Prelude.{◌+◌, ◌<◌, ◌≤◌, List, length, map, is_some, if◌then◌else◌}
 use Rattle.std.specs.List.{AllByRecursion}
 use Rattle.params.specs.declared.TheConstants.{MBUF_HEADER}
@@ -13,7 +13,7 @@ laid_entries es = map (λ (e : Entry). record { size = length e.bytes; cluster =
 abbrev pub HaveBytes : List Entry → Type 0
 HaveBytes es = AllByRecursion (λ (e : Entry). 0 < length e.bytes) es
 
--- the bytes of an entry lie in the room of its mbuf or cluster
+-- the bytes of an entry are within its mbuf or cluster
 pub record IsEntryFit (e : Entry) : Type 0 where
   pub low : (if is_some e.cluster then 0 else MBUF_HEADER) ≤ e.start
   pub high : e.start + length e.bytes ≤ room_end e

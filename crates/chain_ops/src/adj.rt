@@ -1,11 +1,11 @@
-//! Bytes taken off an end of a chain.
+//! Bytes removed from an end of a chain.
 ghost use Rattle.std.specs.Prelude.{◌≡◌, ◌≤◌, length};
 ghost use Rattle.mbuf_chain.specs.Chain.{IsLive, chain_of, string, with_chain};
 ghost use Rattle.chain_ops.specs.Trims.{without_first, only_first, adjusted, adjusted_bytes};
 
 use mbuf_chain::{Chain, Pool};
 
-/// Takes the first `n` bytes off a chain, mbuf by mbuf: see `trim_front`.
+/// Removes the first `n` bytes of a chain, mbuf by mbuf: see `trim_front`.
 fn trim_walk(pool: &mut Pool, chain: &Chain, n: u32)
     requires { IsLive pool.old chain.now }
     ensures { pool.new ≡ with_chain pool.old chain.now (record (chain_of pool.old chain.now) {
@@ -26,9 +26,10 @@ fn trim_walk(pool: &mut Pool, chain: &Chain, n: u32)
     }
 }
 
-/// Takes the first `n` bytes off a chain, or all where it has fewer: the half of `m_adj` that works at the front
-/// (TCP/IP Illustrated, volume 2, chapter 2), as a call of this project's own.
-// A header mostly lies in the first mbuf, which is narrowed without a walk; inlined, since its length is known then.
+/// Removes the first `n` bytes of a chain, or all if it has fewer. This call of the project's own is the half of
+/// `m_adj` that works at the front (TCP/IP Illustrated, volume 2, chapter 2).
+// A header is usually within the first mbuf, which is narrowed without a walk. Inlined, because its length is known
+// then.
 #[inline(always)]
 pub fn trim_front(pool: &mut Pool, chain: &Chain, n: u32)
     requires { IsLive pool.old chain.now }
@@ -45,7 +46,7 @@ pub fn trim_front(pool: &mut Pool, chain: &Chain, n: u32)
     }
 }
 
-/// Leaves the first `keep` bytes of a chain, mbuf by mbuf: see `trim_back`.
+/// Keeps the first `keep` bytes of a chain, mbuf by mbuf: see `trim_back`.
 fn keep_walk(pool: &mut Pool, chain: &Chain, keep: u32)
     requires { IsLive pool.old chain.now }
     ensures { pool.new ≡ with_chain pool.old chain.now (record (chain_of pool.old chain.now) {
@@ -66,9 +67,10 @@ fn keep_walk(pool: &mut Pool, chain: &Chain, keep: u32)
     }
 }
 
-/// Leaves the first `keep` bytes of a chain, or all where it has fewer: the half of `m_adj` that works at the end
-/// (TCP/IP Illustrated, volume 2, chapter 2), as a call of this project's own, which is told what stays.
-// Mostly nothing goes, and then no mbuf is looked at but the first, which has the packet length.
+/// Keeps the first `keep` bytes of a chain, or all if it has fewer. This call of the project's own is the half of
+/// `m_adj` that works at the end (TCP/IP Illustrated, volume 2, chapter 2); its argument is the number of bytes that
+/// stay.
+// Usually nothing is removed. Then only the first mbuf is read, since it has the packet length.
 #[inline(always)]
 pub fn trim_back(pool: &mut Pool, chain: &Chain, keep: u32)
     requires { IsLive pool.old chain.now }
@@ -81,11 +83,11 @@ pub fn trim_back(pool: &mut Pool, chain: &Chain, keep: u32)
     }
 }
 
-/// Takes the first `n` bytes off a chain, or where `n` is below 0 the last ones; all where it has fewer. No
-/// mbuf is freed: one that loses bytes at its front begins that much later, also where all go. It takes one step
-/// for each mbuf in front of the bytes that stay, or for each of the chain where bytes go after (TCP/IP
+/// Removes the first `n` bytes of a chain, or the last `-n` if `n` is below 0; all bytes if the chain has fewer. No
+/// mbuf is freed: one that loses bytes at its front then begins that much later, even if it loses all. Takes one step
+/// for each mbuf before the bytes that stay, or one for each mbuf of the chain if bytes are removed at the end (TCP/IP
 /// Illustrated, volume 2, chapter 2).
-// Inlined, since a caller knows the sign.
+// Inlined, because the caller knows the sign.
 #[inline(always)]
 pub fn m_adj(pool: &mut Pool, chain: &Chain, n: i32)
     requires { IsLive pool.old chain.now }

@@ -6,7 +6,7 @@ ghost use Rattle.chain_ops.specs.Joins.{cat};
 
 use mbuf_chain::{Chain, Place, Pool};
 
-/// Frees the first mbuf of a chain. The answer is the chain of the others, if there are any.
+/// Frees the first mbuf of a chain. Returns the chain of the other mbufs, if there are any.
 pub(crate) fn drop_first(pool: &mut Pool, chain: Chain) -> Option<Chain>
     requires { IsLive pool.old chain }
     ensures { MatchOption result
@@ -22,7 +22,7 @@ pub(crate) fn drop_first(pool: &mut Pool, chain: Chain) -> Option<Chain>
     Some(pool.free_first(chain))
 }
 
-/// The place of a chain's last mbuf, from another place on.
+/// The place of a chain's last mbuf, searched from another place on.
 fn last_from(pool: &Pool, chain: &Chain, from: Place) -> Place
     requires live { IsLive pool.now chain.now }
     requires place { IsPlace (chain_of pool.now chain.now) from }
@@ -38,8 +38,8 @@ fn last_from(pool: &Pool, chain: &Chain, from: Place) -> Place
     }
 }
 
-/// Joins a chain to another, whose last mbuf is told. The answer is the place of the first mbuf that was linked, or
-/// that of the last mbuf where none was.
+/// Joins a chain to another, whose last mbuf is given. Returns the place of the first mbuf that was linked, or that of
+/// the last mbuf if none was linked.
 fn join(pool: &mut Pool, chain: &Chain, last: Place, second: Chain) -> Place
     requires front { IsLive pool.old chain.now }
     requires back { IsLive pool.old second }
@@ -66,8 +66,8 @@ fn join(pool: &mut Pool, chain: &Chain, last: Place, second: Chain) -> Place
     }
 }
 
-/// Joins a chain to another, whose last mbuf is told, as `m_cat` does. They must be two chains. The answer is the
-/// place of the last mbuf then, so that many chains are joined in one walk over their mbufs (this project's own).
+/// Joins a chain to another, whose last mbuf is given, as `m_cat` does. They must be two chains. Returns the place of
+/// the last mbuf afterwards, so that many chains can be joined in one walk over their mbufs (this project's own).
 pub fn cat_after(pool: &mut Pool, chain: &Chain, last: Place, second: Chain) -> Place
     requires front { IsLive pool.old chain.now }
     requires back { IsLive pool.old second }
@@ -86,15 +86,15 @@ pub fn cat_after(pool: &mut Pool, chain: &Chain, last: Place, second: Chain) -> 
     last_from(pool, chain, from)
 }
 
-/// Joins a chain to another: as long as its first mbuf is shorter than the room after the last bytes of the first
-/// chain, its bytes are moved there and it is freed, with its reference. What is left is linked, and loses its packet
-/// header; so is an mbuf that would fill the room exactly. A cluster takes nothing. It's never refused (TCP/IP
-/// Illustrated, volume 2, chapter 2). The mbufs of the first chain are walked for its last one: `cat_after` is given
-/// it.
+/// Joins a chain to another. While the first mbuf of the second chain is shorter than the trailing space of the first
+/// chain, its bytes move there, and it's freed with its reference. The other mbufs are linked and lose their packet
+/// header, and so does an mbuf that would fill the space exactly. A cluster takes no bytes. Never fails (TCP/IP
+/// Illustrated, volume 2, chapter 2). The call walks the mbufs of the first chain to find its last one; pass it to
+/// `cat_after` if you know it.
 ///
 /// By example, with `P` for bytes in the mbuf itself, `C` for bytes in a cluster, and its count after `x`: `C300x2` and
-/// `P40` become `C300x2->P40`. `P28` with 60 bytes of room behind, and `C5x3`, become `P33`, and the cluster is counted
-/// 2.
+/// `P40` become `C300x2->P40`. `P28` with 60 bytes of trailing space, and `C5x3`, become `P33`, and the cluster is
+/// counted 2.
 pub fn m_cat(pool: &mut Pool, chain: &Chain, second: Chain)
     requires front { IsLive pool.old chain.now }
     requires back { IsLive pool.old second }

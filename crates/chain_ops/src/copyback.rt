@@ -1,4 +1,4 @@
-//! Bytes written over a chain's.
+//! Bytes written over those of a chain.
 ghost use Rattle.std.specs.Prelude.{◌≡◌, ℕ, ◌+◌, ◌-◌, ◌<◌, ◌≤◌, ◌++◌, Some, None, true, false, length, take, drop, replicate, IfOk, OnOk, OnErr};
 ghost use Rattle.mbuf_chain.specs.Chain.{IsLive, IsPlace, chain_of, entry_in, string, references, without, with_chain, held_mbufs, alone, Adds};
 ghost use Rattle.mbuf_chain.specs.Steps.{one_mbuf, with_entry_in, overwritten};
@@ -9,7 +9,7 @@ use mbuf_chain::{Chain, Place, Pool};
 use mbuf_pool::NoBufs;
 use params::{IP_MAX_PACKET, MBUF_HEADER, MLEN, MSIZE};
 
-/// Whether a cluster, if there is one, is counted above 1.
+/// Whether more than one mbuf refers to a cluster, if there is one.
 fn is_shared(pool: &Pool, cluster: Option<u32>) -> bool
     requires { (c : ℕ) → cluster ≡ Some c → c < pool.now.clusters }
     ensures { result ≡ is_shared (references pool.now) cluster }
@@ -20,9 +20,9 @@ fn is_shared(pool: &Pool, cluster: Option<u32>) -> bool
     }
 }
 
-/// Whether `len` bytes of a chain from `off` on may be written to: no byte of the range, as far as it lies in the
-/// chain, lies in a cluster to which more than one mbuf refers. It takes one step for each mbuf up to the end of the
-/// range (this project's own).
+/// Whether `len` bytes of a chain from `off` on may be written to: the part of the range that is within the chain has
+/// no byte in a cluster to which more than one mbuf refers. Takes one step for each mbuf up to the end of the range
+/// (this project's own).
 pub fn is_writable(pool: &Pool, chain: &Chain, off: u32, len: u32) -> bool
     requires { IsLive pool.now chain.now }
     ensures { result ≡
@@ -46,14 +46,14 @@ pub fn is_writable(pool: &Pool, chain: &Chain, off: u32, len: u32) -> bool
     true
 }
 
-/// The bytes after the first `count`, or none where there are fewer.
+/// The bytes after the first `count`, or none if there are fewer.
 fn after(bytes: &[u8], count: u32) -> &[u8]
     ensures { result.now ≡ drop count bytes.now }
 {
     &bytes[bytes.len().min(count as usize)..]
 }
 
-/// Writes over the bytes of an mbuf from `skip` on, as far as they reach.
+/// Writes over the bytes of an mbuf from `skip` on, up to its last byte.
 fn overlay_mbuf(pool: &mut Pool, chain: &Chain, at: Place, skip: u32, bytes: &[u8])
     requires live { IsLive pool.old chain.now }
     requires place { IsPlace (chain_of pool.old chain.now) at }
@@ -71,7 +71,7 @@ fn overlay_mbuf(pool: &mut Pool, chain: &Chain, at: Place, skip: u32, bytes: &[u
     }
 }
 
-/// Writes over the bytes of a chain from `off` on, as far as the chain reaches.
+/// Writes over the bytes of a chain from `off` on, up to its last byte.
 fn overlay(pool: &mut Pool, chain: &Chain, off: u32, bytes: &[u8])
     requires live { IsLive pool.old chain.now }
     requires writable { is_writable (references pool.old) (chain_of pool.old chain.now).entries off
@@ -95,7 +95,7 @@ fn overlay(pool: &mut Pool, chain: &Chain, off: u32, bytes: &[u8])
     }
 }
 
-/// So many zeros, at most 108.
+/// `count` zeros, at most 108.
 fn zeros(count: usize) -> &'static [u8]
     requires { count ≤ MLEN }
     ensures { result.now ≡ replicate count 0 }
@@ -104,8 +104,7 @@ fn zeros(count: usize) -> &'static [u8]
     &ZEROS[..count]
 }
 
-/// A chain of one plain mbuf without packet header that is filled with zeros and then with bytes, as many of
-/// them as fit.
+/// A chain of one plain mbuf without packet header, filled with zeros and then with as much of the bytes as fits.
 fn new_piece(pool: &mut Pool, gap: u32, bytes: &[u8]) -> Result<Chain, NoBufs>
     ensures ok { IfOk result (λ d. Adds pool.old pool.new d (one_mbuf false (record {
       bytes = take MLEN (replicate gap 0 ++ bytes.now);
@@ -124,7 +123,7 @@ fn new_piece(pool: &mut Pool, gap: u32, bytes: &[u8]) -> Result<Chain, NoBufs>
     Ok(chain)
 }
 
-/// A chain without packet header of zeros and then bytes, 1 byte or more in all, in plain mbufs that are filled at
+/// A chain without packet header of zeros and then bytes, at least 1 byte in all, in plain mbufs that are filled from
 /// the front.
 fn new_tail(pool: &mut Pool, gap: u32, bytes: &[u8]) -> Result<Chain, NoBufs>
     requires some { 0 < gap + length bytes.now }
@@ -155,11 +154,11 @@ fn new_tail(pool: &mut Pool, gap: u32, bytes: &[u8]) -> Result<Chain, NoBufs>
     Ok(chain)
 }
 
-/// Writes bytes over those of a chain from `off` on, and lengthens it where it ends before them: bytes between its old
-/// end and `off` become 0, and what lies after the old end goes into new plain mbufs; the room after the old last
-/// bytes isn't used. `off` and the bytes are at most 65,535 together, and the range must be writable (`is_writable`).
-/// `NoBufs` comes exactly where fewer mbufs are free than the new bytes need, and changes nothing (TCP/IP Illustrated,
-/// volume 2, chapter 2).
+/// Writes bytes over those of a chain from `off` on, and lengthens the chain if it ends before them. Bytes between its
+/// old end and `off` become 0, and what is past the old end goes into new plain mbufs; the trailing space of the old
+/// last mbuf isn't used. `off` plus the number of bytes is at most 65,535, and the range must be writable
+/// (`is_writable`). Fails with `NoBufs` exactly if fewer mbufs are free than the new bytes need, and then changes
+/// nothing (TCP/IP Illustrated, volume 2, chapter 2).
 pub fn m_copyback(pool: &mut Pool, chain: &Chain, off: u32, bytes: &[u8]) -> Result<(), NoBufs>
     requires live { IsLive pool.old chain.now }
     requires most { off + length bytes.now ≤ IP_MAX_PACKET }

@@ -4,7 +4,7 @@ ghost use Rattle.mbuf_chain.specs.Chain.{IsLive, chain_of, string};
 
 use mbuf_chain::{Chain, Pool};
 
-/// Copies bytes of a chain out, mbuf by mbuf: see `m_copydata`.
+/// Copies bytes out of a chain, mbuf by mbuf: see `m_copydata`.
 #[tactic(auto, using(mbuf_chain::proofs::Laws::Iterators::concat_pieces))]
 fn copy_pieces(pool: &Pool, chain: &Chain, off: usize, to: &mut [u8])
     requires live { IsLive pool.now chain.now }
@@ -28,9 +28,9 @@ fn copy_pieces(pool: &Pool, chain: &Chain, off: usize, to: &mut [u8])
     }
 }
 
-/// Copies bytes of a chain out, from `off` on: as many as `to` has, which must lie in the chain (TCP/IP
+/// Copies bytes out of a chain, from `off` on, until `to` is full. The range must be within the chain (TCP/IP
 /// Illustrated, volume 2, chapter 2).
-// Where they lie in the first mbuf they're one piece, and no other is looked for.
+// If the first mbuf has the whole range, it's one piece, and no other mbuf is read.
 #[inline(always)]
 pub fn m_copydata(pool: &Pool, chain: &Chain, off: usize, to: &mut [u8])
     requires live { IsLive pool.now chain.now }

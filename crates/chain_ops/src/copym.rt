@@ -70,15 +70,15 @@ fn copy_all(pool: &mut Pool, chain: &Chain) -> Result<Chain, NoBufs>
 pub enum Extent {
     /// All of them, and all mbufs.
     All,
-    /// From an offset on so many.
+    /// A number of bytes from an offset on.
     Part(u32, u32),
 }
 
-/// A copy of a chain: an mbuf for each one that has bytes of the range, and for those without bytes that are
-/// passed between them. Clusters are shared, bytes of plain mbufs are copied to the front of new ones. It has a
-/// packet header where the chain has one and the copy begins at 0. A part must have 1 byte or more and lie in
-/// the chain. `NoBufs` comes exactly where fewer mbufs are free than the copy has, and changes nothing. It takes
-/// one step for each mbuf up to the last one that it copies (TCP/IP Illustrated, volume 2, chapter 2).
+/// A copy of a chain: one mbuf for each mbuf that has bytes of the range, and for each one without bytes that is passed
+/// between them. Clusters are shared; bytes of plain mbufs are copied to the front of new ones. The copy has a packet
+/// header if the chain has one and the copy begins at 0. A part must have at least 1 byte and be within the chain.
+/// Fails with `NoBufs` exactly if fewer mbufs are free than the copy has, and then changes nothing. Takes one step for
+/// each mbuf up to the last one that it copies (TCP/IP Illustrated, volume 2, chapter 2).
 pub fn m_copym(pool: &mut Pool, chain: &Chain, extent: Extent) -> Result<Chain, NoBufs>
     requires live { IsLive pool.old chain.now }
     requires extent { IsExtent extent (length (string (chain_of pool.old chain.now))) }

@@ -1,4 +1,4 @@
-//! Places in a chain by the byte, and copies from there on.
+//! Positions of bytes in a chain, and copies that begin at one.
 ghost use Rattle.std.specs.Prelude.{◌≡◌, ◌+◌, ◌≤◌, ◌<◌, length, IfOk, OnOk, OnErr};
 ghost use Rattle.mbuf_chain.specs.Chain.{IsLive, chain_of, string, alone};
 ghost use Rattle.chain_ops.specs.Makes.{Makes, HasMbufs, LacksMbufs};
@@ -9,20 +9,20 @@ use crate::step::{append_copy, new_copy};
 use mbuf_chain::{Chain, Place, Pool};
 use mbuf_pool::NoBufs;
 
-/// Where a byte of a chain lies. `cursor_at` finds it, `advance` goes on from there. Any change of the chain
-/// makes it void.
+/// The position of a byte of a chain. `cursor_at` finds it, `advance` moves on from it. Any change of the chain makes
+/// it invalid.
 #[derive(Clone, Copy, Debug, PartialEq, Eq)]
 pub struct Cursor {
-    /// How many bytes of the chain are in front.
+    /// How many bytes of the chain precede it.
     pub off: u32,
-    /// The mbuf in which the byte lies.
+    /// The mbuf that has the byte.
     pub place: Place,
-    /// How many bytes of that mbuf are in front.
+    /// How many bytes of that mbuf precede it.
     pub skip: u32,
 }
 
-/// Where the byte at `off` of a chain lies: `off` must be below the chain's length. Mbufs that end at the byte or in
-/// front of it are passed; at 0 none is. It takes one step for each mbuf that is passed (this project's own).
+/// The position of the byte at `off` of a chain; `off` must be below the chain's length. Mbufs that end at or before
+/// the byte are passed; at 0 none is. Takes one step for each mbuf that is passed (this project's own).
 pub fn cursor_at(pool: &Pool, chain: &Chain, off: u32) -> Cursor
     requires live { IsLive pool.now chain.now }
     requires within { off < length (string (chain_of pool.now chain.now)) }
@@ -42,8 +42,8 @@ pub fn cursor_at(pool: &Pool, chain: &Chain, off: u32) -> Cursor
     Cursor { off, place, skip }
 }
 
-/// Where the byte lies that is `by` bytes, 1 or more, after that of a cursor. It must lie in the chain, at 65,535 at
-/// most. It takes one step for each mbuf that is passed on the way (this project's own).
+/// The position of the byte `by` bytes, at least 1, after that of a cursor. It must be within the chain, at 65,535 at
+/// most. Takes one step for each mbuf that is passed on the way (this project's own).
 #[inline(always)]
 pub fn advance(pool: &Pool, chain: &Chain, from: Cursor, by: u32) -> Cursor
     requires live { IsLive pool.now chain.now }
@@ -77,10 +77,10 @@ fn copy_header(pool: &Pool, chain: &Chain, off: u32) -> bool
     pool.has_header(chain) && off == 0
 }
 
-/// Copies `len` bytes of a chain, 1 or more, from a cursor on, as `m_copym` does. They must lie in the chain. It takes
-/// one step for each mbuf that it copies, so several ranges in order are copied in one walk. `NoBufs` comes exactly
-/// where fewer mbufs are free than the copy has, and changes nothing (this project's own).
-// Inlined, as `advance`: a datagram that is cut takes both for each of its packets.
+/// Copies `len` bytes of a chain, at least 1, from a cursor on, as `m_copym` does. They must be within the chain. Takes
+/// one step for each mbuf that it copies, so several ranges in order are copied in one walk. Fails with `NoBufs`
+/// exactly if fewer mbufs are free than the copy has, and then changes nothing (this project's own).
+// Inlined, like `advance`: a datagram that is fragmented calls both for each of its packets.
 #[inline(always)]
 pub fn copy_at(pool: &mut Pool, chain: &Chain, from: Cursor, len: u32) -> Result<Chain, NoBufs>
     requires live { IsLive pool.old chain.now }

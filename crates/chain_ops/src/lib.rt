@@ -1,6 +1,6 @@
-//! The operations of 4.4BSD on chains of mbufs: `m_copym`, `m_pullup` and their like, over the pool of
-//! `mbuf_chain`. Each is written by that crate's steps alone, and its contract says what it makes of the list
-//! of the chain's entries; every other chain stays as it is.
+//! The operations of 4.4BSD on chains of mbufs (`m_copym`, `m_pullup` and others), over the pool of `mbuf_chain`. Each
+//! uses only that crate's steps. Its contract says what the list of the chain's entries becomes; every other chain
+//! stays as it is.
 #![tactic(auto)]
 
 mod adj;

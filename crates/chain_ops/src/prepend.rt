@@ -1,4 +1,4 @@
-//! Bytes put in front of a chain.
+//! Bytes put before a chain's first byte.
 ghost use Rattle.std.specs.Prelude.{◌≡◌, ◌<◌, ◌≤◌, ◌++◌, length, OnOk, OnErr};
 ghost use Rattle.mbuf_chain.specs.Chain.{IsLive, chain_of, without, string};
 ghost use Rattle.chain_ops.specs.Makes.{Makes, HasMbufs, LacksMbufs};
@@ -11,7 +11,7 @@ use mbuf_pool::NoBufs;
 use params::{MHLEN, MSIZE};
 use std::mem;
 
-/// Where `n` bytes begin that are put at the end of a plain mbuf's room.
+/// Where `n` bytes begin that are put at the end of a plain mbuf.
 #[inline(always)]
 pub(crate) fn at_end(header: bool, n: u32) -> u32
     requires { n ≤ MHLEN }
@@ -21,11 +21,11 @@ pub(crate) fn at_end(header: bool, n: u32) -> u32
     low + (MSIZE - low - n) / 4 * 4
 }
 
-/// Puts bytes, 1 to 100, in front of a chain: into the room in front of its first bytes, or where that is too
-/// small at the end of a new first mbuf, which takes over the packet header and gives the chain its number. A
-/// cluster is never written to. `NoBufs` comes exactly where an mbuf is needed and none is free, and changes nothing
-/// (TCP/IP Illustrated, volume 2, chapter 2).
-// Inlined, since a caller knows how many bytes there are.
+/// Prepends bytes, 1 to 100, to a chain: in the leading space of its first mbuf, or if that is too small at the end of
+/// a new first mbuf, which takes over the packet header and gives the chain its number. A cluster is never written to.
+/// Fails with `NoBufs` exactly if an mbuf is needed and none is free, and then changes nothing (TCP/IP Illustrated,
+/// volume 2, chapter 2).
+// Inlined, because the caller knows how many bytes there are.
 #[inline(always)]
 pub fn m_prepend(pool: &mut Pool, chain: &mut Chain, bytes: &[u8]) -> Result<(), NoBufs>
     requires live { IsLive pool.old chain.old }

@@ -1,4 +1,4 @@
-//! The first bytes of a chain brought into one mbuf.
+//! The first bytes of a chain moved into one mbuf.
 ghost use Rattle.std.specs.Prelude.{◌≡◌, ◌≢◌, ◌+◌, ◌-◌, ◌≤◌, ◌++◌, true, None, min, length, take, drop, OnOk, OnErr, IfErr, IsTrue};
 ghost use Rattle.mbuf_chain.specs.Chain.{IsLive, IsPlace, HasTrailingSpace, chain_of, entry_in, entry_of, with_chain, without, string, alone};
 ghost use Rattle.mbuf_chain.specs.Steps.{empty_entry, joined};
@@ -14,10 +14,10 @@ use params::{MAX_PROTOCOL_HEADER, MHLEN, MSIZE};
 use std::mem;
 use thiserror::Error;
 
-/// Why a chain wasn't pulled up.
+/// Why `m_pullup` failed.
 #[derive(Clone, Copy, Debug, PartialEq, Eq, Error)]
 pub enum Refusal {
-    /// More than 100 bytes were asked for.
+    /// `n` is above 100.
     #[error("too long")]
     TooLong,
     /// The chain has fewer bytes.
@@ -28,9 +28,9 @@ pub enum Refusal {
     NoBufs,
 }
 
-/// Moves the first `n` bytes of a chain after those of the last mbuf of another, and links what is left.
-/// An mbuf that is emptied goes, and so does one without bytes that is passed. Where the number of the chain's bytes is
-/// told, no mbuf after these is looked at; without a packet header in front it needn't be told.
+/// Moves the first `n` bytes of a chain to the end of the last mbuf of another, and links what is left. An mbuf that
+/// becomes empty is freed, and so is one without bytes that is passed. If the number of the chain's bytes is given
+/// (`counted`), no mbuf after these is read; without a packet header in the first mbuf it isn't needed.
 fn pull(pool: &mut Pool, into: &Chain, last: Place, second: Chain, n: u32, counted: bool, len: u32)
     requires front { IsLive pool.old into.now }
     requires back { IsLive pool.old second }
@@ -68,7 +68,7 @@ fn pull(pool: &mut Pool, into: &Chain, last: Place, second: Chain, n: u32, count
     link_rest(pool, into, last, back, counted, bytes);
 }
 
-/// Whether `n` bytes have room in the first mbuf.
+/// Whether `n` bytes fit into the first mbuf.
 fn has_room(pool: &Pool, chain: &Chain, n: u32) -> bool
     requires live { IsLive pool.now chain.now }
     requires most { n ≤ MHLEN }
@@ -79,7 +79,7 @@ fn has_room(pool: &Pool, chain: &Chain, n: u32) -> bool
     segment.cluster.is_none() && segment.start <= MSIZE - n
 }
 
-/// Brings the first `n` bytes of a chain into its first mbuf, which has room for them.
+/// Moves the first `n` bytes of a chain into its first mbuf, where they fit.
 fn pull_in_place(pool: &mut Pool, chain: &Chain, n: u32)
     requires live { IsLive pool.old chain.now }
     requires room { IsTrue (has_room (entry_of (chain_of pool.old chain.now) 0) n) }
@@ -107,7 +107,7 @@ fn pull_in_place(pool: &mut Pool, chain: &Chain, n: u32)
     }
 }
 
-/// Brings the first `n` bytes of a chain into a new first mbuf, which takes over the packet header.
+/// Moves the first `n` bytes of a chain into a new first mbuf, which takes over the packet header.
 fn pull_new(pool: &mut Pool, chain: &mut Chain, n: u32) -> Result<(), NoBufs>
     requires live { IsLive pool.old chain.old }
     requires most { n ≤ MHLEN }
@@ -129,8 +129,8 @@ fn pull_new(pool: &mut Pool, chain: &mut Chain, n: u32) -> Result<(), NoBufs>
     Ok(())
 }
 
-/// How many bytes a chain has, or `most` where it has more. It takes one step where the chain has a packet header, else
-/// one for each mbuf up to so many bytes.
+/// How many bytes a chain has, or `most` if it has more. Takes one step if the chain has a packet header, otherwise one
+/// for each mbuf up to `most` bytes.
 fn len_up_to(pool: &Pool, chain: &Chain, most: u32) -> u32
     requires live { IsLive pool.now chain.now }
     requires small { most ≤ MHLEN }
@@ -153,12 +153,12 @@ fn len_up_to(pool: &Pool, chain: &Chain, most: u32) -> u32
     }
 }
 
-/// Brings the first `n` bytes of a chain into its first mbuf: in place where that is plain and has room for
-/// them, else at the front of a new first mbuf, which takes up to 40 bytes if `n` is less, and takes over the packet
-/// header. A cluster is never pulled into, also one that has the `n` bytes. An mbuf that is emptied goes, with its
-/// reference, and so does an empty one in front of the last byte that is moved. `TooLong` comes where `n` is above
-/// 100, else `TooShort` where the chain has fewer bytes, else `NoBufs` exactly where a new first mbuf is needed and no
-/// mbuf is free; each changes nothing (TCP/IP Illustrated, volume 2, chapter 2).
+/// Moves the first `n` bytes of a chain into its first mbuf: in place if that is plain and they fit, otherwise to the
+/// front of a new first mbuf, which takes over the packet header, and takes up to 40 bytes if `n` is less. Bytes are
+/// never moved into a cluster, even if it already has the `n` bytes. An mbuf that becomes empty is freed with its
+/// reference, and so is an empty one before the last byte that moves. Fails with `TooLong` if `n` is above 100,
+/// otherwise with `TooShort` if the chain has fewer bytes, otherwise with `NoBufs` exactly if a new first mbuf is
+/// needed and none is free; each changes nothing (TCP/IP Illustrated, volume 2, chapter 2).
 ///
 /// By example, with `P` for bytes in the mbuf itself, `C` for bytes in a cluster, and its count after `x`: 20 bytes of
 /// `C300x2` become `P40->C260x2`, and then 60 bytes `P60->C240x2`. 40 bytes of `C40x2` become `P40`: the emptied mbuf

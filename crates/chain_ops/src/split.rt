@@ -13,8 +13,8 @@ use mbuf_chain::{Chain, Place, Pool};
 use mbuf_pool::NoBufs;
 use params::{MBUF_HEADER, MHLEN};
 
-/// The mbuf that a cut at `off` bytes goes through, and how far in: the first one that is as long as the
-/// offset left.
+/// The mbuf in which a cut at `off` bytes is, and how far in: the first one that is at least as long as the remaining
+/// offset.
 fn find_cut(pool: &Pool, chain: &Chain, off: u32) -> (Place, u32)
     requires live { IsLive pool.now chain.now }
     requires within { off < length (string (chain_of pool.now chain.now)) }
@@ -43,8 +43,8 @@ fn find_cut(pool: &Pool, chain: &Chain, off: u32) -> (Place, u32)
     }
 }
 
-/// A chain of one plain mbuf with packet header that has the bytes of another plain mbuf from `off` on, 1 to
-/// 100, at its end.
+/// A chain of one plain mbuf with packet header that has the bytes of another plain mbuf from `off` on, 1 to 100, at
+/// its end.
 fn new_end(pool: &mut Pool, chain: &Chain, at: Place, off: u32, n: u32) -> Result<Chain, NoBufs>
     requires live { IsLive pool.old chain.now }
     requires place { IsPlace (chain_of pool.old chain.now) at }
@@ -61,7 +61,7 @@ fn new_end(pool: &mut Pool, chain: &Chain, at: Place, off: u32, n: u32) -> Resul
     Ok(head)
 }
 
-/// A chain of an empty mbuf with packet header, and after it one with the bytes of a plain mbuf.
+/// A chain of an empty mbuf with packet header, followed by one with the bytes of a plain mbuf.
 fn new_two(pool: &mut Pool, chain: &Chain, at: Place, off: u32, n: u32) -> Result<Chain, NoBufs>
     requires live { IsLive pool.old chain.now }
     requires place { IsPlace (chain_of pool.old chain.now) at }
@@ -80,7 +80,7 @@ fn new_two(pool: &mut Pool, chain: &Chain, at: Place, off: u32, n: u32) -> Resul
     Ok(head)
 }
 
-/// A chain of what a new chain begins with that has the bytes of an mbuf from `off` on.
+/// The first mbufs of a new chain that has the bytes of an mbuf from `off` on.
 fn new_head(
     pool: &mut Pool,
     header: bool,
@@ -115,10 +115,10 @@ fn new_head(
     new_two(pool, chain, at, off, n)
 }
 
-/// Cuts a chain in two after its first `at` bytes, fewer than it has. The chain keeps these, the answer has the
-/// others: of an mbuf that is cut through, a cluster is shared, and bytes of a plain one are copied. Where the chain
-/// has a packet header, both have one, and no mbuf after the cut is looked at. `NoBufs` comes exactly where fewer
-/// mbufs are free than that takes, and changes nothing (`m_split` of 4.4BSD; the details are this project's own).
+/// Cuts a chain in two after its first `at` bytes; `at` is below its length. The chain keeps these, and the returned
+/// chain has the others. If an mbuf is cut through, its cluster is shared, or its plain bytes are copied. If the chain
+/// has a packet header, both have one, and no mbuf after the cut is read. Fails with `NoBufs` exactly if fewer mbufs
+/// are free than that takes, and then changes nothing (`m_split` of 4.4BSD; the details are this project's own).
 ///
 /// By example, with `P` for bytes in the mbuf itself, `C` for bytes in a cluster, and its count after `x`: `C300x1` at
 /// 100 becomes `C100x2` and `C200x2`, and `P80` at 30 becomes `P30` and `P50`.

@@ -9,7 +9,7 @@ use mbuf_chain::{Chain, Place, Pool};
 use mbuf_pool::NoBufs;
 use params::{MBUF_HEADER, PACKET_START};
 
-/// Where the room of a plain mbuf begins.
+/// The first usable place of a plain mbuf.
 #[inline(always)]
 pub(crate) fn room_low(header: bool) -> u32
     ensures { result ≡ room_low header }
@@ -18,7 +18,7 @@ pub(crate) fn room_low(header: bool) -> u32
 }
 
 /// A chain of one mbuf that has a copy of `n` bytes of another mbuf without cluster, after the first `skip`.
-// Apart: mostly it's a cluster that is copied, and that is shared.
+// Not inlined: mostly a cluster is copied, and that is shared.
 #[inline(never)]
 fn copy_plain(
     pool: &mut Pool,
@@ -76,8 +76,8 @@ pub(crate) fn new_copy(
     Ok(copy)
 }
 
-/// Links a chain of one mbuf, a copy of `n` bytes of an mbuf of another chain after the first `skip`, after
-/// the last mbuf of a chain. Answers its place.
+/// Links a chain of one mbuf, a copy of `n` bytes of an mbuf of another chain after the first `skip`, after the last
+/// mbuf of a chain. Returns its place.
 #[inline(always)]
 pub(crate) fn append_copy(
     pool: &mut Pool,
@@ -106,7 +106,7 @@ pub(crate) fn append_copy(
     Ok(place)
 }
 
-/// How many bytes a chain has, where it has a packet header, and else 0: so no mbuf is looked at.
+/// How many bytes a chain has if it has a packet header, otherwise 0: so no mbuf is read.
 pub(crate) fn counted_len(pool: &Pool, chain: &Chain) -> (bool, u32)
     requires { IsLive pool.now chain.now }
     ensures { result.0 ≡ true → result.1 ≡ length (string (chain_of pool.now chain.now)) }
@@ -118,7 +118,8 @@ pub(crate) fn counted_len(pool: &Pool, chain: &Chain) -> (bool, u32)
     }
 }
 
-/// Links a chain after the last mbuf of another. Where that one has a packet header, the number of its bytes is told.
+/// Links a chain after the last mbuf of another. If the latter has a packet header, the caller gives the number of the
+/// linked bytes.
 pub(crate) fn link_rest(
     pool: &mut Pool,
     into: &Chain,

@@ -16,18 +16,18 @@ use params::{
     CLUSTER_LEADING_SPACE, IP_MAX_PACKET, MBUF_HEADER, MCLBYTES, MHLEN, MINCLSIZE, MLEN, MSIZE,
 };
 
-/// Where the bytes of a packet or of a send go. `space_for` alone decides it.
+/// Where the bytes of a packet or of a send are stored. Only `space_for` decides it.
 #[derive(Clone, Copy, Debug, PartialEq, Eq, Drop)]
 pub enum Space {
     /// Into one mbuf with a packet header: at most 100 bytes.
     InMbuf,
-    /// Into one cluster: 208 bytes at least.
+    /// Into one cluster: at least 208 bytes.
     InCluster,
     /// Into several mbufs.
     InMore,
 }
 
-/// Where `n` bytes go, if a first cluster takes them from its byte `large` on: 0 for a packet from the wire,
+/// Where `n` bytes are stored, if bytes in a first cluster begin at `large`: 0 for a packet from the wire,
 /// `CLUSTER_LEADING_SPACE` for a send.
 #[inline(always)]
 pub fn space_for(large: u32, n: u32) -> Space
@@ -57,8 +57,8 @@ fn new_cluster(pool: &mut Pool, header: bool, start: u32, bytes: &[u8]) -> Resul
     pool.new_cluster_with(header, start, bytes)
 }
 
-/// How many of the bytes that are left go into the next mbuf, and whether it refers to a cluster, which is so from 208
-/// bytes on: `large` at most into a cluster, `small` at most into a plain one (TCP/IP Illustrated, volume 2, chapter
+/// How many of the remaining bytes go into the next mbuf, and whether it refers to a cluster, which is so from 208
+/// bytes on: at most `large` into a cluster, at most `small` into a plain one (TCP/IP Illustrated, volume 2, chapter
 /// 2).
 #[inline(always)]
 pub fn next_room(large: u32, small: u32, left: u32) -> (u32, bool)
@@ -87,8 +87,8 @@ fn first_start(ends: bool, n: usize) -> u32
     }
 }
 
-/// A chain of one mbuf with bytes: in a cluster from `large` on, or in its own room from `plain` on.
-// Inlined with what it calls, since a first mbuf has a packet header and no later one does.
+/// A chain of one mbuf with bytes: in a cluster from `large` on, or in the mbuf itself from `plain` on.
+// Inlined with what it calls, because a first mbuf has a packet header and no later one does.
 #[inline(always)]
 fn new_stored(
     pool: &mut Pool,
@@ -151,8 +151,8 @@ fn store_rooms(pool: &mut Pool, bytes: &[u8], large: u32, ends: bool) -> Result<
 
 /// A chain with packet header of these bytes. In a first cluster they begin at `large`, and in a first plain
 /// mbuf at its end or at its front.
-// Inlined, since a caller knows where they begin. Mostly they fill one plain mbuf or one cluster, and need no walk over
-// rooms.
+// Inlined, because the caller knows where they begin. Mostly they fit into one plain mbuf or one cluster, and then no
+// walk is needed.
 #[inline(always)]
 fn store(pool: &mut Pool, bytes: &[u8], large: u32, ends: bool) -> Result<Chain, NoBufs>
     requires large { large ≤ CLUSTER_LEADING_SPACE }
@@ -175,10 +175,10 @@ fn store(pool: &mut Pool, bytes: &[u8], large: u32, ends: bool) -> Result<Chain,
     }
 }
 
-/// A chain with packet header of bytes to send, at most 65,535: clusters as long as 208 bytes or more are left,
-/// then plain mbufs. 56 bytes are left free in front of a first cluster, and a first plain mbuf is filled at its
-/// end. `NoBufs` comes exactly where fewer mbufs or clusters are free than that takes, and changes nothing. Which free
-/// clusters are taken isn't said (sosend; TCP/IP Illustrated, volume 2, chapter 16).
+/// A chain with packet header of bytes to send, at most 65,535: clusters while at least 208 bytes remain, then plain
+/// mbufs. 56 bytes of leading space are left in a first cluster, and a first plain mbuf is filled at its end. Fails
+/// with `NoBufs` exactly if fewer mbufs or clusters are free than that takes, and then changes nothing. Which free
+/// clusters are taken is left open (sosend; TCP/IP Illustrated, volume 2, chapter 16).
 #[inline(always)]
 pub fn from_user(pool: &mut Pool, bytes: &[u8]) -> Result<Chain, NoBufs>
     requires { length bytes.now ≤ IP_MAX_PACKET }
@@ -194,10 +194,10 @@ pub fn from_user(pool: &mut Pool, bytes: &[u8]) -> Result<Chain, NoBufs>
     store(pool, bytes, CLUSTER_LEADING_SPACE, true)
 }
 
-/// A chain with packet header of the bytes of a packet that arrived, at most 65,535: clusters as long as 208 bytes
-/// or more are left, then plain mbufs, all filled at the front. `NoBufs` comes exactly where fewer mbufs or clusters
-/// are free than that takes, and changes nothing. Which free clusters are taken isn't said (m_devget; TCP/IP
-/// Illustrated, volume 2, chapter 2).
+/// A chain with packet header of the bytes of a packet that arrived, at most 65,535: clusters while at least 208 bytes
+/// remain, then plain mbufs, all filled from the front. Fails with `NoBufs` exactly if fewer mbufs or clusters are free
+/// than that takes, and then changes nothing. Which free clusters are taken is left open (m_devget; TCP/IP Illustrated,
+/// volume 2, chapter 2).
 #[inline(always)]
 pub fn from_wire(pool: &mut Pool, bytes: &[u8]) -> Result<Chain, NoBufs>
     requires { length bytes.now ≤ IP_MAX_PACKET }
@@ -213,7 +213,7 @@ pub fn from_wire(pool: &mut Pool, bytes: &[u8]) -> Result<Chain, NoBufs>
     store(pool, bytes, 0, false)
 }
 
-/// How many free mbufs and clusters `from_wire` takes for `n` bytes, at most 65,535. It takes one step for each mbuf.
+/// How many free mbufs and clusters `from_wire` takes for `n` bytes, at most 65,535. Takes one step for each mbuf.
 pub fn wire_need(n: u32) -> Need
     requires { n ≤ IP_MAX_PACKET }
     ensures { result ≡ need_of (wire n) }

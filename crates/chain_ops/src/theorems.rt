@@ -1,4 +1,4 @@
-//! Laws of the definitions. Each is a function that does nothing, and its contract is the law.
+//! Laws of the definitions. Each is a function that does nothing; its contract is the law.
 ghost use Rattle.std.specs.Prelude.{◌≡◌, ◌≢◌, ℕ, ◌+◌, ◌<◌, ◌≤◌, Bool, true, false, List, [], ◌∷◌, length, count_by};
 ghost use Rattle.mbuf_chain.specs.Chain.{Entry, Front, PoolView, IsLive, without, alone, flat_bytes};
 ghost use Rattle.mbuf_chain.specs.Owners.{Moves};
@@ -14,14 +14,14 @@ ghost use Rattle.chain_ops.specs.Weights.{laid_entries, HaveBytes, AreFit};
 
 use params::{CLUSTER_LEADING_SPACE, IP_UDP_HEADERS};
 
-/// The copy of a range weighs what the entries weigh that share a byte with it, where none is empty.
+/// The copy of a range weighs as much as the entries that share a byte with it, if none is empty.
 pub fn copy_weight()
     ensures { (header : Bool) (es : List Entry) (off len : ℕ) → HaveBytes es → 0 < len →
         weight_of (laid_entries (copied header es off len))
         ≡ weight_of (entries_met (laid_entries es) off (off + len)) }
 {}
 
-/// A copy of all has the layout of the original, and its bytes.
+/// A copy of a whole chain has the layout and the bytes of the original.
 pub fn copy_all()
     ensures layout { (header : Bool) (es : List Entry) →
         laid_entries (copied_all (room_low header) es) ≡ laid_entries es }
@@ -29,7 +29,7 @@ pub fn copy_all()
         flat_bytes (copied_all (room_low header) es) ≡ flat_bytes es }
 {}
 
-/// A join takes no more mbufs and refers to no other cluster than the two chains, and has room for its bytes.
+/// A join takes no more mbufs than the two chains have, refers to no other cluster, and has space for its bytes.
 pub fn join_weight()
     ensures mbufs { (es fs : List Entry) → (weight_of (laid_entries (cat es fs))).mbufs
         ≤ (weight_of (laid_entries es) ⊕ weight_of (laid_entries fs)).mbufs }
@@ -40,7 +40,7 @@ pub fn join_weight()
         Covers (weight_of (laid_entries es)) (length (flat_bytes es)) }
 {}
 
-/// Bytes that were stored lie in the layout of the flat machine.
+/// Stored bytes have the layout of the flat machine.
 pub fn stored_layout()
     ensures user { (cs xs : List ℕ) → length cs ≡ count_by is_cluster (user (length xs)) →
         laid_entries (stored_first CLUSTER_LEADING_SPACE true cs (user (length xs)) xs) ≡ laid_on cs (user
@@ -49,8 +49,8 @@ pub fn stored_layout()
         laid_entries (stored_first 0 false cs (wire (length xs)) xs) ≡ laid_on cs (wire (length xs)) }
 {}
 
-/// Who owns what after an operation: a new chain, a chain changed, perhaps under another number, and two
-/// joined. Every other chain is as it was.
+/// Who owns what after an operation: a new chain, a changed chain, perhaps under another number, and two joined chains.
+/// Every other chain is as it was.
 pub fn frame()
     ensures made { (p q : PoolView) (d : ℕ) (f : Front) (es : List Entry) → Makes p q d f es →
         Moves p [] q (d ∷ []) }
@@ -60,8 +60,8 @@ pub fn frame()
         c ≢ d → Makes (without (without p d) c) q c f es → Moves p (c ∷ d ∷ []) q (c ∷ []) }
 {}
 
-/// The 28 bytes of headers that `m_prepend` puts in front of bytes to send give the layout of the flat machine: in
-/// the room of the first mbuf for at most 72 bytes, else in an mbuf of their own.
+/// The 28 bytes of headers that `m_prepend` puts before the bytes of a send give the layout of the flat machine: in the
+/// leading space of the first mbuf for at most 72 bytes, otherwise in an mbuf of their own.
 pub fn sent_layout()
     ensures { (cs xs hs : List ℕ) → length cs ≡ count_by is_cluster (user (length xs)) → length hs ≡ IP_UDP_HEADERS →
         laid_entries (prepended (record {

@@ -1,4 +1,4 @@
--- What a place in memory holds (this project's own).
+-- What a packet buffer holds (this project's own).
 use Rattle.std.specs.Prelude.{Bool, is_some, List, take}
 use Rattle.flat_ether.specs.Links.{WaitingPacket, neighbour_place}
 use Rattle.flat_ether.specs.declared.neighbour.Neighbour.{Neighbour}
@@ -7,6 +7,6 @@ use Rattle.ether_host.specs.declared.buffer.PacketBuffer.{PacketBuffer}
 abbrev pub held_in : PacketBuffer → WaitingPacket
 held_in p = record { hop = p.hop; packet = take p.len p.room }
 
--- its next hop is known or asked for
+-- its next hop is known or requested
 abbrev pub has_hope_in : List Neighbour → PacketBuffer → Bool
 has_hope_in ns p = is_some (neighbour_place p.hop ns)

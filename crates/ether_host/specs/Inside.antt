@@ -1,4 +1,4 @@
--- How the fields mean the link's state (this project's own).
+-- The link's state that the fields mean (this project's own).
 use Rattle.std.specs.Prelude.{ℕ, ◌+◌, List, ◌++◌, length, map, take, drop}
 use Rattle.flat_ether.specs.Links.{LinkState}
 use Rattle.ether_host.specs.Buffers.{held_in}
@@ -9,7 +9,7 @@ use Rattle.ether_host.specs.declared.layer.LinkLayer.{LinkLayer}
 abbrev pub written : List ℕ → ℕ → List ℕ → List ℕ
 written bytes at new = take at bytes ++ (new ++ drop (at + length new) bytes)
 
--- what a link shows
+-- the state that a link shows
 abbrev pub link_seen : LinkLayer → LinkState
 link_seen l = record {
   config = l.config;

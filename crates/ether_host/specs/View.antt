@@ -31,7 +31,7 @@ halves s l = record { machine = state_of s; link = l }
 abbrev pub host_of : HostView → Host
 host_of v = record { machine = state_of v.stack; link = v.link }
 
--- the host ends with the last value behind the reference as its stack
+-- the host ends with the last value of the reference as its stack
 abbrev pub LendsStack : MutBor EtherHost → MutBor StackView → Fml
 LendsStack h r = Lends the_row stack_row h r (λ s. record h.now { stack = s })
 

@@ -1,4 +1,4 @@
-//! The answers of ICMP (`icmp_reflect` and `icmp_error` of volume 2, chapter 11).
+//! ICMP replies (`icmp_reflect` and `icmp_error` of volume 2, chapter 11).
 ghost use Rattle.std.specs.Prelude.{◌≡◌, ◌≤◌, ◌∷◌, length, true};
 ghost use Rattle.params.specs.declared.TheConstants.{IP_HEADER};
 ghost use Rattle.flat_ether.specs.Icmp.{answer_by, carried_in, echo_reply, is_answerable, is_echo, is_single, port_unreachable};
@@ -20,7 +20,7 @@ use params::{FIRST_MULTICAST, IP_HEADER, IP_UDP_HEADERS, LOOPBACK};
 /// Bytes of an IP header.
 pub(crate) const HEADER: usize = IP_HEADER as usize;
 
-/// Whether an answer may go to this address.
+/// Whether a reply may be sent to this address.
 fn is_single(config: &Config, ip: u32) -> bool
     ensures { result ≡ is_single config.now ip }
 {
@@ -32,7 +32,7 @@ fn is_single(config: &Config, ip: u32) -> bool
         && ip != config.bcast
 }
 
-/// Whether the header of a packet lets it be answered.
+/// Whether the header of a packet allows a reply.
 fn is_answerable(config: &Config, came: &[u8]) -> bool
     ensures { result ≡ is_answerable config.now came.now }
 {
@@ -46,7 +46,7 @@ fn is_answerable(config: &Config, came: &[u8]) -> bool
     is_single(config, u32_at(came, 12))
 }
 
-/// What a packet carries, as far as its total length goes.
+/// What a packet carries, up to its total length.
 pub(crate) fn carried(came: &[u8]) -> &[u8]
     requires { IP_HEADER ≤ length came.now }
     ensures { result.now ≡ carried_in came.now }
@@ -55,7 +55,7 @@ pub(crate) fn carried(came: &[u8]) -> &[u8]
     &came[HEADER..total]
 }
 
-/// Whether these are an echo request that is answered.
+/// Whether this is an echo request that gets a reply.
 fn is_echo(body: &[u8]) -> bool
     ensures { result ≡ is_echo body.now }
 {
@@ -66,7 +66,7 @@ fn is_echo(body: &[u8]) -> bool
         && sum_slice(body) == u16::MAX
 }
 
-/// What is answered to a packet, by what the stack counted of it.
+/// The reply to a packet, given what the stack counted for it.
 pub(crate) fn answer_by(config: &Config, came: &[u8], no_port: bool, no_protocol: bool) -> Answer
     ensures is { result ≡ answer_by config.now came.now no_port no_protocol }
     ensures can { CanAnswer result came.now }
@@ -83,7 +83,7 @@ pub(crate) fn answer_by(config: &Config, came: &[u8], no_port: bool, no_protocol
     Answer::Silence
 }
 
-/// The first four bytes of an ICMP message, its checksum among them.
+/// The first four bytes of an ICMP message, with its checksum.
 pub(crate) fn message_head(kind: u8, code: u8, rest: &[u8]) -> [u8; 4]
     ensures is { result ≡ kind ∷ code ∷ two_bytes (checksum (kind ∷ code ∷ 0 ∷ 0 ∷ rest.now)) }
     ensures long { length result ≡ 4 }
@@ -105,7 +105,7 @@ pub(crate) fn echo_reply(reply: &mut Reply, config: &Config, came: &[u8])
     reply.put(config, came, ECHO_REPLY, 0, rest);
 }
 
-/// "Port unreachable", to whom a datagram came from.
+/// "Port unreachable", to the sender of a datagram.
 pub(crate) fn port_unreachable(reply: &mut Reply, config: &Config, came: &[u8])
     requires { IP_HEADER ≤ length came.now }
     ensures { packets_left reply.new ≡ port_unreachable config.now came.now }

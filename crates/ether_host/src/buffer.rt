@@ -1,11 +1,11 @@
-//! A packet in memory of its own.
+//! A packet in a buffer of its own.
 ghost use Rattle.std.specs.Prelude.{◌≡◌, ◌+◌, ◌<◌, ◌≤◌, length, remove, take, vec_capacity, vec_len};
 ghost use Rattle.flat_ether.specs.declared.sizes.TheConstants.{ETHER_MTU};
 
 use crate::bytes::put_bytes;
 use flat_ether::ETHER_MTU;
 
-/// The room for a packet of an Ethernet.
+/// The size of the buffer for an Ethernet packet.
 pub(crate) const ROOM: usize = ETHER_MTU as usize;
 
 /// A packet, and the next hop for whose hardware address it waits.
@@ -20,7 +20,7 @@ pub(crate) struct PacketBuffer {
 impl PacketBuffer {
     ghost use Rattle.ether_host.specs.Buffers.{held_in};
 
-    /// One with no bytes.
+    /// A buffer without bytes.
     pub(crate) fn blank() -> PacketBuffer
         ensures { result.len ≡ 0 }
     {
@@ -31,7 +31,7 @@ impl PacketBuffer {
         }
     }
 
-    /// Takes this packet, and its next hop, into its room.
+    /// Copies a packet, and its next hop, into the buffer.
     #[tactic(auto, using(crate::proofs::Rooms::written_front))]
     pub(crate) fn fill(&mut self, hop: u32, packet: &[u8])
         requires { length packet.now ≤ ETHER_MTU }
@@ -52,8 +52,8 @@ impl PacketBuffer {
     }
 }
 
-/// Drops the packet at a place. Those after it move down from place to place: `Vec::remove` would take the packet onto
-/// the call stack, where it has 1.5 KB.
+/// Removes the packet at a place. Those after it move down one by one: `Vec::remove` would copy a packet of 1.5 KB to
+/// the call stack.
 pub(crate) fn drop_at(held: &mut Vec<PacketBuffer>, at: usize)
     requires { at < length held.old.items }
     ensures items { held.new.items ≡ remove held.old.items at }

@@ -1,4 +1,4 @@
-//! Errors that others tell of datagrams which this host sent (`udp_ctlinput` of volume 2, chapter 23).
+//! Errors that other hosts report for datagrams of this host (`udp_ctlinput` of volume 2, chapter 23).
 ghost use Rattle.std.specs.Prelude.{◌≡◌, ◌≤◌, length};
 ghost use Rattle.flat_ether.specs.declared.sizes.TheConstants.{ICMP_ERROR};
 ghost use Rattle.flat_ether.specs.Errors.{error_at, error_in, error_of, error_fault, is_error, is_icmp, is_error_of, note};
@@ -16,7 +16,7 @@ use flat_model::{Addr, Config};
 use in_cksum::sum_slice;
 use params::PROTOCOL_UDP;
 
-/// Whether a packet is a whole one of ICMP to this host.
+/// Whether a packet is a whole ICMP packet to this host.
 fn is_icmp(config: &Config, came: &[u8]) -> bool
     ensures { result ≡ is_icmp config.now came.now }
 {
@@ -30,7 +30,7 @@ fn is_icmp(config: &Config, came: &[u8]) -> bool
     came[9] == PROTOCOL_ICMP
 }
 
-/// Whether an ICMP message tells an error of a datagram of this host.
+/// Whether an ICMP message reports an error for a datagram of this host.
 fn is_error(config: &Config, body: &[u8]) -> bool
     ensures { result ≡ is_error config.now body.now }
 {
@@ -44,7 +44,7 @@ fn is_error(config: &Config, body: &[u8]) -> bool
         && sum_slice(body) == u16::MAX
 }
 
-/// What a code means for who sent.
+/// What a code means for the sender.
 fn fault_of(code: u8) -> NetFault
     ensures { result ≡ error_fault code }
 {
@@ -54,7 +54,7 @@ fn fault_of(code: u8) -> NetFault
     NetFault::Unreachable
 }
 
-/// The error that an ICMP message tells.
+/// The error that an ICMP message reports.
 fn error_of(body: &[u8]) -> SocketError
     requires { ICMP_ERROR ≤ length body.now }
     ensures { result ≡ error_of body.now }
@@ -67,7 +67,7 @@ fn error_of(body: &[u8]) -> SocketError
     }
 }
 
-/// The error that a packet tells.
+/// The error that a packet reports.
 fn error_in(config: &Config, came: &[u8]) -> Option<SocketError>
     ensures { result ≡ error_in config.now came.now }
 {
@@ -88,15 +88,14 @@ fn is_of(error: &SocketError, port: u16, peer: Addr) -> bool
     error.port == port && error.peer_ip == peer.ip && error.peer_port == peer.port
 }
 
-/// Where the error about datagrams from a port to an address stands.
+/// The place of the error for datagrams from a port to an address.
 fn error_at(errors: &[SocketError], port: u16, peer: Addr) -> Option<usize>
     ensures { result ≡ error_at port peer errors.now }
 {
     errors.iter().position(|e| is_of(e, port, peer))
 }
 
-/// Puts an error in the place of the one about the same port and address, or behind all others; a full list loses its
-/// first.
+/// Replaces the error for the same port and address, or adds it at the end; a full list loses its first element.
 fn note(errors: &mut ArrayVec<SocketError, SOCKET_ERRORS>, error: SocketError)
     ensures { errors.new.items ≡ note error errors.old.items }
 {
@@ -118,8 +117,7 @@ fn note(errors: &mut ArrayVec<SocketError, SOCKET_ERRORS>, error: SocketError)
 impl LinkLayer {
     ghost use Rattle.ether_host.specs.Inside.{link_seen};
 
-    /// A packet came that the stack ended, as one of a protocol that it doesn't know or otherwise: it may tell an
-    /// error.
+    /// A packet arrived that the stack dropped, for an unknown protocol or otherwise: it may report an error.
     pub(crate) fn note(&mut self, no_protocol: bool, came: &[u8])
         ensures { link_seen self.new ≡ notes no_protocol came.now (link_seen self.old) }
     {
@@ -131,7 +129,7 @@ impl LinkLayer {
         }
     }
 
-    /// What was told of the datagrams that went from this port to this peer. It's told once.
+    /// What was reported for the datagrams that were sent from this port to this peer. It's returned once.
     pub(crate) fn take_error(&mut self, port: Option<u16>, peer: Option<Addr>) -> Option<NetFault>
         ensures fault { result ≡ (takes_error port peer (link_seen self.old)).0 }
         ensures link { link_seen self.new ≡ (takes_error port peer (link_seen self.old)).1 }

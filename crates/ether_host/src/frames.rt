@@ -1,4 +1,4 @@
-//! Frames and ARP packets, read and written.
+//! Frames and ARP packets, parsed and written.
 ghost use Rattle.std.specs.Prelude.{◌≡◌, ◌≤◌, ◌+◌, drop, length, take, if◌then◌else◌, ◌/◌, ◌^◌};
 ghost use Rattle.flat_ether.specs.declared.sizes.TheConstants.{ETHER_HEADER};
 ghost use Rattle.flat_ether.specs.Frames.{arp_bytes, arp_of, body_of, frame, header, is_arp, is_bad_source, is_martian, kind_of, packet_kind};
@@ -20,7 +20,7 @@ pub(crate) const ARP: usize = ARP_BYTES as usize;
 /// The hardware type of Ethernet (RFC 826).
 const HARDWARE_ETHERNET: u16 = 1;
 
-/// Addresses of 6 and of 4 bytes.
+/// The lengths of addresses: 6 and 4 bytes.
 const LENGTHS: u16 = 0x0604;
 
 /// The network of an address, its first byte.
@@ -30,7 +30,7 @@ fn network(ip: u32) -> u32
     ip >> 24
 }
 
-/// Whether nobody sends from this address.
+/// Whether no host sends from this address.
 fn is_bad_source(config: &Config, ip: u32) -> bool
     ensures { result ≡ is_bad_source config.now ip }
 {
@@ -46,7 +46,7 @@ fn is_martian(config: &Config, packet: &[u8]) -> bool
             || network(u32_at(packet, 16)) == network(LOOPBACK))
 }
 
-/// What a frame with a packet is.
+/// The kind of a frame with a packet.
 fn packet_kind(config: &Config, packet: &[u8]) -> FrameKind
     ensures { result ≡ packet_kind config.now packet.now }
 {
@@ -87,8 +87,8 @@ fn header(destination: Mac, source: Mac, kind: u16) -> [u8; BODY]
     bytes
 }
 
-/// Writes the header of a frame in front of its body of so many bytes, which stands in the room already. The answer is
-/// how many bytes the frame has.
+/// Writes the header of a frame before its body of `len` bytes, which is in the buffer already. Returns how many bytes
+/// the frame has.
 pub(crate) fn put_frame(
     room: &mut [u8],
     destination: Mac,
@@ -114,7 +114,7 @@ pub(crate) fn body_of(frame: &[u8]) -> &[u8]
     &frame[BODY..]
 }
 
-/// What an ARP packet says, if it's one of Ethernet and IPv4.
+/// The contents of an ARP packet, if it's for Ethernet and IPv4.
 pub(crate) fn read_arp(body: &[u8]) -> Option<Arp>
     ensures { result ≡ (if is_arp body.now then Some (arp_of body.now) else None) }
 {

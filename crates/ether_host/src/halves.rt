@@ -1,4 +1,4 @@
-//! The link's half of a host with a stack that is kept elsewhere, as the C library keeps it.
+//! The link's half of a host whose stack is kept elsewhere, as in the C library.
 ghost use Rattle.std.specs.Prelude.{◌≡◌, ◌+◌, ◌≤◌, length, IfSome};
 ghost use Rattle.params.specs.declared.TheConstants.{IP_MAX_PACKET};
 ghost use Rattle.flat_ether.specs.Claims.{address_state};
@@ -17,7 +17,7 @@ use net_stack::Stack;
 impl LinkLayer {
     ghost use Rattle.ether_host.specs.Inside.{link_seen};
 
-    /// A frame comes, as `EtherHost::receive` has it.
+    /// A frame arrives: see `EtherHost::receive`.
     pub fn receive(&mut self, stack: &mut Stack, frame: &[u8])
         requires { length frame.now ≤ ETHER_HEADER + IP_MAX_PACKET }
         ensures { Hears frame.now (halves stack.old (link_seen self.old)) (halves stack.new (link_seen self.new)) }
@@ -30,8 +30,8 @@ impl LinkLayer {
         }
     }
 
-    /// The next frame for the link, as `EtherHost::transmit` has it. A stack that a caller put in the place of this
-    /// link's may have a longer MTU, which is told before.
+    /// The next frame for the link: see `EtherHost::transmit`. If `stack` isn't the one that this link was booted with,
+    /// the caller first checks that its MTU is at most 1,500.
     pub fn transmit(&mut self, stack: &mut Stack, room: &mut [u8]) -> Option<usize>
         requires mtu { stack.old.config.mtu ≤ ETHER_MTU }
         requires room { ETHER_HEADER + ETHER_MTU ≤ length room.old }
@@ -51,7 +51,8 @@ impl LinkLayer {
         self.give_own(room)
     }
 
-    /// What others told of the datagrams that a connected socket sent to its peer, as `EtherHost::last_error` has it.
+    /// What other hosts reported for the datagrams that a connected socket sent to its peer: see
+    /// `EtherHost::last_error`.
     pub fn last_error(&mut self, stack: &Stack, fd: u32) -> Result<Option<NetFault>, Errno>
         ensures { (result, halves stack.now (link_seen self.new))
             ≡ last_error fd (halves stack.now (link_seen self.old)) }
@@ -62,35 +63,35 @@ impl LinkLayer {
         }
     }
 
-    /// Its hardware address, its mask and its gateway, as boot was told.
+    /// Its hardware address, its mask and its gateway, as given to `boot`.
     pub fn link(&self) -> Link
         ensures { result ≡ (link_seen self.now).link }
     {
         self.link
     }
 
-    /// How far the host is with its address.
+    /// The state of the host's claim to its address.
     pub fn address(&self) -> AddressState
         ensures { result ≡ address_state (link_seen self.now).claim }
     {
         self.claim.state()
     }
 
-    /// What was counted of the link.
+    /// The counters of the link.
     pub fn tallies(&self) -> Tallies
         ensures { result ≡ (link_seen self.now).tallies }
     {
         self.tallies
     }
 
-    /// The neighbours that are known or asked for, the one that was put last at the end.
+    /// The neighbours whose hardware address is known or requested, the most recently updated last.
     pub fn neighbours(&self) -> &[Neighbour]
         ensures { result.now ≡ (link_seen self.now).neighbours }
     {
         self.neighbours.as_slice()
     }
 
-    /// How many packets wait for the hardware address of a next hop. A host keeps eight at most, for all hops.
+    /// How many packets wait for the hardware address of a next hop. A host keeps at most eight, for all hops.
     #[tactic(auto, using(crate::proofs::Places::held_counted))]
     pub fn held_for(&self, hop: u32) -> usize
         ensures { result ≡ held_for hop (link_seen self.now) }

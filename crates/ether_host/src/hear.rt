@@ -1,4 +1,4 @@
-//! What comes: ARP packets, and the answers to others.
+//! What arrives: ARP packets, and packets that get a reply.
 ghost use Rattle.std.specs.Prelude.{◌≡◌, if◌then◌else◌};
 ghost use Rattle.flat_ether.specs.Frames.{arp_of};
 ghost use Rattle.ether_host.specs.Answers.{CanAnswer};
@@ -16,21 +16,21 @@ use flat_ether::{
 impl LinkLayer {
     ghost use Rattle.ether_host.specs.Inside.{link_seen};
 
-    /// A frame that nobody looks at.
+    /// A frame that is ignored.
     pub(crate) fn ignore(&mut self)
         ensures { link_seen self.new ≡ ignores (link_seen self.old) }
     {
         self.tallies.ignored = self.tallies.ignored.saturating_add(1);
     }
 
-    /// A packet whose addresses can't come from a link.
+    /// A packet with addresses that can't come from a link.
     pub(crate) fn refuse(&mut self)
         ensures { link_seen self.new ≡ refuses (link_seen self.old) }
     {
         self.tallies.martians = self.tallies.martians.saturating_add(1);
     }
 
-    /// Learns the sender of an ARP packet, if it's known or asks for this host (RFC 826, "Packet Reception").
+    /// Learns the sender of an ARP packet, if it's in the table or sends to this host (RFC 826, "Packet Reception").
     fn learn(&mut self, arp: Arp)
         ensures { link_seen self.new ≡ learns arp (link_seen self.old) }
     {
@@ -51,7 +51,7 @@ impl LinkLayer {
         }
     }
 
-    /// A request for the address that this host uses is owed a reply.
+    /// A request for the address that this host uses: its sender gets a reply.
     fn owe(&mut self, arp: Arp)
         ensures { link_seen self.new ≡ owes arp (link_seen self.old) }
     {
@@ -68,7 +68,7 @@ impl LinkLayer {
         }
     }
 
-    /// Whether another host has this one's address, or asks for it while this one does.
+    /// Whether another host has this one's address, or probes for it while this one does.
     fn is_conflict(&self, arp: Arp) -> bool
         ensures { result ≡ is_conflict (link_seen self.now) arp }
     {
@@ -89,7 +89,7 @@ impl LinkLayer {
         self.tallies.conflicts = self.tallies.conflicts.saturating_add(1);
     }
 
-    /// An ARP packet that is from another host.
+    /// An ARP packet, if it's from another host.
     fn sound_arp(&self, body: &[u8]) -> Option<Arp>
         ensures { result ≡ (if is_sound_arp self.now.link body.now then Some (arp_of body.now) else None) }
     {
@@ -100,7 +100,7 @@ impl LinkLayer {
         Some(arp)
     }
 
-    /// An ARP packet comes (`in_arpinput` of volume 2, chapter 21).
+    /// An ARP packet arrives (`in_arpinput` of volume 2, chapter 21).
     pub(crate) fn hear_arp(&mut self, body: &[u8])
         ensures { link_seen self.new ≡ hears_arp body.now (link_seen self.old) }
     {
@@ -116,7 +116,7 @@ impl LinkLayer {
         self.owe(arp);
     }
 
-    /// A packet is answered, if the place for an answer is free.
+    /// A reply to a packet is queued, if the place for it is free.
     pub(crate) fn answer_with(&mut self, answer: Answer, came: &[u8])
         requires { CanAnswer answer came.now }
         ensures { link_seen self.new ≡ answers_with answer came.now (link_seen self.old) }

@@ -17,18 +17,18 @@ use net_stack::{BootFault, Stack};
 use std::alloc::Global;
 use thiserror::Error;
 
-/// Why a host isn't booted.
+/// Why a host didn't boot.
 #[derive(Clone, Copy, Debug, PartialEq, Eq, Error)]
 pub enum EtherFault {
-    /// The MTU is above 1,500, the hardware address is that of a group, or the gateway is no neighbour.
+    /// The MTU is above 1,500, the hardware address is that of a group, or the gateway isn't a neighbour.
     #[error("bad link")]
     BadLink,
-    /// Its stack isn't booted.
+    /// Its stack didn't boot.
     #[error(transparent)]
     Unbooted(BootFault),
 }
 
-/// A host on an Ethernet: a stack, and its link. It must be spent, by `end`.
+/// A host on an Ethernet: a stack, and its link. It must be consumed, by `end`.
 pub struct EtherHost {
     pub(crate) stack: Stack,
     pub(crate) layer: LinkLayer,
@@ -36,11 +36,12 @@ pub struct EtherHost {
 
 impl EtherHost {
     /// A host that has just started, and knows no neighbour. It announces its address, after it has probed for it if
-    /// the link says so (RFC 5227). All memory that it will ever need is taken here.
+    /// the link says so (RFC 5227). Allocates all memory that the host will ever need.
     ///
     /// # Errors
     ///
-    /// `BadLink`; else `Unbooted`, if there is no stack by this configuration, or host memory was refused.
+    /// `BadLink`; otherwise `Unbooted`, if there is no stack with this configuration, or the host memory can't be
+    /// allocated.
     pub fn boot(alloc: Global, config: Config, link: Link) -> Result<EtherHost, EtherFault>
         ensures { MatchResult result (λ h. host_of (host_view h) ≡ host_up config link) (IsHostUnbooted config link) }
     {
@@ -60,8 +61,8 @@ impl EtherHost {
         }
     }
 
-    /// The stack, for any call on it. A packet that is handed to its `rx` comes past the link, and one that its `tx`
-    /// gives doesn't go through it.
+    /// The stack, for any call on it. A packet passed to its `rx` bypasses the link, and so does a packet that its `tx`
+    /// gives.
     pub fn stack(&mut self) -> &mut Stack
         ensures* writes_back { sem 𝓛 (LendsStack self.entry result) }
         ensures value { result.now ≡ (host_view self.entry.now).stack }
@@ -69,9 +70,9 @@ impl EtherHost {
         &mut self.stack
     }
 
-    /// A frame comes, without its check sequence. An IPv4 packet goes to the stack as it is, and may be answered; an
-    /// ARP packet is heard; all else is ignored. A packet from a broadcast or multicast address, from 0/8 or 127/8, or
-    /// to 127/8 is dropped here and counted (RFC 1122, section 3.2.1.3).
+    /// A frame arrives, without its check sequence. An IPv4 packet is passed to the stack as it is, and may get a
+    /// reply; an ARP packet is handled; all others are ignored. A packet from a broadcast or multicast address, from
+    /// 0/8 or 127/8, or to 127/8 is dropped here and counted (RFC 1122, section 3.2.1.3).
     pub fn receive(&mut self, frame: &[u8])
         requires { length frame.now ≤ ETHER_HEADER + IP_MAX_PACKET }
         ensures { Hears frame.now (host_of (host_view self.old)) (host_of (host_view self.new)) }
@@ -79,10 +80,10 @@ impl EtherHost {
         self.layer.receive(&mut self.stack, frame);
     }
 
-    /// The next frame for the link, until `None`: call it after each other call. Before the host uses its address
-    /// nothing goes out but probes. The frame's bytes stand in front of the room, and the answer is how many they are.
-    /// The room has 1,514 bytes or more. What stands behind the frame in the room may be anything, and all of it if
-    /// there is none. The network card appends what a short frame lacks, and the check sequence.
+    /// The next frame for the link, until `None`: call it after each other call. Until the host uses its address it
+    /// sends only probes. The frame's bytes are at the front of `room`, and the result is how many they are. `room` has
+    /// at least 1,514 bytes; its bytes after the frame, or all of them if there is no frame, are unspecified. The
+    /// network card adds padding to a short frame, and the check sequence.
     pub fn transmit(&mut self, room: &mut [u8]) -> Option<usize>
         requires mtu { (host_view self.old).stack.config.mtu ≤ ETHER_MTU }
         requires room { ETHER_HEADER + ETHER_MTU ≤ length room.old }
@@ -101,45 +102,45 @@ impl EtherHost {
         self.layer.tick();
     }
 
-    /// How far the host is with its address: whether it asks for it, uses it, or another host has it. In conflict it
-    /// stays silent, and the way on is another address: `end`, and `boot` anew.
+    /// The state of the host's claim to its address: it probes for it, uses it, or another host has it. In conflict it
+    /// stays silent; it needs another address then: `end`, and `boot` again.
     pub fn address(&self) -> AddressState
         ensures { result ≡ address_state (host_view self.now).link.claim }
     {
         self.layer.address()
     }
 
-    /// What others told of the datagrams that a connected socket sent to its peer, if they told anything: it's told
-    /// once (`so_error` of volume 2, chapter 23). The last eight such errors are kept, by port and peer: one that came
-    /// before a socket took the port over is told to that one. Refused: `BadDescriptor`.
+    /// What other hosts reported for the datagrams that a connected socket sent to its peer, if anything: each error is
+    /// returned once (`so_error` of volume 2, chapter 23). The last eight such errors are kept, by port and peer, so an
+    /// error that came before a socket was bound to its port is returned to that socket. Fails with `BadDescriptor`.
     pub fn last_error(&mut self, fd: u32) -> Result<Option<NetFault>, Errno>
         ensures { (result, host_of (host_view self.new)) ≡ last_error fd (host_of (host_view self.old)) }
     {
         self.layer.last_error(&self.stack, fd)
     }
 
-    /// What was counted of the link.
+    /// The counters of the link.
     pub fn tallies(&self) -> Tallies
         ensures { result ≡ (host_view self.now).link.tallies }
     {
         self.layer.tallies()
     }
 
-    /// The neighbours that are known or asked for, the one that was put last at the end.
+    /// The neighbours whose hardware address is known or requested, the most recently updated last.
     pub fn neighbours(&self) -> &[Neighbour]
         ensures { result.now ≡ (host_view self.now).link.neighbours }
     {
         self.layer.neighbours()
     }
 
-    /// How many packets wait for the hardware address of a next hop. A host keeps eight at most, for all hops.
+    /// How many packets wait for the hardware address of a next hop. A host keeps at most eight, for all hops.
     pub fn held_for(&self, hop: u32) -> usize
         ensures { result ≡ held_for hop (host_view self.now).link }
     {
         self.layer.held_for(hop)
     }
 
-    /// Frees all that the host holds, and gives back the pool of its stack, of which everything is free then.
+    /// Frees all that the host holds, and returns the pool of its stack, in which everything is then free.
     pub fn end(self) -> Pool
         ensures { result ≡ free_pool (host_view self).stack.config }
     {

@@ -1,4 +1,4 @@
-//! What a host keeps of its link beside the stack.
+//! The link state that a host keeps as well as the stack.
 ghost use Rattle.std.specs.Prelude.{◌≡◌, ◌≤◌, IfOk, vec_capacity};
 ghost use Rattle.flat_ether.specs.declared.sizes.TheConstants.{HELD_PACKETS};
 
@@ -12,7 +12,7 @@ use flat_ether::{
 use flat_model::Config;
 use std::alloc::{AllocError, Global};
 
-/// The link's half of a host: its state beside the stack. All its memory is taken at boot.
+/// The link's half of a host: its state, without the stack. All its memory is allocated at boot.
 #[derive(Drop)]
 pub struct LinkLayer {
     pub(crate) config: Config,
@@ -32,7 +32,8 @@ impl LinkLayer {
     ghost use Rattle.flat_ether.specs.Links.{link_up};
     ghost use Rattle.ether_host.specs.Inside.{link_seen};
 
-    /// A link of which nothing is known. `AllocError` comes if the host has no memory for the packets that it may hold.
+    /// A link that knows nothing yet. Fails with `AllocError` if the host has no memory for the packets that it may
+    /// hold.
     pub fn boot(alloc: Global, config: Config, link: Link) -> Result<LinkLayer, AllocError>
         ensures { IfOk result (λ l. link_seen l ≡ link_up config link) }
     {

@@ -1,5 +1,5 @@
-//! A stack on an Ethernet: frames in and out, ARP, and the answers of ICMP (TCP/IP Illustrated volume 2, chapters 4, 11
-//! and 21).
+//! A stack on an Ethernet: frames in and out, ARP, and ICMP replies (TCP/IP Illustrated volume 2, chapters 4, 11 and
+//! 21).
 #![tactic(auto)]
 
 mod answer;

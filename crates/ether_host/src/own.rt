@@ -1,5 +1,5 @@
-//! What the link gives of its own accord: ARP replies and requests, packets that
-//! waited, the ICMP answer, and the frames for its address.
+//! What the link sends by itself: ARP replies and requests, packets that waited, the ICMP reply, and the frames for its
+//! address.
 ghost use Rattle.std.specs.Prelude.{◌≡◌, ◌+◌, ◌<◌, ◌≤◌, drop, length, map, take, IfSome};
 ghost use Rattle.flat_ether.specs.declared.sizes.TheConstants.{ETHER_HEADER, ETHER_MTU};
 ghost use Rattle.flat_ether.specs.Claims.{claim_sent};
@@ -17,7 +17,7 @@ use flat_ether::{
     ARP_REPLY, ARP_REQUEST, ClaimFrame, ETHER_BROADCAST, ETHER_TYPE_ARP, Mac, NO_MAC, Neighbour,
 };
 
-/// Where the first packet stands whose next hop is known, and that hop's hardware address.
+/// The place of the first packet whose next hop is known, and that hop's hardware address.
 fn first_ready(neighbours: &[Neighbour], held: &[PacketBuffer]) -> Option<(usize, Mac)>
     ensures is { result ≡ first_ready neighbours.now (map held_in held.now) }
     ensures within { IfSome result (λ found. found.0 < length held.now) }
@@ -30,7 +30,7 @@ fn first_ready(neighbours: &[Neighbour], held: &[PacketBuffer]) -> Option<(usize
     None
 }
 
-/// Writes the body of a frame behind the place of its header.
+/// Writes the body of a frame after the place of its header.
 fn put_body(room: &mut [u8], body: &[u8])
     requires { ETHER_HEADER + length body.now ≤ length room.old }
     ensures { take (length body.now) (drop ETHER_HEADER room.new) ≡ body.now }
@@ -41,8 +41,8 @@ fn put_body(room: &mut [u8], body: &[u8])
 impl LinkLayer {
     ghost use Rattle.ether_host.specs.Inside.{link_seen};
 
-    /// Writes an ARP request for an address, in which the sender's address is this. The answer is how many bytes the
-    /// frame has.
+    /// Writes an ARP request for an address, with `sender` as the sender's address. Returns how many bytes the frame
+    /// has.
     fn request(&self, room: &mut [u8], to: Mac, sender: u32, target: u32) -> usize
         requires { ETHER_HEADER + ETHER_MTU ≤ length room.old }
         ensures frame { take result room.new ≡ request (link_seen self.now) to sender target }
@@ -53,8 +53,8 @@ impl LinkLayer {
         put_frame(room, to, self.link.mac, ETHER_TYPE_ARP, ARP)
     }
 
-    /// Writes a request for the host's own address, in which the sender's address is this: 0 makes it a probe, and the
-    /// same one an announcement.
+    /// Writes a request for the host's own address, with `sender` as the sender's address: 0 makes it a probe, the
+    /// host's address an announcement.
     fn ask_for_own(&mut self, room: &mut [u8], sender: u32) -> usize
         requires { ETHER_HEADER + ETHER_MTU ≤ length room.old }
         ensures frame { take result room.new
@@ -81,7 +81,7 @@ impl LinkLayer {
         }
     }
 
-    /// The ARP reply that is owed longest.
+    /// The ARP reply that has been due longest.
     fn give_reply(&mut self, room: &mut [u8]) -> Option<usize>
         requires { ETHER_HEADER + ETHER_MTU ≤ length room.old }
         ensures frame { room_front result room.new ≡ (gives_reply (link_seen self.old)).0 }
@@ -133,7 +133,7 @@ impl LinkLayer {
         Some(self.framed(room, mac, len))
     }
 
-    /// The next packet of the answer that waits goes as each packet does.
+    /// The next packet of the reply that waits; it's sent like any other packet.
     fn give_answer(&mut self, room: &mut [u8]) -> Option<usize>
         requires { ETHER_HEADER + ETHER_MTU ≤ length room.old }
         ensures frame { room_front result room.new ≡ (gives_answer (link_seen self.old)).0 }
@@ -144,7 +144,7 @@ impl LinkLayer {
         self.send(room, len)
     }
 
-    /// The next of these.
+    /// The next of these frames.
     pub(crate) fn give_own(&mut self, room: &mut [u8]) -> Option<usize>
         requires { ETHER_HEADER + ETHER_MTU ≤ length room.old }
         ensures frame { room_front result room.new ≡ (gives_own (link_seen self.old)).0 }

@@ -1,4 +1,4 @@
-//! The ways of packets: from a frame to the stack, and from the stack into frames.
+//! The routes of packets: from a frame to the stack, and from the stack into frames.
 ghost use Rattle.std.specs.Prelude.{◌≡◌, ◌+◌, ◌≤◌, drop, length, IfSome};
 ghost use Rattle.params.specs.declared.TheConstants.{IP_MAX_PACKET};
 ghost use Rattle.flat_model.specs.Machine.Event.{Comes, Done, Transmit};
@@ -20,8 +20,8 @@ use crate::layer::LinkLayer;
 use flat_model::Counter;
 use net_stack::Stack;
 
-/// The stack takes a packet. Whether it ended as a datagram that no socket takes, and as one of a protocol that it
-/// doesn't know.
+/// The stack takes a packet. Returns whether it was dropped as a datagram without a socket, and as one of an unknown
+/// protocol.
 fn arrive(stack: &mut Stack, packet: &[u8]) -> (bool, bool)
     requires { length packet.now ≤ IP_MAX_PACKET }
     ensures step { Step (state_of stack.old) (Comes packet.now) Done (state_of stack.new) }
@@ -36,7 +36,7 @@ fn arrive(stack: &mut Stack, packet: &[u8]) -> (bool, bool)
     (no_port, no_protocol)
 }
 
-/// A frame with a packet comes: the stack takes the packet, and the link may answer it.
+/// A frame with a packet arrives: the stack takes the packet, and the link may queue a reply.
 pub(crate) fn take_packet(stack: &mut Stack, layer: &mut LinkLayer, frame: &[u8])
     requires long { ETHER_HEADER ≤ length frame.now }
     requires most { length frame.now ≤ ETHER_HEADER + IP_MAX_PACKET }
@@ -53,7 +53,7 @@ pub(crate) fn take_packet(stack: &mut Stack, layer: &mut LinkLayer, frame: &[u8]
     }
 }
 
-/// Takes the packet that has waited longest from the stack, and puts it behind the place of a header.
+/// Takes the packet that has waited longest from the stack, and puts it after the place of a header.
 fn take(stack: &mut Stack, room: &mut [u8]) -> Option<usize>
     requires mtu { stack.old.config.mtu ≤ ETHER_MTU }
     requires room { ETHER_HEADER + ETHER_MTU ≤ length room.old }
@@ -64,7 +64,7 @@ fn take(stack: &mut Stack, room: &mut [u8]) -> Option<usize>
     stack.tx(&mut room[BODY..])
 }
 
-/// Takes packets from the stack until one goes out.
+/// Takes packets from the stack until one is sent.
 pub(crate) fn drain(stack: &mut Stack, layer: &mut LinkLayer, room: &mut [u8]) -> Option<usize>
     requires mtu { stack.old.config.mtu ≤ ETHER_MTU }
     requires room { ETHER_HEADER + ETHER_MTU ≤ length room.old }

@@ -1,4 +1,4 @@
-//! The ICMP answer that goes out: a message, in as many packets as the MTU of the link makes of it (RFC 791, section
+//! The ICMP reply that is being sent: a message, in as many packets as the MTU of the link requires (RFC 791, section
 //! 3.2; RFC 1122, section 3.2.2.6).
 ghost use Rattle.std.specs.Prelude.{◌≡◌, ◌+◌, ◌%◌, ◌<◌, ◌≤◌, ◌++◌, [], drop, length, option_map, slice_get, take, is_some, true, IfSome};
 ghost use Rattle.params.specs.declared.TheConstants.{FRAGMENT_UNIT, IP_HEADER, MIN_MTU};
@@ -17,7 +17,7 @@ use flat_model::Config;
 use ip_out::{IpHead, write_head};
 use params::{FRAGMENT_UNIT, IP_DEFAULT_TTL, MIN_MTU};
 
-/// A message of ICMP back to whom a packet came from, cut for the link, and how many of its packets have gone.
+/// An ICMP message back to the sender of a packet, fragmented for the link, and how many of its packets were sent.
 #[derive(Drop)]
 pub(crate) struct Reply {
     source: u32,
@@ -32,7 +32,7 @@ pub(crate) struct Reply {
     ghost left: { waits ≡ true → gone < length (cuts message.len mtu) },
 }
 
-/// Writes bytes, and others behind them, over the front of a room.
+/// Writes bytes, and others after them, over the front of a buffer.
 pub(crate) fn put_both(room: &mut [u8], front: &[u8], rest: &[u8])
     requires { length front.now + length rest.now ≤ length room.old }
     ensures { take (length front.now + length rest.now) room.new ≡ front.now ++ rest.now }
@@ -44,7 +44,7 @@ pub(crate) fn put_both(room: &mut [u8], front: &[u8], rest: &[u8])
 impl Reply {
     ghost use Rattle.ether_host.specs.Replies.{IsPartAt, packets_left, part_seen, share_head};
 
-    /// None.
+    /// No reply.
     pub(crate) fn blank() -> Reply
         ensures { packets_left result ≡ [] }
     {
@@ -59,14 +59,14 @@ impl Reply {
         }
     }
 
-    /// Whether packets of it wait.
+    /// Whether packets of it still wait.
     pub(crate) fn waits(&self) -> bool
         ensures { result ≡ is_some (slice_get (packets_left self.now) 0) }
     {
         self.waits
     }
 
-    /// Takes a message to whom a packet came from.
+    /// Takes a message to the sender of a packet.
     pub(crate) fn put(&mut self, config: &Config, came: &[u8], kind: u8, code: u8, rest: &[u8])
         requires long { IP_HEADER ≤ length came.now }
         requires most { IP_HEADER + 4 + length rest.now ≤ ETHER_MTU }
@@ -129,7 +129,7 @@ impl Reply {
         bytes
     }
 
-    /// Writes the next packet behind the place of a frame's header. The answer is how many bytes it has.
+    /// Writes the next packet after the place of a frame's header. Returns how many bytes it has.
     pub(crate) fn next(&mut self, room: &mut [u8]) -> Option<usize>
         requires { ETHER_HEADER + ETHER_MTU ≤ length room.old }
         ensures packet { option_map (λ n. take n (drop ETHER_HEADER room.new)) result

@@ -1,4 +1,4 @@
-//! A packet that goes out: to its next hop, or into a place where it waits.
+//! A packet is sent: to its next hop, or into a buffer where it waits.
 ghost use Rattle.std.specs.Prelude.{◌≡◌, ◌+◌, ◌<◌, ◌≤◌, ◌∷◌, ◌++◌, [], length, map, take, drop, IfSome, vec_capacity, vec_len};
 ghost use Rattle.params.specs.declared.TheConstants.{IP_HEADER};
 ghost use Rattle.flat_ether.specs.declared.sizes.TheConstants.{ETHER_HEADER, ETHER_MTU, ETHER_TYPE_IP};
@@ -15,8 +15,8 @@ use crate::table::{mac_of, place_of, put};
 use flat_ether::{ETHER_BROADCAST, ETHER_TYPE_IP, HELD_PACKETS, Mac, Neighbour, Route};
 use params::IP_HEADER;
 
-/// Puts a packet, with its next hop, behind those that wait already. It's written in its place, so that no copy of a
-/// whole buffer stands on the call stack.
+/// Adds a packet, with its next hop, after those that wait already. It's written in its place, so that no copy of a
+/// whole buffer is on the call stack.
 fn put_packet(held: &mut Vec<PacketBuffer>, hop: u32, packet: &[u8])
     requires capacity { vec_len held.old < vec_capacity held.old }
     requires fits { length packet.now ≤ ETHER_MTU }
@@ -33,8 +33,8 @@ fn put_packet(held: &mut Vec<PacketBuffer>, hop: u32, packet: &[u8])
 impl LinkLayer {
     ghost use Rattle.ether_host.specs.Inside.{link_seen};
 
-    /// A packet waits for the hardware address of its next hop; where no place is free, the one that has waited longest
-    /// is dropped.
+    /// A packet waits for the hardware address of its next hop; if no place is free, the one that has waited longest is
+    /// dropped.
     fn hold(&mut self, hop: u32, packet: &[u8])
         ensures { link_seen self.new ≡ holds_packet hop packet.now (link_seen self.old) }
     {
@@ -49,7 +49,7 @@ impl LinkLayer {
         put_packet(&mut self.held, hop, packet);
     }
 
-    /// A next hop that isn't known is asked for.
+    /// Requests the hardware address of a next hop that isn't known.
     fn ask(&mut self, hop: u32)
         ensures { link_seen self.new ≡ asks hop (link_seen self.old) }
     {
@@ -66,7 +66,7 @@ impl LinkLayer {
         }
     }
 
-    /// The way of a packet; one without a header has none.
+    /// The route of a packet; one without a header has none.
     fn route_of(&self, packet: &[u8]) -> Route
         ensures { result ≡ route_of (link_seen self.now) packet.now }
     {
@@ -76,8 +76,8 @@ impl LinkLayer {
         self.link.route(&self.config, u32_at(packet, 16))
     }
 
-    /// Sends the packet of so many bytes that stands in the room behind the place of a header: the answer is how many
-    /// bytes the frame has, or `None` if it waits, or has no way.
+    /// Sends the packet of `len` bytes that is in the buffer after the place of a header. Returns how many bytes the
+    /// frame has, or `None` if the packet waits or has no route.
     pub(crate) fn send(&mut self, room: &mut [u8], len: usize) -> Option<usize>
         requires { ETHER_HEADER + len ≤ length room.old }
         ensures frame { room_front result room.new
@@ -104,7 +104,7 @@ impl LinkLayer {
         }
     }
 
-    /// Makes a frame of the packet of so many bytes in the room.
+    /// Makes a frame of the packet of `len` bytes in the buffer.
     pub(crate) fn framed(&self, room: &mut [u8], mac: Mac, len: usize) -> usize
         requires { ETHER_HEADER + len ≤ length room.old }
         ensures frame { take result room.new

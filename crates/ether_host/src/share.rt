@@ -1,10 +1,10 @@
-//! How a message is cut for the link.
+//! How a message is fragmented for the link.
 ghost use Rattle.std.specs.Prelude.{◌≡◌, ◌*◌, ◌<◌, ◌≤◌};
 ghost use Rattle.flat_ether.specs.declared.sizes.TheConstants.{ETHER_MTU};
 ghost use Rattle.flat_model.specs.Fragments.Cuts.{part};
 ghost use Rattle.ether_host.specs.Replies.{part_seen};
 
-/// What one packet carries of a message: from which byte on, how many, and whether more come after it.
+/// The part of a message that one packet carries: its first byte, its length, and whether another part follows.
 #[derive(Clone, Copy)]
 pub(crate) struct Share {
     pub(crate) offset: usize,
@@ -12,7 +12,7 @@ pub(crate) struct Share {
     pub(crate) more: bool,
 }
 
-/// The share at a place, of a message of so many bytes that's cut into chunks.
+/// The share at a place, of a message of `len` bytes that is cut into chunks.
 pub(crate) fn share_at(len: usize, chunk: usize, at: usize) -> Share
     requires inside { at * chunk < len }
     requires len { len ≤ ETHER_MTU }

@@ -7,14 +7,14 @@ use flat_ether::{
     ARP_POLLS, ARP_RETRY_TICKS, ARP_TRIES, ETHER_BROADCAST, Mac, NEIGHBOURS, Neighbour,
 };
 
-/// Where the neighbour with this address stands.
+/// The place of the neighbour with this address.
 pub(crate) fn place_of(neighbours: &[Neighbour], ip: u32) -> Option<usize>
     ensures { result ≡ neighbour_place ip neighbours.now }
 {
     neighbours.iter().position(|n| n.ip == ip)
 }
 
-/// The hardware address last heard for an address.
+/// The hardware address last received for an address.
 pub(crate) fn mac_of(neighbours: &[Neighbour], ip: u32) -> Option<Mac>
     ensures { result ≡ mac_of ip neighbours.now }
 {
@@ -24,7 +24,7 @@ pub(crate) fn mac_of(neighbours: &[Neighbour], ip: u32) -> Option<Mac>
     }
 }
 
-/// Whether a neighbour that is known is asked again before it's forgotten.
+/// Whether a known neighbour gets another request before its entry expires.
 fn is_poll_due(neighbour: &Neighbour) -> bool
     ensures { result ≡ is_poll_due neighbour.now }
 {
@@ -43,7 +43,7 @@ fn is_due(neighbour: &Neighbour) -> bool
     neighbour.ticks == 0 && neighbour.tries < ARP_TRIES
 }
 
-/// The neighbour after a request for it went out.
+/// The neighbour after a request for it was sent.
 pub(crate) fn asked_again(neighbour: Neighbour) -> Neighbour
     ensures { result ≡ asked_again neighbour }
 {
@@ -58,7 +58,7 @@ pub(crate) fn asked_again(neighbour: Neighbour) -> Neighbour
     }
 }
 
-/// To whom a request for it goes: to itself if it's known, and else to all.
+/// The destination of a request for it: the neighbour itself if it's known, otherwise the broadcast address.
 pub(crate) fn asked_at(mac: Option<Mac>) -> Mac
     ensures { result ≡ asked_at mac }
 {
@@ -68,14 +68,14 @@ pub(crate) fn asked_at(mac: Option<Mac>) -> Mac
     }
 }
 
-/// Where the first neighbour stands for which a request is due.
+/// The place of the first neighbour for which a request is due.
 pub(crate) fn due(neighbours: &[Neighbour]) -> Option<usize>
     ensures { result ≡ position is_request_due neighbours.now }
 {
     neighbours.iter().position(|n| is_due(n))
 }
 
-/// Puts a neighbour in the place of the one with its address, or behind all others; a full table loses its first.
+/// Replaces the neighbour with its address, or adds it at the end; a full table loses its first entry.
 pub(crate) fn put(neighbours: &mut ArrayVec<Neighbour, NEIGHBOURS>, neighbour: Neighbour)
     ensures { neighbours.new.items ≡ put neighbour neighbours.old.items }
 {

@@ -17,7 +17,7 @@ fn aged(neighbour: Neighbour) -> Neighbour
     Neighbour { ticks, ..neighbour }
 }
 
-/// Whether it's known still, or another request may go out.
+/// Whether it's still known, or another request may be sent.
 fn stays(neighbour: &Neighbour) -> bool
     ensures { result ≡ neighbour_stays neighbour.now }
 {
@@ -39,7 +39,7 @@ fn age(neighbours: &[Neighbour]) -> ArrayVec<Neighbour, NEIGHBOURS>
     kept
 }
 
-/// Drops the packets whose next hop is neither known nor asked for.
+/// Drops the packets whose next hop is neither known nor requested.
 fn keep(held: &mut Vec<PacketBuffer>, neighbours: &[Neighbour])
     ensures kept { held.new.items ≡ filter (has_hope_in neighbours.now) held.old.items }
     ensures room { vec_capacity held.new ≡ vec_capacity held.old }
@@ -57,8 +57,8 @@ fn keep(held: &mut Vec<PacketBuffer>, neighbours: &[Neighbour])
 impl LinkLayer {
     ghost use Rattle.ether_host.specs.Inside.{link_seen};
 
-    /// A tick: what isn't known any more is forgotten, and the packets that waited for it are given up (`arptimer` of
-    /// volume 2, chapter 21).
+    /// A tick: entries that expired are removed, and the packets that waited for them are dropped (`arptimer` of volume
+    /// 2, chapter 21).
     pub fn tick(&mut self)
         ensures { link_seen self.new ≡ ticks (link_seen self.old) }
     {

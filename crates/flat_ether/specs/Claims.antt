@@ -18,8 +18,8 @@ claim_up probe =
       lost = false;
     }
 
--- The address is used: no probe is left to send, and the wait after the last one is over (section 2.1.1). Once an
--- announcement went out, it stays so.
+-- The address is in use: no probe is left to send, and the wait after the last one is over (section 2.1.1). Once an
+-- announcement was sent, it stays so.
 abbrev pub is_claimed : Claim → Bool
 is_claimed k = not k.lost && ((k.probes == 0) && ((k.wait == 0) || nat_lt k.announcements ANNOUNCEMENTS))
 
@@ -33,7 +33,7 @@ claim_due k =
     then Nothing
     else if nat_lt 0 k.probes then Probe else if nat_lt 0 k.announcements then Announcement else Nothing
 
--- what was due went out
+-- the due frame was sent
 abbrev pub claim_sent : Claim → Claim
 claim_sent k =
     if nat_lt 0 k.probes
@@ -43,10 +43,11 @@ claim_sent k =
 abbrev pub claim_ticks : Claim → Claim
 claim_ticks k = record k { wait = k.wait - 1; defence = k.defence - 1 }
 
--- one announcement more, once in ten seconds at most (section 2.4)
+-- one more announcement, at most once in ten seconds (section 2.4)
 abbrev pub defends : Claim → Claim
 defends k = if nat_lt 0 k.defence then k else record k { announcements = max k.announcements 1; defence = DEFEND_TICKS }
 
--- another host has the address, or asks for it at the same time: before it's used it's given up (section 2.1.1)
+-- another host has the address, or probes for it at the same time: if it isn't in use yet, it's given up (section
+-- 2.1.1)
 abbrev pub conflicts : Claim → Claim
 conflicts k = if is_claimed k then defends k else record k { lost = true }

@@ -14,7 +14,7 @@ use Rattle.flat_ether.specs.declared.sizes.TheConstants.{ETHER_HEADER, ETHER_TYP
 abbrev pub mac_bytes : Mac → List ℕ
 mac_bytes m = two_bytes m.high ++ four_bytes m.low
 
--- the one in the six bytes from a place on
+-- the one in the six bytes that begin at a place
 abbrev pub mac_at : ℕ → List ℕ → Mac
 mac_at at bytes = record { high = u16_at at bytes; low = u32_at (at + 2) bytes }
 
@@ -25,7 +25,7 @@ same_mac a b = (a.high == b.high) && (a.low == b.low)
 abbrev pub ether_broadcast : Mac
 ether_broadcast = record { high = 0xffff; low = 0xffffffff }
 
--- what a request has in place of the address that it asks for
+-- what a request has instead of the hardware address that it looks for
 abbrev pub no_mac : Mac
 no_mac = record { high = 0; low = 0 }
 
@@ -40,12 +40,12 @@ frame destination source kind body = header destination source kind ++ body
 abbrev pub body_of : List ℕ → List ℕ
 body_of f = drop ETHER_HEADER f
 
--- ---- packets whose addresses can't come from a link (RFC 1122, section 3.2.1.3)
+-- ---- packets with addresses that can't come from a link (RFC 1122, section 3.2.1.3)
 
 abbrev pub is_loopback : ℕ → Bool
 is_loopback ip = ip / 2 ^ 24 == LOOPBACK / 2 ^ 24
 
--- of 0/8 or 127/8, a multicast address or above, or this network's broadcast address: nobody sends from it
+-- in 0/8 or 127/8, a multicast address or above, or this network's broadcast address: no host sends from it
 abbrev pub is_bad_source : Config → ℕ → Bool
 is_bad_source c ip = nat_lt ip (2 ^ 24) || (nat_le FIRST_MULTICAST ip || (is_loopback ip || (ip == c.bcast)))
 
@@ -55,7 +55,7 @@ is_martian c packet =
 
 -- ---- what a frame is for a host
 
--- it has a header, and goes to this hardware address or to all
+-- it has a header, and is addressed to this hardware address or to the broadcast address
 abbrev pub is_heard : Mac → List ℕ → Bool
 is_heard mac f = nat_le ETHER_HEADER (length f) && (same_mac (mac_at 0 f) mac || same_mac (mac_at 0 f) ether_broadcast)
 

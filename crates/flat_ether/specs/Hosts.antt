@@ -27,14 +27,14 @@ pub record Host : Type 0 where
 abbrev pub host_up : Config → Link → Host
 host_up c l = record { machine = boot c; link = link_up c l }
 
--- ---- a frame comes
+-- ---- a frame arrives
 
--- the frame names this host alone
+-- the frame is addressed to this host, not broadcast
 abbrev pub is_to_us : LinkState → List ℕ → Bool
 is_to_us s f = same_mac (mac_at 0 f) s.link.mac
 
--- what the link does once the machine has taken the packet of a frame: one that came to all is never answered, and no
--- error is taken from it
+-- what the link does after the machine has taken the packet of a frame: a broadcast one gets no reply, and no error is
+-- taken from it
 abbrev pub answers : List ℕ → State → State → LinkState → LinkState
 answers f old new s =
     if is_to_us s f
@@ -42,7 +42,7 @@ answers f old new s =
     (answers_with (answer_to s.config (body_of f) old new) (body_of f) s)
     else s
 
--- a packet comes to the machine as it is in the frame
+-- a packet is given to the machine as it is in the frame
 pub record TakesPacket (f : List ℕ) (old new : Host) : Type 0 where
   pub machine : Step old.machine (Comes (body_of f)) Done new.machine
   pub link : new.link ≡ answers f old.machine new.machine old.link
@@ -56,9 +56,9 @@ HearsKind Other f old new = new ≡ record old { link = ignores old.link }
 abbrev pub Hears : List ℕ → Host → Host → Type 0
 Hears f old new = HearsKind (kind_of old.link.config old.link.link.mac f) f old new
 
--- ---- a frame goes
+-- ---- a frame is sent
 
--- what the machine's packets come to, one after another, until one goes out: the frame, the packets that still wait
+-- what happens to the machine's packets, one after another, until one is sent: the frame, the packets that still wait
 -- for the link, and the link then
 pub record Drained : Type 0 where
   pub frame : Option (List ℕ)
@@ -73,11 +73,11 @@ abbrev pub drained : List Item → LinkState → Drained
 drained [] s = record { frame = None; output = []; link = s }
 drained (item ∷ later) s = or_drains (sends item.bytes s) later (drained later (sends item.bytes s).1)
 
--- the machine whose output queue has these packets left
+-- the machine with these packets left in its output queue
 abbrev pub with_output_left : State → List Item → State
 with_output_left s output = record s { output = output }
 
--- the machine has nothing that goes out now: what waits since then may have to be asked for
+-- the machine has no packet that can be sent now: a packet that waits since then may need an ARP request
 abbrev pub gives_after : Host → Drained → Option (List ℕ) × Host
 gives_after h d =
     if is_some d.frame
@@ -87,7 +87,7 @@ gives_after h d =
 abbrev pub gives_drained : Host → LinkState → Option (List ℕ) × Host
 gives_drained h s = gives_after h (drained h.machine.output s)
 
--- the link's own frames first, then what the machine gives, and then the requests for what waits by that
+-- the link's own frames first, then the machine's packets, and then the requests for packets that wait because of them
 abbrev pub gives_claimed : Host → Option (List ℕ) × Host
 gives_claimed h =
     let own = gives_own h.link in
@@ -97,18 +97,19 @@ gives_claimed h =
 abbrev pub gives_probe : Host → Option (List ℕ) × Host
 gives_probe h = ((gives_claim h.link).0, record h { link = (gives_claim h.link).1 })
 
--- the next frame for the link, and the host then: before it has its address nothing goes out but probes
+-- the next frame for the link, and the host then: until it has its address, it sends only probes
 abbrev pub gives : Host → Option (List ℕ) × Host
 gives h = if is_claimed h.link.claim then gives_claimed h else gives_probe h
 
--- ---- a question for an error
+-- ---- a query for an error
 
 abbrev pub error_of_socket : Option Socket → Host → Result (Option NetFault) Errno × Host
 error_of_socket None h = (Err BadDescriptor, h)
 error_of_socket (Some me) h =
     (Ok (takes_error me.port me.peer h.link).0, record h { link = (takes_error me.port me.peer h.link).1 })
 
--- what others told of the datagrams that a connected socket sent to its peer, and the host then: it's told once
+-- what other hosts reported for the datagrams that a connected socket sent to its peer, and the host then: each error
+-- is returned once
 abbrev pub last_error : ℕ → Host → Result (Option NetFault) Errno × Host
 last_error fd h = error_of_socket (socket_at fd h.machine) h
 
@@ -120,9 +121,8 @@ pub record Ticks (old new : Host) : Type 0 where
 
 -- ---- whole runs
 
--- what is done with a host: a frame comes, the link takes the next one, the clock ticks, a call is made on its stack,
--- an error is asked for, or the link alone is a tick older, where a caller keeps both halves and lets the stack tick by
--- a call
+-- what is done with a host: a frame arrives, the link takes the next one, the clock ticks, a call is made on its stack,
+-- an error is queried, or only the link is a tick older, if a caller keeps both halves and ticks the stack by a call
 pub data HostAct : Type 0 where
   Comes_in : (frame : List ℕ) → HostAct
   Goes_out : (frame : Option (List ℕ)) → HostAct

@@ -1,4 +1,4 @@
--- What holds of whole runs of a host (this project's own).
+-- What holds for whole runs of a host (this project's own).
 use Rattle.std.specs.Prelude.{◌≡◌, ◌≢◌, ◌⊎◌, ℕ, ◌<◌, ◌≤◌, ◌+◌, ◌^◌, List, [], ◌∷◌, ◌++◌, length, slice_index, filter_map, option_to_list, All, Contains, Option, Some, None, Bool, true, ◌==◌, ◌&&◌, if◌then◌else◌}
 use Rattle.params.specs.declared.TheConstants.{PROTOCOL_UDP}
 use Rattle.flat_model.specs.Machine.Ledger.{exact_ledger}
@@ -22,16 +22,17 @@ use Rattle.flat_ether.specs.declared.link.Route.TheVariants.{All as To_all, Hop}
 use Rattle.flat_ether.specs.declared.mac.Mac.{Mac}
 use Rattle.flat_ether.specs.declared.sizes.TheConstants.{ETHER_TYPE_ARP, ETHER_TYPE_IP}
 
--- ---- what comes
+-- ---- what arrives
 
--- the packet of a frame of this sort
+-- the packet of a frame of this kind
 abbrev pub packet_if : FrameKind → List ℕ → List (List ℕ)
 packet_if Packet f = body_of f ∷ []
 packet_if Martian f = []
 packet_if Arp f = []
 packet_if Other f = []
 
--- the packets that come to the machine in an act: that of a frame for the host, or one that the program hands to `rx`
+-- the packets that are given to the machine in an act: that of a frame for the host, or one that the program passes to
+-- `rx`
 abbrev pub packets_in : Config → Mac → HostAct → List (List ℕ)
 packets_in c mac (Comes_in f) = packet_if (kind_of c mac f) f
 packets_in c mac (Goes_out f) = []
@@ -44,7 +45,7 @@ abbrev pub packets_to : Config → Mac → List HostAct → List (List ℕ)
 packets_to c mac [] = []
 packets_to c mac (act ∷ acts) = packets_in c mac act ++ packets_to c mac acts
 
--- how many packets a frame of this sort brings that can't come from a link (RFC 1122, section 3.2.1.3)
+-- how many packets that can't come from a link a frame of this kind brings (RFC 1122, section 3.2.1.3)
 abbrev pub martian_if : FrameKind → ℕ
 martian_if Packet = 0
 martian_if Martian = 1
@@ -59,12 +60,12 @@ martian_in c mac (Calls turn) = 0
 martian_in c mac (Asks_error fd fault) = 0
 martian_in c mac Ages = 0
 
--- how many such packets came in these acts
+-- how many such packets arrived in these acts
 abbrev pub martians_in : Config → Mac → List HostAct → ℕ
 martians_in c mac [] = 0
 martians_in c mac (act ∷ acts) = martian_in c mac act + martians_in c mac acts
 
--- ---- what goes
+-- ---- what is sent
 
 abbrev pub frame_in : HostAct → List (List ℕ)
 frame_in (Comes_in f) = f ∷ []
@@ -82,7 +83,7 @@ frame_out (Calls turn) = []
 frame_out (Asks_error fd fault) = []
 frame_out Ages = []
 
--- the frames that went
+-- the frames that were sent
 abbrev pub frames_out : List HostAct → List (List ℕ)
 frames_out [] = []
 frames_out (act ∷ acts) = frame_out act ++ frames_out acts
@@ -94,7 +95,7 @@ arp_if Martian f = None
 arp_if Arp f = Some (body_of f)
 arp_if Other f = None
 
--- this ARP packet says the hardware address of the host with this address
+-- this ARP packet gives the hardware address of the host with this address
 abbrev pub tells : Link → ℕ → List ℕ → Bool
 tells l ip b = is_sound_arp l b && ((arp_of b).ip == ip)
 
@@ -102,19 +103,20 @@ abbrev pub told_in : Link → ℕ → Option (List ℕ) → Option Mac → Optio
 told_in l ip None before = before
 told_in l ip (Some b) before = if tells l ip b then Some (arp_of b).mac else before
 
--- the hardware address that the last of these frames says of an address, the first of which came last
+-- the hardware address that the most recent of these frames gives for an address; the list begins with the most recent
 abbrev pub last_told : Config → Link → ℕ → List (List ℕ) → Option Mac
 last_told c l ip [] = None
 last_told c l ip (f ∷ before) = told_in l ip (arp_if (kind_of c l.mac f) f) (last_told c l ip before)
 
--- the machine gave the packet, or it's one of those that answer the packet of a frame which came before
+-- the machine gave the packet, or it's part of the reply to the packet of a frame that arrived before
 abbrev pub IsMade : Config → List (List ℕ) → List (List ℕ) → List ℕ → Type 0
 IsMade c frames given packet =
     Contains given packet
     ⊎ ((frame : List ℕ) × Contains frames frame
     × (Contains (echo_reply c (body_of frame)) packet ⊎ Contains (port_unreachable c (body_of frame)) packet))
 
--- to all, where that is the packet's route; else to the hardware address that was last told for its next hop
+-- to the broadcast address if that is the packet's route; otherwise to the hardware address that was given last for its
+-- next hop
 abbrev pub IsRoute : Config → Link → List (List ℕ) → List ℕ → Mac → Type 0
 IsRoute c l frames packet mac =
     ((route_to c l packet ≡ To_all) × (mac ≡ ether_broadcast))
@@ -128,7 +130,7 @@ pub record CarriesPacket (c : Config) (l : Link) (frames given : List (List ℕ)
   pub made : IsMade c frames given packet
   pub route : IsRoute c l frames packet mac
 
--- a frame with an ARP packet of the host, in which its address is that of the sender, or 0 in a probe
+-- a frame with an ARP packet of the host, which has its address as the sender's, or 0 in a probe
 pub record IsOwnArp (c : Config) (l : Link) (f : List ℕ) : Type 0 where
   pub op : ℕ
   pub sender : ℕ
@@ -141,32 +143,33 @@ pub record IsOwnArp (c : Config) (l : Link) (f : List ℕ) : Type 0 where
 abbrev pub IsFrameSent : Config → Link → List (List ℕ) → List (List ℕ) → List ℕ → Type 0
 IsFrameSent c l frames given f = IsOwnArp c l f ⊎ CarriesPacket c l frames given f
 
--- the frames that came before an act and in it, the last one first
+-- the frames that arrived before an act and in it, the most recent first
 abbrev pub frames_then : HostAct → List (List ℕ) → List (List ℕ)
 frames_then act before = frame_in act ++ before
 
--- Each frame that goes in one of these acts is sent so, after the frames that came before it. `given` are the packets
--- that the machine gave.
+-- Each frame that is sent in one of these acts is sent so, after the frames that arrived before it. `given` are the
+-- packets that the machine gave.
 abbrev pub AreSent : Config → Link → List (List ℕ) → List (List ℕ) → List HostAct → Type 0
 AreSent c l given before [] = Unit {0}
 AreSent c l given before (act ∷ acts) =
     All (IsFrameSent c l before given) (frame_out act) × AreSent c l given (frames_then act before) acts
 
--- These acts are turns of the machine. What came in these are the packets of the frames for the host, in their order;
--- and each frame that went is an ARP packet of the host, or has a packet that the machine gave or that answers one.
+-- These acts are turns of the machine. In these turns the packets of the frames for the host arrived, in their order.
+-- Each frame that was sent is an ARP packet of the host, or has a packet that the machine gave or that is part of a
+-- reply.
 pub record MakesTurns (c : Config) (l : Link) (acts : List HostAct) (new : Host) : Type 0 where
   pub turns : List Turn
   pub leads : Leads exact_ledger (boot c) turns new.machine
   pub came : filter_map packet_in turns ≡ packets_to c l.mac acts
   pub went : AreSent c l (filter_map packet_out turns) [] acts
 
--- ---- in whose name a host sends
+-- ---- the source addresses that a host uses
 
 -- the packet's source is one of the host's addresses
 abbrev pub IsOwn : Config → List ℕ → Type 0
 IsOwn c packet = is_ours c (ip_source packet) ≡ true
 
--- a packet that the frame has is no longer than this
+-- the frame has no packet that is longer than this
 abbrev pub IsWithin : ℕ → List ℕ → Type 0
 IsWithin mtu f = u16_at 12 f ≡ ETHER_TYPE_IP → length (body_of f) ≤ mtu
 
@@ -180,9 +183,9 @@ IsUdpFrame f = (u16_at 12 f ≡ ETHER_TYPE_IP) × (slice_index (body_of f) 9 ≡
 abbrev pub IsInFrames : List (List ℕ) → List ℕ → Type 0
 IsInFrames frames packet = (f : List ℕ) × Contains frames f × (u16_at 12 f ≡ ETHER_TYPE_IP) × (body_of f ≡ packet)
 
--- Two hosts from their start. What came to the second as a packet of UDP with the first's address stood in a frame that
--- the first gave, in any order and any number of times; the first sent fewer than 65,536 times; and the second doesn't
--- have the first's address.
+-- Two hosts from their start. Each UDP packet that arrived at the second one with the first one's address was in a
+-- frame that the first one gave, in any order and any number of times; the first one sent fewer than 65,536 times; and
+-- the second one doesn't have the first one's address.
 pub record AreOnEthernet (c d : Config) (l m : Link) (sent came : List HostAct) (s t : Host) : Type 0 where
   pub first_boots : IsConfig c
   pub second_boots : IsConfig d
@@ -193,8 +196,8 @@ pub record AreOnEthernet (c d : Config) (l m : Link) (sent came : List HostAct) 
   pub few : value_of IpLocalout s.machine.counters < 2 ^ 16
   pub wire : All (λ packet. ComesFrom c.addr packet → IsInFrames (frames_out sent) packet) (packets_to d m.mac came)
 
--- Then what `recvfrom` of the second answers with the first's address as the sender's was sent so, by turns that the
--- first's acts are: `before` are the second's acts until then.
+-- Then each datagram that `recvfrom` of the second one returns with the first one's address as the sender's was sent
+-- so, by turns that the first one's acts are: `before` are the second one's acts until then.
 pub record WasReceivedOnEthernet (c d : Config) (l m : Link) (sent before : List HostAct) (s : Host) (fd most : ℕ)
     (sender : Addr) (bytes : List ℕ) : Type 0 where
   pub makes : MakesTurns c l sent s
@@ -202,8 +205,8 @@ pub record WasReceivedOnEthernet (c d : Config) (l m : Link) (sent before : List
   pub makes_then : MakesTurns d m before then'
   pub was : WasSent exact_ledger exact_ledger c d makes.turns makes_then.turns s.machine fd most sender bytes
 
--- Then a datagram that waits in a queue of the second with the first's address as its sender was sent so, by turns that
--- the first's acts are.
+-- Then each datagram in a queue of the second one with the first one's address as its sender was sent so, by turns that
+-- the first one's acts are.
 pub record WasSentOnEthernet (c d : Config) (l : Link) (sent : List HostAct) (s : Host) (socket : Socket)
     (datagram : Datagram) : Type 0 where
   pub makes : MakesTurns c l sent s
@@ -214,7 +217,7 @@ pub record WasSentOnEthernet (c d : Config) (l : Link) (sent : List HostAct) (s 
 
 -- ---- any number of hosts
 
--- the frames that came in these acts, and the packets that the program handed to `rx` itself
+-- the frames that arrived in these acts, and the packets that the program itself passed to `rx`
 abbrev pub frames_in : List HostAct → List (List ℕ)
 frames_in [] = []
 frames_in (act ∷ acts) = frame_in act ++ frames_in acts
@@ -238,22 +241,22 @@ pub record OtherHost : Type 0 where
   pub acts : List HostAct
   pub last : Host
 
--- it ran from its start, and has another address than this
+-- it ran from its start, and has an address other than this one
 pub record IsOther (address : ℕ) (o : OtherHost) : Type 0 where
   pub boots : IsConfig o.config
   pub done : AreHostActs (host_up o.config o.link) o.acts o.last
   pub not_addr : address ≢ o.config.addr
   pub not_bcast : address ≢ o.config.bcast
 
--- the first host gave the frame, or another one, or it has no packet of UDP with this address, which is the first's
+-- the first host or another one gave the frame, or it has no UDP packet with this address, which is the first host's
 abbrev pub IsUnforged : ℕ → List HostAct → List ℕ → Type 0
 IsUnforged address sent f =
     Contains (frames_out sent) f ⊎ ((o : OtherHost) × IsOther address o × Contains (frames_out o.acts) f)
     ⊎ ¬ ComesFrom address (body_of f)
 
--- Two hosts of any number on one Ethernet. Each frame that came to the second is one that a host gave, in any order and
--- any number of times, or has no packet of UDP with the first's address; and the program itself handed the second no
--- such packet. The first sent fewer than 65,536 times, and no other host has its address.
+-- Two hosts of any number on one Ethernet. Each frame that arrived at the second one is one that a host gave, in any
+-- order and any number of times, or has no UDP packet with the first one's address; and the program itself passed the
+-- second one no such packet. The first one sent fewer than 65,536 times, and no other host has its address.
 pub record AreAmongHosts (c d : Config) (l m : Link) (sent came : List HostAct) (s t : Host) : Type 0 where
   pub first_boots : IsConfig c
   pub second_boots : IsConfig d

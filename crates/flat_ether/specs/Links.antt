@@ -1,5 +1,5 @@
--- What a host keeps of its link beside the machine, and what becomes of it (volume 2, chapters 4 and 21; RFC 826). All
--- of it is functions: nothing is left open.
+-- The link state that a host keeps as well as the machine, and its steps (volume 2, chapters 4 and 21; RFC 826). All
+-- steps are functions: no result is left open.
 use Rattle.std.specs.Prelude.{ℕ, ◌+◌, ◌-◌, ◌*◌, nat_lt, nat_le, Bool, ◌==◌, ◌&&◌, ◌||◌, not, if◌then◌else◌, List, [], ◌∷◌, ◌++◌, length, min, map, filter, position, drop, remove, slice_get, slice_index_or, slice_set, Option, Some, None, is_some}
 use Rattle.params.specs.declared.TheConstants.{IP_HEADER}
 use Rattle.flat_model.specs.Packets.Header.{u32_at}
@@ -33,10 +33,10 @@ pub record WaitingPacket : Type 0 where
   pub hop : ℕ
   pub packet : List ℕ
 
--- The machine's configuration and its link; the neighbours, the one that was put last at the end; who is owed an ARP
--- reply; the packets that wait, the oldest first; the packets of the ICMP answer that waits; the errors that nobody has
--- asked for yet; the claim to the address; how many senders may still be told before the next tick that a port is
--- unreachable; and what was counted.
+-- The machine's configuration and its link; the neighbours, the most recently updated last; the senders to which an ARP
+-- reply is due; the packets that wait, the oldest first; the packets of the ICMP reply that waits; the errors that no
+-- call has fetched yet; the claim to the address; how many more "port unreachable" may be sent before the next tick;
+-- and the counters.
 pub record LinkState : Type 0 where
   pub config : Config
   pub link : Link
@@ -87,7 +87,7 @@ link_up c l =
 abbrev pub ignores : LinkState → LinkState
 ignores s = record s { tallies = record s.tallies { ignored = more_by 1 s.tallies.ignored } }
 
--- a packet whose addresses can't come from a link
+-- a packet with addresses that can't come from a link
 abbrev pub refuses : LinkState → LinkState
 refuses s = record s { tallies = record s.tallies { martians = more_by 1 s.tallies.martians } }
 
@@ -107,11 +107,11 @@ abbrev pub mac_known : Option ℕ → List Neighbour → Option Mac
 mac_known None ns = None
 mac_known (Some at) ns = mac_in (slice_get ns at)
 
--- the hardware address last heard for an address
+-- the hardware address last received for an address
 abbrev pub mac_of : ℕ → List Neighbour → Option Mac
 mac_of ip ns = mac_known (neighbour_place ip ns) ns
 
--- a full table loses its first
+-- a full table loses its first entry
 abbrev pub with_room : List Neighbour → List Neighbour
 with_room ns = if nat_lt (length ns) NEIGHBOURS then ns else drop 1 ns
 
@@ -119,17 +119,17 @@ abbrev pub put_at : Option ℕ → Neighbour → List Neighbour → List Neighbo
 put_at None n ns = with_room ns ++ n ∷ []
 put_at (Some at) n ns = slice_set ns at n
 
--- in the place of the one with its address, or behind all others
+-- replaces the one with its address, or is added at the end
 abbrev pub put : Neighbour → List Neighbour → List Neighbour
 put n ns = put_at (neighbour_place n.ip ns) n ns
 
--- ---- an ARP packet that comes (`in_arpinput` of volume 2, chapter 21)
+-- ---- an ARP packet arrives (`in_arpinput` of volume 2, chapter 21)
 
--- one whose hardware address was heard now
+-- one with a hardware address that was received now
 abbrev pub heard : Arp → Neighbour
 heard a = record { ip = a.ip; mac = Some a.mac; ticks = ARP_KEEP_TICKS; tries = 0 }
 
--- Its sender is learned where it's known already, or the packet is for this host (RFC 826, "Packet Reception").
+-- Its sender is learned if it's in the table already, or if the packet is for this host (RFC 826, "Packet Reception").
 abbrev pub is_learned : LinkState → Arp → Bool
 is_learned s a =
     is_neighbour s.config s.link a.ip && (is_some (neighbour_place a.ip s.neighbours) || (a.target == s.config.addr))
@@ -157,15 +157,15 @@ abbrev pub finds_conflict : LinkState → LinkState
 finds_conflict s =
     record s { claim = conflicts s.claim; tallies = record s.tallies { conflicts = more_by 1 s.tallies.conflicts } }
 
--- a probe for this host's address, of a host that wants to use it (RFC 5227, section 2.1.1)
+-- a probe for this host's address from a host that wants to use it (RFC 5227, section 2.1.1)
 abbrev pub is_rival : LinkState → Arp → Bool
 is_rival s a = not (is_claimed s.claim) && ((a.op == ARP_REQUEST) && ((a.ip == 0) && (a.target == s.config.addr)))
 
--- another host has this one's address, or asks for it while this one does
+-- another host has this one's address, or probes for it while this one does
 abbrev pub is_conflict : LinkState → Arp → Bool
 is_conflict s a = (a.ip == s.config.addr) || is_rival s a
 
--- of this form, and neither from this host itself nor from all
+-- in the right form, and neither from this host itself nor from the broadcast address
 abbrev pub is_sound_arp : Link → List ℕ → Bool
 is_sound_arp l b = is_arp b && (not (same_mac (arp_of b).mac l.mac) && not (same_mac (arp_of b).mac ether_broadcast))
 
@@ -176,7 +176,7 @@ hears_arp b s =
     else owes (arp_of b) (learns (arp_of b) s))
     else finds_bad s
 
--- ---- a packet that goes out (`ether_output`, `arpresolve`)
+-- ---- a packet is sent (`ether_output`, `arpresolve`)
 
 abbrev pub finds_long : LinkState → LinkState
 finds_long s = record s { tallies = record s.tallies { too_long = more_by 1 s.tallies.too_long } }
@@ -189,14 +189,14 @@ abbrev pub drops_first : LinkState → LinkState
 drops_first s =
     record s { held = drop 1 s.held; tallies = record s.tallies { held_dropped = more_by 1 s.tallies.held_dropped } }
 
--- a packet waits; where no place is free, it takes that of the one that has waited longest
+-- a packet waits; if no place is free, it takes that of the one that has waited longest
 abbrev pub holds_packet : ℕ → List ℕ → LinkState → LinkState
 holds_packet hop packet s =
     if nat_lt ETHER_MTU (length packet)
     then finds_long s
     else takes_place hop packet (if nat_lt (length s.held) HELD_PACKETS then s else drops_first s)
 
--- one that isn't known, and for which a request is due
+-- one whose hardware address isn't known, and for which a request is due
 abbrev pub unknown : ℕ → Neighbour
 unknown ip = record { ip = ip; mac = None; ticks = 0; tries = 0 }
 
@@ -204,7 +204,7 @@ abbrev pub asks : ℕ → LinkState → LinkState
 asks hop s =
     if is_some (neighbour_place hop s.neighbours) then s else record s { neighbours = put (unknown hop) s.neighbours }
 
--- what goes out now, and the link then
+-- what is sent now, and the link then
 abbrev pub Gives : Type 0
 Gives = Option (List ℕ) × LinkState
 
@@ -217,7 +217,7 @@ by_route packet s All = (Some (frame ether_broadcast s.link.mac ETHER_TYPE_IP pa
 by_route packet s (Hop hop) = to_hop hop packet s (mac_of hop s.neighbours)
 by_route packet s NoRoute = (None, record s { tallies = record s.tallies { no_route = more_by 1 s.tallies.no_route } })
 
--- the way of a packet; one without a header has none
+-- the route of a packet; one without a header has none
 abbrev pub route_to : Config → Link → List ℕ → Route
 route_to c l packet = if nat_lt (length packet) IP_HEADER then NoRoute else route c l (u32_at 16 packet)
 
@@ -229,11 +229,11 @@ sends packet s = by_route packet s (route_of s packet)
 
 -- ---- the host's own frames
 
--- an ARP request of the host, that says this address of it
+-- an ARP request of the host that has this address as the sender's
 abbrev pub request : LinkState → Mac → ℕ → ℕ → List ℕ
 request s to sender target = frame to s.link.mac ETHER_TYPE_ARP (arp_bytes ARP_REQUEST s.link.mac sender no_mac target)
 
--- a probe names no sender, and an announcement asks for the host's own address (RFC 5227, section 1.1)
+-- a probe has no sender address, and an announcement requests the host's own address (RFC 5227, section 1.1)
 abbrev pub claim_frame : ClaimFrame → LinkState → Gives
 claim_frame Nothing s = (None, s)
 claim_frame Probe s = (Some (request s ether_broadcast 0 s.config.addr), record s { claim = claim_sent s.claim })
@@ -243,7 +243,7 @@ claim_frame Announcement s =
 abbrev pub gives_claim : LinkState → Gives
 gives_claim s = claim_frame (claim_due s.claim) s
 
--- the ARP reply that is owed longest
+-- the ARP reply that has been due longest
 abbrev pub replies_to : List PendingReply → LinkState → Gives
 replies_to [] s = (None, s)
 replies_to (o ∷ later) s = (
@@ -254,7 +254,7 @@ replies_to (o ∷ later) s = (
 abbrev pub gives_reply : LinkState → Gives
 gives_reply s = replies_to s.replies s
 
--- a neighbour that will be forgotten soon is asked again
+-- a neighbour whose entry expires soon gets another request
 abbrev pub is_poll_due : Neighbour → Bool
 is_poll_due n = nat_lt n.tries ARP_POLLS && nat_le (n.ticks + n.tries * ARP_RETRY_TICKS) (ARP_POLLS * ARP_RETRY_TICKS)
 
@@ -265,7 +265,7 @@ is_request_due n = if is_some n.mac then is_poll_due n else (n.ticks == 0) && na
 abbrev pub asked_again : Neighbour → Neighbour
 asked_again n = record n { ticks = if is_some n.mac then n.ticks else ARP_RETRY_TICKS; tries = min (n.tries + 1) 255 }
 
--- a neighbour that is known is asked alone, and else all are
+-- the request for a known neighbour goes to it only, otherwise to the broadcast address
 abbrev pub asked_at : Option Mac → Mac
 asked_at None = ether_broadcast
 asked_at (Some mac) = mac
@@ -286,7 +286,7 @@ gives_request s = asks_at (position is_request_due s.neighbours) s
 
 -- ---- packets that waited
 
--- a place further on
+-- the next place
 abbrev pub one_on : Option (ℕ × Mac) → Option (ℕ × Mac)
 one_on None = None
 one_on (Some found) = Some (found.0 + 1, found.1)
@@ -295,7 +295,7 @@ abbrev pub ready_or : Option Mac → Option (ℕ × Mac) → Option (ℕ × Mac)
 ready_or (Some mac) later = Some (0, mac)
 ready_or None later = one_on later
 
--- the place of the first packet that waits and whose next hop is known now, with that hop's hardware address
+-- the place of the first waiting packet whose next hop is known now, with that hop's hardware address
 abbrev pub first_ready : List Neighbour → List WaitingPacket → Option (ℕ × Mac)
 first_ready ns [] = None
 first_ready ns (h ∷ hs) = ready_or (mac_of h.hop ns) (first_ready ns hs)
@@ -312,7 +312,7 @@ sends_at (Some found) s = sends_held found.0 found.1 (slice_get s.held found.0) 
 abbrev pub gives_held : LinkState → Gives
 gives_held s = sends_at (first_ready s.neighbours s.held) s
 
--- the next packet of the ICMP answer goes as each packet does; after the last one the answer's place is free
+-- the next packet of the ICMP reply is sent like any other packet; after the last one the place for a reply is free
 abbrev pub sends_answer : Option (List ℕ) → LinkState → Gives
 sends_answer None s = (None, s)
 sends_answer (Some packet) s = sends packet (record s { answer = drop 1 s.answer })
@@ -320,11 +320,11 @@ sends_answer (Some packet) s = sends packet (record s { answer = drop 1 s.answer
 abbrev pub gives_answer : LinkState → Gives
 gives_answer s = sends_answer (slice_get s.answer 0) s
 
--- where the first has nothing, the second
+-- the first, or if it gives no frame, the second
 abbrev pub or_then : Gives → (LinkState → Gives) → Gives
 or_then g next = if is_some g.0 then g else next g.1
 
--- what the link gives of its own accord: announcements, replies, requests, what waited, and the answer
+-- what the link sends by itself: announcements, replies, requests, packets that waited, and the ICMP reply
 abbrev pub gives_own : LinkState → Gives
 gives_own s = or_then (or_then (or_then (or_then (gives_claim s) gives_reply) gives_request) gives_held) gives_answer
 
@@ -333,11 +333,11 @@ gives_own s = or_then (or_then (or_then (or_then (gives_claim s) gives_reply) gi
 abbrev pub neighbour_aged : Neighbour → Neighbour
 neighbour_aged n = record n { ticks = n.ticks - 1 }
 
--- it's known still, or another request may go out
+-- it's still known, or another request may be sent
 abbrev pub neighbour_stays : Neighbour → Bool
 neighbour_stays n = nat_lt 0 n.ticks || (not (is_some n.mac) && nat_lt n.tries ARP_TRIES)
 
--- its next hop is known or asked for
+-- its next hop is known or requested
 abbrev pub has_hope : List Neighbour → WaitingPacket → Bool
 has_hope ns h = is_some (neighbour_place h.hop ns)
 
@@ -350,7 +350,7 @@ keeps ns s =
       tallies = record s.tallies { unresolved = more_by (length s.held - length held) s.tallies.unresolved };
     }
 
--- a tick: what isn't known any more is forgotten, and the packets that waited for it are given up
+-- a tick: entries that expired are removed, and the packets that waited for them are dropped
 abbrev pub ticks : LinkState → LinkState
 ticks s =
     keeps (filter neighbour_stays (map neighbour_aged s.neighbours))
@@ -358,11 +358,11 @@ ticks s =
 
 -- ---- ICMP
 
--- packets of an answer wait still
+-- packets of a reply still wait
 abbrev pub is_answering : LinkState → Bool
 is_answering s = is_some (slice_get s.answer 0)
 
--- an answer gets the place, if it's free
+-- a reply gets the place, if it's free
 abbrev pub puts_answer : List (List ℕ) → LinkState → LinkState
 puts_answer packets s = record s { answer = packets }
 
@@ -375,7 +375,7 @@ counts_echo s = record s { tallies = record s.tallies { echoes = more_by 1 s.tal
 abbrev pub counts_unreachable : LinkState → LinkState
 counts_unreachable s = record s { tallies = record s.tallies { unreachable = more_by 1 s.tallies.unreachable } }
 
--- so many senders were told since the last tick
+-- the limit of senders for one tick is reached
 abbrev pub limits : LinkState → LinkState
 limits s = record s { tallies = record s.tallies { limited = more_by 1 s.tallies.limited } }
 
@@ -392,13 +392,13 @@ answers_with Echo came s =
     if is_answering s then finds_no_place s else counts_echo (puts_answer (echo_reply s.config came) s)
 answers_with Unreachable came s = if is_answering s then finds_no_place s else tells_unreachable came s
 
--- ---- errors that others tell
+-- ---- errors that other hosts report
 
 abbrev pub notes_error : Option SocketError → LinkState → LinkState
 notes_error None s = s
 notes_error (Some e) s = record s { errors = note e s.errors }
 
--- a packet that the machine ended as one of a protocol that it doesn't know may tell an error
+-- a packet that the machine dropped because of an unknown protocol may report an error
 abbrev pub notes : Bool → List ℕ → LinkState → LinkState
 notes no_protocol came s = if no_protocol then notes_error (error_in s.config came) s else s
 
@@ -410,7 +410,7 @@ abbrev pub takes_at : Option ℕ → LinkState → Option NetFault × LinkState
 takes_at None s = (None, s)
 takes_at (Some at) s = (fault_in (slice_get s.errors at), record s { errors = remove s.errors at })
 
--- the error about datagrams from a port to an address is told once
+-- the error for datagrams from a port to an address is returned once
 abbrev pub takes_error : Option ℕ → Option Addr → LinkState → Option NetFault × LinkState
 takes_error None peer s = (None, s)
 takes_error (Some port) None s = (None, s)

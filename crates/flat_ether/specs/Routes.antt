@@ -19,7 +19,7 @@ abbrev pub has_gateway : Config → Link → Option ℕ → Bool
 has_gateway c l None = true
 has_gateway c l (Some gateway) = is_neighbour c l gateway
 
--- a link that boot accepts: its hardware address is no group's, and its gateway is a neighbour
+-- a link that boot accepts: its hardware address isn't a group's, and its gateway is a neighbour
 abbrev pub is_link : Config → Link → Bool
 is_link c l = (l.mac.high / 256 % 2 == 0) && (nat_le c.mtu ETHER_MTU && has_gateway c l l.gateway)
 

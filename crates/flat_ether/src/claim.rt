@@ -4,21 +4,21 @@ ghost use Rattle.flat_ether.specs.Claims.{address_state, claim_due, claim_sent, 
 
 use crate::sizes::{ANNOUNCE_TICKS, ANNOUNCEMENTS, ARP_PROBES, DEFEND_TICKS, PROBE_TICKS};
 
-/// How far a host is with its address.
+/// The state of a host's claim to its address.
 #[derive(Clone, Copy, Debug, PartialEq, Eq)]
 pub enum AddressState {
-    /// It asks whether another host has the address, and doesn't use it yet.
+    /// It probes whether another host has the address, and doesn't use it yet.
     Probing,
-    /// Another host has it, or asks for it at the same time: this host doesn't use it.
+    /// Another host has it, or probes for it at the same time: this host doesn't use it.
     Conflict,
     /// It uses the address.
     InUse,
 }
 
-/// What a host sends of its own accord for its address.
+/// What a host sends by itself for its address.
 #[derive(Clone, Copy, Debug, PartialEq, Eq)]
 pub enum ClaimFrame {
-    /// A question whether another host has the address.
+    /// A request whether another host has the address.
     Probe,
     /// That this host has it.
     Announcement,
@@ -33,11 +33,11 @@ pub struct Claim {
     pub probes: u8,
     /// How many announcements are left to send.
     pub announcements: u8,
-    /// After how many ticks the next of these goes out.
+    /// In how many ticks the next of these is sent.
     pub wait: u8,
-    /// After how many ticks the address may be defended again.
+    /// In how many ticks the address may be defended again.
     pub defence: u8,
-    /// Another host was heard of before the address was used.
+    /// Another host had the address, or probed for it, before it was in use.
     pub lost: bool,
 }
 
@@ -55,14 +55,14 @@ impl Claim {
         }
     }
 
-    /// Whether the address is used: no probe is left to send, and the wait after the last one is over.
+    /// Whether the address is in use: no probe is left to send, and the wait after the last one is over.
     pub fn is_claimed(&self) -> bool
         ensures { result ≡ is_claimed self.now }
     {
         !self.lost && self.probes == 0 && (self.wait == 0 || self.announcements < ANNOUNCEMENTS)
     }
 
-    /// How far the host is with its address.
+    /// The state of the host's claim.
     pub fn state(&self) -> AddressState
         ensures { result ≡ address_state self.now }
     {
@@ -91,7 +91,7 @@ impl Claim {
         ClaimFrame::Nothing
     }
 
-    /// The claim after what was due went out.
+    /// The claim after the due frame was sent.
     pub fn sent(self) -> Claim
         ensures { result ≡ claim_sent self }
     {
@@ -124,8 +124,8 @@ impl Claim {
         }
     }
 
-    /// The claim once another host was heard with this address: it's given up before it's used, and else defended, once
-    /// in ten seconds at most.
+    /// The claim after another host was seen with this address: given up if the address isn't in use yet, otherwise
+    /// defended, at most once in ten seconds.
     pub fn contested(self) -> Claim
         ensures { result ≡ conflicts self }
     {

@@ -1,14 +1,14 @@
-//! Errors that others tell of datagrams which were sent.
+//! Errors that other hosts report for datagrams that were sent.
 /// Why a datagram didn't arrive (RFC 792, "Destination Unreachable").
 #[derive(Clone, Copy, Debug, PartialEq, Eq)]
 pub enum NetFault {
-    /// No socket takes it there, or nobody knows its protocol: ECONNREFUSED.
+    /// No socket takes it there, or its protocol is unknown there: ECONNREFUSED.
     Refused,
-    /// No way leads there: EHOSTUNREACH.
+    /// There is no route to it: EHOSTUNREACH.
     Unreachable,
 }
 
-/// What was told of datagrams that went from one port to one address.
+/// What was reported for datagrams sent from one port to one address.
 #[derive(Clone, Copy, Debug, Default, PartialEq, Eq)]
 pub struct SocketError {
     /// The port that they were sent from.

@@ -1,5 +1,5 @@
-//! An Ethernet host as definitions: frames, ARP, the answers of ICMP, and the link's state beside the flat machine's.
-//! `specs/` holds them, and this crate the plain types that they share with the code, and the laws that hold of them.
+//! An Ethernet host as definitions: frames, ARP, ICMP replies, and the link's state next to the flat machine's.
+//! `specs/` has the definitions; this crate has the plain types that they share with the code, and their laws.
 #![tactic(auto)]
 
 mod answer;

@@ -1,4 +1,4 @@
-//! The link of a host: its addresses there, and where a packet goes.
+//! The link of a host: its addresses, and the route of a packet.
 ghost use Rattle.std.specs.Prelude.{◌≡◌};
 ghost use Rattle.flat_ether.specs.Routes.{is_link, is_near, is_neighbour, route};
 
@@ -7,16 +7,17 @@ use crate::sizes::ETHER_MTU;
 use flat_model::Config;
 use params::LIMITED_BROADCAST;
 
-/// What a host has to know of its link, beside its addresses.
+/// What a host has to know of its link, apart from its IP addresses.
 #[derive(Clone, Copy, Debug, PartialEq, Eq)]
 pub struct Link {
     /// Its own hardware address.
     pub mac: Mac,
-    /// The mask of its network: addresses that have the same bits under it are on the link.
+    /// The mask of its network: addresses with the same bits under it are on the link.
     pub mask: u32,
     /// The address of the gateway, which is on the link, if there is one.
     pub gateway: Option<u32>,
-    /// Whether it asks first if another host has its address (RFC 5227). Nothing else goes out for 5 to 6 seconds then.
+    /// Whether it first probes if another host has its address (RFC 5227). The host then sends nothing else for 5.0 to
+    /// 5.5 seconds.
     pub probe: bool,
 }
 
@@ -29,24 +30,24 @@ pub enum FrameKind {
     Martian,
     /// An ARP packet.
     Arp,
-    /// Nothing that it looks at: to another address, too short for a header, or of another type.
+    /// Ignored: to another address, too short for a header, or of another type.
     Other,
 }
 
 /// Where a packet goes on the link.
 #[derive(Clone, Copy, Debug, PartialEq, Eq)]
 pub enum Route {
-    /// To all.
+    /// To the broadcast address.
     All,
     /// To the neighbour with this address.
     Hop(u32),
-    /// NoRoute: it isn't for the link, and there is no gateway.
+    /// It isn't for the link, and there is no gateway.
     NoRoute,
 }
 
 impl Link {
-    /// Whether a machine of this configuration can have this link: the hardware address isn't that of a group, the MTU
-    /// is at most 1,500, and the gateway is a neighbour.
+    /// Whether a machine with this configuration can have this link: the hardware address isn't that of a group, the
+    /// MTU is at most 1,500, and the gateway is a neighbour.
     pub fn check(&self, config: &Config) -> bool
         ensures { result ≡ is_link config.now self.now }
     {
@@ -73,7 +74,7 @@ impl Link {
         self.is_near(config, ip) && ip != 0 && ip != config.addr && ip != config.bcast
     }
 
-    /// Where a packet to this address goes (`ether_output` and `arpresolve` of volume 2, chapters 4 and 21).
+    /// The route of a packet to this address (`ether_output` and `arpresolve` of volume 2, chapters 4 and 21).
     pub fn route(&self, config: &Config, ip: u32) -> Route
         ensures { result ≡ route config.now self.now ip }
     {

@@ -11,13 +11,13 @@ pub struct Mac {
     pub low: u32,
 }
 
-/// ff:ff:ff:ff:ff:ff, to all.
+/// ff:ff:ff:ff:ff:ff, the broadcast address.
 pub const ETHER_BROADCAST: Mac = Mac {
     high: 0xffff,
     low: 0xffff_ffff,
 };
 
-/// 00:00:00:00:00:00, which a request has in place of the address that it asks for.
+/// 00:00:00:00:00:00, which a request has instead of the hardware address that it looks for.
 pub const NO_MAC: Mac = Mac { high: 0, low: 0 };
 
 impl Mac {

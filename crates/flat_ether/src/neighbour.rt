@@ -1,20 +1,20 @@
-//! What is kept of a neighbour.
+//! An entry of the neighbour table.
 use crate::mac::Mac;
 
-/// A neighbour whose hardware address is known or asked for (`llinfo_arp` of volume 2, chapter 21).
+/// A neighbour whose hardware address is known or requested (`llinfo_arp` of volume 2, chapter 21).
 #[derive(Clone, Copy, Debug, Default, PartialEq, Eq)]
 pub struct Neighbour {
     /// Its address.
     pub ip: u32,
-    /// Its hardware address, once it was heard.
+    /// Its hardware address, once it was received.
     pub mac: Option<Mac>,
-    /// For how many ticks it's known still; while it isn't, after how many the next request goes out.
+    /// For how many ticks it's still known; if it isn't known, in how many ticks the next request is sent.
     pub ticks: u16,
-    /// How many requests for it went out.
+    /// How many requests for it were sent.
     pub tries: u8,
 }
 
-/// Who is owed an ARP reply.
+/// A host to which an ARP reply is due.
 #[derive(Clone, Copy, Debug, Default, PartialEq, Eq)]
 pub struct PendingReply {
     /// Its hardware address.

@@ -1,33 +1,34 @@
-//! What a host counts of its link.
+//! The counters of a host's link.
 
-/// What was counted since boot. A count stops at 2 to the 64th, less 1.
+/// Counters since boot. Each stops at 2^64 - 1.
 #[derive(Clone, Copy, Debug, Default, PartialEq, Eq)]
 pub struct Tallies {
-    /// Frames that aren't for the host, or neither IPv4 nor ARP.
+    /// Frames that aren't for the host, or are neither IPv4 nor ARP.
     pub ignored: u64,
-    /// IPv4 packets whose source is a broadcast or multicast address or of 0/8 or 127/8, or whose destination is of
+    /// IPv4 packets with a source that is a broadcast or multicast address or in 0/8 or 127/8, or with a destination in
     /// 127/8.
     pub martians: u64,
-    /// ARP packets that aren't of Ethernet and IPv4, or that say that they come from this host or from all.
+    /// ARP packets that aren't for Ethernet and IPv4, or that claim to come from this host or from the broadcast
+    /// address.
     pub bad_arp: u64,
-    /// ARP packets of another host that claims this one's address, or asks whether it's free while this one does.
+    /// ARP packets of another host that claims this one's address, or probes for it while this one does.
     pub conflicts: u64,
-    /// ARP replies that found no place.
+    /// ARP replies that were dropped because their queue was full.
     pub replies_dropped: u64,
-    /// Packets that have no way.
+    /// Packets without a route.
     pub no_route: u64,
     /// Packets that waited for a hardware address and were dropped for another.
     pub held_dropped: u64,
-    /// Packets that waited for a hardware address that nobody told.
+    /// Packets that waited for a hardware address that never arrived.
     pub unresolved: u64,
-    /// Packets that are longer than a frame can carry, which no machine of this link has.
+    /// Packets that are longer than a frame can carry; no machine of this link has such packets.
     pub too_long: u64,
-    /// Echo requests that were answered.
+    /// Echo requests that got a reply.
     pub echoes: u64,
-    /// Datagrams whose sender was told that no socket takes them.
+    /// Datagrams for which "port unreachable" was sent, because no socket takes them.
     pub unreachable: u64,
-    /// Datagrams whose sender wasn't told, since so many had been since the last tick.
+    /// Datagrams for which no "port unreachable" was sent, because the limit for one tick was reached.
     pub limited: u64,
-    /// ICMP answers that found the place taken.
+    /// ICMP replies that were dropped because another was still waiting.
     pub icmp_dropped: u64,
 }

@@ -1,5 +1,5 @@
--- An arrival beside that of the flat machine (`ip_reass` of TCP/IP Illustrated, volume 2, chapter 10): the clauses hold
--- for every rest of the machine.
+-- An arrival compared with that of the flat machine (`ip_reass` of TCP/IP Illustrated, volume 2, chapter 10): the
+-- clauses hold whatever the rest of the machine is.
 use Rattle.std.specs.Prelude.{◌≡◌, ◌⊎◌, ℕ, ◌+◌, ◌<◌, ◌≤◌, Bool, true, false, is_some, nat_le, if◌then◌else◌, List, [], ◌∷◌, length, drop, None}
 use Rattle.params.specs.declared.TheConstants.{IP_HEADER, MINCLSIZE, MAX_PROTOCOL_HEADER}
 use Rattle.flat_model.specs.Amounts.Weight.{Weight, Item, ◌⊕◌}
@@ -20,11 +20,11 @@ use Rattle.ip_reass.specs.declared.datagram.Datagram.{Datagram}
 use Rattle.ip_reass.specs.declared.arrival.Arrival.{Arrival}
 use Rattle.ip_reass.specs.declared.arrival.Arrival.TheVariants.{Kept, Whole, Dropped}
 
--- the machine with these unfinished datagrams and counters, in all else the machine `rest`
+-- the machine with these unfinished datagrams and counters, and the machine `rest` in all other fields
 abbrev pub machine_with : PoolView → List Datagram → Counters → State → State
 machine_with p ds c rest = record rest { unfinished = unfinished p ds; counters = c }
 
--- what the flat machine reads of a header, and the key that its fragment goes by
+-- what the flat machine reads of a header, and the key of its fragment
 abbrev pub flat_head : IpHead → Head
 flat_head h = record {
   id = h.id;
@@ -42,8 +42,8 @@ key_in h = record { source = h.src; destination = h.dst; id = h.id; protocol = h
 abbrev pub carried_at : PoolView → ℕ → Item
 carried_at p c = record { bytes = drop IP_HEADER (string (chain_of p c)); weight = weight_at p c }
 
--- How a packet came shows in its first mbuf: by loopback in a plain one; from the wire in a cluster where 208 bytes or
--- more were received, which then holds more than 40 bytes of the packet, or all.
+-- The first mbuf shows where a packet came from: by loopback it's plain; from the wire it's a cluster if at least 208
+-- bytes were received, which then holds more than 40 bytes of the packet, or all.
 pub record CameByWire (received : ℕ) (v : ChainView) : Type 0 where
   pub cluster : is_some (entry_of v 0).cluster ≡ nat_le MINCLSIZE received
   pub holds : (length (string v) ≤ length (entry_of v 0).bytes) ⊎ (MAX_PROTOCOL_HEADER < length (entry_of v 0).bytes)
@@ -52,14 +52,14 @@ abbrev pub CameBy : Origin → ChainView → Type 0
 CameBy (By_wire received) v = CameByWire received v
 CameBy Looped v = (entry_of v 0).cluster ≡ None
 
--- the chains that are in hand then
+-- the chains that the caller holds then
 abbrev pub in_hand : Arrival → List ℕ
 in_hand Kept = []
 in_hand (Whole c h) = c ∷ []
 in_hand (Dropped why) = []
 
--- a whole datagram that is handed out: its chain has a packet header and is in no train, and its header is that of the
--- fragment that came last, with the total length of the whole, without offset and with no more after it
+-- a whole datagram that is returned: its chain has a packet header and is in no train, and its header is that of the
+-- fragment that came last, with the total length of the whole, offset 0 and no "more fragments"
 pub record IsWholeOf (q : PoolView) (c : ℕ) (h last : IpHead) : Type 0 where
   pub front : (chain_of q c).front ≡ alone true
   pub head : h ≡ record last { total = IP_HEADER + length (string (chain_of q c)); more = false; offset = 0 }
@@ -69,13 +69,14 @@ HasWhole q last Kept = Unit {0}
 HasWhole q last (Whole c h) = IsWholeOf q c h last
 HasWhole q last (Dropped why) = Unit {0}
 
--- From the machine `now` on, whatever becomes of what is in hand: a whole datagram arrives as the flat machine says.
+-- From the machine `now` on, whatever happens to the chains that the caller holds: a whole datagram arrives as the flat
+-- machine says.
 abbrev pub GoesOn : Weight → PoolView → Arrival → State → State → Type 0
 GoesOn held q Kept now new = new ≡ now
 GoesOn held q (Whole c h) now new = WholeArrives exact_ledger held h.src h.dst h.proto (item_at q c) now new
 GoesOn held q (Dropped why) now new = new ≡ now
 
--- The header of chain v was pulled up: from p, ds and counters c on to q, es and d.
+-- The header of chain v was pulled up: from p, ds and counters c to q, es and d.
 pub record IsPulled (p : PoolView) (ds : List Datagram) (c : Counters) (w : Weight) (answer : Bool) (q : PoolView)
     (es : List Datagram) (d : Counters) (rest : State) (held : Weight) : Type 0 where
   pub mid : Counters
@@ -85,10 +86,10 @@ pub record IsPulled (p : PoolView) (ds : List Datagram) (c : Counters) (w : Weig
 
 -- ---- layouts
 
--- the mbufs of a packet once its header is pulled up, where its first mbuf is a cluster
+-- the mbufs of a packet after its header was pulled up, if its first mbuf is a cluster
 abbrev pub pulled_entries : ChainView → List Entry
 pulled_entries v = if is_some (entry_of v 0).cluster then entries_pulled v IP_HEADER else v.entries
 
--- the same once the header is taken off, which leaves all mbufs
+-- the same after the header was cut off, which leaves all mbufs
 abbrev pub carried_entries : ChainView → List Entry
 carried_entries v = without_first IP_HEADER (pulled_entries v)

@@ -1,6 +1,6 @@
--- A fragment from the wire that is laid at once, from the bytes of its packet: it's held as if the packet had been
--- stored in a cluster, and its header pulled up and cut off (`m_devget`, `m_pullup` and `m_adj` of TCP/IP Illustrated,
--- volume 2, chapter 2; `ip_reass` of chapter 10).
+-- A fragment from the wire that is queued directly, from the bytes of its packet. The result is the same as if the
+-- packet had been stored in a cluster, and its header pulled up and cut off (`m_devget`, `m_pullup` and `m_adj` of
+-- TCP/IP Illustrated, volume 2, chapter 2; `ip_reass` of chapter 10).
 use Rattle.std.specs.Prelude.{◌≡◌, ℕ, ◌-◌, ◌<◌, ◌≤◌, Bool, true, not, nat_le, nat_lt, ◌==◌, ◌&&◌, List, [], ◌∷◌, length, take, drop, None, Some, if◌then◌else◌}
 use Rattle.params.specs.declared.TheConstants.{IP_HEADER, MBUF_HEADER, MCLBYTES, MHLEN, MINCLSIZE, PACKET_START}
 use Rattle.flat_model.specs.Amounts.Weight.{Weight}
@@ -24,7 +24,7 @@ in_cluster packet k = record {
   cells = [];
 }
 
--- a packet of 101 to 207 bytes as it is stored from the wire: in two mbufs, each filled from its front on
+-- a packet of 101 to 207 bytes as it is stored from the wire: in two mbufs, each filled from its front
 abbrev pub in_mbufs : List ℕ → ChainView
 in_mbufs packet = record {
   front = alone true;
@@ -34,7 +34,7 @@ in_mbufs packet = record {
   cells = [];
 }
 
--- the one or the other
+-- one or the other
 abbrev pub stored_by : Bool → List ℕ → ℕ → ChainView
 stored_by is_large packet k = if is_large then in_cluster packet k else in_mbufs packet
 
@@ -46,12 +46,12 @@ as_stored packet k = stored_by (nat_le MINCLSIZE (length packet)) packet k
 abbrev pub TakesFree : PoolView → List ℕ → ℕ → Type 0
 TakesFree p packet k = MINCLSIZE ≤ length packet → (k < p.clusters) × (references p k ≡ 0)
 
--- whether a packet whose header says h is as long as that says, and isn't a malformed fragment
+-- whether a packet has the length that its header h says, and isn't a malformed fragment
 abbrev pub is_sound : IpHead → List ℕ → Bool
 is_sound h packet = (h.total == length packet) && not (is_bad_fragment (flat_head h) (length packet - IP_HEADER))
 
--- whether a packet whose header says h can be laid at once: it takes one cluster or two mbufs, is as long as its header
--- says, and isn't a malformed fragment
+-- whether a packet with header h can be queued directly: it takes one cluster or two mbufs, has the length that its
+-- header says, and isn't a malformed fragment
 abbrev pub can_be_laid : IpHead → List ℕ → Bool
 can_be_laid h packet =
     (nat_lt MHLEN (length packet) && nat_le (length packet) MCLBYTES) && is_sound h packet
@@ -60,10 +60,9 @@ can_be_laid h packet =
 abbrev pub fits_at_once : PoolView → IpHead → List ℕ → Bool
 fits_at_once p h packet = can_be_laid h packet && are_free p 2 1
 
--- From p, ds and c to q, es and d a packet arrived as a fragment whose header says h: by the step, the layout and the
--- cause that its chain would have had, in a cluster that was free in p if it takes one. Whatever becomes of what is in
--- hand is part of
--- the step, and so is any weight that is held beside.
+-- From p, ds and c to q, es and d a packet arrived as a fragment with header h. Step, layout and cause are those that
+-- its chain would have had, in a cluster that was free in p if it takes one. The step covers whatever happens to the
+-- chains that the caller holds, and any weight held elsewhere.
 pub record ArrivesAtOnce (p : PoolView) (ds : List Datagram) (c : Counters) (packet : List ℕ) (h : IpHead)
     (result : Arrival) (q : PoolView) (es : List Datagram) (d : Counters) : Type 0 where
   pub cluster : ℕ

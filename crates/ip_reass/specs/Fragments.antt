@@ -1,5 +1,5 @@
--- The fragments of an unfinished datagram that are held, in order of offset and apart from one another, and what the
--- flat machine sees of them (TCP/IP Illustrated, volume 2, chapter 10).
+-- The fragments of an unfinished datagram, in order of offset and without overlap, and what the flat machine sees of
+-- them (TCP/IP Illustrated, volume 2, chapter 10).
 use Rattle.std.specs.Prelude.{ℕ, ◌+◌, ◌-◌, ◌/◌, ◌%◌, ◌<◌, ◌≤◌, Bool, ◌&&◌, ◌==◌, nat_le, nat_lt, if◌then◌else◌, List, [], ◌∷◌, length, slice_index, map, None, Some}
 use Rattle.params.specs.declared.TheConstants.{IP_MAX_DATA}
 use Rattle.chain_ops.specs.Trims.{without_first}
@@ -11,7 +11,7 @@ use Rattle.ledger.specs.Accounts.{entries_weight}
 
 -- ---- a queue of fragments
 
--- what is left of a fragment in a queue: where it begins, whether more come after the fragment, and its mbufs
+-- the rest of a fragment in a queue: its offset, whether more fragments follow, and its mbufs
 pub record QueuedFragment : Type 0 where
   pub offset : ℕ
   pub more : Bool
@@ -22,7 +22,7 @@ abbrev pub fragment_of : QueuedFragment → Fragment
 fragment_of q =
     record { offset = q.offset; bytes = flat_bytes q.entries; more = q.more; weight = entries_weight q.entries }
 
--- a chain in a train of fragments: its tag is the offset times 2, plus 1 where more come after it
+-- a chain in a train of fragments: its tag is the offset times 2, plus 1 if more fragments follow
 abbrev pub queued_of : QueuedPacket → QueuedFragment
 queued_of queued_packet = record {
   offset = queued_packet.tag / 2;
@@ -38,7 +38,7 @@ queued p t = map queued_of (queued_packets p t)
 abbrev pub queued_end : QueuedFragment → ℕ
 queued_end q = q.offset + length (flat_bytes q.entries)
 
--- a queued fragment without its first n bytes: `m_adj` leaves all its mbufs
+-- a queued fragment without its first n bytes: `m_adj` keeps all its mbufs
 abbrev pub cut : ℕ → QueuedFragment → QueuedFragment
 cut n q = record { offset = q.offset + n; more = q.more; entries = without_first n q.entries }
 
@@ -48,8 +48,8 @@ cut_to e [] = []
 cut_to e (q ∷ qs) = if nat_le e q.offset then q ∷ qs else if nat_le (queued_end q) e then cut_to e qs
     else cut (e - q.offset) q ∷ qs
 
--- A fragment laid in a queue, of which the fragments already passed end at `end`. Those that begin no later than it
--- keep all they have, and it loses what they hold; those that begin later lose what it holds.
+-- A fragment put into a queue, after fragments that end at `end`. Those that begin no later keep all their bytes, and
+-- the new one loses the bytes that they have; those that begin later lose the bytes that the new one has.
 abbrev pub laid_after : ℕ → QueuedFragment → List QueuedFragment → List QueuedFragment
 laid_after end f [] = cut (end - f.offset) f ∷ []
 laid_after end f (q ∷ qs) =
@@ -87,18 +87,18 @@ end_of_fragment f = f.offset + length f.bytes
 abbrev pub piece_of : Fragment → Piece
 piece_of f = record { first = f.offset; more = f.more; weight = f.weight }
 
--- what a fragment holds at an offset
+-- what a fragment has at an offset
 abbrev pub own : Fragment → ℕ → Held
 own f k = record { byte = slice_index f.bytes (k - f.offset); piece = piece_of f }
 
--- what lies at an offset
+-- what is known at an offset
 abbrev pub map_of : List Fragment → Map
 map_of [] k = None
 map_of (f ∷ fs) k = if nat_le f.offset k && nat_lt k (end_of_fragment f) then Some (own f k) else map_of fs k
 
--- ---- in order and apart
+-- ---- in order, without overlap
 
--- in order, apart, none empty, none before low
+-- in order, without overlap, none empty, none before low
 abbrev pub Apart : ℕ → List Fragment → Type 0
 Apart low [] = Unit {0}
 Apart low (f ∷ fs) = (low ≤ f.offset) × (0 < length f.bytes) × Apart (end_of_fragment f) fs
@@ -113,7 +113,7 @@ abbrev pub AllEnd : ℕ → List Fragment → Type 0
 AllEnd n [] = Unit {0}
 AllEnd n (f ∷ fs) = (end_of_fragment f ≤ n) × AllEnd n fs
 
--- a train of fragments in order and apart, none beyond the longest datagram
+-- a train of fragments in order and without overlap, none beyond the longest datagram
 pub record IsQueue (p : PoolView) (t : TrainView) : Type 0 where
   pub held : IsHeld p t
   pub apart : Apart 0 (fragments p t)

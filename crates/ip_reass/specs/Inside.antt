@@ -1,4 +1,4 @@
--- What only this crate reads.
+-- What only this crate uses.
 pub mod Walks
 pub mod Known
 pub mod Weighs

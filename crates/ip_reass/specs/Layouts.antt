@@ -1,6 +1,6 @@
--- The layout of what waits and of what is handed out: the mbufs that fragments have, where their bytes begin, and which
--- clusters they refer to (`ip_reass` of TCP/IP Illustrated, volume 2, chapter 10, with `m_pullup`, `m_adj` and `m_cat`
--- of chapter 2).
+-- The layout of waiting fragments and of returned datagrams: their mbufs, where the bytes begin, and to which clusters
+-- they refer (`ip_reass` of TCP/IP Illustrated, volume 2, chapter 10, with `m_pullup`, `m_adj` and `m_cat` of chapter
+-- 2).
 use Rattle.std.specs.Prelude.{◌≡◌, ◌⊎◌, ℕ, ◌-◌, Bool, true, is_some, ◌==◌, ◌&&◌, if◌then◌else◌, List, [], ◌∷◌, map, slice_index_or, slice_set, remove}
 use Rattle.params.specs.declared.TheConstants.{IP_HEADER}
 use Rattle.flat_model.specs.Amounts.Choice.{Choice}
@@ -28,20 +28,20 @@ pub record KeyedQueue : Type 0 where
 abbrev pub queue_of : PoolView → Datagram → KeyedQueue
 queue_of p d = record { key = d.key; fragments = queued p d.fragments }
 
--- those of all datagrams, in the order of their beginning
+-- those of all datagrams, oldest first
 abbrev pub queues : PoolView → List Datagram → List KeyedQueue
 queues p ds = map (queue_of p) ds
 
--- the queue goes by this key
+-- the queue has this key
 abbrev pub goes_by : Key → KeyedQueue → Bool
 goes_by k q = (q.key.source == k.source) && (q.key.destination == k.destination) && (q.key.id == k.id)
     && (q.key.protocol == k.protocol)
 
--- a fragment laid in a queue
+-- a fragment put into a queue
 abbrev pub with_laid : QueuedFragment → KeyedQueue → KeyedQueue
 with_laid f q = record { key = q.key; fragments = laid_into f q.fragments }
 
--- a fragment laid in the queue with its key, or in a new one after the others
+-- a fragment put into the queue with its key, or into a new one after the others
 abbrev pub laid_under : Key → QueuedFragment → List KeyedQueue → List KeyedQueue
 laid_under k f [] = with_laid f (record { key = k; fragments = [] }) ∷ []
 laid_under k f (q ∷ qs) = if goes_by k q then with_laid f q ∷ qs else q ∷ laid_under k f qs
@@ -51,28 +51,28 @@ abbrev pub under : Key → List KeyedQueue → List QueuedFragment
 under k [] = []
 under k (q ∷ qs) = if goes_by k q then q.fragments else under k qs
 
--- the queues without the one that goes by a key
+-- the queues without the one that has a key
 abbrev pub without_key : Key → List KeyedQueue → List KeyedQueue
 without_key k [] = []
 without_key k (q ∷ qs) = if goes_by k q then qs else q ∷ without_key k qs
 
--- what a packet carries as a fragment: its header is pulled up where its first mbuf is a cluster, and cut off
+-- what a packet carries as a fragment: its header is pulled up if its first mbuf is a cluster, and cut off
 abbrev pub fragment_carried : ChainView → IpHead → QueuedFragment
 fragment_carried v h = record { offset = h.offset; more = h.more; entries = carried_entries v }
 
--- what an arrival of the fragment f leaves, where the queues `qs` waited
+-- what an arrival of the fragment f leaves, if the queues `qs` waited
 abbrev pub Leaves : Key → QueuedFragment → List KeyedQueue → PoolView → Arrival → List KeyedQueue → Type 0
 Leaves k f qs q Kept now = now ≡ laid_under k f qs
 Leaves k f qs q (Whole c h) now =
     ((chain_of q c).entries ≡ joined_fragments (laid_into f (under k qs))) × (now ≡ without_key k qs)
 Leaves k f qs q (Dropped why) now = now ≡ qs
 
--- what waited in p and ds waits in q and es, or all of it was dropped for want of an mbuf
+-- what waited in p and ds waits in q and es, or all of it was dropped because no mbuf was free
 abbrev pub WaitOrNone : List KeyedQueue → List KeyedQueue → Type 0
 WaitOrNone before now = (now ≡ before) ⊎ (now ≡ [])
 
--- From p and ds to q and es the fragment f arrived under the key k: it was laid among what waited before, or among
--- nothing, where all was dropped for want of an mbuf.
+-- From p and ds to q and es the fragment f arrived under the key k: it was put among the queues that waited, or among
+-- none if all were dropped because no mbuf was free.
 pub record HasLayout (p : PoolView) (ds : List Datagram) (k : Key) (f : QueuedFragment) (result : Arrival)
     (q : PoolView) (es : List Datagram) : Type 0 where
   pub waited : List KeyedQueue
@@ -81,15 +81,15 @@ pub record HasLayout (p : PoolView) (ds : List Datagram) (k : Key) (f : QueuedFr
 
 -- ---- the step of the flat machine
 
--- The header of a packet in chain v is pulled up where its first mbuf is a cluster, which takes an mbuf. This comes
--- before the key is looked for.
+-- The header of a packet in chain v is pulled up if its first mbuf is a cluster, which takes an mbuf. This is done
+-- before the key is looked up.
 abbrev pub PullsUpHeader : ChainView → Weight → State → State → (State → Type 0) → Type 0
 PullsUpHeader v held old new Then =
     Choice (is_some (entry_of v 0).cluster) (Tests exact_ledger old (held ⊕ entries_weight v.entries) 1 new Then)
     (Then old)
 
 -- The packet in chain v arrives as a fragment, whatever its layout: the flat machine's `FragmentArrives`, with the
--- chain's own mbufs in place of what is known by the packet's origin.
+-- chain's own mbufs instead of those that follow from the packet's origin.
 abbrev pub ChainArrives : Weight → IpHead → ChainView → State → State → Type 0
 ChainArrives held h v old new =
     Choice (is_bad_fragment (flat_head h) (h.total - IP_HEADER))
@@ -99,17 +99,17 @@ ChainArrives held h v old new =
 
 -- ---- the cause of a drop
 
--- Why the fragment f ended, where those in `held` wait under its key then: they hold all its bytes, or no mbuf was
--- free, and nothing waits.
+-- Why the fragment f was dropped, if those in `held` waited under its key: they have all its bytes, or no mbuf was
+-- free, and nothing waits any more.
 abbrev pub cause_among : List QueuedFragment → QueuedFragment → Why
 cause_among held f = if is_covered (map_of (map fragment_of held)) (fragment_of f) then FragmentDropped else NoBufs
 
--- the same of a packet, which may also be a fragment that none can be: the first cause that fits
+-- the same for a packet, which may also be a malformed fragment: the first cause that applies
 abbrev pub cause_of : ChainView → IpHead → List QueuedFragment → Why
 cause_of v h held =
     if is_bad_fragment (flat_head h) (h.total - IP_HEADER) then BadFragment else cause_among held (fragment_carried v h)
 
--- where the answer is a drop, this is the cause that it tells
+-- if the result is a drop, this is its cause
 abbrev pub HasCause : Why → Arrival → Type 0
 HasCause cause Kept = Unit {0}
 HasCause cause (Whole c h) = Unit {0}
@@ -122,7 +122,7 @@ no_queue = record { key = record { source = 0; destination = 0; id = 0; protocol
 abbrev pub keyed_queue_at : List KeyedQueue → ℕ → KeyedQueue
 keyed_queue_at qs i = slice_index_or qs i no_queue
 
--- what a fragment leaves that is laid in the queue at a place
+-- what is left of a fragment that is put into the queue at a place
 abbrev pub LeavesAt : ℕ → QueuedFragment → List KeyedQueue → PoolView → Arrival → List KeyedQueue → Type 0
 LeavesAt i f qs q Kept now = now ≡ slice_set qs i (with_laid f (keyed_queue_at qs i))
 LeavesAt i f qs q (Whole c h) now =

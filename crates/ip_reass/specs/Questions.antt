@@ -1,5 +1,5 @@
--- What a question about the unfinished datagrams answers, as a function of the flat machine's (this project's own;
--- volume 2, chapter 10, has the list that they stand in).
+-- What a query about the unfinished datagrams returns, as a function of the flat machine's (this project's own; they
+-- are in the list of volume 2, chapter 10).
 use Rattle.std.specs.Prelude.{ℕ, ◌==◌, Bool, false, List, [], length, map, count_by, sum_by, slice_get, Option, None, Some, option_map}
 use Rattle.std.specs.List.{range_with_len}
 use Rattle.params.specs.declared.TheConstants.{IP_MAX_DATA}
@@ -12,7 +12,7 @@ use Rattle.ip_reass.specs.declared.datagram.Datagram.{Datagram}
 use Rattle.ip_reass.specs.declared.questions.HeldRange.{HeldRange}
 use Rattle.ip_reass.specs.declared.questions.UnfinishedDatagram.{UnfinishedDatagram}
 
--- what lies at an offset is of the piece that begins at `first`
+-- what is at an offset belongs to the piece that begins at `first`
 abbrev pub is_of : ℕ → Option Held → Bool
 is_of first None = false
 is_of first (Some held) = held.piece.first == first
@@ -21,7 +21,7 @@ is_of first (Some held) = held.piece.first == first
 unfoldable pub owned_below : ℕ → Map → ℕ → ℕ
 owned_below most bytes first = count_by (λ offset. is_of first (bytes offset)) (range_with_len 0 most)
 
--- what a piece still has: as many bytes as it owns offsets
+-- what is left of a piece: as many bytes as it owns offsets
 abbrev pub range_of : Map → Piece → HeldRange
 range_of bytes piece = record {
   offset = piece.first;
@@ -29,14 +29,14 @@ range_of bytes piece = record {
   more = piece.more;
 }
 
--- what all pieces have, in order of offset
+-- what is left of all pieces, in order of offset
 abbrev pub ranges : Map → List HeldRange
 ranges bytes = map (range_of bytes) (pieces bytes)
 
 abbrev pub nth_of : Map → ℕ → Option HeldRange
 nth_of bytes k = slice_get (ranges bytes) k
 
--- a datagram: how many bytes have come, and in how many ranges
+-- a datagram: how many bytes have arrived, and in how many ranges
 abbrev pub told_of : Unfinished → UnfinishedDatagram
 told_of u = record {
   key = u.key;
@@ -45,11 +45,11 @@ told_of u = record {
   ranges = length (ranges u.bytes);
 }
 
--- the datagram at a place, where there is one
+-- the datagram at a place, if there is one
 abbrev pub nth_unfinished : ℕ → List Unfinished → Option UnfinishedDatagram
 nth_unfinished i us = option_map told_of (slice_get us i)
 
--- a range of the datagram at a place, where there is one
+-- a range of the datagram at a place, if there is one
 abbrev pub range_in : ℕ → Option Unfinished → Option HeldRange
 range_in k None = None
 range_in k (Some u) = nth_of u.bytes k
@@ -63,6 +63,6 @@ abbrev pub held_by : PoolView → Option Datagram → List ℕ
 held_by p None = []
 held_by p (Some d) = held p d
 
--- the chains of the datagram at a place: the mbuf of its key, and then its fragments; none if there is no such datagram
+-- the chains of the datagram at a place: the mbuf of its key, then its fragments; none if there is no such datagram
 abbrev pub nth_held : PoolView → List Datagram → ℕ → List ℕ
 nth_held p ds i = held_by p (slice_get ds i)

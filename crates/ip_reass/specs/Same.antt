@@ -1,5 +1,5 @@
--- A step of somebody else leaves the table as it was, and what it weighs: laws that the ghost members of the table cite
--- (this project's own).
+-- A step that doesn't touch the table leaves it as it was, and what it weighs: laws that the ghost members of the table
+-- cite (this project's own).
 use Rattle.std.proofs.Common.{◌≡◌, ℕ, List, [], ◌∷◌, ◌++◌, length, map, refl, sym, ap, ◌∙◌, subst, arith}
 use Rattle.std.specs.Prelude.{count_by}
 use Rattle.std.proofs.lemmas.List.{length-map}
@@ -29,7 +29,7 @@ none_held p (d ∷ ds) e = absurd (omega arith)
 pub length-unfinished : (p : PoolView) (ds : List Datagram) → length (unfinished p ds) ≡ length ds
 length-unfinished p ds = length-map ds (unfinished_of p)
 
--- ---- a step of somebody else
+-- ---- a step that doesn't touch it
 queue_same : (p q : PoolView) (t : TrainView) → SameAt p q (numbers p t) → IsQueue p t → IsQueue q t
 queue_same p q t s is =
     let e : fragments q t ≡ fragments p t = ap (map fragment_in) (queued_packets_same p q t s) in

@@ -18,7 +18,7 @@ unfinished_of p d = record { key = d.key; ticks = d.ticks; bytes = map_of (fragm
 abbrev pub unfinished : PoolView → List Datagram → List Unfinished
 unfinished p ds = map (unfinished_of p) ds
 
--- a tick later, those that go on
+-- the datagrams that remain a tick later
 abbrev pub aged : List Datagram → List Datagram
 aged [] = []
 aged (d ∷ ds) = if nat_lt 1 d.ticks then record d { ticks = d.ticks - 1 } ∷ aged ds else aged ds
@@ -44,7 +44,7 @@ pub record IsUnfinished (p : PoolView) (d : Datagram) : Type 0 where
 abbrev pub AllUnfinished : PoolView → List Datagram → Type 0
 AllUnfinished p ds = AllByRecursion (IsUnfinished p) ds
 
--- the datagram goes by this key
+-- the datagram has this key
 abbrev pub has_key : Key → Datagram → Bool
 has_key k d = (d.key.source == k.source) && (d.key.destination == k.destination) && (d.key.id == k.id)
     && (d.key.protocol == k.protocol)
@@ -64,21 +64,21 @@ pub record IsTable (p : PoolView) (ds : List Datagram) : Type 0 where
   pub owned : IsOwned p (held_all p ds)
   pub each : AllUnfinished p ds
 
--- no two unfinished datagrams go by one key
+-- no two unfinished datagrams have the same key
 abbrev pub AreDistinct : PoolView → List Datagram → Type 0
 AreDistinct p ds = (k : Key) → count_by (is_key k) (unfinished p ds) ≤ 1
 
--- each datagram has a fragment, and so two mbufs or more, with that of its key
+-- each datagram has a fragment, and so at least two mbufs, with that of its key
 abbrev pub HaveFragments : List Datagram → Type 0
 HaveFragments ds = AllByRecursion (λ (d : Datagram). 0 < d.fragments.len) ds
 
--- what a contract sees of the table: its datagrams in the order of their beginning, and for how many there are places
+-- what a contract sees of the table: its datagrams, oldest first, and how many fit
 pub record TableView : Type 0 where
   pub datagrams : List Datagram
   pub room : ℕ
 
--- the table fits the pool, each datagram has a fragment, there is a place for each two of the pool's mbufs, and no key
--- is held twice
+-- the table fits the pool, each datagram has a fragment, there is space for one datagram for each two of the pool's
+-- mbufs, and no two have the same key
 pub record IsReady (p : PoolView) (r : TableView) : Type 0 where
   pub table : IsTable p r.datagrams
   pub fragments : HaveFragments r.datagrams

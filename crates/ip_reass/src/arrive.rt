@@ -1,4 +1,4 @@
-//! A fragment arrives: its header is pulled up, its key is looked for, and it joins the others of its datagram.
+//! A fragment arrives: its header is pulled up, its key is looked up, and it joins the others of its datagram.
 ghost use Rattle.std.specs.Prelude.{◌≡◌, ℕ, ◌+◌, ◌*◌, ◌<◌, ◌≤◌, [], ◌∷◌, ◌++◌, true, false, Some, IfSome, length, is_some, option_to_list};
 ghost use Rattle.flat_model.specs.Machine.State.{State};
 ghost use Rattle.flat_model.specs.Amounts.Weight.{Weight, ◌⊕◌};
@@ -24,7 +24,7 @@ use ledger::reserve;
 use mbuf_chain::{Chain, Pool};
 use params::{FRAGMENT_UNIT, IP_HEADER, IP_MAX_DATA, IP_MAX_PACKET};
 
-/// The key that a fragment goes by.
+/// The key of a fragment.
 fn key_of(head: &IpHead) -> FragmentKey
     ensures { result ≡ key_in head.now }
 {
@@ -36,8 +36,8 @@ fn key_of(head: &IpHead) -> FragmentKey
     }
 }
 
-/// Whether a fragment of `len` bytes is one that none can be: without a byte, one with others after it that is no
-/// multiple of 8, or one that reaches past the longest datagram.
+/// Whether a fragment of `len` bytes is malformed: it has no bytes, or "more fragments" and a length that is no
+/// multiple of 8, or it reaches past the longest datagram.
 #[inline(always)]
 pub(crate) fn is_bad(head: &IpHead, len: u32) -> bool
     requires offset { head.now.offset ≤ IP_MAX_PACKET }
@@ -48,9 +48,9 @@ pub(crate) fn is_bad(head: &IpHead, len: u32) -> bool
 }
 
 impl Reass {
-    /// The place of the datagram with a key. If there is none, it's begun after the others, which takes an mbuf for its
-    /// key; `None` comes where none is to be had.
-    // Inlined: by a call, which takes the header through memory, each fragment took 18 instructions more.
+    /// The place of the datagram with a key. If there isn't one, it's begun after the others, which takes an mbuf for
+    /// its key; `None` if no mbuf is available.
+    // Inlined: as a call, which passes the header through memory, it cost each fragment 18 more instructions.
     #[inline(always)]
     fn place_of(
         &mut self,
@@ -79,9 +79,9 @@ impl Reass {
         Some(i)
     }
 
-    /// Lets a fragment join the others of its datagram, or begin it.
-    // Inlined with all that a fragment in order takes, so that no field of its header goes through memory: by calls
-    // seven fragments took 1,000 instructions more.
+    /// Adds a fragment to its datagram, or begins the datagram.
+    // Inlined with all that a fragment in order runs, so that no field of its header goes through memory: as calls,
+    // seven fragments took 1,000 more instructions.
     #[inline(always)]
     pub(crate) fn lay_or_begin(
         &mut self,
@@ -131,8 +131,8 @@ impl Reass {
         arrival
     }
 
-    /// Brings the IP header of a fragment into a plain mbuf, where its first mbuf is a cluster; this takes an mbuf.
-    /// `None` comes where none is to be had, and the fragment is freed and counted then.
+    /// Moves the IP header of a fragment into a plain mbuf if its first mbuf is a cluster; this takes an mbuf. `None`
+    /// if no mbuf is available; the fragment is then freed and counted.
     fn pull_up(
         &mut self,
         pool: &mut Pool,
@@ -177,17 +177,16 @@ impl Reass {
     }
 
     /// A fragment arrives, as a whole packet with its IP header (`ip_reass`, volume 2, chapter 10; RFC 791, section
-    /// 3.2). Its chain is spent; what `Whole` hands out is a chain without IP header.
+    /// 3.2). Its chain is consumed; the chain in `Whole` has no IP header.
     ///
-    /// Where its first mbuf is a cluster, the header is pulled up, which takes an mbuf; a key that isn't held yet takes
-    /// one more. Each is asked for by `reserve`: where none is free, all unfinished datagrams are dropped, and it's
-    /// asked once more. `NoBufs` comes exactly where none is free then. `BadFragment` comes first, for a fragment that
-    /// none can be, and `FragmentDropped` where all its bytes are held by fragments that begin no later. Each case is
+    /// If its first mbuf is a cluster, the header is pulled up, which takes an mbuf; a key that has no datagram yet
+    /// takes one more. Each is requested with `reserve`: if none is free, all unfinished datagrams are dropped, and
+    /// it's tested again. The result is `NoBufs` exactly if none is free then. `BadFragment` comes first, for a
+    /// malformed fragment; it's `FragmentDropped` if fragments that begin no later have all its bytes. Each case is
     /// counted.
     ///
-    /// A fragment that begins no later keeps its bytes, one that begins later loses what the new one holds. The
-    /// datagram is whole where its bytes follow one another from 0 and no more come after the last. Its time is not
-    /// renewed.
+    /// A fragment that begins no later keeps its bytes; one that begins later loses the bytes that the new one has. The
+    /// datagram is whole if its bytes are complete from 0 to the end of the last fragment. Its time isn't renewed.
     pub fn arrive(
         &mut self,
         pool: &mut Pool,

@@ -1,4 +1,4 @@
-//! A fragment that is laid at once, from the bytes of its packet.
+//! A fragment that is queued directly, from the bytes of its packet.
 ghost use Rattle.std.specs.Prelude.{◌≡◌, ℕ, ◌<◌, ◌≤◌, ◌++◌, true, length};
 ghost use Rattle.flat_model.specs.Amounts.Weight.{Weight, ◌⊕◌};
 ghost use Rattle.flat_model.specs.Machine.State.{State};
@@ -47,7 +47,7 @@ pub fn fits_at_once(pool: &Pool, head: &IpHead, packet: &[u8]) -> bool
     is_sound(head, packet) && pool.free_mbufs() >= 2 && pool.free_clusters() >= 1
 }
 
-/// Stores what a packet carries after its IP header, laid as when the packet is stored in a cluster and its header is
+/// Stores what a packet carries after its IP header, as if the packet had been stored in a cluster and its header
 /// pulled up and cut off: 20 bytes in a plain mbuf, and the others in the cluster. These must be free.
 #[inline(always)]
 fn store_cluster(pool: &mut Pool, packet: &[u8]) -> Chain
@@ -71,9 +71,9 @@ fn store_cluster(pool: &mut Pool, packet: &[u8]) -> Chain
     chain
 }
 
-/// Stores what a packet carries after its IP header, laid as when the packet is stored in two mbufs and its header is
-/// cut off. These must be free.
-// Apart: it's the last fragment of a datagram alone.
+/// Stores what a packet carries after its IP header, as if the packet had been stored in two mbufs and its header cut
+/// off. These must be free.
+// Not inlined: only the last fragment of a datagram comes here.
 #[inline(never)]
 fn store_mbufs(pool: &mut Pool, packet: &[u8]) -> Chain
     requires many { MHLEN < length packet.now }
@@ -94,8 +94,8 @@ fn store_mbufs(pool: &mut Pool, packet: &[u8]) -> Chain
     chain
 }
 
-/// Stores what a packet carries after its IP header, laid as when the packet is stored and its header is pulled up,
-/// where it lies in a cluster, and cut off. Two mbufs and a cluster must be free.
+/// Stores what a packet carries after its IP header, as if the packet had been stored, its header pulled up if it's in
+/// a cluster, and cut off. Two mbufs and a cluster must be free.
 #[inline(always)]
 fn store_carried(pool: &mut Pool, packet: &[u8]) -> Chain
     requires many { MHLEN < length packet.now }
@@ -112,10 +112,11 @@ fn store_carried(pool: &mut Pool, packet: &[u8]) -> Chain
 }
 
 impl Reass {
-    /// A fragment arrives from the wire as the bytes of a packet, for which `fits_at_once` answered true. It's what
-    /// `from_wire` and `arrive` do of it, in fewer steps: the header isn't stored, and nothing is pulled up.
+    /// A fragment arrives from the wire as the bytes of a packet for which `fits_at_once` returned true. The result is
+    /// that of `from_wire` and `arrive`, in fewer steps: the header isn't stored, and nothing is pulled up.
     ///
-    /// So it's never `BadFragment`. A key that isn't held yet takes one mbuf more, which is asked for as in `arrive`.
+    /// So the result is never `BadFragment`. A key that has no datagram yet takes one more mbuf, which is requested as
+    /// in `arrive`.
     #[inline(always)]
     pub fn arrive_bytes(
         &mut self,

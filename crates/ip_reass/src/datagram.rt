@@ -7,17 +7,17 @@ ghost use Rattle.ip_reass.specs.Table.{held};
 use flat_model::FragmentKey;
 use mbuf_chain::{Chain, Pool, Train};
 
-/// An unfinished datagram. Its fragments are in order of offset and apart from one another.
+/// An unfinished datagram. Its fragments are in order of offset and don't overlap.
 pub struct Datagram {
-    /// The four fields that its fragments go by.
+    /// The four fields that identify its fragments.
     pub key: FragmentKey,
     /// The mbuf of the key.
     pub holder: Chain,
-    /// Its fragments: a chain's tag is its offset times 2, plus 1 where more come after it.
+    /// Its fragments: a chain's tag is its offset times 2, plus 1 if more fragments follow.
     pub fragments: Train,
-    /// How many bytes they have together, at most 65,515: this many lie below the end of the last exactly if none is
-    /// missing.
-    // of 16 bits, and beside the ticks, so that a row has 32 bytes
+    /// How many bytes they have together, at most 65,515: none is missing exactly if the last fragment ends at this
+    /// number.
+    // of 16 bits, next to the ticks, so that a row has 32 bytes
     pub bytes: u16,
     /// How many ticks it has left.
     pub ticks: u8,

@@ -1,4 +1,4 @@
-//! Where the rows of the table stand, by a hash of their keys.
+//! The rows of the table, found by a hash of their keys.
 ghost use Rattle.std.specs.Prelude.{◌≡◌, ℕ, ◌+◌, ◌-◌, ◌<◌, ◌≤◌, ◌++◌, ◌∷◌, ◌^◌, [], length, take, remove, get_or, IfOk};
 ghost use Rattle.ip_reass.specs.Inside.Index.{AreLinked, bucket_of, buckets_in, buckets_of, upto_last};
 
@@ -12,7 +12,7 @@ use std::marker::Model;
 struct Row {
     /// The bucket of its key.
     bucket: u32,
-    /// How many rows there are up to the one before it in its bucket, that one included: 0 if it's the first.
+    /// How many rows there are up to and including the one before it in its bucket: 0 if it's the first.
     before: u32,
 }
 
@@ -32,7 +32,7 @@ fn link(lasts: &mut [u32], rows: &mut [Row], len: usize, bucket: u32)
     lasts[bucket as usize] = (len + 1) as u32;
 }
 
-/// Takes the rows from a place on off their buckets, the last first.
+/// Takes the rows from a place on out of their buckets, the last first.
 fn unlink(lasts: &mut [u32], rows: &[Row], place: usize, len: usize)
     requires linked { AreLinked lasts.old rows.now len }
     requires place { place ≤ len }
@@ -66,11 +66,11 @@ fn close_up(lasts: &mut [u32], rows: &mut [Row], place: usize, len: usize)
     }
 }
 
-/// An index of a table's rows by the buckets of their keys. Beside 10,000 other datagrams a fragment of a new one took
-/// 100,544 instructions when keys were compared row by row.
+/// An index of a table's rows by the buckets of their keys. When keys were compared row by row, a fragment of a new
+/// datagram took 100,544 instructions if 10,000 others were unfinished.
 #[derive(Drop)]
 pub(crate) struct Index {
-    // of each bucket how many rows there are up to its last, that one included: 0 if it's empty
+    // for each bucket, how many rows there are up to and including its last: 0 if it's empty
     lasts: Vec<u32>,
     rows: Vec<Row>,
     // how many rows there are
@@ -94,8 +94,8 @@ impl Model for Index {
 }
 
 impl Index {
-    /// An index without rows, with room for so many and as many buckets. `AllocError` comes if the host has no memory
-    /// for it, and nothing is left then.
+    /// An index without rows, with space for `rooms` rows and the same number of buckets. Fails with `AllocError` if
+    /// the host has no memory for it, and then nothing stays allocated.
     pub(crate) fn boot(alloc: Global, rooms: u32) -> Result<Index, AllocError>
         ensures none { IfOk result (λ x. x.buckets ≡ []) }
         ensures some { IfOk result (λ x. 0 < x.count) }
@@ -127,7 +127,7 @@ impl Index {
         (sum % self.lasts.len() as u64) as u32
     }
 
-    /// How many rows there are up to the last in a bucket, that one included: 0 if there is none.
+    /// How many rows there are up to and including the last in a bucket: 0 if it's empty.
     pub(crate) fn last(&self, bucket: u32) -> u32
         requires { bucket < self.now.count }
         ensures { result ≡ upto_last bucket self.now.buckets (length self.now.buckets) }
@@ -135,7 +135,7 @@ impl Index {
         self.lasts[bucket as usize]
     }
 
-    /// The same of the rows before one, in its bucket.
+    /// The same for the rows before one, in its bucket.
     pub(crate) fn before(&self, place: u32) -> u32
         requires { place < length self.now.buckets }
         ensures { result ≡ upto_last (get_or self.now.buckets place 0) self.now.buckets place }
@@ -165,8 +165,8 @@ impl Index {
         self.len += 1;
     }
 
-    /// Takes a row off. Those after it move down by one, at some 12 instructions each.
-    // Apart: it's called once for a datagram, and `follow` for each fragment.
+    /// Removes a row. Those after it move down by one, at about 12 instructions each.
+    // Not inlined: it's called once for a datagram, and `follow` for each fragment.
     #[inline(never)]
     pub(crate) fn remove(&mut self, place: usize)
         requires { place < length self.old.buckets }
@@ -181,7 +181,7 @@ impl Index {
         self.len -= 1;
     }
 
-    /// Takes the row at a place off, if the table has fewer than the index by now.
+    /// Removes the row at a place, if the table now has fewer than the index.
     pub(crate) fn follow(&mut self, len: usize, place: usize)
         requires { len < length self.old.buckets → place < length self.old.buckets }
         ensures fewer { len < length self.old.buckets → self.new.buckets ≡ remove self.old.buckets place }
@@ -194,7 +194,7 @@ impl Index {
         }
     }
 
-    /// Takes all rows off.
+    /// Removes all rows.
     pub(crate) fn clear(&mut self)
         ensures rows { self.new.buckets ≡ [] }
         ensures count { self.new.count ≡ self.old.count }
@@ -204,7 +204,7 @@ impl Index {
         self.len = 0;
     }
 
-    /// Has the rows of a table in place of its own, if the table has fewer by now.
+    /// Replaces its rows with those of a table, if the table now has fewer.
     pub(crate) fn renew(&mut self, table: &[Datagram])
         requires some { 0 < self.old.count }
         requires few { length table.now ≤ length self.old.buckets }

@@ -1,4 +1,4 @@
-//! A fragment laid among those of its datagram, and the datagram taken out where it is whole.
+//! A fragment put among those of its datagram, and the datagram removed when it's whole.
 ghost use Rattle.std.specs.Prelude.{◌≡◌, ℕ, ◌+◌, ◌<◌, ◌≤◌, ◌∷◌, ◌++◌, [], true, count_by, get_or, length, remove, vec_capacity, vec_len};
 ghost use Rattle.flat_model.specs.Machine.State.{State, is_key};
 ghost use Rattle.flat_model.specs.Amounts.Weight.{Weight};
@@ -23,7 +23,7 @@ use ip_out::IpHead;
 use mbuf_chain::{Chain, Pool};
 use params::{IP_HEADER, IP_MAX_DATA};
 
-/// Lays a fragment among those of the datagram at a place.
+/// Puts a fragment among those of the datagram at a place.
 #[inline(always)]
 pub(crate) fn lay_in(
     pool: &mut Pool,
@@ -46,8 +46,8 @@ pub(crate) fn lay_in(
     lay(pool, datagram, chain, span)
 }
 
-/// Brings a row of the table to its end. Those after it move down by one.
-// Apart: it's mostly the last already. `Vec::remove`, whose loop for many rows is unrolled, took 4 KB of code.
+/// Moves a row to the end of the table. Those after it move down by one.
+// Not inlined: usually it's the last already. `Vec::remove`, whose loop for many rows is unrolled, took 4 KB of code.
 #[inline(never)]
 fn bring_to_end(rows: &mut [Datagram], i: usize)
     requires { i < length rows.old }
@@ -60,7 +60,7 @@ fn bring_to_end(rows: &mut [Datagram], i: usize)
     }
 }
 
-/// Takes a row out of the table. Those after it move down by one.
+/// Removes a row from the table. Those after it move down by one.
 #[inline(always)]
 fn take_row(table: &mut Vec<Datagram>, i: usize) -> Datagram
     requires { i < length table.old.items }
@@ -76,7 +76,7 @@ fn take_row(table: &mut Vec<Datagram>, i: usize) -> Datagram
     }
 }
 
-/// Takes a datagram out of the table, frees its key's mbuf and joins its fragments.
+/// Removes a datagram from the table, frees its key's mbuf and joins its fragments.
 #[inline(never)]
 pub(crate) fn take_out(pool: &mut Pool, table: &mut Vec<Datagram>, i: usize) -> Chain
     requires table { IsTable pool.old table.old.items }
@@ -103,8 +103,7 @@ pub(crate) struct Fragment {
     pub(crate) head: IpHead,
 }
 
-/// Lays a fragment among those of the datagram at a place, and counts. The datagram is taken out where it is whole
-/// then.
+/// Puts a fragment among those of the datagram at a place, and counts. If the datagram is then whole, it's removed.
 #[inline(always)]
 pub(crate) fn lay_and_count(
     pool: &mut Pool,

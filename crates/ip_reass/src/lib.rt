@@ -1,8 +1,8 @@
 //! Reassembly of IP datagrams, as 4.4BSD does it (`ip_reass` of TCP/IP Illustrated, volume 2, chapter 10; RFC 791,
-//! section 3.2): the table of unfinished datagrams, a fragment that arrives, and the clock that drops those that take
-//! too long.
+//! section 3.2): the table of unfinished datagrams, the arrival of a fragment, and the clock that drops datagrams after
+//! their time.
 //!
-//! Each contract is a step of the flat machine, for every rest of it. README.md has the words.
+//! Each contract is a step of the flat machine, whatever the rest of the machine is. README.md explains the words.
 #![tactic(auto)]
 
 mod arrival;

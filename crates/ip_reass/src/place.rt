@@ -1,5 +1,5 @@
-//! A place among the fragments of a datagram, told by the fragment in front of it: what stands after that one is found,
-//! taken out or put in with no further walk.
+//! A place among the fragments of a datagram, given by the fragment before it: the next one is found, removed or
+//! inserted without a walk.
 ghost use Rattle.std.specs.Prelude.{◌≡◌, ◌+◌, ◌<◌, ◌∷◌, true, length, insert, remove, MatchOption};
 ghost use Rattle.mbuf_chain.specs.Chain.{IsLive, chain_of, alone};
 ghost use Rattle.mbuf_chain.specs.Owners.{times_among, Moves};
@@ -8,7 +8,7 @@ ghost use Rattle.ip_reass.specs.Inside.Walks.{IsFront, after};
 
 use mbuf_chain::{Chain, Pool, QueuedPlace, Train};
 
-/// The place of the fragment after this one: of the first, where none stands in front.
+/// The place of the fragment after this one, or of the first if none precedes it.
 pub(crate) fn next_after(
     pool: &Pool,
     train: &Train,
@@ -25,7 +25,7 @@ pub(crate) fn next_after(
     }
 }
 
-/// Takes the fragment after this one out: its chain and its tag.
+/// Removes the fragment after this one: returns its chain and its tag.
 pub(crate) fn take_after(
     pool: &mut Pool,
     train: &mut Train,
@@ -55,7 +55,7 @@ pub(crate) fn take_after(
     }
 }
 
-/// Puts a fragment in after this one, with a tag.
+/// Inserts a fragment after this one, with a tag.
 pub(crate) fn insert_after(
     pool: &mut Pool,
     train: &mut Train,

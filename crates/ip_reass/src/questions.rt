@@ -1,4 +1,4 @@
-//! What a caller may ask of the unfinished datagrams. A question changes nothing.
+//! Queries about the unfinished datagrams. A query changes nothing.
 ghost use Rattle.std.specs.Prelude.{◌≡◌, ◌<◌};
 ghost use Rattle.mbuf_chain.specs.Heads.{nth_heads};
 ghost use Rattle.ip_reass.specs.Fragments.{IsQueue, fragments, map_of};
@@ -14,23 +14,22 @@ use mbuf_chain::{MbufHeads, Pool, Train};
 /// A datagram some of whose fragments have come.
 #[derive(Clone, Copy, Debug, PartialEq, Eq)]
 pub struct UnfinishedDatagram {
-    /// What its fragments go by.
+    /// What identifies its fragments.
     pub key: FragmentKey,
-    /// After how many more ticks it's dropped, 1 to 60.
+    /// In how many ticks it's dropped, 1 to 60.
     pub ticks: u8,
-    /// How many of its bytes have come, 1 to 65,515.
+    /// How many of its bytes have arrived, 1 to 65,515.
     pub bytes: u32,
-    /// In how many ranges they are held, 1 to 8,190.
+    /// In how many ranges they are, 1 to 8,190.
     pub ranges: u32,
 }
 
-/// What one fragment brought to an unfinished datagram and still holds there: bytes one after another, whose offsets no
-/// other range has.
+/// What is left of one fragment in an unfinished datagram: consecutive bytes, whose offsets no other range has.
 #[derive(Clone, Copy, Debug, PartialEq, Eq)]
 pub struct HeldRange {
     /// The offset of the first byte, counted from the end of the IP header.
     pub offset: u32,
-    /// How many bytes there are, 1 or more.
+    /// How many bytes it has, at least 1.
     pub len: u32,
     /// Whether the fragment said that more come after it.
     pub more: bool,
@@ -100,8 +99,7 @@ fn heads_in<'a>(pool: &'a Pool, table: &[Datagram], i: usize, k: u32) -> Option<
 }
 
 impl Reass {
-    /// The unfinished datagram at a place, in the order of their beginning: `None` exactly if no more than `i` are
-    /// unfinished.
+    /// The unfinished datagram at a place, oldest first: `None` exactly if there are no more than `i`.
     pub fn unfinished(&self, pool: &Pool, i: u32) -> Option<UnfinishedDatagram>
         requires { IsTable pool.now self.now.datagrams }
         ensures { result ≡ nth_unfinished i (unfinished pool.now self.now.datagrams) }
@@ -109,9 +107,8 @@ impl Reass {
         told_at(pool, self.datagrams.as_slice(), i as usize)
     }
 
-    /// The `k`th range of bytes that the unfinished datagram at place `i` holds, in order of offset, from 0: `None`
-    /// exactly if there is no such datagram, or if it has no more than `k` ranges. It takes a step for each range in
-    /// front.
+    /// The `k`th range of bytes of the unfinished datagram at place `i`, in order of offset, from 0: `None` exactly if
+    /// there is no such datagram, or if it has no more than `k` ranges. Takes a step for each range before it.
     pub fn range(&self, pool: &Pool, i: u32, k: u32) -> Option<HeldRange>
         requires { IsTable pool.now self.now.datagrams }
         ensures { result ≡ nth_range i k (unfinished pool.now self.now.datagrams) }
@@ -121,8 +118,8 @@ impl Reass {
 
     /// What each mbuf of the `k`th chain of the unfinished datagram at place `i` says of itself, and its bytes, in
     /// order: for a drawing of them. Chain 0 is the mbuf of its key, and the others are its fragments in order of
-    /// offset. `None` exactly if there is no such datagram, or if it has no more than `k` chains. It takes a step for
-    /// each fragment in front.
+    /// offset. `None` exactly if there is no such datagram, or if it has no more than `k` chains. Takes a step for each
+    /// fragment before it.
     pub fn heads<'a>(&self, pool: &'a Pool, i: u32, k: u32) -> Option<MbufHeads<'a>>
         requires { IsTable pool.now self.now.datagrams }
         ensures { result ≡ nth_heads pool.now (nth_held pool.now self.now.datagrams i) k }

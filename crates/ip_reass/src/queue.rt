@@ -14,16 +14,16 @@ use chain_ops::{cat_after, trim_front};
 use mbuf_chain::{Chain, Pool, QueuedPlace, Train};
 use params::IP_MAX_DATA;
 
-/// What stands in front of the place where a fragment goes.
+/// What precedes the place of a new fragment.
 #[derive(Clone, Copy)]
 struct Before {
     /// The last of the fragments that begin no later.
     front: Option<QueuedPlace>,
-    /// Where it ends.
+    /// Its end.
     end: u32,
 }
 
-/// What begins no later than an offset.
+/// The fragments that begin no later than an offset.
 fn walk_to(pool: &Pool, train: &Train, offset: u32) -> Before
     requires { IsQueue pool.now train.now }
     ensures front { IsFront pool.now train.now result.front }
@@ -48,7 +48,7 @@ fn walk_to(pool: &Pool, train: &Train, offset: u32) -> Before
     found
 }
 
-/// The tag of the fragment that has so many in front of it.
+/// The tag of the fragment that has `i` before it.
 fn tag_of(pool: &Pool, train: &Train, i: u32) -> Tag
     requires place { i < train.now.len }
     requires held { IsHeld pool.now train.now }
@@ -59,8 +59,8 @@ fn tag_of(pool: &Pool, train: &Train, i: u32) -> Tag
     }
 }
 
-/// Where the last of the fragments ends: 0 if there is none. This is no walk, since a train knows its last.
-// Inlined, since each arrival begins with it: by a call seven fragments took 95 instructions more.
+/// The end of the last fragment: 0 if there are no fragments. This is no walk, because a train knows its last.
+// Inlined, because each arrival begins with it: as a call it cost seven fragments 95 more instructions.
 #[inline(always)]
 fn end_of_last(pool: &Pool, train: &Train) -> u32
     requires { IsQueue pool.now train.now }
@@ -73,7 +73,7 @@ fn end_of_last(pool: &Pool, train: &Train) -> u32
     tag_of(pool, train, last).offset() + train.chain_len(pool, last)
 }
 
-/// Where the fragment at a place begins.
+/// The offset of the fragment at a place.
 fn begins(pool: &Pool, train: &Train, at: QueuedPlace) -> u32
     requires place { IsQueuedPlace pool.now train.now at }
     requires held { IsHeld pool.now train.now }
@@ -95,7 +95,7 @@ fn ends(pool: &Pool, train: &Train, at: QueuedPlace) -> u32
     begins(pool, train, at) + train.len_at(pool, at)
 }
 
-/// Takes the fragment after a place out and frees it.
+/// Removes the fragment after a place and frees it.
 fn free_after(pool: &mut Pool, train: &mut Train, front: Option<QueuedPlace>)
     requires front { IsFront pool.old train.old front }
     requires more { after front < train.old.len }
@@ -131,8 +131,8 @@ fn trim_after(pool: &mut Pool, train: &mut Train, front: Option<QueuedPlace>, n:
     insert_after(pool, train, front, chain, moved.bits);
 }
 
-/// What lies below an offset goes from the fragments after a place: whole fragments, and the front of one. Answers how
-/// many bytes that are.
+/// Removes the bytes below an offset from the fragments after a place: whole fragments, and the front of one. Returns
+/// how many bytes that are.
 fn clear(pool: &mut Pool, train: &mut Train, front: Option<QueuedPlace>, end: u32) -> u32
     requires front { IsFront pool.old train.old front }
     requires held { IsHeld pool.old train.old }
@@ -163,8 +163,8 @@ fn clear(pool: &mut Pool, train: &mut Train, front: Option<QueuedPlace>, end: u3
     gone
 }
 
-/// Puts what is left of a fragment after those that begin no later, and takes what it holds from those after it.
-/// Answers how many bytes these lose.
+/// Puts what is left of a fragment after those that begin no later, and removes the bytes that it has from those after
+/// it. Returns how many bytes these lose.
 fn lay_after(pool: &mut Pool, train: &mut Train, chain: Chain, before: Before, span: Span) -> u32
     requires front { IsFront pool.old train.old before.front }
     requires held { IsHeld pool.old train.old }
@@ -197,18 +197,18 @@ fn lay_after(pool: &mut Pool, train: &mut Train, chain: Chain, before: Before, s
     gone
 }
 
-/// What became of a fragment that was laid among those of its datagram.
+/// What happened to a fragment that was put among those of its datagram.
 pub(crate) enum Laying {
     /// Nothing of it was left.
     Covered,
     /// The datagram isn't whole with it.
     Waits,
-    /// The datagram is whole with it, and has so many bytes.
+    /// The datagram is whole with it, and has that many bytes.
     Whole(u32),
 }
 
-/// Whether the fragments are a whole datagram: no more come after the last, and together they have as many bytes as lie
-/// below its end, so that none is missing.
+/// Whether the fragments are a whole datagram: none follows the last, and the number of their bytes is its end, so none
+/// is missing.
 #[inline(never)]
 fn whole(pool: &Pool, datagram: &Datagram) -> Laying
     requires queue { IsQueue pool.now datagram.now.fragments }
@@ -228,8 +228,8 @@ fn whole(pool: &Pool, datagram: &Datagram) -> Laying
     Laying::Whole(bytes)
 }
 
-/// Puts a fragment after all others, which end no later than it begins. Then it's the last, so that nothing has to be
-/// read to tell whether the datagram is whole.
+/// Puts a fragment after all others, which end no later than it begins. Then it's the last, so nothing has to be read
+/// to find out whether the datagram is whole.
 #[inline(always)]
 fn append(pool: &mut Pool, datagram: &mut Datagram, chain: Chain, span: Span) -> Laying
     requires queue { IsQueue pool.old datagram.old.fragments }
@@ -260,10 +260,10 @@ fn append(pool: &mut Pool, datagram: &mut Datagram, chain: Chain, span: Span) ->
     Laying::Whole(bytes)
 }
 
-/// Lays a fragment at its place, to which the fragments are walked: what precedes it keeps its bytes, what follows
-/// loses its own to it. A fragment of which nothing is left is freed, and those held stay as they were. Answers
+/// Puts a fragment at its place, which is found by a walk. The fragments before it keep their bytes, those after it
+/// lose the bytes that it has. A fragment of which nothing is left is freed, and the others stay as they were. Returns
 /// whether something was left.
-// Apart, as `whole`: few fragments come out of order.
+// Not inlined, like `whole`: few fragments come out of order.
 #[inline(never)]
 fn lay_between(pool: &mut Pool, datagram: &mut Datagram, chain: Chain, span: Span) -> bool
     requires queue { IsQueue pool.old datagram.old.fragments }
@@ -292,9 +292,9 @@ fn lay_between(pool: &mut Pool, datagram: &mut Datagram, chain: Chain, span: Spa
     true
 }
 
-/// Lays a fragment among those held. Nearly every fragment comes in order: it goes after the last, whose end is looked
-/// at first, and so it passes none of the others. If it goes elsewhere and bytes are missing below that end, the last
-/// one isn't read again.
+/// Puts a fragment among the others. Nearly every fragment comes in order: it goes after the last, whose end is tested
+/// first, so it passes none of the others. If it goes elsewhere and bytes are missing below that end, the last one
+/// isn't read again.
 #[inline(always)]
 pub(crate) fn lay(pool: &mut Pool, datagram: &mut Datagram, chain: Chain, span: Span) -> Laying
     requires queue { IsQueue pool.old datagram.old.fragments }
@@ -322,7 +322,7 @@ pub(crate) fn lay(pool: &mut Pool, datagram: &mut Datagram, chain: Chain, span: 
     whole(pool, datagram)
 }
 
-/// Joins the fragments, in their order, as one chain, as `m_cat` does.
+/// Joins the fragments, in order, into one chain, as `m_cat` does.
 pub(crate) fn join_all(pool: &mut Pool, train: Train) -> Chain
     requires held { IsHeld pool.old train }
     requires some { 0 < train.len }

@@ -1,10 +1,10 @@
-//! Where a fragment lies in its datagram, and the number in which a train keeps that.
+//! The offset of a fragment in its datagram, and the number in which a train keeps it.
 
 ghost use Rattle.std.specs.Prelude.{◌≡◌, ◌+◌, ◌*◌, ◌/◌, ◌%◌, ◌==◌, ◌≤◌};
 
 use params::IP_MAX_PACKET;
 
-/// Where a fragment begins, and whether more come after it.
+/// The offset of a fragment, and whether more follow.
 #[derive(Clone, Copy)]
 pub(crate) struct Span {
     /// The offset of its first byte.
@@ -13,7 +13,7 @@ pub(crate) struct Span {
     pub(crate) more: bool,
 }
 
-/// The tag that a train keeps with a fragment: its offset times 2, plus 1 if more come after it.
+/// The tag that a train keeps with a fragment: its offset times 2, plus 1 if more follow.
 #[derive(Clone, Copy)]
 pub(crate) struct Tag {
     pub(crate) bits: u32,
@@ -31,14 +31,14 @@ impl Tag {
         }
     }
 
-    /// Where the fragment begins.
+    /// The offset of the fragment.
     pub(crate) fn offset(self) -> u32
         ensures { result ≡ self.bits / 2 }
     {
         self.bits / 2
     }
 
-    /// Whether more come after it.
+    /// Whether more follow.
     pub(crate) fn more(self) -> bool
         ensures { result ≡ (self.bits % 2 == 1) }
     {

@@ -22,12 +22,12 @@ use params::FRAGMENT_TICKS;
 use std::alloc::{AllocError, Global};
 use std::marker::Model;
 
-/// The unfinished datagrams, in the order of their beginning: what 4.4BSD keeps in its fragment queue (TCP/IP
-/// Illustrated, volume 2, chapter 10). It must be spent, by `end`.
+/// The unfinished datagrams, oldest first: what 4.4BSD keeps in its fragment queue (TCP/IP Illustrated, volume 2,
+/// chapter 10). It must be consumed, by `end`.
 ///
 /// A contract sees the list of them, each with its key, the mbuf of its key, the ticks that it has left and its
-/// fragments, and for how many there are places. The chains stay in the pool that each call is given, which is the one
-/// that they came from. No call but `boot` takes host memory.
+/// fragments, and how many fit. The chains stay in the pool that each call is given, which must be the one that they
+/// came from. Only `boot` allocates host memory.
 pub struct Reass {
     pub(crate) datagrams: Vec<Datagram>,
     pub(crate) index: Index,
@@ -49,11 +49,12 @@ impl Model for Reass {
 }
 
 impl Reass {
-    /// A table without datagrams. `AllocError` comes where the host has no memory for it, and nothing is left then.
+    /// A table without datagrams. Fails with `AllocError` if the host has no memory for it, and then nothing stays
+    /// allocated.
     ///
-    /// After this half as many unfinished datagrams as the pool has mbufs can be held, with no more host memory. More
-    /// there can't be, since each holds two mbufs or more: one for its key, and those of its fragments. `mbufs` is that
-    /// of the pool.
+    /// Afterwards it can hold half as many unfinished datagrams as the pool has mbufs, without more host memory. There
+    /// can't be more, because each takes at least two mbufs: one for its key, and those of its fragments. `mbufs` is
+    /// that of the pool.
     pub fn boot(alloc: Global, mbufs: u32) -> Result<Reass, AllocError>
         ensures none { IfOk result (λ r. r.datagrams ≡ []) }
         ensures room { IfOk result (λ r. mbufs ≤ 2 * r.room) }
@@ -96,7 +97,7 @@ impl Reass {
     }
 
     /// A tick of the slow timer, `ip_slowtimo` (volume 2, chapter 10): each datagram has one tick less, and those that
-    /// have none left are freed with all their mbufs. The answer is how many were.
+    /// have none left are freed with all their mbufs. Returns how many were freed.
     pub fn tick(&mut self, pool: &mut Pool) -> u32
         requires { IsReady pool.old self.old }
         ensures step { (rest : State) (c : Counters) → ticked (machine_with pool.old self.old.datagrams c rest)
@@ -136,7 +137,7 @@ fn free_beyond(pool: &mut Pool, table: &mut Vec<Datagram>, kept: usize)
     }
 }
 
-/// Takes a tick from each, and puts those that have none left after the others. The answer is how many go on.
+/// Takes a tick from each, and moves those that have none left after the others. Returns how many remain.
 fn age(table: &mut [Datagram]) -> usize
     ensures within { result ≤ length table.new }
     ensures kept { take result table.new ≡ aged table.old }
@@ -156,7 +157,7 @@ fn age(table: &mut [Datagram]) -> usize
 }
 
 /// The place of the datagram with a key, if there is one, by the rows of the key's bucket, the last first.
-// Apart: mostly it's the newest datagram that is looked for.
+// Not inlined: usually the newest datagram is the one.
 #[inline(never)]
 fn find_by_bucket(table: &[Datagram], index: &Index, key: FragmentKey) -> Option<usize>
     requires some { 0 < index.now.count }
@@ -178,8 +179,8 @@ fn find_by_bucket(table: &[Datagram], index: &Index, key: FragmentKey) -> Option
     None
 }
 
-/// The place of the datagram with a key, if there is one. The newest is looked at first: fragments of a datagram mostly
-/// follow one another.
+/// The place of the datagram with a key, if there is one. The newest is tested first, because fragments of a datagram
+/// mostly follow one another.
 #[inline(always)]
 pub(crate) fn find(table: &[Datagram], index: &Index, key: FragmentKey) -> Option<usize>
     requires some { 0 < index.now.count }
@@ -196,7 +197,7 @@ pub(crate) fn find(table: &[Datagram], index: &Index, key: FragmentKey) -> Optio
     find_by_bucket(table, index, key)
 }
 
-/// A new datagram after the others, whose key has that mbuf.
+/// Adds a new datagram after the others, with the mbuf of its key.
 pub(crate) fn begin(table: &mut Vec<Datagram>, key: FragmentKey, holder: Chain)
     requires { vec_len table.old < vec_capacity table.old }
     ensures items { table.new.items ≡ table.old.items ++ new_datagram key holder ∷ [] }
@@ -230,7 +231,7 @@ impl Reclaim for Reass {
 
     ghost ready_same = { λ p q r h is. ready_same p q r h is };
 
-    // Apart: each place that wants a buffer would have it inlined, and few find none.
+    // Not inlined: each place that needs a buffer would contain a copy, and few find none free.
     #[inline(never)]
     fn reclaim(&mut self, pool: &mut Pool) -> u32 {
         let before = self.len();

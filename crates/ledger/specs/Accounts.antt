@@ -29,16 +29,16 @@ weight_owned p xs = all_of (weight_at p) xs
 
 -- ---- accounts
 
--- The pool accounts for the state and for the weight held beside it: the totals are those of the configuration, as
--- many mbufs are held as both weigh, and each cluster is referred to as often as it stands in their bags.
+-- The pool accounts for the state and for the weight held outside it: the totals are those of the configuration, the
+-- mbufs in use are those of both weights together, and each cluster is referred to as often as their bags contain it.
 pub record IsAccounted (p : PoolView) (s : State) (held : Weight) : Type 0 where
   pub mbufs : s.config.mbufs ≡ p.mbufs
   pub clusters : s.config.clusters ≡ p.clusters
   pub total : held_mbufs p ≡ (weight_of_state s ⊕ held).mbufs
   pub references : (c : ℕ) → references p c ≡ count_of s held c
 
--- what state and hand weigh changes from s with `held` to t with `kept` as an owner's chains change from `before` to
--- `after`
+-- the state and the weight held outside it change from s with `held` to t with `kept` as an owner's chains change from
+-- `before` to `after`
 pub record Shifts (s : State) (held before : Weight) (t : State) (kept after : Weight) : Type 0 where
   pub mbufs : (weight_of_state s ⊕ held).mbufs + after.mbufs ≡ (weight_of_state t ⊕ kept).mbufs + before.mbufs
   pub bag : (c : ℕ) → times c (weight_of_state s ⊕ held).bag + times c after.bag

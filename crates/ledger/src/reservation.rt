@@ -1,4 +1,4 @@
-//! The test of the pool, and what is given back where it fails.
+//! The test of the pool, and what is freed if it fails.
 
 ghost use Rattle.std.specs.Prelude.{◌≡◌, true, false};
 ghost use Rattle.flat_model.specs.Machine.State.{State};
@@ -11,8 +11,8 @@ use crate::Waiting;
 use flat_model::{Counter, Counters};
 use mbuf_chain::Pool;
 
-/// Whether so many mbufs and clusters are free now. Nothing is set aside: a call of somebody else may take them. It
-/// takes a number of steps that doesn't depend on the pool (this project's own).
+/// Whether that number of mbufs and clusters is free now. Nothing is reserved: a call elsewhere may take them. Takes a
+/// number of steps that doesn't depend on the pool (this project's own).
 #[inline(always)]
 pub fn are_free(pool: &Pool, mbufs: u32, clusters: u32) -> bool
     ensures { result ≡ are_free pool.now mbufs clusters }
@@ -22,15 +22,14 @@ pub fn are_free(pool: &Pool, mbufs: u32, clusters: u32) -> bool
     mbufs <= free && clusters <= free_clusters
 }
 
-/// Tests whether so many mbufs and clusters are free, before a step takes them. Where they aren't, all that waits is
-/// given back and counted as `IpReclaimed`, and the test is made once more: that answer stands. Where they are,
-/// nothing changes.
+/// Tests whether that number of mbufs and clusters is free, before a step takes them. If not, all unfinished datagrams
+/// are freed and counted as `IpReclaimed`, and the result is that of a second test. If they are free, nothing changes.
 ///
-/// `true` says that they are free now, so that the caller takes them without a refusal. Nothing is set aside: a call
-/// of somebody else in between may take them.
+/// `true`: they are free now, so the caller can take them without an error. Nothing is set aside: a call elsewhere may
+/// take them first.
 ///
 /// After a clause of `HasBuffers` in the definitions of the ledger (`ip_drain` of TCP/IP Illustrated, volume 2, chapter
-/// 10). The clause holds for each state whose accounts the pool keeps, and for each weight held beside it.
+/// 10). The clause holds for each state whose accounts the pool keeps, and for each weight held outside it.
 pub fn reserve<R: Waiting>(
     pool: &mut Pool,
     waiting: &mut R,

@@ -10,13 +10,12 @@ ghost use Rattle.ledger.specs.Accounts.{weight_owned};
 
 use mbuf_chain::Reclaim;
 
-/// Datagrams that wait for their other fragments: an owner of chains that can be given back, with what it is for
-/// the flat machine. The layers that take buffers are generic over it, so that none of them stands on the
-/// reassembly.
+/// Datagrams that wait for their other fragments: an owner of chains that can be freed, and what it is for the flat
+/// machine. The layers that take buffers are generic over it, so none of them depends on the reassembly.
 ///
 /// Its ghost member `unfinished` is the list of datagrams that the object and the pool show. The laws below say that
-/// they are as many as `Reclaim` counts, that its chains weigh what the flat machine says, and that a step of
-/// somebody else leaves them as they were.
+/// `Reclaim` counts that number of them, that its chains weigh what the flat machine says, and that a step that doesn't
+/// touch them leaves them as they were.
 pub trait Waiting: Reclaim {
     ghost unfinished: { PoolView → Self → List Unfinished };
 
@@ -31,7 +30,7 @@ pub trait Waiting: Reclaim {
     ghost weighs: { (p : PoolView) (s : Self) → Self.is_ready p s →
         SameWeight (weight_owned p (Self.owned p s)) (all_of (λ u. mbuf ⊕ weight_of_pieces u.bytes) (unfinished p s)) };
 
-    // a step of somebody else leaves it as it was
+    // a step that doesn't touch its chains leaves it as it was
     ghost unfinished_same: { (p q : PoolView) (s : Self) → SameAt p q (Self.owned p s)
         → unfinished q s ≡ unfinished p s };
 }

@@ -1,10 +1,10 @@
--- Where the rows of the table stand by the buckets of their keys (this project's own).
+-- The rows of the table, found by the buckets of their keys (this project's own).
 use Rattle.std.specs.Prelude.{◌≡◌, ℕ, zero, suc, ◌+◌, ◌*◌, ◌%◌, ◌<◌, ◌≤◌, ◌==◌, if◌then◌else◌, List, map, take, length, get_or}
 use Rattle.flat_model.specs.Machine.State.{Key}
 use Rattle.ip_reass.specs.declared.datagram.Datagram.{Datagram}
 use Rattle.ip_reass.specs.declared.index.Row.{Row}
 
--- the bucket of a key, of so many
+-- the bucket of a key, among n buckets
 abbrev pub bucket_of : ℕ → Key → ℕ
 bucket_of count k = (k.id + 40503 * k.source + 10007 * k.destination + 211 * k.protocol) % count
 
@@ -12,13 +12,12 @@ bucket_of count k = (k.id + 40503 * k.source + 10007 * k.destination + 211 * k.p
 abbrev pub buckets_of : ℕ → List Datagram → List ℕ
 buckets_of count ds = map (λ (d : Datagram). bucket_of count d.key) ds
 
--- how many rows there are up to the last of the first k that is in bucket b, that one included: 0 if none is
+-- how many rows there are up to and including the last of the first k that is in bucket b; 0 if none is
 abbrev pub upto_last : ℕ → List ℕ → ℕ → ℕ
 upto_last b bs zero = 0
 upto_last b bs (suc k) = if get_or bs k 0 == b then suc k else upto_last b bs k
 
--- what a contract sees of an index: the buckets of the rows, how many buckets there are, and for how many rows there is
--- room
+-- what a contract sees of an index: the buckets of the rows, how many buckets there are, and how many rows fit
 pub record IndexView : Type 0 where
   pub buckets : List ℕ
   pub count : ℕ
@@ -27,7 +26,7 @@ pub record IndexView : Type 0 where
 abbrev pub buckets_in : List Row → ℕ → List ℕ
 buckets_in rows n = map (λ (r : Row). r.bucket) (take n rows)
 
--- each bucket tells its last row, and each row the one before it in its bucket
+-- each bucket has the number of its last row, and each row that of the one before it in its bucket
 pub record AreLinked (ends : List ℕ) (rows : List Row) (n : ℕ) : Type 0 where
   pub within : n ≤ length rows
   pub befores : (k : ℕ) (d : Row) → k < n → (get_or rows k d).before
@@ -35,7 +34,7 @@ pub record AreLinked (ends : List ℕ) (rows : List Row) (n : ℕ) : Type 0 wher
   pub inside : (k : ℕ) (d : Row) → k < n → (get_or rows k d).bucket < length ends
   pub lasts : (b : ℕ) → b < length ends → get_or ends b 0 ≡ upto_last b (buckets_in rows n) n
 
--- the index tells the rows of the table
+-- the index has the rows of the table
 pub record Indexes (x : IndexView) (ds : List Datagram) : Type 0 where
   pub some : 0 < x.count
   pub rows : x.buckets ≡ buckets_of x.count ds

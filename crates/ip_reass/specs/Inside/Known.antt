@@ -1,4 +1,4 @@
--- Fragments in order of offset, apart from one another, and the map that they mean (this project's own lemmas).
+-- Fragments in order of offset, without overlap, and the map that they mean (this project's own lemmas).
 use Rattle.std.proofs.Common.{◌≡◌, ℕ, zero, suc, ◌+◌, ◌-◌, ◌<◌, ◌≤◌, List, [], ◌∷◌, ◌++◌, length, get_or, take, drop, Option, None, Some, refl, sym, ap, ◌∙◌, subst, inl, inr, ◌⊎◌, arith, length-drop, get_or-drop}
 use Rattle.std.proofs.lemmas.Bool.{cases_lt, le-leb, lt-leb, lt-ltb, le-ltb, and_from, and_left, and_right, cond-true, cond-false}
 use Rattle.flat_model.specs.Fragments.Overlay.{Held}
@@ -17,7 +17,7 @@ known_below p ps k a = cond-false _ _ _ (and_left _ _ (lt-leb p.offset k a))
 pub known_past : (p : Fragment) (ps : List Fragment) (k : ℕ) → end_of_fragment p ≤ k → map_of (p ∷ ps) k ≡ map_of ps k
 known_past p ps k a = cond-false _ _ _ (and_right _ _ (le-ltb k (end_of_fragment p) a))
 
--- where an offset lies
+-- the position of an offset
 pub data Place (p : Fragment) (k : ℕ) : Type 0 where
   below : k < p.offset → Place p k
   within : p.offset ≤ k → k < end_of_fragment p → Place p k
@@ -33,8 +33,7 @@ pub none_or_some : (o : Option Held) → (o ≡ None) ⊎ ((c : Held) × (o ≡ 
 none_or_some None = inl refl
 none_or_some (Some c) = inr (c, refl)
 
--- ---- lists
--- nothing is known below the first
+-- ---- below the first fragment of a list nothing is known
 pub nothing_below : (low : ℕ) (ps : List Fragment) (k : ℕ) → Apart low ps → k < low → map_of ps k ≡ None
 nothing_below low [] k a l = refl
 nothing_below low (p ∷ ps) k a l =
@@ -44,13 +43,13 @@ pub reach_grows : (low : ℕ) (ps : List Fragment) → Apart low ps → low ≤ 
 reach_grows low [] a = omega arith
 reach_grows low (p ∷ ps) a = omega (arith, reach_grows (end_of_fragment p) ps a.2)
 
--- nothing is known from where the last one ends
+-- from the end of the last fragment on nothing is known
 pub nothing_past : (low : ℕ) (ps : List Fragment) (k : ℕ) → Apart low ps → reach low ps ≤ k → map_of ps k ≡ None
 nothing_past low [] k a l = refl
 nothing_past low (p ∷ ps) k a l = known_past p ps k (omega (arith, reach_grows (end_of_fragment p) ps a.2))
     ∙ nothing_past (end_of_fragment p) ps k a.2 l
 
--- nor up to a, where all begin above it
+-- up to a nothing is known if all begin above it
 pub nothing_upto : (a : ℕ) (ps : List Fragment) (k : ℕ) → AllAbove a ps → k ≤ a → map_of ps k ≡ None
 nothing_upto a [] k h l = refl
 nothing_upto a (p ∷ ps) k h l = known_below p ps k (omega arith) ∙ nothing_upto a ps k h.1 l
@@ -88,7 +87,7 @@ pub apart_lower : (low less : ℕ) (ps : List Fragment) → less ≤ low → Apa
 apart_lower low less [] l a = tt
 apart_lower low less (p ∷ ps) l a = (omega arith, a.1, a.2)
 
--- ---- what is left of the fragments after
+-- ---- the rest of the fragments after
 pub data LeftAfter (e : ℕ) (p : Fragment) (ps : List Fragment) : Type 0 where
   left_whole : e ≤ p.offset → left_from e (p ∷ ps) ≡ p ∷ ps → LeftAfter e p ps
   left_none : end_of_fragment p ≤ e → left_from e (p ∷ ps) ≡ left_from e ps → LeftAfter e p ps

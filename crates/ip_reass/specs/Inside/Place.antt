@@ -1,4 +1,4 @@
--- The place of a key's datagram in the table, where a fragment is laid (this project's own).
+-- The place in the table of the datagram with a key, to which a fragment is added (this project's own).
 use Rattle.std.specs.Prelude.{◌≡◌, ◌⊎◌, ℕ, ◌<◌, Bool, true, false, List, [], ◌∷◌, ◌++◌, take, find, length, slice_get, Option, None, Some}
 use Rattle.params.specs.declared.TheConstants.{PACKET_START}
 use Rattle.flat_model.specs.Amounts.Weight.{Weight}
@@ -14,7 +14,7 @@ use Rattle.ip_reass.specs.Layouts.{WaitOrNone, queues}
 use Rattle.ip_reass.specs.Table.{TableView, IsReady, has_key, held_all, new_datagram}
 use Rattle.ip_reass.specs.declared.datagram.Datagram.{Datagram}
 
--- an mbuf was asked for, from p, r and counters c on to q, s and d: where none was free, nothing waits any more
+-- an mbuf was requested, from p, r and counters c to q, s and d: if none was free, no datagram waits any more
 pub record AsksForMbuf (p : PoolView) (r : TableView) (c : Counters) (answer : Bool) (q : PoolView) (s : TableView)
     (d : Counters) : Type 0 where
   pub has_buffers : (rest : State) (held : Weight) → IsAccounted p (machine_with p r.datagrams c rest) held
@@ -25,13 +25,13 @@ pub record AsksForMbuf (p : PoolView) (r : TableView) (c : Counters) (answer : B
   pub ready : IsReady q s
   pub moves : Moves p (held_all p r.datagrams) q (held_all q s.datagrams)
 
--- the first datagram with the key stands at this place
+-- the first datagram with the key is at this place
 pub record IsFirst (k : Key) (ds : List Datagram) (i : ℕ) : Type 0 where
   pub within : i < length ds
   pub here : find (has_key k) ds ≡ slice_get ds i
   pub front : find (has_key k) (take i ds) ≡ None
 
--- a datagram with key k was begun at place i, after those that an mbuf for it left
+-- a datagram with key k was begun at place i, after those that remained when its mbuf was allocated
 pub record HasBegun (p : PoolView) (r : TableView) (c : Counters) (k : Key) (i : ℕ) (q : PoolView) (s : TableView)
     (d : Counters) : Type 0 where
   pub mid : PoolView
@@ -43,7 +43,7 @@ pub record HasBegun (p : PoolView) (r : TableView) (c : Counters) (k : Key) (i :
   pub room : s.room ≡ left.room
   pub place : i ≡ length left.datagrams
 
--- the place of a key's datagram, which stands there already, or is begun; none where no mbuf was to be had for it
+-- the place of a key's datagram, which is there already or is begun; no place if no mbuf was available for it
 abbrev pub HasPlace : PoolView → TableView → Counters → Key → Option ℕ → PoolView → TableView → Counters → Type 0
 HasPlace p r c k None q s d = (find (has_key k) r.datagrams ≡ None) × AsksForMbuf p r c false q s d
 HasPlace p r c k (Some i) q s d =

@@ -23,8 +23,8 @@ no_datagram = record {
 abbrev pub datagram_at : List Datagram → ℕ → Datagram
 datagram_at ds i = slice_index_or ds i no_datagram
 
--- from p and d to q and e, chain c, which is the fragment f, was laid among the fragments of a datagram, where
--- something of it was left
+-- from p and d to q and e, chain c, which is the fragment f, was put among the fragments of a datagram, unless nothing
+-- of it was left
 pub record IsLaid (p : PoolView) (d : Datagram) (c : ℕ) (f : QueuedFragment) (answer : Bool) (q : PoolView)
     (e : Datagram) : Type 0 where
   pub same : e ≡ record d { fragments = e.fragments; bytes = e.bytes }
@@ -37,7 +37,7 @@ pub record IsLaid (p : PoolView) (d : Datagram) (c : ℕ) (f : QueuedFragment) (
   pub counted : e.bytes ≡ bytes_held (fragments q e.fragments)
   pub moves : Moves p (c ∷ numbers p d.fragments) q (numbers q e.fragments)
 
--- from p and ds to q and es, chain c, which is the fragment f, was laid among the fragments of datagram i
+-- from p and ds to q and es, chain c, which is the fragment f, was put among the fragments of datagram i
 pub record LaysIn (p : PoolView) (ds : List Datagram) (i c : ℕ) (f : QueuedFragment) (answer : Bool) (q : PoolView)
     (es : List Datagram) : Type 0 where
   pub train : TrainView
@@ -56,7 +56,7 @@ pub record LaysIn (p : PoolView) (ds : List Datagram) (i c : ℕ) (f : QueuedFra
   pub table : IsTable q es
   pub moves : Moves p (c ∷ held_all p ds) q (held_all q es)
 
--- from p and ds to q and es, datagram i was taken out, and chain c is what it carries
+-- from p and ds to q and es, datagram i was removed, and chain c is what it carries
 pub record TakesOut (p : PoolView) (ds : List Datagram) (i c : ℕ) (q : PoolView) (es : List Datagram) : Type 0 where
   pub change : es ≡ remove ds i
   pub entries : (chain_of q c).entries ≡ joined_fragments (queued p (datagram_at ds i).fragments)

@@ -1,4 +1,4 @@
--- Words of the crate's own for the walks over the fragments of a datagram (this project's own).
+-- This crate's own definitions for the walks over the fragments of a datagram (this project's own).
 use Rattle.std.specs.Prelude.{ℕ, ◌+◌, ◌-◌, ◌<◌, ◌≤◌, Bool, true, false, nat_le, if◌then◌else◌, List, [], ◌∷◌, ◌++◌, length, slice_index_or, drop, Option, None, Some}
 use Rattle.std.specs.List.{AllByRecursion}
 use Rattle.chain_ops.specs.Weights.{AreFit}
@@ -16,17 +16,17 @@ use Rattle.ip_reass.specs.declared.queue.Laying.TheVariants.{Covered, Waits, Who
 abbrev pub arrived : PoolView → ℕ → ℕ → Bool → QueuedFragment
 arrived p c offset more = record { offset = offset; more = more; entries = (chain_of p c).entries }
 
--- a place among the fragments of a train, told by the one in front of it, where there is one
+-- a place among the fragments of a train, given by the fragment before it, if there is one
 abbrev pub IsFront : PoolView → TrainView → Option QueuedPlace → Type 0
 IsFront p t None = Unit {0}
 IsFront p t (Some at) = IsQueuedPlace p t at
 
--- how many fragments stand in front of it
+-- how many fragments precede it
 abbrev pub after : Option QueuedPlace → ℕ
 after None = 0
 after (Some at) = at.index + 1
 
--- where the last one ends
+-- the end of the last one
 abbrev pub reach : ℕ → List Fragment → ℕ
 reach low [] = low
 reach low (f ∷ fs) = reach (end_of_fragment f) fs
@@ -44,7 +44,7 @@ AllAbove a (f ∷ fs) = (a < f.offset) × AllAbove a fs
 abbrev pub trimmed : ℕ → Fragment → Fragment
 trimmed n f = record { offset = f.offset + n; bytes = drop n f.bytes; more = f.more; weight = f.weight }
 
--- what is left of the fragments from offset e on
+-- the rest of the fragments from offset e on
 abbrev pub left_from : ℕ → List Fragment → List Fragment
 left_from e [] = []
 left_from e (f ∷ fs) = if nat_le e f.offset then f ∷ fs else if nat_le (end_of_fragment f) e then left_from e fs
@@ -62,7 +62,7 @@ no_queued = record { offset = 0; more = true; entries = [] }
 abbrev pub queued_at : List QueuedFragment → ℕ → QueuedFragment
 queued_at qs i = slice_index_or qs i no_queued
 
--- whether something was left of a fragment that was laid, and whether the datagram with this map is whole then
+-- whether something was left of a fragment that was put in, and whether the datagram with this map is then whole
 abbrev pub is_left : Laying → Bool
 is_left Covered = false
 is_left Waits = true
@@ -78,7 +78,7 @@ abbrev pub bytes_of : List Fragment → List ℕ
 bytes_of [] = []
 bytes_of (f ∷ fs) = f.bytes ++ bytes_of fs
 
--- the bytes of each lie in the room of their mbufs;  each has an mbuf
+-- the bytes of each are within its mbufs;  each has an mbuf
 abbrev pub AllFit : List QueuedFragment → Type 0
 AllFit qs = AllByRecursion (λ (q : QueuedFragment). AreFit q.entries) qs
 

@@ -19,7 +19,7 @@ firsts_same a b at zero h = refl
 firsts_same a b at (suc n) h = λ i. cons_option (h at (omega arith) i)
     (firsts_same a b (at + 1) n (λ k l. h k (omega arith)) i)
 
--- a fragment past whose first offset one looks has no piece there
+-- a fragment has no piece at an offset above its first one
 hidden : (p : Fragment) (ps : List Fragment) (k : ℕ) → Apart (end_of_fragment p) ps → p.offset < k
     → piece_at k (map_of (p ∷ ps) k) ≡ piece_at k (map_of ps k)
 hidden p ps k a l = elim (known_place p k) [
