@@ -7,7 +7,7 @@ use params::MCLBYTES;
 use raw_cells::{Buffer, Part, Region};
 use std::alloc::Global;
 
-/// Copies one part to the other and back, so many times.
+/// Copies one part to the other and back, `times` times.
 fn copy_to_and_fro(region: &mut Region, here: Part, there: Part, times: u64)
     requires sized { IsSized region.old }
     requires here { IsCellPart region.old here }
@@ -47,9 +47,9 @@ fn cluster(index: u32, len: usize) -> Part
     }
 }
 
-/// Writes `from` into a cluster, copies it `times` times to another cluster and back, and reads it out into
-/// `to`. False says that memory was refused: `bool bsdudp_copy_to_and_fro(const uint8_t *from, size_t
-/// from_len, uint8_t *to, size_t to_len, uint64_t times)`.
+/// Writes `from` into a cluster, copies it `times` times to another cluster and back, and reads it out into `to`.
+/// Returns false if memory can't be allocated: `bool bsdudp_copy_to_and_fro(const uint8_t *from, size_t from_len,
+/// uint8_t *to, size_t to_len, uint64_t times)`.
 #[unsafe(no_mangle)]
 pub extern "C" fn bsdudp_copy_to_and_fro(
     alloc: Global,
@@ -71,9 +71,9 @@ pub extern "C" fn bsdudp_copy_to_and_fro(
     true
 }
 
-/// Writes `from` into a cluster and reads it out into `to`, `times` times and once more. False says that
-/// memory was refused: `bool bsdudp_write_and_read(const uint8_t *from, size_t from_len, uint8_t *to, size_t
-/// to_len, uint64_t times)`.
+/// Writes `from` into a cluster and reads it out into `to`, `times` + 1 times. Returns false if memory can't be
+/// allocated: `bool bsdudp_write_and_read(const uint8_t *from, size_t from_len, uint8_t *to, size_t to_len, uint64_t
+/// times)`.
 #[unsafe(no_mangle)]
 pub extern "C" fn bsdudp_write_and_read(
     alloc: Global,

@@ -26,7 +26,7 @@ fn fill_cluster(pool: &mut Pool, header: bool, bytes: &[u8]) -> Result<Chain, No
     Ok(chain)
 }
 
-/// Puts bytes into as many clusters as they need, 1 or more.
+/// Puts bytes into clusters, at least one.
 #[tactic(auto, using(mbuf_chain::proofs::Laws::Maps::map_steps))]
 fn fill(pool: &mut Pool, bytes: &[u8]) -> Result<Chain, NoBufs>
     ensures { IfOk result (λ c. IsLive pool.new c) }
@@ -46,7 +46,7 @@ fn fill(pool: &mut Pool, bytes: &[u8]) -> Result<Chain, NoBufs>
     Ok(chain)
 }
 
-/// Shares all that an mbuf shows of its cluster. `NoBufs` also where it has none.
+/// Shares all that an mbuf shows of its cluster. `NoBufs` also if it has none.
 fn share_mbuf(pool: &mut Pool, header: bool, chain: &Chain, at: Place) -> Result<Chain, NoBufs>
     requires live { IsLive pool.old chain.now }
     requires place { IsPlace (chain_of pool.old chain.now) at }
@@ -82,7 +82,7 @@ fn share(pool: &mut Pool, chain: &Chain) -> Result<Chain, NoBufs>
     Ok(copy)
 }
 
-/// Fills a chain, shares all of it and frees both. Answers whether the copy had all bytes.
+/// Fills a chain, shares all of it and frees both. Returns whether the copy had all bytes.
 #[tactic(auto, using(mbuf_chain::proofs::Laws::Maps::map_steps))]
 fn turn(pool: &mut Pool, bytes: &[u8]) -> bool {
     let Ok(chain) = fill(pool, bytes) else {
@@ -98,9 +98,9 @@ fn turn(pool: &mut Pool, bytes: &[u8]) -> bool {
     is_whole
 }
 
-/// Boots a pool of 64 mbufs and 16 clusters, and `times` times fills a chain with the bytes, shares all
-/// of it and frees both. Answers how often that went well: `uint32_t bsdudp_share_and_free(const uint8_t
-/// *bytes, size_t len, uint32_t times)`.
+/// Boots a pool of 64 mbufs and 16 clusters, and `times` times fills a chain with the bytes, shares all of it and frees
+/// both. Returns how often that succeeded: `uint32_t bsdudp_share_and_free(const uint8_t *bytes, size_t len, uint32_t
+/// times)`.
 #[unsafe(no_mangle)]
 pub extern "C" fn bsdudp_share_and_free(alloc: Global, bytes: &[u8], times: u32) -> u32
     ensures { result ≤ times }

@@ -3,8 +3,8 @@
 ghost use Rattle.std.specs.Prelude.{◌≡◌, IsTrue, Ok, length};
 ghost use Rattle.hex.specs.Hex.{decode_sized, encode_lower};
 
-/// Reads so many bytes as `to` has, two digits for each. False says that there are more digits or fewer, or something
-/// else than a digit: `bool bsdudp_read_digits(const uint8_t *digits, size_t len, uint8_t *to, size_t to_len)`.
+/// Reads two digits for each byte of `to`. Returns false if there are more digits or fewer, or a character that isn't a
+/// digit: `bool bsdudp_read_digits(const uint8_t *digits, size_t len, uint8_t *to, size_t to_len)`.
 #[unsafe(no_mangle)]
 pub extern "C" fn bsdudp_read_digits(digits: &[u8], to: &mut [u8]) -> bool
     ensures { IsTrue result → decode_sized digits.now (length to.old) ≡ Ok to.new }
@@ -12,8 +12,8 @@ pub extern "C" fn bsdudp_read_digits(digits: &[u8], to: &mut [u8]) -> bool
     hex::decode_to_slice(digits, to).is_ok()
 }
 
-/// Writes two digits for each byte. False says that `to` isn't twice as long:
-/// `bool bsdudp_write_digits(const uint8_t *bytes, size_t len, uint8_t *to, size_t to_len)`.
+/// Writes two digits for each byte. Returns false if `to` isn't twice as long: `bool bsdudp_write_digits(const uint8_t
+/// *bytes, size_t len, uint8_t *to, size_t to_len)`.
 #[unsafe(no_mangle)]
 pub extern "C" fn bsdudp_write_digits(bytes: &[u8], to: &mut [u8]) -> bool
     ensures { IsTrue result → to.new ≡ encode_lower bytes.now }

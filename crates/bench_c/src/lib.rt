@@ -1,5 +1,6 @@
-//! What the programs of `bench/` call from C: a module for each subject, in which an export does the same work so many
-//! times, so that a C program can time it beside C of its own. No other crate stands on this one.
+//! What the programs of `bench/` call from C: a module for each subject. Each export repeats the same work a given
+//! number of times, so that a C program can time it and compare it with C of its own. No other crate depends on this
+//! one.
 #![tactic(auto)]
 
 mod boot;

@@ -12,7 +12,7 @@ use std::alloc::Global;
 /// How many bytes a fragment has after its header.
 const FRAGMENT: u32 = 1480;
 
-/// Makes a chain of the bytes and frees it. Answers whether there was one.
+/// Makes a chain of the bytes and frees it. Returns whether there was one.
 fn store_once(pool: &mut Pool, bytes: &[u8]) -> bool
     requires { length bytes.now ≤ IP_MAX_PACKET }
 {
@@ -57,7 +57,7 @@ fn fragment_once(pool: &mut Pool, chain: &Chain, off: u32, len: u32) -> bool
     }
 }
 
-/// Makes and frees the fragments of a chain of so many bytes.
+/// Makes and frees the fragments of a chain of `len` bytes.
 fn fragments_once(pool: &mut Pool, chain: &Chain, total: u32) -> bool
     requires live { IsLive pool.old chain.now }
     requires total { total ≡ length (string (chain_of pool.old chain.now)) }
@@ -75,7 +75,7 @@ fn fragments_once(pool: &mut Pool, chain: &Chain, total: u32) -> bool
     true
 }
 
-/// Takes the headers of a packet into one mbuf and off it, and frees it.
+/// Moves the headers of a packet into one mbuf, cuts them off, and frees the packet.
 fn pull_once(pool: &mut Pool, bytes: &[u8]) -> bool
     requires { length bytes.now ≤ IP_MAX_PACKET }
 {
@@ -95,7 +95,7 @@ fn pull_once(pool: &mut Pool, bytes: &[u8]) -> bool
     }
 }
 
-/// Makes a chain of the bytes and frees it, `times` times; answers how often that went well. At most 65,535 bytes:
+/// Makes a chain of the bytes and frees it, `times` times; returns how often that succeeded. At most 65,535 bytes:
 /// `uint32_t bsdudp_from_user(const uint8_t *bytes, size_t len, uint32_t times)`.
 #[unsafe(no_mangle)]
 pub extern "C" fn bsdudp_from_user(alloc: Global, bytes: &[u8], times: u32) -> u32
@@ -114,7 +114,7 @@ pub extern "C" fn bsdudp_from_user(alloc: Global, bytes: &[u8], times: u32) -> u
     done
 }
 
-/// Makes a chain of the bytes, and copies it and frees the copy `times` times: as `bsdudp_from_user`.
+/// Makes a chain of the bytes, and copies it and frees the copy `times` times; see `bsdudp_from_user`.
 #[unsafe(no_mangle)]
 pub extern "C" fn bsdudp_m_copym(alloc: Global, bytes: &[u8], times: u32) -> u32
     requires { length bytes.now ≤ IP_MAX_PACKET }
@@ -136,7 +136,7 @@ pub extern "C" fn bsdudp_m_copym(alloc: Global, bytes: &[u8], times: u32) -> u32
     done
 }
 
-/// Makes a chain of the bytes, and its fragments of 1,480 bytes after a header `times` times: as `bsdudp_from_user`.
+/// Makes a chain of the bytes, and its fragments of 1,480 bytes after a header `times` times; see `bsdudp_from_user`.
 #[unsafe(no_mangle)]
 pub extern "C" fn bsdudp_fragments(alloc: Global, bytes: &[u8], times: u32) -> u32
     requires { length bytes.now ≤ IP_MAX_PACKET }
@@ -159,8 +159,8 @@ pub extern "C" fn bsdudp_fragments(alloc: Global, bytes: &[u8], times: u32) -> u
     done
 }
 
-/// Makes a chain of the bytes, and copies all of them out `times` times. Answers whether they're the same:
-/// `bool bsdudp_m_copydata(const uint8_t *bytes, size_t len, uint8_t *to, size_t to_len, uint32_t times)`.
+/// Makes a chain of the bytes, and copies all of them out `times` times. Returns whether they're the same: `bool
+/// bsdudp_m_copydata(const uint8_t *bytes, size_t len, uint8_t *to, size_t to_len, uint32_t times)`.
 #[unsafe(no_mangle)]
 pub extern "C" fn bsdudp_m_copydata(alloc: Global, bytes: &[u8], to: &mut [u8], times: u32) -> bool
     requires fits { length bytes.now ≤ IP_MAX_PACKET }
@@ -179,7 +179,8 @@ pub extern "C" fn bsdudp_m_copydata(alloc: Global, bytes: &[u8], to: &mut [u8], 
     &*to == bytes
 }
 
-/// Stores a packet, takes its headers into one mbuf and off it, and frees it, `times` times: as `bsdudp_from_user`.
+/// Stores a packet, moves its headers into one mbuf, cuts them off, and frees it, `times` times; see
+/// `bsdudp_from_user`.
 #[unsafe(no_mangle)]
 pub extern "C" fn bsdudp_pullup_and_adj(alloc: Global, bytes: &[u8], times: u32) -> u32
     requires { length bytes.now ≤ IP_MAX_PACKET }

@@ -1,4 +1,4 @@
-//! What `bench/output` times: datagrams cut into packets, and the checksum of bytes that lie in a chain.
+//! What `bench/output` times: datagrams fragmented into packets, and the checksum of bytes in a chain.
 
 ghost use Rattle.std.specs.Prelude.{◌≡◌, ◌+◌, ◌≤◌, length, IfOk};
 ghost use Rattle.mbuf_chain.specs.Chain.{IsLive, chain_of, string};
@@ -52,7 +52,7 @@ fn datagram(pool: &mut Pool, bytes: &[u8]) -> Result<Chain, NoBufs>
     Ok(chain)
 }
 
-/// Sends a datagram of the bytes, and frees its packets. Answers how many were queued.
+/// Sends a datagram of the bytes, and frees its packets. Returns how many were queued.
 fn send_once(pool: &mut Pool, bytes: &[u8], mtu: u16) -> u32
     requires most { length bytes.now ≤ UDP_MAX_DATA }
     requires least { MIN_MTU ≤ mtu }
@@ -67,7 +67,7 @@ fn send_once(pool: &mut Pool, bytes: &[u8], mtu: u16) -> u32
     packets
 }
 
-/// Makes the packets of a datagram of the bytes, and frees them. Answers how many there were.
+/// Makes the packets of a datagram of the bytes, and frees them. Returns how many there were.
 fn cut_once(pool: &mut Pool, bytes: &[u8], mtu: u16) -> u32
     requires most { length bytes.now ≤ UDP_MAX_DATA }
     requires least { MIN_MTU ≤ mtu }
@@ -89,9 +89,9 @@ fn cut_once(pool: &mut Pool, bytes: &[u8], mtu: u16) -> u32
     count
 }
 
-/// Sends a datagram of the bytes `times` times where the longest packet has `mtu` bytes, and frees its packets each
-/// time. At most 65,507 bytes; `mtu` at least 68. Answers how many packets were queued, of a datagram 50 at most:
-/// `uint32_t bsdudp_output(const uint8_t *bytes, size_t len, uint16_t mtu, uint32_t times)`.
+/// Sends a datagram of the bytes `times` times on a link with this `mtu`, and frees its packets each time. At most
+/// 65,507 bytes; `mtu` at least 68. Returns how many packets were queued, at most 50 of a datagram: `uint32_t
+/// bsdudp_output(const uint8_t *bytes, size_t len, uint16_t mtu, uint32_t times)`.
 #[unsafe(no_mangle)]
 pub extern "C" fn bsdudp_output(alloc: Global, bytes: &[u8], mtu: u16, times: u32) -> u32 {
     if bytes.len() > UDP_MAX_DATA as usize || mtu < MIN_MTU {
@@ -108,8 +108,8 @@ pub extern "C" fn bsdudp_output(alloc: Global, bytes: &[u8], mtu: u16, times: u3
     packets
 }
 
-/// Makes the packets of such a datagram `times` times, queues none, and frees them. Answers how many were made: as
-/// `bsdudp_output`.
+/// Makes the packets of such a datagram `times` times, queues none, and frees them. Returns how many were made; the
+/// arguments are those of `bsdudp_output`.
 #[unsafe(no_mangle)]
 pub extern "C" fn bsdudp_make_packets(alloc: Global, bytes: &[u8], mtu: u16, times: u32) -> u32 {
     if bytes.len() > UDP_MAX_DATA as usize || mtu < MIN_MTU {
@@ -126,8 +126,8 @@ pub extern "C" fn bsdudp_make_packets(alloc: Global, bytes: &[u8], mtu: u16, tim
     packets
 }
 
-/// Makes the chain of such a datagram `times` times, and frees it. Answers how often that went well:
-/// `uint32_t bsdudp_datagram(const uint8_t *bytes, size_t len, uint32_t times)`.
+/// Makes the chain of such a datagram `times` times, and frees it. Returns how often that succeeded: `uint32_t
+/// bsdudp_datagram(const uint8_t *bytes, size_t len, uint32_t times)`.
 #[unsafe(no_mangle)]
 pub extern "C" fn bsdudp_datagram(alloc: Global, bytes: &[u8], times: u32) -> u32
     ensures { result ≤ times }
@@ -149,8 +149,8 @@ pub extern "C" fn bsdudp_datagram(alloc: Global, bytes: &[u8], times: u32) -> u3
 }
 
 /// Makes the chain of such a datagram, and sums its bytes there `times` times, each time after the two bytes of the
-/// checksum before, 0 at first. Answers the last checksum, or 0 where memory lacked:
-/// `uint16_t bsdudp_cksum_chain(const uint8_t *bytes, size_t len, uint32_t times)`.
+/// checksum before, 0 at first. Returns the last checksum, or 0 if memory can't be allocated: `uint16_t
+/// bsdudp_cksum_chain(const uint8_t *bytes, size_t len, uint32_t times)`.
 #[unsafe(no_mangle)]
 pub extern "C" fn bsdudp_cksum_chain(alloc: Global, bytes: &[u8], times: u32) -> u16 {
     if bytes.len() > UDP_MAX_DATA as usize {

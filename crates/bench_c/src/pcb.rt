@@ -1,4 +1,4 @@
-//! The look-ups of pcb_table that `bench/pcb` times.
+//! The lookups of pcb_table that `bench/pcb` times.
 
 use flat_model::Addr;
 use pcb_table::Pcbs;
@@ -7,7 +7,7 @@ const OUR: u32 = 0x0a00_0001;
 
 const BROADCAST: u32 = 0x0a00_00ff;
 
-/// Who every packet comes from.
+/// The sender of every packet.
 const SENDER: Addr = Addr {
     ip: 0x0a00_0002,
     port: 5000,
@@ -16,7 +16,7 @@ const SENDER: Addr = Addr {
 /// The port of the oldest socket; each next one has the next port.
 const FIRST_PORT: u16 = 2000;
 
-/// A table with so many sockets, bound to any address and, if so asked, connected to the sender.
+/// A table with this many sockets, bound to any address and, if requested, connected to the sender.
 fn table_of(sockets: u16, is_connected: bool) -> Pcbs {
     let mut table = Pcbs::new(OUR, BROADCAST);
     for i in 0..sockets.min(64) {
@@ -36,8 +36,8 @@ fn table_of(sockets: u16, is_connected: bool) -> Pcbs {
     table
 }
 
-/// Looks up a packet to each of the ports, so many times over, and answers a digest of the descriptors found:
-/// `uint64_t bsdudp_lookups(uint16_t sockets, bool is_connected, const uint16_t *ports, size_t len, uint64_t times)`.
+/// Looks up a packet to each of the ports, `times` times, and returns a digest of the descriptors found: `uint64_t
+/// bsdudp_lookups(uint16_t sockets, bool is_connected, const uint16_t *ports, size_t len, uint64_t times)`.
 #[unsafe(no_mangle)]
 pub extern "C" fn bsdudp_lookups(
     sockets: u16,

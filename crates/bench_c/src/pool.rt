@@ -1,6 +1,6 @@
-//! The calls of mbuf_pool that `bench/pool` times. Each export boots a store of 512 mbufs and 64 clusters, does the
-//! same work so many times, and answers a digest of the numbers that came out, or `u64::MAX` where memory lacked. The
-//! calls that are timed stand in functions of their own, so that the compiler cannot fold a pair into nothing.
+//! The calls of mbuf_pool that `bench/pool` times. Each export boots a store of 512 mbufs and 64 clusters, repeats the
+//! same work, and returns a digest of the resulting numbers, or `u64::MAX` if memory can't be allocated. The timed
+//! calls are in functions of their own, so that the compiler can't fold a pair into nothing.
 
 ghost use Rattle.std.specs.Prelude.{◌≡◌, ◌<◌, IfOk, OnErr, IsTrue, None};
 ghost use Rattle.mbuf_pool.specs.Store.{is_out, cluster_count, cluster_of, held_once_more, released, with_mbuf, with_cluster, TakesMbuf, TakesCluster};
@@ -90,7 +90,7 @@ pub extern "C" fn bsdudp_cluster_pairs(alloc: Global, times: u64) -> u64 {
     digest
 }
 
-/// Counts one more that holds a cluster, and one less.
+/// Raises the reference count of a cluster, and lowers it.
 #[unsafe(no_mangle)]
 pub extern "C" fn bsdudp_hold_pairs(alloc: Global, times: u64) -> u64 {
     let Ok(mut store) = Store::boot(alloc, SIZES) else {

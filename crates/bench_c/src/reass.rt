@@ -1,5 +1,5 @@
-//! What `bench/reass` times: fragments that arrive as packets, are stored, have their headers read, and wait or make
-//! their datagram whole.
+//! What `bench/reass` times: fragments arrive as packets, are stored, have their headers parsed, and wait or complete
+//! their datagram.
 
 ghost use Rattle.std.specs.Prelude.{◌≡◌, ◌≤◌, ◌∷◌, ◌++◌, true, length, IfSome};
 ghost use Rattle.mbuf_chain.specs.Chain.{chain_of, string};
@@ -18,7 +18,7 @@ use mbuf_pool::{Sizes, Store};
 use params::{IP_HEADER, IP_MAX_PACKET};
 use std::alloc::Global;
 
-/// How far apart packets lie that are handed over together.
+/// The distance of packets that are passed together.
 const APART: usize = 1500;
 
 /// A pool of which all is free, and a table for it.
@@ -35,7 +35,7 @@ fn ready(alloc: Global, mbufs: u32, clusters: u32) -> Option<(Pool, Reass)>
     Some((pool, table))
 }
 
-/// A packet stored beside a table. `None` where no buffer is free.
+/// A packet stored in the pool of a table. `None` if no buffer is free.
 fn received(pool: &mut Pool, table: &Reass, packet: &[u8]) -> Option<Chain>
     requires ready { IsReady pool.old table.now }
     requires short { length packet.now ≤ IP_MAX_PACKET }
@@ -50,8 +50,7 @@ fn received(pool: &mut Pool, table: &Reass, packet: &[u8]) -> Option<Chain>
     }
 }
 
-/// Stores a packet and reads its header. `None` where no buffer is free, or the header isn't right or tells another
-/// length.
+/// Stores a packet and parses its header. `None` if no buffer is free, or the header is invalid or has another length.
 fn stored(pool: &mut Pool, table: &Reass, packet: &[u8]) -> Option<(Chain, IpHead)>
     requires ready { IsReady pool.old table.now }
     requires short { length packet.now ≤ IP_MAX_PACKET }
@@ -75,7 +74,7 @@ fn stored(pool: &mut Pool, table: &Reass, packet: &[u8]) -> Option<(Chain, IpHea
     Some((chain, head))
 }
 
-/// What the header of a packet says, with another identification, if it can be laid at once as a fragment.
+/// The fields of a packet's header, with another identification, if it can be queued directly as a fragment.
 fn head_at_once(pool: &Pool, packet: &[u8], id: u16) -> Option<IpHead>
     requires short { length packet.now ≤ IP_MAX_PACKET }
     ensures { IfSome result (λ head. fits_at_once pool.now head packet.now ≡ true) }
@@ -94,7 +93,7 @@ fn head_at_once(pool: &Pool, packet: &[u8], id: u16) -> Option<IpHead>
     }
 }
 
-/// Frees a datagram that an arrival made whole. Answers how many these are: 1 or 0.
+/// Frees a datagram that an arrival completed. Returns how many these are: 1 or 0.
 #[inline(always)]
 fn made_whole(pool: &mut Pool, table: &Reass, arrival: Arrival) -> u32
     requires ready { IsReady pool.old table.now }
@@ -112,9 +111,9 @@ fn made_whole(pool: &mut Pool, table: &Reass, arrival: Arrival) -> u32
     }
 }
 
-/// A packet arrives as a fragment of the datagram `id`, at once if it can; a datagram that it makes whole is freed.
-/// Answers how many these are: 1 or 0.
-// Inlined, as `net_stack` has it: what's between the loop and `arrive_bytes` isn't what is timed.
+/// A packet arrives as a fragment of the datagram `id`, and is queued directly if possible; a datagram that it
+/// completes is freed. Returns how many these are: 1 or 0.
+// Inlined, as in `net_stack`: what is between the loop and `arrive_bytes` isn't what is timed.
 #[inline(always)]
 fn arrives(
     pool: &mut Pool,
@@ -138,7 +137,7 @@ fn arrives(
     made_whole(pool, table, arrival)
 }
 
-/// The packet at the beginning of some bytes, which may go on after it.
+/// The packet at the beginning of some bytes, which may continue after it.
 fn packet_in(bytes: &[u8]) -> &[u8]
     requires { length bytes.now ≤ IP_MAX_PACKET }
     ensures { length result.now ≤ IP_MAX_PACKET }
@@ -150,7 +149,7 @@ fn packet_in(bytes: &[u8]) -> &[u8]
     &bytes[..bytes.len().min(total as usize)]
 }
 
-/// All packets of some bytes arrive, in the order in which they lie. Answers how many datagrams they made whole.
+/// All packets of some bytes arrive, in order. Returns how many datagrams they completed.
 fn all_arrive(pool: &mut Pool, table: &mut Reass, counters: &mut Counters, packets: &[u8]) -> u32
     requires { IsReady pool.old table.old }
     ensures { IsReady pool.new table.new }
@@ -163,9 +162,9 @@ fn all_arrive(pool: &mut Pool, table: &mut Reass, counters: &mut Counters, packe
     whole
 }
 
-/// Packets that lie 1,500 bytes apart arrive in their order as fragments at a pool of so many mbufs, `times` times;
-/// what they make whole is freed. Answers how many datagrams that were:
-/// `uint32_t bsdudp_reassemble(const uint8_t *packets, size_t len, uint32_t mbufs, uint32_t times)`.
+/// Packets that are 1,500 bytes apart arrive in order as fragments at a pool of `mbufs` mbufs, `times` times; datagrams
+/// that they complete are freed. Returns how many datagrams that were: `uint32_t bsdudp_reassemble(const uint8_t
+/// *packets, size_t len, uint32_t mbufs, uint32_t times)`.
 #[unsafe(no_mangle)]
 pub extern "C" fn bsdudp_reassemble(alloc: Global, packets: &[u8], mbufs: u32, times: u32) -> u32 {
     let Some((mut pool, mut table)) = ready(alloc, mbufs, 16) else {
@@ -181,7 +180,7 @@ pub extern "C" fn bsdudp_reassemble(alloc: Global, packets: &[u8], mbufs: u32, t
     whole
 }
 
-/// The same packets are stored, have their headers read, and are freed, `times` times. Answers how many were right:
+/// The same packets are stored, have their headers parsed, and are freed, `times` times. Returns how many were valid:
 /// `uint32_t bsdudp_store_packets(const uint8_t *packets, size_t len, uint32_t times)`.
 #[unsafe(no_mangle)]
 pub extern "C" fn bsdudp_store_packets(alloc: Global, packets: &[u8], times: u32) -> u32 {
@@ -197,7 +196,7 @@ pub extern "C" fn bsdudp_store_packets(alloc: Global, packets: &[u8], times: u32
     right
 }
 
-/// All packets of some bytes are stored, have their headers read, and are freed. Answers how many were right.
+/// All packets of some bytes are stored, have their headers parsed, and are freed. Returns how many were valid.
 fn all_stored(pool: &mut Pool, table: &Reass, packets: &[u8]) -> u32
     requires { IsReady pool.old table.now }
     ensures { IsReady pool.new table.now }
@@ -210,7 +209,7 @@ fn all_stored(pool: &mut Pool, table: &Reass, packets: &[u8]) -> u32
     right
 }
 
-/// A packet is stored, has its header read, and is freed. Answers 1 where it was right.
+/// A packet is stored, has its header parsed, and is freed. Returns 1 if it was valid.
 fn stored_once(pool: &mut Pool, table: &Reass, packet: &[u8]) -> u32
     requires ready { IsReady pool.old table.now }
     requires short { length packet.now ≤ IP_MAX_PACKET }
@@ -225,10 +224,10 @@ fn stored_once(pool: &mut Pool, table: &Reass, packet: &[u8]) -> u32
     }
 }
 
-/// Where `held` datagrams of one fragment each are unfinished, `times` times the fragment `first` arrives under a key
-/// that none of them has, and then `last`, which makes its datagram whole; that is freed. Answers how many were made
-/// whole: `uint32_t bsdudp_new_keys(const uint8_t *first, size_t first_len, const uint8_t *last, size_t last_len,
-/// uint16_t held, uint32_t times)`.
+/// With `held` unfinished datagrams of one fragment each, `times` times the fragment `first` arrives under a key that
+/// none of them has, and then `last`, which completes its datagram; that is freed. Returns how many were completed:
+/// `uint32_t bsdudp_new_keys(const uint8_t *first, size_t first_len, const uint8_t *last, size_t last_len, uint16_t
+/// held, uint32_t times)`.
 #[unsafe(no_mangle)]
 pub extern "C" fn bsdudp_new_keys(
     alloc: Global,
@@ -257,10 +256,10 @@ pub extern "C" fn bsdudp_new_keys(
     whole
 }
 
-/// Beside `held` datagrams of one fragment each that are unfinished, `times` times the fragment `last` makes the oldest
-/// of all whole, which is freed, and `first` begins it anew, as the newest. Answers how many were made whole:
-/// `uint32_t bsdudp_oldest_keys(const uint8_t *first, size_t first_len, const uint8_t *last, size_t last_len,
-/// uint16_t held, uint32_t times)`.
+/// With `held` unfinished datagrams of one fragment each, `times` times the fragment `last` completes the oldest of
+/// all, which is freed, and `first` begins it again, as the newest. Returns how many were completed: `uint32_t
+/// bsdudp_oldest_keys(const uint8_t *first, size_t first_len, const uint8_t *last, size_t last_len, uint16_t held,
+/// uint32_t times)`.
 #[unsafe(no_mangle)]
 pub extern "C" fn bsdudp_oldest_keys(
     alloc: Global,

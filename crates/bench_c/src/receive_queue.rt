@@ -13,13 +13,13 @@ use params::IP_MAX_PACKET;
 use sockbuf::SockBuf;
 use std::alloc::Global;
 
-/// Who new datagrams come from.
+/// The sender of new datagrams.
 const SENDER: Addr = Addr {
     ip: 0x0a00_0002,
     port: 5000,
 };
 
-/// Appends a datagram to the queue, and frees one that is refused. Answers whether it was appended.
+/// Appends a datagram to the queue, and frees one that doesn't fit. Returns whether it was appended.
 fn append(pool: &mut Pool, queue: &mut SockBuf, sender: Addr, chain: Chain) -> bool
     requires ready { IsSockBuf pool.old queue.old }
     requires live { IsLive pool.old chain }
@@ -35,7 +35,7 @@ fn append(pool: &mut Pool, queue: &mut SockBuf, sender: Addr, chain: Chain) -> b
     }
 }
 
-/// Appends a new datagram of these bytes. Answers whether that went well.
+/// Appends a new datagram of these bytes. Returns whether that succeeded.
 fn append_bytes(pool: &mut Pool, queue: &mut SockBuf, bytes: &[u8]) -> bool
     requires ready { IsSockBuf pool.old queue.old }
     requires most { length bytes.now ≤ IP_MAX_PACKET }
@@ -47,7 +47,7 @@ fn append_bytes(pool: &mut Pool, queue: &mut SockBuf, bytes: &[u8]) -> bool
     }
 }
 
-/// Takes the oldest datagram and appends it as the newest. Answers whether there was one, and it was taken back.
+/// Takes the oldest datagram and appends it as the newest. Returns whether there was one, and it was appended.
 fn turn(pool: &mut Pool, queue: &mut SockBuf) -> bool
     requires { IsSockBuf pool.old queue.old }
     ensures { IsSockBuf pool.new queue.new }
@@ -58,9 +58,9 @@ fn turn(pool: &mut Pool, queue: &mut SockBuf) -> bool
     }
 }
 
-/// Makes a queue of so many datagrams of these bytes, and `turns` times takes the oldest and appends it as the newest.
-/// Answers how often that went well. At most 65,535 bytes: `uint32_t bsdudp_take_and_append(const uint8_t *bytes,
-/// size_t len, uint32_t waiting, uint32_t turns)`.
+/// Makes a queue of `waiting` datagrams of these bytes, and `turns` times takes the oldest and appends it as the
+/// newest. Returns how often that succeeded. At most 65,535 bytes: `uint32_t bsdudp_take_and_append(const uint8_t
+/// *bytes, size_t len, uint32_t waiting, uint32_t turns)`.
 #[unsafe(no_mangle)]
 pub extern "C" fn bsdudp_take_and_append(
     alloc: Global,

@@ -24,7 +24,7 @@ const DESTINATION: Addr = Addr {
     port: 7,
 };
 
-/// A packet with this data after room for both headers.
+/// A packet with this data after space for both headers.
 fn packet_of(pool: &mut Pool, data: &[u8]) -> Result<Chain, NoBufs>
     requires { length data.now ≤ IP_MAX_PACKET }
     ensures { IfOk result (λ c. IsLive pool.new c) }
@@ -37,7 +37,7 @@ fn packet_of(pool: &mut Pool, data: &[u8]) -> Result<Chain, NoBufs>
     Ok(chain)
 }
 
-/// Writes the UDP header of a packet so many times.
+/// Writes the UDP header of a packet `turns` times.
 fn build_turns(pool: &mut Pool, packet: &Chain, turns: u32)
     requires live { IsLive pool.old packet.now }
     requires plain { (entry_of (chain_of pool.old packet.now) 0).cluster ≡ None }
@@ -50,9 +50,9 @@ fn build_turns(pool: &mut Pool, packet: &Chain, turns: u32)
     }
 }
 
-/// Writes the UDP header of a packet with this data so many times, at most 65,507 bytes of it, and its datagram to
-/// `to`, which has 8 bytes more. False where memory lacked: `bool bsdudp_build(const uint8_t *data, size_t len, uint8_t
-/// *to, size_t to_len, uint32_t times)`.
+/// Writes the UDP header of a packet with this data `times` times, at most 65,507 bytes of it, and its datagram to
+/// `to`, which has 8 bytes more. Returns false if memory can't be allocated: `bool bsdudp_build(const uint8_t *data,
+/// size_t len, uint8_t *to, size_t to_len, uint32_t times)`.
 #[unsafe(no_mangle)]
 pub extern "C" fn bsdudp_build(alloc: Global, data: &[u8], to: &mut [u8], times: u32) -> bool {
     let Some(mut pool) = booted(alloc) else {
@@ -89,7 +89,7 @@ fn len_in(datagram: &[u8]) -> u16
     BigEndian::read_u16(&datagram[4..])
 }
 
-/// Checks a datagram so many times. Answers how often its checksum was right.
+/// Checks a datagram `turns` times. Returns how often its checksum was right.
 fn check_turns(pool: &Pool, datagram: &Chain, turns: u32) -> u32
     requires live { IsLive pool.now datagram.now }
     requires header { UDP_HEADER ≤ u16_at 4 (string (chain_of pool.now datagram.now)) }
@@ -106,7 +106,7 @@ fn check_turns(pool: &Pool, datagram: &Chain, turns: u32) -> u32
     right
 }
 
-/// Checks a datagram `times` times, of at most 65,535 bytes from 10.0.0.1 to 10.0.0.2. Answers how often its checksum
+/// Checks a datagram `times` times, of at most 65,535 bytes from 10.0.0.1 to 10.0.0.2. Returns how often its checksum
 /// was right: `uint32_t bsdudp_check(const uint8_t *datagram, size_t len, uint32_t times)`.
 #[unsafe(no_mangle)]
 pub extern "C" fn bsdudp_check(alloc: Global, datagram: &[u8], times: u32) -> u32

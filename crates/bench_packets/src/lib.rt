@@ -1,5 +1,5 @@
-//! What one packet or one send costs a stack: what `bench/packets` calls from C. It's a library of its own, since all
-//! that is compiled together decides what is inlined. No other crate stands on this one.
+//! What one packet or one send costs a stack: `bench/packets` calls it from C. It's a library of its own, because all
+//! that is compiled together decides what is inlined. No other crate depends on this one.
 #![tactic(auto)]
 
 use flat_model::{Addr, Config, Counter, Opt};
@@ -26,7 +26,7 @@ const PORT: u16 = 7;
 /// The packets that the output queue of a stack holds.
 const QUEUE: u32 = 50;
 
-/// A stack with 4,096 mbufs and 512 clusters whose sockets, so many, share one port.
+/// A stack with 4,096 mbufs and 512 clusters, and `sockets` sockets that share one port.
 fn listening(alloc: Global, addr: u32, mtu: u16, sockets: u8) -> Option<Stack> {
     let config = Config {
         addr,
@@ -59,7 +59,7 @@ fn destination_of(stack: &mut Stack, is_connected: bool) -> Option<Addr> {
     None
 }
 
-/// Hands all packets that wait in one stack to another.
+/// Passes all packets that wait in one stack to another.
 fn carry(from: &mut Stack, to: &mut Stack, packet: &mut [u8; MAX_MTU as usize]) {
     'packets: for _ in 0..QUEUE {
         from.laws();
@@ -70,7 +70,7 @@ fn carry(from: &mut Stack, to: &mut Stack, packet: &mut [u8; MAX_MTU as usize]) 
     }
 }
 
-/// Sends from one stack, carries, and receives in the other, so many times. Returns how often all went well.
+/// Sends from one stack, carries, and receives in the other, `times` times. Returns how often all succeeded.
 fn exchange(
     sender: &mut Stack,
     receiver: &mut Stack,
@@ -92,7 +92,7 @@ fn exchange(
 }
 
 /// Boots two stacks on a link with this MTU, and `times` times sends a datagram from one to the other and reads it
-/// there. Returns how often all went well: `uint32_t bsdudp_exchange(const uint8_t *bytes, size_t len, uint16_t mtu,
+/// there. Returns how often all succeeded: `uint32_t bsdudp_exchange(const uint8_t *bytes, size_t len, uint16_t mtu,
 /// bool is_connected, uint32_t times)`.
 #[unsafe(no_mangle)]
 pub extern "C" fn bsdudp_exchange(
@@ -116,8 +116,8 @@ pub extern "C" fn bsdudp_exchange(
     well
 }
 
-/// Boots a stack, and `times` times sends a datagram to its own socket and reads it there. Returns how often all went
-/// well: `uint32_t bsdudp_loop_back(const uint8_t *bytes, size_t len, uint32_t times)`.
+/// Boots a stack, and `times` times sends a datagram to its own socket and reads it there. Returns how often all
+/// succeeded: `uint32_t bsdudp_loop_back(const uint8_t *bytes, size_t len, uint32_t times)`.
 #[unsafe(no_mangle)]
 pub extern "C" fn bsdudp_loop_back(alloc: Global, bytes: &[u8], times: u32) -> u32 {
     let Some(mut stack) = listening(alloc, RECEIVER, 1500, 1) else {
@@ -136,9 +136,9 @@ pub extern "C" fn bsdudp_loop_back(alloc: Global, bytes: &[u8], times: u32) -> u
     well
 }
 
-/// Boots a stack and fills its output queue, and then `times` times sends a datagram to another machine. Returns how
-/// often the send was refused: `uint32_t bsdudp_send_refused(const uint8_t *bytes, size_t len, bool is_connected,
-/// uint32_t times)`.
+/// Boots a stack and fills its output queue, and then `times` times sends a datagram to another host. Returns how often
+/// the send failed: `uint32_t bsdudp_send_refused(const uint8_t *bytes, size_t len, bool is_connected, uint32_t
+/// times)`.
 #[unsafe(no_mangle)]
 pub extern "C" fn bsdudp_send_refused(
     alloc: Global,
@@ -163,10 +163,10 @@ pub extern "C" fn bsdudp_send_refused(
     refused
 }
 
-/// Boots a stack with so many sockets that share a port, and `times` times a packet comes, which all sockets read if
-/// they get it; `before` packets come first, and nobody reads these. Returns how many datagrams were read, or if none
-/// was, how many of the packets of the `times` were dropped: `uint32_t bsdudp_receive(const uint8_t *packet, size_t
-/// len, uint8_t sockets, uint32_t before, bool is_read, uint32_t times)`.
+/// Boots a stack with `sockets` sockets that share a port, and `times` times a packet arrives, which all sockets read
+/// if they get it; `before` packets arrive first and aren't read. Returns how many datagrams were read, or if none was,
+/// how many of the `times` packets were dropped: `uint32_t bsdudp_receive(const uint8_t *packet, size_t len, uint8_t
+/// sockets, uint32_t before, bool is_read, uint32_t times)`.
 #[unsafe(no_mangle)]
 pub extern "C" fn bsdudp_receive(
     alloc: Global,

@@ -1,6 +1,6 @@
-//! A datagram from one stack to another, and from a stack to itself: what `bench/stack` calls from C. It's a library of
-//! its own, since all that is compiled with it bears on what is inlined: so it has what a program has that uses a
-//! `Stack` alone. No other crate stands on this one.
+//! A datagram from one stack to another, and from a stack to itself: `bench/stack` calls it from C. It's a library of
+//! its own, because all that is compiled together decides what is inlined: so it has only what a program with a `Stack`
+//! has. No other crate depends on this one.
 #![tactic(auto)]
 
 ghost use Rattle.std.specs.Prelude.{◌≤◌};
@@ -21,7 +21,7 @@ const SENDER: u32 = 0x0a00_0001;
 
 const HEARER: u32 = 0x0a00_0002;
 
-/// How many mbufs a stack has unless its caller says.
+/// How many mbufs a stack has unless its caller sets them.
 const MBUFS: u32 = 512;
 
 /// The first socket of a stack, and its port. The others are numbered after it.
@@ -29,7 +29,7 @@ const SOCKET: u32 = 3;
 
 const PORT: u16 = 7;
 
-/// A stack of so many mbufs, and an eighth as many clusters, with so many sockets, each on a port of its own.
+/// A stack with `mbufs` mbufs, and an eighth as many clusters, with `sockets` sockets, each on a port of its own.
 fn listening(alloc: Global, addr: u32, mbufs: u32, sockets: u8) -> Option<Stack> {
     let config = Config {
         addr,
@@ -51,12 +51,12 @@ fn listening(alloc: Global, addr: u32, mbufs: u32, sockets: u8) -> Option<Stack>
 /// A packet on its way.
 type Packet = [u8; MAX_MTU as usize];
 
-/// How many packets a datagram of `len` bytes makes.
+/// How many packets a datagram of `len` bytes takes.
 fn packets_of(len: usize) -> usize {
     len.saturating_add(UDP_HEADER as usize).div_ceil(CHUNK)
 }
 
-/// Hands so many packets that wait in one stack to another.
+/// Passes `packets` packets that wait in one stack to another.
 fn carry(from: &mut Stack, to: &mut Stack, packet: &mut Packet, packets: usize) {
     'packets: for _ in 0..packets {
         from.laws();
@@ -67,7 +67,7 @@ fn carry(from: &mut Stack, to: &mut Stack, packet: &mut Packet, packets: usize) 
     }
 }
 
-/// Whether a datagram of `len` bytes waits in a socket, which is read into `room`.
+/// Whether a datagram of `len` bytes waits in a socket; it's read into `room`.
 fn heard(stack: &mut Stack, socket: u32, len: usize, room: &mut [u8]) -> bool {
     match stack.recvfrom(socket, room) {
         Ok((_, read)) => read == len,
@@ -75,8 +75,8 @@ fn heard(stack: &mut Stack, socket: u32, len: usize, room: &mut [u8]) -> bool {
     }
 }
 
-/// Sends from the first socket, carries, and receives in the socket that stands so many after the first, so many times.
-/// Answers how often all bytes came.
+/// Sends from the first socket, carries, and receives in the socket `at` places after the first, `times` times. Returns
+/// how often all bytes arrived.
 fn exchange(sender: &mut Stack, hearer: &mut Stack, at: u8, bytes: &[u8], times: u32) -> u32
     ensures { result ≤ times }
 {
@@ -99,8 +99,8 @@ fn exchange(sender: &mut Stack, hearer: &mut Stack, at: u8, bytes: &[u8], times:
     well
 }
 
-/// Boots two stacks of so many mbufs and sockets, and `times` times sends a datagram from the oldest socket of one to
-/// the socket `at` of the other (0 is the oldest) and reads it there. Answers how often all of it came:
+/// Boots two stacks with `mbufs` mbufs and `sockets` sockets, and `times` times sends a datagram from the oldest socket
+/// of one to the socket `at` of the other (0 is the oldest) and reads it there. Returns how often all of it arrived:
 /// `uint32_t bsdudp_send_and_receive(const uint8_t *bytes, size_t len, uint32_t mbufs, uint8_t sockets, uint8_t at,
 /// uint32_t times)`.
 #[unsafe(no_mangle)]
@@ -127,8 +127,8 @@ pub extern "C" fn bsdudp_send_and_receive(
     well
 }
 
-/// Boots a stack, and `times` times sends a datagram to its own socket and reads it there. Answers how often all of it
-/// came: `uint32_t bsdudp_send_to_itself(const uint8_t *bytes, size_t len, uint32_t times)`.
+/// Boots a stack, and `times` times sends a datagram to its own socket and reads it there. Returns how often all of it
+/// arrived: `uint32_t bsdudp_send_to_itself(const uint8_t *bytes, size_t len, uint32_t times)`.
 #[unsafe(no_mangle)]
 pub extern "C" fn bsdudp_send_to_itself(alloc: Global, bytes: &[u8], times: u32) -> u32
     ensures { result ≤ times }

@@ -1,8 +1,8 @@
-//! What happens when host memory is refused. It boots a stack and a host on an Ethernet, lets a host join a segment,
-//! without and with a link, and runs a script of calls on sockets and one of calls on chains. Each is done again if
-//! memory was refused. The test runs the program once for each of its allocations, with that one refused: the call has
-//! to return `Memory`, with nothing read or written, and the second try has to succeed. The program allocates nothing
-//! itself, so at each line that it prints as many blocks have to be held as at the first.
+//! What happens if host memory can't be allocated. It boots a stack and a host on an Ethernet, lets a host join a
+//! segment, without and with a link, and runs a script of calls on sockets and one of calls on chains. Each is repeated
+//! if the allocation failed. The test runs the program once for each of its allocations, and lets that one fail: the
+//! call has to return `Memory`, with nothing read or written, and the second try has to succeed. The program allocates
+//! nothing itself, so at each line that it prints as many blocks must be allocated as at the first.
 #![tactic(auto)]
 
 mod streams;
@@ -40,7 +40,7 @@ const POOL: Sizes = Sizes {
     clusters: 64,
 };
 
-/// How a call ended: it succeeded, or memory was refused and nothing had been done.
+/// How a call ended: it succeeded, or an allocation failed and nothing was done.
 #[derive(Clone, Copy, PartialEq, Eq)]
 enum End {
     Done,
@@ -87,7 +87,7 @@ fn joins(alloc: Global, link: Option<Link>) -> End {
     }
 }
 
-/// Says how a run ended, of which these are the outcome and the streams.
+/// Reports how a run ended, given its outcome and streams.
 fn end_of(outcome: Result<(), RunFault>, reader: &Counted, writer: &Page, want: &[u8]) -> End {
     match outcome {
         Ok(()) if writer.text() == want => End::Done,
@@ -111,7 +111,7 @@ fn runs_chains(alloc: Global) -> End {
     end_of(outcome, &reader.0, &writer.0, b"ok\nlen 2 P2\n")
 }
 
-/// What takes host memory.
+/// What allocates host memory.
 #[derive(Clone, Copy)]
 enum Call {
     Boot,
@@ -134,7 +134,7 @@ impl Call {
         }
     }
 
-    /// What is printed of it; it's made again where memory was refused.
+    /// The report on it; it's made again if an allocation failed.
     fn report(self, alloc: Global) -> &'static str {
         match self.make(alloc) {
             End::Done => "succeeds",

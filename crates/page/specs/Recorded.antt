@@ -1,4 +1,4 @@
--- What a page is told of a capture (this project's own).
+-- What a page gets of a capture (this project's own).
 use Rattle.std.specs.Prelude.{◌≡◌, ◌++◌, ℕ, List, [], ◌∷◌, length, codes, decimal, Option, Some, None, Result, Ok, Err}
 use Rattle.capture.specs.Places.{Reading, Steps, start}
 use Rattle.capture.specs.declared.fault.Fault.{Fault}
@@ -24,8 +24,8 @@ abbrev pub nanoseconds_text : Option ℕ → List ℕ
 nanoseconds_text None = codes "-"
 nanoseconds_text (Some time) = decimal time
 
--- the line in front of a packet: the record's number, its time, how many bytes it had, how many were captured, and how
--- many the packet has
+-- the line before a packet: the record's number, its time, how many bytes it had, how many were captured, and how many
+-- the packet has
 abbrev pub record_head : Record → ℕ → ℕ → List ℕ
 record_head r captured len =
     decimal r.number ++ codes " " ++ nanoseconds_text r.time ++ codes " " ++ decimal r.original_len ++ codes " "
@@ -42,7 +42,7 @@ pub record CapturedRecord : Type 0 where
   pub at : Record
   pub frame : List ℕ
 
--- these records were read, one after the other
+-- these records were read, one after another
 abbrev pub ReadsRecords : Reading → List CapturedRecord → Reading → Type 0
 ReadsRecords old [] new = new ≡ old
 ReadsRecords old (e ∷ es) new =
@@ -52,12 +52,12 @@ abbrev pub records_told : List CapturedRecord → List ℕ
 records_told [] = []
 records_told (e ∷ es) = record_told e.at e.frame ++ records_told es
 
--- these bytes were put after the text, those of n records
+-- these bytes were appended to the text, those of n records
 abbrev pub SoFar : Reading → List ℕ → Reading → List ℕ → ℕ → Type 0
 SoFar old before mid after n =
     (es : List CapturedRecord) × ReadsRecords old es mid × (after ≡ before ++ records_told es) × (n ≡ length es)
 
--- the file ends behind these records, or is faulty there
+-- the file ends after these records, or is faulty there
 abbrev pub EndsBy : Reading → Option Fault → Type 0
 EndsBy mid None = (new : Reading) × Steps mid new (Ok None)
 EndsBy mid (Some fault) = (new : Reading) × Steps mid new (Err fault)
@@ -65,24 +65,24 @@ EndsBy mid (Some fault) = (new : Reading) × Steps mid new (Err fault)
 abbrev pub ReadsAll : Reading → List ℕ → List ℕ → ℕ → Option Fault → Type 0
 ReadsAll old before after n fault = (mid : Reading) × SoFar old before mid after n × EndsBy mid fault
 
--- no words are told of no fault
+-- no words if there is no fault
 abbrev pub HasNoWords : Option Fault → List ℕ → Type 0
 HasNoWords None words = words ≡ []
 HasNoWords (Some fault) words = Unit {0}
 
--- All records of the file up to its end, or up to what is wrong with it, and behind them words for that. The page is
--- told how many records there are, and how many of the bytes are theirs.
+-- All records of the file up to its end, or up to its fault, and after them a description of the fault. The page gets
+-- the number of records, and how many of the bytes are theirs.
 abbrev pub IsCaptureText : List ℕ → List ℕ → PageCapture → Type 0
 IsCaptureText file text c =
     (lines : List ℕ) × (words : List ℕ) × (fault : Option Fault) × (text ≡ lines ++ words)
     × ReadsAll (start (Some file)) [] lines c.records fault × HasNoWords fault words × (c.told ≡ length lines)
 
--- the page has that text in its room
+-- the page has that text in its buffer
 abbrev pub Recorded : List ℕ → ℕ → ℕ → List ℕ → List ℕ → PageCapture → Type 0
 Recorded file answer len before after c =
     (text : List ℕ) × (answer ≡ 0) × IsCaptureText file text c × (len ≡ length text) × Handed text before after
 
--- there was no memory, and nothing was handed over
+-- memory was lacking, and nothing was written
 abbrev pub IsCaptureUnread : ℕ → ℕ → List ℕ → List ℕ → PageCapture → PageCapture → Type 0
 IsCaptureUnread answer len before after c new =
     (answer ≡ outcome_number (Err Memory)) × (len ≡ 0) × (after ≡ before) × (new ≡ c)

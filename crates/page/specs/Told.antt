@@ -1,4 +1,4 @@
--- What a page is told of a script that was served (this project's own).
+-- What a page gets of a script that was served (this project's own).
 use Rattle.std.specs.Prelude.{◌≡◌, ◌≤◌, ◌<◌, ◌++◌, ℕ, Bool, true, false, List, [], length, drop, take, codes, Option, Some, None, IfSome, IfOk, Result, Ok, Err}
 use Rattle.flat_model.specs.declared.config.Config.{Config}
 use Rattle.mbuf_pool.specs.declared.sizes.Sizes.{Sizes}
@@ -21,7 +21,7 @@ use Rattle.script_loop.specs.Serves.{Serves}
 use Rattle.script_loop.specs.declared.fault.RunFault.{RunFault}
 use Rattle.script_loop.specs.declared.fault.RunFault.TheVariants.{Read, Write, Memory, TooManyLines, BadSizes, BadConfig}
 
--- ---- what the page says of the machine
+-- ---- the page's settings of the machine
 
 abbrev pub machine_config : PageMachine → Config
 machine_config m = record {
@@ -36,7 +36,7 @@ machine_config m = record {
 abbrev pub sizes_of : PagePool → Sizes
 sizes_of p = record { mbufs = p.mbufs; clusters = p.clusters }
 
--- ---- what it is told
+-- ---- what it gets
 
 -- the outcome as a number
 abbrev pub outcome_number : Result Unit RunFault → ℕ
@@ -48,14 +48,14 @@ outcome_number (Err TooManyLines) = 4
 outcome_number (Err Read) = 5
 outcome_number (Err Write) = 6
 
--- The room after the replies were handed over: they stand at its beginning, where they fit, and all else is as it was.
+-- The buffer after the replies were written: they are at its beginning, if they fit; all other bytes are unchanged.
 pub record Handed (replies before after : List ℕ) : Type 0 where
   pub fits : length replies ≤ length before → after ≡ replies ++ drop (length replies) before
   pub lacks : length before < length replies → after ≡ before
 
--- A whole script was served from the state `booted`, each answer being one that it `gives`: with an outcome that
--- `boots` allows, and these replies. The page is told the outcome's number and how many bytes the replies have, and
--- they are in its room.
+-- A whole script was served from the state `booted`, each reply being one that it `gives`: with an outcome that `boots`
+-- allows, and these replies. The page gets the outcome's number and the length of the replies, and its buffer contains
+-- them.
 pub record Told {S : Type 0} (gives : S → List ℕ → List ℕ → S → Type 0) (booted : S)
     (boots : Result Unit RunFault → Type 0) (script : List ℕ) (answer len : ℕ) (before after : List ℕ) : Type 0 where
   pub outcome : Result Unit RunFault
@@ -70,7 +70,8 @@ pub record Told {S : Type 0} (gives : S → List ℕ → List ℕ → S → Type
 
 -- ---- a drawing
 
--- The number of an outcome with a drawing. Without memory for the drawing it's as without memory for the run.
+-- The number of an outcome with a drawing. If memory for the drawing is lacking, it's the number for lacking memory for
+-- the run.
 abbrev pub drawn_number : Result (Option (List ℕ)) RunFault → ℕ
 drawn_number (Ok (Some text)) = outcome_number (Ok tt)
 drawn_number (Ok None) = outcome_number (Err Memory)
@@ -83,8 +84,8 @@ drawn_text (Ok None) = []
 drawn_text (Err fault) = []
 
 -- A whole script of calls on chains was served over a new pool, with an outcome that is allowed. The drawing, if there
--- is one, is that of the slot as the machine has it then. The page is told the number and how many bytes the drawing
--- has, and they are in its room.
+-- is one, is that of the slot in the machine's final state. The page gets the number and the length of the drawing, and
+-- its buffer contains it.
 pub record Drawn (pool : PagePool) (slot : ℕ) (script : List ℕ) (answer len : ℕ) (before after : List ℕ) : Type 0 where
   pub outcome : Result (Option (List ℕ)) RunFault
   pub replies : List ℕ
@@ -100,13 +101,13 @@ pub record Drawn (pool : PagePool) (slot : ℕ) (script : List ℕ) (answer len 
 
 -- ---- a capture
 
--- The number of an outcome with a capture, which is whole or not. One that isn't is as a write that failed.
+-- The number of an outcome with a capture, which is complete or not. An incomplete one counts as a failed write.
 abbrev pub kept_number : Bool → Result Unit RunFault → ℕ
 kept_number true outcome = outcome_number outcome
 kept_number false outcome = outcome_number (Err Write)
 
--- A whole script for people was served on a new machine, whose capture began with the header of a file. The page is
--- told the number and how many bytes the capture has, and they are in its room.
+-- A whole play script was served on a new machine, whose capture began with the header of a file. The page gets the
+-- number and the length of the capture, and its buffer contains it.
 pub record Kept (config : Config) (script : List ℕ) (answer len : ℕ) (before after : List ℕ) : Type 0 where
   pub outcome : Result Unit RunFault
   pub objects : List ℕ
@@ -125,6 +126,6 @@ pub record Kept (config : Config) (script : List ℕ) (answer len : ℕ) (before
   pub counted : len ≡ length file
   pub handed : Handed file before after
 
--- there was no memory for a capture, and nothing was played
+-- memory for a capture was lacking, and nothing was played
 abbrev pub IsUnkept : ℕ → ℕ → List ℕ → List ℕ → Type 0
 IsUnkept answer len before after = (answer ≡ outcome_number (Err Memory)) × (len ≡ 0) × (after ≡ before)

@@ -11,7 +11,7 @@ use std::alloc::Global;
 #[repr(C)]
 #[derive(Clone, Copy)]
 pub struct PageMarks {
-    /// The number of answers that equal the key's.
+    /// The number of replies that equal the key's.
     pub right: u64,
     /// The number of answers that differ.
     pub wrong: u64,

@@ -16,15 +16,15 @@ use std::io::Write;
 pub struct PageCapture {
     /// How many records were read.
     pub records: u64,
-    /// How many of the bytes that are handed over are those of the records. Those behind them say what is wrong with
-    /// the file, and where; there are none if it was read to its end.
+    /// How many of the bytes that are returned are those of the records. The bytes after them describe the fault of the
+    /// file, and its place; there are none if it was read to its end.
     pub told: u64,
 }
 
-/// Room for the line in front of a packet.
+/// The size of the buffer for the line before a packet.
 const HEAD: usize = 120;
 
-/// Puts the digits of a number after the text, 20 of them at most.
+/// Appends the digits of a number to the text, at most 20 of them.
 fn put_digits(text: &mut Buffer<HEAD>, n: u64)
     requires { length text.old + 20 ≤ HEAD }
     ensures items { text.new ≡ text.old ++ decimal n }
@@ -34,7 +34,7 @@ fn put_digits(text: &mut Buffer<HEAD>, n: u64)
     text.append(digits.format(n).as_bytes());
 }
 
-/// Puts the digits of a time after the text, or a dash.
+/// Appends the digits of a time to the text, or a dash.
 fn put_time(text: &mut Buffer<HEAD>, time: Option<u64>)
     requires { length text.old + 20 ≤ HEAD }
     ensures items { text.new ≡ text.old ++ nanoseconds_text time }
@@ -46,7 +46,7 @@ fn put_time(text: &mut Buffer<HEAD>, time: Option<u64>)
     }
 }
 
-/// Puts the line in front of a record's packet in the place of the text.
+/// Replaces the text by the line before a record's packet.
 fn put_head(text: &mut Buffer<HEAD>, read: Record, captured: usize, len: usize)
     ensures { text.new ≡ record_head read captured len }
 {
@@ -76,7 +76,7 @@ fn packet_in(link: Option<LinkType>, frame: &[u8]) -> &[u8]
     }
 }
 
-/// Puts a record after the text: its line, and its packet. If memory is refused, a part of it is there.
+/// Appends a record to the text: its line, and its packet. If an allocation fails, a part of it is there.
 fn put_record(
     read: Record,
     frame: &[u8],
@@ -91,8 +91,8 @@ fn put_record(
     text.extend_from_slice(packet)
 }
 
-/// Puts all records after the text: how many there are, and what is wrong with the file. `AllocError` if memory is
-/// refused, or for 4,294,967,295 records, which no memory holds; a part of them is there then.
+/// Appends all records to the text: how many there are, and the fault of the file. Returns `AllocError` if an
+/// allocation fails, or for 4,294,967,295 records, which no memory holds; a part of them is there then.
 #[tactic(auto, using(crate::proofs::Entries::more_of, crate::proofs::Entries::ended, crate::proofs::Entries::failed))]
 fn put_records(
     records: &mut Records<&[u8]>,
@@ -111,7 +111,7 @@ fn put_records(
     Err(AllocError)
 }
 
-/// What is wrong with a file, and where, in words. There are none for no fault.
+/// The fault of a file, and its place, in words. No words if there is no fault.
 fn words_for(alloc: Global, fault: Option<Fault>) -> Result<Vec<u8>, AllocError>
     ensures { IfOk result (λ words. HasNoWords fault words.items) }
 {
@@ -127,7 +127,7 @@ fn words_for(alloc: Global, fault: Option<Fault>) -> Result<Vec<u8>, AllocError>
 /// What was read of a file.
 #[derive(Drop)]
 struct Text {
-    /// The records, and behind them what is wrong with the file.
+    /// The records, and after them the fault of the file.
     bytes: Vec<u8>,
     capture: PageCapture,
 }
@@ -155,15 +155,15 @@ fn read_file(alloc: Global, file: &[u8]) -> Result<Text, AllocError>
     })
 }
 
-/// Reads a capture file of either format, classic pcap or pcapng, and hands over its records: `uint32_t
+/// Reads a capture file of either format, classic pcap or pcapng, and returns its records: `uint32_t
 /// bsdudp_page_records(const uint8_t *file, size_t, uint8_t *room, size_t, size_t *len, struct page_capture *)`. Each
 /// record is a line, `NUMBER TIME ORIGINAL CAPTURED LEN`, and then the LEN bytes of its IPv4 packet. NUMBER counts from
-/// 1, as Wireshark does; TIME is in nanoseconds since 1970, or `-` if the file doesn't say; ORIGINAL is how many bytes
-/// the frame had, and CAPTURED how many of them the file has. LEN is 0 if there is no IPv4 packet in them. Behind the
-/// records stands what is wrong with the file, if something is, with its place.
+/// 1, as Wireshark does; TIME is in nanoseconds since 1970, or `-` if the file doesn't have it; ORIGINAL is how many
+/// bytes the frame had, and CAPTURED how many of them the file has. LEN is 0 if there is no IPv4 packet in them. The
+/// fault of the file, if it has one, follows the records, with its place.
 ///
-/// Answers 0, also of a file with a fault, and hands the bytes over as `bsdudp_page_run` does its replies. Or 3,
-/// `Memory`: then `len` is 0, and the room and `capture` are as they were.
+/// Returns 0, also for a file with a fault, and the bytes as `bsdudp_page_run` returns its replies. Or returns 3,
+/// `Memory`: then `len` is 0, and the buffer and `capture` are unchanged.
 #[unsafe(no_mangle)]
 pub extern "C" fn bsdudp_page_records(
     alloc: Global,

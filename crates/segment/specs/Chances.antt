@@ -1,4 +1,4 @@
--- What becomes of a packet on the wire, by chances and the numbers of PCG XSH RR 64/32 (this project's own).
+-- What happens to a packet on the wire, by chances and the numbers of PCG XSH RR 64/32 (this project's own).
 use Rattle.std.specs.Prelude.{ℕ, zero, suc, ◌+◌, ◌-◌, ◌*◌, ◌/◌, ◌^◌, nat_lt, if◌then◌else◌, List, [], ◌∷◌, length, Option, Some, None, unwrap_or, slice_get, swap}
 use Rattle.rand_pcg.specs.Lcg.{Lcg, increment_of, started}
 use Rattle.rand_pcg.specs.Pcg.{multiplier_64, pcg32}
@@ -19,19 +19,19 @@ stream = 0x0A02BDBF7BB3C0A7
 abbrev pub seeded : ℕ → Lcg
 seeded seed = started 64 multiplier_64 seed (increment_of 64 stream)
 
--- a wire that only delivers
+-- a wire that loses, repeats, delays and reorders nothing
 abbrev pub no_chances : Chances
 no_chances = record { loss = 0; repeat = 0; reorder = 0; delay = 0; jitter = 0 }
 
--- the chances of what the host at a place sends
+-- the chances for packets that the host at a place sends
 abbrev pub chances_at : List Chances → ℕ → Chances
 chances_at chances place = unwrap_or (slice_get chances place) no_chances
 
--- the delay that a number stands for: its part of 2 to the 32nd, times how many delays there are, beyond the least one
+-- the delay for a number: the number divided by 2^32, times the number of delays, added to the least one
 abbrev pub wait_of : Chances → ℕ → ℕ
 wait_of c number = c.delay + number * (c.jitter + 1) / 2 ^ 32
 
--- What becomes of a packet, and the generator then. Each choice is one number: whether the packet is lost; if it isn't,
+-- What happens to a packet, and the generator then. Each choice takes one number: whether the packet is lost; if not,
 -- whether it's repeated; for each copy its delay.
 abbrev pub fate_of : Chances → Lcg → Fate × Lcg
 fate_of c g =
@@ -46,13 +46,13 @@ fate_of c g =
     else (Once (wait_of c first.0), first.1)
     )
 
--- the copies of a packet that its fate puts under way, in front of these packets
+-- the copies of a packet that are in flight because of its fate, before these packets
 abbrev pub copies_before : Fate → Flying → List Flying → List Flying
 copies_before Lost f later = later
 copies_before (Once wait) f later = waits wait f ∷ later
 copies_before (Twice first second) f later = waits first f ∷ waits second f ∷ later
 
--- what of these packets goes under way, one after another, and the generator then
+-- those of these packets that are in flight then, one after another, and the generator then
 abbrev pub entering : List Chances → List Flying → Lcg → List Flying × Lcg
 entering chances [] g = ([], g)
 entering chances (f ∷ fs) g =
@@ -60,12 +60,12 @@ entering chances (f ∷ fs) g =
     let rest = entering chances fs fate.1 in
     (copies_before fate.0 f rest.0, rest.1)
 
--- the chance that the packet at a place changes places with the one after it
+-- the chance that the packet at a place is exchanged with the one after it
 abbrev pub reorder_at : List Chances → Option Flying → ℕ
 reorder_at chances None = 0
 reorder_at chances (Some f) = (chances_at chances f.sender).reorder
 
--- n pairs of neighbours, from the one at a place on, each of which may change places
+-- n pairs of neighbours, from the one at a place on, each of which may be exchanged
 abbrev pub shuffled_from : List Chances → ℕ → ℕ → List Flying → Lcg → List Flying × Lcg
 shuffled_from chances zero at fs g = (fs, g)
 shuffled_from chances (suc n) at fs g =
@@ -73,6 +73,6 @@ shuffled_from chances (suc n) at fs g =
     shuffled_from chances n (at + 1)
     (if nat_lt turn.0 (reorder_at chances (slice_get fs at)) then swap fs at (at + 1) else fs) turn.1
 
--- the order in which packets that are due come, and the generator then
+-- the order in which packets that are due arrive, and the generator then
 abbrev pub shuffled : List Chances → List Flying → Lcg → List Flying × Lcg
 shuffled chances fs g = shuffled_from chances (length fs - 1) 0 fs g

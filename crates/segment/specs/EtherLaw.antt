@@ -1,4 +1,4 @@
--- What was done with each host of an Ethernet segment, and what is said of two of them (this project's own).
+-- What was done with each host of an Ethernet segment, and a law for two of them (this project's own).
 use Rattle.std.specs.Prelude.{◌≡◌, ◌≢◌, ◌<◌, ◌^◌, ℕ, zero, suc, Bool, true, false, nat_le, ◌==◌, if◌then◌else◌, List, [], ◌∷◌, ◌++◌, slice_get, All, Option, Some, None}
 use Rattle.flat_model.specs.Machine.Count.{value_of}
 use Rattle.flat_model.specs.declared.config.Config.{Config}
@@ -18,7 +18,7 @@ use Rattle.segment.specs.Law.{Act, Ether, Joins, Calls, Collects, Delivers, Impa
 use Rattle.segment.specs.Segment.{SegmentView, leaving, no_hosts}
 use Rattle.segment.specs.declared.links.TheConstants.{FRAMES}
 
--- the host at a place, if a stack and a link stand there
+-- the host at a place, if it has a stack and a link
 abbrev pub host_of_halves : Option StackView → Option LinkState → Option Host
 host_of_halves None l = None
 host_of_halves (Some s) None = None
@@ -29,7 +29,7 @@ host_at place v = host_of_halves (slice_get v.stacks place) (slice_get v.links p
 
 -- ---- what was done with the host at a place, as acts of flat_ether
 
--- the link takes a frame, if the stack's packets fit one
+-- the link takes a frame, if the stack's packets fit into one
 abbrev pub takes_if : Bool → Option (List ℕ) → List HostAct
 takes_if true f = Goes_out f ∷ []
 takes_if false f = []
@@ -38,7 +38,7 @@ abbrev pub then_takes : Option (List ℕ) → List HostAct → List HostAct
 then_takes None later = []
 then_takes (Some f) later = later
 
--- it takes the next n frames, or as many as there are
+-- it takes the next n frames, or fewer if it has fewer
 abbrev pub taking : ℕ → Host → List HostAct
 taking zero h = []
 taking (suc n) h =
@@ -49,7 +49,7 @@ abbrev pub taking_in : Option Host → List HostAct
 taking_in None = []
 taking_in (Some h) = taking FRAMES h
 
--- these frames come
+-- these frames arrive
 abbrev pub coming : List (List ℕ) → List HostAct
 coming [] = []
 coming (f ∷ frames) = Comes_in f ∷ coming frames
@@ -85,7 +85,7 @@ host_acts place v (Loses at) = []
 host_acts place v (Repeats at) = []
 host_acts place v (Swaps at other) = []
 
--- all that was done with it, in these acts that lead from one segment to another
+-- all that was done with it, in these acts, which lead from one segment to another
 abbrev pub acts_of : ℕ → (old : SegmentView) → (acts : List Act) → (new : SegmentView) → AreActs old acts new
     → List HostAct
 acts_of place old [] new done = []
@@ -93,7 +93,7 @@ acts_of place old (act ∷ acts) new (mid, is, done) = host_acts place old act +
 
 -- ---- two hosts
 
--- no host joined without a link, and no packet was collected or delivered but in frames
+-- no host joined without a link, and packets were collected or delivered only in frames
 abbrev pub GoesByFrames : Act → Type 0
 GoesByFrames (Ether act) = Unit {0}
 GoesByFrames (Joins config) = ⊥
@@ -110,7 +110,7 @@ abbrev pub GoByFrames : List Act → Type 0
 GoByFrames [] = Unit {0}
 GoByFrames (act ∷ acts) = GoesByFrames act × GoByFrames acts
 
--- the frames that came to the host at a place from outside
+-- the frames from outside that arrived at the host at a place
 abbrev pub heard_in : ℕ → Act → List (List ℕ)
 heard_in place (Ether (HearsFrame other f)) = if other == place then f ∷ [] else []
 heard_in place _ = []
@@ -119,8 +119,8 @@ abbrev pub heard_of : ℕ → List Act → List (List ℕ)
 heard_of place [] = []
 heard_of place (act ∷ acts) = heard_in place act ++ heard_of place acts
 
--- Two hosts of an Ethernet segment, and all that was done since it had none. The first has sent fewer than 65,536
--- times, and neither a frame from outside nor a call brought the second a packet of UDP with the first's address as its
+-- Two hosts of an Ethernet segment, and all that was done since it had no hosts. The first has sent fewer than 65,536
+-- times, and neither a frame from outside nor a call brought the second a UDP packet with the first's address as its
 -- source: nobody forged it.
 pub record AreOnEtherSegment (room i j : ℕ) (first second : Config) (s t : Host) (acts : List Act) (last : SegmentView)
     (done : AreActs (no_hosts room) acts last) : Type 0 where

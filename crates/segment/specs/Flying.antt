@@ -1,4 +1,4 @@
--- Packets under way on a segment, and to which hosts they go (this project's own).
+-- Packets in flight on a segment, and the hosts that receive them (this project's own).
 use Rattle.std.specs.Prelude.{ℕ, ◌-◌, nat_le, Bool, ◌==◌, ◌&&◌, ◌||◌, not, if◌then◌else◌, List, length, map, filter_map, Some, None}
 use Rattle.params.specs.declared.TheConstants.{IP_HEADER, LIMITED_BROADCAST}
 use Rattle.flat_model.specs.Amounts.Weight.{Item}
@@ -8,7 +8,8 @@ use Rattle.flat_model.specs.Runs.Run.{Turn}
 use Rattle.flat_model.specs.declared.config.Config.{Config}
 use Rattle.net_stack.specs.Stack.{StackView, state_of}
 
--- a packet, the place of the host that has sent it, and in how many carries it isn't due yet
+-- a packet, the place of the host that sent it, and for how many carries it isn't due yet: 0 if it's due in the next
+-- one
 pub record Flying : Type 0 where
   pub sender : ℕ
   pub packet : List ℕ
@@ -28,20 +29,20 @@ is_due f = f.wait == 0
 abbrev pub is_early : Flying → Bool
 is_early f = not (f.wait == 0)
 
--- the destination that a packet names (RFC 791, section 3.1)
+-- the destination in a packet's header (RFC 791, section 3.1)
 abbrev pub ip_destination : List ℕ → ℕ
 ip_destination packet = u32_at 16 packet
 
--- a host with these addresses is named: by its own, by the broadcast address of its network, or by 255.255.255.255
+-- it's an address of a host with this configuration: its own, the broadcast address of its network, or 255.255.255.255
 abbrev pub is_destination : Config → ℕ → Bool
 is_destination c ip = (ip == c.addr) || (ip == c.bcast) || (ip == LIMITED_BROADCAST)
 
--- a packet goes to the host at this place: another has sent it, and its header names the host
+-- a packet is for the host at this place: another host sent it, and its destination is an address of the host
 abbrev pub goes_to : ℕ → Config → Flying → Bool
 goes_to place c f =
     not (f.sender == place) && (nat_le IP_HEADER (length f.packet) && is_destination c (ip_destination f.packet))
 
--- the packets that come to the host at this place, in their order
+-- the packets that arrive at the host at this place, in order
 abbrev pub received : ℕ → Config → List Flying → List (List ℕ)
 received place c flight = filter_map (λ (f : Flying). if goes_to place c f then Some f.packet else None) flight
 
@@ -49,7 +50,7 @@ received place c flight = filter_map (λ (f : Flying). if goes_to place c f then
 abbrev pub waiting : StackView → List (List ℕ)
 waiting s = map (λ (item : Item). item.bytes) (state_of s).output
 
--- the turns by which the link takes these packets, and those by which these packets come
+-- the turns in which the link takes these packets, and those in which these packets arrive
 abbrev pub transmits_of : List (List ℕ) → List Turn
 transmits_of packets = map (λ (packet : List ℕ). record { event = Transmit; reply = Given (Some packet) }) packets
 

@@ -1,4 +1,4 @@
--- Hosts on an Ethernet: what their links give to a segment, and take from it (this project's own).
+-- Hosts on an Ethernet: what their links give to a segment and take from it (this project's own).
 use Rattle.std.specs.Prelude.{◌≡◌, ◌+◌, ◌≤◌, ℕ, zero, suc, Bool, true, false, nat_le, ◌==◌, ◌&&◌, not, if◌then◌else◌, List, [], ◌∷◌, ◌++◌, length, filter, filter_map, map, take, drop, slice_get, slice_set, Option, Some, None, Result}
 use Rattle.std.specs.List.{list_all}
 use Rattle.flat_model.specs.Machine.State.{IsConfig, boot}
@@ -35,10 +35,10 @@ hosts_of (s ∷ stacks) (l ∷ links) = halves s l ∷ hosts_of stacks links
 abbrev pub hosts_in : SegmentView → List Host
 hosts_in v = hosts_of v.stacks v.links
 
--- ---- what goes
+-- ---- what is sent
 
 -- the next frame of a host. A stack that a caller put in the place of another may take longer packets than a frame
--- carries, and then nothing goes.
+-- carries; then nothing is sent.
 abbrev pub gives_short : Host → Option (List ℕ) × Host
 gives_short h = if nat_le h.machine.config.mtu ETHER_MTU then gives h else (None, h)
 
@@ -46,7 +46,7 @@ abbrev pub or_more : Option (List ℕ) × Host → List (List ℕ) × Host → L
 or_more (None, h) rest = ([], h)
 or_more (Some f, h) rest = (f ∷ rest.0, rest.1)
 
--- the next n frames of a host, or as many as it has, and the host then
+-- the next n frames of a host, or fewer if it has fewer, and the host then
 abbrev pub frames_given : ℕ → Host → List (List ℕ) × Host
 frames_given zero h = ([], h)
 frames_given (suc n) h = or_more (gives_short h) (frames_given n (gives_short h).1)
@@ -64,8 +64,8 @@ frames_below hosts (suc place) = frames_below hosts place ++ sent_by place (give
 abbrev pub frames_of : SegmentView → List Flying
 frames_of v = frames_below (hosts_in v) (length v.links)
 
--- Each host gave its frames. They went under way behind the rest, as far as there is room. A stack without a link is
--- as it was.
+-- Each host gave its frames. They were added after those in flight, up to the capacity. A stack without a link is as it
+-- was.
 pub record AreFramesCollected (old new : SegmentView) : Type 0 where
   pub configs : new.configs ≡ old.configs
   pub room : new.room ≡ old.room
@@ -77,9 +77,10 @@ pub record AreFramesCollected (old new : SegmentView) : Type 0 where
   pub tallies : new.tallies ≡ tallied old.chances (frames_of old) old.random old.tallies
   pub hosts : AtEach (λ place h k. k ≡ (frames_given FRAMES h).1) (hosts_in old) (hosts_in new)
 
--- ---- what comes
+-- ---- what arrives
 
--- a frame comes to the host at this place: another has sent it, and it's to the host's hardware address or to all
+-- a frame arrives at the host at this place: another host sent it, and its destination is the host's hardware address
+-- or the broadcast address
 abbrev pub frame_goes_to : ℕ → Mac → Flying → Bool
 frame_goes_to place mac f = not (f.sender == place) && is_heard mac f.packet
 
@@ -91,16 +92,16 @@ abbrev pub frames_heard : ℕ → Option LinkState → List Flying → List (Lis
 frames_heard place None flight = []
 frames_heard place (Some l) flight = frames_to place l.link.mac flight
 
--- a frame comes to a host
+-- a frame arrives at a host
 abbrev pub FrameComes : List ℕ → Host → Host → Type 0
 FrameComes f old new = IsBytes f × (length f ≤ ETHER_HEADER + IP_MAX_PACKET) × Hears f old new
 
--- these frames come, one after another
+-- these frames arrive, one after another
 abbrev pub HearEach : List (List ℕ) → Host → Host → Type 0
 HearEach [] old new = new ≡ old
 HearEach (f ∷ later) old new = (mid : Host) × FrameComes f old mid × HearEach later mid new
 
--- What was due came, and the rest is a carry older. A stack without a link is as it was.
+-- What was due arrived, and the rest is a carry older. A stack without a link is as it was.
 pub record AreFramesDelivered (old new : SegmentView) : Type 0 where
   pub configs : new.configs ≡ old.configs
   pub room : new.room ≡ old.room
@@ -116,7 +117,7 @@ pub record AreFramesDelivered (old new : SegmentView) : Type 0 where
 
 -- ---- one host
 
--- the host at a place went on so
+-- a step of the host at a place
 pub record IsHostStep (place : ℕ) (R : Host → Host → Type 0) (old new : SegmentView) : Type 0 where
   pub stack : StackView
   pub link : LinkState
@@ -130,11 +131,11 @@ pub record IsHostStep (place : ℕ) (R : Host → Host → Type 0) (old new : Se
     links = slice_set old.links place link';
   }
 
--- a frame came to it from outside
+-- a frame from outside arrived at it
 abbrev pub IsHeard : ℕ → List ℕ → SegmentView → SegmentView → Type 0
 IsHeard place f old new = IsHostStep place (FrameComes f) old new
 
--- it was asked for an error of a socket
+-- an error of one of its sockets was queried
 abbrev pub IsAskedError : ℕ → ℕ → Result (Option NetFault) Errno → SegmentView → SegmentView → Type 0
 IsAskedError place fd fault old new = IsHostStep place (λ h k. (fault, k) ≡ last_error fd h) old new
 
@@ -151,11 +152,11 @@ link_aged place v = record v { links = aged_in v.links place (slice_get v.links 
 abbrev pub other_mac : Mac → LinkState → Bool
 other_mac mac l = not (same_mac mac l.link.mac)
 
--- there is a place for a host on an Ethernet
+-- a host on an Ethernet can join
 abbrev pub IsPlace : SegmentView → Type 0
 IsPlace v = (nat_le 64 (length v.stacks) ≡ false) × ((length v.links == length v.stacks) ≡ true)
 
--- and this host can be told apart from all others
+-- and its addresses differ from those of all others
 abbrev pub IsFree : SegmentView → Config → Link → Type 0
 IsFree v config link =
     IsPlace v × (is_link config link ≡ true) × (list_all (are_apart config) v.configs ≡ true)
@@ -176,7 +177,7 @@ pub record IsEtherJoined (config : Config) (link : Link) (old new : SegmentView)
   pub tallies : new.tallies ≡ old.tallies ++ nothing_counted ∷ []
   pub random : new.random ≡ old.random
 
--- why a host on an Ethernet doesn't join, the first that is true
+-- why a host on an Ethernet can't join, the first reason that applies
 abbrev pub IsEtherRefused : SegmentView → Config → Link → JoinFault → Type 0
 IsEtherRefused v config link TooManyHosts = nat_le 64 (length v.stacks) ≡ true
 IsEtherRefused v config link OtherLink =

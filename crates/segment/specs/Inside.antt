@@ -1,4 +1,4 @@
--- How the fields mean what is under way (this project's own).
+-- What the fields say is in flight (this project's own).
 use Rattle.std.specs.Prelude.{ℕ, List, ◌++◌, map, take, vec_capacity, Option}
 use Rattle.std.specs.Borrow.{LendsIf, MutBor, Fml}
 use Rattle.std.specs.Vec.{with_item}
@@ -21,11 +21,11 @@ use Rattle.segment.specs.declared.segment.Segment.{Segment}
 abbrev pub flying : Frame → Flying
 flying f = record { sender = f.sender; packet = take f.len f.room; wait = f.wait }
 
--- what is under way
+-- what is in flight
 abbrev pub under_way : Flight → List Flying
 under_way f = map flying f.frames.items
 
--- what is under way once these packets went on the wire, as far as there is room; the generator and the counts then
+-- what is in flight once these packets are on the wire, up to the capacity; the generator and the counts then
 abbrev pub sent_behind : Flight → Impairment → List Flying → List Flying
 sent_behind f i fs = take (vec_capacity f.frames) (under_way f ++ (entering i.chances.items fs i.random).0)
 
@@ -52,6 +52,6 @@ view s = record {
 abbrev pub with_stack : Segment → ℕ → StackView → Segment
 with_stack s place stack = record s { stacks = with_item s.stacks place stack }
 
--- the segment ends with the last value behind the reference at this place, or as it was
+-- the segment ends with the last value of the reference at this place, or as it was
 abbrev pub lends_stack : MutBor Segment → ℕ → Option (MutBor StackView) → Fml
 lends_stack s place r = LendsIf the_row stack_row s r (with_stack s.now place) s.now

@@ -16,8 +16,8 @@ use Rattle.segment.specs.Chances.{seeded}
 use Rattle.segment.specs.declared.chances.Chances.{Chances}
 use Rattle.segment.specs.Segment.{SegmentView, is_ether, IsCollected, HasComeDue, IsJoined, leaving, lost_at, no_hosts, repeated_at, swapped_at, received_in, waiting_in}
 
--- What was done by hosts on an Ethernet: one joined; their frames were collected, or delivered; a frame came to the
--- host at a place from outside; it was asked for an error of a socket; or its link is a tick older.
+-- What was done by hosts on an Ethernet: one joined; their frames were collected, or delivered; a frame from outside
+-- arrived at the host at a place; an error of a socket was queried; or its link is a tick older.
 pub data EtherAct : Type 0 where
   JoinsEther : (config : Config) (link : Link) → EtherAct
   CollectsFrames : EtherAct
@@ -34,10 +34,9 @@ IsEtherAct old (HearsFrame place frame) new = IsHeard place frame old new
 IsEtherAct old (AsksError place fd fault) new = IsAskedError place fd fault old new
 IsEtherAct old (AgesLink place) new = (is_ether old ≡ true) × (new ≡ link_aged place old)
 
--- what was done: a host joined, a call was made on the host at a place, what waited was collected or what was due was
--- delivered by a segment that was found so, the chances of what the
--- host at a place sends were set, the generator was started with a seed, packets under
--- way were lost, repeated or put in each other's place by hand, or hosts on an Ethernet did something
+-- what was done: a host joined; a call was made on the host at a place; from a segment in this state, what waited was
+-- collected or what was due was delivered; the chances for what the host at a place sends were set; the generator was
+-- seeded; packets in flight were lost, repeated or exchanged by hand; or hosts on an Ethernet did something
 pub data Act : Type 0 where
   Ether : (act : EtherAct) → Act
   Joins : (config : Config) → Act
@@ -82,7 +81,7 @@ abbrev pub AreActs : SegmentView → List Act → SegmentView → Type 0
 AreActs old [] new = new ≡ old
 AreActs old (act ∷ acts) new = (mid : SegmentView) × IsAct old act mid × AreActs mid acts new
 
--- the turns that an act is for the host at a place
+-- the turns of the host at a place in an act
 abbrev pub turns_in : ℕ → Act → List Turn
 turns_in place (Ether act) = []
 turns_in place (Joins config) = []
@@ -95,7 +94,7 @@ turns_in place (Loses at) = []
 turns_in place (Repeats at) = []
 turns_in place (Swaps at other) = []
 
--- all turns of the host at a place, in their order
+-- all turns of the host at a place, in order
 abbrev pub turns_of : ℕ → List Act → List Turn
 turns_of place [] = []
 turns_of place (act ∷ acts) = turns_in place act ++ turns_of place acts
@@ -109,8 +108,8 @@ abbrev pub called_of : ℕ → List Act → List Turn
 called_of place [] = []
 called_of place (act ∷ acts) = called_in place act ++ called_of place acts
 
--- Two hosts of a segment without links, and all that was done since it had none. The first has sent fewer than 65,536
--- times, and no call brought the second a packet with the first's address as its source: nobody forged it.
+-- Two hosts of a segment without links, and all that was done since it had no hosts. The first has sent fewer than
+-- 65,536 times, and no call brought the second a packet with the first's address as its source: nobody forged it.
 pub record AreOnSegment (room i j : ℕ) (first second : Config) (s t : StackView) (acts : List Act)
     (last : SegmentView) : Type 0 where
   pub done : AreActs (no_hosts room) acts last

@@ -1,4 +1,4 @@
--- What a segment shows, and what its calls make of it (this project's own).
+-- What a segment shows, and what its calls do (this project's own).
 use Rattle.std.specs.Prelude.{◌≡◌, ℕ, zero, suc, ◌<◌, ◌≤◌, Bool, true, false, ◌==◌, ◌&&◌, not, List, [], ◌∷◌, ◌++◌, length, map, filter, take, slice_get, nat_lt, if◌then◌else◌, remove, swap, option_to_list, Option, Some, None}
 use Rattle.std.specs.List.{list_all}
 use Rattle.flat_model.specs.Amounts.Choice.{Choice}
@@ -18,8 +18,8 @@ use Rattle.segment.specs.declared.tally.Tally.{Tally}
 use Rattle.segment.specs.Tallies.{hears, nothing_counted, tallied}
 use Rattle.segment.specs.Chances.{entering, no_chances, seeded, shuffled}
 
--- its hosts by their places, the links of those that are on an Ethernet, what is under way, for how many packets there
--- is room, the chances of what each host sends, the generator that decides, and what is counted of each
+-- its hosts by their places, the links of those that are on an Ethernet, what is in flight, the capacity for packets in
+-- flight, the chances for what each host sends, the generator that decides, and the counters of each
 pub record SegmentView : Type 0 where
   pub configs : List Config
   pub stacks : List StackView
@@ -48,13 +48,13 @@ no_hosts room =
 abbrev pub is_ether : SegmentView → Bool
 is_ether v = not (length v.links == 0)
 
--- both are there, and in this relation, or neither is
+-- both are there, and in this relation, or neither is there
 abbrev pub AreBoth : {A B : Type 0} → (A → B → Type 0) → Option A → Option B → Type 0
 AreBoth R None None = Unit {0}
 AreBoth R (Some a) (Some b) = R a b
 AreBoth R _ _ = ⊥
 
--- at each place these two lists have elements in this relation, or neither has one
+-- at each place both lists have elements in this relation, or neither has one
 abbrev pub AtEach : {A B : Type 0} → (ℕ → A → B → Type 0) → List A → List B → Type 0
 AtEach R xs ys = (place : ℕ) → AreBoth (R place) (slice_get xs place) (slice_get ys place)
 
@@ -68,20 +68,20 @@ abbrev pub given_below : List StackView → ℕ → List Flying
 given_below stacks zero = []
 given_below stacks (suc place) = given_below stacks place ++ sent_by place (waiting_in (slice_get stacks place))
 
--- what the hosts give, as it goes under way, and the generator then
+-- what the hosts give, as it's in flight then, and the generator then
 abbrev pub collected : SegmentView → List Flying × Lcg
 collected v = entering v.chances (given_below v.stacks (length v.stacks)) v.random
 
--- what is due, in the order in which it comes, and the generator then
+-- what is due, in the order in which it arrives, and the generator then
 abbrev pub leaving : SegmentView → List Flying × Lcg
 leaving v = shuffled v.chances (filter is_due v.flight) v.random
 
--- what of it comes to the host at a place with this configuration
+-- the part of it that arrives at the host at a place with this configuration
 abbrev pub received_in : ℕ → Option Config → List Flying → List (List ℕ)
 received_in place None flight = []
 received_in place (Some c) flight = received place c flight
 
--- Each host gave all that waits. It went under way behind the rest, as far as there is room.
+-- Each host gave all that waits. It was added after what was in flight, up to the capacity.
 pub record IsCollected (old new : SegmentView) : Type 0 where
   pub configs : new.configs ≡ old.configs
   pub room : new.room ≡ old.room
@@ -92,7 +92,7 @@ pub record IsCollected (old new : SegmentView) : Type 0 where
   pub tallies : new.tallies ≡ tallied old.chances (given_below old.stacks (length old.stacks)) old.random old.tallies
   pub hosts : AtEach (λ place s t. AreCalls s (transmits_of (waiting s)) t) old.stacks new.stacks
 
--- What was due came, and the rest is a carry older.
+-- What was due arrived, and the rest is a carry older.
 pub record HasComeDue (old new : SegmentView) : Type 0 where
   pub configs : new.configs ≡ old.configs
   pub room : new.room ≡ old.room
@@ -113,11 +113,11 @@ IsCarried old new = (mid : SegmentView) × IsCollected old mid × HasComeDue mid
 abbrev pub is_silent : StackView → Bool
 is_silent s = length (state_of s).output == 0
 
--- nothing is under way, and nothing waits for a link
+-- nothing is in flight, and nothing waits for a link
 abbrev pub is_quiet_segment : SegmentView → Bool
 is_quiet_segment v = (length v.flight == 0) && list_all is_silent v.stacks
 
--- carries, one after another, as long as something is left, and at most so many
+-- carries, one after another, until nothing is left, and at most this many
 abbrev pub AreCarried : ℕ → SegmentView → SegmentView → Type 0
 AreCarried zero old new = new ≡ old
 AreCarried (suc n) old new =
@@ -129,11 +129,11 @@ AreCarried (suc n) old new =
 abbrev pub lost_at : ℕ → SegmentView → SegmentView
 lost_at place v = record v { flight = remove v.flight place }
 
--- a copy of it goes under way behind all others, if there is room
+-- a copy of it is added after all others, if the capacity allows
 abbrev pub repeated_at : ℕ → SegmentView → SegmentView
 repeated_at place v = record v { flight = take v.room (v.flight ++ option_to_list (slice_get v.flight place)) }
 
--- two packets change places, if both are there
+-- two packets are exchanged, if both are there
 abbrev pub swapped_at : ℕ → ℕ → SegmentView → SegmentView
 swapped_at place other v =
     record v {
@@ -143,7 +143,7 @@ swapped_at place other v =
 
 -- ---- joining
 
--- two hosts can be told apart: neither has the other's address, nor its broadcast address
+-- the addresses of two hosts differ: neither has the other's address, nor its broadcast address
 abbrev pub are_apart : Config → Config → Bool
 are_apart c d = not (c.addr == d.addr) && (not (c.addr == d.bcast) && not (d.addr == c.bcast))
 
@@ -164,11 +164,11 @@ pub record IsJoined (config : Config) (old new : SegmentView) : Type 0 where
   pub tallies : new.tallies ≡ old.tallies ++ nothing_counted ∷ []
   pub random : new.random ≡ old.random
 
--- there is a place for a host without a link
+-- a host without a link can join
 abbrev pub IsBarePlace : SegmentView → Type 0
 IsBarePlace v = (length v.stacks < 64) × (is_ether v ≡ false)
 
--- why a host doesn't join, the first that is true
+-- why a host can't join, the first reason that applies
 abbrev pub IsJoinRefused : SegmentView → Config → JoinFault → Type 0
 IsJoinRefused v config TooManyHosts = 64 ≤ length v.stacks
 IsJoinRefused v config OtherLink = (length v.stacks < 64) × (is_ether v ≡ true)

@@ -1,4 +1,4 @@
--- What is counted of each host's packets (this project's own).
+-- The counters of each host's packets (this project's own).
 use Rattle.std.specs.Prelude.{ℕ, List, [], ◌∷◌, slice_get, slice_set, Option, Some, None}
 use Rattle.rand_pcg.specs.Lcg.{Lcg}
 use Rattle.flat_model.specs.Machine.Count.{more_by}
@@ -13,17 +13,17 @@ use Rattle.segment.specs.declared.tally.Tally.{Tally}
 abbrev pub nothing_counted : Tally
 nothing_counted = record { sent = 0; lost = 0; repeated = 0; received = 0 }
 
--- one more packet went on the wire, with this fate
+-- one more packet was sent to the wire, with this fate
 abbrev pub tally_counted : Fate → Tally → Tally
 tally_counted Lost t = record t { sent = more_by 1 t.sent; lost = more_by 1 t.lost }
 tally_counted (Once wait) t = record t { sent = more_by 1 t.sent }
 tally_counted (Twice first second) t = record t { sent = more_by 1 t.sent; repeated = more_by 1 t.repeated }
 
--- so many packets came
+-- this many packets arrived
 abbrev pub hears : ℕ → Tally → Tally
 hears packets t = record t { received = more_by packets t.received }
 
--- with the count at a place changed so, if there is one
+-- with the count at a place changed by this function, if there is one
 abbrev pub set_if : List Tally → ℕ → Fate → Option Tally → List Tally
 set_if tallies place fate None = tallies
 set_if tallies place fate (Some t) = slice_set tallies place (tally_counted fate t)
@@ -32,7 +32,7 @@ set_if tallies place fate (Some t) = slice_set tallies place (tally_counted fate
 abbrev pub with_tally : ℕ → Fate → List Tally → List Tally
 with_tally place fate tallies = set_if tallies place fate (slice_get tallies place)
 
--- these packets are, one after another
+-- these packets are counted, one after another
 abbrev pub tallied : List Chances → List Flying → Lcg → List Tally → List Tally
 tallied chances [] g tallies = tallies
 tallied chances (f ∷ fs) g tallies =

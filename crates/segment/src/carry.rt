@@ -1,4 +1,4 @@
-//! What waits in the output queues passes.
+//! Packets that wait in the output queues are carried.
 ghost use Rattle.std.specs.Prelude.{◌≡◌, ◌-◌, ◌++◌, [], length, map, slice_get, take, vec_capacity};
 ghost use Rattle.std.specs.List.{list_all};
 ghost use Rattle.net_stack.specs.Runs.{AreCalls};
@@ -52,7 +52,7 @@ fn collect_all<W: Watch>(
     }
 }
 
-/// All that goes to a host comes to it.
+/// All packets for a host arrive at it.
 fn deliver_all<W: Watch>(due: &[Frame], configs: &[Config], stacks: &mut Vec<Stack>, watch: &mut W)
     ensures { AtEach (λ place s t. AreCalls s
         (comes (received_in place (slice_get configs.now place) (map flying due.now))) t)
@@ -66,16 +66,16 @@ fn deliver_all<W: Watch>(due: &[Frame], configs: &[Config], stacks: &mut Vec<Sta
 }
 
 impl Segment {
-    /// Each host gives all that waits for its link, from place 0 on. What becomes of a packet is drawn then, by the
-    /// chances of the host that sends it: whether it's lost; if it isn't, whether it goes twice; and in how many
-    /// carries each copy isn't due yet. A copy that finds no room is lost too.
+    /// Each host gives all that waits for its link, from place 0 on. The fate of a packet is drawn then, by the chances
+    /// of the host that sends it: whether it's lost; if not, whether it's repeated; and the delay of each copy, in
+    /// carries. A copy beyond the capacity is lost too.
     pub fn collect(&mut self)
         ensures { IsCollected (view self.old) (view self.new) }
     {
         self.collect_watched(&mut Nobody);
     }
 
-    /// The same, watched: `sent` is called for each packet, in the order in which they go.
+    /// Like `collect`, and calls `sent` for each packet, in the order in which they are sent.
     pub fn collect_watched<W: Watch>(&mut self, watch: &mut W)
         ensures { IsCollected (view self.old) (view self.new) }
     {
@@ -87,17 +87,17 @@ impl Segment {
         );
     }
 
-    /// What is due comes: each packet to whom its destination names, a broadcast to all others, and none to its sender.
-    /// Before that it's drawn for each but the last, from the first on, whether it changes places with the one after
-    /// it. What isn't due yet is a carry nearer then.
+    /// What is due arrives: each packet at the host with its destination address, a broadcast at all others, and none
+    /// at its sender. Before that it's drawn for each but the last, from the first on, whether it's exchanged with the
+    /// one after it. What isn't due yet is then one carry closer.
     pub fn deliver(&mut self)
         ensures { HasComeDue (view self.old) (view self.new) }
     {
         self.deliver_watched(&mut Nobody);
     }
 
-    /// The same, watched: `due` is called for each packet that is due, and then, for each host from place 0 on, `comes`
-    /// before each packet that goes to it, and `came` after it.
+    /// Like `deliver`, and calls `due` for each packet that is due, and then, for each host from place 0 on, `comes`
+    /// before each packet that arrives at it, and `came` after it.
     pub fn deliver_watched<W: Watch>(&mut self, watch: &mut W)
         ensures { HasComeDue (view self.old) (view self.new) }
     {
@@ -118,7 +118,7 @@ impl Segment {
         );
     }
 
-    /// What waits in the output queues passes once: `collect`, and then `deliver`.
+    /// Carries what waits in the output queues once: `collect`, and then `deliver`.
     pub fn carry(&mut self)
         ensures { IsCarried (view self.old) (view self.new) }
     {
@@ -126,15 +126,15 @@ impl Segment {
         self.deliver();
     }
 
-    /// Whether nothing is under way, and nothing waits for a link.
+    /// Whether nothing is in flight, and nothing waits for a link.
     pub fn is_quiet(&self) -> bool
         ensures { result ≡ is_quiet_segment (view self.now) }
     {
         self.flight.frames.is_empty() && nothing_waits(self.stacks.as_slice())
     }
 
-    /// Carries until nothing is under way and nothing waits for a link, but at most so many times. Whether nothing is
-    /// left.
+    /// Carries until nothing is in flight and nothing waits for a link, but at most `most` times. Returns whether
+    /// nothing is left.
     pub fn carry_all(&mut self, most: u32) -> bool
         ensures carried { AreCarried most (view self.old) (view self.new) }
         ensures quiet { result ≡ is_quiet_segment (view self.new) }

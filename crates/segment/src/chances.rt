@@ -1,4 +1,4 @@
-//! What becomes of a packet as it goes on the wire, by chances and the numbers of a generator.
+//! What happens to a packet on the wire, by chances and the numbers of a generator.
 ghost use Rattle.std.specs.Prelude.{◌≡◌, map, nat_lt, vec_capacity};
 ghost use Rattle.segment.specs.Chances.{chances_at, drawn, fate_of, seeded, shuffled, wait_of};
 ghost use Rattle.segment.specs.Tallies.{with_tally};
@@ -9,23 +9,23 @@ use crate::tally::{Tally, count};
 use rand_core::utils::NextWord;
 use rand_pcg::Pcg32;
 
-/// How likely it is that something becomes of a packet that a host sends. A chance is told as how many of 2 to the 32nd
-/// numbers make it happen: 0 never, 2 to the 31st every other time, 2 to the 32nd always.
+/// What may happen to a packet that a host sends, and how likely it is. A chance is given in units of 1/2^32: 0 is
+/// never, 2^31 every other time, 2^32 always.
 #[derive(Clone, Copy, Debug, PartialEq, Eq)]
 pub struct Chances {
-    /// That it's lost.
+    /// The chance that it's lost.
     pub loss: u64,
-    /// That it goes twice, if it isn't lost.
+    /// The chance that it's repeated, if it isn't lost.
     pub repeat: u64,
-    /// That it changes places with the packet after it, once both are due.
+    /// The chance that it's exchanged with the packet after it, once both are due.
     pub reorder: u64,
     /// The least delay, in carries.
     pub delay: u32,
-    /// By how many carries the longest delay is longer than the least one.
+    /// The difference between the longest and the least delay, in carries.
     pub jitter: u32,
 }
 
-/// A wire that only delivers.
+/// A wire that loses, repeats, delays and reorders nothing.
 pub const NO_CHANCES: Chances = Chances {
     loss: 0,
     repeat: 0,
@@ -34,18 +34,18 @@ pub const NO_CHANCES: Chances = Chances {
     jitter: 0,
 };
 
-/// What becomes of a packet as it goes on the wire.
+/// What happens to a packet on the wire.
 #[derive(Clone, Copy, Debug, PartialEq, Eq)]
 pub enum Fate {
     /// It's lost.
     Lost,
-    /// It goes, and isn't due in so many carries.
+    /// It's sent, and isn't due for this many carries: with 0 it's due in the next one.
     Once(u64),
-    /// It goes twice, and each copy has a delay of its own.
+    /// It's sent twice, and each copy has a delay of its own.
     Twice(u64, u64),
 }
 
-/// The stream of the generator, which the Python package's wire has too.
+/// The stream of the generator, the same as in the Python package's wire.
 const STREAM: u64 = 0x0a02_bdbf_7bb3_c0a7;
 
 /// The generator that a seed starts.
@@ -82,7 +82,7 @@ impl Chances {
         u64::from(self.delay) + ((number * bound) >> 32)
     }
 
-    /// What becomes of the next packet. The numbers are drawn in this order: for its loss; if it isn't lost, for its
+    /// The fate of the next packet. The numbers are drawn in this order: for its loss; if it isn't lost, for its
     /// repeat; for the delay of each copy.
     pub(crate) fn fate(&self, random: &mut Pcg32) -> Fate
         ensures value { result ≡ (fate_of self.now random.old).0 }
@@ -101,7 +101,7 @@ impl Chances {
     }
 }
 
-/// The chances of what each host sends, and what is counted of it, by their places; and the generator.
+/// The chances for what each host sends, and its counters, by place; and the generator.
 #[derive(Drop)]
 pub(crate) struct Impairment {
     pub(crate) chances: Vec<Chances>,
@@ -110,7 +110,7 @@ pub(crate) struct Impairment {
 }
 
 impl Impairment {
-    /// The chances of what the host at a place sends.
+    /// The chances for what the host at a place sends.
     fn chances_at(&self, place: usize) -> Chances
         ensures { result ≡ chances_at self.now.chances.items place }
     {
@@ -120,7 +120,7 @@ impl Impairment {
         }
     }
 
-    /// What becomes of the next packet that the host at a place sends. It's counted.
+    /// The fate of the next packet that the host at a place sends. It's counted.
     pub(crate) fn fate(&mut self, sender: usize) -> Fate
         ensures value { result ≡ (fate_of (chances_at self.old.chances.items sender) self.old.random).0 }
         ensures after { self.new.random ≡ (fate_of (chances_at self.old.chances.items sender) self.old.random).1 }
@@ -132,7 +132,7 @@ impl Impairment {
         fate
     }
 
-    /// Whether two packets that are due change places, the first of which the host at a place has sent.
+    /// Whether two packets that are due are exchanged; the host at a place sent the first of them.
     fn turns(&mut self, sender: usize) -> bool
         ensures value { result ≡ nat_lt (drawn self.old.random).0 (chances_at self.old.chances.items sender).reorder }
         ensures after { self.new.random ≡ (drawn self.old.random).1 }
@@ -143,7 +143,7 @@ impl Impairment {
         happens(&mut self.random, limit)
     }
 
-    /// Each of the packets that are due, but for the last, may change places with the one after it, from the first on.
+    /// Each of the packets that are due, except the last, may be exchanged with the one after it, from the first on.
     pub(crate) fn shuffle(&mut self, due: &mut Vec<Frame>)
         ensures due { map flying due.new.items
             ≡ (shuffled self.old.chances.items (map flying due.old.items) self.old.random).0 }

@@ -1,11 +1,11 @@
-//! The packets that are under way, and those that are due in a carry.
+//! The packets that are in flight, and those that are due in a carry.
 ghost use Rattle.std.specs.Prelude.{◌≡◌, [], vec_capacity, IfOk};
 
 use crate::frame::Frame;
 use std::alloc::{AllocError, Global};
 
-/// The packets that are under way, at most as many as fit, and those that are due in a carry. `hand` has the packet
-/// that a host has given last, and `passed` is for use within a call.
+/// The packets that are in flight, up to the capacity, and those that are due in a carry. `hand` has the packet that a
+/// host has given last, and `passed` is for use within a call.
 #[derive(Drop)]
 pub(crate) struct Flight {
     pub(crate) frames: Vec<Frame>,
@@ -17,7 +17,7 @@ pub(crate) struct Flight {
 }
 
 impl Flight {
-    /// Room for so many packets.
+    /// Buffers for this many packets.
     pub(crate) fn new(alloc: Global, room: u16) -> Result<Flight, AllocError>
         ensures { IfOk result (λ f. (f.frames.items ≡ []) × (vec_capacity f.frames ≡ room)) }
     {

@@ -1,4 +1,4 @@
-//! A packet on the segment, and the room that it stands in.
+//! A packet on the segment, and its buffer.
 ghost use Rattle.std.specs.Prelude.{◌≡◌, ◌<◌, ◌≤◌, [], ◌∷◌, length, take};
 ghost use Rattle.params.specs.declared.TheConstants.{IP_HEADER, MAX_MTU};
 ghost use Rattle.net_stack.specs.Runs.{AreCalls};
@@ -13,7 +13,7 @@ use flat_model::Config;
 use net_stack::Stack;
 use params::{IP_HEADER, LIMITED_BROADCAST, MAX_MTU};
 
-/// The room for a packet of any link.
+/// The size of the buffer for a packet of any link.
 pub(crate) const ROOM: usize = MAX_MTU as usize;
 
 /// The bytes of an IP header without options.
@@ -22,7 +22,7 @@ const HEADER: usize = IP_HEADER as usize;
 /// The bytes of a frame's header.
 const ETHER: usize = ETHER_HEADER as usize;
 
-/// A packet, which host has sent it, and for how many carries it isn't due yet.
+/// A packet, the host that sent it, and for how many carries it isn't due yet.
 #[derive(Clone, Copy)]
 pub(crate) struct Frame {
     pub(crate) sender: usize,
@@ -51,7 +51,7 @@ impl Frame {
         &self.room[..self.len]
     }
 
-    /// Takes the packet that has waited longest for the link of this host. One has to wait.
+    /// Takes the packet that has waited longest for the link of this host. There must be one.
     pub(crate) fn fill(&mut self, sender: usize, stack: &mut Stack)
         requires { 0 < length (waiting stack.old) }
         ensures calls { AreCalls stack.old (transmits_of (take self.new.len self.new.room ∷ [])) stack.new }
@@ -65,7 +65,7 @@ impl Frame {
         }
     }
 
-    /// Whether the frame comes to the host at a place with this hardware address.
+    /// Whether the frame is for the host at a place with this hardware address.
     pub(crate) fn is_heard(&self, place: usize, mac: Mac) -> bool
         ensures { result ≡ frame_goes_to place mac
             (record { sender = self.now.sender; packet = take self.now.len self.now.room; wait = self.now.wait }) }
@@ -73,7 +73,7 @@ impl Frame {
         self.sender != place && is_heard(mac, self.bytes())
     }
 
-    /// Whether the packet goes to the host at a place with this configuration.
+    /// Whether the packet is for the host at a place with this configuration.
     pub(crate) fn goes_to(&self, place: usize, config: &Config) -> bool
         ensures { result ≡ goes_to place config.now
             (record { sender = self.now.sender; packet = take self.now.len self.now.room; wait = self.now.wait }) }
@@ -83,7 +83,7 @@ impl Frame {
     }
 }
 
-/// The hardware address that a frame goes to.
+/// The destination address of a frame.
 fn destination_mac(frame: &[u8]) -> Mac
     requires { ETHER_HEADER ≤ length frame.now }
     ensures { result ≡ mac_at 0 frame.now }
@@ -94,7 +94,7 @@ fn destination_mac(frame: &[u8]) -> Mac
     }
 }
 
-/// Whether a frame has a header, and goes to this hardware address or to all.
+/// Whether a frame has a header, and its destination is this hardware address or the broadcast address.
 fn is_heard(mac: Mac, frame: &[u8]) -> bool
     ensures { result ≡ is_heard mac frame.now }
 {
@@ -105,7 +105,7 @@ fn is_heard(mac: Mac, frame: &[u8]) -> bool
     destination.is(mac) || destination.is(ETHER_BROADCAST)
 }
 
-/// The destination that a packet's header names.
+/// The destination in a packet's header.
 fn destination_of(packet: &[u8]) -> u32
     requires { IP_HEADER ≤ length packet.now }
     ensures { result ≡ ip_destination packet.now }
@@ -113,7 +113,7 @@ fn destination_of(packet: &[u8]) -> u32
     BigEndian::read_u32(&packet[16..])
 }
 
-/// Whether an address names a host with this configuration.
+/// Whether this is an address of a host with this configuration.
 fn is_named(config: &Config, ip: u32) -> bool
     ensures { result ≡ is_destination config.now ip }
 {

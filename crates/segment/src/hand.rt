@@ -1,30 +1,30 @@
-//! What is done by hand to the packets that are under way, and what is shown of them.
+//! Actions by hand on the packets that are in flight, and what is shown of them.
 ghost use Rattle.std.specs.Prelude.{◌≡◌, ◌&&◌, length, nat_lt, slice_get, MatchOption, None, Some};
 ghost use Rattle.segment.specs.Segment.{lost_at, repeated_at, swapped_at};
 ghost use Rattle.segment.specs.Inside.{view};
 
 use crate::segment::Segment;
 
-/// A packet that is under way.
+/// A packet that is in flight.
 #[derive(Clone, Copy, Debug, PartialEq, Eq)]
 pub struct UnderWay<'a> {
-    /// The place of the host that has sent it.
+    /// The place of the host that sent it.
     pub sender: usize,
-    /// In how many carries it isn't due yet.
+    /// For how many carries it isn't due yet: 0 if it's due in the next one.
     pub wait: u64,
     /// Its bytes, with its IP header first.
     pub packet: &'a [u8],
 }
 
 impl Segment {
-    /// How many packets are under way. They have places of their own, from 0 on, in the order in which they went.
+    /// How many packets are in flight. Their places are from 0 on, in the order in which they were sent.
     pub fn flight_len(&self) -> usize
         ensures { result ≡ length (view self.now).flight }
     {
         self.flight.frames.len()
     }
 
-    /// The packet under way at a place. `None` if there is no such packet.
+    /// The packet in flight at a place. `None` if there is no such packet.
     pub fn under_way(&self, at: usize) -> Option<UnderWay<'_>>
         ensures { MatchOption result (slice_get (view self.now).flight at ≡ None) (λ shown.
             slice_get (view self.now).flight at
@@ -38,7 +38,7 @@ impl Segment {
         })
     }
 
-    /// The packet under way at a place is lost. Whether there was one.
+    /// Loses the packet in flight at a place. Returns whether there was one.
     pub fn lose(&mut self, at: usize) -> bool
         ensures is { result ≡ nat_lt at (length (view self.old).flight) }
         ensures lost { view self.new ≡ lost_at at (view self.old) }
@@ -50,7 +50,8 @@ impl Segment {
         true
     }
 
-    /// A copy of the packet under way at a place goes behind all others. Whether there was one, and room for a copy.
+    /// Adds a copy of the packet in flight at a place after all others. Returns whether there was one, and the capacity
+    /// allowed it.
     pub fn repeat(&mut self, at: usize) -> bool
         ensures is { result ≡ (nat_lt at (length (view self.old).flight)
             && nat_lt (length (view self.old).flight) (view self.old).room) }
@@ -67,7 +68,7 @@ impl Segment {
         true
     }
 
-    /// Two packets under way change places. Whether there were both.
+    /// Exchanges two packets in flight. Returns whether both were there.
     pub fn swap(&mut self, at: usize, other: usize) -> bool
         ensures is { result ≡ (nat_lt at (length (view self.old).flight)
             && nat_lt other (length (view self.old).flight)) }

@@ -1,4 +1,4 @@
-//! The laws of a segment. Each is a function that does nothing, and its contract is the law.
+//! The laws of a segment. Each is a function that does nothing; its contract is the law.
 ghost use Rattle.std.specs.Prelude.{◌≡◌, ◌++◌, ◌∷◌, Contains, List, ℕ};
 ghost use Rattle.flat_model.specs.Runs.Run.{Turn};
 ghost use Rattle.flat_model.specs.Machine.Event.{Receive, Received};
@@ -19,11 +19,12 @@ ghost use Rattle.segment.specs.EtherLaw.{AreOnEtherSegment, acts_of};
 use flat_ether::any_hosts_on_an_ethernet;
 use net_stack::stacks_on_a_wire;
 
-/// Two hosts of a segment, whatever was done since it had none: hosts joined, calls were made on any of them, and
-/// carries in between. If nobody forged the first one's address, and it sent fewer than 65,536 times, then what
-/// `recvfrom` of the second answers with that address as the sender's, the first was told that it has sent: these
-/// bytes, or, where the buffer was shorter, a datagram of which they are the front, from that port, and to the second
-/// and the port that the socket had then. That anything arrives, or once only, isn't said.
+/// Two hosts of a segment, whatever was done since it had no hosts: hosts joined, calls were made on any of them, and
+/// packets were carried in between. If nobody forged the first one's address, and it sent fewer than 65,536 times, and
+/// `recvfrom` of the second one returns a datagram with that address as the sender's, then a send of the first one
+/// succeeded with these bytes, or, if the buffer was shorter, with a datagram that begins with them, from that port,
+/// and to the second one and the port that the socket had then. The law doesn't say that a datagram arrives, or that it
+/// arrives only once.
 pub fn hosts_on_a_segment()
     ensures { (room i j : ℕ) (first second : Config) (s t : StackView) (acts : List Act) (last : SegmentView)
         (before after : List Turn) (fd most : ℕ) (sender : Addr) (bytes : List ℕ)
@@ -35,12 +36,12 @@ pub fn hosts_on_a_segment()
     stacks_on_a_wire();
 }
 
-/// Two hosts of a segment on which all are on an Ethernet, whatever was done since it had none: hosts joined, calls
-/// were made on any of them, and frames were carried, lost, repeated and held up in between. If the first one sent
-/// fewer than 65,536 times, and neither a frame from outside nor a call brought the second a packet of UDP in its name,
-/// then what `recvfrom` of the second answers with its address as the sender's, the first was told that it has sent, as
-/// `hosts_on_a_segment` has it; and so was, whole, each datagram that waits in a queue of the second. ARP and ICMP may
-/// be forged.
+/// Two hosts of a segment on which all are on an Ethernet, whatever was done since it had no hosts: hosts joined, calls
+/// were made on any of them, and frames were carried, lost, repeated and delayed in between. If the first one sent
+/// fewer than 65,536 times, and neither a frame from outside nor a call brought the second one a UDP packet with the
+/// first one's address, and `recvfrom` of the second one returns a datagram with that address as the sender's, then the
+/// first one sent it, as `hosts_on_a_segment` says; and it also sent, whole, each datagram in a queue of the second
+/// one. ARP and ICMP may be forged.
 pub fn hosts_on_an_ether_segment()
     ensures received { (room i j : ℕ) (first second : Config) (s t : Host) (acts : List Act) (last : SegmentView)
         (done : AreActs (no_hosts room) acts last) (before after : List HostAct) (fd most : ℕ) (sender : Addr)

@@ -1,4 +1,5 @@
-//! A broadcast segment of hosts, each a stack of its own, and the packets or frames that are under way between them.
+//! A broadcast segment of hosts, each with a stack of its own, and the packets or frames that are in flight between
+//! them.
 #![tactic(auto)]
 
 mod carry;

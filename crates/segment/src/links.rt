@@ -1,4 +1,4 @@
-//! Hosts on an Ethernet: what their links give goes under way in frames, and frames come to them.
+//! Hosts on an Ethernet: their links send frames, and frames arrive at them.
 ghost use Rattle.std.specs.Prelude.{◌≡◌, ◌≤◌, ◌==◌, ◌∷◌, [], not, if◌then◌else◌, take, drop, Some, None, map, slice_get, vec_capacity, length};
 ghost use Rattle.params.specs.declared.TheConstants.{MAX_MTU};
 ghost use Rattle.ether_host.specs.Inside.{link_seen};
@@ -24,7 +24,7 @@ use net_stack::Stack;
 pub const FRAMES: u32 = 256;
 
 impl Frame {
-    /// Takes the next frame of this host. Whether it has one.
+    /// Takes the next frame of this host. Returns whether it has one.
     pub(crate) fn give(&mut self, sender: usize, stack: &mut Stack, link: &mut LinkLayer) -> bool
         ensures step { (
           if result then Some (take self.new.len self.new.room) else None,
@@ -50,7 +50,7 @@ impl Frame {
     }
 }
 
-/// The frame in hand goes under way as its fate wants it. If it finds no room, it's lost.
+/// The frame in `hand` is sent by its fate. Beyond the capacity it's lost.
 fn send<W: Watch>(flight: &mut Flight, impairment: &mut Impairment, watch: &mut W)
     ensures taken { under_way flight.new ≡ sent_behind flight.old impairment.old (flying flight.old.hand ∷ []) }
     ensures random { impairment.new.random ≡ random_after impairment.old (flying flight.old.hand ∷ []) }
@@ -127,7 +127,7 @@ fn collect_frames<W: Watch>(
     }
 }
 
-/// How many of these frames come to the host at a place with this hardware address.
+/// How many of these frames are for the host at a place with this hardware address.
 fn count_to(due: &[Frame], place: usize, mac: Mac) -> u64
     ensures { result ≡ length (frames_to place mac (map flying due.now)) }
 {
@@ -140,7 +140,7 @@ fn count_to(due: &[Frame], place: usize, mac: Mac) -> u64
     frames
 }
 
-/// How many of these frames come to the host at a place.
+/// How many of these frames are for the host at a place.
 fn heard(due: &[Frame], place: usize, links: &[LinkLayer]) -> u64
     ensures { result ≡ length (frames_heard place (slice_get (map link_seen links.now) place) (map flying due.now)) }
 {
@@ -150,7 +150,7 @@ fn heard(due: &[Frame], place: usize, links: &[LinkLayer]) -> u64
     }
 }
 
-/// Counts at each host the frames that come to it.
+/// Counts at each host the frames that arrive at it.
 fn count_frames(due: &[Frame], links: &[LinkLayer], tallies: &mut Vec<Tally>)
     ensures { AtEach (λ place t u.
         u ≡ hears (length (frames_heard place (slice_get (map link_seen links.now) place) (map flying due.now))) t)
@@ -162,7 +162,7 @@ fn count_frames(due: &[Frame], links: &[LinkLayer], tallies: &mut Vec<Tally>)
     }
 }
 
-/// A frame comes to a host.
+/// A frame arrives at a host.
 fn hand_over<W: Watch>(
     stack: &mut Stack,
     link: &mut LinkLayer,
@@ -179,7 +179,7 @@ fn hand_over<W: Watch>(
     watch.came(at.number, at.place, stack, link.tallies());
 }
 
-/// Hands to the host at a place all of these frames that come to it.
+/// Passes to the host at a place all of these frames that are for it.
 fn hand_frames<W: Watch>(
     due: &[Frame],
     place: usize,
@@ -205,7 +205,7 @@ fn hand_frames<W: Watch>(
     }
 }
 
-/// All frames that come to a host are handed to it.
+/// All frames for a host are passed to it.
 fn deliver_frames<W: Watch>(
     due: &[Frame],
     stacks: &mut Vec<Stack>,
@@ -227,15 +227,15 @@ fn deliver_frames<W: Watch>(
 }
 
 impl Segment {
-    /// Each host on an Ethernet gives the frames that its link has, 256 at most, from place 0 on. What becomes of a
-    /// frame is drawn then, as `collect` does it for a packet.
+    /// Each host on an Ethernet gives the frames that its link has, at most 256, from place 0 on. The fate of a frame
+    /// is drawn then, as in `collect` for a packet.
     pub fn collect_frames(&mut self)
         ensures { AreFramesCollected (view self.old) (view self.new) }
     {
         self.collect_frames_watched(&mut Nobody);
     }
 
-    /// The same, watched: `sent` is called for each frame, in the order in which they go.
+    /// Like `collect_frames`, and calls `sent` for each frame, in the order in which they are sent.
     pub fn collect_frames_watched<W: Watch>(&mut self, watch: &mut W)
         ensures { AreFramesCollected (view self.old) (view self.new) }
     {
@@ -248,15 +248,15 @@ impl Segment {
         );
     }
 
-    /// What is due comes: each frame to the host with the hardware address that it goes to, one to all to all others,
-    /// and none to its sender. The order is drawn before, as `deliver` does it.
+    /// What is due arrives: each frame at the host with its destination address, a broadcast at all others, and none at
+    /// its sender. The order is drawn before, as in `deliver`.
     pub fn deliver_frames(&mut self)
         ensures { AreFramesDelivered (view self.old) (view self.new) }
     {
         self.deliver_frames_watched(&mut Nobody);
     }
 
-    /// The same, watched, as `deliver_watched` is.
+    /// Like `deliver_frames`, with the calls of `deliver_watched`.
     pub fn deliver_frames_watched<W: Watch>(&mut self, watch: &mut W)
         ensures { AreFramesDelivered (view self.old) (view self.new) }
     {

@@ -1,4 +1,4 @@
-//! How packets go under way, and leave.
+//! How packets get into flight, and out of it.
 ghost use Rattle.std.specs.Prelude.{◌≡◌, ◌≤◌, ◌++◌, ◌∷◌, [], filter, length, map, take, vec_capacity, vec_len};
 ghost use Rattle.segment.specs.Chances.{copies_before};
 ghost use Rattle.segment.specs.Flying.{flying_aged, is_due, is_early, waits};
@@ -10,7 +10,8 @@ use crate::frame::Frame;
 use crate::watch::Watch;
 use std::mem;
 
-/// Of these packets, those that are due, and the others, a carry older. Both lists are empty, with room for all.
+/// Divides these packets into those that are due, and the others, a carry older. Both lists are empty, with enough
+/// capacity.
 fn part(all: &[Frame], due: &mut Vec<Frame>, early: &mut Vec<Frame>)
     requires empty { (due.old.items ≡ []) × (vec_len due.old ≡ 0) }
     requires early_empty { (early.old.items ≡ []) × (vec_len early.old ≡ 0) }
@@ -33,7 +34,7 @@ fn part(all: &[Frame], due: &mut Vec<Frame>, early: &mut Vec<Frame>)
 }
 
 impl Flight {
-    /// A copy of the packet in hand goes under way for so many carries, if there is room.
+    /// A copy of the packet in `hand` is put into flight, not due for `wait` carries, if the capacity allows.
     fn put(&mut self, wait: u64)
         ensures put { under_way self.new
             ≡ take (vec_capacity self.old.frames) (under_way self.old ++ waits wait (flying self.old.hand) ∷ []) }
@@ -46,7 +47,7 @@ impl Flight {
         }
     }
 
-    /// Copies of the packet in hand go under way as its fate wants it.
+    /// Copies of the packet in `hand` are put into flight by its fate.
     fn put_copies(&mut self, fate: Fate)
         ensures entered { under_way self.new
             ≡ take (vec_capacity self.old.frames) (under_way self.old ++ copies_before fate (flying self.old.hand) []) }
@@ -62,7 +63,7 @@ impl Flight {
         }
     }
 
-    /// The packet in hand goes under way as its fate wants it.
+    /// The packet in `hand` is sent by its fate.
     pub(crate) fn enter<W: Watch>(&mut self, fate: Fate, watch: &mut W)
         ensures entered { under_way self.new
             ≡ take (vec_capacity self.old.frames) (under_way self.old ++ copies_before fate (flying self.old.hand) []) }

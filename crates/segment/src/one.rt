@@ -1,4 +1,4 @@
-//! One host on an Ethernet: how it joins, what comes to it from outside, and what is asked of it.
+//! One host on an Ethernet: how it joins, frames from outside that arrive at it, and queries about it.
 ghost use Rattle.std.specs.Prelude.{◌≡◌, ◌+◌, ◌≤◌, ◌==◌, ◌&&◌, Result, Ok, Err, length, map, nat_lt, is_some, option_map, slice_get, MatchOption, MatchResult, None, Some};
 ghost use Rattle.std.specs.List.{list_all};
 ghost use Rattle.flat_model.specs.Amounts.Choice.{Choice};
@@ -33,7 +33,7 @@ fn is_other_mac(mac: Mac, links: &[LinkLayer]) -> bool
 }
 
 impl Segment {
-    /// Whether there is a place for this host.
+    /// Whether this host can join.
     fn check_ether(&self, config: &Config, link: &Link) -> Result<(), JoinFault>
         ensures { MatchResult result (λ _. IsFree (view self.now) config.now link.now)
             (λ fault. IsEtherRefused (view self.now) config.now link.now fault) }
@@ -56,15 +56,15 @@ impl Segment {
         Ok(())
     }
 
-    /// A host on an Ethernet joins: its stack and its link are booted, and it has the next place, from 0 on. All memory
-    /// that it will ever need is taken here.
+    /// A host on an Ethernet joins: its stack and its link boot, and it gets the next place, from 0 on. Allocates all
+    /// memory that the host will ever need.
     ///
     /// # Errors
     ///
-    /// In this order, and then the segment is as it was: `TooManyHosts` if it has 64 hosts; `OtherLink` if a host isn't
+    /// In this order, and then the segment is unchanged: `TooManyHosts` if it has 64 hosts; `OtherLink` if a host isn't
     /// on an Ethernet; `BadLink` by the link; `AddressTaken` if a host has the same address, or one of the two has the
-    /// other's address as its broadcast address; `MacTaken`; `Unbooted` if there is no stack by this configuration, or
-    /// host memory was refused.
+    /// other's address as its broadcast address; `MacTaken`; `Unbooted` if there is no stack with this configuration,
+    /// or host memory can't be allocated.
     pub fn join_ether(&mut self, alloc: Global, config: Config, link: Link) -> Result<(), JoinFault>
         ensures { MatchResult result (λ _. IsEtherJoined config link (view self.old) (view self.new)) (λ fault.
             IsEtherRefused (view self.old) config link fault × (view self.new ≡ view self.old)) }
@@ -94,8 +94,8 @@ impl Segment {
         }
     }
 
-    /// A frame comes from outside to the host at a place, as `EtherHost::receive` has it. Whether there is such a host
-    /// on an Ethernet.
+    /// A frame from outside arrives at the host at a place: see `EtherHost::receive`. Returns whether there is such a
+    /// host on an Ethernet.
     pub fn hear(&mut self, place: usize, frame: &[u8]) -> bool
         requires { length frame.now ≤ ETHER_HEADER + IP_MAX_PACKET }
         ensures is { result
@@ -110,8 +110,8 @@ impl Segment {
         true
     }
 
-    /// What others reported of the datagrams that a connected socket sent to its peer, as `EtherHost::last_error` has
-    /// it. `None` if there is no such host on an Ethernet.
+    /// What other hosts reported for the datagrams that a connected socket sent to its peer: see
+    /// `EtherHost::last_error`. `None` if there is no such host on an Ethernet.
     pub fn last_error(&mut self, place: usize, fd: u32) -> Option<Result<Option<NetFault>, Errno>>
         ensures is { is_some result
             ≡ nat_lt place (length (view self.old).stacks) && nat_lt place (length (view self.old).links) }
@@ -124,7 +124,7 @@ impl Segment {
         Some(self.links[place].last_error(&self.stacks[place], fd))
     }
 
-    /// The link of the host at a place is a tick older. That of its stack is a call of its own.
+    /// The link of the host at a place is a tick older. A tick of its stack is a call of its own.
     pub fn age_link(&mut self, place: usize)
         ensures { view self.new ≡ link_aged place (view self.old) }
     {
@@ -159,7 +159,7 @@ impl Segment {
         Some(link.link())
     }
 
-    /// How far the host at a place is with its address. `None` if there is no such host on an Ethernet.
+    /// The state of the claim of the host at a place to its address. `None` if there is no such host on an Ethernet.
     pub fn address(&self, place: usize) -> Option<AddressState>
         ensures { result ≡ option_map (λ l. address_state l.claim) (slice_get (view self.now).links place) }
     {
@@ -167,7 +167,7 @@ impl Segment {
         Some(link.address())
     }
 
-    /// What was counted of the link of the host at a place. `None` if there is no such host on an Ethernet.
+    /// The counters of the link of the host at a place. `None` if there is no such host on an Ethernet.
     pub fn link_tallies(&self, place: usize) -> Option<Tallies>
         ensures { result ≡ option_map (λ l. l.tallies) (slice_get (view self.now).links place) }
     {

@@ -1,4 +1,4 @@
-//! A broadcast segment: its hosts, and what is under way.
+//! A broadcast segment: its hosts, and what is in flight.
 ghost use Rattle.std.specs.Prelude.{◌≡◌, ◌∷◌, [], ◌++◌, ◌+◌, length, nat_lt, option_map, slice_get, slice_set, IfOk, MatchResult};
 ghost use Rattle.std.specs.List.{list_all};
 ghost use Rattle.segment.specs.Chances.{seeded};
@@ -18,7 +18,7 @@ use thiserror::Error;
 /// The most hosts on a segment.
 pub const MAX_HOSTS: usize = 64;
 
-/// Why a host doesn't join a segment.
+/// Why a host can't join a segment.
 #[derive(Clone, Copy, Debug, PartialEq, Eq, Error)]
 pub enum JoinFault {
     /// The segment has 64 hosts.
@@ -28,23 +28,23 @@ pub enum JoinFault {
     /// address.
     #[error("address taken")]
     AddressTaken,
-    /// Its stack isn't booted.
+    /// Its stack didn't boot.
     #[error(transparent)]
     Unbooted(BootFault),
-    /// It's on an Ethernet, and a host of the segment isn't, or the other way round.
+    /// It's on an Ethernet, and a host of the segment isn't, or vice versa.
     #[error("other link")]
     OtherLink,
     /// A host of the segment has this hardware address.
     #[error("hardware address taken")]
     MacTaken,
-    /// The MTU is above 1,500, the hardware address is that of a group, or the gateway is no neighbour.
+    /// The MTU is above 1,500, the hardware address is that of a group, or the gateway isn't a neighbour.
     #[error("bad link")]
     BadLink,
 }
 
-/// A broadcast segment, as Ethernet is one: up to 64 hosts, each a stack of its own, and the packets that are under way
-/// between them. Either no host has a link below its stack, or each has one: then frames are under way. It must be
-/// spent, by `end`.
+/// A broadcast segment, such as an Ethernet: up to 64 hosts, each with a stack of its own, and the packets that are in
+/// flight between them. Either no host has a link below its stack, or each has one: then frames are in flight. It must
+/// be consumed, by `end`.
 pub struct Segment {
     pub(crate) configs: Vec<Config>,
     pub(crate) stacks: Vec<Stack>,
@@ -53,14 +53,14 @@ pub struct Segment {
     pub(crate) impairment: Impairment,
 }
 
-/// Whether two hosts can be told apart by their addresses.
+/// Whether the addresses of two hosts differ.
 fn are_apart(first: &Config, second: &Config) -> bool
     ensures { result ≡ are_apart first.now second.now }
 {
     first.addr != second.addr && first.addr != second.bcast && second.addr != first.bcast
 }
 
-/// Whether a host can be told apart from all others by its addresses.
+/// Whether the addresses of a host differ from those of all others.
 pub(crate) fn is_apart(config: &Config, others: &[Config]) -> bool
     ensures { result ≡ list_all (are_apart config.now) others.now }
 {
@@ -75,12 +75,12 @@ pub(crate) fn is_apart(config: &Config, others: &[Config]) -> bool
 }
 
 impl Segment {
-    /// A segment without hosts, with room for so many packets under way, and the seed 1. All memory for these is taken
-    /// here.
+    /// A segment without hosts, with capacity for `room` packets in flight, and the seed 1. All memory for these is
+    /// allocated here.
     ///
     /// # Errors
     ///
-    /// Host memory was refused, and then nothing is left behind.
+    /// `AllocError` if host memory can't be allocated; then nothing stays allocated.
     pub fn new(alloc: Global, room: u16) -> Result<Segment, AllocError>
         ensures { IfOk result (λ s. view s ≡ no_hosts room) }
     {
@@ -98,14 +98,14 @@ impl Segment {
         })
     }
 
-    /// A host joins: its stack is booted, and it has the next place, from 0 on. All memory that it will ever need is
-    /// taken here.
+    /// A host joins: its stack boots, and it gets the next place, from 0 on. Allocates all memory that the host will
+    /// ever need.
     ///
     /// # Errors
     ///
-    /// In this order, and then the segment is as it was: `TooManyHosts` if it has 64 hosts; `OtherLink` if a host is on
+    /// In this order, and then the segment is unchanged: `TooManyHosts` if it has 64 hosts; `OtherLink` if a host is on
     /// an Ethernet; `AddressTaken` if a host has the same address, or one of the two has the other's address as its
-    /// broadcast address; `Unbooted` if there is no stack by this configuration, or host memory was refused.
+    /// broadcast address; `Unbooted` if there is no stack with this configuration, or host memory can't be allocated.
     pub fn join(&mut self, alloc: Global, config: Config) -> Result<(), JoinFault>
         ensures { MatchResult result (λ _. IsJoined config (view self.old) (view self.new)) (λ fault.
             IsJoinRefused (view self.old) config fault × (view self.new ≡ view self.old)) }
@@ -138,8 +138,8 @@ impl Segment {
         }
     }
 
-    /// The stack of the host at a place, for any call on it: a packet that is handed to its `rx` comes from outside.
-    /// `None` if there is no such host.
+    /// The stack of the host at a place, for any call on it: a packet passed to its `rx` comes from outside. `None` if
+    /// there is no such host.
     pub fn stack(&mut self, place: usize) -> Option<&mut Stack>
         ensures* writes_back { sem 𝓛 (lends_stack self.entry place result) }
         ensures value { option_map (λ stack. stack.now) result ≡ slice_get (view self.entry.now).stacks place }
@@ -154,7 +154,7 @@ impl Segment {
         self.impairment.random = seeded(seed);
     }
 
-    /// Sets the chances of what the host at a place sends from now on. Whether there is such a host.
+    /// Sets the chances for what the host at a place sends from now on. Returns whether there is such a host.
     pub fn impair(&mut self, place: usize, chances: Chances) -> bool
         ensures is { result ≡ nat_lt place (length (view self.old).chances) }
         ensures set { view self.new
@@ -169,14 +169,14 @@ impl Segment {
         }
     }
 
-    /// The chances of what the host at a place sends. `None` if there is no such host.
+    /// The chances for what the host at a place sends. `None` if there is no such host.
     pub fn chances(&self, place: usize) -> Option<Chances>
         ensures { result ≡ slice_get (view self.now).chances place }
     {
         self.impairment.chances.get(place).copied()
     }
 
-    /// What was counted of the packets of the host at a place. `None` if there is no such host.
+    /// The counters of the packets of the host at a place. `None` if there is no such host.
     pub fn tally(&self, place: usize) -> Option<Tally>
         ensures { result ≡ slice_get (view self.now).tallies place }
     {

@@ -1,4 +1,4 @@
-//! What is counted of each host's packets.
+//! The counters of each host's packets.
 ghost use Rattle.std.specs.Prelude.{◌≡◌, length, map, slice_get};
 ghost use Rattle.segment.specs.Flying.{received};
 ghost use Rattle.segment.specs.Tallies.{tally_counted, with_tally, hears};
@@ -9,21 +9,21 @@ use crate::chances::Fate;
 use crate::frame::Frame;
 use flat_model::Config;
 
-/// What a segment has counted of a host's packets. A count stops at 2 to the 64th, less 1. How many datagrams were put
-/// together of fragments, and what was dropped for which cause, the host's own counters tell.
+/// What a segment has counted for a host's packets. Each counter stops at 2^64 - 1. The host's own counters say how
+/// many datagrams were reassembled, and how many packets were dropped for each cause.
 #[derive(Clone, Copy, Debug, Default, PartialEq, Eq)]
 pub struct Tally {
-    /// The packets that it gave to the wire.
+    /// The packets that it sent to the wire.
     pub sent: u64,
     /// Those of them that were lost by chance.
     pub lost: u64,
-    /// Those of them that went twice.
+    /// Those of them that were repeated.
     pub repeated: u64,
-    /// The packets that came to it, each copy for itself.
+    /// The packets that arrived at it, each copy counted.
     pub received: u64,
 }
 
-/// A host of which nothing was counted.
+/// A host with all counters 0.
 pub(crate) const NOTHING: Tally = Tally {
     sent: 0,
     lost: 0,
@@ -32,7 +32,7 @@ pub(crate) const NOTHING: Tally = Tally {
 };
 
 impl Tally {
-    /// One more packet went on the wire, with this fate.
+    /// One more packet was sent to the wire, with this fate.
     fn counted(self, fate: Fate) -> Tally
         ensures { result ≡ tally_counted fate self }
     {
@@ -46,7 +46,7 @@ impl Tally {
         tally
     }
 
-    /// So many more packets came.
+    /// This many more packets arrived.
     pub(crate) fn hears(self, packets: u64) -> Tally
         ensures { result ≡ hears packets self }
     {
@@ -64,7 +64,7 @@ pub(crate) fn count(tallies: &mut Vec<Tally>, sender: usize, fate: Fate)
     }
 }
 
-/// How many of these packets go to the host at a place with this configuration.
+/// How many of these packets are for the host at a place with this configuration.
 fn count_to(due: &[Frame], place: usize, config: &Config) -> u64
     ensures { result ≡ length (received place config.now (map flying due.now)) }
 {
@@ -77,7 +77,7 @@ fn count_to(due: &[Frame], place: usize, config: &Config) -> u64
     packets
 }
 
-/// How many of these packets go to the host at a place.
+/// How many of these packets are for the host at a place.
 fn heard(due: &[Frame], place: usize, configs: &[Config]) -> u64
     ensures { result ≡ length (received_in place (slice_get configs.now place) (map flying due.now)) }
 {
@@ -87,7 +87,7 @@ fn heard(due: &[Frame], place: usize, configs: &[Config]) -> u64
     }
 }
 
-/// Counts at each host the packets that come to it.
+/// Counts at each host the packets that arrive at it.
 pub(crate) fn count_all(due: &[Frame], configs: &[Config], tallies: &mut Vec<Tally>)
     ensures { AtEach (λ place t u.
         u ≡ hears (length (received_in place (slice_get configs.now place) (map flying due.now))) t)

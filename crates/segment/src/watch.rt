@@ -1,27 +1,28 @@
-//! Who watches what passes on a segment.
+//! A watcher of the packets on a segment.
 use crate::chances::Fate;
 use ether_host::Tallies;
 use net_stack::Stack;
 
-/// Who watches what passes on a segment: a packet, or a frame, that goes on the wire, and one that comes to hosts. What
-/// a host is at that time can be looked at; nothing of the segment changes by it.
+/// A watcher of the packets on a segment: it's called when a packet, or a frame, is sent to the wire, and when one
+/// arrives at hosts. It can read the state of a host at that time; it can't change the segment.
 pub trait Watch {
-    /// This packet of the host at a place goes on the wire, with this fate. So many copies of it found room.
+    /// This packet of the host at a place is sent to the wire, with this fate. This many copies of it are in flight
+    /// then.
     fn sent(&mut self, sender: usize, packet: &[u8], fate: Fate, copies: usize);
 
-    /// This packet of the host at a place is due. Those that are due are numbered from 0 on, in the order in which they
-    /// come.
+    /// This packet of the host at a place is due. Packets that are due are numbered from 0 on, in the order in which
+    /// they arrive.
     fn due(&mut self, number: usize, sender: usize, packet: &[u8]);
 
-    /// The due packet with this number is about to come to the host at a place, which has this stack. What its link has
-    /// counted is 0 if it has none.
+    /// The due packet with this number is about to arrive at the host at a place, which has this stack. If the host has
+    /// no link, the link's counters are 0.
     fn comes(&mut self, number: usize, place: usize, stack: &Stack, link: Tallies);
 
-    /// It has come, and this is the stack now.
+    /// It has arrived, and this is the stack now.
     fn came(&mut self, number: usize, place: usize, stack: &Stack, link: Tallies);
 }
 
-/// Nobody watches.
+/// No watcher.
 #[derive(Drop)]
 pub(crate) struct Nobody;
 

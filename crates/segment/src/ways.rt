@@ -1,4 +1,4 @@
-//! The ways of packets: from a host to the wire, and from the wire to a host.
+//! The routes of packets: from a host to the wire, and from the wire to a host.
 ghost use Rattle.std.specs.Prelude.{◌≡◌, ◌<◌, ◌≤◌, ◌++◌, ◌∷◌, [], drop, length, map, take, vec_capacity};
 ghost use Rattle.params.specs.declared.TheConstants.{MAX_MTU};
 ghost use Rattle.net_stack.specs.Runs.{AreCalls};
@@ -13,8 +13,8 @@ use ether_host::Tallies;
 use flat_model::Config;
 use net_stack::Stack;
 
-/// Takes all packets that wait for the link of the host at a place. Each goes under way as its fate wants it; one that
-/// finds no room is lost.
+/// Takes all packets that wait for the link of the host at a place. Each is sent by its fate; beyond the capacity it's
+/// lost.
 pub(crate) fn take_all<W: Watch>(
     flight: &mut Flight,
     impairment: &mut Impairment,
@@ -35,7 +35,7 @@ pub(crate) fn take_all<W: Watch>(
     }
 }
 
-/// Takes the packet that has waited longest for the link. One has to wait.
+/// Takes the packet that has waited longest for the link. There must be one.
 fn take_one<W: Watch>(
     flight: &mut Flight,
     impairment: &mut Impairment,
@@ -59,7 +59,7 @@ fn take_one<W: Watch>(
     flight.enter(fate, watch);
 }
 
-/// Which of the packets that are due comes, and the place of the host to which it does.
+/// Which of the packets that are due arrives, and the place of the host that receives it.
 #[derive(Clone, Copy)]
 pub(crate) struct Arrival {
     pub(crate) number: usize,
@@ -74,7 +74,7 @@ pub(crate) fn show_due<W: Watch>(due: &[Frame], watch: &mut W) {
     }
 }
 
-/// Hands a packet to a host.
+/// Passes a packet to a host.
 fn hand_over<W: Watch>(stack: &mut Stack, packet: &[u8], at: Arrival, watch: &mut W)
     requires { length packet.now ≤ MAX_MTU }
     ensures { AreCalls stack.old (comes (packet.now ∷ [])) stack.new }
@@ -84,7 +84,7 @@ fn hand_over<W: Watch>(stack: &mut Stack, packet: &[u8], at: Arrival, watch: &mu
     watch.came(at.number, at.place, stack, Tallies::default());
 }
 
-/// Hands to the host at a place all of these packets that go to it.
+/// Passes to the host at a place all of these packets that are for it.
 pub(crate) fn hand_all<W: Watch>(
     due: &[Frame],
     place: usize,

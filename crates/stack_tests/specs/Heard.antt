@@ -1,4 +1,4 @@
--- What the caller in `src/wire.rt` says of two stacks on one wire (this project's own).
+-- What the caller in `src/wire.rt` knows of two stacks on one wire (this project's own).
 use Rattle.std.specs.Prelude.{◌≡◌, ◌<◌, ◌≤◌, ◌^◌, ℕ, List, [], ◌∷◌, ◌++◌, length, map, Some}
 use Rattle.flat_model.specs.Machine.Count.{value_of}
 use Rattle.flat_model.specs.Machine.Event.{Event, Reply, Open, Bind, Send, Receive, Comes, Transmit, Done, Received}
@@ -16,29 +16,30 @@ use Rattle.stack_tests.specs.declared.wire.TheConstants.{FIRST, SECOND, SOCKET, 
 abbrev pub send_event : List ℕ → Event
 send_event bytes = Send SOCKET (Some (record { ip = SECOND.addr; port = PORT })) bytes
 
--- the call by which a packet comes
+-- the call by which a packet arrives
 abbrev pub packet_comes : List ℕ → Turn
 packet_comes packet = record { event = Comes packet; reply = Done }
 
--- the call by which the second host asks for at most so many bytes
+-- the call by which the second host requests at most `room` bytes
 abbrev pub receives : ℕ → Reply → Turn
 receives most reply = record { event = Receive SOCKET most; reply = reply }
 
--- the calls, without what they were answered
+-- the calls, without their results
 abbrev pub events : List Turn → List Event
 events turns = map (λ (turn : Turn). turn.event) turns
 
--- One `tx` made of the stack `old` the stack `new`. If these bytes have the room of a source, it gave them to the link.
+-- One `tx` changed the stack `old` to the stack `new`. If these bytes are long enough for a source address, it gave
+-- them to the link.
 pub record HasGiven (old new : StackView) (packet : List ℕ) : Type 0 where
   pub turn : Turn
   pub is_tx : turn.event ≡ Transmit
   pub calls : AreCalls old (turn ∷ []) new
   pub out : 16 ≤ length packet → packet_out turn ≡ Some packet
 
--- What was called on two hosts, from their boot on, and answered. The first sent three datagrams, and the link took its
--- packets three times. To the second came one packet, another, and the first of the two again; then it was asked for a
--- datagram, and gave this reply. The replies of each are those of a run. If the first has counted fewer than 65,536
--- sends, they were on one wire, and what names the first's address as its sender's was sent so by the first.
+-- The calls on two hosts, from their boot on, and their results. The first sent three datagrams, and the link took its
+-- packets three times. At the second arrived one packet, another, and the first of the two again; then a datagram was
+-- requested from it, with this reply. The replies of each are those of a run. If the first has counted fewer than
+-- 65,536 sends, they were on one wire, and the first sent what has its address as the sender's.
 pub record IsHeard (lost late early : List ℕ) (most count : ℕ) (reply : Reply) : Type 0 where
   pub sent : List Turn
   pub before : List Turn

@@ -1,4 +1,4 @@
-//! A host on an Ethernet: what comes, and what goes. Each test is a table.
+//! A host on an Ethernet: what arrives, and what it sends. Each test is a table.
 mod frames;
 mod steps;
 
@@ -46,13 +46,13 @@ const PEER: Addr = Addr {
     port: 4000,
 };
 
-/// A host behind the gateway.
+/// A host that is reached through the gateway.
 const FAR: Addr = Addr {
     ip: 0xc000_0201,
     port: 4000,
 };
 
-/// Nothing was counted.
+/// All counters 0.
 const NONE: Tallies = Tallies {
     ignored: 0,
     martians: 0,
@@ -75,7 +75,7 @@ const PROBING: Link = Link {
     ..LINK
 };
 
-/// ARP, an echo and "port unreachable", which ten senders are told between two ticks.
+/// ARP, an echo and "port unreachable", which is sent at most ten times between two ticks.
 static ANSWERS: [Step; 16] = [
     Transmit(ANNOUNCEMENT),
     Nothing,
@@ -100,8 +100,8 @@ static ANSWERS: [Step; 16] = [
     Nothing,
 ];
 
-/// An echo reply that is longer than the MTU goes out in fragments. Until the last one has gone, no other request is
-/// answered.
+/// An echo reply that is longer than the MTU is sent in fragments. Until the last one is sent, no other request gets a
+/// reply.
 static CUT: [Step; 11] = [
     Transmit(ANNOUNCEMENT),
     Frame(ASKED),
@@ -120,7 +120,7 @@ static CUT: [Step; 11] = [
     }),
 ];
 
-/// A datagram waits for the hardware address of its next hop, and one behind the gateway for that of the gateway.
+/// A datagram waits for the hardware address of its next hop, and one through the gateway for that of the gateway.
 static HOLDS: [Step; 9] = [
     Transmit(ANNOUNCEMENT),
     Open,
@@ -133,7 +133,7 @@ static HOLDS: [Step; 9] = [
     Neighbours(2),
 ];
 
-/// Nobody answers: five requests, three ticks apart, and then the datagram is given up.
+/// No reply: five requests, three ticks apart, and then the datagram is dropped.
 static GIVES_UP: [Step; 18] = [
     Transmit(ANNOUNCEMENT),
     Ticks(5),
@@ -158,7 +158,7 @@ static GIVES_UP: [Step; 18] = [
     }),
 ];
 
-/// A neighbour is asked alone before 20 minutes are over, twice, and stays if it answers.
+/// A neighbour gets two unicast requests before 20 minutes are over, and stays if it replies.
 static POLLS: [Step; 19] = [
     Transmit(ANNOUNCEMENT),
     Frame(ASKED),
@@ -181,7 +181,7 @@ static POLLS: [Step; 19] = [
     Neighbours(0),
 ];
 
-/// A connected socket is told once what its peer's host told, and one that isn't connected is told nothing.
+/// A connected socket gets an error that its peer's host reported once, and one that isn't connected gets none.
 static ERRORS: [Step; 7] = [
     Open,
     Frame(REFUSED),
@@ -192,7 +192,8 @@ static ERRORS: [Step; 7] = [
     Transmit(ANNOUNCEMENT),
 ];
 
-/// Packets whose addresses can't come from a link never reach the machine: it sends nothing back, and counts nothing.
+/// Packets with addresses that can't come from a link never reach the machine: it sends nothing back, and counts
+/// nothing.
 static MARTIANS: [Step; 8] = [
     Transmit(ANNOUNCEMENT),
     Frame(FROM_LOOPBACK),
@@ -207,7 +208,7 @@ static MARTIANS: [Step; 8] = [
     }),
 ];
 
-/// Three probes, and two seconds later the address is used.
+/// Three probes, and two seconds later the address is in use.
 static PROBES: [Step; 18] = [
     Address(AddressState::Probing),
     Transmit(PROBE),
@@ -239,7 +240,7 @@ static RIVALS: [Step; 6] = [
     Nothing,
 ];
 
-/// Another host says that it has the address: it's defended, once in ten seconds at most.
+/// Another host claims the address: it's defended, at most once in ten seconds.
 static DEFENDS: [Step; 17] = [
     Transmit(ANNOUNCEMENT),
     Ticks(5),
@@ -314,7 +315,7 @@ static BAD_LINKS: [Link; 3] = [
     },
 ];
 
-/// Why a host isn't booted so, or nothing where it is.
+/// Why a host doesn't boot with this configuration, or `None` if it does.
 fn refusal(alloc: Global, config: Config, link: Link) -> Option<EtherFault> {
     match EtherHost::boot(alloc, config, link) {
         Ok(host) => {

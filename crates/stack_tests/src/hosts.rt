@@ -1,4 +1,4 @@
-//! Calls of a stack, each on its plain path.
+//! Calls of a stack, each on its ordinary path.
 mod broadcasts;
 mod fragments;
 mod questions;
@@ -32,7 +32,7 @@ const LARGE: Config = Config {
     ..PLAIN
 };
 
-/// These counters have counted so much, and the others nothing.
+/// These counters have these values, and the others are 0.
 fn counted(values: &[(Counter, u64)]) -> Counters {
     let mut counters = Counters::none();
     for (counter, value) in values {
@@ -47,14 +47,14 @@ const NEAR: u32 = 0x0a00_0002;
 /// Any address of the machine.
 const ANY: u32 = 0;
 
-/// Takes the packet that has waited longest for the link, and answers how many bytes it has, or `None` if none waits. A
-/// caller's proof isn't given what `laws` tells of a stack, but for this one call.
+/// Takes the packet that has waited longest for the link, and returns how many bytes it has, or `None` if none waits.
+/// Of what `laws` says of a stack, a caller's proof gets only this.
 fn transmit(stack: &mut Stack, room: &mut [u8; MAX_MTU as usize]) -> Option<usize> {
     stack.laws();
     stack.tx(room)
 }
 
-/// Why a stack isn't booted so, or nothing where it is.
+/// Why a stack doesn't boot with this configuration, or `None` if it does.
 fn refusal(alloc: Global, config: Config) -> Option<BootFault> {
     match Stack::boot(alloc, config) {
         Ok(stack) => {

@@ -1,5 +1,5 @@
-//! Tests of socket calls, whole stacks, segments and hosts on an Ethernet, and a caller of the laws over whole runs,
-//! over the contracts of their crates alone: so they're checked apart from these, and these aren't checked twice.
+//! Tests of socket calls, whole stacks, segments and hosts on an Ethernet, and a caller of the laws over whole runs.
+//! They use only the contracts of the crates that they test, so a change of a test doesn't check those crates again.
 #![tactic(auto)]
 
 #[cfg(test)]

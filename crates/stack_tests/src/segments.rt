@@ -1,4 +1,4 @@
-//! Hosts of 10.0.0.0/24 on one wire. All have a socket at port 7.
+//! Hosts of 10.0.0.0/24 on one wire. All have a socket bound to port 7.
 mod ether;
 mod impaired;
 mod steps;
@@ -15,9 +15,8 @@ const SOCKET: u32 = 3;
 /// The broadcast address.
 const ALL: u32 = 0x0a00_00ff;
 
-/// A packet to 10.0.0.2, port 7, that says that it comes from 10.0.0.1, port 9: 28 bytes of headers, without a UDP
-/// checksum, and two bytes. Without its checksum the header's words add up to 0x9933,
-/// so that is 0x66cc.
+/// A packet to 10.0.0.2, port 7, with the source 10.0.0.1, port 9: 28 bytes of headers, without a UDP checksum, and two
+/// bytes. Without its checksum the header's words add up to 0x9933, so that is 0x66cc.
 const FORGED: [u8; 30] = [
     0x45, 0, 0, 30, 0, 1, 0, 0, 64, 17, 0x66, 0xcc, 10, 0, 0, 1, 10, 0, 0, 2, 0, 9, 0, 7, 0, 10, 0,
     0, b'h', b'i',
@@ -69,7 +68,7 @@ static TO_ALL: [Step; 12] = [
     Open(2),
     Open(3),
     Send(2, ALL, b"all"),
-    // Its sender hears it by loopback, at the send.
+    // Its sender receives it by loopback, at the send.
     Receive(2, Some((THIRD, 3))),
     Step::Wire(Wire::Carry),
     Receive(0, Some((THIRD, 3))),
@@ -101,7 +100,7 @@ fn loses_what_finds_no_room(rt: HostRuntime) {
     play(&rt, rt.alloc(), 2, &NO_ROOM);
 }
 
-/// 10.0.0.1 has sent nothing: so the law asks that nobody forges its address.
+/// 10.0.0.1 has sent nothing, so the law requires that nobody forges its address.
 static FORGES: [Step; 4] = [
     Hosts(1, 2),
     Open(1),

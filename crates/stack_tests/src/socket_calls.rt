@@ -1,4 +1,4 @@
-//! Calls and their answers, on sockets of 10.0.0.1 and broadcast address 10.0.0.255. They were worked out by hand.
+//! Calls and their results, on sockets of 10.0.0.1 and broadcast address 10.0.0.255. They were worked out by hand.
 mod host;
 mod steps;
 
@@ -22,7 +22,7 @@ const ECHO: Addr = Addr { ip: THERE, port: 7 };
 const NEAR: Addr = Addr { ip: THERE, port: 9 };
 
 static CALLS: [(&str, &[Step]); 4] = [
-    // A call on each descriptor that isn't open is refused as that, whatever else it's called with.
+    // A call on a descriptor that isn't open fails for that reason, whatever its other arguments are.
     (
         "no such socket",
         &[
@@ -35,7 +35,7 @@ static CALLS: [(&str, &[Step]); 4] = [
             Close(67, Err(Errno::BadDescriptor)),
         ],
     ),
-    // The lowest descriptor that is free is given, 3 to 66.
+    // The lowest free descriptor is returned, 3 to 66.
     (
         "64 sockets",
         &[
@@ -46,7 +46,7 @@ static CALLS: [(&str, &[Step]); 4] = [
             Socket(Err(Errno::TooManyFiles)),
         ],
     ),
-    // Where another socket has port 7 and the peer's port 9.
+    // Another socket has port 7 and the peer's port 9.
     (
         "another socket's refusals in order",
         &[

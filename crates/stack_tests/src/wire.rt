@@ -21,7 +21,7 @@ pub const FIRST: Config = Config {
     first_id: 1,
 };
 
-/// The host 10.0.0.2, which hears.
+/// The host 10.0.0.2, which receives.
 pub const SECOND: Config = Config {
     addr: 0x0a00_0002,
     bcast: 0x0a00_00ff,
@@ -34,22 +34,22 @@ pub const SECOND: Config = Config {
 /// The first descriptor of each host.
 pub const SOCKET: u32 = 3;
 
-/// The port at which the second host hears.
+/// The port at which the second host receives.
 pub const PORT: u16 = 7;
 
-/// The room for a packet of any link.
+/// The size of a buffer for a packet of any link.
 const ROOM: usize = MAX_MTU as usize;
 
-/// What `hear` answers.
+/// What `hear` returns.
 #[derive(Drop)]
 pub struct Heard {
     /// How many sends the first host has counted. Below 65,536 no two had the same identification.
     pub sends: u64,
-    /// What the second host's `recvfrom` answered: the sender, and how many bytes it put in front of the room.
+    /// The result of the second host's `recvfrom`: the sender, and how many bytes it put at the front of `room`.
     pub answer: Result<(Addr, usize), Errno>,
 }
 
-/// Sends a datagram to the second host, whatever is answered.
+/// Sends a datagram to the second host, whatever the result is.
 fn send(stack: &mut Stack, bytes: &[u8])
     ensures { (reply : Reply) × AreCalls stack.old
         (record { event = send_event bytes.now; reply = reply } ∷ []) stack.new }
@@ -61,7 +61,7 @@ fn send(stack: &mut Stack, bytes: &[u8])
     let _ = stack.sendto(SOCKET, Some(to), bytes);
 }
 
-/// Takes the packet that waits for the link, and answers how many bytes it has, or 0 if none waits.
+/// Takes the packet that waits for the link, and returns how many bytes it has, or 0 if none waits.
 fn give(stack: &mut Stack, room: &mut [u8]) -> usize
     requires { MAX_MTU ≤ length room.old }
     ensures given { HasGiven stack.old stack.new (take result room.new) }
@@ -75,7 +75,7 @@ fn give(stack: &mut Stack, room: &mut [u8]) -> usize
     }
 }
 
-/// Hands a packet to a stack.
+/// Passes a packet to a stack.
 fn hand_over(stack: &mut Stack, packet: &[u8])
     requires { length packet.now ≤ IP_MAX_PACKET }
     ensures { AreCalls stack.old (packet_comes packet.now ∷ []) stack.new }
@@ -83,13 +83,13 @@ fn hand_over(stack: &mut Stack, packet: &[u8])
     stack.rx(packet);
 }
 
-/// Boots two hosts on one wire. The first sends three datagrams to the second, which hears at port 7. The wire loses
-/// the packet of the first datagram, hands over that of the third before that of the second, and then that of the third
-/// once more. Then the second is asked for a datagram, whose bytes go to the front of `room`.
+/// Boots two hosts on one wire. The first sends three datagrams to the second, which receives at port 7. The wire loses
+/// the packet of the first datagram, delivers that of the third before that of the second, and then that of the third
+/// again. Then a datagram is requested from the second host, and its bytes go to the front of `room`.
 ///
 /// # Errors
 ///
-/// `Memory` if host memory was refused to one of them.
+/// `Memory` if the host memory for one of them can't be allocated.
 pub fn hear(
     alloc: Global,
     lost: &[u8],

@@ -1,36 +1,36 @@
-//! Calls on a host beside the answers that they should give, and the loop that makes them.
+//! Calls on a host with their expected results, and the loop that makes them.
 use super::frames::{PORT_9, UNREACHABLE};
 use ether_host::{AddressState, EtherHost, Link, NetFault, Tallies};
 use flat_model::{Addr, Config};
 use std::alloc::Global;
 use std::process::Abort;
 
-/// A call on a host, and its answer. The socket is the one that is opened first.
+/// A call on a host, and its result. The socket is the first one that was opened.
 pub(super) enum Step {
-    /// A socket is opened, at port 7.
+    /// A socket is opened and bound to port 7.
     Open,
-    /// It sends to an address, and all is taken.
+    /// It sends to an address, and all bytes are taken.
     Send(Addr, &'static [u8]),
-    /// It receives a datagram of this sender.
+    /// It receives a datagram from this sender.
     Receive(Addr, &'static [u8]),
     /// It's connected.
     Connect(Addr),
-    /// What was told of its datagrams.
+    /// The error reported for its datagrams.
     LastError(Option<NetFault>),
-    /// A frame comes.
+    /// A frame arrives.
     Frame(&'static [u8]),
-    /// Each front of a frame comes, from none of its bytes to all but one.
+    /// Each front of a frame arrives, from no bytes to all but one.
     Fronts(&'static [u8]),
-    /// The frame that goes out.
+    /// The frame that is sent.
     Transmit(&'static [u8]),
-    /// No frame goes out.
+    /// No frame is sent.
     Nothing,
-    /// So often a datagram comes for a port that nobody has, and its sender is told.
+    /// A datagram arrives this many times for a port without a socket, and its sender gets "port unreachable".
     Unreachables(u32),
     Ticks(u32),
     Address(AddressState),
     Counted(Tallies),
-    /// How many neighbours are known or asked for.
+    /// How many neighbours are known or requested.
     Neighbours(usize),
 }
 
@@ -73,7 +73,7 @@ fn fronts_come(host: &mut EtherHost, frame: &[u8]) -> bool {
     true
 }
 
-/// How long the next frame is.
+/// The length of the next frame.
 fn transmit(host: &mut EtherHost, room: &mut [u8; 1514]) -> Option<usize> {
     if host.stack().mtu() > 1500 {
         return None;
@@ -102,7 +102,7 @@ fn ticks(host: &mut EtherHost, n: u32) -> bool {
     true
 }
 
-/// Whether the call gives its answer.
+/// Whether the call returns its expected result.
 fn answers(host: &mut EtherHost, step: &Step) -> bool {
     match step {
         Open => opens(host),
@@ -122,8 +122,8 @@ fn answers(host: &mut EtherHost, step: &Step) -> bool {
     }
 }
 
-/// Makes these calls on a host, and ends it: then all of its stack's pool is free. A call that gives another answer is
-/// told by its row, from 0 on.
+/// Makes these calls on a host, and ends it: then all of its stack's pool is free. If a call returns another result,
+/// the row of that call is reported, from 0 on.
 pub(super) fn play(rt: &impl Abort, alloc: Global, config: Config, link: Link, steps: &[Step]) {
     let mut host = EtherHost::boot(alloc, config, link).expect(rt, "memory for a host");
     for (row, step) in steps.iter().enumerate() {

@@ -1,5 +1,5 @@
-//! Broadcasts: sent both ways, heard by two sockets that share a port, and lost for want of buffers. Packets and counts
-//! were worked out by hand.
+//! Broadcasts: sent both ways, received by two sockets that share a port, and lost for lack of buffers. Packets and
+//! counts were worked out by hand.
 use super::steps::Question::{Counted, Free};
 use super::steps::Step::{Asks, Bind, Receive, Rx, Send, Set, Socket, Tx};
 use super::steps::{Step, play};
@@ -19,7 +19,7 @@ const HERE: Addr = Addr {
     port: 7,
 };
 
-/// Who sent the packets here.
+/// The sender of the packets here.
 const PEER: Addr = Addr {
     ip: NEAR,
     port: 5000,
@@ -36,7 +36,7 @@ const TO_ALL: [u8; 30] = [
     0x0a, 0x00, 0x00, 0xff, 0x13, 0x88, 0x00, 0x07, 0x00, 0x0a, 0x00, 0x00, 0x68, 0x69,
 ];
 
-/// What is sent to all.
+/// The bytes that are broadcast.
 const SENT: [u8; 300] = [0x61; 300];
 
 static BOTH_WAYS: [Step; 11] = [

@@ -1,4 +1,4 @@
-//! Packets cut short, fragments of a machine that hears itself, and fragments that nothing makes whole. The counts and
+//! Packets cut short, fragments that a host sends to itself, and fragments that are never complete. The counts and
 //! bytes were worked out by hand.
 use super::LARGE;
 use super::steps::Question::{Counted, Free};
@@ -41,7 +41,7 @@ fn counts_each_front_of_a_packet(rt: HostRuntime) {
     play(&rt, rt.alloc(), LARGE, &EACH_FRONT);
 }
 
-/// What is sent in two fragments.
+/// The bytes that are sent in two fragments.
 const SENT: [u8; 3000] = [0x61; 3000];
 
 static COME_BACK: [Step; 7] = [
@@ -83,7 +83,8 @@ fn drops_a_fragment_after_sixty_ticks(rt: HostRuntime) {
     play(&rt, rt.alloc(), LARGE, &SIXTY_TICKS);
 }
 
-/// Six mbufs: the first fragment finds none for its lookup key, the second is kept, and given back for the next send.
+/// Six mbufs: for the first fragment no mbuf is free for its lookup key, the second is kept, and freed for the next
+/// send.
 static GIVEN_BACK: [Step; 6] = [
     Socket(Ok(3)),
     Bind(3, ANY, Ok(())),

@@ -1,4 +1,4 @@
-//! What a stack answers when it's asked, and that it's as it was then.
+//! What a stack's queries return, and that they don't change it.
 use super::PLAIN;
 use super::steps::Question::{
     Name, Next, Output, Queued, Range, Readable, Unfinished, UnfinishedLen, Waits,
@@ -54,7 +54,7 @@ fn tells_the_port_that_was_chosen(rt: HostRuntime) {
     play(&rt, rt.alloc(), PLAIN, &CHOSEN);
 }
 
-/// Who sends to port 7 here.
+/// The sender of datagrams to port 7 here.
 const SENDER: Addr = Addr {
     ip: SELF.ip,
     port: 1024,
@@ -100,7 +100,7 @@ fn tells_what_waits_before_it_is_taken(rt: HostRuntime) {
     play(&rt, rt.alloc(), PLAIN, &WAITS);
 }
 
-/// 50 bytes with their header of 8 are cut after 48.
+/// 50 bytes with their header of 8 are fragmented after 48.
 static TWO_PACKETS: [Step; 12] = [
     Asks(Output(0, None)),
     Socket(Ok(3)),
@@ -121,7 +121,7 @@ fn tells_the_next_packet(rt: HostRuntime) {
     play(&rt, rt.alloc(), Config { mtu: 68, ..PLAIN }, &TWO_PACKETS);
 }
 
-/// Bytes 8 to 23 of a datagram from 10.0.0.2 to 10.0.0.1, identification 5, of which more come; its last, 48 to 52.
+/// Bytes 8 to 23 of a datagram from 10.0.0.2 to 10.0.0.1, identification 5, with more fragments; its last, 48 to 52.
 const MIDDLE: [u8; 36] = [
     0x45, 0x00, 0x00, 0x24, 0x00, 0x05, 0x20, 0x01, 0x40, 0x11, 0x46, 0xc1, 0x0a, 0x00, 0x00, 0x02,
     0x0a, 0x00, 0x00, 0x01, 0x61, 0x61, 0x61, 0x61, 0x61, 0x61, 0x61, 0x61, 0x61, 0x61, 0x61, 0x61,

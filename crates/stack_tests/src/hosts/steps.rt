@@ -1,40 +1,41 @@
-//! Calls on a stack beside the answers that they should give, and the loop that makes them.
+//! Calls on a stack with their expected results, and the loop that makes them.
 use super::{counted, transmit};
 use flat_model::{Addr, Config, Counter, Errno, Mbstat, Opt};
 use net_stack::{HeldRange, NextDatagram, SocketName, Stack, UnfinishedDatagram};
 use std::alloc::Global;
 use std::process::Abort;
 
-/// A call on a stack, and its answer.
+/// A call on a stack, and its result.
 pub(super) enum Step {
     Socket(Result<u32, Errno>),
     Bind(u32, Addr, Result<(), Errno>),
     Connect(u32, Addr, Result<(), Errno>),
     Set(u32, Opt, bool, Result<(), Errno>),
     Close(u32, Result<(), Errno>),
-    /// A descriptor, where to, and the bytes.
+    /// A descriptor, the destination, and the bytes.
     Send(u32, Option<Addr>, &'static [u8], Result<usize, Errno>),
-    /// A descriptor, how many bytes there is room for, who sent, and the bytes.
+    /// A descriptor, the size of the buffer, the sender, and the bytes.
     Receive(u32, usize, Result<(Addr, &'static [u8]), Errno>),
-    /// A packet comes from the wire.
+    /// A packet arrives from the wire.
     Rx(&'static [u8]),
-    /// Each front of a packet comes, from none of its bytes to all but one.
+    /// Each front of a packet arrives, from no bytes to all but one.
     Fronts(&'static [u8]),
-    /// How long the packet is that goes out, or that none waits.
+    /// The length of the packet that is sent, or `None` if none waits.
     Tx(Option<usize>),
-    /// The packet that goes out.
+    /// The packet that is sent.
     Packet(&'static [u8]),
     Ticks(u32),
     Asks(Question),
 }
 
-/// A question, and its answer.
+/// A query, and its result.
 pub(super) enum Question {
-    /// What is free of so many mbufs, and of 64 clusters, how often these are referred to, and the most that one is.
+    /// How many of this many mbufs and of 64 clusters are free, how often clusters are referred to, and the greatest
+    /// count of one.
     Free(u32, u32, u32, u32, u32),
     /// How many mbufs are free, and how often clusters are referred to.
     FreeMbufs(u32, u32),
-    /// These counters have counted so much, and the others nothing.
+    /// These counters have these values, and the others are 0.
     Counted(&'static [(Counter, u64)]),
     Value(Counter, u64),
     Name(u32, Result<SocketName, Errno>),
@@ -42,9 +43,9 @@ pub(super) enum Question {
     /// How many bytes wait in a socket.
     Queued(u32, Result<u32, Errno>),
     Readable(u64),
-    /// How many packets wait for the link, and how long the first is.
+    /// How many packets wait for the link, and the length of the first.
     Output(u32, Option<u32>),
-    /// How long the packet is in front of which so many wait.
+    /// The length of the packet that has this many before it.
     Waits(u32, Option<usize>),
     UnfinishedLen(u32),
     Unfinished(u32, Option<UnfinishedDatagram>),
@@ -124,13 +125,13 @@ fn has_free(stack: &Stack, mbufs: u32, refs: u32) -> bool {
     free.free_mbufs == mbufs && free.refs == refs
 }
 
-/// How long the packet is in front of which `i` others wait.
+/// The length of the packet that has `i` others before it.
 fn waits(stack: &Stack, i: u32) -> Option<usize> {
     stack.laws();
     stack.output_packet(i, &mut [0; 4352])
 }
 
-/// Whether the question is answered so.
+/// Whether the query returns this result.
 fn is_told(stack: &Stack, question: &Question) -> bool {
     match question {
         Free(free, mbufs, clusters, refs, most) => {
@@ -151,7 +152,7 @@ fn is_told(stack: &Stack, question: &Question) -> bool {
     }
 }
 
-/// Whether the call gives its answer.
+/// Whether the call returns its expected result.
 fn answers(stack: &mut Stack, step: &Step) -> bool {
     match step {
         Socket(want) => stack.socket() == *want,
@@ -170,7 +171,7 @@ fn answers(stack: &mut Stack, step: &Step) -> bool {
     }
 }
 
-/// Makes these calls. One that gives another answer is told by its row, from 0 on.
+/// Makes these calls. If a call returns another result, the row of that call is reported, from 0 on.
 pub(super) fn make(rt: &impl Abort, stack: &mut Stack, steps: &[Step]) {
     for (row, step) in steps.iter().enumerate() {
         assert!(rt; answers(stack, step), "row {row}");

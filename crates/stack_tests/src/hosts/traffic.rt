@@ -1,4 +1,4 @@
-//! Packets from the wire and to it, and a machine that hears itself. The bytes of packets were worked out apart from
+//! Packets from the wire and to it, and a host that sends to itself. The bytes of packets were worked out apart from
 //! this code.
 use super::PLAIN;
 use super::steps::Question::{FreeMbufs, Value};
@@ -37,7 +37,7 @@ const TO_ECHO: [u8; 30] = [
     0x0a, 0x00, 0x00, 0x02, 0x04, 0x00, 0x00, 0x07, 0x00, 0x0a, 0x7f, 0x67, 0x68, 0x69,
 ];
 
-/// More bytes than the small pool has room for.
+/// More bytes than the small pool can store.
 const LONG: [u8; 9216] = [0; 9216];
 
 static RECEIVES: [Step; 7] = [

@@ -1,4 +1,4 @@
-//! Two machines on one wire, which turns the packets' order round and doubles them.
+//! Two hosts on one wire, which reverses the packets' order and doubles them.
 use super::steps::Question::{Counted, Free};
 use super::steps::Step::{Asks, Bind, Receive, Socket, Ticks, Tx};
 use super::steps::{Step, booted, make};
@@ -24,7 +24,7 @@ fn pattern() -> [u8; BYTES] {
     bytes
 }
 
-/// Hands seven packets of one machine to the other, the last of them first, each twice.
+/// Passes seven packets of one host to the other, the last of them first, each twice.
 fn carry_last_first(rt: &impl Abort, from: &mut Stack, to: &mut Stack) {
     let mut packets = [[0; LONGEST]; PACKETS];
     let mut lens = [0; PACKETS];
@@ -43,13 +43,13 @@ fn carry_last_first(rt: &impl Abort, from: &mut Stack, to: &mut Stack) {
     }
 }
 
-/// Sends the bytes to port 7 of the other machine.
+/// Sends the bytes to port 7 of the other host.
 fn sends(sender: &mut Stack) -> bool {
     let to = Addr { ip: NEAR, port: 7 };
     sender.socket() == Ok(3) && sender.sendto(3, Some(to), &pattern()) == Ok(BYTES)
 }
 
-/// Whether the bytes come from port 1024 of the first machine.
+/// Whether the bytes come from port 1024 of the first host.
 fn receives(hearer: &mut Stack) -> bool {
     let mut room = [0; BYTES];
     let from = Addr {

@@ -1,4 +1,4 @@
-//! What is heard on a wire that loses a packet, repeats one and exchanges two.
+//! What is received on a wire that loses a packet, repeats one and exchanges two.
 use crate::hosts::NEAR;
 use crate::wire::{FIRST, SECOND, hear};
 use flat_model::Addr;

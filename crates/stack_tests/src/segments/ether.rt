@@ -8,21 +8,21 @@ use super::steps::{Step, play};
 use super::{FIRST, SECOND};
 use segment::{Chances, JoinFault, NO_CHANCES};
 
-/// 10.0.0.1 has its address, to all (RFC 5227).
+/// 10.0.0.1 announces its address, to the broadcast address (RFC 5227).
 const ANNOUNCED: &[u8] = &[
     0xff, 0xff, 0xff, 0xff, 0xff, 0xff, 0x02, 0x00, 0x00, 0x00, 0x00, 0x01, 0x08, 0x06, 0x00, 0x01,
     0x08, 0x00, 0x06, 0x04, 0x00, 0x01, 0x02, 0x00, 0x00, 0x00, 0x00, 0x01, 0x0a, 0x00, 0x00, 0x01,
     0x00, 0x00, 0x00, 0x00, 0x00, 0x00, 0x0a, 0x00, 0x00, 0x01,
 ];
 
-/// 10.0.0.1 asks all for 10.0.0.2 (RFC 826).
+/// The request of 10.0.0.1 for 10.0.0.2, to the broadcast address (RFC 826).
 const ASKED: &[u8] = &[
     0xff, 0xff, 0xff, 0xff, 0xff, 0xff, 0x02, 0x00, 0x00, 0x00, 0x00, 0x01, 0x08, 0x06, 0x00, 0x01,
     0x08, 0x00, 0x06, 0x04, 0x00, 0x01, 0x02, 0x00, 0x00, 0x00, 0x00, 0x01, 0x0a, 0x00, 0x00, 0x01,
     0x00, 0x00, 0x00, 0x00, 0x00, 0x00, 0x0a, 0x00, 0x00, 0x02,
 ];
 
-/// What it's answered.
+/// The reply to it.
 const ANSWERED: &[u8] = &[
     0x02, 0x00, 0x00, 0x00, 0x00, 0x01, 0x02, 0x00, 0x00, 0x00, 0x00, 0x02, 0x08, 0x06, 0x00, 0x01,
     0x08, 0x00, 0x06, 0x04, 0x00, 0x02, 0x02, 0x00, 0x00, 0x00, 0x00, 0x02, 0x0a, 0x00, 0x00, 0x02,
@@ -48,14 +48,14 @@ static FIRST_WAITS: [Step; 26] = [
     Wire(JoinEther(3, 0x0200, 3, Ok(()))),
     Open(0),
     Open(1),
-    // Each says first that it has its address.
+    // Each first announces its address.
     Wire(CollectFrames),
     Wire(Flight(3)),
     Wire(Frame(0, 0, ANNOUNCED)),
     Wire(DeliverFrames),
     Wire(Received(0, 2)),
     Wire(Neighbours(1, Some(0))),
-    // The datagram waits, and its receiver is asked for.
+    // The datagram waits, and the hardware address of its receiver is requested.
     Send(0, SECOND, b"hi"),
     Wire(CollectFrames),
     Wire(Flight(1)),
@@ -66,7 +66,7 @@ static FIRST_WAITS: [Step; 26] = [
     Wire(CollectFrames),
     Wire(Frame(0, 1, ANSWERED)),
     Wire(DeliverFrames),
-    // The third host hears the request, and not the reply.
+    // The third host receives the request, but not the reply.
     Wire(Received(2, 3)),
     Wire(CollectFrames),
     Wire(Frame(0, 0, SENT)),
@@ -108,7 +108,7 @@ static REFUSALS: [Step; 8] = [
     Wire(JoinEther(2, 0x0200, 1, Err(JoinFault::MacTaken))),
     Wire(JoinEther(2, 0x0300, 2, Err(JoinFault::BadLink))),
     Wire(JoinEther(2, 0x0200, 2, Ok(()))),
-    // The calls for bare hosts find nothing that waits.
+    // The calls for hosts without a link find nothing that waits.
     Wire(Collect),
     Wire(Deliver),
 ];

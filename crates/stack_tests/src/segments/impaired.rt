@@ -20,8 +20,8 @@ const CHANCES: Chances = Chances {
     jitter: 2,
 };
 
-/// Ten datagrams, and what `bsdudp.Wire([a, b], loss=0.3, repeat=0.3, reorder=0.5, delay=(0, 2), seed=7)` delivers of
-/// these.
+/// Ten datagrams, and those that `bsdudp.Wire([a, b], loss=0.3, repeat=0.3, reorder=0.5, delay=(0, 2), seed=7)`
+/// delivers.
 static CHOSEN: [Step; 29] = [
     Hosts(1, 2),
     Open(0),

@@ -1,42 +1,42 @@
-//! Calls on a segment beside the answers that they should give, and the loop that makes them.
+//! Calls on a segment with their expected results, and the loop that makes them.
 use super::{SOCKET, host};
 use flat_model::{Addr, Config, Opt};
 use segment::{Chances, JoinFault, Link, Mac, Segment, Tally};
 use std::alloc::Global;
 use std::process::Abort;
 
-/// A call on a segment, and its answer. A host is told by its place.
+/// A call on a segment, and its result. A host is given by its place.
 pub(super) enum Step {
-    /// The hosts 10.0.0.N from the first one up to the second one join.
+    /// The hosts 10.0.0.N join, from the first number up to the second.
     Hosts(u32, u32),
-    /// The host 10.0.0.N joins, with this MTU and so many mbufs.
+    /// The host 10.0.0.N joins, with this MTU and number of mbufs.
     Join(u32, u16, u32, Result<(), JoinFault>),
     /// How many hosts there are.
     Count(usize),
-    /// The socket of a host is opened, at port 7.
+    /// The socket of a host is opened and bound to port 7.
     Open(usize),
-    /// A host sends to port 7 of an address, and all is taken.
+    /// A host sends to port 7 of an address, and all bytes are taken.
     Send(usize, u32, &'static [u8]),
     /// How many packets wait for the link of a host.
     Waiting(usize, Option<u32>),
-    /// Whose datagram a host receives, and how many bytes it has; `None` if none waits.
+    /// The sender of the datagram that a host receives, and how many bytes it has; `None` if none waits.
     Receive(usize, Option<(u32, usize)>),
     /// The first byte of the datagram that waits longest at a host.
     First(usize, Option<u8>),
-    /// A packet comes to a host, from nobody on the segment.
+    /// A packet from outside arrives at a host.
     Rx(usize, &'static [u8]),
-    /// So many ticks at a host.
+    /// This many ticks at a host.
     Ticks(usize, u32),
-    /// What happens on the wire.
+    /// A call on the wire.
     Wire(Wire),
 }
 
-/// A call on the wire, and its answer.
+/// A call on the wire, and its result.
 pub(super) enum Wire {
     Carry,
     Collect,
     Deliver,
-    /// All is carried within so many turns.
+    /// All is carried within this many turns.
     CarryAll(u32),
     Quiet,
     Seed(u64),
@@ -44,9 +44,9 @@ pub(super) enum Wire {
     Counted(usize, Option<Tally>),
     /// How many packets a host has received.
     Received(usize, u64),
-    /// How many packets are under way.
+    /// How many packets are in flight.
     Flight(usize),
-    /// Who sent the packet at this place of the wire, and how long it is.
+    /// The sender of the packet at this place of the wire, and its length.
     UnderWay(usize, Option<(usize, usize)>),
     Lose(usize, bool),
     Repeat(usize, bool),
@@ -55,11 +55,11 @@ pub(super) enum Wire {
     JoinEther(u32, u16, u32, Result<(), JoinFault>),
     CollectFrames,
     DeliverFrames,
-    /// Who sent the frame at this place of the wire, and its bytes.
+    /// The sender of the frame at this place of the wire, and its bytes.
     Frame(usize, usize, &'static [u8]),
-    /// A frame comes to a host, from nobody on the segment.
+    /// A frame from outside arrives at a host.
     Hear(usize, &'static [u8], bool),
-    /// How many neighbours a host knows or asks for.
+    /// How many neighbours of a host are known or requested.
     Neighbours(usize, Option<usize>),
 }
 
@@ -78,7 +78,7 @@ fn all_join(alloc: Global, segment: &mut Segment, first: u32, last: u32) -> bool
     true
 }
 
-/// Opens the socket of the host at a place. `None` if something is refused.
+/// Opens the socket of the host at a place. `None` if a call fails.
 fn open(segment: &mut Segment, place: usize) -> Option<()> {
     let stack = segment.stack(place)?;
     let fd = stack.socket().ok()?;
@@ -173,7 +173,7 @@ fn neighbours(segment: &Segment, place: usize) -> Option<usize> {
     Some(segment.neighbours(place)?.len())
 }
 
-/// Whether the wire gives this answer.
+/// Whether the call on the wire returns this result.
 fn happens(alloc: Global, segment: &mut Segment, wire: &Wire) -> bool {
     match wire {
         CollectFrames => segment.collect_frames(),
@@ -206,7 +206,7 @@ fn happens(alloc: Global, segment: &mut Segment, wire: &Wire) -> bool {
     true
 }
 
-/// Whether the call gives its answer.
+/// Whether the call returns its expected result.
 fn answers(alloc: Global, segment: &mut Segment, step: &Step) -> bool {
     match step {
         Hosts(first, last) => all_join(alloc, segment, *first, *last),
@@ -230,8 +230,8 @@ fn answers(alloc: Global, segment: &mut Segment, step: &Step) -> bool {
     }
 }
 
-/// Makes these calls on a segment with room for so many packets, and ends it. A call that gives another answer is told
-/// by its row, from 0 on.
+/// Makes these calls on a segment with capacity for `room` packets in flight, and ends it. If a call returns another
+/// result, the row of that call is reported, from 0 on.
 pub(super) fn play(rt: &impl Abort, alloc: Global, room: u16, steps: &[Step]) {
     let mut segment = Segment::new(alloc, room).expect(rt, "memory");
     for (row, step) in steps.iter().enumerate() {

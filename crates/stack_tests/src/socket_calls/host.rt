@@ -63,7 +63,7 @@ impl Host {
         self.socks.connect(fd, Addr { ip, port })
     }
 
-    /// Why nothing is received, or `None` where a datagram is.
+    /// Why nothing is received, or `None` if a datagram is.
     pub(super) fn recvfrom(&mut self, fd: u32) -> Option<Errno> {
         self.socks.recvfrom(&mut self.pool, fd, &mut [0; 8]).err()
     }
@@ -91,7 +91,7 @@ impl Host {
         sent
     }
 
-    /// The packet that has waited longest, in front of the room.
+    /// The packet that has waited longest, at the front of `room`.
     pub(super) fn tx(&mut self, rt: &impl Abort, room: &mut [u8]) -> Option<usize> {
         let packet = self.net.out.pop(&mut self.pool)?;
         let len = self.pool.len(&packet) as usize;
@@ -105,7 +105,7 @@ impl Host {
         self.pool.free_mbufs()
     }
 
-    /// Ends all, and answers whether the pool is as it was.
+    /// Ends all, and returns whether the pool is as it was.
     pub(super) fn end(self) -> bool {
         let Host {
             mut pool,

@@ -1,10 +1,10 @@
-//! Calls on a host beside the answers that they should give, and the loop that makes them.
+//! Calls on a host with their expected results, and the loop that makes them.
 use super::host::Host;
 use flat_model::{Addr, Errno};
 use std::alloc::Global;
 use std::process::Abort;
 
-/// A call on a host, and its answer.
+/// A call on a host, and its result.
 pub(super) enum Step {
     Socket(Result<u32, Errno>),
     /// Sockets are opened up to this descriptor, from 3 on.
@@ -13,11 +13,11 @@ pub(super) enum Step {
     Bind(u32, u32, u16, Result<(), Errno>),
     Connect(u32, u32, u16, Result<(), Errno>),
     Close(u32, Result<(), Errno>),
-    /// A descriptor, where to, and the bytes.
+    /// A descriptor, the destination, and the bytes.
     Send(u32, Option<Addr>, &'static [u8], Result<usize, Errno>),
     /// Nothing is received, for this cause.
     Receive(u32, Errno),
-    /// The packet that has waited longest goes out.
+    /// The packet that has waited longest is sent.
     Tx(&'static [u8]),
     /// How many mbufs are free.
     Free(u32),
@@ -39,7 +39,7 @@ fn goes_out(rt: &impl Abort, host: &mut Host, packet: &[u8]) -> bool {
     host.tx(rt, &mut room) == Some(packet.len()) && room.as_slice() == packet
 }
 
-/// Whether the call gives its answer.
+/// Whether the call returns its expected result.
 fn answers(rt: &impl Abort, host: &mut Host, step: &Step) -> bool {
     match step {
         Socket(want) => host.socket() == *want,
@@ -54,8 +54,8 @@ fn answers(rt: &impl Abort, host: &mut Host, step: &Step) -> bool {
     }
 }
 
-/// Makes these calls on a host with eight mbufs and a cluster, and ends it. A call that gives another answer is told by
-/// its row, from 0 on. Answers whether the pool is as it was.
+/// Makes these calls on a host with eight mbufs and a cluster, and ends it. If a call returns another result, the row
+/// of that call is reported, from 0 on. Returns whether the pool is as it was.
 pub(super) fn play(rt: &impl Abort, alloc: Global, case: &str, steps: &[Step]) -> bool {
     let mut host = Host::boot(rt, alloc, 8, 1);
     for (row, step) in steps.iter().enumerate() {
