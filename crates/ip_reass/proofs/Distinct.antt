@@ -8,7 +8,7 @@ use Rattle.flat_model.proofs.Laws.{count_cons, whole_key}
 use Rattle.mbuf_chain.specs.Chain.{PoolView}
 use Rattle.ip_reass.specs.Fragments.{QueuedFragment}
 use Rattle.ip_reass.specs.Table.{AreDistinct, unfinished, unfinished_of}
-use Rattle.ip_reass.specs.Layouts.{KeyedQueue, HasLayout, Leaves, goes_by, laid_under, queue_of, queues, with_laid, without_key}
+use Rattle.ip_reass.specs.Layouts.{KeyedQueue, HasLayout, Leaves, has_queue_key, inserted_under, queue_of, queues, with_inserted, without_key}
 use Rattle.ip_reass.specs.declared.datagram.Datagram.{Datagram}
 use Rattle.ip_reass.specs.declared.arrival.Arrival.{Arrival}
 use Rattle.ip_reass.specs.declared.arrival.Arrival.TheVariants.{Kept, Whole, Dropped}
@@ -19,13 +19,13 @@ none_distinct p = λ k. omega arith
 
 -- the queues have the keys of the datagrams
 keys_are : (p : PoolView) (k : Key) (ds : List Datagram)
-    → count_by (goes_by k) (queues p ds) ≡ count_by (is_key k) (unfinished p ds)
+    → count_by (has_queue_key k) (queues p ds) ≡ count_by (is_key k) (unfinished p ds)
 keys_are p k [] = refl
 keys_are p k (d ∷ ds) =
     omega (
       arith,
       keys_are p k ds,
-      count_cons (goes_by k) (queue_of p d) (queues p ds),
+      count_cons (has_queue_key k) (queue_of p d) (queues p ds),
       count_cons (is_key k) (unfinished_of p d) (unfinished p ds),
     )
 
@@ -33,80 +33,85 @@ one_of : (b : Bool) → b ≡ true → cond {A = ℕ} b 1 0 ≡ 1
 one_of b e = ap {B = ℕ} (λ x. cond x 1 0) e
 
 abbrev HoldOnce : List KeyedQueue → Type 0
-HoldOnce qs = (k : Key) → count_by (goes_by k) qs ≤ 1
+HoldOnce qs = (k : Key) → count_by (has_queue_key k) qs ≤ 1
 
 module _ (k : Key) (f : QueuedFragment) where
   abbrev begins : KeyedQueue
-  begins = with_laid f (record { key = k; fragments = [] })
+  begins = with_inserted f (record { key = k; fragments = [] })
 
   -- it is laid in a queue that is there, or in a new one, where none has the key
   laid_count : (j : Key) (qs : List KeyedQueue)
-      → (count_by (goes_by j) (laid_under k f qs) ≡ count_by (goes_by j) qs)
-      ⊎ ((count_by (goes_by k) qs ≡ 0)
-      × (count_by (goes_by j) (laid_under k f qs) ≡ count_by (goes_by j) qs + cond {A = ℕ} (goes_by j begins) 1 0))
-  laid_count j [] = inr (refl, omega (arith, count_cons (goes_by j) begins []))
-  laid_count j (q ∷ qs) = elim (cases_Bool (goes_by k q)) [
+      → (count_by (has_queue_key j) (inserted_under k f qs) ≡ count_by (has_queue_key j) qs)
+      ⊎ ((count_by (has_queue_key k) qs ≡ 0)
+      × (count_by (has_queue_key j) (inserted_under k f qs)
+        ≡ count_by (has_queue_key j) qs + cond {A = ℕ} (has_queue_key j begins) 1 0))
+  laid_count j [] = inr (refl, omega (arith, count_cons (has_queue_key j) begins []))
+  laid_count j (q ∷ qs) = elim (cases_Bool (has_queue_key k q)) [
     | inl is ↦ inl (omega (
       arith,
-      ap (count_by (goes_by j))
-          (cond-true _ (with_laid f q ∷ qs) (q ∷ laid_under k f qs) is),
-      count_cons (goes_by j) (with_laid f q) qs,
-      count_cons (goes_by j) q qs,
+      ap (count_by (has_queue_key j))
+          (cond-true _ (with_inserted f q ∷ qs) (q ∷ inserted_under k f qs) is),
+      count_cons (has_queue_key j) (with_inserted f q) qs,
+      count_cons (has_queue_key j) q qs,
     ))
     | inr is ↦
-        let other = ap (count_by (goes_by j)) (cond-false _ (with_laid f q ∷ qs) (q ∷ laid_under k f qs) is) in
-        let here : cond {A = ℕ} (goes_by k q) 1 0 ≡ 0 = ap {B = ℕ} (λ b. cond b 1 0) is in
+        let other =
+          ap (count_by (has_queue_key j)) (cond-false _ (with_inserted f q ∷ qs) (q ∷ inserted_under k f qs) is) in
+        let here : cond {A = ℕ} (has_queue_key k q) 1 0 ≡ 0 = ap {B = ℕ} (λ b. cond b 1 0) is in
         elim (laid_count j qs) [
           | inl e ↦ inl (omega (
             arith,
             other,
             e,
-            count_cons (goes_by j) q (laid_under k f qs),
-            count_cons (goes_by j) q qs,
+            count_cons (has_queue_key j) q (inserted_under k f qs),
+            count_cons (has_queue_key j) q qs,
           ))
           | inr e ↦ inr (
-            omega (arith, e.0, here, count_cons (goes_by k) q qs),
-            omega (arith, other, e.1, count_cons (goes_by j) q (laid_under k f qs), count_cons (goes_by j) q qs),
+            omega (arith, e.0, here, count_cons (has_queue_key k) q qs),
+            omega (arith, other, e.1, count_cons (has_queue_key j) q (inserted_under k f qs),
+              count_cons (has_queue_key j) q qs),
           )
         ]
   ]
 
-  laid_once : (qs : List KeyedQueue) → HoldOnce qs → HoldOnce (laid_under k f qs)
+  laid_once : (qs : List KeyedQueue) → HoldOnce qs → HoldOnce (inserted_under k f qs)
   laid_once qs once j = elim (laid_count j qs) [
     | inl e ↦ omega (arith, e, once j)
-    | inr e ↦ elim (cases_Bool (goes_by j begins)) [
+    | inr e ↦ elim (cases_Bool (has_queue_key j begins)) [
       | inl is ↦
           let same : k ≡ j = (whole_key j (begun k)).0 is in
-          omega (arith, e.0, e.1, ap (λ (i : Key). count_by (goes_by i) qs) same, one_of (goes_by j begins) is)
+          omega (arith, e.0, e.1, ap (λ (i : Key). count_by (has_queue_key i) qs) same,
+            one_of (has_queue_key j begins) is)
       | inr is ↦
-          let here : cond {A = ℕ} (goes_by j begins) 1 0 ≡ 0 = ap {B = ℕ} (λ b. cond b 1 0) is in
+          let here : cond {A = ℕ} (has_queue_key j begins) 1 0 ≡ 0 = ap {B = ℕ} (λ b. cond b 1 0) is in
           omega (arith, e.1, here, once j)
     ]
   ]
 
-  without_fewer : (j : Key) (qs : List KeyedQueue) → count_by (goes_by j) (without_key k qs) ≤ count_by (goes_by j) qs
+  without_fewer : (j : Key) (qs : List KeyedQueue)
+      → count_by (has_queue_key j) (without_key k qs) ≤ count_by (has_queue_key j) qs
   without_fewer j [] = omega arith
-  without_fewer j (q ∷ qs) = elim (cases_Bool (goes_by k q)) [
+  without_fewer j (q ∷ qs) = elim (cases_Bool (has_queue_key k q)) [
     | inl is ↦ omega (
       arith,
-      ap (count_by (goes_by j)) (cond-true _ qs (q ∷ without_key k qs) is),
-      count_cons (goes_by j) q qs,
+      ap (count_by (has_queue_key j)) (cond-true _ qs (q ∷ without_key k qs) is),
+      count_cons (has_queue_key j) q qs,
     )
     | inr is ↦ omega (
       arith,
-      ap (count_by (goes_by j)) (cond-false _ qs (q ∷ without_key k qs) is),
+      ap (count_by (has_queue_key j)) (cond-false _ qs (q ∷ without_key k qs) is),
       without_fewer j qs,
-      count_cons (goes_by j) q (without_key k qs),
-      count_cons (goes_by j) q qs,
+      count_cons (has_queue_key j) q (without_key k qs),
+      count_cons (has_queue_key j) q qs,
     )
   ]
 
   left_once : (qs now : List KeyedQueue) (q : PoolView) (result : Arrival) → Leaves k f qs q result now → HoldOnce qs
       → HoldOnce now
-  left_once qs now q Kept left once j = omega (arith, ap (count_by (goes_by j)) left, laid_once qs once j)
+  left_once qs now q Kept left once j = omega (arith, ap (count_by (has_queue_key j)) left, laid_once qs once j)
   left_once qs now q (Whole c h) left once j =
-      omega (arith, ap (count_by (goes_by j)) left.1, without_fewer j qs, once j)
-  left_once qs now q (Dropped why) left once j = omega (arith, ap (count_by (goes_by j)) left, once j)
+      omega (arith, ap (count_by (has_queue_key j)) left.1, without_fewer j qs, once j)
+  left_once qs now q (Dropped why) left once j = omega (arith, ap (count_by (has_queue_key j)) left, once j)
 
 -- **no key is held twice after an arrival**
 pub distinct_after : (p q : PoolView) (ds es : List Datagram) (k : Key) (f : QueuedFragment) (result : Arrival)
@@ -116,6 +121,6 @@ distinct_after p q ds es k f result l distinct =
   where
     waited : HoldOnce l.waited
     waited = elim l.before [
-      | inl e ↦ λ j. omega (arith, ap (count_by (goes_by j)) e, keys_are p j ds, distinct j)
-      | inr e ↦ λ j. omega (arith, ap (count_by (goes_by j)) e)
+      | inl e ↦ λ j. omega (arith, ap (count_by (has_queue_key j)) e, keys_are p j ds, distinct j)
+      | inr e ↦ λ j. omega (arith, ap (count_by (has_queue_key j)) e)
     ]

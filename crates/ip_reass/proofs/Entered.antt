@@ -12,7 +12,7 @@ use Rattle.ledger.specs.Accounts.{entries_weight}
 use Rattle.ip_reass.specs.Fragments.{QueuedFragment, fragment_of, fragments, queued, joined_fragments, map_of}
 use Rattle.ip_reass.specs.Table.{held, held_all, IsUnfinished, IsTable, unfinished, unfinished_of}
 use Rattle.ip_reass.specs.Layouts.{queue_of, queues}
-use Rattle.ip_reass.specs.Inside.Steps.{datagram_at, no_datagram, IsLaid, LaysIn, TakesOut}
+use Rattle.ip_reass.specs.Inside.Steps.{datagram_at, no_datagram, IsInserted, InsertsIn, TakesOut}
 use Rattle.ip_reass.specs.declared.datagram.Datagram.{Datagram}
 use Rattle.ip_reass.proofs.Steps.{fragments_are}
 use Rattle.ip_reass.proofs.Places.{held_at, each_at, each_put, others_each, put_moves, put_shows, put_queues, gone_moves, gone_shows, gone_queues}
@@ -25,8 +25,8 @@ set_same (x ∷ xs) (suc i) y d l e = ap (λ zs. x ∷ zs) (set_same xs i y d (o
 
 in_place : (p q : PoolView) (ds : List Datagram) (i c : ℕ) (f : QueuedFragment) (answer : Bool) (t : TrainView) (n : ℕ)
     → IsTable p ds → i < length ds → IsOwned p (c ∷ held_all p ds)
-    → IsLaid p (datagram_at ds i) c f answer q (record (datagram_at ds i) { fragments = t; bytes = n })
-    → LaysIn p ds i c f answer q (set ds i (record (datagram_at ds i) { fragments = t; bytes = n }))
+    → IsInserted p (datagram_at ds i) c f answer q (record (datagram_at ds i) { fragments = t; bytes = n })
+    → InsertsIn p ds i c f answer q (set ds i (record (datagram_at ds i) { fragments = t; bytes = n }))
 in_place p q ds i c f answer t n is l owns b =
     let x : Datagram = no_datagram in
     let d : Datagram = datagram_at ds i in
@@ -106,15 +106,15 @@ in_place p q ds i c f answer t n is l owns b =
 -- **the same, as the code reads the datagram**
 pub laid_in_table : (p q : PoolView) (ds : List Datagram) (i c : ℕ) (x : Datagram) (f : QueuedFragment) (answer : Bool)
     (e : Datagram) → IsTable p ds → i < length ds → IsOwned p (c ∷ held_all p ds)
-    → IsLaid p (get_or ds i x) c f answer q e → LaysIn p ds i c f answer q (set ds i e)
+    → IsInserted p (get_or ds i x) c f answer q e → InsertsIn p ds i c f answer q (set ds i e)
 laid_in_table p q ds i c x f answer e is l owns b =
     let here : get_or ds i x ≡ get_or ds i no_datagram = get_or_default ds i x no_datagram l in
-    let laid_here : IsLaid p (datagram_at ds i) c f answer q e =
-    subst (λ (d : Datagram). IsLaid p d c f answer q e) here b in
+    let laid_here : IsInserted p (datagram_at ds i) c f answer q e =
+    subst (λ (d : Datagram). IsInserted p d c f answer q e) here b in
     let whole : e ≡ record (datagram_at ds i) { fragments = e.fragments; bytes = e.bytes } = laid_here.same in
-    subst (λ (d : Datagram). LaysIn p ds i c f answer q (set ds i d)) (sym whole)
+    subst (λ (d : Datagram). InsertsIn p ds i c f answer q (set ds i d)) (sym whole)
     (in_place p q ds i c f answer e.fragments e.bytes is l owns
-    (subst (IsLaid p (datagram_at ds i) c f answer q) whole laid_here))
+    (subst (IsInserted p (datagram_at ds i) c f answer q) whole laid_here))
 
 pub datagram_put : (ds : List Datagram) (i : ℕ) (e : Datagram) → i < length ds → datagram_at (set ds i e) i ≡ e
 datagram_put ds i e l = get_or-set_same ds i e no_datagram l

@@ -7,7 +7,7 @@ use Rattle.flat_model.proofs.Laws.{count_cons}
 use Rattle.mbuf_chain.specs.Chain.{PoolView}
 use Rattle.ip_reass.specs.Fragments.{QueuedFragment}
 use Rattle.ip_reass.specs.Inside.Index.{bucket_of, buckets_of}
-use Rattle.ip_reass.specs.Layouts.{KeyedQueue, LeavesAt, keyed_queue_at, queue_of, queues, with_laid}
+use Rattle.ip_reass.specs.Layouts.{KeyedQueue, LeavesAt, keyed_queue_at, queue_of, queues, with_inserted}
 use Rattle.ip_reass.specs.Table.{aged, has_key, unfinished, unfinished_of}
 use Rattle.ip_reass.specs.declared.arrival.Arrival.{Arrival}
 use Rattle.ip_reass.specs.declared.arrival.Arrival.TheVariants.{Kept, Whole, Dropped}
@@ -84,7 +84,7 @@ length_set zero x (y ∷ qs) = refl
 length_set (suc j) x (y ∷ qs) = ap suc (length_set j x qs)
 
 same_set : (n i : ℕ) (f : QueuedFragment) (qs : List KeyedQueue) → i < length qs
-    → by_queues n (set qs i (with_laid f (keyed_queue_at qs i))) ≡ by_queues n qs
+    → by_queues n (set qs i (with_inserted f (keyed_queue_at qs i))) ≡ by_queues n qs
 same_set n i f [] lt = absurd (omega arith)
 same_set n zero f (q ∷ qs) lt = refl
 same_set n (suc i) f (q ∷ qs) lt = ap (λ bs. bucket_of n q.key ∷ bs) (same_set n i f qs (omega arith))
@@ -113,7 +113,7 @@ followed n i f p q ds es bs now result same lt left fewer equal = go result left
     go : (r : Arrival) → LeavesAt i f (queues p ds) q r (queues q es) → now ≡ buckets_of n es
     go Kept l =
         stays (ap (λ (xs : List KeyedQueue). length xs) l
-        ∙ length_set i (with_laid f (keyed_queue_at (queues p ds) i)) (queues p ds)) (ap (by_queues n) l
+        ∙ length_set i (with_inserted f (keyed_queue_at (queues p ds) i)) (queues p ds)) (ap (by_queues n) l
         ∙ same_set n i f (queues p ds) inside)
     go (Whole c h) l =
         let size : length es < length bs =

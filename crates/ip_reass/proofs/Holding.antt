@@ -4,8 +4,8 @@ use Rattle.std.specs.Prelude.{nat_le, nat_lt}
 use Rattle.std.specs.List.{AllByRecursion}
 use Rattle.flat_model.specs.Machine.State.{Key}
 use Rattle.mbuf_chain.specs.Chain.{PoolView}
-use Rattle.ip_reass.specs.Fragments.{QueuedFragment, cut, cut_to, laid_into, laid_after, queued_end}
-use Rattle.ip_reass.specs.Layouts.{KeyedQueue, HasLayout, Leaves, goes_by, laid_under, queues, with_laid, without_key}
+use Rattle.ip_reass.specs.Fragments.{QueuedFragment, cut, cut_to, inserted_into, inserted_after, queued_end}
+use Rattle.ip_reass.specs.Layouts.{KeyedQueue, HasLayout, Leaves, has_queue_key, inserted_under, queues, with_inserted, without_key}
 use Rattle.ip_reass.specs.Table.{AllUnfinished, HaveFragments, IsTable, aged}
 use Rattle.ip_reass.specs.declared.arrival.Arrival.{Arrival}
 use Rattle.ip_reass.specs.declared.arrival.Arrival.TheVariants.{Kept, Whole, Dropped}
@@ -30,10 +30,10 @@ either_some : (b : Bool) (x y : QueuedFragment) (xs ys : List QueuedFragment) �
 either_some true x y xs ys = omega arith
 either_some false x y xs ys = omega arith
 
-laid_some : (f : QueuedFragment) (qs : List QueuedFragment) → 0 < length (laid_into f qs)
+laid_some : (f : QueuedFragment) (qs : List QueuedFragment) → 0 < length (inserted_into f qs)
 laid_some f [] = omega arith
 laid_some f (q ∷ qs) =
-    either_some (nat_le q.offset f.offset) q (cut (0 - f.offset) f) (laid_after (queued_end q) f qs)
+    either_some (nat_le q.offset f.offset) q (cut (0 - f.offset) f) (inserted_after (queued_end q) f qs)
     (cut_to (queued_end f) (q ∷ qs))
 
 either_hold : (b : Bool) (qs rs : List KeyedQueue) → HoldSome qs → HoldSome rs → HoldSome (cond b qs rs)
@@ -41,15 +41,16 @@ either_hold true qs rs g h = g
 either_hold false qs rs g h = h
 
 module _ (k : Key) (f : QueuedFragment) where
-  laid_hold : (qs : List KeyedQueue) → HoldSome qs → HoldSome (laid_under k f qs)
+  laid_hold : (qs : List KeyedQueue) → HoldSome qs → HoldSome (inserted_under k f qs)
   laid_hold [] h = (laid_some f [], tt)
   laid_hold (q ∷ qs) h =
-      either_hold (goes_by k q) (with_laid f q ∷ qs) (q ∷ laid_under k f qs) (laid_some f q.fragments, h.1)
+      either_hold (has_queue_key k q) (with_inserted f q ∷ qs) (q ∷ inserted_under k f qs)
+        (laid_some f q.fragments, h.1)
       (h.0, laid_hold qs h.1)
 
   without_hold : (qs : List KeyedQueue) → HoldSome qs → HoldSome (without_key k qs)
   without_hold [] h = tt
-  without_hold (q ∷ qs) h = either_hold (goes_by k q) qs (q ∷ without_key k qs) h.1 (h.0, without_hold qs h.1)
+  without_hold (q ∷ qs) h = either_hold (has_queue_key k q) qs (q ∷ without_key k qs) h.1 (h.0, without_hold qs h.1)
 
   left_hold : (qs now : List KeyedQueue) (q : PoolView) (result : Arrival) → Leaves k f qs q result now → HoldSome qs
       → HoldSome now

@@ -10,7 +10,7 @@ use Rattle.mbuf_chain.specs.Train.{TrainView, numbers, queued_packets, IsHeld}
 use Rattle.mbuf_chain.proofs.Laws.Owners.{moves_trans, moves_beside, moves_without, live_same, live_one, live_from}
 use Rattle.mbuf_chain.proofs.Laws.Trains.{Beside, beside_without}
 use Rattle.chain_ops.specs.Trims.{without_first}
-use Rattle.ip_reass.specs.Fragments.{QueuedFragment, queued_of, queued, queued_end, cut, cut_to, laid_into, laid_after, fragment_of, fragment_in, fragments, map_of, Apart, AllEnd, IsQueue, end_of_fragment}
+use Rattle.ip_reass.specs.Fragments.{QueuedFragment, queued_of, queued, queued_end, cut, cut_to, inserted_into, inserted_after, fragment_of, fragment_in, fragments, map_of, Apart, AllEnd, IsQueue, end_of_fragment}
 use Rattle.ip_reass.specs.Inside.Walks.{arrived, reach, AllUpto, AllAbove, trimmed, left_from, fragment_at}
 use Rattle.ip_reass.proofs.Walks.{length-fragments, reach_last}
 use Rattle.ip_reass.proofs.Whole.{last_here, reach_laid}
@@ -109,7 +109,7 @@ map-settled i n e q qs =
 pub laid_list : (low i : ℕ) (q : QueuedFragment) (qs : List QueuedFragment)
     → AllUpto q.offset (take i (map fragment_of qs)) → AllAbove q.offset (drop i (map fragment_of qs))
     → take i qs ++ cut (reach low (take i (map fragment_of qs)) - q.offset) q ∷ cut_to (queued_end q) (drop i qs)
-    ≡ laid_after low q qs
+    ≡ inserted_after low q qs
 laid_list low zero q [] u a = refl
 laid_list low (suc i) q [] u a = refl
 laid_list low zero q (r ∷ rs) u a = sym (cond-false _ _ _ (lt-leb r.offset q.offset a.0))
@@ -143,7 +143,7 @@ made_is p s t w i n c q done =
 pub record Laid (p : PoolView) (t : TrainView) (q : QueuedFragment) (s : PoolView) (w : TrainView) : Type 0 where
   pub covered : is_covered (map_of (fragments p t)) (fragment_of q) ≡ false
   pub map_is : map_of (fragments s w) ≡ overlay (map_of (fragments p t)) (fragment_of q)
-  pub queue_is : queued s w ≡ laid_into q (queued p t)
+  pub queue_is : queued s w ≡ inserted_into q (queued p t)
   pub apart : Apart 0 (fragments s w)
   pub small : AllEnd 65515 (fragments s w)
 

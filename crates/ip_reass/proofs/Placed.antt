@@ -15,7 +15,7 @@ use Rattle.ledger.specs.Accounts.{IsAccounted, weight_at}
 use Rattle.ledger.specs.Reserve.{Reserves, are_free}
 use Rattle.ip_reass.specs.Arrivals.{machine_with}
 use Rattle.ip_reass.specs.Fragments.{fragment_of}
-use Rattle.ip_reass.specs.Inside.Place.{AsksForMbuf, IsFirst, HasBegun, HasPlace}
+use Rattle.ip_reass.specs.Inside.Place.{RequestsMbuf, IsFirst, HasBegun, HasPlace}
 use Rattle.ip_reass.specs.Inside.Steps.{datagram_at}
 use Rattle.ip_reass.specs.Inside.Walks.{arrived}
 use Rattle.ip_reass.specs.Layouts.{HasCause, HasLayout, LeavesAt, WaitOrNone, cause_among, queues, under}
@@ -34,7 +34,7 @@ pub asks : (p q : PoolView) (r s : TableView) (c d : Counters) (answer : Bool) �
     → Reserves x held (need_mbufs 1) answer (record x { unfinished = unfinished q s.datagrams; counters = d }) q)
     → Moves p (held_all p r.datagrams) q (held_all q s.datagrams) → IsReady q s → answer ≡ are_free q 1 0
     → (are_free p 1 0 ≡ true → (q ≡ p) × (s ≡ r) × (d ≡ c)) → (are_free p 1 0 ≡ false → length s.datagrams ≡ 0)
-    → AsksForMbuf p r c answer q s d
+    → RequestsMbuf p r c answer q s d
 asks p q r s c d answer reserves moves ready is kept none = record {
   has_buffers = λ rest held acc. (reserves (machine_with p r.datagrams c rest) held refl refl acc).has_buffers;
   waits = wait_reserved p q r s c d (are_free p 1 0) kept none;
@@ -157,7 +157,7 @@ pub lacks_in : (p : PoolView) (r : TableView) (c : Counters) (k k' : Key) (n : �
 lacks_in p r c k k' n owns q t s d o key is place gone =
     let here : HasPlace p r c k None q s d =
     subst (λ j. HasPlace p r c j None q s d) key (subst (λ m. HasPlace p r c k' m q s d) is place) in
-    let asked : AsksForMbuf p r c false q s d = here.1 in
+    let asked : RequestsMbuf p r c false q s d = here.1 in
     let fr : Freed p r.datagrams n q t s.datagrams =
     freed p q t r.datagrams s.datagrams n (stays p q r.datagrams s.datagrams n owns asked.moves) asked.ready.table
     gone in

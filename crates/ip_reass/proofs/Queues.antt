@@ -13,12 +13,12 @@ use Rattle.mbuf_chain.specs.Chain.{Entry, ChainView, PoolView, chain_of, string}
 use Rattle.ip_out.specs.declared.head.IpHead.{IpHead}
 use Rattle.ledger.specs.Reserve.{are_free}
 use Rattle.ip_reass.specs.Arrivals.{carried_entries, flat_head, key_in}
-use Rattle.ip_reass.specs.Fragments.{QueuedFragment, laid_into, joined_fragments, fragment_of, fragments, map_of}
+use Rattle.ip_reass.specs.Fragments.{QueuedFragment, inserted_into, joined_fragments, fragment_of, fragments, map_of}
 use Rattle.ip_reass.specs.Inside.Place.{IsFirst}
 use Rattle.ip_reass.specs.Inside.Walks.{arrived}
 use Rattle.ip_reass.specs.Table.{TableView, has_key}
-use Rattle.ip_reass.specs.Inside.Steps.{datagram_at, no_datagram, LaysIn}
-use Rattle.ip_reass.specs.Layouts.{KeyedQueue, queue_of, queues, goes_by, with_laid, laid_under, under, without_key, Leaves, WaitOrNone, HasLayout, HasCause, cause_among, cause_of, fragment_carried, no_queue, keyed_queue_at, LeavesAt}
+use Rattle.ip_reass.specs.Inside.Steps.{datagram_at, no_datagram, InsertsIn}
+use Rattle.ip_reass.specs.Layouts.{KeyedQueue, queue_of, queues, has_queue_key, with_inserted, inserted_under, under, without_key, Leaves, WaitOrNone, HasLayout, HasCause, cause_among, cause_of, fragment_carried, no_queue, keyed_queue_at, LeavesAt}
 use Rattle.ip_reass.specs.declared.datagram.Datagram.{Datagram}
 use Rattle.ip_reass.specs.declared.arrival.Arrival.{Arrival}
 use Rattle.ip_reass.specs.declared.arrival.Arrival.TheVariants.{Kept, Whole, Dropped}
@@ -30,7 +30,7 @@ use Rattle.ip_reass.proofs.Arriving.{slice_at}
 
 -- ---- by key and by place
 none_in : (p : PoolView) (k : Key) (ds : List Datagram) → find (has_key k) ds ≡ None
-    → find (goes_by k) (queues p ds) ≡ None
+    → find (has_queue_key k) (queues p ds) ≡ None
 none_in p k [] e = refl
 none_in p k (d ∷ ds) e = elim (cases_Bool (has_key k d)) [
   | inl is ↦ absurd (none-some d (sym e ∙ cond-true _ _ _ is))
@@ -38,54 +38,55 @@ none_in p k (d ∷ ds) e = elim (cases_Bool (has_key k d)) [
 ]
 
 module _ (k : Key) (f : QueuedFragment) where
-  laid_none : (qs : List KeyedQueue) → find (goes_by k) qs ≡ None
-      → laid_under k f qs ≡ qs ++ with_laid f (record { key = k; fragments = [] }) ∷ []
+  laid_none : (qs : List KeyedQueue) → find (has_queue_key k) qs ≡ None
+      → inserted_under k f qs ≡ qs ++ with_inserted f (record { key = k; fragments = [] }) ∷ []
   laid_none [] e = refl
-  laid_none (q ∷ qs) e = elim (cases_Bool (goes_by k q)) [
+  laid_none (q ∷ qs) e = elim (cases_Bool (has_queue_key k q)) [
     | inl is ↦ absurd (none-some q (sym e ∙ cond-true _ _ _ is))
     | inr is ↦ cond-false _ _ _ is
         ∙ ap (λ (rs : List KeyedQueue). q ∷ rs) (laid_none qs (sym (cond-false _ _ _ is) ∙ e))
   ]
 
-  under_none : (qs : List KeyedQueue) → find (goes_by k) qs ≡ None → under k qs ≡ []
+  under_none : (qs : List KeyedQueue) → find (has_queue_key k) qs ≡ None → under k qs ≡ []
   under_none [] e = refl
-  under_none (q ∷ qs) e = elim (cases_Bool (goes_by k q)) [
+  under_none (q ∷ qs) e = elim (cases_Bool (has_queue_key k q)) [
     | inl is ↦ absurd (none-some q (sym e ∙ cond-true _ _ _ is))
     | inr is ↦ cond-false _ _ _ is ∙ under_none qs (sym (cond-false _ _ _ is) ∙ e)
   ]
 
-  without_none : (qs : List KeyedQueue) → find (goes_by k) qs ≡ None → without_key k qs ≡ qs
+  without_none : (qs : List KeyedQueue) → find (has_queue_key k) qs ≡ None → without_key k qs ≡ qs
   without_none [] e = refl
-  without_none (q ∷ qs) e = elim (cases_Bool (goes_by k q)) [
+  without_none (q ∷ qs) e = elim (cases_Bool (has_queue_key k q)) [
     | inl is ↦ absurd (none-some q (sym e ∙ cond-true _ _ _ is))
     | inr is ↦ cond-false _ _ _ is
         ∙ ap (λ (rs : List KeyedQueue). q ∷ rs) (without_none qs (sym (cond-false _ _ _ is) ∙ e))
   ]
 
-  laid_here : (qs : List KeyedQueue) (i : ℕ) → i < length qs → find (goes_by k) (take i qs) ≡ None
-      → goes_by k (keyed_queue_at qs i) ≡ true → laid_under k f qs ≡ set qs i (with_laid f (keyed_queue_at qs i))
+  laid_here : (qs : List KeyedQueue) (i : ℕ) → i < length qs → find (has_queue_key k) (take i qs) ≡ None
+      → has_queue_key k (keyed_queue_at qs i) ≡ true
+      → inserted_under k f qs ≡ set qs i (with_inserted f (keyed_queue_at qs i))
   laid_here [] i l n e = absurd (omega arith)
   laid_here (q ∷ qs) zero l n e = cond-true _ _ _ e
-  laid_here (q ∷ qs) (suc i) l n e = elim (cases_Bool (goes_by k q)) [
+  laid_here (q ∷ qs) (suc i) l n e = elim (cases_Bool (has_queue_key k q)) [
     | inl is ↦ absurd (none-some q (sym n ∙ cond-true _ _ _ is))
     | inr is ↦ cond-false _ _ _ is
         ∙ ap (λ (rs : List KeyedQueue). q ∷ rs) (laid_here qs i (omega arith) (sym (cond-false _ _ _ is) ∙ n) e)
   ]
 
-  under_here : (qs : List KeyedQueue) (i : ℕ) → i < length qs → find (goes_by k) (take i qs) ≡ None
-      → goes_by k (keyed_queue_at qs i) ≡ true → under k qs ≡ (keyed_queue_at qs i).fragments
+  under_here : (qs : List KeyedQueue) (i : ℕ) → i < length qs → find (has_queue_key k) (take i qs) ≡ None
+      → has_queue_key k (keyed_queue_at qs i) ≡ true → under k qs ≡ (keyed_queue_at qs i).fragments
   under_here [] i l n e = absurd (omega arith)
   under_here (q ∷ qs) zero l n e = cond-true _ _ _ e
-  under_here (q ∷ qs) (suc i) l n e = elim (cases_Bool (goes_by k q)) [
+  under_here (q ∷ qs) (suc i) l n e = elim (cases_Bool (has_queue_key k q)) [
     | inl is ↦ absurd (none-some q (sym n ∙ cond-true _ _ _ is))
     | inr is ↦ cond-false _ _ _ is ∙ under_here qs i (omega arith) (sym (cond-false _ _ _ is) ∙ n) e
   ]
 
-  without_here : (qs : List KeyedQueue) (i : ℕ) → i < length qs → find (goes_by k) (take i qs) ≡ None
-      → goes_by k (keyed_queue_at qs i) ≡ true → without_key k qs ≡ remove qs i
+  without_here : (qs : List KeyedQueue) (i : ℕ) → i < length qs → find (has_queue_key k) (take i qs) ≡ None
+      → has_queue_key k (keyed_queue_at qs i) ≡ true → without_key k qs ≡ remove qs i
   without_here [] i l n e = absurd (omega arith)
   without_here (q ∷ qs) zero l n e = cond-true _ _ _ e
-  without_here (q ∷ qs) (suc i) l n e = elim (cases_Bool (goes_by k q)) [
+  without_here (q ∷ qs) (suc i) l n e = elim (cases_Bool (has_queue_key k q)) [
     | inl is ↦ absurd (none-some q (sym n ∙ cond-true _ _ _ is))
     | inr is ↦ cond-false _ _ _ is
         ∙ ap (λ (rs : List KeyedQueue). q ∷ rs) (without_here qs i (omega arith) (sym (cond-false _ _ _ is) ∙ n) e)
@@ -93,12 +94,12 @@ module _ (k : Key) (f : QueuedFragment) where
 
 -- what is left by place is what is left by key, where the first queue with the key stands there
 leaves_here : (k : Key) (f : QueuedFragment) (qs : List KeyedQueue) (i : ℕ) (q : PoolView) (result : Arrival)
-    (now : List KeyedQueue) → i < length qs → find (goes_by k) (take i qs) ≡ None
-    → goes_by k (keyed_queue_at qs i) ≡ true
+    (now : List KeyedQueue) → i < length qs → find (has_queue_key k) (take i qs) ≡ None
+    → has_queue_key k (keyed_queue_at qs i) ≡ true
     → LeavesAt i f qs q result now → Leaves k f qs q result now
 leaves_here k f qs i q Kept now l n e h = h ∙ sym (laid_here k f qs i l n e)
 leaves_here k f qs i q (Whole c x) now l n e h = (
-  h.0 ∙ ap (λ (fs : List QueuedFragment). joined_fragments (laid_into f fs)) (sym (under_here k f qs i l n e)),
+  h.0 ∙ ap (λ (fs : List QueuedFragment). joined_fragments (inserted_into f fs)) (sym (under_here k f qs i l n e)),
   h.1
       ∙ sym (without_here k f qs i l n e),
 )
@@ -106,8 +107,8 @@ leaves_here k f qs i q (Dropped why) now l n e h = h.0
 
 -- and so is the cause
 cause_here : (k : Key) (f : QueuedFragment) (qs : List KeyedQueue) (i : ℕ) (q : PoolView) (result : Arrival)
-    (now : List KeyedQueue) → i < length qs → find (goes_by k) (take i qs) ≡ None
-    → goes_by k (keyed_queue_at qs i) ≡ true
+    (now : List KeyedQueue) → i < length qs → find (has_queue_key k) (take i qs) ≡ None
+    → has_queue_key k (keyed_queue_at qs i) ≡ true
     → LeavesAt i f qs q result now
     → HasCause FragmentDropped result → HasCause (cause_among (under k now) f) result
 cause_here k f qs i q Kept now l n e h is = tt
@@ -135,16 +136,16 @@ none_covers f l =
     covered_no (fragment_of f) [] [] (record { before = tt; after = tt; upto = tt; above = tt }) (omega arith)
 
 leaves_new : (k : Key) (f : QueuedFragment) (qs : List KeyedQueue) (q : PoolView) (result : Arrival)
-    (now : List KeyedQueue) → 0 < length (fragment_of f).bytes → find (goes_by k) qs ≡ None
+    (now : List KeyedQueue) → 0 < length (fragment_of f).bytes → find (has_queue_key k) qs ≡ None
     → LeavesAt (length qs) f (qs ++ record { key = k; fragments = [] } ∷ []) q result now → Leaves k f qs q result now
 leaves_new k f qs q Kept now l n h =
     h ∙ ((λ j. set (qs ++ record { key = k; fragments = [] } ∷ []) (length qs)
-    (with_laid f (at_end qs (record { key = k; fragments = [] }) no_queue j)))
-    ∙ (set_end qs (record { key = k; fragments = [] }) (with_laid f (record { key = k; fragments = [] }))
+    (with_inserted f (at_end qs (record { key = k; fragments = [] }) no_queue j)))
+    ∙ (set_end qs (record { key = k; fragments = [] }) (with_inserted f (record { key = k; fragments = [] }))
     ∙ sym (laid_none k f qs n)))
 leaves_new k f qs q (Whole c x) now l n h = (
-  h.0 ∙ ((λ j. joined_fragments (laid_into f (at_end qs (record { key = k; fragments = [] }) no_queue j).fragments))
-      ∙ ap (λ (fs : List QueuedFragment). joined_fragments (laid_into f fs)) (sym (under_none k f qs n))),
+  h.0 ∙ ((λ j. joined_fragments (inserted_into f (at_end qs (record { key = k; fragments = [] }) no_queue j).fragments))
+      ∙ ap (λ (fs : List QueuedFragment). joined_fragments (inserted_into f fs)) (sym (under_none k f qs n))),
   h.1 ∙ (gone_end qs (record { key = k; fragments = [] }) ∙ sym (without_none k f qs n)),
 )
 leaves_new k f qs q (Dropped why) now l n h =
@@ -211,10 +212,10 @@ none_reserved p q r s c d answer kept none is refused = elim (cases_Bool (are_fr
   | inr lacks ↦ no_queues q s.datagrams (none lacks)
 ]
 
-none_then : (k : Key) (qs rs : List KeyedQueue) → WaitOrNone qs rs → find (goes_by k) qs ≡ None
-    → find (goes_by k) rs ≡ None
-none_then k qs rs (inl a) n = ap (find (goes_by k)) a ∙ n
-none_then k qs rs (inr a) n = ap (find (goes_by k)) a
+none_then : (k : Key) (qs rs : List KeyedQueue) → WaitOrNone qs rs → find (has_queue_key k) qs ≡ None
+    → find (has_queue_key k) rs ≡ None
+none_then k qs rs (inl a) n = ap (find (has_queue_key k)) a ∙ n
+none_then k qs rs (inr a) n = ap (find (has_queue_key k)) a
 
 -- what is left where the queue is a new one
 new_place : (p r t : PoolView) (hs : List Datagram) (qs now : List KeyedQueue) (k : Key) (n i offset : ℕ) (more : Bool)
@@ -259,15 +260,15 @@ begins_cause cause p q r t es hs ts k n i offset more result some chain rows i_i
 -- the queue of the first datagram with the key stands at the same place
 record Found (p : PoolView) (ds : List Datagram) (k : Key) (i : ℕ) : Type 0 where
   within : i < length (queues p ds)
-  front : find (goes_by k) (take i (queues p ds)) ≡ None
-  here : goes_by k (keyed_queue_at (queues p ds) i) ≡ true
+  front : find (has_queue_key k) (take i (queues p ds)) ≡ None
+  here : has_queue_key k (keyed_queue_at (queues p ds) i) ≡ true
 
 found : (p : PoolView) (ds : List Datagram) (k : Key) (i : ℕ) → IsFirst k ds i → Found p ds k i
 found p ds k i first = record {
   within = omega (arith, first.within, length-map ds (queue_of p));
-  front = ap (find (goes_by k)) (take-map (queue_of p) i ds) ∙ none_in p k (take i ds) first.front;
+  front = ap (find (has_queue_key k)) (take-map (queue_of p) i ds) ∙ none_in p k (take i ds) first.front;
   here =
-      ap (goes_by k) (get_or-map (queue_of p) ds i no_datagram no_queue first.within)
+      ap (has_queue_key k) (get_or-map (queue_of p) ds i no_datagram no_queue first.within)
       ∙ found_passes (has_key k) ds (datagram_at ds i) (first.here ∙ slice_at ds i first.within);
 }
 
@@ -316,14 +317,14 @@ arrived_cause p r n n' h held result good entries x =
 
 -- **a fragment of which nothing is left**
 pub covered_layout : (p q : PoolView) (ds slice es back : List Datagram) (i c n : ℕ) (f : QueuedFragment)
-    (answer : Bool) → i < length ds → n ≡ length ds → slice ≡ ds → answer ≡ false → LaysIn p slice i c f answer q es
+    (answer : Bool) → i < length ds → n ≡ length ds → slice ≡ ds → answer ≡ false → InsertsIn p slice i c f answer q es
     → back ≡ take n (es ++ drop (length es) ds)
     → (queues q back ≡ queues p ds)
     × (is_covered (map_of (map fragment_of (keyed_queue_at (queues p ds) i).fragments)) (fragment_of f) ≡ true)
 covered_layout p q ds slice es back i c n f answer l n_is was refused la back_is =
-    let here : LaysIn p ds i c f false q es =
-    subst (λ (zs : List Datagram). LaysIn p zs i c f false q es) was
-    (subst (λ (b : Bool). LaysIn p slice i c f b q es) refused la) in
+    let here : InsertsIn p ds i c f false q es =
+    subst (λ (zs : List Datagram). InsertsIn p zs i c f false q es) was
+    (subst (λ (b : Bool). InsertsIn p slice i c f b q es) refused la) in
     let long : length es ≡ n =
     omega (
       arith,

@@ -13,7 +13,7 @@ use Rattle.ip_reass.specs.Fragments.{end_of_fragment, piece_of, map_of, bytes_he
 use Rattle.ip_reass.specs.Inside.Walks.{fragment_at, no_fragment}
 use Rattle.ip_reass.specs.Inside.Known.{known_here, known_below, known_past, below, within, past, known_place, nothing_below}
 use Rattle.ip_reass.specs.Inside.Weighs.{pieces_are}
-use Rattle.ip_reass.specs.Questions.{is_of, owned_below, range_of, ranges, nth_of, told_of, nth_unfinished, range_in, nth_range}
+use Rattle.ip_reass.specs.Questions.{is_of, owned_below, range_of, ranges, nth_of, summary_of, nth_unfinished, range_in, nth_range}
 use Rattle.ip_reass.specs.Table.{IsUnfinished, AllUnfinished, unfinished_of, unfinished}
 use Rattle.ip_reass.specs.declared.datagram.Datagram.{Datagram}
 use Rattle.ip_reass.specs.declared.questions.HeldRange.{HeldRange}
@@ -129,7 +129,7 @@ nth_is fs k a e l =
 abbrev pub told_from : Datagram → UnfinishedDatagram
 told_from d = record { key = d.key; ticks = d.ticks; bytes = d.bytes; ranges = d.fragments.len }
 
-told_is : (p : PoolView) (d : Datagram) → IsUnfinished p d → told_of (unfinished_of p d) ≡ told_from d
+told_is : (p : PoolView) (d : Datagram) → IsUnfinished p d → summary_of (unfinished_of p d) ≡ told_from d
 told_is p d is =
     let bytes = bytes_told (fragments p d.fragments) is.queue.apart is.queue.small ∙ sym is.counted in
     let number =
@@ -145,12 +145,12 @@ module _ (p : PoolView) (ds : List Datagram) (i : ℕ) where
   pub unfinished_here : (d : Datagram) → AllUnfinished p ds → slice_get ds i ≡ Some d
       → nth_unfinished i (unfinished p ds) ≡ Some (told_from d)
   unfinished_here d each is =
-      ap (option_map told_of) (slice_get-map (unfinished_of p) ds i ∙ ap (option_map (unfinished_of p)) is)
+      ap (option_map summary_of) (slice_get-map (unfinished_of p) ds i ∙ ap (option_map (unfinished_of p)) is)
       ∙ ap Some (told_is p d (is_unfinished d each is))
 
   pub unfinished_none : slice_get ds i ≡ None → nth_unfinished i (unfinished p ds) ≡ None
   unfinished_none is =
-      ap (option_map told_of) (slice_get-map (unfinished_of p) ds i ∙ ap (option_map (unfinished_of p)) is)
+      ap (option_map summary_of) (slice_get-map (unfinished_of p) ds i ∙ ap (option_map (unfinished_of p)) is)
 
   pub range_here : (k : ℕ) (d : Datagram) → slice_get ds i ≡ Some d
       → nth_range i k (unfinished p ds) ≡ nth_of (map_of (fragments p d.fragments)) k

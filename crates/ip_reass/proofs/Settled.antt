@@ -14,10 +14,10 @@ use Rattle.flat_model.specs.declared.counter.Counter.TheVariants.{IpReassembled}
 use Rattle.mbuf_chain.specs.Chain.{Entry, PoolView, chain_of, flat_bytes, string}
 use Rattle.mbuf_chain.specs.Train.{TrainView}
 use Rattle.ledger.specs.Accounts.{item_of, item_at, entries_weight}
-use Rattle.ip_reass.specs.Fragments.{QueuedFragment, fragment_of, fragments, map_of, queued, laid_into, joined_fragments, IsQueue}
+use Rattle.ip_reass.specs.Fragments.{QueuedFragment, fragment_of, fragments, map_of, queued, inserted_into, joined_fragments, IsQueue}
 use Rattle.ip_reass.specs.Layouts.{KeyedQueue, queue_of, queues, no_queue, keyed_queue_at}
 use Rattle.ip_reass.specs.Table.{unfinished, unfinished_of}
-use Rattle.ip_reass.specs.Inside.Steps.{datagram_at, no_datagram, LaysIn, TakesOut}
+use Rattle.ip_reass.specs.Inside.Steps.{datagram_at, no_datagram, InsertsIn, TakesOut}
 use Rattle.ip_reass.specs.Arrivals.{machine_with}
 use Rattle.ip_reass.specs.declared.datagram.Datagram.{Datagram}
 use Rattle.mbuf_chain.specs.Owners.{Moves}
@@ -62,7 +62,7 @@ module _ (k : Key) (p : PoolView) (ds : List Datagram) (i : ℕ) (l : i < length
 pub settles_kept : (rest : State) (held : Weight) (k : Key) (p q : PoolView) (ds es : List Datagram) (c : Counters)
     (i n : ℕ) (f : QueuedFragment) (new : State) → i < length ds
     → is_key k (unfinished_of p (datagram_at ds i)) ≡ true → count_by (is_key k) (unfinished p ds) ≤ 1
-    → (la : LaysIn p ds i n f true q es) → ((m : ℕ) → ¬ IsWhole (map_of (fragments q la.train)) m)
+    → (la : InsertsIn p ds i n f true q es) → ((m : ℕ) → ¬ IsWhole (map_of (fragments q la.train)) m)
     → new ≡ machine_with q es c rest → Lays exact_ledger held k (fragment_of f) (unfinished_of p (datagram_at ds i))
     (machine_with p ds c rest) new
 settles_kept rest held k p q ds es c i n f new l here most la waits is = record {
@@ -82,7 +82,7 @@ settles_kept rest held k p q ds es c i n f new l here most la waits is = record 
 pub settles_whole : (rest : State) (held : Weight) (k : Key) (p q r : PoolView) (ds es hs : List Datagram)
     (c d : Counters) (i n out m : ℕ) (f : QueuedFragment) (new : State) → i < length ds
     → is_key k (unfinished_of p (datagram_at ds i)) ≡ true → count_by (is_key k) (unfinished p ds) ≤ 1
-    → (la : LaysIn p ds i n f true q es) → (ta : TakesOut q es i out r hs)
+    → (la : InsertsIn p ds i n f true q es) → (ta : TakesOut q es i out r hs)
     → IsWhole (map_of (fragments q la.train)) m
     → IsJoin (weight_of_pieces (map_of (fragments q la.train))) (entries_weight (joined_fragments (queued q la.train)))
     m
@@ -128,18 +128,18 @@ settles_whole rest held k p q r ds es hs c d i n out m f new l here most la ta w
 -- ---- as the code sees it: the table was lent as a slice
 pub record Lent (p : PoolView) (ds : List Datagram) (i c : ℕ) (f : QueuedFragment) (q : PoolView)
     (es back : List Datagram) : Type 0 where
-  pub lays : LaysIn p ds i c f true q es
+  pub lays : InsertsIn p ds i c f true q es
   pub back_is : back ≡ es
   pub train_is : (datagram_at es i).fragments ≡ lays.train
   pub queue : IsQueue q lays.train
 
 pub lent_table : (p q : PoolView) (ds slice es : List Datagram) (i c n : ℕ) (f : QueuedFragment) (answer : Bool)
     (back : List Datagram) → i < length ds → n ≡ length ds → slice ≡ ds → answer ≡ true
-    → LaysIn p slice i c f answer q es → back ≡ take n (es ++ drop (length es) ds) → Lent p ds i c f q es back
+    → InsertsIn p slice i c f answer q es → back ≡ take n (es ++ drop (length es) ds) → Lent p ds i c f q es back
 lent_table p q ds slice es i c n f answer back l n_is was agrees la back_is =
-    let here : LaysIn p ds i c f true q es =
-    subst (λ (zs : List Datagram). LaysIn p zs i c f true q es) was
-    (subst (λ (b : Bool). LaysIn p slice i c f b q es) agrees la) in
+    let here : InsertsIn p ds i c f true q es =
+    subst (λ (zs : List Datagram). InsertsIn p zs i c f true q es) was
+    (subst (λ (b : Bool). InsertsIn p slice i c f b q es) agrees la) in
     let long : length es ≡ n =
     omega (
       arith,
@@ -204,13 +204,13 @@ module _ (p q : PoolView) (ds es back : List Datagram) (i n : ℕ) (f : QueuedFr
           (joined_bytes q e.lays.train m e.queue whole) lent_entries counts goes
 
       pub lent_leaves : ((chain_of r out).entries
-          ≡ joined_fragments (laid_into f (keyed_queue_at (queues p ds) i).fragments))
+          ≡ joined_fragments (inserted_into f (keyed_queue_at (queues p ds) i).fragments))
           × (queues r hs ≡ remove (queues p ds) i)
       lent_leaves =
           let here : keyed_queue_at (queues p ds) i ≡ queue_of p (datagram_at ds i) =
           get_or-map (queue_of p) ds i no_datagram no_queue l in (
             lent_entries ∙ (ap joined_fragments e.lays.queue
-                ∙ ap (λ (y : KeyedQueue). joined_fragments (laid_into f y.fragments)) (sym here)),
+                ∙ ap (λ (y : KeyedQueue). joined_fragments (inserted_into f y.fragments)) (sym here)),
             taken.rows ∙ (ap (λ (ys : List KeyedQueue). remove ys i) e.lays.rows ∙ remove-set (queues p ds) i _),
           )
 

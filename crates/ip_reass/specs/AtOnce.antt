@@ -52,13 +52,13 @@ is_sound h packet = (h.total == length packet) && not (is_bad_fragment (flat_hea
 
 -- whether a packet with header h can be queued directly: it takes one cluster or two mbufs, has the length that its
 -- header says, and isn't a malformed fragment
-abbrev pub can_be_laid : IpHead → List ℕ → Bool
-can_be_laid h packet =
+abbrev pub can_be_queued : IpHead → List ℕ → Bool
+can_be_queued h packet =
     (nat_lt MHLEN (length packet) && nat_le (length packet) MCLBYTES) && is_sound h packet
 
 -- and a cluster and two mbufs are free
 abbrev pub fits_at_once : PoolView → IpHead → List ℕ → Bool
-fits_at_once p h packet = can_be_laid h packet && are_free p 2 1
+fits_at_once p h packet = can_be_queued h packet && are_free p 2 1
 
 -- From p, ds and c to q, es and d a packet arrived as a fragment with header h. Step, layout and cause are those that
 -- its chain would have had, in a cluster that was free in p if it takes one. The step covers whatever happens to the

@@ -50,15 +50,15 @@ cut_to e (q ∷ qs) = if nat_le e q.offset then q ∷ qs else if nat_le (queued_
 
 -- A fragment put into a queue, after fragments that end at `end`. Those that begin no later keep all their bytes, and
 -- the new one loses the bytes that they have; those that begin later lose the bytes that the new one has.
-abbrev pub laid_after : ℕ → QueuedFragment → List QueuedFragment → List QueuedFragment
-laid_after end f [] = cut (end - f.offset) f ∷ []
-laid_after end f (q ∷ qs) =
+abbrev pub inserted_after : ℕ → QueuedFragment → List QueuedFragment → List QueuedFragment
+inserted_after end f [] = cut (end - f.offset) f ∷ []
+inserted_after end f (q ∷ qs) =
     if nat_le q.offset f.offset
-    then q ∷ laid_after (queued_end q) f qs
+    then q ∷ inserted_after (queued_end q) f qs
     else cut (end - f.offset) f ∷ cut_to (queued_end f) (q ∷ qs)
 
-abbrev pub laid_into : QueuedFragment → List QueuedFragment → List QueuedFragment
-laid_into f qs = laid_after 0 f qs
+abbrev pub inserted_into : QueuedFragment → List QueuedFragment → List QueuedFragment
+inserted_into f qs = inserted_after 0 f qs
 
 -- entries, and the queued fragments joined after them one after another (`m_cat`)
 abbrev pub joined_after : List Entry → List QueuedFragment → List Entry

@@ -15,7 +15,7 @@ use Rattle.mbuf_chain.specs.Chain.{ChainView, PoolView, chain_of, entry_of}
 use Rattle.ledger.specs.Accounts.{entries_weight}
 use Rattle.ip_out.specs.declared.head.IpHead.{IpHead}
 use Rattle.ip_reass.specs.Arrivals.{carried_entries, flat_head, key_in}
-use Rattle.ip_reass.specs.Fragments.{QueuedFragment, queued, laid_into, joined_fragments, fragment_of, map_of}
+use Rattle.ip_reass.specs.Fragments.{QueuedFragment, queued, inserted_into, joined_fragments, fragment_of, map_of}
 use Rattle.ip_reass.specs.declared.datagram.Datagram.{Datagram}
 use Rattle.ip_reass.specs.declared.arrival.Arrival.{Arrival}
 use Rattle.ip_reass.specs.declared.arrival.Arrival.TheVariants.{Kept, Whole, Dropped}
@@ -33,28 +33,28 @@ abbrev pub queues : PoolView → List Datagram → List KeyedQueue
 queues p ds = map (queue_of p) ds
 
 -- the queue has this key
-abbrev pub goes_by : Key → KeyedQueue → Bool
-goes_by k q = (q.key.source == k.source) && (q.key.destination == k.destination) && (q.key.id == k.id)
+abbrev pub has_queue_key : Key → KeyedQueue → Bool
+has_queue_key k q = (q.key.source == k.source) && (q.key.destination == k.destination) && (q.key.id == k.id)
     && (q.key.protocol == k.protocol)
 
 -- a fragment put into a queue
-abbrev pub with_laid : QueuedFragment → KeyedQueue → KeyedQueue
-with_laid f q = record { key = q.key; fragments = laid_into f q.fragments }
+abbrev pub with_inserted : QueuedFragment → KeyedQueue → KeyedQueue
+with_inserted f q = record { key = q.key; fragments = inserted_into f q.fragments }
 
 -- a fragment put into the queue with its key, or into a new one after the others
-abbrev pub laid_under : Key → QueuedFragment → List KeyedQueue → List KeyedQueue
-laid_under k f [] = with_laid f (record { key = k; fragments = [] }) ∷ []
-laid_under k f (q ∷ qs) = if goes_by k q then with_laid f q ∷ qs else q ∷ laid_under k f qs
+abbrev pub inserted_under : Key → QueuedFragment → List KeyedQueue → List KeyedQueue
+inserted_under k f [] = with_inserted f (record { key = k; fragments = [] }) ∷ []
+inserted_under k f (q ∷ qs) = if has_queue_key k q then with_inserted f q ∷ qs else q ∷ inserted_under k f qs
 
 -- the fragments with a key
 abbrev pub under : Key → List KeyedQueue → List QueuedFragment
 under k [] = []
-under k (q ∷ qs) = if goes_by k q then q.fragments else under k qs
+under k (q ∷ qs) = if has_queue_key k q then q.fragments else under k qs
 
 -- the queues without the one that has a key
 abbrev pub without_key : Key → List KeyedQueue → List KeyedQueue
 without_key k [] = []
-without_key k (q ∷ qs) = if goes_by k q then qs else q ∷ without_key k qs
+without_key k (q ∷ qs) = if has_queue_key k q then qs else q ∷ without_key k qs
 
 -- what a packet carries as a fragment: its header is pulled up if its first mbuf is a cluster, and cut off
 abbrev pub fragment_carried : ChainView → IpHead → QueuedFragment
@@ -62,9 +62,9 @@ fragment_carried v h = record { offset = h.offset; more = h.more; entries = carr
 
 -- what an arrival of the fragment f leaves, if the queues `qs` waited
 abbrev pub Leaves : Key → QueuedFragment → List KeyedQueue → PoolView → Arrival → List KeyedQueue → Type 0
-Leaves k f qs q Kept now = now ≡ laid_under k f qs
+Leaves k f qs q Kept now = now ≡ inserted_under k f qs
 Leaves k f qs q (Whole c h) now =
-    ((chain_of q c).entries ≡ joined_fragments (laid_into f (under k qs))) × (now ≡ without_key k qs)
+    ((chain_of q c).entries ≡ joined_fragments (inserted_into f (under k qs))) × (now ≡ without_key k qs)
 Leaves k f qs q (Dropped why) now = now ≡ qs
 
 -- what waited in p and ds waits in q and es, or all of it was dropped because no mbuf was free
@@ -124,9 +124,9 @@ keyed_queue_at qs i = slice_index_or qs i no_queue
 
 -- what is left of a fragment that is put into the queue at a place
 abbrev pub LeavesAt : ℕ → QueuedFragment → List KeyedQueue → PoolView → Arrival → List KeyedQueue → Type 0
-LeavesAt i f qs q Kept now = now ≡ slice_set qs i (with_laid f (keyed_queue_at qs i))
+LeavesAt i f qs q Kept now = now ≡ slice_set qs i (with_inserted f (keyed_queue_at qs i))
 LeavesAt i f qs q (Whole c h) now =
-    ((chain_of q c).entries ≡ joined_fragments (laid_into f (keyed_queue_at qs i).fragments))
+    ((chain_of q c).entries ≡ joined_fragments (inserted_into f (keyed_queue_at qs i).fragments))
     × (now ≡ remove qs i)
 LeavesAt i f qs q (Dropped why) now = (now ≡ qs)
     × (is_covered (map_of (map fragment_of (keyed_queue_at qs i).fragments)) (fragment_of f) ≡ true)

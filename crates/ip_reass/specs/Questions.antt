@@ -37,8 +37,8 @@ abbrev pub nth_of : Map → ℕ → Option HeldRange
 nth_of bytes k = slice_get (ranges bytes) k
 
 -- a datagram: how many bytes have arrived, and in how many ranges
-abbrev pub told_of : Unfinished → UnfinishedDatagram
-told_of u = record {
+abbrev pub summary_of : Unfinished → UnfinishedDatagram
+summary_of u = record {
   key = u.key;
   ticks = u.ticks;
   bytes = sum_by (λ (range : HeldRange). range.len) (ranges u.bytes);
@@ -47,7 +47,7 @@ told_of u = record {
 
 -- the datagram at a place, if there is one
 abbrev pub nth_unfinished : ℕ → List Unfinished → Option UnfinishedDatagram
-nth_unfinished i us = option_map told_of (slice_get us i)
+nth_unfinished i us = option_map summary_of (slice_get us i)
 
 -- a range of the datagram at a place, if there is one
 abbrev pub range_in : ℕ → Option Unfinished → Option HeldRange

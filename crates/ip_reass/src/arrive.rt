@@ -15,7 +15,7 @@ ghost use Rattle.ip_reass.specs.Inside.Place.{HasPlace};
 ghost use Rattle.ip_reass.specs.Inside.Walks.{arrived};
 
 use crate::arrival::Arrival;
-use crate::lay::{Fragment, lay_and_count};
+use crate::insert::{Fragment, insert_and_count};
 use crate::table::{Reass, begin, find};
 use chain_ops::{m_pullup, trim_front};
 use flat_model::{Counter, Counters, FragmentKey, Why};
@@ -83,7 +83,7 @@ impl Reass {
     // Inlined with all that a fragment in order runs, so that no field of its header goes through memory: as calls,
     // seven fragments took 1,000 more instructions.
     #[inline(always)]
-    pub(crate) fn lay_or_begin(
+    pub(crate) fn insert_or_begin(
         &mut self,
         pool: &mut Pool,
         counters: &mut Counters,
@@ -116,7 +116,7 @@ impl Reass {
             counters.count_ended(Why::NoBufs);
             return Arrival::Dropped(Why::NoBufs);
         };
-        let arrival = lay_and_count(
+        let arrival = insert_and_count(
             pool,
             &mut self.datagrams,
             counters,
@@ -231,6 +231,6 @@ impl Reass {
             return Arrival::Dropped(Why::NoBufs);
         };
         trim_front(pool, &chain, IP_HEADER);
-        self.lay_or_begin(pool, counters, chain, head)
+        self.insert_or_begin(pool, counters, chain, head)
     }
 }

@@ -140,6 +140,6 @@ impl Reass {
     {
         counters.count(Counter::IpFragments);
         let chain = store_carried(pool, packet);
-        self.lay_or_begin(pool, counters, chain, head)
+        self.insert_or_begin(pool, counters, chain, head)
     }
 }

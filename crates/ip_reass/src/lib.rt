@@ -10,7 +10,7 @@ mod arrive;
 mod at_once;
 mod datagram;
 mod index;
-mod lay;
+mod insert;
 mod place;
 mod questions;
 mod queue;

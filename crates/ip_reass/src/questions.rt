@@ -54,7 +54,7 @@ fn range_at(pool: &Pool, train: &Train, k: u32) -> Option<HeldRange>
 }
 
 /// The datagram at a place.
-fn told_at(pool: &Pool, table: &[Datagram], i: usize) -> Option<UnfinishedDatagram>
+fn unfinished_at(pool: &Pool, table: &[Datagram], i: usize) -> Option<UnfinishedDatagram>
     requires { IsTable pool.now table.now }
     ensures { result ≡ nth_unfinished i (unfinished pool.now table.now) }
 {
@@ -104,7 +104,7 @@ impl Reass {
         requires { IsTable pool.now self.now.datagrams }
         ensures { result ≡ nth_unfinished i (unfinished pool.now self.now.datagrams) }
     {
-        told_at(pool, self.datagrams.as_slice(), i as usize)
+        unfinished_at(pool, self.datagrams.as_slice(), i as usize)
     }
 
     /// The `k`th range of bytes of the unfinished datagram at place `i`, in order of offset, from 0: `None` exactly if

@@ -4,8 +4,8 @@ ghost use Rattle.mbuf_chain.specs.Chain.{IsLive, chain_of, string, alone, flat_b
 ghost use Rattle.mbuf_chain.specs.Owners.{times_among, Moves};
 ghost use Rattle.mbuf_chain.specs.Train.{numbers, queued_packet_at, IsQueuedPlace, IsHeld};
 ghost use Rattle.ip_reass.specs.Fragments.{AllEnd, IsQueue, bytes_held, cut, cut_to, fragments, joined_fragments, map_of, queued, queued_end};
-ghost use Rattle.ip_reass.specs.Inside.Walks.{AllAbove, AllUpto, IsFront, TellsWhole, arrived, after, is_left, queued_at, reach};
-ghost use Rattle.ip_reass.specs.Inside.Steps.{IsLaid};
+ghost use Rattle.ip_reass.specs.Inside.Walks.{AllAbove, AllUpto, IsFront, ReportsWhole, arrived, after, is_left, queued_at, reach};
+ghost use Rattle.ip_reass.specs.Inside.Steps.{IsInserted};
 
 use crate::datagram::Datagram;
 use crate::place::{insert_after, next_after, take_after};
@@ -165,7 +165,13 @@ fn clear(pool: &mut Pool, train: &mut Train, front: Option<QueuedPlace>, end: u3
 
 /// Puts what is left of a fragment after those that begin no later, and removes the bytes that it has from those after
 /// it. Returns how many bytes these lose.
-fn lay_after(pool: &mut Pool, train: &mut Train, chain: Chain, before: Before, span: Span) -> u32
+fn insert_trimmed(
+    pool: &mut Pool,
+    train: &mut Train,
+    chain: Chain,
+    before: Before,
+    span: Span,
+) -> u32
     requires front { IsFront pool.old train.old before.front }
     requires held { IsHeld pool.old train.old }
     requires small { AllEnd IP_MAX_DATA (fragments pool.old train.old) }
@@ -198,7 +204,7 @@ fn lay_after(pool: &mut Pool, train: &mut Train, chain: Chain, before: Before, s
 }
 
 /// What happened to a fragment that was put among those of its datagram.
-pub(crate) enum Laying {
+pub(crate) enum Insertion {
     /// Nothing of it was left.
     Covered,
     /// The datagram isn't whole with it.
@@ -210,28 +216,28 @@ pub(crate) enum Laying {
 /// Whether the fragments are a whole datagram: none follows the last, and the number of their bytes is its end, so none
 /// is missing.
 #[inline(never)]
-fn whole(pool: &Pool, datagram: &Datagram) -> Laying
+fn whole(pool: &Pool, datagram: &Datagram) -> Insertion
     requires queue { IsQueue pool.now datagram.now.fragments }
     requires some { 0 < datagram.now.fragments.len }
     requires counted { datagram.now.bytes ≡ bytes_held (fragments pool.now datagram.now.fragments) }
     ensures left { is_left result ≡ true }
-    ensures whole { TellsWhole (map_of (fragments pool.now datagram.now.fragments)) result }
+    ensures whole { ReportsWhole (map_of (fragments pool.now datagram.now.fragments)) result }
 {
     let train = &datagram.fragments;
     if tag_of(pool, train, train.len() - 1).more() {
-        return Laying::Waits;
+        return Insertion::Waits;
     }
     let bytes = u32::from(datagram.bytes);
     if bytes < end_of_last(pool, train) {
-        return Laying::Waits;
+        return Insertion::Waits;
     }
-    Laying::Whole(bytes)
+    Insertion::Whole(bytes)
 }
 
 /// Puts a fragment after all others, which end no later than it begins. Then it's the last, so nothing has to be read
 /// to find out whether the datagram is whole.
 #[inline(always)]
-fn append(pool: &mut Pool, datagram: &mut Datagram, chain: Chain, span: Span) -> Laying
+fn append(pool: &mut Pool, datagram: &mut Datagram, chain: Chain, span: Span) -> Insertion
     requires queue { IsQueue pool.old datagram.old.fragments }
     requires counted { datagram.old.bytes ≡ bytes_held (fragments pool.old datagram.old.fragments) }
     requires live { IsLive pool.old chain }
@@ -241,9 +247,9 @@ fn append(pool: &mut Pool, datagram: &mut Datagram, chain: Chain, span: Span) ->
     requires small { span.offset + length (string (chain_of pool.old chain)) ≤ IP_MAX_DATA }
     requires past { reach 0 (fragments pool.old datagram.old.fragments) ≤ span.offset }
     ensures left { is_left result ≡ true }
-    ensures laid { IsLaid pool.old datagram.old chain (arrived pool.old chain span.offset span.more) true
+    ensures laid { IsInserted pool.old datagram.old chain (arrived pool.old chain span.offset span.more) true
         pool.new datagram.new }
-    ensures whole { TellsWhole (map_of (fragments pool.new datagram.new.fragments)) result }
+    ensures whole { ReportsWhole (map_of (fragments pool.new datagram.new.fragments)) result }
 {
     let len = pool.len(&chain);
     let place = datagram.fragments.len();
@@ -252,12 +258,12 @@ fn append(pool: &mut Pool, datagram: &mut Datagram, chain: Chain, span: Span) ->
     datagram.bytes = bytes as u16;
     datagram.fragments.insert(pool, place, chain, tag.bits);
     if span.more {
-        return Laying::Waits;
+        return Insertion::Waits;
     }
     if bytes < span.offset + len {
-        return Laying::Waits;
+        return Insertion::Waits;
     }
-    Laying::Whole(bytes)
+    Insertion::Whole(bytes)
 }
 
 /// Puts a fragment at its place, which is found by a walk. The fragments before it keep their bytes, those after it
@@ -265,7 +271,7 @@ fn append(pool: &mut Pool, datagram: &mut Datagram, chain: Chain, span: Span) ->
 /// whether something was left.
 // Not inlined, like `whole`: few fragments come out of order.
 #[inline(never)]
-fn lay_between(pool: &mut Pool, datagram: &mut Datagram, chain: Chain, span: Span) -> bool
+fn insert_between(pool: &mut Pool, datagram: &mut Datagram, chain: Chain, span: Span) -> bool
     requires queue { IsQueue pool.old datagram.old.fragments }
     requires counted { datagram.old.bytes ≡ bytes_held (fragments pool.old datagram.old.fragments) }
     requires live { IsLive pool.old chain }
@@ -273,7 +279,7 @@ fn lay_between(pool: &mut Pool, datagram: &mut Datagram, chain: Chain, span: Spa
     requires apart { times_among chain (numbers pool.old datagram.old.fragments) ≡ 0 }
     requires some { 0 < length (string (chain_of pool.old chain)) }
     requires small { span.offset + length (string (chain_of pool.old chain)) ≤ IP_MAX_DATA }
-    ensures laid { IsLaid pool.old datagram.old chain (arrived pool.old chain span.offset span.more) result
+    ensures laid { IsInserted pool.old datagram.old chain (arrived pool.old chain span.offset span.more) result
         pool.new datagram.new }
     ensures reach { reach 0 (fragments pool.old datagram.old.fragments)
         ≤ reach 0 (fragments pool.new datagram.new.fragments) }
@@ -286,7 +292,7 @@ fn lay_between(pool: &mut Pool, datagram: &mut Datagram, chain: Chain, span: Spa
         pool.free_chain(chain);
         return false;
     }
-    let gone = lay_after(pool, train, chain, before, span);
+    let gone = insert_trimmed(pool, train, chain, before, span);
     let bytes = u32::from(datagram.bytes) + (len - lost) - gone;
     datagram.bytes = bytes as u16;
     true
@@ -296,7 +302,12 @@ fn lay_between(pool: &mut Pool, datagram: &mut Datagram, chain: Chain, span: Spa
 /// first, so it passes none of the others. If it goes elsewhere and bytes are missing below that end, the last one
 /// isn't read again.
 #[inline(always)]
-pub(crate) fn lay(pool: &mut Pool, datagram: &mut Datagram, chain: Chain, span: Span) -> Laying
+pub(crate) fn insert(
+    pool: &mut Pool,
+    datagram: &mut Datagram,
+    chain: Chain,
+    span: Span,
+) -> Insertion
     requires queue { IsQueue pool.old datagram.old.fragments }
     requires counted { datagram.old.bytes ≡ bytes_held (fragments pool.old datagram.old.fragments) }
     requires live { IsLive pool.old chain }
@@ -304,20 +315,20 @@ pub(crate) fn lay(pool: &mut Pool, datagram: &mut Datagram, chain: Chain, span: 
     requires apart { times_among chain (numbers pool.old datagram.old.fragments) ≡ 0 }
     requires some { 0 < length (string (chain_of pool.old chain)) }
     requires small { span.offset + length (string (chain_of pool.old chain)) ≤ IP_MAX_DATA }
-    ensures laid { IsLaid pool.old datagram.old chain (arrived pool.old chain span.offset span.more) (is_left result)
-        pool.new datagram.new }
-    ensures whole { TellsWhole (map_of (fragments pool.new datagram.new.fragments)) result }
+    ensures laid { IsInserted pool.old datagram.old chain (arrived pool.old chain span.offset span.more)
+        (is_left result) pool.new datagram.new }
+    ensures whole { ReportsWhole (map_of (fragments pool.new datagram.new.fragments)) result }
 {
     let end = end_of_last(pool, &datagram.fragments);
     if end <= span.offset {
         return append(pool, datagram, chain, span);
     }
-    if !lay_between(pool, datagram, chain, span) {
-        return Laying::Covered;
+    if !insert_between(pool, datagram, chain, span) {
+        return Insertion::Covered;
     }
     let bytes = u32::from(datagram.bytes);
     if bytes < end {
-        return Laying::Waits;
+        return Insertion::Waits;
     }
     whole(pool, datagram)
 }

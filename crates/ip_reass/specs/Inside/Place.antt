@@ -15,7 +15,7 @@ use Rattle.ip_reass.specs.Table.{TableView, IsReady, has_key, held_all, new_data
 use Rattle.ip_reass.specs.declared.datagram.Datagram.{Datagram}
 
 -- an mbuf was requested, from p, r and counters c to q, s and d: if none was free, no datagram waits any more
-pub record AsksForMbuf (p : PoolView) (r : TableView) (c : Counters) (answer : Bool) (q : PoolView) (s : TableView)
+pub record RequestsMbuf (p : PoolView) (r : TableView) (c : Counters) (answer : Bool) (q : PoolView) (s : TableView)
     (d : Counters) : Type 0 where
   pub has_buffers : (rest : State) (held : Weight) → IsAccounted p (machine_with p r.datagrams c rest) held
       → HasBuffers exact_ledger (machine_with p r.datagrams c rest) held (need_mbufs 1) answer
@@ -37,7 +37,7 @@ pub record HasBegun (p : PoolView) (r : TableView) (c : Counters) (k : Key) (i :
   pub mid : PoolView
   pub left : TableView
   pub holder : ℕ
-  pub asked : AsksForMbuf p r c true mid left d
+  pub asked : RequestsMbuf p r c true mid left d
   pub adds : Adds mid q holder (one_mbuf true (empty_entry PACKET_START None) holder)
   pub change : s.datagrams ≡ left.datagrams ++ new_datagram k holder ∷ []
   pub room : s.room ≡ left.room
@@ -45,7 +45,7 @@ pub record HasBegun (p : PoolView) (r : TableView) (c : Counters) (k : Key) (i :
 
 -- the place of a key's datagram, which is there already or is begun; no place if no mbuf was available for it
 abbrev pub HasPlace : PoolView → TableView → Counters → Key → Option ℕ → PoolView → TableView → Counters → Type 0
-HasPlace p r c k None q s d = (find (has_key k) r.datagrams ≡ None) × AsksForMbuf p r c false q s d
+HasPlace p r c k None q s d = (find (has_key k) r.datagrams ≡ None) × RequestsMbuf p r c false q s d
 HasPlace p r c k (Some i) q s d =
     (IsFirst k r.datagrams i × (q ≡ p) × (s ≡ r) × (d ≡ c))
     ⊎ ((find (has_key k) r.datagrams ≡ None) × HasBegun p r c k i q s d)

@@ -9,8 +9,8 @@ use Rattle.mbuf_chain.specs.Chain.{PoolView, chain_of}
 use Rattle.mbuf_chain.specs.Train.{TrainView, IsQueuedPlace}
 use Rattle.mbuf_chain.specs.declared.queued_place.QueuedPlace.{QueuedPlace}
 use Rattle.ip_reass.specs.Fragments.{QueuedFragment, end_of_fragment}
-use Rattle.ip_reass.specs.declared.queue.Laying.{Laying}
-use Rattle.ip_reass.specs.declared.queue.Laying.TheVariants.{Covered, Waits, Whole}
+use Rattle.ip_reass.specs.declared.queue.Insertion.{Insertion}
+use Rattle.ip_reass.specs.declared.queue.Insertion.TheVariants.{Covered, Waits, Whole}
 
 -- a chain as a fragment that begins at the offset
 abbrev pub arrived : PoolView → ℕ → ℕ → Bool → QueuedFragment
@@ -63,15 +63,15 @@ abbrev pub queued_at : List QueuedFragment → ℕ → QueuedFragment
 queued_at qs i = slice_index_or qs i no_queued
 
 -- whether something was left of a fragment that was put in, and whether the datagram with this map is then whole
-abbrev pub is_left : Laying → Bool
+abbrev pub is_left : Insertion → Bool
 is_left Covered = false
 is_left Waits = true
 is_left (Whole n) = true
 
-abbrev pub TellsWhole : Map → Laying → Type 0
-TellsWhole m Covered = Unit {0}
-TellsWhole m Waits = (n : ℕ) → ¬ IsWhole m n
-TellsWhole m (Whole n) = IsWhole m n
+abbrev pub ReportsWhole : Map → Insertion → Type 0
+ReportsWhole m Covered = Unit {0}
+ReportsWhole m Waits = (n : ℕ) → ¬ IsWhole m n
+ReportsWhole m (Whole n) = IsWhole m n
 
 -- the bytes of the fragments, one after another
 abbrev pub bytes_of : List Fragment → List ℕ

@@ -2,7 +2,7 @@ use Rattle.std.proofs.Common.{◌≡◌, ℕ, List, refl, sym, ap, ◌∙◌, su
 use Rattle.std.proofs.lemmas.List.{drop_all, take_all}
 use Rattle.flat_model.specs.Fragments.Overlay.{Fragment}
 use Rattle.flat_model.specs.Fragments.Whole.{IsWhole}
-use Rattle.ip_reass.specs.Inside.Steps.{IsLaid}
+use Rattle.ip_reass.specs.Inside.Steps.{IsInserted}
 use Rattle.ip_reass.specs.Fragments.{bytes_held, fragment_of, fragments, map_of}
 use Rattle.ip_reass.specs.Inside.Walks.{AllAbove, AllUpto, arrived, reach}
 use Rattle.ip_reass.proofs.Counted.{held_after}
@@ -67,7 +67,7 @@ counted c =
           c.requires.queue.held (all c).queue_is refl,
     )
 
-is_laid : (c : After-insert) → IsLaid c.args.pool.now c.args.datagram.now c.args.chain
+is_laid : (c : After-insert) → IsInserted c.args.pool.now c.args.datagram.now c.args.chain
     (arrived c.args.pool.now c.args.chain c.args.span.offset c.args.span.more) true c.insert.new.pool
     (record (c.args.datagram.now) { fragments = c.insert.new.self; bytes = c.from.result + c.len-len.result })
 is_laid c = record {

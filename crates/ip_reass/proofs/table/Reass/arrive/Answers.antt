@@ -90,8 +90,8 @@ returns-in_default-clause-accounts c = λ rest held acc.
     c.args.counters.now c.pull_up.new.counters acc m c.requires.owned c.requires.ready.table
     c.pull_up.ensures.ready.table (one_weighs c.args.pool.now c.args.chain) (same_weight nothing)
 
-pub lay_or_begin-requires-clause-ready : goal.lay_or_begin-requires-clause-ready
-lay_or_begin-requires-clause-ready c =
+pub insert_or_begin-requires-clause-ready : goal.insert_or_begin-requires-clause-ready
+insert_or_begin-requires-clause-ready c =
     let m =
     subst (λ (o : Option ℕ). Moves c.args.pool.now (c.args.chain ∷ held_all c.args.pool.now c.args.self.now.datagrams)
     c.pull_up.new.pool (option_to_list o
@@ -109,8 +109,8 @@ lay_or_begin-requires-clause-ready c =
           t.shows c.pull_up.ensures.ready.distinct;
     }
 
-pub lay_or_begin-requires-clause-owned : goal.lay_or_begin-requires-clause-owned
-lay_or_begin-requires-clause-owned c =
+pub insert_or_begin-requires-clause-owned : goal.insert_or_begin-requires-clause-owned
+insert_or_begin-requires-clause-owned c =
     let m =
     subst (λ (o : Option ℕ). Moves c.args.pool.now (c.args.chain ∷ held_all c.args.pool.now c.args.self.now.datagrams)
     c.pull_up.new.pool (option_to_list o
@@ -120,8 +120,8 @@ lay_or_begin-requires-clause-owned c =
     c.pull_up.ensures.ready.table (owned_after m c.requires.owned) c.trim_front.ensures in
     t.owned
 
-pub lay_or_begin-requires-clause-headed : goal.lay_or_begin-requires-clause-headed
-lay_or_begin-requires-clause-headed c =
+pub insert_or_begin-requires-clause-headed : goal.insert_or_begin-requires-clause-headed
+insert_or_begin-requires-clause-headed c =
     let m =
     subst (λ (o : Option ℕ). Moves c.args.pool.now (c.args.chain ∷ held_all c.args.pool.now c.args.self.now.datagrams)
     c.pull_up.new.pool (option_to_list o
@@ -131,8 +131,8 @@ lay_or_begin-requires-clause-headed c =
     c.pull_up.ensures.ready.table (owned_after m c.requires.owned) c.trim_front.ensures in
     ap (λ (v : ChainView). v.front.header) t.chain ∙ c.in-Some.ensures.headed
 
-pub lay_or_begin-requires-clause-some : goal.lay_or_begin-requires-clause-some
-lay_or_begin-requires-clause-some c =
+pub insert_or_begin-requires-clause-some : goal.insert_or_begin-requires-clause-some
+insert_or_begin-requires-clause-some c =
     let m =
     subst (λ (o : Option ℕ). Moves c.args.pool.now (c.args.chain ∷ held_all c.args.pool.now c.args.self.now.datagrams)
     c.pull_up.new.pool (option_to_list o
@@ -150,8 +150,8 @@ lay_or_begin-requires-clause-some c =
     let some = good_some c.args.head (c.len-len.result - 20) good in
     omega (arith, size, some)
 
-pub lay_or_begin-requires-clause-small : goal.lay_or_begin-requires-clause-small
-lay_or_begin-requires-clause-small c =
+pub insert_or_begin-requires-clause-small : goal.insert_or_begin-requires-clause-small
+insert_or_begin-requires-clause-small c =
     let m =
     subst (λ (o : Option ℕ). Moves c.args.pool.now (c.args.chain ∷ held_all c.args.pool.now c.args.self.now.datagrams)
     c.pull_up.new.pool (option_to_list o
@@ -187,7 +187,7 @@ returns-clause-step c = λ rest held new acc goes.
     c.args.self.now.datagrams c.pull_up.new.self.datagrams c.args.counters.now c.pull_up.new.counters acc
     (moves_trans m t.moves) c.requires.owned c.requires.ready.table t.table (one_weighs c.args.pool.now c.args.chain)
     (one_weighs c.trim_front.new.pool c.in-Some.chain) in
-    let joins = c.lay_or_begin.ensures.step rest held new acc' goes in
+    let joins = c.insert_or_begin.ensures.step rest held new acc' goes in
     elim (cases_Bool (is_some (entry_of (chain_of c.args.pool.now c.args.chain) 0).cluster)) [
       | inr plain ↦
           let same = c.pull_up.ensures.plain plain in
@@ -220,7 +220,7 @@ returns-clause-moves c =
     let t =
     trimmed_off c.pull_up.new.pool c.trim_front.new.pool c.pull_up.new.self.datagrams c.in-Some.chain
     c.pull_up.ensures.ready.table (owned_after m c.requires.owned) c.trim_front.ensures in
-    moves_trans m (moves_trans t.moves c.lay_or_begin.ensures.moves)
+    moves_trans m (moves_trans t.moves c.insert_or_begin.ensures.moves)
 
 pub returns-clause-accounts : goal.returns-clause-accounts
 returns-clause-accounts c = λ rest held acc.
@@ -231,14 +231,14 @@ returns-clause-accounts c = λ rest held acc.
     let t =
     trimmed_off c.pull_up.new.pool c.trim_front.new.pool c.pull_up.new.self.datagrams c.in-Some.chain
     c.pull_up.ensures.ready.table (owned_after m c.requires.owned) c.trim_front.ensures in
-    accounts c.args.pool.now c.lay_or_begin.new.pool (c.args.chain ∷ []) (in_hand c.lay_or_begin.result) rest held
-    (weight_at c.args.pool.now c.args.chain) (weight_owned c.lay_or_begin.new.pool (in_hand c.lay_or_begin.result))
-    c.args.self.now.datagrams c.lay_or_begin.new.self.datagrams c.args.counters.now c.lay_or_begin.new.counters acc
-    (moves_trans m (moves_trans t.moves c.lay_or_begin.ensures.moves)) c.requires.owned c.requires.ready.table
-    c.lay_or_begin.ensures.ready.table (one_weighs c.args.pool.now c.args.chain) (same_weight _)
+    accounts c.args.pool.now c.insert_or_begin.new.pool (c.args.chain ∷ []) (in_hand c.insert_or_begin.result) rest held
+    (weight_at c.args.pool.now c.args.chain) (weight_owned c.insert_or_begin.new.pool (in_hand c.insert_or_begin.result))
+    c.args.self.now.datagrams c.insert_or_begin.new.self.datagrams c.args.counters.now c.insert_or_begin.new.counters acc
+    (moves_trans m (moves_trans t.moves c.insert_or_begin.ensures.moves)) c.requires.owned c.requires.ready.table
+    c.insert_or_begin.ensures.ready.table (one_weighs c.args.pool.now c.args.chain) (same_weight _)
 
 pub returns-clause-whole : goal.returns-clause-whole
-returns-clause-whole c = c.lay_or_begin.ensures.whole
+returns-clause-whole c = c.insert_or_begin.ensures.whole
 
 pub returns-then-is_bad-clause-layout : goal.returns-then-is_bad-clause-layout
 returns-then-is_bad-clause-layout c = record {
@@ -259,12 +259,12 @@ returns-clause-layout c =
     let t =
     trimmed_off c.pull_up.new.pool c.trim_front.new.pool c.pull_up.new.self.datagrams c.in-Some.chain
     c.pull_up.ensures.ready.table (owned_after m c.requires.owned) c.trim_front.ensures in
-    arrived_layout c.args.pool.now c.pull_up.new.pool c.trim_front.new.pool c.lay_or_begin.new.pool
-    c.args.self.now.datagrams c.pull_up.new.self.datagrams c.lay_or_begin.new.self.datagrams c.args.chain
-    c.in-Some.chain c.args.head c.lay_or_begin.result
+    arrived_layout c.args.pool.now c.pull_up.new.pool c.trim_front.new.pool c.insert_or_begin.new.pool
+    c.args.self.now.datagrams c.pull_up.new.self.datagrams c.insert_or_begin.new.self.datagrams c.args.chain
+    c.in-Some.chain c.args.head c.insert_or_begin.result
     c.pull_up.ensures.waits t.rows
     (ap (λ (v : ChainView). v.entries) t.chain ∙ ap (without_first 20) c.in-Some.ensures.entries)
-    c.lay_or_begin.ensures.layout
+    c.insert_or_begin.ensures.layout
 
 pub returns-then-is_bad-clause-cause : goal.returns-then-is_bad-clause-cause
 returns-then-is_bad-clause-cause c =
@@ -299,9 +299,9 @@ returns-clause-cause c =
     trimmed_off c.pull_up.new.pool c.trim_front.new.pool c.pull_up.new.self.datagrams c.in-Some.chain
     c.pull_up.ensures.ready.table (owned_after m c.requires.owned) c.trim_front.ensures in
     arrived_cause c.args.pool.now c.trim_front.new.pool c.args.chain c.in-Some.chain c.args.head
-    (under (key_in c.args.head) (queues c.lay_or_begin.new.pool c.lay_or_begin.new.self.datagrams))
-    c.lay_or_begin.result
+    (under (key_in c.args.head) (queues c.insert_or_begin.new.pool c.insert_or_begin.new.self.datagrams))
+    c.insert_or_begin.result
     (ap (λ (n : ℕ). is_bad_fragment (flat_head c.args.head) (n - 20)) (sym c.requires.total ∙ sym c.len-len.ensures)
     ∙ (sym c.is_bad.ensures ∙ c.if-is_bad.false))
     (ap (λ (v : ChainView). v.entries) t.chain ∙ ap (without_first 20) c.in-Some.ensures.entries)
-    c.lay_or_begin.ensures.cause
+    c.insert_or_begin.ensures.cause

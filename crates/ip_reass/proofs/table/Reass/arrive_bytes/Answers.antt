@@ -4,16 +4,16 @@ use Rattle.ip_reass.proofs.Arriving.{good_small}
 use Rattle.ip_reass.proofs.AtOnce.{Fits, at_once, end_accounts, fits_is, laid_len, stored}
 use Rattle.ip_reass.proofs.table.Reass.arrive_bytes.Goals as goal
 
-pub lay_or_begin-requires-clause-ready : goal.lay_or_begin-requires-clause-ready
-lay_or_begin-requires-clause-ready c =
+pub insert_or_begin-requires-clause-ready : goal.insert_or_begin-requires-clause-ready
+insert_or_begin-requires-clause-ready c =
     (stored c.args.self.now c.requires.ready c.store_carried-chain.ensures.2.adds).ready
 
-pub lay_or_begin-requires-clause-owned : goal.lay_or_begin-requires-clause-owned
-lay_or_begin-requires-clause-owned c =
+pub insert_or_begin-requires-clause-owned : goal.insert_or_begin-requires-clause-owned
+insert_or_begin-requires-clause-owned c =
     (stored c.args.self.now c.requires.ready c.store_carried-chain.ensures.2.adds).owned
 
-pub lay_or_begin-requires-clause-some : goal.lay_or_begin-requires-clause-some
-lay_or_begin-requires-clause-some c =
+pub insert_or_begin-requires-clause-some : goal.insert_or_begin-requires-clause-some
+insert_or_begin-requires-clause-some c =
     let fits : Fits c.args.pool.now c.args.head c.args.packet.now =
     fits_is c.args.pool.now c.args.head c.args.packet.now c.requires.fits in
     omega (
@@ -22,8 +22,8 @@ lay_or_begin-requires-clause-some c =
       fits.many,
     )
 
-pub lay_or_begin-requires-clause-small : goal.lay_or_begin-requires-clause-small
-lay_or_begin-requires-clause-small c =
+pub insert_or_begin-requires-clause-small : goal.insert_or_begin-requires-clause-small
+insert_or_begin-requires-clause-small c =
     let fits : Fits c.args.pool.now c.args.head c.args.packet.now =
     fits_is c.args.pool.now c.args.head c.args.packet.now c.requires.fits in
     omega (
@@ -38,22 +38,22 @@ returns-clause-arrives c =
     let fits : Fits c.args.pool.now c.args.head c.args.packet.now =
     fits_is c.args.pool.now c.args.head c.args.packet.now c.requires.fits in
     at_once c.args.pool.now c.store_carried-chain.new.pool c.args.self.now c.args.counters.now c.count.new.self
-    c.args.packet.now c.args.head c.store_carried-chain.ensures.0 c.store_carried-chain.result c.lay_or_begin.result
-    c.lay_or_begin.new.pool c.lay_or_begin.new.self c.lay_or_begin.new.counters
+    c.args.packet.now c.args.head c.store_carried-chain.ensures.0 c.store_carried-chain.result c.insert_or_begin.result
+    c.insert_or_begin.new.pool c.insert_or_begin.new.self c.insert_or_begin.new.counters
     c.requires.ready fits c.store_carried-chain.ensures.2 c.count.ensures c.store_carried-chain.ensures.1
-    c.lay_or_begin.ensures.step c.lay_or_begin.ensures.layout c.lay_or_begin.ensures.cause
+    c.insert_or_begin.ensures.step c.insert_or_begin.ensures.layout c.insert_or_begin.ensures.cause
 
 pub returns-clause-accounts : goal.returns-clause-accounts
 returns-clause-accounts c =
     let fits : Fits c.args.pool.now c.args.head c.args.packet.now =
     fits_is c.args.pool.now c.args.head c.args.packet.now c.requires.fits in
     end_accounts c.args.pool.now c.store_carried-chain.new.pool c.args.self.now c.args.counters.now c.count.new.self
-    c.args.packet.now c.args.head c.store_carried-chain.ensures.0 c.store_carried-chain.result c.lay_or_begin.result
-    c.lay_or_begin.new.pool c.lay_or_begin.new.self c.lay_or_begin.new.counters
-    c.requires.ready fits c.store_carried-chain.ensures.2 c.count.ensures c.lay_or_begin.ensures.ready
-    c.lay_or_begin.ensures.moves
+    c.args.packet.now c.args.head c.store_carried-chain.ensures.0 c.store_carried-chain.result c.insert_or_begin.result
+    c.insert_or_begin.new.pool c.insert_or_begin.new.self c.insert_or_begin.new.counters
+    c.requires.ready fits c.store_carried-chain.ensures.2 c.count.ensures c.insert_or_begin.ensures.ready
+    c.insert_or_begin.ensures.moves
 
 pub returns-clause-moves : goal.returns-clause-moves
 returns-clause-moves c =
     moves_trans (stored c.args.self.now c.requires.ready c.store_carried-chain.ensures.2.adds).moves
-    c.lay_or_begin.ensures.moves
+    c.insert_or_begin.ensures.moves

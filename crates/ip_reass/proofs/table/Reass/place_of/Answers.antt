@@ -1,7 +1,7 @@
 use Rattle.std.proofs.Common.{◌≡◌, ◌++◌, ◌∷◌, [], ℕ, Bool, List, length, find, sym, ap, ◌∙◌, subst, arith, inr}
 use Rattle.std.specs.Prelude.{count_by}
 use Rattle.ip_reass.specs.Inside.Index.{buckets_of}
-use Rattle.ip_reass.specs.Inside.Place.{AsksForMbuf}
+use Rattle.ip_reass.specs.Inside.Place.{RequestsMbuf}
 use Rattle.ip_reass.specs.Table.{TableView, has_key, new_datagram}
 use Rattle.ip_reass.specs.declared.datagram.Datagram.{Datagram}
 use Rattle.ip_reass.proofs.Followed.{length_buckets, once_held, pushed}
@@ -23,7 +23,7 @@ pub returns-then-not-reserve : goal.returns-then-not-reserve
 returns-then-not-reserve c = (
   ap (λ (ds : List Datagram). find (has_key c.args.key) ds)
       (sym (c.as_slice.ensures.value ∙ ap (λ (r : TableView). r.datagrams) c.self.view_is)) ∙ c.in_default.ensures,
-  subst (λ (b : Bool). AsksForMbuf c.args.pool.now c.args.self.now c.args.counters.now b c.reserve.new.pool
+  subst (λ (b : Bool). RequestsMbuf c.args.pool.now c.args.self.now c.args.counters.now b c.reserve.new.pool
       c.reserve.new.waiting c.reserve.new.counters) c.if-not-reserve.true
       (asks c.args.pool.now c.reserve.new.pool c.args.self.now c.reserve.new.waiting c.args.counters.now
       c.reserve.new.counters c.reserve.result c.reserve.ensures.reserves c.reserve.ensures.moves
@@ -98,7 +98,7 @@ returns c = inr (
     left = c.reserve.new.waiting;
     holder = c.in-Ok.holder;
     asked =
-        subst (λ (b : Bool). AsksForMbuf c.args.pool.now c.args.self.now c.args.counters.now b c.reserve.new.pool
+        subst (λ (b : Bool). RequestsMbuf c.args.pool.now c.args.self.now c.args.counters.now b c.reserve.new.pool
         c.reserve.new.waiting c.reserve.new.counters) c.if-not-reserve.false
         (asks c.args.pool.now c.reserve.new.pool c.args.self.now c.reserve.new.waiting c.args.counters.now
         c.reserve.new.counters c.reserve.result c.reserve.ensures.reserves c.reserve.ensures.moves

@@ -1,6 +1,6 @@
 use Rattle.std.proofs.Common.{◌≡◌, ◌≤◌, ◌<◌, ◌-◌, length, get_or, insert, remove}
 use Rattle.ip_reass.specs.declared.datagram.Datagram.{Datagram}
-use Rattle.ip_reass.proofs.lay.bring_to_end.Given as goal
+use Rattle.ip_reass.proofs.insert.bring_to_end.Given as goal
 
 -- the row stands at k, and the others in their order
 abbrev pub invariant-rows : goal.invariant-rows

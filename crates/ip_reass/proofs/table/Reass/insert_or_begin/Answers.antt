@@ -16,7 +16,7 @@ use Rattle.ip_reass.proofs.Holding.{fragments_after}
 use Rattle.ip_reass.proofs.Placed.{Lacks, Placed, lacks_in, placed_in}
 use Rattle.ip_reass.proofs.Queues.{cause_lacking}
 use Rattle.ip_reass.proofs.Reserved.{room}
-use Rattle.ip_reass.proofs.table.Reass.lay_or_begin.Goals as goal
+use Rattle.ip_reass.proofs.table.Reass.insert_or_begin.Goals as goal
 
 pub place_of-requires-clause-few : goal.place_of-requires-clause-few
 place_of-requires-clause-few c =
@@ -54,7 +54,7 @@ pub returns-in_default-clause-moves : goal.returns-in_default-clause-moves
 returns-in_default-clause-moves c = (lacks c).moves
 
 -- ---- it's laid at its place
-there : (c : goal.After-lay_and_count-arg-3-1)
+there : (c : goal.After-insert_and_count-arg-3-1)
     → Placed c.args.pool.now c.args.self.now c.args.counters.now (key_in c.args.head) c.args.chain c.in-Some.i
     c.place_of.new.pool (record { datagrams = c.self.inside.datagrams.items; room = c.self.inside.index.room })
     c.place_of.new.counters
@@ -64,25 +64,25 @@ there c =
     (record { datagrams = c.self.inside.datagrams.items; room = c.self.inside.index.room })
     c.place_of.new.counters c.place_of.result c.key_of.ensures c.self.view_is c.in-Some.is c.place_of.ensures
 
-pub lay_and_count-arrival-requires-clause-table : goal.lay_and_count-arrival-requires-clause-table
-lay_and_count-arrival-requires-clause-table c = (there c).table
+pub insert_and_count-arrival-requires-clause-table : goal.insert_and_count-arrival-requires-clause-table
+insert_and_count-arrival-requires-clause-table c = (there c).table
 
-pub lay_and_count-arrival-requires-clause-place : goal.lay_and_count-arrival-requires-clause-place
-lay_and_count-arrival-requires-clause-place c = (there c).within
+pub insert_and_count-arrival-requires-clause-place : goal.insert_and_count-arrival-requires-clause-place
+insert_and_count-arrival-requires-clause-place c = (there c).within
 
-pub lay_and_count-arrival-requires-clause-owned : goal.lay_and_count-arrival-requires-clause-owned
-lay_and_count-arrival-requires-clause-owned c = (there c).stays.owned
+pub insert_and_count-arrival-requires-clause-owned : goal.insert_and_count-arrival-requires-clause-owned
+insert_and_count-arrival-requires-clause-owned c = (there c).stays.owned
 
-pub lay_and_count-arrival-requires-clause-headed : goal.lay_and_count-arrival-requires-clause-headed
-lay_and_count-arrival-requires-clause-headed c =
+pub insert_and_count-arrival-requires-clause-headed : goal.insert_and_count-arrival-requires-clause-headed
+insert_and_count-arrival-requires-clause-headed c =
     ap (λ (v : ChainView). v.front.header) (there c).stays.chain ∙ c.requires.headed
 
-pub lay_and_count-arrival-requires-clause-some : goal.lay_and_count-arrival-requires-clause-some
-lay_and_count-arrival-requires-clause-some c =
+pub insert_and_count-arrival-requires-clause-some : goal.insert_and_count-arrival-requires-clause-some
+insert_and_count-arrival-requires-clause-some c =
     subst (λ (v : ChainView). 0 < length (string v)) (sym (there c).stays.chain) c.requires.some
 
-pub lay_and_count-arrival-requires-clause-small : goal.lay_and_count-arrival-requires-clause-small
-lay_and_count-arrival-requires-clause-small c =
+pub insert_and_count-arrival-requires-clause-small : goal.insert_and_count-arrival-requires-clause-small
+insert_and_count-arrival-requires-clause-small c =
     subst (λ (v : ChainView). c.args.head.offset + length (string v) ≤ 65515) (sym (there c).stays.chain)
     c.requires.small
 
@@ -100,32 +100,32 @@ before c =
 pub returns-in-Kept-clause-layout : goal.returns-in-Kept-clause-layout
 returns-in-Kept-clause-layout c =
     subst (λ (r : Arrival). HasLayout c.args.pool.now c.args.self.now.datagrams (key_in c.args.head)
-    (arrived c.args.pool.now c.args.chain c.args.head.offset c.args.head.more) r c.lay_and_count-arrival.new.pool
-    c.lay_and_count-arrival.new.table.items) c.in-Kept.is
-    ((before c).layout c.args.head.offset c.args.head.more c.lay_and_count-arrival.result
-    c.lay_and_count-arrival.new.pool c.lay_and_count-arrival.new.table.items c.lay_and_count-arrival.ensures.layout)
+    (arrived c.args.pool.now c.args.chain c.args.head.offset c.args.head.more) r c.insert_and_count-arrival.new.pool
+    c.insert_and_count-arrival.new.table.items) c.in-Kept.is
+    ((before c).layout c.args.head.offset c.args.head.more c.insert_and_count-arrival.result
+    c.insert_and_count-arrival.new.pool c.insert_and_count-arrival.new.table.items c.insert_and_count-arrival.ensures.layout)
 
 pub returns-in-Kept-clause-step : goal.returns-in-Kept-clause-step
 returns-in-Kept-clause-step c = λ rest held new acc goes.
     (before c).step rest held new c.args.head.offset c.args.head.more acc
-    (λ here most. c.lay_and_count-arrival.ensures.step rest held new here most
-    (subst (λ (r : Arrival). GoesOn held c.lay_and_count-arrival.new.pool r
-    (machine_with c.lay_and_count-arrival.new.pool c.lay_and_count-arrival.new.table.items
-    c.lay_and_count-arrival.new.counters rest) new) (sym c.in-Kept.is) goes))
+    (λ here most. c.insert_and_count-arrival.ensures.step rest held new here most
+    (subst (λ (r : Arrival). GoesOn held c.insert_and_count-arrival.new.pool r
+    (machine_with c.insert_and_count-arrival.new.pool c.insert_and_count-arrival.new.table.items
+    c.insert_and_count-arrival.new.counters rest) new) (sym c.in-Kept.is) goes))
 
 pub returns-in-Kept-clause-ready : goal.returns-in-Kept-clause-ready
 returns-in-Kept-clause-ready c = record {
-  table = c.lay_and_count-arrival.ensures.table;
+  table = c.insert_and_count-arrival.ensures.table;
   fragments =
-      fragments_after c.args.pool.now c.lay_and_count-arrival.new.pool c.args.self.now.datagrams
-      c.lay_and_count-arrival.new.table.items (key_in c.args.head)
+      fragments_after c.args.pool.now c.insert_and_count-arrival.new.pool c.args.self.now.datagrams
+      c.insert_and_count-arrival.new.table.items (key_in c.args.head)
       (arrived c.args.pool.now c.args.chain c.args.head.offset c.args.head.more) Kept
       (returns-in-Kept-clause-layout c) c.requires.ready.table c.requires.ready.fragments
-      c.lay_and_count-arrival.ensures.table;
-  room = omega (arith, c.lay_and_count-arrival.ensures.moves.mbufs, (before c).room);
+      c.insert_and_count-arrival.ensures.table;
+  room = omega (arith, c.insert_and_count-arrival.ensures.moves.mbufs, (before c).room);
   distinct =
-      distinct_after c.args.pool.now c.lay_and_count-arrival.new.pool c.args.self.now.datagrams
-      c.lay_and_count-arrival.new.table.items (key_in c.args.head)
+      distinct_after c.args.pool.now c.insert_and_count-arrival.new.pool c.args.self.now.datagrams
+      c.insert_and_count-arrival.new.table.items (key_in c.args.head)
       (arrived c.args.pool.now c.args.chain c.args.head.offset c.args.head.more) Kept
       (returns-in-Kept-clause-layout c) c.requires.ready.distinct;
 }
@@ -133,25 +133,25 @@ returns-in-Kept-clause-ready c = record {
 pub returns-in-Kept-clause-moves : goal.returns-in-Kept-clause-moves
 returns-in-Kept-clause-moves c =
     subst (λ (r : Arrival). Moves c.args.pool.now (c.args.chain ∷ held_all c.args.pool.now c.args.self.now.datagrams)
-    c.lay_and_count-arrival.new.pool
-    (in_hand r ++ held_all c.lay_and_count-arrival.new.pool c.lay_and_count-arrival.new.table.items)) c.in-Kept.is
-    (moves_trans (before c).stays.moves c.lay_and_count-arrival.ensures.moves)
+    c.insert_and_count-arrival.new.pool
+    (in_hand r ++ held_all c.insert_and_count-arrival.new.pool c.insert_and_count-arrival.new.table.items)) c.in-Kept.is
+    (moves_trans (before c).stays.moves c.insert_and_count-arrival.ensures.moves)
 
 pub invariant_of-self : goal.invariant_of-self
 invariant_of-self c =
-    let es = c.lay_and_count-arrival.new.table.items in
+    let es = c.insert_and_count-arrival.new.table.items in
     let f = arrived c.place_of.new.pool c.args.chain c.args.head.offset c.args.head.more in (
-      omega (arith, c.lay_and_count-arrival.ensures.len, c.self.invariant.0),
-      omega (arith, c.lay_and_count-arrival.ensures.capacity, c.self.invariant.1),
+      omega (arith, c.insert_and_count-arrival.ensures.len, c.self.invariant.0),
+      omega (arith, c.insert_and_count-arrival.ensures.capacity, c.self.invariant.1),
       record {
         some = c.self.invariant.2.some;
         rows =
             kept_followed c.self.inside.index.count c.in-Some.i f c.place_of.new.pool
-            c.lay_and_count-arrival.new.pool c.self.inside.datagrams.items es c.self.inside.index.buckets
+            c.insert_and_count-arrival.new.pool c.self.inside.datagrams.items es c.self.inside.index.buckets
             c.self.invariant.2.rows (before c).within
             (subst (λ (r : Arrival). LeavesAt c.in-Some.i f
-            (queues c.place_of.new.pool c.self.inside.datagrams.items) c.lay_and_count-arrival.new.pool r
-            (queues c.lay_and_count-arrival.new.pool es)) c.in-Kept.is c.lay_and_count-arrival.ensures.layout);
+            (queues c.place_of.new.pool c.self.inside.datagrams.items) c.insert_and_count-arrival.new.pool r
+            (queues c.insert_and_count-arrival.new.pool es)) c.in-Kept.is c.insert_and_count-arrival.ensures.layout);
       },
     )
 
@@ -168,8 +168,8 @@ after c =
 
 laid : goal.returns-clause-layout
 laid c =
-    (after c).layout c.args.head.offset c.args.head.more c.lay_and_count-arrival.result
-    c.lay_and_count-arrival.new.pool c.lay_and_count-arrival.new.table.items c.lay_and_count-arrival.ensures.layout
+    (after c).layout c.args.head.offset c.args.head.more c.insert_and_count-arrival.result
+    c.insert_and_count-arrival.new.pool c.insert_and_count-arrival.new.table.items c.insert_and_count-arrival.ensures.layout
 
 pub returns-clause-layout : goal.returns-clause-layout
 returns-clause-layout c = laid c
@@ -177,51 +177,51 @@ returns-clause-layout c = laid c
 pub returns-clause-step : goal.returns-clause-step
 returns-clause-step c = λ rest held new acc goes.
     (after c).step rest held new c.args.head.offset c.args.head.more acc
-    (λ here most. c.lay_and_count-arrival.ensures.step rest held new here most goes)
+    (λ here most. c.insert_and_count-arrival.ensures.step rest held new here most goes)
 
 pub returns-clause-whole : goal.returns-clause-whole
-returns-clause-whole c = c.lay_and_count-arrival.ensures.whole
+returns-clause-whole c = c.insert_and_count-arrival.ensures.whole
 
 pub returns-clause-cause : goal.returns-clause-cause
 returns-clause-cause c =
-    (after c).cause c.args.head.offset c.args.head.more c.lay_and_count-arrival.result
-    c.lay_and_count-arrival.new.pool c.lay_and_count-arrival.new.table.items c.lay_and_count-arrival.ensures.layout
-    c.lay_and_count-arrival.ensures.cause
+    (after c).cause c.args.head.offset c.args.head.more c.insert_and_count-arrival.result
+    c.insert_and_count-arrival.new.pool c.insert_and_count-arrival.new.table.items c.insert_and_count-arrival.ensures.layout
+    c.insert_and_count-arrival.ensures.cause
 
 pub returns-clause-ready : goal.returns-clause-ready
 returns-clause-ready c = record {
-  table = c.lay_and_count-arrival.ensures.table;
+  table = c.insert_and_count-arrival.ensures.table;
   fragments =
-      fragments_after c.args.pool.now c.lay_and_count-arrival.new.pool c.args.self.now.datagrams
-      c.lay_and_count-arrival.new.table.items (key_in c.args.head)
-      (arrived c.args.pool.now c.args.chain c.args.head.offset c.args.head.more) c.lay_and_count-arrival.result
-      (laid c) c.requires.ready.table c.requires.ready.fragments c.lay_and_count-arrival.ensures.table;
+      fragments_after c.args.pool.now c.insert_and_count-arrival.new.pool c.args.self.now.datagrams
+      c.insert_and_count-arrival.new.table.items (key_in c.args.head)
+      (arrived c.args.pool.now c.args.chain c.args.head.offset c.args.head.more) c.insert_and_count-arrival.result
+      (laid c) c.requires.ready.table c.requires.ready.fragments c.insert_and_count-arrival.ensures.table;
   room =
-      omega (arith, c.lay_and_count-arrival.ensures.moves.mbufs, (after c).room, c.follow.ensures.room);
+      omega (arith, c.insert_and_count-arrival.ensures.moves.mbufs, (after c).room, c.follow.ensures.room);
   distinct =
-      distinct_after c.args.pool.now c.lay_and_count-arrival.new.pool c.args.self.now.datagrams
-      c.lay_and_count-arrival.new.table.items (key_in c.args.head)
-      (arrived c.args.pool.now c.args.chain c.args.head.offset c.args.head.more) c.lay_and_count-arrival.result
+      distinct_after c.args.pool.now c.insert_and_count-arrival.new.pool c.args.self.now.datagrams
+      c.insert_and_count-arrival.new.table.items (key_in c.args.head)
+      (arrived c.args.pool.now c.args.chain c.args.head.offset c.args.head.more) c.insert_and_count-arrival.result
       (laid c) c.requires.ready.distinct;
 }
 
 pub returns-clause-moves : goal.returns-clause-moves
-returns-clause-moves c = moves_trans (after c).stays.moves c.lay_and_count-arrival.ensures.moves
+returns-clause-moves c = moves_trans (after c).stays.moves c.insert_and_count-arrival.ensures.moves
 
 pub invariant_of-self-2 : goal.invariant_of-self-2
 invariant_of-self-2 c =
-    let es = c.lay_and_count-arrival.new.table.items in
+    let es = c.insert_and_count-arrival.new.table.items in
     let rest = ap (λ (ds : List Datagram). length ds) c.as_slice-rest.ensures.value in (
-      omega (arith, c.lay_and_count-arrival.ensures.len, c.self.invariant.0),
-      omega (arith, c.follow.ensures.room, c.lay_and_count-arrival.ensures.capacity, c.self.invariant.1),
+      omega (arith, c.insert_and_count-arrival.ensures.len, c.self.invariant.0),
+      omega (arith, c.follow.ensures.room, c.insert_and_count-arrival.ensures.capacity, c.self.invariant.1),
       record {
         some = omega (arith, c.follow.ensures.count, c.self.invariant.2.some);
         rows =
             followed c.self.inside.index.count c.in-Some.i
             (arrived c.place_of.new.pool c.args.chain c.args.head.offset c.args.head.more) c.place_of.new.pool
-            c.lay_and_count-arrival.new.pool c.self.inside.datagrams.items es c.self.inside.index.buckets
-            c.follow.new.self.buckets c.lay_and_count-arrival.result c.self.invariant.2.rows (after c).within
-            c.lay_and_count-arrival.ensures.layout
+            c.insert_and_count-arrival.new.pool c.self.inside.datagrams.items es c.self.inside.index.buckets
+            c.follow.new.self.buckets c.insert_and_count-arrival.result c.self.invariant.2.rows (after c).within
+            c.insert_and_count-arrival.ensures.layout
             (λ less. c.follow.ensures.fewer (omega (arith, less, rest)))
             (λ le. c.follow.ensures.same (omega (arith, le, rest)))
             ∙ ap (λ (k : ℕ). buckets_of k es) (sym c.follow.ensures.count);

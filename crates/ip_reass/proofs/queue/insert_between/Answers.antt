@@ -4,8 +4,8 @@ use Rattle.ip_reass.specs.Inside.Walks.{arrived, after, reach}
 use Rattle.ip_reass.proofs.Counted.{held_as, fragments_as}
 use Rattle.ip_reass.proofs.Lays.{Covered, covered_in, Laid, laid_in, Settled, reaches}
 use Rattle.ip_reass.proofs.Whole.{held_within}
-use Rattle.ip_reass.proofs.queue.lay_between.Goals.{After-lay_after-gone}
-use Rattle.ip_reass.proofs.queue.lay_between.Goals as goal
+use Rattle.ip_reass.proofs.queue.insert_between.Goals.{After-insert_trimmed-gone}
+use Rattle.ip_reass.proofs.queue.insert_between.Goals as goal
 
 none : (c : goal.After-free_chain)
     → Covered c.args.pool.now c.args.datagram.now.fragments c.args.chain
@@ -30,33 +30,33 @@ returns-then-len-lost-clause-laid c = record {
   moves = (none c).moves;
 }
 
-pub lay_after-gone-requires-clause-few : goal.lay_after-gone-requires-clause-few
-lay_after-gone-requires-clause-few c =
+pub insert_trimmed-gone-requires-clause-few : goal.insert_trimmed-gone-requires-clause-few
+insert_trimmed-gone-requires-clause-few c =
     held_within (fragments c.args.pool.now c.args.datagram.now.fragments) c.requires.queue.apart c.requires.queue.small
 
-done : (c : After-lay_after-gone)
+done : (c : After-insert_trimmed-gone)
     → Settled c.args.pool.now c.args.datagram.now.fragments (after c.walk_to-before.result.front)
     c.saturating_sub-lost.result c.args.chain
-    (arrived c.args.pool.now c.args.chain c.args.span.offset c.args.span.more) c.lay_after-gone.new.pool
-    c.lay_after-gone.new.train
+    (arrived c.args.pool.now c.args.chain c.args.span.offset c.args.span.more) c.insert_trimmed-gone.new.pool
+    c.insert_trimmed-gone.new.train
 done c =
     let here = arrived c.args.pool.now c.args.chain c.args.span.offset c.args.span.more in
     let i = after c.walk_to-before.result.front in
     let were = queued c.args.pool.now c.args.datagram.now.fragments in
     record {
       queue_is =
-          c.lay_after-gone.ensures.queue
+          c.insert_trimmed-gone.ensures.queue
           ∙ ap (λ (n : ℕ). take i were ++ cut n here ∷ cut_to (queued_end here) (drop i were))
           (sym c.saturating_sub-lost.ensures);
-      moves = c.lay_after-gone.ensures.moves;
+      moves = c.insert_trimmed-gone.ensures.moves;
     }
 
-some : (c : After-lay_after-gone)
+some : (c : After-insert_trimmed-gone)
     → Laid c.args.pool.now c.args.datagram.now.fragments
-    (arrived c.args.pool.now c.args.chain c.args.span.offset c.args.span.more) c.lay_after-gone.new.pool
-    c.lay_after-gone.new.train
+    (arrived c.args.pool.now c.args.chain c.args.span.offset c.args.span.more) c.insert_trimmed-gone.new.pool
+    c.insert_trimmed-gone.new.train
 some c =
-    laid_in c.args.pool.now c.lay_after-gone.new.pool c.args.datagram.now.fragments c.lay_after-gone.new.train
+    laid_in c.args.pool.now c.insert_trimmed-gone.new.pool c.args.datagram.now.fragments c.insert_trimmed-gone.new.train
     (after c.walk_to-before.result.front) c.saturating_sub-lost.result c.args.chain
     (arrived c.args.pool.now c.args.chain c.args.span.offset c.args.span.more) c.requires.queue
     c.walk_to-before.ensures.upto c.walk_to-before.ensures.above (omega arith) (omega arith) c.requires.small (done c)
@@ -70,7 +70,7 @@ returns-clause-laid c = record {
   none = tt;
   queue =
       record {
-        held = c.lay_after-gone.ensures.held;
+        held = c.insert_trimmed-gone.ensures.held;
         apart = (some c.before.before).apart;
         small = (some c.before.before).small;
       };
@@ -79,11 +79,11 @@ returns-clause-laid c = record {
         arith,
         c.from.ensures,
         c.requires.counted,
-        c.lay_after-gone.ensures.gone,
+        c.insert_trimmed-gone.ensures.gone,
         c.saturating_sub-lost.ensures,
         c.len-len.ensures,
       );
-  moves = c.lay_after-gone.ensures.moves;
+  moves = c.insert_trimmed-gone.ensures.moves;
 }
 
 pub overflow_cast-datagram : goal.overflow_cast-datagram
@@ -92,10 +92,10 @@ overflow_cast-datagram c =
       arith,
       c.from.ensures,
       c.requires.counted,
-      c.lay_after-gone.ensures.gone,
+      c.insert_trimmed-gone.ensures.gone,
       c.saturating_sub-lost.ensures,
       c.len-len.ensures,
-      held_within (fragments c.lay_after-gone.new.pool c.lay_after-gone.new.train)
+      held_within (fragments c.insert_trimmed-gone.new.pool c.insert_trimmed-gone.new.train)
           (some c.before).apart (some c.before).small,
     )
 

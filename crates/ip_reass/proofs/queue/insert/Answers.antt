@@ -1,16 +1,16 @@
 use Rattle.std.proofs.Common.{arith}
 use Rattle.ip_reass.specs.Fragments.{fragments}
 use Rattle.ip_reass.proofs.Whole.{gap_stops}
-use Rattle.ip_reass.proofs.queue.lay.Goals as goal
+use Rattle.ip_reass.proofs.queue.insert.Goals as goal
 
 pub returns-then-bytes-end-clause-whole : goal.returns-then-bytes-end-clause-whole
 returns-then-bytes-end-clause-whole c =
-    gap_stops (fragments c.lay_between.new.pool c.lay_between.new.datagram.fragments)
-    c.lay_between.ensures.laid.queue.apart
+    gap_stops (fragments c.insert_between.new.pool c.insert_between.new.datagram.fragments)
+    c.insert_between.ensures.laid.queue.apart
     (omega (
       arith,
-      c.lay_between.ensures.laid.counted,
-      c.lay_between.ensures.reach,
+      c.insert_between.ensures.laid.counted,
+      c.insert_between.ensures.reach,
       c.end_of_last-end.ensures,
       c.if-bytes-end.true,
       c.from-bytes.ensures,

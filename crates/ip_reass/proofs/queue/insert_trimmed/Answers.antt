@@ -8,7 +8,7 @@ use Rattle.ip_reass.proofs.Fronts.{front_beside, front_within}
 use Rattle.ip_reass.proofs.Steps.{Changed, changed}
 use Rattle.ip_reass.proofs.Counted.{held_between}
 use Rattle.ip_reass.proofs.Lays.{Waits, waits, Settled, settled}
-use Rattle.ip_reass.proofs.queue.lay_after.Goals as goal
+use Rattle.ip_reass.proofs.queue.insert_trimmed.Goals as goal
 
 -- the chain trimmed: what clear needs
 change : (c : goal.After-clear-arg-2-1)

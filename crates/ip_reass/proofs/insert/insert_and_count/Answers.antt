@@ -4,45 +4,47 @@ use Rattle.ip_reass.specs.Arrivals.{key_in}
 use Rattle.ip_reass.specs.declared.datagram.Datagram.{Datagram}
 use Rattle.ip_reass.proofs.Settled.{Lent, lent_table, lent_kept, lent_whole, lent_len, lent_moves, lent_leaves, whole_short}
 use Rattle.ip_reass.proofs.Queues.{covered_layout}
-use Rattle.ip_reass.proofs.lay.lay_and_count.Goals as goal
+use Rattle.ip_reass.proofs.insert.insert_and_count.Goals as goal
 
 -- the table after the fragment was laid
 kept : (c : goal.In-Waits) → Lent c.args.pool.now c.args.table.now.items c.args.i c.args.fragment.chain
     (arrived c.args.pool.now c.args.fragment.chain c.args.fragment.head.offset c.args.fragment.head.more)
-    c.lay_in.new.pool c.lay_in.new.table
-    (take c.args.table.now.len (c.lay_in.new.table ++ drop (length c.lay_in.new.table) c.args.table.now.items))
+    c.insert_in.new.pool c.insert_in.new.table
+    (take c.args.table.now.len (c.insert_in.new.table ++ drop (length c.insert_in.new.table) c.args.table.now.items))
 kept c =
-    lent_table c.args.pool.now c.lay_in.new.pool c.args.table.now.items c.as_mut_slice.result.now c.lay_in.new.table
+    lent_table c.args.pool.now c.insert_in.new.pool c.args.table.now.items c.as_mut_slice.result.now
+      c.insert_in.new.table
     c.args.i c.args.fragment.chain c.args.table.now.len
     (arrived c.args.pool.now c.args.fragment.chain c.args.fragment.head.offset c.args.fragment.head.more)
-    (is_left c.lay_in.result) _
+    (is_left c.insert_in.result) _
     c.requires.place (omega (
       arith,
       c.as_mut_slice.ensures.len,
       ap (λ (ds : List Datagram). length ds)
           c.as_mut_slice.ensures.value,
-    )) c.as_mut_slice.ensures.value (ap is_left c.in-Waits.is) c.lay_in.ensures.lays refl
+    )) c.as_mut_slice.ensures.value (ap is_left c.in-Waits.is) c.insert_in.ensures.lays refl
 
 whole : (c : goal.After-count)
     → Lent c.args.pool.now c.args.table.now.items c.args.i c.args.fragment.chain
     (arrived c.args.pool.now c.args.fragment.chain c.args.fragment.head.offset c.args.fragment.head.more)
-    c.lay_in.new.pool c.lay_in.new.table
-    (take c.args.table.now.len (c.lay_in.new.table ++ drop (length c.lay_in.new.table) c.args.table.now.items))
+    c.insert_in.new.pool c.insert_in.new.table
+    (take c.args.table.now.len (c.insert_in.new.table ++ drop (length c.insert_in.new.table) c.args.table.now.items))
 whole c =
-    lent_table c.args.pool.now c.lay_in.new.pool c.args.table.now.items c.as_mut_slice.result.now c.lay_in.new.table
+    lent_table c.args.pool.now c.insert_in.new.pool c.args.table.now.items c.as_mut_slice.result.now
+      c.insert_in.new.table
     c.args.i c.args.fragment.chain c.args.table.now.len
     (arrived c.args.pool.now c.args.fragment.chain c.args.fragment.head.offset c.args.fragment.head.more)
-    (is_left c.lay_in.result) _
+    (is_left c.insert_in.result) _
     c.requires.place (omega (
       arith,
       c.as_mut_slice.ensures.len,
       ap (λ (ds : List Datagram). length ds)
           c.as_mut_slice.ensures.value,
-    )) c.as_mut_slice.ensures.value (ap is_left c.in-Whole.is) c.lay_in.ensures.lays refl
+    )) c.as_mut_slice.ensures.value (ap is_left c.in-Whole.is) c.insert_in.ensures.lays refl
 
 pub returns-in-Waits-clause-step : goal.returns-in-Waits-clause-step
 returns-in-Waits-clause-step c = λ rest held new here most is.
-    lent_kept c.args.pool.now c.lay_in.new.pool c.args.table.now.items c.lay_in.new.table _ c.args.i
+    lent_kept c.args.pool.now c.insert_in.new.pool c.args.table.now.items c.insert_in.new.table _ c.args.i
     c.args.fragment.chain (arrived c.args.pool.now c.args.fragment.chain c.args.fragment.head.offset
     c.args.fragment.head.more) (kept c)
     rest held (key_in c.args.fragment.head) c.args.counters.now new c.requires.place here most c.in-Waits.ensures.whole
@@ -50,7 +52,7 @@ returns-in-Waits-clause-step c = λ rest held new here most is.
 
 short : (c : goal.After-count) → c.in-Whole.len ≤ 65515
 short c =
-    whole_short c.args.pool.now c.lay_in.new.pool c.args.table.now.items c.lay_in.new.table _ c.args.i
+    whole_short c.args.pool.now c.insert_in.new.pool c.args.table.now.items c.insert_in.new.table _ c.args.i
     c.args.fragment.chain (arrived c.args.pool.now c.args.fragment.chain c.args.fragment.head.offset
     c.args.fragment.head.more) (whole c) c.in-Whole.len c.in-Whole.ensures.whole
 
@@ -62,7 +64,7 @@ overflow_cast-result c = omega (arith, short c)
 
 pub returns-clause-step : goal.returns-clause-step
 returns-clause-step c = λ rest held new here most goes.
-    lent_whole c.args.pool.now c.lay_in.new.pool c.args.table.now.items c.lay_in.new.table _ c.args.i
+    lent_whole c.args.pool.now c.insert_in.new.pool c.args.table.now.items c.insert_in.new.table _ c.args.i
     c.args.fragment.chain (arrived c.args.pool.now c.args.fragment.chain c.args.fragment.head.offset
     c.args.fragment.head.more) (whole c)
     c.requires.place c.take_out-chain.new.pool c.take_out-chain.new.table.items c.take_out-chain.result c.in-Whole.len
@@ -71,7 +73,7 @@ returns-clause-step c = λ rest held new here most goes.
 
 pub returns-clause-moves : goal.returns-clause-moves
 returns-clause-moves c =
-    lent_moves c.args.pool.now c.lay_in.new.pool c.args.table.now.items c.lay_in.new.table _ c.args.i
+    lent_moves c.args.pool.now c.insert_in.new.pool c.args.table.now.items c.insert_in.new.table _ c.args.i
     c.args.fragment.chain (arrived c.args.pool.now c.args.fragment.chain c.args.fragment.head.offset
     c.args.fragment.head.more) (whole c)
     c.requires.place c.take_out-chain.new.pool c.take_out-chain.new.table.items c.take_out-chain.result c.in-Whole.len
@@ -80,7 +82,7 @@ returns-clause-moves c =
 pub returns-clause-whole : goal.returns-clause-whole
 returns-clause-whole c =
     let size =
-    lent_len c.args.pool.now c.lay_in.new.pool c.args.table.now.items c.lay_in.new.table _ c.args.i
+    lent_len c.args.pool.now c.insert_in.new.pool c.args.table.now.items c.insert_in.new.table _ c.args.i
     c.args.fragment.chain (arrived c.args.pool.now c.args.fragment.chain c.args.fragment.head.offset
     c.args.fragment.head.more) (whole c)
     c.requires.place c.take_out-chain.new.pool c.take_out-chain.new.table.items c.take_out-chain.result c.in-Whole.len
@@ -92,20 +94,21 @@ returns-clause-whole c =
 
 pub returns-in-Covered-clause-layout : goal.returns-in-Covered-clause-layout
 returns-in-Covered-clause-layout c =
-    covered_layout c.args.pool.now c.lay_in.new.pool c.args.table.now.items c.as_mut_slice.result.now c.lay_in.new.table
+    covered_layout c.args.pool.now c.insert_in.new.pool c.args.table.now.items c.as_mut_slice.result.now
+      c.insert_in.new.table
     _ c.args.i c.args.fragment.chain c.args.table.now.len
     (arrived c.args.pool.now c.args.fragment.chain c.args.fragment.head.offset c.args.fragment.head.more)
-    (is_left c.lay_in.result)
+    (is_left c.insert_in.result)
     c.requires.place (omega (
       arith,
       c.as_mut_slice.ensures.len,
       ap (λ (ds : List Datagram). length ds)
           c.as_mut_slice.ensures.value,
-    )) c.as_mut_slice.ensures.value (ap is_left c.in-Covered.is) c.lay_in.ensures.lays refl
+    )) c.as_mut_slice.ensures.value (ap is_left c.in-Covered.is) c.insert_in.ensures.lays refl
 
 pub returns-clause-layout : goal.returns-clause-layout
 returns-clause-layout c =
-    lent_leaves c.args.pool.now c.lay_in.new.pool c.args.table.now.items c.lay_in.new.table _ c.args.i
+    lent_leaves c.args.pool.now c.insert_in.new.pool c.args.table.now.items c.insert_in.new.table _ c.args.i
     c.args.fragment.chain (arrived c.args.pool.now c.args.fragment.chain c.args.fragment.head.offset
     c.args.fragment.head.more) (whole c)
     c.requires.place c.take_out-chain.new.pool c.take_out-chain.new.table.items c.take_out-chain.result c.in-Whole.len

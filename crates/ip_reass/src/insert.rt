@@ -11,12 +11,12 @@ ghost use Rattle.ip_reass.specs.Arrivals.{GoesOn, HasWhole, in_hand, key_in, mac
 ghost use Rattle.ip_reass.specs.Fragments.{fragment_of, fragments, map_of};
 ghost use Rattle.ip_reass.specs.Layouts.{HasCause, LeavesAt, queues};
 ghost use Rattle.ip_reass.specs.Table.{IsTable, held_all, unfinished, unfinished_of};
-ghost use Rattle.ip_reass.specs.Inside.Walks.{TellsWhole, arrived, is_left};
-ghost use Rattle.ip_reass.specs.Inside.Steps.{LaysIn, TakesOut, datagram_at};
+ghost use Rattle.ip_reass.specs.Inside.Walks.{ReportsWhole, arrived, is_left};
+ghost use Rattle.ip_reass.specs.Inside.Steps.{InsertsIn, TakesOut, datagram_at};
 
 use crate::arrival::Arrival;
 use crate::datagram::Datagram;
-use crate::queue::{Laying, join_all, lay};
+use crate::queue::{Insertion, insert, join_all};
 use crate::span::Span;
 use flat_model::{Counter, Counters, Why};
 use ip_out::IpHead;
@@ -25,25 +25,25 @@ use params::{IP_HEADER, IP_MAX_DATA};
 
 /// Puts a fragment among those of the datagram at a place.
 #[inline(always)]
-pub(crate) fn lay_in(
+pub(crate) fn insert_in(
     pool: &mut Pool,
     table: &mut [Datagram],
     i: usize,
     chain: Chain,
     span: Span,
-) -> Laying
+) -> Insertion
     requires table { IsTable pool.old table.old }
     requires place { i < length table.old }
     requires owned { IsOwned pool.old (chain ∷ held_all pool.old table.old) }
     requires headed { (chain_of pool.old chain).front.header ≡ true }
     requires some { 0 < length (string (chain_of pool.old chain)) }
     requires small { span.offset + length (string (chain_of pool.old chain)) ≤ IP_MAX_DATA }
-    ensures lays { LaysIn pool.old table.old i chain (arrived pool.old chain span.offset span.more) (is_left result)
+    ensures lays { InsertsIn pool.old table.old i chain (arrived pool.old chain span.offset span.more) (is_left result)
         pool.new table.new }
-    ensures whole { TellsWhole (map_of (fragments pool.new (datagram_at table.new i).fragments)) result }
+    ensures whole { ReportsWhole (map_of (fragments pool.new (datagram_at table.new i).fragments)) result }
 {
     let datagram = &mut table[i];
-    lay(pool, datagram, chain, span)
+    insert(pool, datagram, chain, span)
 }
 
 /// Moves a row to the end of the table. Those after it move down by one.
@@ -105,7 +105,7 @@ pub(crate) struct Fragment {
 
 /// Puts a fragment among those of the datagram at a place, and counts. If the datagram is then whole, it's removed.
 #[inline(always)]
-pub(crate) fn lay_and_count(
+pub(crate) fn insert_and_count(
     pool: &mut Pool,
     table: &mut Vec<Datagram>,
     counters: &mut Counters,
@@ -142,13 +142,13 @@ pub(crate) fn lay_and_count(
         offset: head.offset,
         more: head.more,
     };
-    let len = match lay_in(pool, table.as_mut_slice(), i, chain, span) {
-        Laying::Covered => {
+    let len = match insert_in(pool, table.as_mut_slice(), i, chain, span) {
+        Insertion::Covered => {
             counters.count_ended(Why::FragmentDropped);
             return Arrival::Dropped(Why::FragmentDropped);
         }
-        Laying::Waits => return Arrival::Kept,
-        Laying::Whole(len) => len,
+        Insertion::Waits => return Arrival::Kept,
+        Insertion::Whole(len) => len,
     };
     pool.laws();
     let chain = take_out(pool, table, i);

@@ -3,7 +3,7 @@ use Rattle.std.proofs.lemmas.Option.{slice_get_read}
 use Rattle.ip_reass.specs.declared.datagram.Datagram.{Datagram}
 use Rattle.ip_reass.specs.declared.questions.UnfinishedDatagram.{UnfinishedDatagram}
 use Rattle.ip_reass.proofs.Ranges.{told_from, unfinished_here}
-use Rattle.ip_reass.proofs.questions.told_at.Goals as goal
+use Rattle.ip_reass.proofs.questions.unfinished_at.Goals as goal
 
 pub returns : goal.returns
 returns c =

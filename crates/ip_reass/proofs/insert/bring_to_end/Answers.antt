@@ -2,7 +2,7 @@ use Rattle.std.proofs.Common.{◌≡◌, ◌∙◌, ◌+◌, List, get_or, inser
 use Rattle.std.proofs.lemmas.List.Edits.{length-remove}
 use Rattle.ip_reass.specs.declared.datagram.Datagram.{Datagram}
 use Rattle.ip_reass.proofs.Edits.{insert_back, insert_end, swap-insert}
-use Rattle.ip_reass.proofs.lay.bring_to_end.Goals as goal
+use Rattle.ip_reass.proofs.insert.bring_to_end.Goals as goal
 
 pub rows-init : goal.rows-init
 rows-init c = record {

@@ -2,8 +2,8 @@ use Rattle.std.proofs.Common.{◌≡◌, ◌∙◌, List, [], ◌∷◌, ◌++�
 use Rattle.std.proofs.lemmas.List.{take_at}
 use Rattle.ip_reass.specs.declared.datagram.Datagram.{Datagram}
 use Rattle.ip_reass.proofs.Edits.{last_same}
-use Rattle.ip_reass.proofs.lay.take_row.Goals as goal
-use Rattle.ip_reass.proofs.lay.take_row.Goals.{In-Some}
+use Rattle.ip_reass.proofs.insert.take_row.Goals as goal
+use Rattle.ip_reass.proofs.insert.take_row.Goals.{In-Some}
 
 -- what is popped is the row that was brought to the end
 taken : (c : In-Some) → (c.pop.new.self.items ≡ remove c.args.table.now.items c.args.i)

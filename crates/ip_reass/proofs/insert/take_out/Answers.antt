@@ -3,7 +3,7 @@ use Rattle.ip_reass.specs.declared.datagram.Datagram.{Datagram}
 use Rattle.std.proofs.Common.{List}
 use Rattle.ip_reass.specs.Inside.Steps.{TakesOut}
 use Rattle.ip_reass.proofs.Entered.{taken_out, held_then}
-use Rattle.ip_reass.proofs.lay.take_out.Goals as goal
+use Rattle.ip_reass.proofs.insert.take_out.Goals as goal
 
 pub returns-clause-takes : goal.returns-clause-takes
 returns-clause-takes c =

@@ -1,0 +1,22 @@
+use Rattle.std.proofs.Common.{sym, subst}
+use Rattle.ip_reass.specs.Fragments.{fragments, map_of}
+use Rattle.ip_reass.specs.Inside.Walks.{ReportsWhole, arrived, is_left}
+use Rattle.ip_reass.specs.declared.datagram.Datagram.{Datagram}
+use Rattle.ip_reass.proofs.Entered.{laid_in_table, datagram_put, apart_at}
+use Rattle.ip_reass.proofs.insert.insert_in.Goals as goal
+
+pub returns-clause-lays : goal.returns-clause-lays
+returns-clause-lays c =
+    laid_in_table c.args.pool.now c.insert.new.pool c.args.table.now c.args.i c.args.chain c.index-table-i.result
+    (arrived c.args.pool.now c.args.chain c.args.span.offset c.args.span.more) (is_left c.insert.result)
+    c.insert.new.datagram c.requires.table c.requires.place c.requires.owned c.insert.ensures.laid
+
+pub insert-requires-clause-apart : goal.insert-requires-clause-apart
+insert-requires-clause-apart c =
+    apart_at c.args.pool.now c.args.table.now c.args.i c.args.chain c.index-table-i.result c.requires.place
+    c.requires.owned
+
+pub returns-clause-whole : goal.returns-clause-whole
+returns-clause-whole c =
+    subst (λ (d : Datagram). ReportsWhole (map_of (fragments c.insert.new.pool d.fragments)) c.insert.result)
+    (sym (datagram_put c.args.table.now c.args.i c.insert.new.datagram c.requires.place)) c.insert.ensures.whole
