@@ -51,7 +51,7 @@ def test_readme(user):
     assert printed.startswith(played), tail
     last = printed.splitlines()[-1]
     assert re.fullmatch(summary.strip().replace("N", r"\d+"), last), tail
-    skipped = sum(map(int, re.findall(r"(?m)^SKIPPED \[(\d+)\] ", printed)))
+    skipped = sum(map(int, re.findall(r"(?m)^skipped \((\d+)\): ", printed)))
     assert skipped == int(last.split()[-2]), f"the reasons above the last line count {skipped} skips: {tail}"
     assert "Traceback" not in printed + said, tail
 
