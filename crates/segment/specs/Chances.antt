@@ -46,13 +46,13 @@ fate_of c g =
     else (Once (wait_of c first.0), first.1)
     )
 
--- the copies of a packet that are in flight because of its fate, before these packets
+-- the copies of a packet that are under way because of its fate, before these packets
 abbrev pub copies_before : Fate → Flying → List Flying → List Flying
 copies_before Lost f later = later
 copies_before (Once wait) f later = waits wait f ∷ later
 copies_before (Twice first second) f later = waits first f ∷ waits second f ∷ later
 
--- those of these packets that are in flight then, one after another, and the generator then
+-- those of these packets that are under way then, one after another, and the generator then
 abbrev pub entering : List Chances → List Flying → Lcg → List Flying × Lcg
 entering chances [] g = ([], g)
 entering chances (f ∷ fs) g =

@@ -1,4 +1,4 @@
--- Packets in flight on a segment, and the hosts that receive them (this project's own).
+-- Packets under way on a segment, and the hosts that receive them (this project's own).
 use Rattle.std.specs.Prelude.{ℕ, ◌-◌, nat_le, Bool, ◌==◌, ◌&&◌, ◌||◌, not, if◌then◌else◌, List, length, map, filter_map, Some, None}
 use Rattle.params.specs.declared.TheConstants.{IP_HEADER, LIMITED_BROADCAST}
 use Rattle.flat_model.specs.Amounts.Weight.{Item}

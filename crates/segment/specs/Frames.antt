@@ -64,7 +64,7 @@ frames_below hosts (suc place) = frames_below hosts place ++ sent_by place (give
 abbrev pub frames_of : SegmentView → List Flying
 frames_of v = frames_below (hosts_in v) (length v.links)
 
--- Each host gave its frames. They were added after those in flight, up to the capacity. A stack without a link is as it
+-- Each host gave its frames. They were added after those under way, up to the capacity. A stack without a link is as it
 -- was.
 pub record AreFramesCollected (old new : SegmentView) : Type 0 where
   pub configs : new.configs ≡ old.configs

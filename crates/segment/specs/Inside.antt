@@ -1,4 +1,4 @@
--- What the fields say is in flight (this project's own).
+-- What the fields say is under way (this project's own).
 use Rattle.std.specs.Prelude.{ℕ, List, ◌++◌, map, take, vec_capacity, Option}
 use Rattle.std.specs.Borrow.{LendsIf, MutBor, Fml}
 use Rattle.std.specs.Vec.{with_item}
@@ -21,11 +21,11 @@ use Rattle.segment.specs.declared.segment.Segment.{Segment}
 abbrev pub flying : Frame → Flying
 flying f = record { sender = f.sender; packet = take f.len f.room; wait = f.wait }
 
--- what is in flight
+-- what is under way
 abbrev pub under_way : Flight → List Flying
 under_way f = map flying f.frames.items
 
--- what is in flight once these packets are on the wire, up to the capacity; the generator and the counts then
+-- what is under way once these packets are on the wire, up to the capacity; the generator and the counts then
 abbrev pub sent_behind : Flight → Impairment → List Flying → List Flying
 sent_behind f i fs = take (vec_capacity f.frames) (under_way f ++ (entering i.chances.items fs i.random).0)
 

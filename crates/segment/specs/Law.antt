@@ -36,7 +36,7 @@ IsEtherAct old (AgesLink place) new = (is_ether old ≡ true) × (new ≡ link_a
 
 -- what was done: a host joined; a call was made on the host at a place; from a segment in this state, what waited was
 -- collected or what was due was delivered; the chances for what the host at a place sends were set; the generator was
--- seeded; packets in flight were lost, repeated or exchanged by hand; or hosts on an Ethernet did something
+-- seeded; packets under way were lost, repeated or exchanged by hand; or hosts on an Ethernet did something
 pub data Act : Type 0 where
   Ether : (act : EtherAct) → Act
   Joins : (config : Config) → Act

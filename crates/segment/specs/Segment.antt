@@ -18,8 +18,8 @@ use Rattle.segment.specs.declared.tally.Tally.{Tally}
 use Rattle.segment.specs.Tallies.{hears, nothing_counted, tallied}
 use Rattle.segment.specs.Chances.{entering, no_chances, seeded, shuffled}
 
--- its hosts by their places, the links of those that are on an Ethernet, what is in flight, the capacity for packets in
--- flight, the chances for what each host sends, the generator that decides, and the counters of each
+-- its hosts by their places, the links of those that are on an Ethernet, what is under way, the capacity for packets
+-- under way, the chances for what each host sends, the generator that decides, and the counters of each
 pub record SegmentView : Type 0 where
   pub configs : List Config
   pub stacks : List StackView
@@ -68,7 +68,7 @@ abbrev pub given_below : List StackView → ℕ → List Flying
 given_below stacks zero = []
 given_below stacks (suc place) = given_below stacks place ++ sent_by place (waiting_in (slice_get stacks place))
 
--- what the hosts give, as it's in flight then, and the generator then
+-- what the hosts give, as it's under way then, and the generator then
 abbrev pub collected : SegmentView → List Flying × Lcg
 collected v = entering v.chances (given_below v.stacks (length v.stacks)) v.random
 
@@ -81,7 +81,7 @@ abbrev pub received_in : ℕ → Option Config → List Flying → List (List �
 received_in place None flight = []
 received_in place (Some c) flight = received place c flight
 
--- Each host gave all that waits. It was added after what was in flight, up to the capacity.
+-- Each host gave all that waits. It was added after what was under way, up to the capacity.
 pub record IsCollected (old new : SegmentView) : Type 0 where
   pub configs : new.configs ≡ old.configs
   pub room : new.room ≡ old.room
@@ -113,7 +113,7 @@ IsCarried old new = (mid : SegmentView) × IsCollected old mid × HasComeDue mid
 abbrev pub is_silent : StackView → Bool
 is_silent s = length (state_of s).output == 0
 
--- nothing is in flight, and nothing waits for a link
+-- nothing is under way, and nothing waits for a link
 abbrev pub is_quiet_segment : SegmentView → Bool
 is_quiet_segment v = (length v.flight == 0) && list_all is_silent v.stacks
 

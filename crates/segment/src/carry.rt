@@ -126,14 +126,14 @@ impl Segment {
         self.deliver();
     }
 
-    /// Whether nothing is in flight, and nothing waits for a link.
+    /// Whether nothing is under way, and nothing waits for a link.
     pub fn is_quiet(&self) -> bool
         ensures { result ≡ is_quiet_segment (view self.now) }
     {
         self.flight.frames.is_empty() && nothing_waits(self.stacks.as_slice())
     }
 
-    /// Carries until nothing is in flight and nothing waits for a link, but at most `most` times. Returns whether
+    /// Carries until nothing is under way and nothing waits for a link, but at most `most` times. Returns whether
     /// nothing is left.
     pub fn carry_all(&mut self, most: u32) -> bool
         ensures carried { AreCarried most (view self.old) (view self.new) }

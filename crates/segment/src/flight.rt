@@ -1,10 +1,10 @@
-//! The packets that are in flight, and those that are due in a carry.
+//! The packets that are under way, and those that are due in a carry.
 ghost use Rattle.std.specs.Prelude.{◌≡◌, [], vec_capacity, IfOk};
 
 use crate::frame::Frame;
 use std::alloc::{AllocError, Global};
 
-/// The packets that are in flight, up to the capacity, and those that are due in a carry. `hand` has the packet that a
+/// The packets that are under way, up to the capacity, and those that are due in a carry. `hand` has the packet that a
 /// host has given last, and `passed` is for use within a call.
 #[derive(Drop)]
 pub(crate) struct Flight {

@@ -1,11 +1,11 @@
-//! Actions by hand on the packets that are in flight, and what is shown of them.
+//! Actions by hand on the packets that are under way, and what is shown of them.
 ghost use Rattle.std.specs.Prelude.{◌≡◌, ◌&&◌, length, nat_lt, slice_get, MatchOption, None, Some};
 ghost use Rattle.segment.specs.Segment.{lost_at, repeated_at, swapped_at};
 ghost use Rattle.segment.specs.Inside.{view};
 
 use crate::segment::Segment;
 
-/// A packet that is in flight.
+/// A packet that is under way.
 #[derive(Clone, Copy, Debug, PartialEq, Eq)]
 pub struct UnderWay<'a> {
     /// The place of the host that sent it.
@@ -17,14 +17,14 @@ pub struct UnderWay<'a> {
 }
 
 impl Segment {
-    /// How many packets are in flight. Their places are from 0 on, in the order in which they were sent.
+    /// How many packets are under way. Their places are from 0 on, in the order in which they were sent.
     pub fn flight_len(&self) -> usize
         ensures { result ≡ length (view self.now).flight }
     {
         self.flight.frames.len()
     }
 
-    /// The packet in flight at a place. `None` if there is no such packet.
+    /// The packet under way at a place. `None` if there is no such packet.
     pub fn under_way(&self, at: usize) -> Option<UnderWay<'_>>
         ensures { MatchOption result (slice_get (view self.now).flight at ≡ None) (λ shown.
             slice_get (view self.now).flight at
@@ -38,7 +38,7 @@ impl Segment {
         })
     }
 
-    /// Loses the packet in flight at a place. Returns whether there was one.
+    /// Loses the packet under way at a place. Returns whether there was one.
     pub fn lose(&mut self, at: usize) -> bool
         ensures is { result ≡ nat_lt at (length (view self.old).flight) }
         ensures lost { view self.new ≡ lost_at at (view self.old) }
@@ -50,7 +50,7 @@ impl Segment {
         true
     }
 
-    /// Adds a copy of the packet in flight at a place after all others. Returns whether there was one, and the capacity
+    /// Adds a copy of the packet under way at a place after all others. Returns whether there was one, and the capacity
     /// allowed it.
     pub fn repeat(&mut self, at: usize) -> bool
         ensures is { result ≡ (nat_lt at (length (view self.old).flight)
@@ -68,7 +68,7 @@ impl Segment {
         true
     }
 
-    /// Exchanges two packets in flight. Returns whether both were there.
+    /// Exchanges two packets under way. Returns whether both were there.
     pub fn swap(&mut self, at: usize, other: usize) -> bool
         ensures is { result ≡ (nat_lt at (length (view self.old).flight)
             && nat_lt other (length (view self.old).flight)) }

@@ -1,4 +1,4 @@
-//! A broadcast segment of hosts, each with a stack of its own, and the packets or frames that are in flight between
+//! A broadcast segment of hosts, each with a stack of its own, and the packets or frames that are under way between
 //! them.
 #![tactic(auto)]
 

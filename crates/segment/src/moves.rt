@@ -1,4 +1,4 @@
-//! How packets get into flight, and out of it.
+//! How packets go under way, and leave.
 ghost use Rattle.std.specs.Prelude.{◌≡◌, ◌≤◌, ◌++◌, ◌∷◌, [], filter, length, map, take, vec_capacity, vec_len};
 ghost use Rattle.segment.specs.Chances.{copies_before};
 ghost use Rattle.segment.specs.Flying.{flying_aged, is_due, is_early, waits};
@@ -34,7 +34,7 @@ fn part(all: &[Frame], due: &mut Vec<Frame>, early: &mut Vec<Frame>)
 }
 
 impl Flight {
-    /// A copy of the packet in `hand` is put into flight, not due for `wait` carries, if the capacity allows.
+    /// A copy of the packet in `hand` goes under way, not due for `wait` carries, if the capacity allows.
     fn put(&mut self, wait: u64)
         ensures put { under_way self.new
             ≡ take (vec_capacity self.old.frames) (under_way self.old ++ waits wait (flying self.old.hand) ∷ []) }
@@ -47,7 +47,7 @@ impl Flight {
         }
     }
 
-    /// Copies of the packet in `hand` are put into flight by its fate.
+    /// Copies of the packet in `hand` go under way by its fate.
     fn put_copies(&mut self, fate: Fate)
         ensures entered { under_way self.new
             ≡ take (vec_capacity self.old.frames) (under_way self.old ++ copies_before fate (flying self.old.hand) []) }

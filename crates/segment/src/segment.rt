@@ -1,4 +1,4 @@
-//! A broadcast segment: its hosts, and what is in flight.
+//! A broadcast segment: its hosts, and what is under way.
 ghost use Rattle.std.specs.Prelude.{◌≡◌, ◌∷◌, [], ◌++◌, ◌+◌, length, nat_lt, option_map, slice_get, slice_set, IfOk, MatchResult};
 ghost use Rattle.std.specs.List.{list_all};
 ghost use Rattle.segment.specs.Chances.{seeded};
@@ -42,9 +42,9 @@ pub enum JoinFault {
     BadLink,
 }
 
-/// A broadcast segment, such as an Ethernet: up to 64 hosts, each with a stack of its own, and the packets that are in
-/// flight between them. Either no host has a link below its stack, or each has one: then frames are in flight. It must
-/// be consumed, by `end`.
+/// A broadcast segment, such as an Ethernet: up to 64 hosts, each with a stack of its own, and the packets that are
+/// under way between them. Either no host has a link below its stack, or each has one: then frames are under way. It
+/// must be consumed, by `end`.
 pub struct Segment {
     pub(crate) configs: Vec<Config>,
     pub(crate) stacks: Vec<Stack>,
@@ -75,7 +75,7 @@ pub(crate) fn is_apart(config: &Config, others: &[Config]) -> bool
 }
 
 impl Segment {
-    /// A segment without hosts, with capacity for `room` packets in flight, and the seed 1. All memory for these is
+    /// A segment without hosts, with capacity for `room` packets under way, and the seed 1. All memory for these is
     /// allocated here.
     ///
     /// # Errors

@@ -6,7 +6,7 @@ use net_stack::Stack;
 /// A watcher of the packets on a segment: it's called when a packet, or a frame, is sent to the wire, and when one
 /// arrives at hosts. It can read the state of a host at that time; it can't change the segment.
 pub trait Watch {
-    /// This packet of the host at a place is sent to the wire, with this fate. This many copies of it are in flight
+    /// This packet of the host at a place is sent to the wire, with this fate. This many copies of it are under way
     /// then.
     fn sent(&mut self, sender: usize, packet: &[u8], fate: Fate, copies: usize);
 

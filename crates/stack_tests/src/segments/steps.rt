@@ -44,7 +44,7 @@ pub(super) enum Wire {
     Counted(usize, Option<Tally>),
     /// How many packets a host has received.
     Received(usize, u64),
-    /// How many packets are in flight.
+    /// How many packets are under way.
     Flight(usize),
     /// The sender of the packet at this place of the wire, and its length.
     UnderWay(usize, Option<(usize, usize)>),
@@ -230,7 +230,7 @@ fn answers(alloc: Global, segment: &mut Segment, step: &Step) -> bool {
     }
 }
 
-/// Makes these calls on a segment with capacity for `room` packets in flight, and ends it. If a call returns another
+/// Makes these calls on a segment with capacity for `room` packets under way, and ends it. If a call returns another
 /// result, the row of that call is reported, from 0 on.
 pub(super) fn play(rt: &impl Abort, alloc: Global, room: u16, steps: &[Step]) {
     let mut segment = Segment::new(alloc, room).expect(rt, "memory");
