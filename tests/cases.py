@@ -11,14 +11,16 @@ from typing import Iterable, Iterator, NamedTuple, Sequence
 
 import pytest
 
+from tests.goldens import Golden, rt_try
+
 TOP = pathlib.Path(__file__).resolve().parent.parent
 SHOWN = 200
 Row = "tuple[str, str]"
 
 
 class Case(NamedTuple):
-    """A run of a program. `place` is a file or a table that the replies stand in. A script for people, which bsdplay
-    plays, has its replies in it. `rt try` plays a case only if `by_rt` is set: it takes half a second for each."""
+    """A run of bsdudp. `place` is a file or a table that the replies stand in. `rt try` plays a case only if `by_rt` is
+    set: it takes half a second for each."""
 
     name: str
     words: Sequence[str]
@@ -28,10 +30,9 @@ class Case(NamedTuple):
     said: bytes = b""
     place: str = ""
     by_rt: bool = True
-    program: str = "bsdudp"
 
 
-def each(cases: Iterable[Case]) -> pytest.MarkDecorator:
+def each(cases: Iterable[Case | Golden]) -> pytest.MarkDecorator:
     """Has a test tried with each of these cases, by their names."""
     made = list(cases)
     return pytest.mark.parametrize("case", made, ids=[it.name for it in made])
@@ -41,11 +42,6 @@ def dialog(name: str, words: Sequence[str], rows: Sequence[tuple[str, str]]) -> 
     """A case of lines, each with its reply."""
     script, replies = ("".join(f"{it}\n" for it in column).encode() for column in zip(*rows))
     return Case(name, words, script, replies, by_rt=False)
-
-
-def of_people(path: pathlib.Path) -> Case:
-    """A script for people."""
-    return Case(str(path), [], path.read_bytes(), b"", program="bsdplay")
 
 
 def of_folder(folder: str, command: str) -> Iterator[Case]:
@@ -94,40 +90,12 @@ def run(program: pathlib.Path, case: Case) -> str | None:
     return difference(case, done.returncode, done.stdout, done.stderr)
 
 
-def expected(program: pathlib.Path, script: pathlib.Path) -> str | None:
-    """Plays a script for people by the built bsdplay. Returns what it says of replies that aren't those expected."""
-    done = subprocess.run([program, "--quiet", script], capture_output=True, check=False)
-    return unexpected(done, str(script)) if done.returncode else None
-
-
-def unexpected(done: subprocess.CompletedProcess[bytes], path: str) -> str | None:
-    """What a failed bsdplay says of a file, or the end of it all if it says nothing of any file."""
-    said = (done.stdout + done.stderr).decode(errors="replace")
-    lines = [it.removeprefix(f"{TOP}/") for it in said.splitlines() if it.startswith(f"{path}:")]
-    if not lines and re.search(r"(?m)^/.*\.txt:\d+", said):
-        return None
-    return "\n".join(lines[:12]) or said[-1000:] or f"status {done.returncode}"
-
-
-def rt_try(crate: str, *words: object) -> subprocess.CompletedProcess[bytes]:
-    """Runs a program by `rt try`, which compiles it and proves nothing."""
-    folder, said = TOP / "crates" / crate, ["rt", "try", *map(str, words)]
-    return subprocess.run(said, cwd=folder, stdin=subprocess.DEVNULL, capture_output=True, check=False)
-
-
-def tried_for_people(cases: Sequence[Case]) -> dict[str, str]:
-    """Plays scripts for people by bsdplay, in one `rt try`. Returns the differences, by the cases' names."""
-    done = rt_try("bsdplay", "--", "--quiet", *(it.name for it in cases))
-    faults = {it.name: unexpected(done, it.name) for it in cases} if done.returncode else {}
-    return {name: fault for name, fault in faults.items() if fault}
-
-
 def tried(cases: Sequence[Case]) -> dict[str, str]:
-    """Plays cases by bsdudp, in one `rt try --cases`. Returns the differences, by the cases' names. rt doesn't compare
-    standard error."""
+    """Plays cases by bsdudp, in one `rt try`. Returns the differences, by the cases' names. rt doesn't compare standard
+    error."""
     with tempfile.TemporaryDirectory() as room:
         known = written(pathlib.Path(room), cases)
-        done = rt_try("bsdudp", "--cases", room)
+        done = rt_try("bsdudp", room)
     text, found = (done.stdout + done.stderr).decode(errors="replace"), {}
     ended = dict(re.findall(r"(?m)^case=(\S+) (.*)$", text))
     for name, case in known.items():

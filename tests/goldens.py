@@ -18,12 +18,14 @@ SHOWN, WIDEST = 6, 160
 
 
 class Golden(NamedTuple):
-    """A command line and the file with its output. A word that is the path of a file is relative to the top."""
+    """A command line of bsdplay and the file with its output. A word that is the path of a file is relative to the
+    top."""
 
     name: str
     words: list[str]
     file: pathlib.Path
     status: int
+    by_rt = True
 
 
 class Stop(Exception):
@@ -71,6 +73,14 @@ def played(program: pathlib.Path, golden: Golden) -> Output:
     return Output(done.stdout, done.returncode)
 
 
+def rt_try(crate: str, room: str) -> subprocess.CompletedProcess[bytes]:
+    """Plays the cases of a folder by `rt try`, which compiles the program once and proves nothing."""
+    words = ["rt", "try", "--cases", room]
+    return subprocess.run(
+        words, cwd=TOP / "crates" / crate, stdin=subprocess.DEVNULL, capture_output=True, check=False
+    )
+
+
 def tried(goldens: Iterable[Golden]) -> dict[str, Output]:
     """Runs the bsdplay that `rt try` compiles and doesn't prove: one build for all. A run that stops has no output."""
     known = {re.sub(r"\W+", "_", it.name): it for it in goldens}
@@ -79,10 +89,7 @@ def tried(goldens: Iterable[Golden]) -> dict[str, Output]:
             (pathlib.Path(room) / name).touch()
             words = (str(TOP / it) if (TOP / it).is_file() else it for it in golden.words)
             (pathlib.Path(room) / f"{name}.args").write_text("".join(f"{it}\n" for it in words), encoding="utf-8")
-        done = subprocess.run(
-            ["rt", "try", "--cases", room],
-            cwd=TOP / "crates/bsdplay", stdin=subprocess.DEVNULL, capture_output=True, check=False,
-        )  # fmt: skip
+        done = rt_try("bsdplay", room)
     # rt gives the program another name
     text = done.stdout.replace(f"{TOP}/".encode(), b"").replace(b"Usage: program ", b"Usage: bsdplay ")
     blocks = re.split(rb"(?m)^== (\w+)\n", text)
@@ -141,11 +148,27 @@ def fault(golden: Golden, output: Output | None) -> str | None:
     place = golden.file.relative_to(TOP)
     if not golden.file.exists():
         return f"{called}: there is no {place}; tools/goldens {golden.name} writes it"
-    if output.status != golden.status:
-        return f"{called}: status {output.status}, wanted {golden.status}"
     found = list(differences(golden.file.read_bytes(), output.text))
+    if output.status != golden.status:
+        found.insert(0, f"  status {output.status}, wanted {golden.status}")
     if not found:
         return None
     more = [f"  and {len(found) - SHOWN} more differences"] * (len(found) > SHOWN)
     hint = f"  If this is what it should print: tools/goldens {golden.name}"
     return "\n".join([f"{called}: other output than {place}", *found[:SHOWN], *more, hint])
+
+
+def run(program: pathlib.Path, golden: Golden) -> str | None:
+    """Plays a golden file's command line by a built bsdplay."""
+    return fault(golden, played(program, golden))
+
+
+def faults(goldens: Iterable[Golden]) -> dict[str, str]:
+    """What comes otherwise by `rt try`, by the names of the golden files."""
+    known = {it.name: it for it in goldens}
+    try:
+        outputs = tried(known.values())
+    except Stop as why:
+        return dict.fromkeys(known, str(why))
+    found = {name: fault(it, outputs.get(name)) for name, it in known.items()}
+    return {name: it for name, it in found.items() if it}

@@ -133,15 +133,6 @@ def write_capture(path: pathlib.Path, packets: Iterable[Tuple[float, bytes]]) ->
     writer.close()
 
 
-def read_capture(path: pathlib.Path) -> List[bytes]:
-    """The packets of a capture of raw IPv4 packets."""
-    reader = _scapy("utils").RawPcapReader(str(path))
-    try:
-        return [data for data, _ in reader]
-    finally:
-        reader.close()
-
-
 def show(made: bytes) -> str:
     """A packet in a line, as scapy says it."""
     return str(_scapy("layers.inet").IP(made).summary())
