@@ -1,6 +1,6 @@
 #!/usr/bin/env bash
-# Measures the subject that is named, or each of them. Ends with 1 if a row takes more instructions than it may. A subject is a folder beside this file; its measure.sh says how,
-# or else lib.sh.
+# Measures the subject that is named, or each of them. Ends with 1 if a row takes more instructions than it may. A
+# subject is a folder next to this file; its measure.sh says how, or otherwise lib.sh.
 set -euo pipefail
 source "$(dirname "$0")/../tools/script.bash"
 words "[SUBJECT ..]" "$@"

@@ -1,7 +1,7 @@
 // The heap of a module that has no C library: rattle_alloc, rattle_realloc and rattle_dealloc, which the proved code
-// calls, and `room` and `give_back`, by which a page gets memory for what it hands over. At the end stand the three
-// functions on numbers of 128 bits that clang calls where a processor has no instruction for them: times of captures are
-// worked out in such numbers. It isn't proved, as malloc isn't.
+// calls, and `room` and `give_back`, by which a page gets memory for its arguments. At the end are the three functions
+// on numbers of 128 bits that clang calls if a processor has no instruction for them: times of captures are computed in
+// such numbers. Like malloc, it isn't proved.
 //
 // The free blocks are a list in the order of their addresses. The first one that is large enough is taken, and split if
 // it's much larger; what is freed is merged with its neighbours. Memory grows by pages of 65,536 bytes, and never
@@ -9,12 +9,12 @@
 typedef unsigned long long u64;
 typedef unsigned char u8;
 
-// What an allocation answers: whether there was memory, and where it is.
+// The result of an allocation: whether there was memory, and its address.
 typedef struct {
     u64 ok, at;
 } Tried;
 
-// In front of each block: its size with this head, a multiple of 16, and of a free block the next one.
+// Before each block: its size with this head, a multiple of 16, and for a free block the next one.
 typedef struct Block {
     u64 size;
     struct Block *next;
@@ -30,7 +30,7 @@ static u64 rounded(u64 n) {
     return (n + (ALIGNED - 1)) & ~(u64)(ALIGNED - 1);
 }
 
-// Whether the memory reaches so far, after it has grown if need be.
+// Whether the memory reaches this far, after it has grown if need be.
 static int reaches(u64 end) {
     u64 have = (u64)__builtin_wasm_memory_size(0) * PAGE;
     if (end <= have) return 1;
@@ -38,7 +38,7 @@ static int reaches(u64 end) {
     return (u64)__builtin_wasm_memory_grow(0, (end - have + PAGE - 1) / PAGE) != refused;
 }
 
-// A block of this size behind all others, or 0.
+// A block of this size after all others, or 0.
 static Block *from_the_top(u64 size) {
     if (top == 0) top = rounded((u64)&__heap_base);
     if (top + size < top || !reaches(top + size)) return 0;
@@ -48,7 +48,7 @@ static Block *from_the_top(u64 size) {
     return block;
 }
 
-// The first free block that is large enough, taken from the list, or 0. What it has too much stays free.
+// The first free block that is large enough, taken from the list, or 0. The rest stays free.
 static Block *from_the_list(u64 size) {
     for (Block **link = &first_free; *link; link = &(*link)->next) {
         Block *block = *link;
@@ -67,7 +67,7 @@ static Block *from_the_list(u64 size) {
     return 0;
 }
 
-// New memory of n bytes, aligned to 16; no caller asks for more.
+// New memory of n bytes, aligned to 16; no caller needs a larger alignment.
 Tried rattle_alloc(u64 n, u64 alignment) {
     (void)alignment;
     if (n > (1ULL << 40)) return (Tried){0, 0};
@@ -77,7 +77,7 @@ Tried rattle_alloc(u64 n, u64 alignment) {
     return block ? (Tried){1, (u64)block + HEAD} : (Tried){0, 0};
 }
 
-// Merges a block with the one behind it, where they touch.
+// Merges a block with the one after it if they touch.
 static void merge(Block *block) {
     Block *next = block->next;
     if (next && (u8 *)block + block->size == (u8 *)next) {
@@ -100,7 +100,7 @@ void rattle_dealloc(u8 *at) {
     if (before) merge(before);
 }
 
-// Memory of n bytes whose first `kept` bytes are those at `at`, which is given back where the answer is elsewhere.
+// Memory of n bytes whose first `kept` bytes are those at `at`, which is freed if the result is another block.
 Tried rattle_realloc(u8 *at, u64 kept, u64 n, u64 alignment) {
     if (at && ((Block *)(at - HEAD))->size - HEAD >= n) return (Tried){1, (u64)at};
     Tried got = rattle_alloc(n, alignment);

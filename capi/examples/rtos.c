@@ -49,16 +49,16 @@ static void *net_task(void *none)
     return none;
 }
 
-/* A bsdudp_recvfrom that waits. The flag of what came after the look is set before the wait, so it isn't missed. */
+/* A bsdudp_recvfrom that waits. A flag that is set after the call and before the wait stays set, so none is missed. */
 static int receive(uint32_t fd, void *room, size_t len, struct bsdudp_addr *from)
 {
     for (;;) {
-        int answer;
+        int result;
         lock(&turn);
-        answer = bsdudp_recvfrom(&stack, fd, room, len, from);
+        result = bsdudp_recvfrom(&stack, fd, room, len, from);
         unlock(&turn);
-        if (answer != -BSDUDP_EWOULDBLOCK)
-            return answer;
+        if (result != -BSDUDP_EWOULDBLOCK)
+            return result;
         flags_wait(&readable, (uint64_t)1 << (fd - BSDUDP_FIRST_FD));
     }
 }

@@ -81,7 +81,7 @@ static inline void queue_put(struct queue *queue, const uint8_t *packet, int len
     pthread_mutex_unlock(&queue->lock);
 }
 
-/* Takes the oldest packet, and answers its length: 0 if none came until this time. */
+/* Takes the oldest packet, and returns its length: 0 if none came until this time. */
 static inline int queue_take(struct queue *queue, uint8_t *packet, long long until)
 {
     struct timespec end = {until / 1000, until % 1000 * 1000000};

@@ -44,8 +44,8 @@ def parser() -> argparse.ArgumentParser:
     reduce.add_argument("adapter", nargs="+", metavar="ADAPTER", help="the adapter and its words, after --")
     for it in (run, wire, reduce):
         it.add_argument("--seed", type=int, default=1, metavar="N", help="of the random bytes and mixes (default: 1)")
-        it.add_argument("--mixes", type=int, default=400, metavar="N", help="so many random mixes (default: 400)")
-        it.add_argument("--timeout", type=float, default=30.0, metavar="S", help="seconds for an answer (default: 30)")
+        it.add_argument("--mixes", type=int, default=400, metavar="N", help="number of random mixes (default: 400)")
+        it.add_argument("--timeout", type=float, default=30.0, metavar="S", help="seconds to wait (default: 30)")
     template = commands.add_parser("template", help="write kit.h and adapters to fill in, in C and in Python")
     template.add_argument("folder", metavar="FOLDER")
     return top
@@ -70,10 +70,10 @@ def run_parser(commands: Any) -> argparse.ArgumentParser:
         type=int,
         default=os.cpu_count() or 1,
         metavar="N",
-        help="so many adapters at once (default: one a processor)",
+        help="number of adapters at once (default: one for each processor)",
     )
     run.add_argument(
-        "--seeds", metavar="A-B", help="random mixes of these seeds alone, on all cores or on a Dask cluster"
+        "--seeds", metavar="A-B", help="only random mixes, of these seeds, on all cores or on a Dask cluster"
     )
     run.add_argument(
         "--client", metavar="ADDRESS", help="with --seeds: the scheduler of a Dask cluster, as tcp://10.0.0.9:8786"
@@ -91,7 +91,7 @@ def add_choices(it: argparse.ArgumentParser) -> None:
         help="a rule, a case, or what they begin with; may come again",
     )
     it.add_argument("--no-waits", action="store_true", help="leave out cases that wait for a second or more")
-    it.add_argument("--list", action="store_true", help="print the cases, and ask nobody")
+    it.add_argument("--list", action="store_true", help="print the cases, and run no adapter")
 
 
 def add_reports(it: argparse.ArgumentParser) -> None:

@@ -1,5 +1,6 @@
-/* A service on a board: what comes to 10.0.0.1 port 7 goes back. Packets come and go by SLIP (RFC 1055) over the serial
-   port. All memory is static: 64 KB are enough, stack and all. A packet of one byte 4 ends it, which no board needs. */
+/* A service on a board: it sends back what arrives at 10.0.0.1 port 7. Packets are sent and received by SLIP (RFC 1055)
+   over the serial port. All memory is static: 64 KB are enough, stack and all. A packet of one byte 4 ends it, which no
+   board needs. */
 #include "bsdudp.h"
 #include "machine.h"
 #include "report.h"

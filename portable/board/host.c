@@ -1,5 +1,5 @@
-/* A host on an Ethernet on a board: it answers ARP and ping, and what comes to 10.0.0.1 port 7 goes back. All memory is
-   static: 64 KB are enough, stack and all. A datagram of one byte 4 ends it, which no board needs. */
+/* A host on an Ethernet on a board: it replies to ARP and ping, and sends back what arrives at 10.0.0.1 port 7. All
+   memory is static: 64 KB are enough, stack and all. A datagram of one byte 4 ends it, which no board needs. */
 #include "bsdudp.h"
 #include "lan9118.h"
 #include "machine.h"
@@ -18,7 +18,7 @@ static unsigned char memory[BSDUDP_ETHER_MEMORY(MBUFS, CLUSTERS)] __attribute__(
 static struct bsdudp host;
 static uint8_t bytes[4096];
 
-/* A frame begins 2 bytes behind an aligned place, so that the packet in it is aligned: memcpy takes words then. */
+/* A frame begins 2 bytes after an aligned place, so that the packet in it is aligned: memcpy then copies words. */
 static uint8_t room[2 + BSDUDP_ETHER_ROOM] __attribute__((aligned(4)));
 static uint8_t *const frame = room + 2;
 

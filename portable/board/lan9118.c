@@ -78,7 +78,7 @@ int lan9118_start(const uint8_t mac[6])
     if (wait_for(&HW_CFG, HW_RESET, 0) < 0 || wait_for(&PMT_CTRL, READY, READY) < 0 || wait_for(&E2P_CMD, BUSY, 0) < 0)
         return -1;
     HW_CFG = HW_MUST_BE_ONE | HW_TX_FIFO_5K;
-    /* half duplex alone is offered, so the MAC need not ask what was agreed on */
+    /* only half duplex is offered, so the MAC need not read what was agreed on */
     if (phy_write(PHY_ADVERTISE, HALF_DUPLEX) < 0 || phy_write(PHY_CONTROL, NEGOTIATE) < 0)
         return -1;
     if (mac_write(MAC_ADDRH, mac[4] | (uint32_t)mac[5] << 8) < 0 ||

@@ -6,20 +6,20 @@
 
 enum { LAN9118_FRAME = 1514 }; /* the longest frame: 14 bytes of header, and 1,500 */
 
-/* Resets the card, and begins to hear frames for this address and for everyone. The answer is 0, or -1 if there is no
-   card, or it doesn't come out of its reset. */
+/* Resets the card, which then accepts frames for this address and broadcasts. Returns 0, or -1 if there is no card, or
+   its reset doesn't end. */
 int lan9118_start(const uint8_t mac[6]);
 
-/* Takes the frame that came first: its bytes stand in front of `room`, which has LAN9118_FRAME bytes. The answer is how
-   many they are, or 0 if none waits. A frame that came damaged, or is longer, is dropped. */
+/* Takes the oldest frame: its bytes are stored at the front of `room`, which has LAN9118_FRAME bytes. Returns how many
+   they are, or 0 if none waits. A frame that arrived damaged, or is longer, is dropped. */
 size_t lan9118_receive(uint8_t *room);
 
-/* Sends a frame of 14 to LAN9118_FRAME bytes. It waits until the card has room for it. The answer is 0, or -1 if the
-   card told since the last call that a frame couldn't be sent: that one is lost. */
+/* Sends a frame of 14 to LAN9118_FRAME bytes. It waits until the card has space for it. Returns 0, or -1 if the card
+   has reported since the last call that a frame couldn't be sent: that one is lost. */
 int lan9118_send(const uint8_t *frame, size_t len);
 
-/* From now on the card interrupts if a frame comes: LAN9118_INTERRUPT is the number on this board. lan9118_heard takes
-   the request back; frames that have come by then are to be taken afterwards. */
+/* From now on the card interrupts if a frame arrives: LAN9118_INTERRUPT is the number on this board. lan9118_heard
+   clears the request; take the frames that have arrived by then afterwards. */
 enum { LAN9118_INTERRUPT = 13 };
 void lan9118_listen(void);
 void lan9118_heard(void);

@@ -16,8 +16,8 @@
 enum { UART_FULL = 1, UART_CAME = 2, UART_ON = 3, CLOCK_ON = 5, CLOCK_PASSED = 1 << 16, HALF_A_SECOND = 12500000 };
 enum { LONGEST = 0xffffff, CLOCK_INTERRUPTS = 2, CLOCK_BACK = 1 << 25 };
 
-/* From the linker: where variables with values begin and end, and where their values are; where the others begin and
-   end; and the end of the memory. */
+/* From the linker: the start and end of variables with values, and the place of their values; the start and end of the
+   others; and the end of the memory. */
 extern uint32_t values_start, values_end, variables_start, variables_end, memory_end;
 extern const uint32_t values;
 enum { PAINT = 0x5aa5c33c };
@@ -51,7 +51,7 @@ static void fault(void)
     leave(0x20023); /* ADP_Stopped_RunTimeErrorUnknown: status 1 */
 }
 
-/* Where the processor begins. */
+/* The first instruction of the processor. */
 void start(void)
 {
     uint32_t *at, *here = (uint32_t *)__builtin_frame_address(0) - 16;

@@ -1,6 +1,6 @@
-/* How many bytes of the call stack each call of bsdudp.h uses, beside its arguments: what is below is painted before
-   it, and looked at after it. A program that's linked with --wrap of each call and of `main` says the most of each at
-   its end. */
+/* How many bytes of the call stack each call of bsdudp.h uses, apart from its arguments: the memory below is painted
+   before it, and read after it. A program that's linked with --wrap of each call and of `main` prints the most of each
+   at its end. */
 #include "bsdudp.h"
 #include "machine.h"
 
@@ -13,7 +13,7 @@ struct use {
 };
 static struct use *first;
 
-/* Paints what is below, and answers where that ends. It may call nothing. */
+/* Paints the memory below, and returns its end. It must not call a function. */
 static inline __attribute__((always_inline)) volatile uint32_t *paint(void)
 {
     volatile uint32_t *here, *at;

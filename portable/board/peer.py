@@ -2,8 +2,8 @@
 """Linux as the peer of the board, in a network namespace of its own (unshare -n). The command is bridge.py with the
 machine that runs echo.elf; with --tap it's the machine that runs host.elf, whose card is the TAP device bsdudp0.
 Datagrams of 0 to 4,096 bytes go to 10.0.0.1 port 7 and come back; a host is pinged, too. The kernel's counters have no
-error then, and the board's pool is full again. It says the first thing that is wrong and exits with 1, else how much
-stack was used."""
+error then, and the board's pool is full again. It prints the first fault and exits with 1, or otherwise prints the
+stack usage."""
 import pathlib
 import random
 import re
@@ -40,7 +40,7 @@ def wait_for_device():
 
 def echoed(it, data, before):
     """Sends a datagram until it comes back, and says what is wrong. Fragments that come half a minute apart, as on a
-    busy machine, are dropped here and there, so it may take a second try; then its first answer may come late."""
+    busy machine, are dropped here and there, so it may take a second try; then the first reply may arrive late."""
     for _ in range(TRIES):
         it.sendto(data, BOARD)
         try:

@@ -6,8 +6,8 @@
  *
  * Switches, each as -DNAME=VALUE:
  *   BSDUDP_TESTS=0    leaves out the tests of each access to memory. They are on if nothing is said.
- *   BSDUDP_MALLOC=0   leaves out bsdudp_boot and bsdudp_ether_boot, which alone need malloc and free.
- *   BSDUDP_STOP=f     calls f() where a test fails. It must not return. Else the program stops by a trap, or in an
+ *   BSDUDP_MALLOC=0   leaves out bsdudp_boot and bsdudp_ether_boot, the only calls that need malloc and free.
+ *   BSDUDP_STOP=f     calls f() if a test fails. It must not return. By default the program stops by a trap, or in an
  *                     endless loop.
  *
  * Of a C library it wants memcpy, memmove and memset, and a compiler may add memcmp. The file has no variables: all
@@ -39,7 +39,7 @@ typedef int16_t s16;
 typedef int32_t s32;
 typedef int64_t s64;
 
-/* What a window shows: where it begins, and how many of its bytes may be read and written. */
+/* What a window shows: its start, and how many of its bytes may be read and written. */
 struct window {
     u8 *start;
     u32 readable, writable;
@@ -72,7 +72,7 @@ static void bsdudp_stop(void)
 #define BSDUDP_STOP bsdudp_stop
 #endif
 
-/* Where a test fails, or where the proof says that no call comes. */
+/* A test failed, or a call that the proof rules out was made. */
 static u32 stop(void)
 {
     BSDUDP_STOP();

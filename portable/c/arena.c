@@ -1,12 +1,12 @@
 // The memory of the module that becomes bsdudp_portable.c: rattle_alloc, rattle_realloc and rattle_dealloc, which the
-// proved code calls. Boot alone asks for memory, and gets blocks one after another of what bsdudp_boot_in was given. It
-// isn't proved, as malloc isn't.
+// proved code calls. Only boot allocates memory, and gets consecutive blocks of what bsdudp_boot_in was given. Like
+// malloc, it isn't proved.
 //
-// Where the memory begins for the module is agreed with calls.c: first the core's handle, of 16 bytes, then these two.
+// The start of the memory for the module is agreed with calls.c: first the core's handle, of 16 bytes, then these two.
 typedef unsigned long long u64;
 typedef unsigned char u8;
 
-// What an allocation answers: whether there was memory, and where it is.
+// The result of an allocation: whether there was memory, and its address.
 typedef struct {
     u64 ok, at;
 } Tried;
@@ -18,7 +18,7 @@ typedef struct {
 
 #define ARENA ((Arena *)0x80000010)
 
-// New memory of n bytes, aligned to 16; no caller asks for more.
+// New memory of n bytes, aligned to 16; no caller needs a larger alignment.
 Tried rattle_alloc(u64 n, u64 alignment) {
     (void)alignment;
     u64 at = ARENA->next, left = ARENA->end - at;

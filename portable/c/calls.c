@@ -28,7 +28,7 @@ static void begin(struct core *it, const struct bsdudp *stack, u8 *frames, u32 s
     it->windows[WINDOW(BYTES)] = none;
 }
 
-/* The frames of a call, with its windows, and room for structs of so many bytes. */
+/* The frames of a call, with its windows, and space for structs of this many bytes. */
 #define BEGIN(call, stack) BEGIN_WITH(call, stack, ARGUMENT)
 #define BEGIN_WITH(call, stack, bytes) \
     u8 frames[FRAMES_OF_##call + HANDLE + (bytes)]; \
@@ -45,7 +45,7 @@ static u32 handle_of(const struct core *it)
     return it->windows[WINDOW(MEMORY)].start != NULL ? MEMORY : (u32)it->top;
 }
 
-/* How many bytes the compiled code hears of: no call tells lengths above this one apart. */
+/* The greatest length that is passed to the compiled code: no call distinguishes lengths above it. */
 static u32 heard(size_t len)
 {
     return len <= BSDUDP_ETHER_FRAME ? (u32)len : BSDUDP_ETHER_FRAME + 1;
@@ -67,7 +67,7 @@ static u32 give(struct core *it, u8 *room, size_t len)
     return BYTES;
 }
 
-/* An answer, whose bits are those of a number with a sign. */
+/* A result, whose bits are those of a number with a sign. */
 static int answer_of(u32 answer)
 {
     return answer <= 0x7fffffff ? (int)answer : -(int)(0xffffffff - answer) - 1;
@@ -85,8 +85,8 @@ size_t bsdudp_memory(const struct bsdudp_config *config)
     return BSDUDP_MEMORY(config->mbufs, config->clusters);
 }
 
-/* The memory of a stack that isn't booted yet, as the compiled code finds it: no stack, and all of it left behind a
-   head of so many bytes. */
+/* The memory of a stack that isn't booted yet, as the compiled code finds it: no stack, and all of it free after a head
+   of this many bytes. */
 static void make_arena(struct bsdudp *fresh, u8 *memory, size_t len, u32 head)
 {
     const size_t most = 0x3ffffff0;
@@ -107,8 +107,8 @@ static void put_config(u8 *plain, const struct bsdudp_config *config)
     put_u16(plain + 18, config->first_id);
 }
 
-/* The same as bsdudp_boot_in, in memory of any alignment: bytes alone are read and written here. The memory begins with
-   a head of so many bytes, which are set. */
+/* The same as bsdudp_boot_in, in memory of any alignment: only bytes are read and written here. The memory begins with
+   a head of this many bytes, which are set. */
 static int boot_at(struct bsdudp *stack, const struct bsdudp_config *config, u8 *memory, size_t len, u32 head)
 {
     u8 front[HOST_HEAD];
@@ -133,11 +133,11 @@ int bsdudp_boot_in(struct bsdudp *stack, const struct bsdudp_config *config, voi
     return answer == -BSDUDP_ENOMEM && !is_aligned ? -BSDUDP_EINVAL : answer;
 }
 
-/* ---- a host: its link has a handle of its own, behind the head of the stack's memory */
+/* ---- a host: its link has a handle of its own, after the head of the stack's memory */
 
 #define LINK (MEMORY + ARENA_HEAD)
 
-/* Boots the link in the memory of a stack that is booted, or tells why it isn't; without a stack nothing is booted. */
+/* Boots the link in the memory of a stack that is booted, or returns why not; without a stack nothing is booted. */
 static int boot_link(const struct bsdudp *stack, const struct bsdudp_config *config, const struct bsdudp_link *link)
 {
     enum { CONFIG = 20 };
@@ -197,7 +197,7 @@ int bsdudp_ether_boot_in(struct bsdudp *stack, const struct bsdudp_config *confi
     return answer == -BSDUDP_ENOMEM && !is_aligned ? -BSDUDP_EINVAL : answer;
 }
 
-/* What a call for a host's link answers of a handle that has none. */
+/* The result of a call for a host's link if the handle has none. */
 static int without_link(const struct bsdudp *stack)
 {
     return stack->core.at == 0 ? -BSDUDP_ENXIO : stack->tick_link == NULL ? -BSDUDP_EOPNOTSUPP : 0;
@@ -273,7 +273,7 @@ int bsdudp_ether_neighbour(struct bsdudp *stack, uint32_t i, struct bsdudp_neigh
 }
 
 #if BSDUDP_MALLOC
-/* A block of `len` bytes, or NULL where boot needs none to refuse: without memory it tells why. */
+/* A block of `len` bytes, or NULL if boot fails without one: it then returns why. */
 static u8 *block_of(const struct bsdudp *stack, const struct bsdudp_config *config, size_t len)
 {
     const int has_sizes = config->mbufs >= 1 && config->mbufs <= 65535 && config->clusters <= 4096;

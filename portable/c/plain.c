@@ -1,5 +1,5 @@
-/* What stands in for three functions of the core, and for memmove, where a processor has no vectors and registers of 32
-   bits: it answers the same by plain loops, in fewer instructions. Lengths are below 2 ^ 32 there. */
+/* Replacements for three functions of the core, and for memmove, on a processor without vectors and with registers of
+   32 bits: they return the same by plain loops, in fewer instructions. Lengths are below 2 ^ 32 there. */
 #include <stddef.h>
 #include <stdint.h>
 #include <string.h>
@@ -9,7 +9,8 @@ uint64_t bsdudp_plain_sum(const uint8_t *bytes, uint64_t len);
 uint16_t bsdudp_plain_fold(uint64_t sum);
 uint64_t bsdudp_plain_before(const uint16_t *ports, uint64_t len, uint64_t at, uint16_t port);
 
-/* memmove, which calls memcpy where it may: most C libraries for boards have a fast one of the latter alone. */
+/* memmove, which calls memcpy if the ranges don't overlap: most C libraries for boards have a fast version only of
+   memcpy. */
 void *bsdmove(void *to, const void *from, size_t len)
 {
     const uintptr_t above = (uintptr_t)to - (uintptr_t)from, below = (uintptr_t)from - (uintptr_t)to;
@@ -23,7 +24,7 @@ static uint32_t word_at(const uint8_t *at)
     return *(const word *)(const void *)at;
 }
 
-/* The sum of the words of 16 bits as they lie in memory, an odd last byte being the low half of one: of each 32 bits
+/* The sum of the words of 16 bits as they are in memory, an odd last byte being the low half of one: of each 32 bits
    the high half counts 65,536 times, which a fold makes 1. */
 uint64_t bsdudp_plain_sum(const uint8_t *bytes, uint64_t len)
 {
@@ -40,7 +41,7 @@ uint64_t bsdudp_plain_sum(const uint8_t *bytes, uint64_t len)
     return n == 0 ? sum : sum + bytes[0];
 }
 
-/* A sum folded to 16 bits: 0 of 0 alone. */
+/* A sum folded to 16 bits: it's 0 only for 0. */
 uint16_t bsdudp_plain_fold(uint64_t sum)
 {
     uint32_t low = (uint32_t)sum, high = (uint32_t)(sum >> 32);

@@ -245,6 +245,7 @@ UNTRIED = {
     "nc -u 10.0.0.1 7": "a test of tap_host sends the same datagrams by a socket",
     "tcpdump -e -i tap0": "it shows what a test of tap_host reads by tshark",
     "conform/stacks FOLDER": "tests/conform judges the same stacks, one by one",
+    "tcpdump -s 0 -w capture.pcap host 10.0.0.1": "it takes a network card",
     "tcpdump -s 60": "it takes a network card",
     "bench/run.sh stack": "measurements are made by hand",
     "grep -rnw IsUnshared crates/*/specs": "it looks for a word",

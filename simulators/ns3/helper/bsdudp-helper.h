@@ -21,12 +21,12 @@ namespace ns3
 /**
  * \ingroup bsdudp
  *
- * \brief The stacks that BsdudpHelper installed, asked for addresses as an Ipv4InterfaceContainer.
+ * \brief The stacks that BsdudpHelper installed, with the accessors of an Ipv4InterfaceContainer.
  */
 class BsdudpStackContainer
 {
   public:
-    /// Goes over the stacks.
+    /// Iterates over the stacks.
     typedef std::vector<Ptr<BsdudpStack>>::const_iterator Iterator;
 
     /**
@@ -58,7 +58,7 @@ class BsdudpStackContainer
     Iterator Begin() const;
 
     /**
-     * \return behind the last stack
+     * \return past the last stack
      */
     Iterator End() const;
 
@@ -69,19 +69,18 @@ class BsdudpStackContainer
 /**
  * \ingroup bsdudp
  *
- * \brief Gives nodes a BsdudpStack, in the place of InternetStackHelper and
- * Ipv4AddressHelper::Assign().
+ * \brief Gives nodes a BsdudpStack, instead of InternetStackHelper and Ipv4AddressHelper::Assign().
  *
  * \code
  *   Ipv4AddressHelper addresses("10.1.1.0", "255.255.255.0");
  *   BsdudpStackContainer stacks = BsdudpHelper().Install(nodes, devices, addresses);
  * \endcode
  *
- * After that all applications that go by UdpSocketFactory run on these nodes. To have both in one
- * network, take one Ipv4AddressHelper for both.
+ * After that all applications that use UdpSocketFactory run on these nodes. To have both kinds of
+ * nodes in one network, use one Ipv4AddressHelper for both.
  *
- * Each way to install sets the global value ChecksumEnabled: the stack drops packets without
- * checksums, as 4.4BSD does, and ns-3's own makes none unless it's told to.
+ * Each way to install sets the global value ChecksumEnabled: the stack drops packets without header
+ * checksums, as 4.4BSD does, and ns-3's own stack only computes them if this value is set.
  */
 class BsdudpHelper
 {
@@ -98,9 +97,9 @@ class BsdudpHelper
     /**
      * \brief Installs a stack on each device and gives it the next address.
      *
-     * It ends the program with a message if there aren't as many nodes as devices, if device i
-     * isn't one of node i, if a node has a UdpSocketFactory already, so another stack or the same
-     * one for another device, or if BsdudpStack::Start() refuses.
+     * It ends the program with a message if the numbers of nodes and devices differ, if device i
+     * isn't one of node i, if a node already has a UdpSocketFactory (from another stack, or from
+     * this one for another device), or if BsdudpStack::Start() fails.
      *
      * \param nodes the nodes
      * \param devices a device of each of them, in the same order

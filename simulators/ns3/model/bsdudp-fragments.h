@@ -21,7 +21,7 @@ namespace ns3
 /**
  * \ingroup bsdudp
  *
- * \brief The fields of an IPv4 header without options that a stack's packets are told apart by.
+ * \brief The fields of an IPv4 header without options that identify a stack's packets.
  */
 struct BsdudpHeader
 {
@@ -51,8 +51,8 @@ struct BsdudpHeader
 /**
  * \ingroup bsdudp
  *
- * \brief The ns-3 packets of the fragments that a stack holds: a table beside the library's, by
- * which a datagram that becomes whole gets back its tags, and Drop tells what is given up.
+ * \brief The ns-3 packets of the fragments that a stack holds: a table next to the library's. From
+ * it a reassembled datagram gets its tags back, and Drop reports what is dropped.
  */
 class BsdudpFragments
 {

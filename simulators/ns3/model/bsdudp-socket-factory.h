@@ -16,7 +16,8 @@ namespace ns3
 /**
  * \ingroup bsdudp
  *
- * \brief A node's UdpSocketFactory: applications that ask for one get sockets of its BsdudpStack.
+ * \brief A node's UdpSocketFactory: applications that create sockets by it get sockets of its
+ * BsdudpStack.
  */
 class BsdudpSocketFactory : public UdpSocketFactory
 {
@@ -33,8 +34,9 @@ class BsdudpSocketFactory : public UdpSocketFactory
 /**
  * \ingroup bsdudp
  *
- * \brief Stands for the factory of TCP, which the stack hasn't: an application that asks for a
- * socket (BulkSendApplication) ends the program with a message in place of a null pointer.
+ * \brief Takes the place of the factory of TCP, which the stack doesn't have: an application that
+ * creates a TCP socket (BulkSendApplication) ends the program with a message, not with a null
+ * pointer.
  */
 class BsdudpNoTcp : public TcpSocketFactory
 {

@@ -21,9 +21,9 @@ namespace ns3
  *
  * \brief A UDP socket of a BsdudpStack.
  *
- * It answers as a socket of 4.4BSD does where ns-3's own is more lenient: a second Bind() and a
- * SendTo() on a connected socket are refused, the longest datagram has 9,216 bytes, and of a
- * datagram that is longer than the room it's given the rest is lost. A queue holds 41,600 bytes.
+ * It behaves like a socket of 4.4BSD where ns-3's own is more lenient: a second Bind() and a
+ * SendTo() on a connected socket fail, the longest datagram has 9,216 bytes, and if a datagram is
+ * longer than the buffer, the rest is lost. A queue holds 41,600 bytes.
  *
  * | Refusal of the library | SocketErrno |
  * |---|---|
@@ -39,9 +39,9 @@ namespace ns3
  * | ENXIO | ERROR_NODEV |
  * | EINVAL | ERROR_INVAL |
  *
- * A socket that is bound to an IPv6 address is accepted, as ns-3's servers bind one beside each
- * IPv4 socket, and never hears anything. It holds no descriptor. An address that is neither is
- * refused with ERROR_AFNOSUPPORT.
+ * A socket can be bound to an IPv6 address, because ns-3's servers bind one as well as each IPv4
+ * socket; it never receives anything and takes no descriptor. For any other address the call fails
+ * with ERROR_AFNOSUPPORT.
  *
  * Time to live and type of service are always 64 and 0, whatever the socket or a tag says, and
  * there is no multicast. The attributes of UdpSocket are accepted and change nothing.
@@ -87,7 +87,7 @@ class BsdudpSocket : public UdpSocket
     int MulticastLeaveGroup(uint32_t interface, const Address& groupAddress) override;
 
     /**
-     * \brief Lets other sockets that allow it too bind to the same address and port.
+     * \brief Lets other sockets with this option bind to the same address and port.
      * \param reusePort whether they may
      * \return whether it's set
      */
@@ -113,36 +113,36 @@ class BsdudpSocket : public UdpSocket
 
     /**
      * \brief Opens the socket.
-     * \param stack whose it is
+     * \param stack the stack that it belongs to
      */
     void Open(Ptr<BsdudpStack> stack);
 
     /**
      * \brief Notes a datagram that came by the stack's last call, if there is one.
      * \param packet the ns-3 packet in which its data are, null if there is none
-     * \param start where they begin in it
+     * \param start the offset at which they begin in it
      * \return whether one came that can be read
      */
     bool NoteArrival(Ptr<const Packet> packet, uint32_t start);
 
-    /// Tells the application that something can be read, if that's so.
+    /// Notifies the application if something can be read.
     void Wake();
 
     /// \return how many datagrams wait
     uint32_t GetWaiting() const;
 
-    /// Takes all that waits and forgets it.
+    /// Reads all datagrams that wait and discards them.
     void Flush();
 
     /**
-     * \brief Notes what the library answers.
-     * \param answer its answer
-     * \return 0, or -1 of a refusal, which GetErrno() tells
+     * \brief Stores the error of a result of the library.
+     * \param answer the result
+     * \return 0, or -1 if the call failed: GetErrno() returns the error
      */
     int Note(int answer) const;
 
     /**
-     * \brief Refuses a call.
+     * \brief Lets a call fail.
      * \param error why
      * \return -1
      */

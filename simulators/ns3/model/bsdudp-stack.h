@@ -84,17 +84,17 @@ class BsdudpStack : public Object
      * is at this moment.
      *
      * It ends the program with a message if GetRefusal() gives a reason, if the stack was started
-     * before, or if the library refuses the address: it has to be one of 1.0.0.0 to
-     * 223.255.255.255, not in 127/8, and another one than the broadcast address of its network.
+     * before, or if the library rejects the address: it must be in 1.0.0.0 to 223.255.255.255, not
+     * in 127/8, and not the broadcast address of its network.
      *
      * \param device the device
      * \param address its address
-     * \param mask the mask of its network, by which its broadcast address goes
+     * \param mask the mask of its network, which gives its broadcast address
      */
     void Start(Ptr<NetDevice> device, Ipv4Address address, Ipv4Mask mask);
 
     /**
-     * \brief Opens a socket. If 64 are open already, each call of this one answers -1 with
+     * \brief Opens a socket. If 64 are open already, each call of the new one returns -1 with
      * ERROR_BADF.
      * \return the socket
      */
@@ -117,13 +117,13 @@ class BsdudpStack : public Object
 
     /**
      * \brief All 26 counters. docs/behaviour.md says what each one counts.
-     * \return the values by the names, as "ip.total"
+     * \return the values by name, such as "ip.total"
      */
     std::map<std::string, uint64_t> GetCounters() const;
 
     /**
      * \brief One counter. It ends the program with a message if no counter has this name.
-     * \param name the name, as "udp.fullsock"
+     * \param name the name, such as "udp.fullsock"
      * \return the value
      */
     uint64_t GetCounter(const std::string& name) const;
@@ -147,16 +147,16 @@ class BsdudpStack : public Object
     /**
      * \brief TracedCallback signature of Drop.
      * \param [in] packet what was dropped
-     * \param [in] cause the counter that went up and what it counts, as
-     * "udp.noport: no socket has the port"
+     * \param [in] cause the counter that went up and what it counts, such as "udp.noport: no socket
+     * has the port"
      */
     typedef void (*DropTracedCallback)(Ptr<const Packet> packet, const std::string& cause);
 
     /**
      * \brief TracedCallback signature of Delivered.
-     * \param [in] packet the packet that made the datagram whole; if the stack sent it to itself,
+     * \param [in] packet the packet that completed the datagram; if the stack sent it to itself,
      * the datagram's data
-     * \param [in] socket who can read the datagram now
+     * \param [in] socket the socket that can read the datagram now
      */
     typedef void (*DeliveredTracedCallback)(Ptr<const Packet> packet, Ptr<const Socket> socket);
 
@@ -170,7 +170,7 @@ class BsdudpStack : public Object
     /// The counters at one moment, in the library's order.
     typedef std::array<uint64_t, COUNTERS> Counts;
 
-    /// The places of the counters by which it's seen what became of a fragment.
+    /// The indices of the counters that show what happened to a fragment.
     enum
     {
         FRAGMENTS,
@@ -183,7 +183,7 @@ class BsdudpStack : public Object
     /// These counters at one moment.
     typedef std::array<uint64_t, FRAGMENT_COUNTERS> FragmentCounts;
 
-    /// What is needed of the counters before a call to say afterwards what it dropped.
+    /// The counters before a call, to find out afterwards what it dropped.
     struct Before
     {
         bool read;     ///< whether the counters were read at all
@@ -195,7 +195,7 @@ class BsdudpStack : public Object
      * \param fd the descriptor of the socket
      * \param to where to, null for the peer
      * \param packet the data
-     * \return what the library answers
+     * \return the library's result
      */
     int Send(int fd, const bsdudp_addr* to, Ptr<Packet> packet);
 
@@ -235,8 +235,8 @@ class BsdudpStack : public Object
      * \param datagram the data with their UDP header; it's used up if the packet is all of it
      * \param bytes the packet's bytes
      * \param length how many there are
-     * \return a piece of the datagram with an ns-3 header if that has these bytes, else a packet of
-     * the bytes alone
+     * \return a piece of the datagram with an ns-3 header if that has these bytes, otherwise a
+     * packet with only the bytes
      */
     static Ptr<Packet> Cut(Ptr<Packet> datagram, const uint8_t* bytes, uint32_t length);
 
@@ -256,9 +256,9 @@ class BsdudpStack : public Object
 
     /**
      * \brief Notes which sockets got a datagram by the last call.
-     * \param packet what is told by Delivered
+     * \param packet what Delivered reports
      * \param datagram the ns-3 packet in which the datagram's data are, null if there is none
-     * \param start where they begin in it
+     * \param start the offset at which they begin in it
      * \return these sockets
      */
     std::vector<Ptr<BsdudpSocket>>
@@ -271,7 +271,7 @@ class BsdudpStack : public Object
     Before ReadBefore() const;
 
     /**
-     * \brief Reads the counters by which it's seen what became of a fragment.
+     * \brief Reads the counters that show what happened to a fragment.
      * \param header the header of a packet
      * \return the counters, all 0 if it isn't a fragment
      */
@@ -281,14 +281,15 @@ class BsdudpStack : public Object
     Counts ReadCounts() const;
 
     /**
-     * \brief After a call: tells what it dropped and how many datagrams wait, and sees to the tick.
+     * \brief After a call: reports what it dropped and how many datagrams wait, and schedules the
+     * tick.
      * \param packet the packet of the call, null of a tick
      * \param before the counters before the call
      */
     void Settle(Ptr<const Packet> packet, const Before& before);
 
     /**
-     * \brief Tells of something dropped.
+     * \brief Reports a drop.
      * \param packet what
      * \param counter the number of the counter that went up
      */
