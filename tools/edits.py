@@ -1,5 +1,5 @@
-"""Wrong bodies: files NAME.edit in must-fail/, wrong-bodies/ and wrong-texts/ of a crate. Each has lines `file: PATH`, and
-below it pairs of `old: TEXT` and `new: TEXT`. The old text stands in the file exactly once; later pairs apply to what
+"""Wrong bodies: files NAME.edit in must-fail/, wrong-bodies/, wrong-texts/ and wrong-definitions/ of a crate. Each has
+lines `file: PATH`, and below it pairs of `old: TEXT` and `new: TEXT`. The old text stands in the file exactly once; later pairs apply to what
 earlier ones made."""
 from __future__ import annotations
 
@@ -8,7 +8,7 @@ import re
 from typing import Iterator, NamedTuple
 
 
-FOLDERS = ("must-fail", "wrong-bodies", "wrong-texts")
+FOLDERS = ("must-fail", "wrong-bodies", "wrong-texts", "wrong-definitions")
 NAME = re.compile(r"[A-Za-z0-9_-][A-Za-z0-9_.-]*\.edit")
 
 

@@ -8,7 +8,7 @@ import sys
 import pytest
 
 from tests.docs.pages import TOP, Fault, in_code, lines, none_of, read, sources_of, table
-from tools import crates, edits
+from tools import crates, edits, joined
 
 ARCHITECTURE = "docs/maintain/architecture.md"
 
@@ -118,6 +118,16 @@ def test_bodies_that_are_refused():
 def test_wrong_bodies_apply(crate):
     """Each mutant of a crate still applies: its file has each text that it replaces exactly once."""
     none_of(Fault(f"{path.relative_to(TOP)}:1", why) for path, why in edits.faults(TOP / "crates" / crate))
+
+
+def test_wrong_definitions_apply_to_the_joined_crate(tmp_path):
+    """`.ci/wrong-bodies` can make one crate of flat_model and flat_wire, and each wrong definition applies there."""
+    joined.make(TOP / "crates", tmp_path)
+    there = sorted((TOP / "crates" / joined.NAME / joined.EDITS).iterdir())
+    assert there
+    for path in there:
+        pairs = edits.pairs_of(path)
+        assert set(edits.applied(pairs, tmp_path)) <= {f"specs/Machine/{name}.antt" for name in ("State", "Send")}
 
 
 # ---- callers -------------------------------------------------------------------------------------------------------
