@@ -1,7 +1,7 @@
 "use strict";
 // Captures. The program reads the records of a capture file (crates/page), and this file makes a script of them. The
-// script and `bsdplay why` tell the same story: it has the host that `why` chooses, with the same pool and ports, and
-// the clock ticks by the capture's times (docs/captures.md).
+// script does what `bsdplay why` does: it has the host that `why` chooses, with the same pool and ports, and the clock
+// ticks by the capture's times (docs/captures.md).
 
 // A script has at most this many packets. As in `why`, a host has 60 ports at once, and is one of the first 256
 // addresses.
@@ -61,7 +61,7 @@ function hostFor(address) {
   return { ...DEFAULTS, addr: dotted(addr), bcast: dotted(broadcastOf(addr)), mbufs: "65535", clusters: "4096" };
 }
 
-// Whether a packet is for this address, or too short to tell.
+// Whether a packet is for this address, or too short to have one.
 const isFor = (address, { isShort, destination }) =>
   isShort || [address, broadcastOf(address), LIMITED_BROADCAST].includes(destination);
 
@@ -167,8 +167,8 @@ function playRecords(engine, config, planned, { first, reads }) {
   return { records, isUnfinished: usageIn(replies[at]).used > 0 };
 }
 
-// The lines of each record: ticks, sockets, its packet, and a read of what is delivered. Ticks stand in front of the
-// packet, or in a line of their own if an unfinished datagram expires.
+// The lines of each record: ticks, sockets, its packet, and a read of what is delivered. Ticks precede the packet, or
+// have a line of their own if an unfinished datagram expires.
 function linesOfRecord(it) {
   const { packet, played, binds, expired, delivered } = it;
   const waits = expired ? [noteOfExpired(it), `tick ${played}`] : [];

@@ -83,8 +83,8 @@ const MBUF = { size: 128, header: 20, packet: 8 };
 const CLUSTER = 2048;
 
 // An mbuf by its line of a drawing: whether it has a packet header, the number of its cluster, the place at which its
-// bytes begin in the mbuf or in the cluster, the bytes, and the room in front and behind. `text` is all of that but the
-// cluster's number, by which an mbuf is compared with the one before.
+// bytes begin in the mbuf or in the cluster, the bytes, and the space before and after them. `text` is all of that
+// except the cluster's number; it's used to compare an mbuf with the one before.
 function mbufIn(line) {
   const [, packet, cluster, start, hex] = /^(pkthdr )?(?:cluster (\d+) )?(\d+) (\S+)$/.exec(line);
   const isCluster = cluster !== undefined, bytes = bytesOf(hex);
@@ -101,7 +101,7 @@ function drawnChains(engine, config, lines, slots) {
   return new Map(slots.map(slot => [slot, engine.draw(config, slot, script).replies.map(mbufIn)]));
 }
 
-// Each cluster with the mbufs that refer to it. As many as they are, it's counted.
+// Each cluster with the mbufs that refer to it; their number is its reference count.
 function clustersIn(chains) {
   const clusters = new Map();
   for (const [slot, mbufs] of chains) {
@@ -132,7 +132,7 @@ function refusedIn(step, chains, clusters) {
 
 // The most lines of a script whose mbufs keep their numbers from line to line.
 const MOST_LINES = 600;
-// Of an mbuf's bytes so many are kept, to show what they are.
+// The number of an mbuf's bytes that are kept, to show what they are.
 const SHOWN_BYTES = 32;
 
 const lengthOf = mbufs => mbufs.reduce((n, it) => n + it.bytes.length, 0);

@@ -108,12 +108,12 @@ class Engine {
     return withObjects(this.serve(call, new Uint8Array(0), script));
   }
 
-  // The capture of the packets that come and go by a script of one machine, as `bytes`.
+  // The capture of the packets that arrive and leave in a script of one machine, as `bytes`.
   capture(config, script) {
     return this.serve(this.calls.bsdudp_page_capture, machineOf(config), script);
   }
 
-  // What the answers of a hand-in are worth beside those of a key, as `bsdplay --grade` counts them.
+  // The marks of a hand-in compared with a key, counted as in `bsdplay --grade`.
   marks(key, hand) {
     const [wanted, given] = [key, hand].map(text => new TextEncoder().encode(text));
     return this.lend(wanted, from =>
@@ -168,7 +168,8 @@ function withObjects({ code, bytes }) {
   return { code, objects: linesOf(textOf(bytes)).map(line => JSON.parse(line, (_, value) => decoded(value))) };
 }
 
-// A state by its objects: who holds mbufs, each in front of them, and then the clusters. All mbufs are of one type.
+// A state by its objects: each holder of mbufs, followed by its mbufs, and then the clusters. All mbufs are of one
+// type.
 function stateIn(objects) {
   const state = { sockets: [], output: null, unfinished: [], clusters: {}, mbufs: [] };
   for (const { socket, output, unfinished, cluster, mbuf, ...it } of objects) {
@@ -200,7 +201,7 @@ function poolOf({ mbufs, clusters }) {
   return new Uint8Array(sizes.buffer);
 }
 
-// The lines of a text; what stands after the last line feed is one too, where it has a character.
+// The lines of a text; the text after the last line feed is one too, if it isn't empty.
 function linesOf(text) {
   const lines = text.split("\n");
   if (lines[lines.length - 1] === "") lines.pop();
@@ -214,7 +215,7 @@ const MOST = { mtu: 65535, mbufs: 4294967295, clusters: 4294967295, id: 65535 };
 
 const numberIn = (text, most) => (/^(0|[1-9]\d{0,9})$/.test(text) && +text <= most ? +text : null);
 
-// The machine that options ask for, or `wrong`, the name of the first one that has no such value.
+// The machine that options configure, or `wrong`, the name of the first option with an invalid value.
 function configOf(options) {
   const config = { addr: undotted(options.addr), bcast: undotted(options.bcast) };
   for (const name in MOST) config[name] = numberIn(options[name], MOST[name]);

@@ -1,5 +1,5 @@
 "use strict";
-// What is shown of hosts on an Ethernet alone: their neighbours, and frames.
+// What is shown only for hosts on an Ethernet: their neighbours, and frames.
 
 // What a link made of a frame that has no packet: of one of ARP, whether it knows the sender now (RFC 826, "Packet
 // Reception").
@@ -15,8 +15,8 @@ function heardOf({ arp }, to, hosts, { states, statesBefore }) {
 
 const waitSaid = ({ waiting }) => `${plural(waiting, "packet")} ${waiting === 1 ? "waits" : "wait"}`;
 
-// Whom a host on an Ethernet knows, whom it asks for, and how many packets wait for each. What the line changed is
-// marked.
+// The neighbours of a host on an Ethernet that are known or requested, and how many packets wait for each. What the
+// line changed is marked.
 function neighboursView(step, { name }) {
   const { neighbours, address } = step.states.get(name) || {}, before = step.statesBefore.get(name) || {};
   if (!neighbours) return null;
@@ -37,7 +37,8 @@ function neighboursView(step, { name }) {
 const frameOfLine = ({ frame, of }) => [of && panel("The checks, in order", checksOf(of)),
   panel(null, packetView(frame, "The frame that comes"))].filter(Boolean);
 
-// The frames that passed, or else those that are under way; at most two. One that came to several hosts is drawn once.
+// The frames that passed, or otherwise those that are under way; at most two. One that arrived at several hosts is
+// drawn once.
 function framesOf(step, hosts) {
   const isWatched = ["carry", "collect", "show"].includes(step.verb);
   const all = step.moved.length ? step.moved : isWatched ? step.wire.flight : [];

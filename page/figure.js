@@ -1,20 +1,20 @@
 "use strict";
 // Mbufs as TCP/IP Illustrated volume 2 draws them: so_rcv, if_snd and the reassembly list as trains of chains, or the
 // chains of a script of chains. `MbufFigure.mount(host, { after, before, caption, all })` draws the state after a line,
-// with what the line changed marked and the state before it beside, and draws anew if the room changes.
+// with what the line changed marked and the state before it at the side, and draws again if the space changes.
 //
-// A state has `mbufs`, each with its number, its fields and its first bytes; `clusters`, how often each is counted; and
-// who holds them: `sockets`, `output` and `unfinished`, or `chains`. Links are numbers of mbufs, and null is none
-// (`state` of engine.js, `chainState` of chains.js).
+// A state has `mbufs`, each with its number, its fields and its first bytes; `clusters`, with the reference count of
+// each; and their holders: `sockets`, `output` and `unfinished`, or `chains`. Links are numbers of mbufs, and null is
+// no link (`state` of engine.js, `chainState` of chains.js).
 const MbufFigure = (() => {
   const MSIZE = 128, HEADER = 20, PKTHDR = 28, EXT = 32, MCLBYTES = 2048;
   const TYPES = { 1: "MT_DATA" };
   // Of more packets than these the first two and the last two are drawn.
   const SHOWN = 4;
-  // So many sockets and queues are drawn that a line changed; others are named.
+  // At most this many sockets and queues that a line changed are drawn; others are named.
   const HOLDERS = 6;
-  // Lengths in the drawing's own unit: a pixel if the page's letters have 16. Chains lie in rows, or stand upright if
-  // it's narrow.
+  // Lengths in the drawing's own unit: a pixel if the page's letters have 16. Chains are in rows, or upright if it's
+  // narrow.
   const ROW = 17, TITLE = 18, LABEL = 20, BETWEEN = 26, OWNER = 160, BYTES = 122;
   const LYING = { mbuf: 198, off: 27, room: 104, gap: 44, gutter: 50, cluster: 154, left: 16, lane: 13, elbow: 12 };
   const UPRIGHT = { mbuf: 190, off: 24, room: 88, gap: 14, gutter: 36, cluster: 114, left: 28, lane: 16, elbow: 8 };
@@ -112,8 +112,8 @@ const MbufFigure = (() => {
     return JSON.stringify([holder, all, all.flat(4).map(it => it && state.clusters[it.cluster])]);
   }
 
-  // The titles of the holders that are drawn: those that the line changed, else those that hold something; and which
-  // others there are, in words.
+  // The titles of the holders that are drawn: those that the line changed, otherwise those that hold something; and
+  // which others there are, in words.
   function chosen(after, before, all) {
     const now = holdersOf(after), earlier = before ? holdersOf(before) : [];
     const old = new Map(earlier.map(it => [it.title, contentsOf(before, it)]));
@@ -210,7 +210,7 @@ const MbufFigure = (() => {
       this.link([[x, from], [x - lane, from], [x - lane, to.into], [to.x - 1, to.into]], kind);
     }
 
-    // An mbuf. Answers where lines leave it and come to it.
+    // An mbuf. Returns the points at which lines leave and enter it.
     mbuf(it, x, y, kind, isFirst) {
       const { mbuf: wide, off, room, elbow } = this.size, top = y + TITLE, old = this.was.get(it.n), right = x + wide;
       const isExt = it.cluster !== null, isBare = it.pkthdr === null, parts = partsOf(it, kind, isFirst);
@@ -233,7 +233,7 @@ const MbufFigure = (() => {
       return place;
     }
 
-    // The mbufs of a packet in rows, or one below the other. Answers the first one, and where all end.
+    // The mbufs of a packet in rows, or one below the other. Returns the first one, and the end of all.
     chain(mbufs, x, y, kind, most) {
       const { mbuf: wide, gap } = this.size, between = this.isUpright ? gap : 14, places = [];
       let top = y, line;
@@ -262,7 +262,7 @@ const MbufFigure = (() => {
       return `bytes ${count(offset)} to ${last}${rcvif % 2 ? ", more follow" : ", the last"}`;
     }
 
-    // A train; `come` draws the line to its first mbuf. Answers where it ends.
+    // A train; `come` draws the line to its first mbuf. Returns its end.
     train(first, kind, x, y, lane, most, come) {
       const packets = walk(this.at, first, "nextpkt"), left = packets.length - SHOWN;
       let last = null, top = y;
@@ -298,7 +298,7 @@ const MbufFigure = (() => {
       return Math.max(end, this.train(it.first, it.kind, at, isBeside ? y : end + 12, lane, this.most, come));
     }
 
-    // A place for a line to go up or down beside the clusters, where no other one is.
+    // A place for a line to go up or down next to the clusters, with no other one.
     laneFor(x, a, b) {
       const low = Math.min(a, b), high = Math.max(a, b), most = Math.floor((this.size.gutter - 18) / 6);
       let i = 0;
@@ -317,7 +317,7 @@ const MbufFigure = (() => {
       return via;
     }
 
-    // The clusters beside the mbufs, each at the height of the first mbuf that refers to it. Answers where they end.
+    // The clusters next to the mbufs, each at the height of the first mbuf that refers to it. Returns their end.
     clusters() {
       const { cluster: wide, gutter } = this.size, x = this.width + gutter;
       let end = 0;
@@ -361,7 +361,7 @@ const MbufFigure = (() => {
     }
   }
 
-  // ---- a figure: the state after a line, and beside it the one before
+  // ---- a figure: the state after a line, and next to it the one before
 
   const scaleOf = () => parseFloat(getComputedStyle(document.documentElement).fontSize) / 16;
 

@@ -42,7 +42,7 @@ function showScripts() {
   byId("how-many").textContent = String(LISTS.lessons.length);
 }
 
-// The lesson or the exercise behind this one.
+// The lesson or the exercise after this one.
 function following() {
   const list = page.known && (page.known.kind === "examples" ? null : LISTS[page.known.kind]);
   return list ? list[list.findIndex(it => it.name === page.known.name) + 1] : LISTS.lessons[0];
@@ -78,8 +78,8 @@ function questionOf(i) {
   return page.notes.questions[i];
 }
 
-// Whether a row comes behind a question that wasn't answered, so that its reply could tell the answer. In an exercise
-// each row asks for itself.
+// Whether a row is after an unanswered question, so that its reply could give the answer away. In an exercise each row
+// is a question of its own.
 const isBehindQuestion = i => page.firstQuestion !== null && i > page.firstQuestion && !isExercise();
 
 function findQuestion() {
@@ -118,7 +118,7 @@ function questionView(step, i, question) {
     isExercise() && page.noteOf(step) && h("p", { class: "note" }, page.noteOf(step)), form);
 }
 
-// A line behind a question that wasn't answered. What it did could tell the answer, so it isn't shown.
+// A line after an unanswered question. Its effects could give the answer away, so they aren't shown.
 function hiddenView(step) {
   const asking = page.firstQuestion, place = page.notes.places[asking] + 1;
   const answer = () => {
@@ -161,7 +161,7 @@ function withoutReply(text) {
   return wanted === null ? text : asked;
 }
 
-// Writes what is expected behind a line, so that it's in the file that is handed in.
+// Writes what is expected after a line, so that it's in the file that is handed in.
 function expectHere(i, guess) {
   const all = page.notes.all, place = page.notes.places[i];
   const lines = all.map((line, k) => (k === place ? `${partsOf(line).asked} => ${guess.trim()}` : line));
@@ -196,7 +196,7 @@ function askView({ place, line, key, text, answer }, k) {
   return h("li", { class: "ask" }, head, form, said);
 }
 
-// Writes an answer behind its question, so that it's in the file that is handed in. The keyboard goes to the next one.
+// Writes an answer after its question, so that it's in the file that is handed in. The keyboard goes to the next one.
 function answerAsk(place, text, answer, k) {
   const line = `#? ${text} => ${answer.trim() || "?"}`;
   byId("script").value = page.notes.all.map((it, i) => (i === place ? line : it)).join("\n") + "\n";
@@ -207,7 +207,7 @@ function answerAsk(place, text, answer, k) {
   (mark && mark.matches(".yes") && next ? next : byId(`ask-${k}`)).focus();
 }
 
-// What `bsdplay --grade` says of an exercise beside its key.
+// What `bsdplay --grade` says of an exercise compared with its key.
 function gradeOf() {
   const { right, wrong, missing } = page.engine.marks(page.known.text, page.text);
   const isSound = page.steps.every(step => step.kind !== "bad" && (step.expected === null || step.isMet));
@@ -217,7 +217,7 @@ function gradeOf() {
 
 // ---- the forms of lines
 
-// How all lines are written, as `bsdplay --help` prints it, and what stands in the place of each word.
+// How all lines are written, as `bsdplay --help` prints it, and what to write for each word.
 function showForms() {
   const list = all => h("ul", {}, all.map(it => h("li", {}, h("code", {}, it))));
   byId("forms-of").replaceChildren(h("h3", {}, "One host"), list(FORMS.machine),

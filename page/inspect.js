@@ -11,7 +11,7 @@ const cut = (text, most) => (text.length > most ? text.slice(0, most) + "…" : 
 const verdict = (kind, ...children) => h("p", { class: `verdict ${kind}` }, children);
 const panel = (title, ...children) => h("section", { class: "panel" }, title && h("h3", {}, title), children);
 
-// The sentence, the note of a lesson, what became of it, and the reply.
+// The sentence, the note of a lesson, what happened, and the reply.
 function leadOf(step, note, verdicts) {
   return h("section", { class: "panel lead" },
     h("h3", {}, signOf(step),
@@ -34,7 +34,7 @@ const expectedView = step => (step.isMet
   ? verdict("yes", "As expected.")
   : verdict("no", "Expected: ", h("code", {}, step.expected), "."));
 
-// ---- where the bytes lie
+// ---- the mbufs with the bytes
 
 // The figure is drawn once its place is in the page, since it depends on the width (main.js).
 function figurePanel(title, figure, ...more) {
@@ -44,7 +44,7 @@ function figurePanel(title, figure, ...more) {
     h("div", { class: "head-of" }, h("h3", {}, title), allButton()), host, more);
 }
 
-// All queues are drawn, or those alone that the line changed.
+// All queues are drawn, or only those that the line changed.
 const allButton = () => h("button", { type: "button", class: "all", "aria-pressed": String(page.drawsAll), onclick() {
   page.drawsAll = !page.drawsAll;
   select(page.at);
@@ -107,7 +107,7 @@ function givenUp(step, before, now) {
   return has(step, "ip.reassembled") ? [] : gone.map(told);
 }
 
-// Why something was dropped: the program's cause, or else what the counter counts.
+// Why something was dropped: the program's cause, or otherwise what the counter counts.
 const causeIn = ({ causes }, name) => (causes && causes.get(name)) || COUNTERS[name];
 
 // What is wrong with a line that did nothing, and the command that was meant.
@@ -223,7 +223,7 @@ function unfinishedView({ pieces, owned }) {
     pieces.length > 6 && h("p", { class: "faint" }, `and ${pieces.length - 6} more`));
 }
 
-// Buffers by owner. What is left over is shared between owners, so no one of them gives it back alone.
+// Buffers by owner. The rest is shared between owners, so none of them can free it by itself.
 function ownersOf({ owned }, name, used) {
   const parts = [["receive queues", "queue"], ["output queue", "output"], ["unfinished datagrams", "unfinished"]]
     .map(([who, kind]) => ({ name: who, kind, count: owned[kind][name] }));
@@ -283,7 +283,7 @@ function stackView(page, step) {
 
 // ---- chains
 
-// Who has a part of each cluster that is shared, in words.
+// The owners of each shared cluster, in words.
 function sharersView({ mbufs, clusters }) {
   const shared = Object.entries(clusters).filter(([, count]) => count > 1);
   const partOf = it => `mbuf ${it.n} has ${plural(it.len, "byte")} from ${it.data.toLocaleString("en")} on`;

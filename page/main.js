@@ -20,19 +20,19 @@ const page = {
   ranAfter(n) {
     return n ? this.ends[n - 1] : 0;
   },
-  // what is held after so many lines
+  // what is held after this many lines
   heldAfter(n) {
     const own = this.own.slice(0, this.ranAfter(n));
     if (!this.held.has(n)) this.held.set(n, new Held(this.engine, this.config, own.map(it => it.line)));
     return this.held.get(n);
   },
-  // what is held by one of several machines after so many lines of its own
+  // what is held by one of several machines after this many lines of its own
   heldOf(host, n) {
     const key = `${host.name} ${n}`;
     if (!this.held.has(key)) this.held.set(key, new Held(this.engine, host.config, host.lines.slice(0, n)));
     return this.held.get(key);
   },
-  // the chains after so many lines, mbuf by mbuf; those of a few places are kept
+  // the chains after this many lines, mbuf by mbuf; those of a few places are kept
   drawnAfter(n) {
     if (this.drawn.size > 16) this.drawn.clear();
     if (!this.drawn.has(n)) {
@@ -72,7 +72,8 @@ const markOf = step => isToldMet(step) && (step.isMet
   ? h("span", { class: "badge came" }, "✓ expected")
   : h("span", { class: "badge drop" }, "✗ expected ", step.expected));
 
-// A line of the script: its note, what it says, its reply and what was counted; or the line alone, if it's asked first.
+// A line of the script: its note, what it says, its reply and what was counted; or only the line, if a question about
+// it comes first.
 function rowOf(step, i) {
   const isAsked = Boolean(questionOf(i)), isHidden = isAsked || isBehindQuestion(i), note = page.noteOf(step);
   const change = step.pool.used - step.before.used;
@@ -100,7 +101,7 @@ function refreshRows() {
   byId("rows").replaceChildren(...page.steps.map(rowOf), ...asksOf().map(askView));
 }
 
-// What a screen reader says of a line: its place in the script, what became of it, and its note.
+// What a screen reader says of a line: its place in the script, what happened, and its note.
 function spoken(step) {
   const refusal = step.isOk ? "" : ` Refused: ${step.error || step.why || step.reply}.`;
   const drops = step.drops.map(it => ` Dropped: ${causeIn(step, it.name)}${bothSums(step, it.name)}.`).join("");
@@ -124,7 +125,7 @@ function viewsOf(step, question) {
 
 let stopFigures = [];
 
-// Looks at a line. All that is shown of it is made anew.
+// Selects a line. All that is shown of it is made again.
 function select(i) {
   if (!page.steps.length) return;
   page.at = Math.max(0, Math.min(page.steps.length - 1, i));
@@ -142,7 +143,7 @@ function select(i) {
   byId("gutter").children[page.notes.places[page.at]].classList.add("here");
 }
 
-// Looks at the next line. Behind the last one of an exercise are its questions: whether the keyboard went there.
+// Selects the next line. After the last one of an exercise are its questions: returns whether the keyboard went there.
 function goOn() {
   const fields = page.at === page.steps.length - 1 ? [...byId("rows").querySelectorAll(".ask input")] : [];
   if (!fields.length) return select(page.at + 1);
@@ -168,7 +169,7 @@ function showTab() {
     String(tab.dataset.tab === page.mode));
 }
 
-// Plays the script anew, after any change of it.
+// Plays the script again, after any change of it.
 function replay(place) {
   page.text = byId("script").value;
   showTab();
@@ -191,7 +192,7 @@ function replay(place) {
   select(place);
 }
 
-// The options that stand beside the script; machines have theirs in it.
+// The options next to the script; machines have theirs in it.
 const usedOptions = () => (page.mode === "chain" ? ["mbufs", "clusters"] : []);
 const optionWords = options => Object.keys(DEFAULTS).filter(name => options[name] !== DEFAULTS[name])
   .map(name => ` --${name} ${options[name]}`).join("");
@@ -307,7 +308,7 @@ function putPacket() {
   putLine(line);
 }
 
-// Puts a line behind the one that is looked at. The keyboard goes to an element of the new view, if one is named.
+// Inserts a line after the selected one. The keyboard goes to an element of the new view, if one is named.
 function putLine(line, focus) {
   const all = page.notes.all, isEmpty = !page.steps.length;
   const place = isEmpty ? all.length : page.notes.places[page.at] + 1;

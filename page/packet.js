@@ -9,14 +9,14 @@ const dotted = ip => [24, 16, 8, 0].map(shift => (ip >>> shift) & 255).join(".")
 const hex16 = n => "0x" + n.toString(16).padStart(4, "0");
 const plural = (n, one, many = one + "s") => `${n.toLocaleString("en")} ${n === 1 ? one : many}`;
 
-// An address as a number, or null if the text is none.
+// An address as a number, or null if the text isn't an address.
 function addressIn(text) {
   const parts = text.split(".");
   const isOne = parts.length === 4 && parts.every(part => /^(0|[1-9]\d{0,2})$/.test(part) && +part < 256);
   return isOne ? parts.reduce((ip, part) => (ip * 256 + +part) >>> 0, 0) : null;
 }
 
-// The same where what is none counts as 0.0.0.0, as it does for the program.
+// The same, but an invalid text counts as 0.0.0.0, as for the program.
 const undotted = text => addressIn(text) || 0;
 
 // What the headers of a packet say, by the program; its module is there once the page has begun.
@@ -54,7 +54,7 @@ class Packet {
     this.fields.push({ name, at, size, kind, value: String(value), bits, isWrong, isRight, right });
   }
 
-  // What stands in a checksum that is wrong, and what would be right; or null.
+  // The value of a wrong checksum, and the right value; or null.
   get wrongSum() {
     const field = this.fields.find(it => it.isWrong && it.right);
     return field ? sumsSaid(field.value, field.right) : null;
@@ -104,7 +104,7 @@ class Packet {
     if (behind < this.length) this.add("behind the datagram", behind, this.length - behind, "behind", "", 32);
   }
 
-  // Adds the UDP header, and answers where the data end.
+  // Adds the UDP header, and returns the end of the data.
   readUdp(at, end) {
     const { sourcePort, destinationPort, udpLength: length, udpSum: sum, rightUdpSum, pseudoSum } = this.says;
     const fits = length >= 8 && length <= end - at, isTested = fits && !this.isFragment && sum !== 0;
@@ -146,8 +146,8 @@ const word32 = (bytes, at) => 65536 * word16(bytes, at) + word16(bytes, at + 2);
 const macAt = (bytes, at) => Array.from(bytes.subarray(at, at + 6), byte => hexOf([byte])).join(":");
 const macTold = mac => (mac === MAC_BROADCAST ? "all" : mac);
 
-// The fields of a frame (RFC 894) in their order, and behind them those of its packet or of its ARP packet (RFC 826).
-// `arp` or `packet` is what it has behind its header, if it's one of these.
+// The fields of a frame (RFC 894) in order, and after them those of its packet or of its ARP packet (RFC 826). `arp` or
+// `packet` is what follows its header, if it's one of these.
 class Frame {
   constructor(bytes) {
     Object.assign(this, { bytes, length: bytes.length, fields: [], isShort: bytes.length < ETHER_HEADER });
@@ -215,7 +215,8 @@ class Frame {
 
 const put16 = (to, at, n) => to.set([(n >> 8) & 255, n & 255], at);
 
-// The line by which a packet comes that is right but for a fault: by name, or by its bytes, if its fault has no name.
+// The line by which a packet arrives that is right except for a fault: by name, or by its bytes, if its fault has no
+// name.
 function packetLine(engine, { source, sourcePort, destination, destinationPort, id, text, fault }) {
   const data = text ? `"${text.replace(/["\\]/g, "\\$&")}"` : "-", ends = [`${source}:${sourcePort}`];
   const names = { "ip sum": " badsum", "udp sum": " badudp" };

@@ -1,15 +1,15 @@
 "use strict";
-// Scripts of bsdplay's language (docs/scripts.md). The program plays them, and says what each line was answered. What
-// else is shown of a line it's asked for: each becomes lines of `bsdudp run`, which are played on machines of their
-// own.
+// Scripts of bsdplay's language (docs/scripts.md). The program plays them, and gives the reply to each line. Everything
+// else that is shown of a line is queried from it: each line becomes lines of `bsdudp run`, which are played on
+// machines of their own.
 
 const DEFAULT_CONFIG = configOf(DEFAULTS);
 
-// ---- what a script says beside its lines
+// ---- what a script has besides its lines
 
-// A comment in front of a line is a note on it, or else the one behind it. "#?" begins a question on the next line, to
+// A comment before a line is a note on it, or otherwise the one after it. "#?" begins a question on the next line, to
 // be answered before its reply is shown; "#-" a wrong answer, and "#+" the right one. `asks` are the questions without
-// such answers, as exercises have them: theirs stands behind "=>".
+// such answers, as in exercises: theirs follows "=>".
 function readNotes(text) {
   const all = linesOf(text), lines = [], places = [], notes = [], questions = [], asked = [];
   let note = [], question = null;
@@ -30,7 +30,7 @@ function readNotes(text) {
   return { all, lines, places, notes, questions, asks };
 }
 
-// A question of an exercise: where it stands, what it asks, and what is answered, which the program reads as a line.
+// A question of an exercise: its place, its text, and its answer, which the program reads as a line.
 function askIn({ place, line }) {
   const { asked, wanted } = partsOf(line.slice(2));
   return { place, line, text: asked, answer: wanted };
@@ -47,7 +47,7 @@ function partsOf(line) {
     : { asked: bare.trim(), wanted: null };
 }
 
-// Whether it's a script of many machines: its first line that asks for something begins with `host`.
+// Whether it's a script of many machines: its first line that isn't a comment begins with `host`.
 const hasHosts = text => /^host(\s|$)/.test(readNotes(text).lines[0] || "");
 
 // ---- bytes, by the program
@@ -64,13 +64,13 @@ function packetsIn(engine, config, script) {
   return packets;
 }
 
-// The digits of what is to be sent: texts in an expectation are answered as digits.
+// The digits of what is to be sent: texts in an expectation are compared as digits.
 function digitsOf(engine, texts) {
   const script = texts.map(text => `stat => ${text}\n`).join("");
   return engine.play(DEFAULT_CONFIG, script).objects.map(it => it.expected);
 }
 
-// A line without the time in front of it, and how many ticks that is.
+// A line without the time before it, and how many ticks that is.
 function timedOf(line) {
   const [, seconds, plain] = /^\+(\d+(?:\.5)?)s (.*)$/.exec(line) || [];
   return plain === undefined ? { ticks: 0, plain: line } : { ticks: 2 * seconds, plain };
@@ -121,7 +121,7 @@ function tracePlay(engine, text) {
   return { code, steps, own, ends, options, config };
 }
 
-// What is shown of a line: what the program answered, beside what its lines of `bsdudp run` did.
+// What is shown of a line: the program's reply, and what its lines of `bsdudp run` did.
 function stepOf(it, text, ran, last, config) {
   const said = { line: it.line || partsOf(text).asked, ...answerOf(it), ...wantedOf(it, text) };
   const { ticks, plain } = timedOf(said.line);

@@ -148,8 +148,8 @@ function refusalIn(reply) {
 
 // ---- what is held
 
-// What is held after so many lines: the mbufs, by the program's state, and of what waits the bytes. The program gives them
-// out on a machine that is thrown away.
+// What is held after this many lines: the mbufs, by the program's state, and the bytes of what waits. The program
+// prints them on a machine that is then discarded.
 class Held {
   constructor(engine, config, lines) {
     this.state = engine.state(config, lines.map(line => line + "\n").join(""));

@@ -1,9 +1,9 @@
 "use strict";
-// Scripts of many machines on one wire. The program plays them. Where the bytes lie at each machine the page finds out
-// by a script of its own for each: its lines, with a line `tx` for each packet that it gave to the wire, and a line
-// `rx` for each that came, as the program says. It's held against what the program counts of the machine after each
-// line, and shown if it agrees. A host on an Ethernet gives frames: what its own script gives goes to its link, where a
-// packet may wait for a hardware address.
+// Scripts of many machines on one wire. The program plays them. The page finds out which mbufs of each machine have the
+// bytes by a script of its own for each: its lines, with a line `tx` for each packet that it gave to the wire, and a
+// line `rx` for each that arrived, as the program says. It's compared with the machine's counters after each line, and
+// shown if it agrees. A host on an Ethernet gives frames: what its own script gives goes to its link, where a packet
+// may wait for a hardware address.
 
 // The most packets of an output queue.
 const QUEUE_MOST = 50;
@@ -19,19 +19,19 @@ class WireHost {
     Object.assign(this, { name, options, config: configOf(options), lines: [], isEther });
   }
 
-  // A packet or a frame comes. The answer is the place of its line, or nothing if the stack gets none.
+  // A packet or a frame arrives. Returns the place of its line, or nothing if the stack gets none.
   hear(packet) {
     const own = packet instanceof Frame ? packet.packet : packet;
     return own ? this.lines.push(`rx ${hexOf(own.bytes) || "-"}`) - 1 : null;
   }
 }
 
-// ---- what the program is asked for
+// ---- what is queried from the program
 
 const CHANCE = /^(loss|reorder|delay) |^repeat .*[%./]/;
 const HOST_LINE = /^([A-Za-z]\w*): ?(.*)$/;
 
-// What became of packets stands behind the line that moved them, each an object with the line's number.
+// What happened to packets follows the line that moved them, each as an object with the line's number.
 function partMoves(objects) {
   const moves = new Map(objects.map(it => [it.number, []]));
   for (const it of objects.filter(({ fate }) => fate)) moves.get(it.number).push(it);
@@ -42,7 +42,7 @@ function partMoves(objects) {
 const ASKED = ["stat", "mbstat", "show neighbours", "show link"];
 const askedOf = ({ isEther }) => ASKED.slice(0, isEther ? 4 : 2);
 
-// What the machines counted after each line: the script is played once more, with lines that ask for it.
+// The counters of the machines after each line: the script is played again, with lines that query them.
 function statesAfter(engine, objects) {
   const lines = [], places = [], hosts = [];
   for (const it of objects) {
@@ -61,8 +61,8 @@ function statesAfter(engine, objects) {
   return places.map(all => new Map(all.map(stateIn)));
 }
 
-// What a machine answered: its counters and its pool; on an Ethernet also its neighbours, how far it is with its own
-// address, and its hardware address.
+// What a machine replied: its counters and its pool; on an Ethernet also its neighbours, the state of its claim to its
+// own address, and its hardware address.
 function stateOfAnswers(stat, usage, neighbours, link) {
   const state = { counters: countersIn(stat.reply), pool: usageIn(usage.reply) };
   if (!link) return state;
@@ -70,7 +70,7 @@ function stateOfAnswers(stat, usage, neighbours, link) {
   return { ...state, neighbours: linesOf(neighbours.below).map(neighbourIn), address: link.reply, mac };
 }
 
-// A neighbour, by the program's line of it: where it is, or how it's asked for.
+// A neighbour, by the program's line of it: its hardware address, or the requests for it.
 function neighbourIn(text) {
   const [, ip, mac, ticks] = /^ *(\S+) is at (\S+), (\d+) ticks? left/.exec(text) || [];
   if (mac) return { ip, mac, ticks: +ticks };
@@ -86,8 +86,8 @@ class WirePlay {
     Object.assign(this, { engine, runs, frames, hosts: new Map(), joined: [], flight: [], chances: [], isWhole: true });
   }
 
-  // Plays a line, by which this became of packets. The step says how many lines of each machine's script came before it
-  // and after it.
+  // Plays a line, with what happened to packets by it. The step says how many lines of each machine's script came
+  // before it and after it.
   play(it, i, moves, states) {
     const was = this.counts();
     this.moved = [];
@@ -119,7 +119,7 @@ class WirePlay {
     else if (["drop", "repeat", "swap"].includes(verb)) this.byHand(verb, ...at);
   }
 
-  // A chance that is set takes the place of the one before. One of nothing is none.
+  // A chance that is set takes the place of the one before. A chance of 0 removes it.
   chance(line) {
     const [verb, much, ...whom] = line.split(" "), what = `${verb} ${whom.join(" ")}`.trim();
     const others = this.chances.filter(it => `${it.split(" ")[0]} ${it.split(" ").slice(2).join(" ")}`.trim() !== what);
@@ -136,7 +136,8 @@ class WirePlay {
     }
   }
 
-  // What the program says of packets: so many went, one was lost, came to a machine, or is under way after the line.
+  // What the program says of packets: this many left, one was lost, arrived at a machine, or is under way after the
+  // line.
   carry(moves) {
     const packetOf = ({ from, packet }) => {
       const bytes = bytesOf(packet);
@@ -171,7 +172,7 @@ const GIVEN = ["sent", "sent twice", "lost", "no room"], LEFT = ["lost", "no roo
 
 // ---- the steps
 
-// The objects as if each line of a host stood alone.
+// The objects as if each line of a host were by itself.
 function aloneOf(objects) {
   const plainOf = it => (HOST_LINE.exec(timedOf(it.line).plain) || ["", "", "show "])[2];
   return objects.map(it => ({ ...it, line: it.fault ? "" : plainOf(it) }));

@@ -1,7 +1,7 @@
 "use strict";
 // The right column of a script of several machines: the wire, the machines side by side, and the packets.
 
-// What became of a packet that left the wire: how it's marked, and in words.
+// What happened to a packet that left the wire: how it's marked, and in words.
 function fateOf({ fate, to, place, cause, packet }, hosts, step) {
   if (fate === "dropped") return ["no", "This line drops it."];
   if (fate === "unheard") return ["no", "No other host on the wire has this address."];
@@ -47,7 +47,7 @@ function segmentView({ joined, chances }) {
     joined.map(box)), chances.length > 0 && h("p", { class: "cross" }, `By chance: ${chances.join("; ")}.`)];
 }
 
-// Lines that are put behind this one.
+// Lines that are inserted after this one.
 function putButtons({ joined, chances }) {
   const button = (line, name) =>
     h("button", { type: "button", id: `put-${line.split(" ")[0]}`, onclick() {

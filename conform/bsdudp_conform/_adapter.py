@@ -1,5 +1,5 @@
-"""A stack's adapter, as the judge runs it: a program that reads cases and says what came of them. One that answers
-nonsense, dies, hangs or floods costs the case that it was in, and is begun anew for the next."""
+"""A stack's adapter, as the judge runs it: a program that reads cases and reports what the stack did. If it prints
+nonsense, dies, hangs or floods, that case fails, and the program is started again for the next one."""
 from __future__ import annotations
 
 import os
@@ -15,7 +15,7 @@ from ._case import ABILITIES, Answer, Case, Event, Got, Out, Refused, Wait
 TIMEOUT_S = 30.0
 MOST_BYTES = 64 << 20
 READ = 1 << 16
-# So many cases may bring a fault one after the other before the others aren't asked any more.
+# After this many consecutive cases with a fault the other cases aren't run any more.
 MOST_FAULTS = 20
 NOT_ASKED = f"it isn't asked any more, after a fault in {MOST_FAULTS} cases one after the other"
 
@@ -83,7 +83,7 @@ class Adapter:
             self.running = None
 
     def ask(self, case: Case) -> Answer:
-        """What came of a case."""
+        """The result of a case."""
         if self.faults >= MOST_FAULTS:
             return Answer(fault=NOT_ASKED)
         try:
@@ -99,7 +99,7 @@ class Adapter:
         return answer
 
     def exchange(self, lines: List[str], seconds: float) -> List[str]:
-        """Writes lines, and reads up to the line `end`, which isn't among what is answered."""
+        """Writes lines, and reads up to the line `end`, which isn't returned."""
         running = self.running
         assert running is not None and running.stdin is not None and running.stdout is not None
         text, heard = memoryview("".join(f"{line}\n" for line in lines).encode()), bytearray()

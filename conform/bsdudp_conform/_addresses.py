@@ -8,7 +8,7 @@ from ._target import TARGET
 
 
 def address(text: str) -> int:
-    """An IPv4 address as a number. ValueError if the text is none."""
+    """An IPv4 address as a number. ValueError if the text isn't an address."""
     return int(ipaddress.IPv4Address(text))
 
 

@@ -38,7 +38,7 @@ def entry(deviation: Deviation) -> Tuple[str, str]:
 
 
 def is_known(deviation: Deviation, known: Known) -> bool:
-    """Whether a deviation stands in the file."""
+    """Whether a deviation is in the file."""
     level, name = entry(deviation)
     return (level, name) in known or (level, f"{deviation.case.rule}:*") in known
 

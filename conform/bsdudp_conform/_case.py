@@ -84,7 +84,7 @@ class Send:
 
 Step = Union[Receive, Wait, Open, Connect, Send]
 
-# What an adapter may have beside `rx` and `wait`, in its line `has`.
+# What an adapter may have in addition to `rx` and `wait`, in its line `has`.
 ABILITIES: Dict[str, str] = {
     "out": "what leaves on the wire is seen",
     "send": "`send`: a socket sends",
@@ -109,7 +109,7 @@ class Case:
 
     @property
     def name(self) -> str:
-        """How a case is asked for: `frag.key:14`."""
+        """The name by which a case is selected: `frag.key:14`."""
         return f"{self.rule}:{self.number}"
 
     @cached_property
@@ -201,8 +201,8 @@ Event = Union[Got, Out, Refused]
 
 @dataclass(frozen=True)
 class Answer:
-    """What an adapter said of a case. `fault` tells why it has no end: it died, hung, flooded, or said what isn't a
-    line; `notes` are for a reader alone."""
+    """What an adapter reported for a case. `fault` says why it has no end: it died, hung, flooded, or printed an
+    invalid line; `notes` are only for a reader."""
 
     events: Tuple[Event, ...] = ()
     notes: Tuple[str, ...] = ()

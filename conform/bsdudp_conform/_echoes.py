@@ -1,5 +1,5 @@
-"""The law of pings (RFC 792, RFC 1122 3.2.2): each Echo Request that a host has to answer is answered once, with its
-identifier, number and data, and from the address that it was for; what is no request isn't answered."""
+"""The law of pings (RFC 792, RFC 1122 3.2.2): each Echo Request that a host must reply to gets one reply, with its
+identifier, number and data, and from the address that it was sent to; other messages get none."""
 from __future__ import annotations
 
 from typing import Dict, FrozenSet, Iterator, List, NamedTuple, Optional, Sequence, Tuple
@@ -17,7 +17,7 @@ HEADER, CLASS_E, DUE_BYTES = 8, 0xF0, 576
 
 
 class Request(NamedTuple):
-    """An Echo Request, and how surely it's answered: None where a host may answer it or not."""
+    """An Echo Request, and whether it must get a reply: None if a host may reply or not."""
 
     step: int
     level: Optional[str]
@@ -26,12 +26,12 @@ class Request(NamedTuple):
 
     @property
     def reply(self) -> bytes:
-        """What the answer carries, but for its type, code and checksum."""
+        """What the reply carries, except its type, code and checksum."""
         return self.message[4:]
 
 
 def requests(seen: Seen) -> Iterator[Request]:
-    """All Echo Requests of a case that a host may answer."""
+    """All Echo Requests of a case that a host may reply to."""
     keys: Dict[Tuple[int, int, int, int], List[Arrival]] = {}
     for it in seen.arrivals:
         header = it.header
@@ -61,8 +61,8 @@ def request(step: int, header: Header, message: bytes, few: bool) -> Iterator[Re
 
 
 def pings(seen: Seen, answer: Answer, abilities: FrozenSet[str]) -> List[Breach]:
-    """All breaches of the law. Without `ping` a missing reply is none; of a stack that isn't a fresh one, a reply may
-    be to another case."""
+    """All breaches of the law. Without `ping` a missing reply is no breach; of a stack that isn't a fresh one, a reply
+    may be to another case."""
     left = list(requests(seen))
     found: List[Breach] = []
     for it in answer.out:
@@ -90,7 +90,8 @@ def pings(seen: Seen, answer: Answer, abilities: FrozenSet[str]) -> List[Breach]
 
 
 def answered(asked: Sequence[Request], header: Header) -> Optional[Request]:
-    """The request that a reply is for: of several the one with its bytes, or else with its identifier and number."""
+    """The request that a reply is for: of several the one with its bytes, or otherwise with its identifier and
+    number."""
     same = [it for it in asked if it.source == header.destination]
     same.sort(key=lambda it: (it.reply != header.data[4:], it.message[4:8] != header.data[4:8]))
     return same[0] if same else None

@@ -1,8 +1,8 @@
 """The freedom that the RFCs leave to a stack, as settings of the reference machine.
 
-A setting's `keeps` are values that keep MUSTs and SHOULDs, `strays` those that keep the MUSTs alone, and `breaks` those
-that break a MUST: they're never permitted, and stand here so that a known stack's answers can be explained. `finer` are
-further permitted values that only matter for that."""
+A setting's `keeps` are values that keep MUSTs and SHOULDs, `strays` those that keep only the MUSTs, and `breaks` those
+that break a MUST: they're never permitted, and are here to explain the behaviour of known stacks. `finer` are further
+permitted values that only matter for that."""
 from __future__ import annotations
 
 from dataclasses import dataclass, field
@@ -178,7 +178,7 @@ Settings = Dict[str, Value]
 
 
 class Path:
-    """The values that one run of the machine takes: those given, else each setting's own default."""
+    """The values that one run of the machine takes: those given, otherwise each setting's own default."""
 
     def __init__(self, given: Mapping[str, Value]) -> None:
         self.taken: Settings = dict(given)
@@ -220,13 +220,13 @@ BSD: Settings = {
 }
 
 Play = Callable[[Path], object]
-# More runs than that aren't made of one case: its answers are then taken for many.
+# One case gets at most this many runs: its results then count as many.
 MOST_RUNS = 600
 
 
 def runs(play: Play, strict: bool, given: Mapping[str, Value] = {}) -> "List[Tuple[Settings, object]]":
-    """All runs of a machine that differ in a setting that's asked for, until two answers differ or there are too many.
-    strict: only values that keep the SHOULDs too. The last answer differs from the first, or all are alike."""
+    """All runs of a machine that differ in a setting that it reads, until two results differ or there are too many.
+    strict: only values that keep the SHOULDs too. The last result differs from the first, or all are alike."""
     found: List[Tuple[Settings, object]] = []
     todo: List[Settings] = [dict(given)]
     while todo:

@@ -1,4 +1,4 @@
-"""Cases through a stack, and what came of them."""
+"""Runs cases through a stack, and collects the results."""
 from __future__ import annotations
 
 import concurrent.futures
@@ -67,7 +67,7 @@ def cases_of(kind: Iterable[Deviation]) -> List[str]:
 
 
 class Progress:
-    """A line on standard error, written anew as cases end."""
+    """A line on standard error, rewritten as cases end."""
 
     def __init__(self, name: str, total: int, shown: Optional[bool]) -> None:
         self.name, self.total, self.done = name, total, 0

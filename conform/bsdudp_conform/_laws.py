@@ -1,4 +1,4 @@
-"""The two laws of what reaches users, which hold in every case and read the packets alone.
+"""The two laws of what reaches users, which hold in every case and read only the packets.
 
 never     A datagram that reaches a socket is one that the packets carry: the data of one whole packet with right
           lengths and checksums, or, byte for byte, of fragments of one key (source, destination, identification,

@@ -187,7 +187,7 @@ class Machine:
         return {"best, youngest": best[-1:], "best, oldest": best[:1], "best, all": best[::-1]}[str(how)]
 
     def send(self, step: Send) -> None:
-        """A send, as 4.4BSD cuts it: what other machines send is judged by the law of sends alone."""
+        """A send, as 4.4BSD cuts it: what other machines send is judged only by the law of sends."""
         if len(step.data) > MOST_SENT:
             self.events.append(Refused(self.step))
             return

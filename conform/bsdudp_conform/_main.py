@@ -115,7 +115,7 @@ def span(text: str) -> range:
 
 
 def wanted(name: str, only: Sequence[str]) -> bool:
-    """Whether a case is asked for."""
+    """Whether a case is selected."""
     return not only or any(
         name == it or name.startswith((f"{it}:", f"{it}.", it) if it.endswith(".") else (f"{it}:", f"{it}."))
         for it in only
@@ -130,8 +130,8 @@ def commands_of(words: argparse.Namespace) -> List[List[str]]:
 
 
 def main(argv: Optional[Sequence[str]] = None) -> int:
-    """Runs the command. If nobody reads standard output any more, as in `run --list | head`, it ends without a message
-    and with status 1, since its verdict wasn't read. (An adapter's pipes are _adapter's.)"""
+    """Runs the command. If standard output is closed, as in `run --list | head`, it ends without a message and with
+    status 1, since its verdict wasn't read. (An adapter's pipes are _adapter's.)"""
     try:
         try:
             return command(argv)

@@ -21,7 +21,7 @@ def new(judged: Judged, known: Known) -> List[Deviation]:
 
 
 def write(stacks: Sequence[Judged], known: Known, words: argparse.Namespace) -> None:
-    """Prints the report, and writes the files that are asked for."""
+    """Prints the report, and writes the files that were requested."""
     policies: Dict[str, List[Explained]] = {}
     if not words.no_policy and not words.quiet:
         if sys.stderr.isatty():

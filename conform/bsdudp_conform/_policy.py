@@ -1,4 +1,4 @@
-"""A stack's policy by name: the settings of the reference machine that explain most of its answers."""
+"""A stack's policy by name: the settings of the reference machine that explain most of its behaviour."""
 from __future__ import annotations
 
 from collections import Counter
@@ -11,13 +11,13 @@ from ._machine import play
 from ._verdict import explains
 
 ROUNDS = 3
-# A setting of which so many values explain the same isn't told.
+# A setting isn't reported if this many of its values explain the same.
 MANY_VALUES = 4
 MOST_CASES, MOST_BYTES = 40, 60_000
 
 
 class Explained(NamedTuple):
-    """One setting: the values that explain most, and how many of the cases that ask for it."""
+    """One setting: the values that explain most, and how many of the cases that depend on it."""
 
     setting: str
     values: Tuple[Value, ...]
@@ -41,7 +41,7 @@ class Explained(NamedTuple):
 
 
 def asking(cases: List[Case], settings: Mapping[str, Value]) -> Dict[str, List[Case]]:
-    """The cases that ask for each setting."""
+    """The cases that depend on each setting."""
     found: Dict[str, List[Case]] = {name: [] for name in SETTINGS}
     for case in cases:
         path = Noting(settings)
@@ -52,7 +52,7 @@ def asking(cases: List[Case], settings: Mapping[str, Value]) -> Dict[str, List[C
 
 
 class Noting(Path):
-    """A path that notes which settings are asked for, given or not."""
+    """A path that records which settings are read, given or not."""
 
     def __init__(self, given: Mapping[str, Value]) -> None:
         super().__init__(given)
@@ -65,7 +65,7 @@ class Noting(Path):
 
 
 def chosen(cases: List[Case], name: str) -> List[Case]:
-    """Enough cases for a setting: those that ask for little else come first, and floods are few."""
+    """Enough cases for a setting: those that depend on few others come first, and floods are few."""
     fit = [case for case in cases if case.size[1] < MOST_BYTES or name in ("kept", "largest", "expire")]
     own = sorted((case for case in fit if case.rule not in ("run", "mix")), key=lambda case: case.size)
     mixed = [case for case in fit if case.rule == "mix"]
@@ -73,7 +73,8 @@ def chosen(cases: List[Case], name: str) -> List[Case]:
 
 
 def settings_of(judged: Judged) -> Tuple[Settings, List[Explained]]:
-    """The settings that explain a stack, and how well each does: first alone, then with the others so found."""
+    """The settings that explain a stack, and how well each does: first by itself, then with the others found in this
+    way."""
     settings: Settings = {name: setting.default for name, setting in SETTINGS.items()}
     found: List[Explained] = []
     sound = [case for case in judged.cases if judged.answers[case.name].fault is None]
@@ -100,5 +101,5 @@ def best_value(cases: List[Case], answers: Mapping[str, Answer], settings: Setti
 
 
 def unexplained(judged: Judged, settings: Settings) -> List[Case]:
-    """The cases whose answers no machine with these settings gives."""
+    """The cases whose results no machine with these settings has."""
     return [case for case in judged.cases if not explains(case, judged.answers[case.name], settings)]

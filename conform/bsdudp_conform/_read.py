@@ -10,7 +10,7 @@ ICMP = 1
 
 
 def fold(data: bytes) -> int:
-    """The folded one's complement sum of 16-bit words (RFC 1071): a number's remainder by 65,535, but for 0."""
+    """The folded one's complement sum of 16-bit words (RFC 1071): a number's remainder by 65,535, except for 0."""
     number = int.from_bytes(data + b"\0" if len(data) % 2 else data, "big")
     return number if number == 0 else (number - 1) % 0xFFFF + 1
 
@@ -65,7 +65,7 @@ def read(packet: bytes) -> Optional[Header]:
 
 
 def sum_with_pseudo_header(data: bytes, source: int, destination: int, length: int) -> int:
-    """The folded sum of a UDP datagram with its pseudo header (RFC 768): 65,535 where the checksum is right."""
+    """The folded sum of a UDP datagram with its pseudo header (RFC 768): 65,535 if the checksum is right."""
     return fold(struct.pack(">IIBBH", source, destination, 0, UDP, length) + data)
 
 

@@ -48,7 +48,8 @@ class Unfinished:
             self.owner.extend([NOBODY] * (end - self.top))
 
     def lay(self, begin: int, data: bytes, wins: Optional[List[int]]) -> bool:
-        """Puts a piece's bytes where it wins; None: everywhere, where nobody is. Whether a byte of it stayed."""
+        """Stores a piece's bytes at the offsets that it wins; None: at all that are free. Returns whether a byte of it
+        stayed."""
         me = len(self.pieces) - 1
         if wins is None and not data:
             return False
@@ -164,7 +165,7 @@ class Reassembly:
 
     @staticmethod
     def disagrees(it: Unfinished, piece: Piece) -> bool:
-        """Whether the ends that fragments tell don't agree."""
+        """Whether the ends that fragments report don't agree."""
         if piece.more:
             return it.end is not None and piece.end > it.end
         return piece.end < it.top or it.end not in (None, piece.end)
@@ -195,7 +196,7 @@ class Reassembly:
         return True
 
     def place_is_held(self, it: Unfinished, piece: Piece) -> bool:
-        """Whether a fragment goes since an empty one lies in it, or it's an empty one that lies in another."""
+        """Whether a fragment is dropped because an empty one is inside it, or it's an empty one inside another."""
         if piece.begin == piece.end:
             clash = any(old.begin <= piece.begin < max(old.end, old.begin + 1) for old in it.pieces)
         else:

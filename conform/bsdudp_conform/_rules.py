@@ -1,4 +1,4 @@
-"""The rules: what each says in our own words, and where it stands."""
+"""The rules: what each says in our own words, and its source."""
 from __future__ import annotations
 
 from typing import Dict, NamedTuple
@@ -7,7 +7,7 @@ POLICY = "policy"
 
 
 class Rule(NamedTuple):
-    """A rule. Where the source begins with "policy", the RFCs leave the answer open."""
+    """A rule. If the source begins with "policy", the RFCs leave the behaviour open."""
 
     sentence: str
     source: str

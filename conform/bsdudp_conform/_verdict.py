@@ -1,4 +1,4 @@
-"""A case's verdict: the laws first, then what all permitted machines answer alike."""
+"""A case's verdict: the laws first, then the results on which all permitted machines agree."""
 from __future__ import annotations
 
 import functools
@@ -36,7 +36,7 @@ def play_delivered(case: Case, path: Path) -> Delivered:
 
 @functools.lru_cache(maxsize=None)
 def expected(case: Case) -> Expected:
-    """MUST where all permitted machines answer alike, SHOULD where those do that keep the SHOULDs, policy elsewhere."""
+    """MUST if all permitted machines agree, SHOULD if those that keep the SHOULDs agree, otherwise policy."""
     path = Path({})
     machine: Machine = play(case, path)
     answer = delivered(answer_of(machine).got)
@@ -47,7 +47,7 @@ def expected(case: Case) -> Expected:
 
 
 def alike(case: Case, strict: bool) -> bool:
-    """Whether all machines answer alike."""
+    """Whether all machines agree."""
     answers = [answer for _, answer in runs(lambda path: play_delivered(case, path), strict)]
     return answers.count(answers[0]) == len(answers)
 
@@ -73,7 +73,7 @@ def matched(
 
 
 def verdict(case: Case, answer: Answer, abilities: FrozenSet[str]) -> List[Breach]:
-    """All that a stack's answer to a case breaks."""
+    """All rules that a stack's behaviour in a case breaks."""
     if answer.fault is not None:
         return [Breach(FAULT, case.rule, answer.fault, None, "an answer to the end of the case")]
     seen = Seen(case)
@@ -114,7 +114,7 @@ def by_laws(case: Case, seen: Seen, answer: Answer) -> List[Breach]:
 
 
 def by_machines(case: Case, answer: Answer) -> List[Breach]:
-    """Where all machines answer alike, a stack's answer is that one."""
+    """If all machines agree, a stack must do the same."""
     want = expected(case)
     if want.level == POLICY:
         return []
@@ -189,7 +189,8 @@ def for_gateway(packet: bytes) -> bool:
 
 
 def echoed(packet: bytes) -> bool:
-    """Whether an echo can tell what became of a packet: it comes from another host of the network, and from a port."""
+    """Whether an echo can show what happened to a packet: it comes from another host of the network, and from a
+    port."""
     if len(packet) < 20:
         return True
     source = int.from_bytes(packet[12:16], "big")

@@ -24,7 +24,7 @@ class Adapter:
     """One stack, from boot to the end of a case."""
 
     name = "a stack"
-    # What it has beside `rx` and `wait`: out, ping, send, mtu, sockets, connect, gateway (docs/judge.md).
+    # What it has in addition to `rx` and `wait`: out, ping, send, mtu, sockets, connect, gateway (docs/judge.md).
     has: Sequence[str] = ()
     # Whether each case is played in a process of its own, so that a crash is one case's.
     forks = True
@@ -83,7 +83,7 @@ class Adapter:
 
 
 def bytes_of(text: str) -> bytes:
-    """The bytes of a line: `-` is none."""
+    """The bytes of a line: `-` means no bytes."""
     return b"" if text == "-" else bytes.fromhex(text)
 
 

@@ -1,5 +1,5 @@
-"""Two fragments overlap, with different bytes: who wins? This stack keeps the bytes that came first in front of a fragment,
-and cuts what is held behind it, as 4.4BSD does. Linux drops the whole datagram since 4.19 (RFC 5722 asks for that)."""
+"""Two fragments overlap, with different bytes: which bytes stay? Like 4.4BSD, this stack keeps the bytes of fragments that
+begin earlier, and cuts those that begin later. Linux drops the whole datagram since 4.19 (RFC 5722 demands that)."""
 import bsdudp
 from scapy.all import IP, UDP, Raw
 

@@ -101,7 +101,7 @@ def test_example_is_short(name):
 
 
 def test_first(plain):
-    assert len(re.findall("client hears 1024 bytes", passed(plain / "bsdudp-first"))) == 3
+    assert len(re.findall("client receives 1024 bytes", passed(plain / "bsdudp-first"))) == 3
 
 
 @pytest.mark.parametrize("node", [0, 1])
@@ -191,4 +191,4 @@ def test_program_of_the_page(plain, prefix, tmp_path):
     (tmp_path / "program.cc").write_text(textwrap.dedent(program), encoding="utf-8")
     command = re.search(r"(?m)^    export LD_RUN_PATH.*\n.*$", page)[0].replace("~/.local", str(prefix))
     monkey = {**os.environ, "PKG_CONFIG_PATH": f"{prefix}/lib/pkgconfig"}
-    assert passed("bash", "-c", command, cwd=tmp_path, env=monkey).strip() == "hears 1024 bytes"
+    assert passed("bash", "-c", command, cwd=tmp_path, env=monkey).strip() == "received 1024 bytes"

@@ -1,4 +1,4 @@
-"""The cases: 5,000 by rule, and as many random mixes as are asked for.
+"""The cases: more than 5,000 by rule, and random mixes, whose number can be set.
 
 Teams keep baselines of their stacks, which name cases by number. So a new case comes after the others of its rule, and
 draws its random bytes apart from theirs: all others stay as they are."""
@@ -39,7 +39,7 @@ def make(seed: int = 1, mixes: int = MIXES) -> List[Case]:
 
 
 def make_mixes(seed: int, count: int) -> List[Case]:
-    """Random mixes alone, for a sweep over seeds."""
+    """Only random mixes, for a sweep over seeds."""
     to = Builder(seed)
     add_mixes(to, count)
     return to.cases

@@ -53,7 +53,7 @@ class Builder:
         self.add(rule, title, [made])
 
     def cut(self, count: int, last: Optional[int] = None) -> Tuple[List[int], int]:
-        """Where a datagram is cut into so many fragments, and its length."""
+        """The offsets at which a datagram is cut into this many fragments, and its length."""
         sizes = [8 * self.random.randint(1, 6) for _ in range(count - 1)]
         cuts = list(itertools.accumulate(sizes))
         return cuts, cuts[-1] + (last or self.random.randint(1, 40))

@@ -65,7 +65,7 @@ def add_ends_of_time(to: Builder) -> None:
 
 
 def begun(to: Builder, count: int, spread: bool = False) -> List[bytes]:
-    """First fragments of so many datagrams of another sender, or of as many senders."""
+    """First fragments of this many datagrams of another sender, or of one each of this many senders."""
     one = packet(udp(to.data(40))[:24], flags=MORE, source=PEER2)
     found = []
     for number in range(count):

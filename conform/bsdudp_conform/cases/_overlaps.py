@@ -57,7 +57,7 @@ def add_fits(to: Builder, check: Optional[int]) -> None:
 
 
 def spans() -> List[Span]:
-    """All spans of whole eights inside a datagram of 40 bytes, but for its first and last eight."""
+    """All spans of whole eights inside a datagram of 40 bytes, except its first and last eight."""
     return [(begin, end) for begin in range(8, 32, 8) for end in range(begin + 8, 40, 8)]
 
 
@@ -167,7 +167,7 @@ HOLES = {
 
 
 def add_as_long_as_the_hole(to: Builder) -> None:
-    """As many bytes come as the datagram has, and some of them twice."""
+    """The number of bytes that arrive is that of the datagram, but some arrive twice."""
     for name, spots in HOLES.items():
         for order in itertools.permutations(spots):
             id, data = to.id, udp(to.data(56), check=0)

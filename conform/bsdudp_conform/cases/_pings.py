@@ -1,5 +1,5 @@
-"""Echo Requests, and ICMP that isn't answered. Their bytes count up, as ping's own do, so that they take none of the
-seed's."""
+"""Echo Requests, and ICMP messages that get no reply. Their bytes count up, as ping's own do, so that they take none of
+the seed's."""
 from __future__ import annotations
 
 import itertools
@@ -24,7 +24,7 @@ def data(size: int) -> bytes:
 
 
 def icmp(kind: int, rest: bytes, code: int = 0) -> bytes:
-    """A message: type, code, checksum, and what is behind."""
+    """A message: type, code, checksum, and the rest."""
     bare = struct.pack(">BBH", kind, code, 0) + rest
     return bare[:2] + struct.pack(">H", checksum(bare)) + bare[4:]
 

@@ -78,7 +78,7 @@ def cut(to: Builder, source: int = PEER, sport: int = 5000, dport: int = 7) -> L
 
 
 def add_senders(to: Builder) -> None:
-    """Who sent it: alone, and while another's fragments or datagrams come."""
+    """The sender: with no other packets, and while another's fragments or datagrams arrive."""
     ports = (1, 255, 256, 4999, 0x8000, 65535)
     alone: Dict[str, Dict[str, Any]] = {f"port {port}": {"sport": port} for port in ports}
     alone.update({"another address": {"source": PEER2}, "another network": {"source": address("192.0.2.9")}})

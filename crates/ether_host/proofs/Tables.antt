@@ -4,9 +4,9 @@ use Rattle.std.specs.Prelude.{filter, is_some, remove, slice_get}
 use Rattle.std.specs.List.{copy_within}
 use Rattle.std.proofs.lemmas.List.{take_all, take_at}
 use Rattle.std.proofs.lemmas.List.Edits.{length-remove}
-use Rattle.flat_ether.specs.Links.{neighbour_aged, has_hope, neighbour_place, neighbour_stays}
+use Rattle.flat_ether.specs.Links.{neighbour_aged, is_resolvable, neighbour_place, neighbour_stays}
 use Rattle.flat_ether.specs.declared.neighbour.Neighbour.{Neighbour}
-use Rattle.ether_host.specs.Buffers.{has_hope_in, held_in}
+use Rattle.ether_host.specs.Buffers.{is_resolvable_in, held_in}
 use Rattle.ether_host.specs.declared.buffer.PacketBuffer.{PacketBuffer}
 
 few_pass : (xs : List Neighbour) → length (filter neighbour_stays (map neighbour_aged xs)) ≤ length xs
@@ -31,13 +31,13 @@ few_stay ns i kept e =
 
 -- packets that are kept, as they're seen
 pub held_filter : (ns : List Neighbour) (ps : List PacketBuffer)
-    → map held_in (filter (has_hope_in ns) ps) ≡ filter (has_hope ns) (map held_in ps)
+    → map held_in (filter (is_resolvable_in ns) ps) ≡ filter (is_resolvable ns) (map held_in ps)
 held_filter ns [] = refl
 held_filter ns (p ∷ ps) = go (is_some (neighbour_place p.hop ns)) (held_filter ns ps)
   where
-    go : (b : Bool) → map held_in (filter (has_hope_in ns) ps) ≡ filter (has_hope ns) (map held_in ps)
-        → map held_in (cond b (p ∷ filter (has_hope_in ns) ps) (filter (has_hope_in ns) ps))
-        ≡ cond b (held_in p ∷ filter (has_hope ns) (map held_in ps)) (filter (has_hope ns) (map held_in ps))
+    go : (b : Bool) → map held_in (filter (is_resolvable_in ns) ps) ≡ filter (is_resolvable ns) (map held_in ps)
+        → map held_in (cond b (p ∷ filter (is_resolvable_in ns) ps) (filter (is_resolvable_in ns) ps))
+        ≡ cond b (held_in p ∷ filter (is_resolvable ns) (map held_in ps)) (filter (is_resolvable ns) (map held_in ps))
     go true h = ap (λ xs. held_in p ∷ xs) h
     go false h = h
 
@@ -57,22 +57,24 @@ held_remove (p ∷ ps) (suc i) = ap (λ xs. held_in p ∷ xs) (held_remove ps i)
 
 -- what is kept of those in front, and what will be of the others
 abbrev pub kept_from : List Neighbour → List PacketBuffer → ℕ → List PacketBuffer
-kept_from ns ps i = take i ps ++ filter (has_hope_in ns) (drop i ps)
+kept_from ns ps i = take i ps ++ filter (is_resolvable_in ns) (drop i ps)
 
 pub kept_on : (ns : List Neighbour) (ps : List PacketBuffer) (i : ℕ) (p : PacketBuffer) → i < length ps
-    → p ≡ get_or ps i p → has_hope_in ns p ≡ true → kept_from ns ps i ≡ kept_from ns ps (i + 1)
+    → p ≡ get_or ps i p → is_resolvable_in ns p ≡ true → kept_from ns ps i ≡ kept_from ns ps (i + 1)
 kept_on ns [] i p h e t = absurd (omega arith)
 kept_on ns (q ∷ ps) zero p h e t =
-    ap (λ b. cond b (q ∷ filter (has_hope_in ns) ps) (filter (has_hope_in ns) ps)) (ap (has_hope_in ns) (sym e) ∙ t)
+    ap (λ b. cond b (q ∷ filter (is_resolvable_in ns) ps) (filter (is_resolvable_in ns) ps))
+      (ap (is_resolvable_in ns) (sym e) ∙ t)
 kept_on ns (q ∷ ps) (suc i) p h e t =
     let m : suc (i + 1) ≡ suc i + 1 = omega arith in
     ap (λ xs. q ∷ xs) (kept_on ns ps i p (omega arith) e t) ∙ ap (kept_from ns (q ∷ ps)) m
 
 pub kept_off : (ns : List Neighbour) (ps : List PacketBuffer) (i : ℕ) (p : PacketBuffer) → i < length ps
-    → p ≡ get_or ps i p → has_hope_in ns p ≡ false → kept_from ns ps i ≡ kept_from ns (remove ps i) i
+    → p ≡ get_or ps i p → is_resolvable_in ns p ≡ false → kept_from ns ps i ≡ kept_from ns (remove ps i) i
 kept_off ns [] i p h e t = absurd (omega arith)
 kept_off ns (q ∷ ps) zero p h e t =
-    ap (λ b. cond b (q ∷ filter (has_hope_in ns) ps) (filter (has_hope_in ns) ps)) (ap (has_hope_in ns) (sym e) ∙ t)
+    ap (λ b. cond b (q ∷ filter (is_resolvable_in ns) ps) (filter (is_resolvable_in ns) ps))
+      (ap (is_resolvable_in ns) (sym e) ∙ t)
 kept_off ns (q ∷ ps) (suc i) p h e t = ap (λ xs. q ∷ xs) (kept_off ns ps i p (omega arith) e t)
 
 pub kept_all : (ns : List Neighbour) (ps : List PacketBuffer) (i : ℕ) → length ps ≤ i → kept_from ns ps i ≡ ps

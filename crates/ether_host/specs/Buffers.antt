@@ -8,5 +8,5 @@ abbrev pub held_in : PacketBuffer → WaitingPacket
 held_in p = record { hop = p.hop; packet = take p.len p.room }
 
 -- its next hop is known or requested
-abbrev pub has_hope_in : List Neighbour → PacketBuffer → Bool
-has_hope_in ns p = is_some (neighbour_place p.hop ns)
+abbrev pub is_resolvable_in : List Neighbour → PacketBuffer → Bool
+is_resolvable_in ns p = is_some (neighbour_place p.hop ns)

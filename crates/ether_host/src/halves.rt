@@ -2,7 +2,7 @@
 ghost use Rattle.std.specs.Prelude.{◌≡◌, ◌+◌, ◌≤◌, length, IfSome};
 ghost use Rattle.params.specs.declared.TheConstants.{IP_MAX_PACKET};
 ghost use Rattle.flat_ether.specs.Claims.{address_state};
-ghost use Rattle.flat_ether.specs.Hosts.{Hears, gives, last_error};
+ghost use Rattle.flat_ether.specs.Hosts.{TakesFrame, gives, last_error};
 ghost use Rattle.flat_ether.specs.declared.sizes.TheConstants.{ETHER_HEADER, ETHER_MTU};
 ghost use Rattle.ether_host.specs.Fronts.{room_front};
 ghost use Rattle.ether_host.specs.View.{halves, held_for};
@@ -20,12 +20,12 @@ impl LinkLayer {
     /// A frame arrives: see `EtherHost::receive`.
     pub fn receive(&mut self, stack: &mut Stack, frame: &[u8])
         requires { length frame.now ≤ ETHER_HEADER + IP_MAX_PACKET }
-        ensures { Hears frame.now (halves stack.old (link_seen self.old)) (halves stack.new (link_seen self.new)) }
+        ensures { TakesFrame frame.now (halves stack.old (link_seen self.old)) (halves stack.new (link_seen self.new)) }
     {
         match kind_of(&self.config, self.link.mac, frame) {
             FrameKind::Packet => take_packet(stack, self, frame),
             FrameKind::Martian => self.refuse(),
-            FrameKind::Arp => self.hear_arp(body_of(frame)),
+            FrameKind::Arp => self.receive_arp(body_of(frame)),
             FrameKind::Other => self.ignore(),
         }
     }

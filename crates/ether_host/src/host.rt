@@ -3,7 +3,7 @@ ghost use Rattle.std.specs.Prelude.{◌≡◌, ◌+◌, ◌≤◌, length, IfSom
 ghost use Rattle.std.specs.Borrow.{sem};
 ghost use Rattle.params.specs.declared.TheConstants.{IP_MAX_PACKET};
 ghost use Rattle.flat_ether.specs.Claims.{address_state};
-ghost use Rattle.flat_ether.specs.Hosts.{Hears, Ticks, gives, host_up, last_error};
+ghost use Rattle.flat_ether.specs.Hosts.{TakesFrame, Ticks, gives, host_up, last_error};
 ghost use Rattle.flat_ether.specs.declared.sizes.TheConstants.{ETHER_HEADER, ETHER_MTU};
 ghost use Rattle.net_stack.specs.Boots.{free_pool};
 ghost use Rattle.ether_host.specs.Fronts.{room_front};
@@ -75,7 +75,7 @@ impl EtherHost {
     /// 0/8 or 127/8, or to 127/8 is dropped here and counted (RFC 1122, section 3.2.1.3).
     pub fn receive(&mut self, frame: &[u8])
         requires { length frame.now ≤ ETHER_HEADER + IP_MAX_PACKET }
-        ensures { Hears frame.now (host_of (host_view self.old)) (host_of (host_view self.new)) }
+        ensures { TakesFrame frame.now (host_of (host_view self.old)) (host_of (host_view self.new)) }
     {
         self.layer.receive(&mut self.stack, frame);
     }

@@ -3,12 +3,12 @@
 #![tactic(auto)]
 
 mod answer;
+mod arrival;
 mod buffer;
 mod bytes;
 mod errors;
 mod frames;
 mod halves;
-mod hear;
 mod host;
 mod layer;
 mod own;

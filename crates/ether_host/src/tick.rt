@@ -1,7 +1,7 @@
 //! The clock.
 ghost use Rattle.std.specs.Prelude.{◌≡◌, ◌≤◌, filter, length, map, vec_capacity};
 ghost use Rattle.flat_ether.specs.Links.{neighbour_aged, neighbour_stays, ticks};
-ghost use Rattle.ether_host.specs.Buffers.{has_hope_in};
+ghost use Rattle.ether_host.specs.Buffers.{is_resolvable_in};
 
 use crate::buffer::{PacketBuffer, drop_at};
 use crate::layer::LinkLayer;
@@ -41,7 +41,7 @@ fn age(neighbours: &[Neighbour]) -> ArrayVec<Neighbour, NEIGHBOURS>
 
 /// Drops the packets whose next hop is neither known nor requested.
 fn keep(held: &mut Vec<PacketBuffer>, neighbours: &[Neighbour])
-    ensures kept { held.new.items ≡ filter (has_hope_in neighbours.now) held.old.items }
+    ensures kept { held.new.items ≡ filter (is_resolvable_in neighbours.now) held.old.items }
     ensures room { vec_capacity held.new ≡ vec_capacity held.old }
 {
     let mut at = 0;

@@ -13,11 +13,11 @@ use Rattle.flat_model.specs.declared.counter.Counter.TheVariants.{IpNoproto}
 use Rattle.flat_model.specs.declared.errno.Errno.{Errno}
 use Rattle.flat_ether.specs.Claims.{claim_due, is_claimed}
 use Rattle.flat_ether.specs.Errors.{error_at, error_in}
-use Rattle.flat_ether.specs.Frames.{arp_of, body_of, is_heard, is_martian, kind_of, packet_kind}
-use Rattle.flat_ether.specs.Hosts.{HostAct, AreHostActs, Asks_error, Ages, Calls, Clock, Comes_in, Drained, Goes_out, HearsKind, Host, IsHostAct, drained, error_of_socket, gives, gives_claimed, gives_drained, gives_probe, host_up, is_to_us, or_drains}
+use Rattle.flat_ether.specs.Frames.{arp_of, body_of, is_addressed, is_martian, kind_of, packet_kind}
+use Rattle.flat_ether.specs.Hosts.{HostAct, AreHostActs, Asks_error, Ages, Calls, Clock, Comes_in, Drained, Goes_out, ReceivesKind, Host, IsHostAct, drained, error_of_socket, gives, gives_claimed, gives_drained, gives_probe, host_up, is_to_us, or_drains}
 use Rattle.flat_ether.specs.Icmp.{answer_to, counted_more}
 use Rattle.flat_ether.specs.Laws.{martian_if, martian_in, martians_in, packet_if, packets_in}
-use Rattle.flat_ether.specs.Links.{Gives, WaitingPacket, LinkState, answers_with, asks, asks_at, by_route, claim_frame, drops_first, finds_conflict, first_ready, gives_answer, gives_claim, gives_held, gives_own, gives_reply, gives_request, hears_arp, holds_packet, is_answering, is_asked, is_conflict, is_request_due, is_learned, is_sound_arp, learns, mac_of, notes, notes_error, or_then, owes, neighbour_place, replies_to, route_of, sends, sends_answer, sends_at, sends_held, takes_at, takes_error, to_hop}
+use Rattle.flat_ether.specs.Links.{Gives, WaitingPacket, LinkState, answers_with, asks, asks_at, by_route, claim_frame, drops_first, counts_conflict, first_ready, gives_answer, gives_claim, gives_held, gives_own, gives_reply, gives_request, receives_arp, holds_packet, is_answering, is_asked, is_conflict, is_request_due, is_learned, is_sound_arp, learns, mac_of, notes, notes_error, or_then, queues_reply, neighbour_place, replies_to, route_of, sends, sends_answer, sends_at, sends_held, takes_at, takes_error, to_hop}
 use Rattle.flat_ether.specs.declared.answer.Answer.{Answer}
 use Rattle.flat_ether.specs.declared.answer.Answer.TheVariants.{Echo, Unreachable, Silence}
 use Rattle.flat_ether.specs.declared.arp.Arp.{Arp}
@@ -70,16 +70,16 @@ notes_same b came s = by_cond b s _ _ (go (error_in s.config came)) refl
     go None = refl
     go (Some e) = refl
 
-owes_same : (a : Arp) (s : LinkState) → tally (owes a s) ≡ tally s
+owes_same : (a : Arp) (s : LinkState) → tally (queues_reply a s) ≡ tally s
 owes_same a s = by_cond (is_asked s a) s _ _ (by_cond (nat_lt (length s.replies) PENDING_REPLIES) s _ _ refl refl) refl
 
 learns_same : (a : Arp) (s : LinkState) → tally (learns a s) ≡ tally s
 learns_same a s = by_cond (is_learned s a) s _ _ refl refl
 
-hears_same : (b : List ℕ) (s : LinkState) → tally (hears_arp b s) ≡ tally s
+hears_same : (b : List ℕ) (s : LinkState) → tally (receives_arp b s) ≡ tally s
 hears_same b s =
     by_cond (is_sound_arp s.link b) s _ _
-    (by_cond (is_conflict s (arp_of b)) s _ _ (owes_same (arp_of b) (finds_conflict s))
+    (by_cond (is_conflict s (arp_of b)) s _ _ (owes_same (arp_of b) (counts_conflict s))
     (owes_same (arp_of b) (learns (arp_of b) s) ∙ learns_same (arp_of b) s))
     refl
 
@@ -211,7 +211,7 @@ module _ (c : Config) (l : Link) where
   same_counts : (k : ℕ) (old new : Host) → Counts k old → tally new.link ≡ tally old.link → Counts (k + 0) new
   same_counts k old new is e = e ∙ is ∙ ap (λ (n : ℕ). (c, l, more_by n 0)) (omega (arith))
 
-  heard_counts : (k : ℕ) (f : List ℕ) (old new : Host) (kind : FrameKind) → Counts k old → HearsKind kind f old new
+  heard_counts : (k : ℕ) (f : List ℕ) (old new : Host) (kind : FrameKind) → Counts k old → ReceivesKind kind f old new
       → Counts (k + martian_if kind) new
   heard_counts k f old new Packet is h =
       same_counts k old new is (ap tally h.link ∙ by_cond (is_to_us old.link f) old.link _ _
@@ -229,7 +229,7 @@ module _ (c : Config) (l : Link) where
       → Counts (k + martian_in c l.mac act) new
   act_counts k old new (Comes_in f) is h =
       heard_counts k f old new (kind_of c l.mac f) is
-      (subst (λ (x : Tally). HearsKind (kind_of x.0 x.1.mac f) f old new) is h.2)
+      (subst (λ (x : Tally). ReceivesKind (kind_of x.0 x.1.mac f) f old new) is h.2)
   act_counts k old new (Goes_out f) is h =
       same_counts k old new is (subst (λ (x : Option (List ℕ) × Host). tally x.1.link ≡ tally old.link) (sym h)
       (gives_same old))
@@ -257,7 +257,7 @@ module _ (c : Config) (l : Link) where
 
 pub no_martian : (c : Config) (mac : Mac) (f : List ℕ)
     → All (λ packet. is_martian c packet ≡ false) (packets_in c mac (Comes_in f))
-no_martian c mac f = All-from_recursion _ (packet_if (kind_of c mac f) f) (heard (is_heard mac f))
+no_martian c mac f = All-from_recursion _ (packet_if (kind_of c mac f) f) (heard (is_addressed mac f))
   where
     Free : FrameKind → Type 0
     Free kind = Each (λ packet. is_martian c packet ≡ false) (packet_if kind f)

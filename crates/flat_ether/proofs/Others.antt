@@ -9,7 +9,7 @@ use Rattle.flat_model.specs.Packets.Header.{u16_at}
 use Rattle.flat_model.specs.declared.config.Config.{Config}
 use Rattle.flat_model.proofs.Laws.{each-append, each-weaker}
 use Rattle.flat_wire.specs.Wire.{ComesFrom, ip_source, packet_in, packet_out}
-use Rattle.flat_ether.specs.Frames.{body_of, is_heard, kind_of, packet_kind}
+use Rattle.flat_ether.specs.Frames.{body_of, is_addressed, kind_of, packet_kind}
 use Rattle.flat_ether.specs.Hosts.{HostAct, AreHostActs, Ages, Asks_error, Calls, Clock, Comes_in, Goes_out, Host, host_up}
 use Rattle.flat_ether.specs.Laws.{AreAmongHosts, AreOnEthernet, IsFrameSent, IsInFrames, IsUnforged, IsOwn, IsUdpFrame, MakesTurns, frames_in, frames_out, packet_if, packets_handed, packets_to}
 use Rattle.flat_ether.specs.declared.link.Link.{Link}
@@ -74,7 +74,8 @@ is_ip false ip arp kind e = absurd (no_other e)
 type_of : (d : Config) (mac : Mac) (f : List ℕ) → kind_of d mac f ≡ Packet → u16_at 12 f ≡ ETHER_TYPE_IP
 type_of d mac f e =
     eqb-true (u16_at 12 f) ETHER_TYPE_IP
-    (is_ip (is_heard mac f) (u16_at 12 f == ETHER_TYPE_IP) (u16_at 12 f == ETHER_TYPE_ARP) (packet_kind d (body_of f)) e)
+    (is_ip (is_addressed mac f) (u16_at 12 f == ETHER_TYPE_IP) (u16_at 12 f == ETHER_TYPE_ARP)
+      (packet_kind d (body_of f)) e)
 
 module _ (c d : Config) (mac : Mac) (sent : List HostAct) (is : IsConfig c) where
   abbrev Carried : List ℕ → Type 0

@@ -13,7 +13,7 @@ use Rattle.flat_model.proofs.Laws.{each-weaker}
 use Rattle.flat_wire.specs.Wire.{packet_in, packet_out}
 use Rattle.flat_ether.specs.Claims.{is_claimed}
 use Rattle.flat_ether.specs.Frames.{body_of, kind_of}
-use Rattle.flat_ether.specs.Hosts.{HostAct, AreHostActs, Comes_in, Drained, Goes_out, Clock, Calls, CallsMachine, Asks_error, Ages, Host, HearsKind, IsHostAct, drained, error_of_socket, gives, gives_after, gives_claimed, gives_drained, gives_probe, host_up, is_to_us, or_drains, with_output_left}
+use Rattle.flat_ether.specs.Hosts.{HostAct, AreHostActs, Comes_in, Drained, Goes_out, Clock, Calls, CallsMachine, Asks_error, Ages, Host, ReceivesKind, IsHostAct, drained, error_of_socket, gives, gives_after, gives_claimed, gives_drained, gives_probe, host_up, is_to_us, or_drains, with_output_left}
 use Rattle.flat_ether.specs.Icmp.{answer_to, counted_more}
 use Rattle.flat_ether.specs.declared.error.NetFault.{NetFault}
 use Rattle.flat_model.specs.declared.counter.Counter.TheVariants.{IpNoproto}
@@ -224,13 +224,13 @@ module _ (c : Config) (l : Link) where
         sent = tt;
       }
 
-      go : (s t : FrameKind) → s ≡ t → kind_of c l.mac f ≡ t → HearsKind s f old new
+      go : (s t : FrameKind) → s ≡ t → kind_of c l.mac f ≡ t → ReceivesKind s f old new
           → Makes F G (f ∷ F) old.machine new.machine new.link (packet_if t f) []
       go s t e k h =
           subst (λ (x : FrameKind). Makes F G (f ∷ F) old.machine new.machine new.link (packet_if x f) []) e
           (by s (k ∙ sym e) h)
         where
-          by : (s : FrameKind) → kind_of c l.mac f ≡ s → HearsKind s f old new
+          by : (s : FrameKind) → kind_of c l.mac f ≡ s → ReceivesKind s f old new
               → Makes F G (f ∷ F) old.machine new.machine new.link (packet_if s f) []
           by Packet k h = record {
             turns = record { event = Comes (body_of f); reply = Done } ∷ [];

@@ -15,8 +15,8 @@ use Rattle.flat_ether.specs.declared.error.SocketError.{SocketError}
 use Rattle.flat_model.specs.declared.address.Addr.{Addr}
 use Rattle.flat_ether.specs.Frames.{arp_bytes, arp_of, body_of, ether_broadcast, frame, kind_of, no_mac}
 use Rattle.flat_ether.specs.Icmp.{echo_reply, port_unreachable}
-use Rattle.flat_ether.specs.Laws.{IsMade, IsRoute, IsFrameSent, arp_if, last_told, tells, told_in}
-use Rattle.flat_ether.specs.Links.{Gives, WaitingPacket, LinkState, neighbour_aged, answers_with, asked_at, asks, asks_at, by_route, claim_frame, counts_echo, counts_unreachable, drops_first, finds_bad, finds_conflict, finds_long, finds_no_place, first_ready, gives_answer, gives_claim, gives_held, gives_own, gives_reply, gives_request, has_hope, has_ip, heard, hears_arp, holds_packet, ignores, is_answering, is_asked, is_conflict, is_request_due, is_rival, is_sound_arp, learns, limits, mac_known, mac_in, notes, notes_error, takes_at, takes_error, mac_of, or_then, owes, neighbour_place, put, puts_answer, ready_or, refuses, replies_to, sends, sends_answer, sends_at, sends_held, neighbour_stays, takes_place, tells_unreachable, ticks, to_hop, unknown, route_of, route_to}
+use Rattle.flat_ether.specs.Laws.{IsMade, IsRoute, IsFrameSent, arp_if, last_given, tells, given_in}
+use Rattle.flat_ether.specs.Links.{Gives, WaitingPacket, LinkState, neighbour_aged, answers_with, asked_at, asks, asks_at, by_route, claim_frame, counts_echo, counts_unreachable, drops_first, counts_bad_arp, counts_conflict, counts_too_long, counts_no_place, first_ready, gives_answer, gives_claim, gives_held, gives_own, gives_reply, gives_request, is_resolvable, has_ip, heard, receives_arp, holds_packet, ignores, is_answering, is_asked, is_conflict, is_request_due, is_rival, is_sound_arp, learns, limits, mac_known, mac_in, notes, notes_error, takes_at, takes_error, mac_of, or_then, queues_reply, neighbour_place, put, puts_answer, ready_or, refuses, replies_to, sends, sends_answer, sends_at, sends_held, neighbour_stays, takes_place, reports_unreachable, ticks, to_hop, unknown, route_of, route_to}
 use Rattle.flat_ether.specs.Routes.{is_near, is_neighbour}
 use Rattle.flat_ether.specs.declared.answer.Answer.{Answer}
 use Rattle.flat_ether.specs.declared.answer.Answer.TheVariants.{Echo, Unreachable, Silence}
@@ -69,7 +69,7 @@ module _ (c : Config) (F G : List (List ℕ)) (f : List ℕ) where
 
 module _ (c : Config) (l : Link) (F G : List (List ℕ)) where
   pub record IsKnown (n : Neighbour) : Type 0 where
-    pub told : (mac : Mac) → n.mac ≡ Some mac → last_told c l n.ip F ≡ Some mac
+    pub told : (mac : Mac) → n.mac ≡ Some mac → last_given c l n.ip F ≡ Some mac
     pub near : (mac : Mac) → n.mac ≡ Some mac → is_neighbour c l n.ip ≡ true
 
   pub record IsWaiting (h : WaitingPacket) : Type 0 where
@@ -102,21 +102,21 @@ module _ (c : Config) (l : Link) (F G : List (List ℕ)) where
   put_good n ns is d h = put_each IsKnown n ns is d (each-weaker (λ m known other. known) ns h)
 
   known_mac : (hop : ℕ) (mac : Mac) (ns : List Neighbour) → Each IsKnown ns → mac_of hop ns ≡ Some mac
-      → last_told c l hop F ≡ Some mac
+      → last_given c l hop F ≡ Some mac
   known_mac hop mac ns h e = go (neighbour_place hop ns) refl e
     where
       there : (at : ℕ) (o : Option Neighbour) → neighbour_place hop ns ≡ Some at → slice_get ns at ≡ o
           → mac_in o ≡ Some mac
-          → last_told c l hop F ≡ Some mac
+          → last_given c l hop F ≡ Some mac
       there at None p g is = absurd (none-some mac is)
       there at (Some n) p g is =
           let passes : has_ip hop n ≡ true =
           subst (λ (x : Neighbour). has_ip hop x ≡ true) (get_or_of_get ns at n g)
           (position-Some (has_ip hop) ns at n p).1 in
           let known : IsKnown n = each-get IsKnown ns at n h g in
-          subst (λ ip. last_told c l ip F ≡ Some mac) (eqb-true n.ip hop passes) (known.told mac is)
+          subst (λ ip. last_given c l ip F ≡ Some mac) (eqb-true n.ip hop passes) (known.told mac is)
 
-      go : (at : Option ℕ) → neighbour_place hop ns ≡ at → mac_known at ns ≡ Some mac → last_told c l hop F ≡ Some mac
+      go : (at : Option ℕ) → neighbour_place hop ns ≡ at → mac_known at ns ≡ Some mac → last_given c l hop F ≡ Some mac
       go None p is = absurd (none-some mac is)
       go (Some at) p is = there at (slice_get ns at) p refl is
 
@@ -141,7 +141,7 @@ module _ (c : Config) (l : Link) (F G : List (List ℕ)) where
   holds_good : (hop : ℕ) (packet : List ℕ) (s : LinkState) → IsGood s
       → IsWaiting (record { hop = hop; packet = packet }) → IsGood (holds_packet hop packet s)
   holds_good hop packet s good is =
-      by_test IsGood (nat_lt 1500 (length packet)) (finds_long s)
+      by_test IsGood (nat_lt 1500 (length packet)) (counts_too_long s)
       (takes_place hop packet (cond (nat_lt (length s.held) 8) s (drops_first s)))
       (record {
         config = good.config;
@@ -314,7 +314,7 @@ module _ (c : Config) (l : Link) (F G : List (List ℕ)) where
   record IsFound (hs : List WaitingPacket) (found : ℕ × Mac) : Type 0 where
     h : WaitingPacket
     at : slice_get hs found.0 ≡ Some h
-    told : last_told c l h.hop F ≡ Some found.1
+    told : last_given c l h.hop F ≡ Some found.1
 
   found_ready : (ns : List Neighbour) (hs : List WaitingPacket) (found : ℕ × Mac) → Each IsKnown ns
       → first_ready ns hs ≡ Some found → IsFound hs found
@@ -359,7 +359,7 @@ module _ (c : Config) (l : Link) (F G : List (List ℕ)) where
                 (inr (
                   h.hop,
                   waits.route,
-                  subst (λ (x : WaitingPacket). last_told c l x.hop F ≡ Some mac) same
+                  subst (λ (x : WaitingPacket). last_given c l x.hop F ≡ Some mac) same
                       is.told,
                 ));
           }
@@ -427,13 +427,13 @@ module _ (c : Config) (l : Link) (F G : List (List ℕ)) where
   pub refuses_good : (s : LinkState) → IsGood s → IsGood (refuses s)
   refuses_good s good = same_good s _ good refl refl refl refl refl
 
-  finds_bad_good : (s : LinkState) → IsGood s → IsGood (finds_bad s)
+  finds_bad_good : (s : LinkState) → IsGood s → IsGood (counts_bad_arp s)
   finds_bad_good s good = same_good s _ good refl refl refl refl refl
 
-  conflict_good : (s : LinkState) → IsGood s → IsGood (finds_conflict s)
+  conflict_good : (s : LinkState) → IsGood s → IsGood (counts_conflict s)
   conflict_good s good = same_good s _ good refl refl refl refl refl
 
-  owes_good : (a : Arp) (s : LinkState) → IsGood s → IsGood (owes a s)
+  owes_good : (a : Arp) (s : LinkState) → IsGood s → IsGood (queues_reply a s)
   owes_good a s good = go (is_asked s a)
     where
       inner : (b : Bool) → IsGood (cond b (record s { replies = s.replies ++ record { mac = a.mac; ip = a.ip } ∷ [] })
@@ -475,7 +475,8 @@ module _ (c : Config) (l : Link) (F G : List (List ℕ)) where
         (each-map IsKnown neighbour_aged (λ n is. record { told = is.told; near = is.near }) s.neighbours
         good.neighbours);
     distinct = distinct_stays s.neighbours good.distinct;
-    held = each-filter IsWaiting (has_hope (filter neighbour_stays (map neighbour_aged s.neighbours))) s.held good.held;
+    held =
+      each-filter IsWaiting (is_resolvable (filter neighbour_stays (map neighbour_aged s.neighbours))) s.held good.held;
     answer = good.answer;
   }
 
@@ -490,7 +491,7 @@ module _ (c : Config) (l : Link) (F G : List (List ℕ)) where
           (each-weaker (λ p is. inr (f, came, inl is)) (echo_reply c (body_of f))
           (recursion_from_All _ (echo_reply c (body_of f)) (All-contains_itself (echo_reply c (body_of f)))))
 
-      go : (b : Bool) → IsGood (cond b (finds_no_place s)
+      go : (b : Bool) → IsGood (cond b (counts_no_place s)
           (counts_echo (puts_answer (echo_reply s.config (body_of f)) s)))
       go true = same_good s _ good refl refl refl refl refl
       go false =
@@ -530,7 +531,7 @@ module _ (c : Config) (l : Link) (F G : List (List ℕ)) where
           }
       inner false = same_good s _ good refl refl refl refl refl
 
-      go : (b d : Bool) → IsGood (cond b (finds_no_place s) (tells_unreachable (body_of f) s))
+      go : (b d : Bool) → IsGood (cond b (counts_no_place s) (reports_unreachable (body_of f) s))
       go true d = same_good s _ good refl refl refl refl refl
       go false d = inner (nat_lt 0 s.unreachables)
 
@@ -547,7 +548,7 @@ neighbour_other c l ip e =
 
 module _ (c : Config) (l : Link) (F G : List (List ℕ)) (f : List ℕ) where
   abbrev Told : ℕ → Option Mac
-  Told ip = last_told c l ip (f ∷ F)
+  Told ip = last_given c l ip (f ∷ F)
 
   abbrev Good : List (List ℕ) → LinkState → Type 0
   Good frames s = IsGood c l frames G s
@@ -572,13 +573,13 @@ module _ (c : Config) (l : Link) (F G : List (List ℕ)) (f : List ℕ) where
         subst (Each (IsMade c (f ∷ F) G)) (sym w) (each-weaker (later_made c F G f) s.answer good.answer);
   }
 
-  known_later : (n : Neighbour) → ((mac : Mac) → n.mac ≡ Some mac → Told n.ip ≡ last_told c l n.ip F)
+  known_later : (n : Neighbour) → ((mac : Mac) → n.mac ≡ Some mac → Told n.ip ≡ last_given c l n.ip F)
       → IsKnown c l F G n → IsKnown c l (f ∷ F) G n
   known_later n same is = record { told = λ mac e. same mac e ∙ is.told mac e; near = is.near }
 
   all_later : (s : LinkState) → Good F s
       → ((n : Neighbour) → (mac : Mac) → n.mac ≡ Some mac → is_neighbour c l n.ip ≡ true
-      → Told n.ip ≡ last_told c l n.ip F) → Good (f ∷ F) s
+      → Told n.ip ≡ last_given c l n.ip F) → Good (f ∷ F) s
   all_later s good same =
       later_good s s good refl refl refl refl
       (each-weaker (λ n is. known_later n (λ mac e. same n mac e (is.near mac e)) is) s.neighbours good.neighbours)
@@ -587,25 +588,25 @@ module _ (c : Config) (l : Link) (F G : List (List ℕ)) (f : List ℕ) where
   -- a frame that is no ARP packet for the host
   pub quiet_good : (s : LinkState) → Good F s → arp_if (kind_of c l.mac f) f ≡ None → Good (f ∷ F) s
   quiet_good s good e =
-      all_later s good (λ n mac is near. ap (λ (b : Option (List ℕ)). told_in l n.ip b (last_told c l n.ip F)) e)
+      all_later s good (λ n mac is near. ap (λ (b : Option (List ℕ)). given_in l n.ip b (last_given c l n.ip F)) e)
 
   module _ (kind : arp_if (kind_of c l.mac f) f ≡ Some (body_of f)) where
     abbrev a : Arp
     a = arp_of (body_of f)
 
-    told_here : (ip : ℕ) (b : Bool) → tells l ip (body_of f) ≡ b → Told ip ≡ cond b (Some a.mac) (last_told c l ip F)
+    told_here : (ip : ℕ) (b : Bool) → tells l ip (body_of f) ≡ b → Told ip ≡ cond b (Some a.mac) (last_given c l ip F)
     told_here ip b e =
-        ap (λ (p : Option (List ℕ)). told_in l ip p (last_told c l ip F)) kind
-        ∙ ap (λ x. cond x (Some (arp_of (body_of f)).mac) (last_told c l ip F)) e
+        ap (λ (p : Option (List ℕ)). given_in l ip p (last_given c l ip F)) kind
+        ∙ ap (λ x. cond x (Some (arp_of (body_of f)).mac) (last_given c l ip F)) e
 
     unsound_good : (s : LinkState) → Good F s → is_sound_arp l (body_of f) ≡ false → Good (f ∷ F) s
     unsound_good s good e =
         all_later s good (λ n mac is near. told_here n.ip false (ap (λ x. x && ((arp_of (body_of f)).ip == n.ip)) e))
 
-    other_told : (ip : ℕ) → ip ≢ a.ip → Told ip ≡ last_told c l ip F
+    other_told : (ip : ℕ) → ip ≢ a.ip → Told ip ≡ last_given c l ip F
     other_told ip other = go (is_sound_arp l (body_of f)) refl
       where
-        go : (x : Bool) → is_sound_arp l (body_of f) ≡ x → Told ip ≡ last_told c l ip F
+        go : (x : Bool) → is_sound_arp l (body_of f) ≡ x → Told ip ≡ last_given c l ip F
         go true e =
             told_here ip false (ap (λ x. x && ((arp_of (body_of f)).ip == ip)) e
             ∙ ne_eqb _ _ (λ same. other (sym same)))
@@ -677,22 +678,22 @@ module _ (c : Config) (l : Link) (F G : List (List ℕ)) (f : List ℕ) where
             others_good s good (λ n near is. (neighbour_other c l n.ip near).1 (is ∙ zero_ip))
         go false own false r e = absurd (false≢true e)
 
-    pub hears_good : (s : LinkState) → Good F s → Good (f ∷ F) (hears_arp (body_of f) s)
+    pub hears_good : (s : LinkState) → Good F s → Good (f ∷ F) (receives_arp (body_of f) s)
     hears_good s good = go (is_sound_arp s.link (body_of f)) refl
       where
         sound_is : is_sound_arp l (body_of f) ≡ is_sound_arp s.link (body_of f)
         sound_is = ap (λ (x : Link). is_sound_arp x (body_of f)) (sym good.link)
 
         inner : is_sound_arp l (body_of f) ≡ true → (b : Bool) → is_conflict s (arp_of (body_of f)) ≡ b
-            → Good (f ∷ F) (cond b (owes (arp_of (body_of f)) (finds_conflict s))
-            (owes (arp_of (body_of f)) (learns (arp_of (body_of f)) s)))
+            → Good (f ∷ F) (cond b (queues_reply (arp_of (body_of f)) (counts_conflict s))
+            (queues_reply (arp_of (body_of f)) (learns (arp_of (body_of f)) s)))
         inner sound true e =
-            owes_good c l (f ∷ F) G a (finds_conflict s) (conflict_good c l (f ∷ F) G s (conflict_others s good e))
+            owes_good c l (f ∷ F) G a (counts_conflict s) (conflict_good c l (f ∷ F) G s (conflict_others s good e))
         inner sound false e = owes_good c l (f ∷ F) G a (learns a s) (learns_good s good sound)
 
         go : (b : Bool) → is_sound_arp s.link (body_of f) ≡ b
             → Good (f ∷ F) (cond b (cond (is_conflict s (arp_of (body_of f)))
-            (owes (arp_of (body_of f)) (finds_conflict s))
-            (owes (arp_of (body_of f)) (learns (arp_of (body_of f)) s))) (finds_bad s))
+            (queues_reply (arp_of (body_of f)) (counts_conflict s))
+            (queues_reply (arp_of (body_of f)) (learns (arp_of (body_of f)) s))) (counts_bad_arp s))
         go true e = inner (sound_is ∙ e) (is_conflict s (arp_of (body_of f))) refl
         go false e = finds_bad_good c l (f ∷ F) G s (unsound_good s good (sound_is ∙ e))

@@ -56,15 +56,16 @@ is_martian c packet =
 -- ---- what a frame is for a host
 
 -- it has a header, and is addressed to this hardware address or to the broadcast address
-abbrev pub is_heard : Mac → List ℕ → Bool
-is_heard mac f = nat_le ETHER_HEADER (length f) && (same_mac (mac_at 0 f) mac || same_mac (mac_at 0 f) ether_broadcast)
+abbrev pub is_addressed : Mac → List ℕ → Bool
+is_addressed mac f =
+    nat_le ETHER_HEADER (length f) && (same_mac (mac_at 0 f) mac || same_mac (mac_at 0 f) ether_broadcast)
 
 abbrev pub packet_kind : Config → List ℕ → FrameKind
 packet_kind c packet = if is_martian c packet then Martian else Packet
 
 abbrev pub kind_of : Config → Mac → List ℕ → FrameKind
 kind_of c mac f =
-    if is_heard mac f
+    if is_addressed mac f
     then (
     if u16_at 12 f == ETHER_TYPE_IP
     then packet_kind c (body_of f)

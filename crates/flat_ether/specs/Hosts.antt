@@ -14,7 +14,7 @@ use Rattle.flat_ether.specs.declared.error.NetFault.{NetFault}
 use Rattle.flat_model.specs.declared.counter.Counter.TheVariants.{IpNoproto}
 use Rattle.flat_model.specs.declared.errno.Errno.{Errno}
 use Rattle.flat_model.specs.declared.errno.Errno.TheVariants.{BadDescriptor}
-use Rattle.flat_ether.specs.Links.{LinkState, Gives, answers_with, gives_claim, gives_own, hears_arp, ignores, link_up, notes, refuses, sends, takes_error, ticks}
+use Rattle.flat_ether.specs.Links.{LinkState, Gives, answers_with, gives_claim, gives_own, receives_arp, ignores, link_up, notes, refuses, sends, takes_error, ticks}
 use Rattle.flat_ether.specs.declared.link.Link.{Link}
 use Rattle.flat_ether.specs.declared.link.FrameKind.{FrameKind}
 use Rattle.flat_ether.specs.declared.link.FrameKind.TheVariants.{Packet, Martian, Arp, Other}
@@ -47,14 +47,14 @@ pub record TakesPacket (f : List ℕ) (old new : Host) : Type 0 where
   pub machine : Step old.machine (Comes (body_of f)) Done new.machine
   pub link : new.link ≡ answers f old.machine new.machine old.link
 
-abbrev pub HearsKind : FrameKind → List ℕ → Host → Host → Type 0
-HearsKind Packet f old new = TakesPacket f old new
-HearsKind Martian f old new = new ≡ record old { link = refuses old.link }
-HearsKind Arp f old new = new ≡ record old { link = hears_arp (body_of f) old.link }
-HearsKind Other f old new = new ≡ record old { link = ignores old.link }
+abbrev pub ReceivesKind : FrameKind → List ℕ → Host → Host → Type 0
+ReceivesKind Packet f old new = TakesPacket f old new
+ReceivesKind Martian f old new = new ≡ record old { link = refuses old.link }
+ReceivesKind Arp f old new = new ≡ record old { link = receives_arp (body_of f) old.link }
+ReceivesKind Other f old new = new ≡ record old { link = ignores old.link }
 
-abbrev pub Hears : List ℕ → Host → Host → Type 0
-Hears f old new = HearsKind (kind_of old.link.config old.link.link.mac f) f old new
+abbrev pub TakesFrame : List ℕ → Host → Host → Type 0
+TakesFrame f old new = ReceivesKind (kind_of old.link.config old.link.link.mac f) f old new
 
 -- ---- a frame is sent
 
@@ -137,7 +137,7 @@ pub record CallsMachine (turn : Turn) (old new : Host) : Type 0 where
   pub link : new.link ≡ old.link
 
 abbrev pub IsHostAct : Host → HostAct → Host → Type 0
-IsHostAct old (Comes_in f) new = IsBytes f × (length f ≤ ETHER_HEADER + IP_MAX_PACKET) × Hears f old new
+IsHostAct old (Comes_in f) new = IsBytes f × (length f ≤ ETHER_HEADER + IP_MAX_PACKET) × TakesFrame f old new
 IsHostAct old (Goes_out f) new = (f, new) ≡ gives old
 IsHostAct old Clock new = Ticks old new
 IsHostAct old (Calls turn) new = CallsMachine turn old new

@@ -99,14 +99,14 @@ arp_if Other f = None
 abbrev pub tells : Link → ℕ → List ℕ → Bool
 tells l ip b = is_sound_arp l b && ((arp_of b).ip == ip)
 
-abbrev pub told_in : Link → ℕ → Option (List ℕ) → Option Mac → Option Mac
-told_in l ip None before = before
-told_in l ip (Some b) before = if tells l ip b then Some (arp_of b).mac else before
+abbrev pub given_in : Link → ℕ → Option (List ℕ) → Option Mac → Option Mac
+given_in l ip None before = before
+given_in l ip (Some b) before = if tells l ip b then Some (arp_of b).mac else before
 
 -- the hardware address that the most recent of these frames gives for an address; the list begins with the most recent
-abbrev pub last_told : Config → Link → ℕ → List (List ℕ) → Option Mac
-last_told c l ip [] = None
-last_told c l ip (f ∷ before) = told_in l ip (arp_if (kind_of c l.mac f) f) (last_told c l ip before)
+abbrev pub last_given : Config → Link → ℕ → List (List ℕ) → Option Mac
+last_given c l ip [] = None
+last_given c l ip (f ∷ before) = given_in l ip (arp_if (kind_of c l.mac f) f) (last_given c l ip before)
 
 -- the machine gave the packet, or it's part of the reply to the packet of a frame that arrived before
 abbrev pub IsMade : Config → List (List ℕ) → List (List ℕ) → List ℕ → Type 0
@@ -120,7 +120,7 @@ IsMade c frames given packet =
 abbrev pub IsRoute : Config → Link → List (List ℕ) → List ℕ → Mac → Type 0
 IsRoute c l frames packet mac =
     ((route_to c l packet ≡ To_all) × (mac ≡ ether_broadcast))
-    ⊎ ((hop : ℕ) × (route_to c l packet ≡ Hop hop) × (last_told c l hop frames ≡ Some mac))
+    ⊎ ((hop : ℕ) × (route_to c l packet ≡ Hop hop) × (last_given c l hop frames ≡ Some mac))
 
 -- the frame has such a packet, whole
 pub record CarriesPacket (c : Config) (l : Link) (frames given : List (List ℕ)) (f : List ℕ) : Type 0 where

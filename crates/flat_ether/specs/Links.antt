@@ -141,8 +141,8 @@ learns a s = if is_learned s a then record s { neighbours = put (heard a) s.neig
 abbrev pub is_asked : LinkState → Arp → Bool
 is_asked s a = is_claimed s.claim && ((a.op == ARP_REQUEST) && (a.target == s.config.addr))
 
-abbrev pub owes : Arp → LinkState → LinkState
-owes a s =
+abbrev pub queues_reply : Arp → LinkState → LinkState
+queues_reply a s =
     if is_asked s a
     then (
     if nat_lt (length s.replies) PENDING_REPLIES
@@ -150,11 +150,11 @@ owes a s =
     else record s { tallies = record s.tallies { replies_dropped = more_by 1 s.tallies.replies_dropped } })
     else s
 
-abbrev pub finds_bad : LinkState → LinkState
-finds_bad s = record s { tallies = record s.tallies { bad_arp = more_by 1 s.tallies.bad_arp } }
+abbrev pub counts_bad_arp : LinkState → LinkState
+counts_bad_arp s = record s { tallies = record s.tallies { bad_arp = more_by 1 s.tallies.bad_arp } }
 
-abbrev pub finds_conflict : LinkState → LinkState
-finds_conflict s =
+abbrev pub counts_conflict : LinkState → LinkState
+counts_conflict s =
     record s { claim = conflicts s.claim; tallies = record s.tallies { conflicts = more_by 1 s.tallies.conflicts } }
 
 -- a probe for this host's address from a host that wants to use it (RFC 5227, section 2.1.1)
@@ -169,17 +169,17 @@ is_conflict s a = (a.ip == s.config.addr) || is_rival s a
 abbrev pub is_sound_arp : Link → List ℕ → Bool
 is_sound_arp l b = is_arp b && (not (same_mac (arp_of b).mac l.mac) && not (same_mac (arp_of b).mac ether_broadcast))
 
-abbrev pub hears_arp : List ℕ → LinkState → LinkState
-hears_arp b s =
+abbrev pub receives_arp : List ℕ → LinkState → LinkState
+receives_arp b s =
     if is_sound_arp s.link b
-    then (if is_conflict s (arp_of b) then owes (arp_of b) (finds_conflict s)
-    else owes (arp_of b) (learns (arp_of b) s))
-    else finds_bad s
+    then (if is_conflict s (arp_of b) then queues_reply (arp_of b) (counts_conflict s)
+    else queues_reply (arp_of b) (learns (arp_of b) s))
+    else counts_bad_arp s
 
 -- ---- a packet is sent (`ether_output`, `arpresolve`)
 
-abbrev pub finds_long : LinkState → LinkState
-finds_long s = record s { tallies = record s.tallies { too_long = more_by 1 s.tallies.too_long } }
+abbrev pub counts_too_long : LinkState → LinkState
+counts_too_long s = record s { tallies = record s.tallies { too_long = more_by 1 s.tallies.too_long } }
 
 abbrev pub takes_place : ℕ → List ℕ → LinkState → LinkState
 takes_place hop packet s = record s { held = s.held ++ record { hop = hop; packet = packet } ∷ [] }
@@ -193,7 +193,7 @@ drops_first s =
 abbrev pub holds_packet : ℕ → List ℕ → LinkState → LinkState
 holds_packet hop packet s =
     if nat_lt ETHER_MTU (length packet)
-    then finds_long s
+    then counts_too_long s
     else takes_place hop packet (if nat_lt (length s.held) HELD_PACKETS then s else drops_first s)
 
 -- one whose hardware address isn't known, and for which a request is due
@@ -338,12 +338,12 @@ abbrev pub neighbour_stays : Neighbour → Bool
 neighbour_stays n = nat_lt 0 n.ticks || (not (is_some n.mac) && nat_lt n.tries ARP_TRIES)
 
 -- its next hop is known or requested
-abbrev pub has_hope : List Neighbour → WaitingPacket → Bool
-has_hope ns h = is_some (neighbour_place h.hop ns)
+abbrev pub is_resolvable : List Neighbour → WaitingPacket → Bool
+is_resolvable ns h = is_some (neighbour_place h.hop ns)
 
 abbrev pub keeps : List Neighbour → LinkState → LinkState
 keeps ns s =
-    let held : List WaitingPacket = filter (has_hope ns) s.held in
+    let held : List WaitingPacket = filter (is_resolvable ns) s.held in
     record s {
       neighbours = ns;
       held = held;
@@ -366,8 +366,8 @@ is_answering s = is_some (slice_get s.answer 0)
 abbrev pub puts_answer : List (List ℕ) → LinkState → LinkState
 puts_answer packets s = record s { answer = packets }
 
-abbrev pub finds_no_place : LinkState → LinkState
-finds_no_place s = record s { tallies = record s.tallies { icmp_dropped = more_by 1 s.tallies.icmp_dropped } }
+abbrev pub counts_no_place : LinkState → LinkState
+counts_no_place s = record s { tallies = record s.tallies { icmp_dropped = more_by 1 s.tallies.icmp_dropped } }
 
 abbrev pub counts_echo : LinkState → LinkState
 counts_echo s = record s { tallies = record s.tallies { echoes = more_by 1 s.tallies.echoes } }
@@ -379,8 +379,8 @@ counts_unreachable s = record s { tallies = record s.tallies { unreachable = mor
 abbrev pub limits : LinkState → LinkState
 limits s = record s { tallies = record s.tallies { limited = more_by 1 s.tallies.limited } }
 
-abbrev pub tells_unreachable : List ℕ → LinkState → LinkState
-tells_unreachable came s =
+abbrev pub reports_unreachable : List ℕ → LinkState → LinkState
+reports_unreachable came s =
     if nat_lt 0 s.unreachables
     then counts_unreachable (puts_answer (port_unreachable s.config came)
     (record s { unreachables = s.unreachables - 1 }))
@@ -389,8 +389,8 @@ tells_unreachable came s =
 abbrev pub answers_with : Answer → List ℕ → LinkState → LinkState
 answers_with Silence came s = s
 answers_with Echo came s =
-    if is_answering s then finds_no_place s else counts_echo (puts_answer (echo_reply s.config came) s)
-answers_with Unreachable came s = if is_answering s then finds_no_place s else tells_unreachable came s
+    if is_answering s then counts_no_place s else counts_echo (puts_answer (echo_reply s.config came) s)
+answers_with Unreachable came s = if is_answering s then counts_no_place s else reports_unreachable came s
 
 -- ---- errors that other hosts report
 

@@ -3,7 +3,7 @@
 use Rattle.std.specs.Prelude.{◌≡◌, ℕ, ℤ, pos, negsuc, ◌+◌, ◌<◌, ◌≤◌, ◌==◌, if◌then◌else◌, true, false, List, length, Option, Some, None, option_map, IfSome, Result, Ok, Err, slice_get}
 use Rattle.params.specs.declared.TheConstants.{IP_MAX_PACKET}
 use Rattle.flat_ether.specs.Claims.{address_state}
-use Rattle.flat_ether.specs.Hosts.{Hears, gives, last_error}
+use Rattle.flat_ether.specs.Hosts.{TakesFrame, gives, last_error}
 use Rattle.flat_ether.specs.Links.{LinkState, link_up, ticks}
 use Rattle.flat_ether.specs.Routes.{is_link}
 use Rattle.flat_ether.specs.declared.claim.AddressState.{AddressState}
@@ -59,7 +59,7 @@ AnswersLink (Some l) answer after idle call = (n : LinkState) × (after ≡ Some
 -- changes
 pub record HasHeard (frame : List ℕ) (answer : ℤ) (h n : HostView) : Type 0 where
   pub long : ETHER_HEADER + IP_MAX_PACKET < length frame → (answer ≡ bad_length) × (n ≡ h)
-  pub hears : length frame ≤ ETHER_HEADER + IP_MAX_PACKET → (answer ≡ pos 0) × Hears frame (host_of h) (host_of n)
+  pub hears : length frame ≤ ETHER_HEADER + IP_MAX_PACKET → (answer ≡ pos 0) × TakesFrame frame (host_of h) (host_of n)
 
 -- a frame is at the front of the buffer, or no frame is queued
 pub record GivesFrame (room : List ℕ) (answer : ℤ) (h n : HostView) : Type 0 where

@@ -59,9 +59,9 @@ pub struct CTallies {
     pub too_long: u64,
     /// Echo requests that got a reply.
     pub echoes: u64,
-    /// Datagrams whose sender was told that no socket receives them.
+    /// Datagrams for which "port unreachable" was sent to the sender.
     pub unreachable: u64,
-    /// Datagrams whose sender wasn't told so, because the limit for this second was reached.
+    /// Datagrams for which it wasn't sent, because the limit for this second was reached.
     pub limited: u64,
     /// ICMP replies dropped because their place was taken.
     pub icmp_dropped: u64,

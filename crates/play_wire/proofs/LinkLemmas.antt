@@ -18,8 +18,8 @@ use Rattle.flat_model.specs.declared.counters.Counters.{Counters}
 use Rattle.flat_model.specs.declared.errno.Errno.{Errno}
 use Rattle.net_stack.specs.Runs.{AreCalls}
 use Rattle.net_stack.specs.Stack.{StackView, state_of}
-use Rattle.segment.specs.Frames.{IsAskedError, IsHeard}
-use Rattle.segment.specs.Law.{Act, AreActs, AgesLink, AsksError, Calls, Ether, HearsFrame}
+use Rattle.segment.specs.Frames.{IsErrorQueried, HasReceived}
+use Rattle.segment.specs.Law.{Act, AreActs, AgesLink, QueriesError, Calls, Ether, ReceivesFrame}
 use Rattle.segment.specs.Segment.{SegmentView, is_ether}
 use Rattle.play_wire.specs.Acts.{IsMissing, IsStackLine, Outcome, Told, Refused, call_turn}
 use Rattle.play_wire.specs.Inside.{HasCounted, HasNotCounted, IsAtHost, IsAtLink, IsAtStack, IsExchanged, IsKept, ReadsOfLink, link_asks}
@@ -302,15 +302,15 @@ is_there place v counts (s, l, at, stack, link) =
     (there_lt v.links place l at.1)
 
 heard_so : (place : ℕ) (frame : List ℕ) (v w : SegmentView) (before after : HostCounts) (told : List ℕ)
-    → HasCounted place v before → IsHeard place frame v w → HasCounted place w after
+    → HasCounted place v before → HasReceived place frame v w → HasCounted place w after
     → told ≡ heard_text before.stack before.link after.stack after.link
     → IsAtLink place (Frame frame) v (Told told []) w
 heard_so place frame v w before after told (s, l, at, stack, link) is (t, m, at', stack', link') text =
     let said : told ≡ heard_text (state_of s).counters l.tallies (state_of t).counters m.tallies =
     text ∙ ap₂ (λ a b. heard_text a b after.stack after.link) stack link
     ∙ ap₂ (λ a b. heard_text (state_of s).counters l.tallies a b) stack' link' in (
-      Ether (HearsFrame place frame) ∷ [],
-      inl (subst (λ (x : Option LinkState). DoesLink place (Frame frame) x v (Ether (HearsFrame place frame) ∷ [])
+      Ether (ReceivesFrame place frame) ∷ [],
+      inl (subst (λ (x : Option LinkState). DoesLink place (Frame frame) x v (Ether (ReceivesFrame place frame) ∷ [])
           (Told told []) w)
           (sym at.1)
           (s, t, l, m, at, at', is, refl, ap (λ x. Told x []) said)),
@@ -318,13 +318,13 @@ heard_so place frame v w before after told (s, l, at, stack, link) is (t, m, at'
 
 is_heard : (place : ℕ) (frame : List ℕ) (v w : SegmentView) (before : HostCounts) (b : Bool) → HasCounted place v before
     → b ≡ (nat_lt place (length v.stacks) && nat_lt place (length v.links))
-    → Choice b (IsHeard place frame v w) (w ≡ v) → IsHeard place frame v w
+    → Choice b (HasReceived place frame v w) (w ≡ v) → HasReceived place frame v w
 is_heard place frame v w before b counted is choice = choice.yes (is ∙ is_there place v before counted)
 
 pub frame_heard : (place : ℕ) (frame : List ℕ) (v v' w w' : SegmentView) (before after : HostCounts) (b : Bool)
     (told below : List ℕ)
     → v' ≡ v → HasCounted place v before → b ≡ (nat_lt place (length v'.stacks) && nat_lt place (length v'.links))
-    → Choice b (IsHeard place frame v' w) (w ≡ v') → w' ≡ w → HasCounted place w after
+    → Choice b (HasReceived place frame v' w) (w ≡ v') → w' ≡ w → HasCounted place w after
     → told ≡ heard_text before.stack before.link after.stack after.link → below ≡ []
     → IsAtLink place (Frame frame) v (Told told below) w'
 frame_heard place frame v v' w w' before after b told below same counted is choice same' counted' text none =
@@ -338,7 +338,7 @@ frame_heard place frame v v' w w' before after b told below same counted is choi
     (subst (λ (xs : List ℕ). IsAtLink place (Frame frame) v' (Told told xs) w) (sym none) here))
 
 -- a host that heard a frame is still there
-still_there : (place : ℕ) (frame : List ℕ) (v w : SegmentView) → IsHeard place frame v w → HasNotCounted place w → ⊥
+still_there : (place : ℕ) (frame : List ℕ) (v w : SegmentView) → HasReceived place frame v w → HasNotCounted place w → ⊥
 still_there place frame v w is (inl none) =
     never (sym none ∙ ap (λ (x : SegmentView). slice_get x.links place) is.is
     ∙ get_set v.links place is.link is.link' is.link_is)
@@ -354,7 +354,7 @@ still_there place frame v w is (inr none) =
 
 pub frame_counted : (place : ℕ) (frame : List ℕ) (v v' w w' : SegmentView) (before : HostCounts) (b : Bool)
     → v' ≡ v → HasCounted place v before → b ≡ (nat_lt place (length v'.stacks) && nat_lt place (length v'.links))
-    → Choice b (IsHeard place frame v' w) (w ≡ v') → HasNotCounted place w
+    → Choice b (HasReceived place frame v' w) (w ≡ v') → HasNotCounted place w
     → IsAtLink place (Frame frame) v (Refused fault.NoHost) w'
 frame_counted place frame v v' w w' before b same counted is choice none =
     absurd (still_there place frame v' w (is_heard place frame v' w before b
@@ -362,13 +362,13 @@ frame_counted place frame v v' w w' before b same counted is choice none =
 
 pub error_asked : (place fd : ℕ) (v v' w : SegmentView) (before : HostCounts) (error : Result (Option NetFault) Errno)
     (told below : List ℕ)
-    → v' ≡ v → HasCounted place v before → IsAskedError place fd error v' w
+    → v' ≡ v → HasCounted place v before → IsErrorQueried place fd error v' w
     → told ≡ error_text error → below ≡ [] → IsAtLink place (LastError fd) v (Told told below) w
 error_asked place fd v v' w before error told below same (s, l, at, stack, link) is text none =
-    let is_so : IsAskedError place fd error v w =
-    subst (λ (x : SegmentView). IsAskedError place fd error x w) same is in (
-      Ether (AsksError place fd error) ∷ [],
-      inl (subst (λ (x : Option LinkState). DoesLink place (LastError fd) x v (Ether (AsksError place fd error) ∷ [])
+    let is_so : IsErrorQueried place fd error v w =
+    subst (λ (x : SegmentView). IsErrorQueried place fd error x w) same is in (
+      Ether (QueriesError place fd error) ∷ [],
+      inl (subst (λ (x : Option LinkState). DoesLink place (LastError fd) x v (Ether (QueriesError place fd error) ∷ [])
           (Told told below) w)
           (sym at.1)
           (error, is_so, refl, ap₂ Told text none)),

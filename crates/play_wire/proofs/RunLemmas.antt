@@ -6,7 +6,7 @@ use Rattle.play_script.specs.Lines.{Reading, Nothing, TooLong, Faulty, Asks, rea
 use Rattle.script_loop.specs.Printed.{Prints}
 use Rattle.std.specs.Prelude.{slice_get}
 use Rattle.flat_ether.specs.Links.{LinkState}
-use Rattle.segment.specs.Law.{Act, AsksError, Calls, Ether, HearsFrame, Seeds, AreActs, IsAct}
+use Rattle.segment.specs.Law.{Act, QueriesError, Calls, Ether, ReceivesFrame, Seeds, AreActs, IsAct}
 use Rattle.segment.specs.Segment.{SegmentView}
 use Rattle.play_wire.specs.Acts.{Outcome, IsStackLine}
 use Rattle.play_wire.specs.Links.{DoesAtLink, DoesLink, IsHostLine, LinkAsk, Frame, LastError, Neighbours, Counts, Ticks, Packets}
@@ -31,9 +31,9 @@ one_is v w acts act one is = subst (λ (xs : List Act). AreActs v xs w) (sym one
 at_link_acts : (place : ℕ) (v w : SegmentView) (acts : List Act) (came : Outcome) (ask : LinkAsk) (link : LinkState)
     → DoesAtLink place ask link v acts came w → AreActs v acts w
 at_link_acts place v w acts came (Frame frame) link (s, t, l, m, old, new, is, acts_are, told) =
-    one_is v w acts (Ether (HearsFrame place frame)) acts_are is
+    one_is v w acts (Ether (ReceivesFrame place frame)) acts_are is
 at_link_acts place v w acts came (LastError fd) link (error, is, acts_are, told) =
-    one_is v w acts (Ether (AsksError place fd error)) acts_are is
+    one_is v w acts (Ether (QueriesError place fd error)) acts_are is
 at_link_acts place v w acts came Neighbours link (none, told, same) = none_are v w acts none same
 at_link_acts place v w acts came Counts link (none, told, same) = none_are v w acts none same
 at_link_acts place v w acts came (Ticks n) link (are, acts_are, told) = are

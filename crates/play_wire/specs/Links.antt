@@ -8,8 +8,8 @@ use Rattle.flat_model.specs.Machine.Event.{Tick, Done}
 use Rattle.flat_model.specs.Scripts.Grammar.{words, IsHex}
 use Rattle.flat_model.specs.declared.errno.Errno.{Errno}
 use Rattle.net_stack.specs.Stack.{StackView, state_of}
-use Rattle.segment.specs.Frames.{IsAskedError, IsHeard}
-use Rattle.segment.specs.Law.{Act, AreActs, AgesLink, AsksError, Calls, Ether, HearsFrame}
+use Rattle.segment.specs.Frames.{IsErrorQueried, HasReceived}
+use Rattle.segment.specs.Law.{Act, AreActs, AgesLink, QueriesError, Calls, Ether, ReceivesFrame}
 use Rattle.segment.specs.Segment.{SegmentView}
 use Rattle.play_wire.specs.Acts.{IsStackLine, Outcome, Told, Refused, call_turn}
 use Rattle.play_wire.specs.LinkTexts.{error_text, heard_text, neighbours_text, state_text}
@@ -84,15 +84,15 @@ IsHostAt place v s l = (slice_get v.stacks place ≡ Some s) × (slice_get v.lin
 -- A frame came, and it's told why what it brought was dropped, and what the link counted.
 abbrev pub IsFrameHeard : ℕ → List ℕ → SegmentView → List Act → Outcome → SegmentView → Type 0
 IsFrameHeard place frame v acts outcome w =
-    (s t : StackView) × (l m : LinkState) × IsHostAt place v s l × IsHostAt place w t m × IsHeard place frame v w
-    × (acts ≡ Ether (HearsFrame place frame) ∷ [])
+    (s t : StackView) × (l m : LinkState) × IsHostAt place v s l × IsHostAt place w t m × HasReceived place frame v w
+    × (acts ≡ Ether (ReceivesFrame place frame) ∷ [])
     × (outcome ≡ Told (heard_text (state_of s).counters l.tallies (state_of t).counters m.tallies) [])
 
 -- the error that others reported last is told
 abbrev pub IsErrorTold : ℕ → ℕ → SegmentView → List Act → Outcome → SegmentView → Type 0
 IsErrorTold place fd v acts outcome w =
-    (error : Result (Option NetFault) Errno) × IsAskedError place fd error v w
-    × (acts ≡ Ether (AsksError place fd error) ∷ []) × (outcome ≡ Told (error_text error) [])
+    (error : Result (Option NetFault) Errno) × IsErrorQueried place fd error v w
+    × (acts ≡ Ether (QueriesError place fd error) ∷ []) × (outcome ≡ Told (error_text error) [])
 
 -- ticks of the stack and of its link
 abbrev pub ticks_at : ℕ → ℕ → List Act

@@ -46,7 +46,7 @@ fn hear(
     let Some(before) = counts_at(segment, &mut counting.stack, place) else {
         return Err(Fault::NoHost);
     };
-    segment.hear(place, frame);
+    segment.receive(place, frame);
     match counts_at(segment, &mut counting.stack, place) {
         Some(after) => {
             report.below.clear();

@@ -5,7 +5,7 @@ use Rattle.std.proofs.Math.ListN.{length-set}
 use Rattle.std.proofs.lemmas.Bool.Decides.{eqb_tells}
 use Rattle.flat_ether.specs.Links.{LinkState, link_up, ticks}
 use Rattle.segment.specs.Frames.{IsHostStep, aged_in}
-use Rattle.segment.specs.Law.{Act, Ether, EtherAct, JoinsEther, CollectsFrames, DeliversFrames, HearsFrame, AsksError, AgesLink, Joins, Calls, Collects, Delivers, Impairs, Seeds, Loses, Repeats, Swaps, IsAct, IsEtherAct, AreActs}
+use Rattle.segment.specs.Law.{Act, Ether, EtherAct, JoinsEther, CollectsFrames, DeliversFrames, ReceivesFrame, QueriesError, AgesLink, Joins, Calls, Collects, Delivers, Impairs, Seeds, Loses, Repeats, Swaps, IsAct, IsEtherAct, AreActs}
 use Rattle.segment.specs.Segment.{SegmentView, is_ether}
 use Rattle.segment.proofs.BareActs.{AreBare, IsBare}
 use Rattle.segment.proofs.History.{get_within, length-last}
@@ -40,8 +40,8 @@ no_ether (JoinsEther config link) old new is none =
     absurd (omega (arith, length-last old.links (link_up config link), ap length (sym is.links ∙ none)))
 no_ether CollectsFrames old new is none = not_none old new.links is.0 is.1.links none
 no_ether DeliversFrames old new is none = not_none old new.links is.0 is.1.links none
-no_ether (HearsFrame place frame) old new is none = no_step place _ old new is none
-no_ether (AsksError place fd fault) old new is none = no_step place _ old new is none
+no_ether (ReceivesFrame place frame) old new is none = no_step place _ old new is none
+no_ether (QueriesError place fd fault) old new is none = no_step place _ old new is none
 no_ether (AgesLink place) old new is none =
     not_none old new.links is.0
     (ap (λ (v : SegmentView). length v.links) is.1 ∙ aged_length old.links place (slice_get old.links place)) none

@@ -20,8 +20,8 @@ use Rattle.ether_host.specs.View.{halves}
 use Rattle.net_stack.specs.Stack.{StackView, state_of}
 use Rattle.segment.specs.EtherLaw.{GoByFrames, GoesByFrames, acts_of, host_of_halves, coming, coming_in, ether_acts, host_acts, host_at, if_host, takes_if, taking, taking_in, then_takes}
 use Rattle.segment.specs.Flying.{Flying}
-use Rattle.segment.specs.Frames.{FrameComes, HearEach, IsEtherJoined, IsHostStep, aged_in, frames_given, frames_to, hosts_of, link_aged, or_more}
-use Rattle.segment.specs.Law.{Act, Ether, Joins, Calls, Collects, Delivers, Impairs, Seeds, Loses, Repeats, Swaps, AreActs, IsAct, IsHostCalled, JoinsEther, CollectsFrames, DeliversFrames, HearsFrame, AsksError, AgesLink}
+use Rattle.segment.specs.Frames.{FrameComes, ReceiveEach, IsEtherJoined, IsHostStep, aged_in, frames_given, frames_to, hosts_of, link_aged, or_more}
+use Rattle.segment.specs.Law.{Act, Ether, Joins, Calls, Collects, Delivers, Impairs, Seeds, Loses, Repeats, Swaps, AreActs, IsAct, IsHostCalled, JoinsEther, CollectsFrames, DeliversFrames, ReceivesFrame, QueriesError, AgesLink}
 use Rattle.segment.specs.Segment.{SegmentView, AreBoth, AtEach, leaving}
 use Rattle.segment.specs.declared.links.TheConstants.{FRAMES}
 use Rattle.segment.proofs.History.{get_within, length-last}
@@ -78,7 +78,7 @@ taking_out (suc n) h = go (taking_out n (gives h).1) (nat_le h.machine.config.mt
         ≡ (or_more r (frames_given n r.1)).0) paired
         (out_pair n (gives h).0 (gives h).1 rest)
 
-coming_acts : (frames : List (List ℕ)) (h u : Host) → HearEach frames h u → AreHostActs h (coming frames) u
+coming_acts : (frames : List (List ℕ)) (h u : Host) → ReceiveEach frames h u → AreHostActs h (coming frames) u
 coming_acts [] h u e = e
 coming_acts (f ∷ frames) h u (mid, heard, later) = (mid, heard, coming_acts frames mid u later)
 
@@ -188,7 +188,7 @@ module _ (k : ℕ) (c : Config) (t : Host) where
   took (Some h) (Some u) e = subst (λ (v : Host). AreHostActs h (taking FRAMES h) v) (sym e) (taking_acts FRAMES h)
 
   came : (flight : List Flying) (x y : Option Host)
-      → AreBoth (λ h u. HearEach (frames_to k h.link.link.mac flight) h u) x y
+      → AreBoth (λ h u. ReceiveEach (frames_to k h.link.link.mac flight) h u) x y
       → AreBoth (λ h u. AreHostActs h (coming_in k x flight) u) x y
   came flight None None h = tt
   came flight None (Some u) h = absurd h
@@ -375,10 +375,10 @@ even_on (Ether (JoinsEther d l)) old new framed j even =
     ∙ sym (ap length j.links ∙ length-last old.links (link_up d l))
 even_on (Ether CollectsFrames) old new framed is even = ap length is.1.configs ∙ even ∙ sym is.1.links
 even_on (Ether DeliversFrames) old new framed is even = ap length is.1.configs ∙ even ∙ sym is.1.links
-even_on (Ether (HearsFrame place f)) old new framed is even =
+even_on (Ether (ReceivesFrame place f)) old new framed is even =
     subst (λ (w : SegmentView). length w.configs ≡ length w.links) (sym is.is)
     (even ∙ sym (length-set old.links place is.link'))
-even_on (Ether (AsksError place fd fault)) old new framed is even =
+even_on (Ether (QueriesError place fd fault)) old new framed is even =
     subst (λ (w : SegmentView). length w.configs ≡ length w.links) (sym is.is)
     (even ∙ sym (length-set old.links place is.link'))
 even_on (Ether (AgesLink place)) old new framed is even =
@@ -417,11 +417,11 @@ module _ (k : ℕ) (c : Config) (t : Host) where
       on k c t (coming_in k (host_at k old) (leaving old).0) acts (slice_get old.configs k) (host_at k old)
       (host_at k new) (none_comes k c t (leaving old).0 (host_at k old))
       (came k c t (leaving old).0 (host_at k old) (host_at k new)
-      (at_place (λ place h u. HearEach (frames_to place h.link.link.mac (leaving old).0) h u) old new k is.1.hosts))
+      (at_place (λ place h u. ReceiveEach (frames_to place h.link.link.mac (leaving old).0) h u) old new k is.1.hosts))
       (same_config k c t acts old new is.1.configs from)
-  one_act (Ether (HearsFrame place f)) acts old new framed is even from =
+  one_act (Ether (ReceivesFrame place f)) acts old new framed is even from =
       stepped k c t (Comes_in f) place (FrameComes f) acts old new (λ h u heard. (u, heard, refl)) is from
-  one_act (Ether (AsksError place fd fault)) acts old new framed is even from =
+  one_act (Ether (QueriesError place fd fault)) acts old new framed is even from =
       stepped k c t (Asks_error fd fault) place (λ h u. (fault, u) ≡ last_error fd h) acts old new
       (λ h u asked. (u, asked, refl)) is from
   one_act (Ether (AgesLink place)) acts old new framed is even from = aged k c t place acts old new is.1 from

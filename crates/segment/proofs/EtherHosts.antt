@@ -15,8 +15,8 @@ use Rattle.flat_ether.specs.declared.link.Link.{Link}
 use Rattle.ether_host.specs.View.{halves}
 use Rattle.net_stack.specs.Stack.{StackView}
 use Rattle.segment.specs.EtherLaw.{GoByFrames, AreOnEtherSegment, GoesByFrames, acts_of, host_of_halves, coming, coming_in, heard_of, host_acts, host_at, if_host, taking_in}
-use Rattle.segment.specs.Frames.{HearEach, aged_in, frames_given, frames_to}
-use Rattle.segment.specs.Law.{Act, Ether, Joins, Calls, Collects, Delivers, Impairs, Seeds, Loses, Repeats, Swaps, AreActs, IsAct, JoinsEther, CollectsFrames, DeliversFrames, HearsFrame, AsksError, AgesLink}
+use Rattle.segment.specs.Frames.{ReceiveEach, aged_in, frames_given, frames_to}
+use Rattle.segment.specs.Law.{Act, Ether, Joins, Calls, Collects, Delivers, Impairs, Seeds, Loses, Repeats, Swaps, AreActs, IsAct, JoinsEther, CollectsFrames, DeliversFrames, ReceivesFrame, QueriesError, AgesLink}
 use Rattle.segment.specs.Segment.{SegmentView, AreBoth, are_apart, leaving, no_hosts}
 use Rattle.segment.specs.declared.links.TheConstants.{FRAMES}
 use Rattle.segment.proofs.EtherHistory.{at_place, even_on, host_began}
@@ -98,13 +98,13 @@ there_on k (Ether CollectsFrames) old new h framed is e =
     (at_place (λ place h u. u ≡ (frames_given FRAMES h).1) old new k is.1.hosts)
 there_on k (Ether DeliversFrames) old new h framed is e =
     both_there _ (host_at k old) (host_at k new) h e
-    (at_place (λ place h u. HearEach (frames_to place h.link.link.mac (leaving old).0) h u) old new k is.1.hosts)
-there_on k (Ether (HearsFrame place f)) old new h framed is e =
+    (at_place (λ place h u. ReceiveEach (frames_to place h.link.link.mac (leaving old).0) h u) old new k is.1.hosts)
+there_on k (Ether (ReceivesFrame place f)) old new h framed is e =
     let p = both_some (slice_get old.stacks k) (slice_get old.links k) h e in
     let s = set_there old.stacks place k is.stack' p.0 p.2 in
     let l = set_there old.links place k is.link' p.1 p.3 in
     subst (λ (w : SegmentView). (u : Host) × (host_at k w ≡ Some u)) (sym is.is) (both_make _ _ s.0 l.0 s.1 l.1)
-there_on k (Ether (AsksError place fd fault)) old new h framed is e =
+there_on k (Ether (QueriesError place fd fault)) old new h framed is e =
     let p = both_some (slice_get old.stacks k) (slice_get old.links k) h e in
     let s = set_there old.stacks place k is.stack' p.0 p.2 in
     let l = set_there old.links place k is.link' p.1 p.3 in
@@ -133,9 +133,9 @@ configs_on (Ether (JoinsEther d up)) old new framed j all =
     subst AllApart (sym j.configs) (joined_apart old.configs d all j.free.2)
 configs_on (Ether CollectsFrames) old new framed is all = subst AllApart (sym is.1.configs) all
 configs_on (Ether DeliversFrames) old new framed is all = subst AllApart (sym is.1.configs) all
-configs_on (Ether (HearsFrame place f)) old new framed is all =
+configs_on (Ether (ReceivesFrame place f)) old new framed is all =
     subst (λ (w : SegmentView). AllApart w.configs) (sym is.is) all
-configs_on (Ether (AsksError place fd fault)) old new framed is all =
+configs_on (Ether (QueriesError place fd fault)) old new framed is all =
     subst (λ (w : SegmentView). AllApart w.configs) (sym is.is) all
 configs_on (Ether (AgesLink place)) old new framed is all =
     subst (λ (w : SegmentView). AllApart w.configs) (sym is.1) all
@@ -210,8 +210,8 @@ module _ (k : ℕ) (f : List ℕ) where
           → (h : Host) × (host_at k v ≡ Some h)
       by None h = absurd (no_element f h)
       by (Some m) h = absurd (coming_none (frames_to k m.link.link.mac (leaving v).0) h)
-  gave (Ether (HearsFrame other g)) v framed h = absurd (nothing (other == k) (host_at k v) _ refl h)
-  gave (Ether (AsksError other fd fault)) v framed h = absurd (nothing (other == k) (host_at k v) _ refl h)
+  gave (Ether (ReceivesFrame other g)) v framed h = absurd (nothing (other == k) (host_at k v) _ refl h)
+  gave (Ether (QueriesError other fd fault)) v framed h = absurd (nothing (other == k) (host_at k v) _ refl h)
   gave (Ether (AgesLink other)) v framed h = absurd (nothing (other == k) (host_at k v) _ refl h)
   gave (Joins d) v framed h = absurd framed
   gave (Calls other turn) v framed h = absurd (nothing (other == k) (host_at k v) _ refl h)

@@ -9,7 +9,7 @@ use Rattle.segment.specs.EtherLaw.{GoByFrames, acts_of, coming, coming_in, heard
 use Rattle.segment.specs.Chances.{entering}
 use Rattle.segment.specs.Flying.{Flying, sent_by}
 use Rattle.segment.specs.Frames.{AreFramesCollected, frame_goes_to, frames_below, frames_given, frames_of, frames_to, given_in, gives_short, hosts_in}
-use Rattle.segment.specs.Law.{Act, Ether, Joins, Calls, Collects, Delivers, Impairs, Seeds, Loses, Repeats, Swaps, AreActs, JoinsEther, CollectsFrames, DeliversFrames, HearsFrame, AsksError, AgesLink}
+use Rattle.segment.specs.Law.{Act, Ether, Joins, Calls, Collects, Delivers, Impairs, Seeds, Loses, Repeats, Swaps, AreActs, JoinsEther, CollectsFrames, DeliversFrames, ReceivesFrame, QueriesError, AgesLink}
 use Rattle.segment.specs.Segment.{SegmentView, leaving}
 use Rattle.segment.specs.declared.links.TheConstants.{FRAMES}
 use Rattle.segment.proofs.Choosing.{each_entering, each_leaving, each_lost, each_repeated, each_stay, each_swapped}
@@ -174,15 +174,15 @@ module _ (P : List ℕ → Type 0) where
         (came_now j (host_at j v) (leaving v).0 (each_leaving P v flies))
         (frames_come acts mid done framed.1 (subst Fly (sym is.1.flight) (each_stay P v.flight flies))
         (up_later (Ether DeliversFrames) acts v mid done up) outside)
-    frames_come (Ether (HearsFrame other f) ∷ acts) v (mid, is, done) framed flies up outside =
+    frames_come (Ether (ReceivesFrame other f) ∷ acts) v (mid, is, done) framed flies up outside =
         heard_now j other f (host_at j v) (acts_of j mid acts last done) (heard_of j acts) outside
         (λ later. frames_come acts mid done framed.1 (subst (λ (w : SegmentView). Fly w.flight) (sym is.is) flies)
-        (up_later (Ether (HearsFrame other f)) acts v mid done up) later)
-    frames_come (Ether (AsksError other fd fault) ∷ acts) v (mid, is, done) framed flies up outside =
-        none_first (host_acts j v (Ether (AsksError other fd fault))) (acts_of j mid acts last done)
+        (up_later (Ether (ReceivesFrame other f)) acts v mid done up) later)
+    frames_come (Ether (QueriesError other fd fault) ∷ acts) v (mid, is, done) framed flies up outside =
+        none_first (host_acts j v (Ether (QueriesError other fd fault))) (acts_of j mid acts last done)
         (if_one (other == j) (host_at j v) (Asked fd fault) refl)
         (frames_come acts mid done framed.1 (subst (λ (w : SegmentView). Fly w.flight) (sym is.is) flies)
-        (up_later (Ether (AsksError other fd fault)) acts v mid done up) outside)
+        (up_later (Ether (QueriesError other fd fault)) acts v mid done up) outside)
     frames_come (Ether (AgesLink other) ∷ acts) v (mid, is, done) framed flies up outside =
         none_first (host_acts j v (Ether (AgesLink other))) (acts_of j mid acts last done)
         (if_one (other == j) (host_at j v) Ages refl)

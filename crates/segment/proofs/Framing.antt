@@ -17,7 +17,7 @@ use Rattle.net_stack.specs.Stack.{StackView}
 use Rattle.net_stack.specs.declared.stack.BootFault.{BootFault}
 use Rattle.net_stack.specs.declared.stack.BootFault.TheVariants.{Memory, BadSizes, BadConfig}
 use Rattle.segment.specs.Flying.{Flying, sent_by}
-use Rattle.segment.specs.Frames.{HearEach, IsEtherRefused, IsFree, aged_in, frame_goes_to, frames_below, frames_given, frames_to, given_in, gives_short, hosts_of, or_more}
+use Rattle.segment.specs.Frames.{ReceiveEach, IsEtherRefused, IsFree, aged_in, frame_goes_to, frames_below, frames_given, frames_to, given_in, gives_short, hosts_of, or_more}
 use Rattle.segment.specs.Inside.{flying}
 use Rattle.segment.specs.Segment.{SegmentView, AreBoth}
 use Rattle.segment.specs.declared.frame.Frame.{Frame}
@@ -160,8 +160,9 @@ below_none place R old now w past =
 -- ---- frames that come
 
 -- frames, and then others
-pub then_hear : (a b c : Host) (xs ys : List (List ℕ)) → HearEach xs a b → HearEach ys b c → HearEach (xs ++ ys) a c
-then_hear a b c [] ys same later = subst (λ (h : Host). HearEach ys h c) same later
+pub then_hear : (a b c : Host) (xs ys : List (List ℕ)) → ReceiveEach xs a b → ReceiveEach ys b c
+    → ReceiveEach (xs ++ ys) a c
+then_hear a b c [] ys same later = subst (λ (h : Host). ReceiveEach ys h c) same later
 then_hear a b c (x ∷ xs) ys (mid, heard, rest) later = (mid, heard, then_hear mid b c xs ys rest later)
 
 -- the frame, if it goes there
@@ -180,25 +181,25 @@ heard_next place mac i frames frame within is =
 
 pub more_heard : (place : ℕ) (mac : Mac) (i : ℕ) (frames : List Frame) (frame : Frame) (a h k : Host)
     → i < length frames → frame ≡ get_or frames i frame
-    → HearEach (frames_to place mac (map flying (take i frames))) a h
-    → HearEach (if_heard place mac (flying frame)) h k
-    → HearEach (frames_to place mac (map flying (take (i + 1) frames))) a k
+    → ReceiveEach (frames_to place mac (map flying (take i frames))) a h
+    → ReceiveEach (if_heard place mac (flying frame)) h k
+    → ReceiveEach (frames_to place mac (map flying (take (i + 1) frames))) a k
 more_heard place mac i frames frame a h k within is before one =
-    subst (λ (fs : List (List ℕ)). HearEach fs a k) (sym (heard_next place mac i frames frame within is))
+    subst (λ (fs : List (List ℕ)). ReceiveEach fs a k) (sym (heard_next place mac i frames frame within is))
     (then_hear a h k (frames_to place mac (map flying (take i frames))) (if_heard place mac (flying frame)) before one)
 
 pub hear_goes : (place : ℕ) (mac : Mac) (f : Flying) (h k u : Host) (bytes : List ℕ) → frame_goes_to place mac f ≡ true
-    → bytes ≡ f.packet → u ≡ k → HearEach (bytes ∷ []) h k
-    → HearEach (if_heard place mac f) h u
+    → bytes ≡ f.packet → u ≡ k → ReceiveEach (bytes ∷ []) h k
+    → ReceiveEach (if_heard place mac f) h u
 hear_goes place mac f h k u bytes is same end heard =
-    subst (λ (b : Bool). HearEach (cons_option (if b then Some f.packet else None) []) h u) (sym is)
-    (subst (λ (p : List ℕ). HearEach (p ∷ []) h u) same
-    (subst (λ (x : Host). HearEach (bytes ∷ []) h x) (sym end) heard))
+    subst (λ (b : Bool). ReceiveEach (cons_option (if b then Some f.packet else None) []) h u) (sym is)
+    (subst (λ (p : List ℕ). ReceiveEach (p ∷ []) h u) same
+    (subst (λ (x : Host). ReceiveEach (bytes ∷ []) h x) (sym end) heard))
 
 pub hear_not : (place : ℕ) (mac : Mac) (f : Flying) (h k : Host) → frame_goes_to place mac f ≡ false → k ≡ h
-    → HearEach (if_heard place mac f) h k
+    → ReceiveEach (if_heard place mac f) h k
 hear_not place mac f h k is same =
-    subst (λ (b : Bool). HearEach (cons_option (if b then Some f.packet else None) []) h k) (sym is) same
+    subst (λ (b : Bool). ReceiveEach (cons_option (if b then Some f.packet else None) []) h k) (sym is) same
 
 -- how many frames come, with one more looked at
 pub heard_counted : (place : ℕ) (mac : Mac) (i : ℕ) (frames : List Frame) (frame : Frame) (n m : ℕ) (goes : Bool)

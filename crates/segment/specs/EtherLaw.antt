@@ -14,7 +14,7 @@ use Rattle.ether_host.specs.View.{halves}
 use Rattle.net_stack.specs.Stack.{StackView}
 use Rattle.segment.specs.Flying.{Flying}
 use Rattle.segment.specs.Frames.{frames_to, gives_short}
-use Rattle.segment.specs.Law.{Act, Ether, Joins, Calls, Collects, Delivers, Impairs, Seeds, Loses, Repeats, Swaps, AreActs, EtherAct, JoinsEther, CollectsFrames, DeliversFrames, HearsFrame, AsksError, AgesLink}
+use Rattle.segment.specs.Law.{Act, Ether, Joins, Calls, Collects, Delivers, Impairs, Seeds, Loses, Repeats, Swaps, AreActs, EtherAct, JoinsEther, CollectsFrames, DeliversFrames, ReceivesFrame, QueriesError, AgesLink}
 use Rattle.segment.specs.Segment.{SegmentView, leaving, no_hosts}
 use Rattle.segment.specs.declared.links.TheConstants.{FRAMES}
 
@@ -67,8 +67,8 @@ abbrev pub ether_acts : ℕ → SegmentView → EtherAct → List HostAct
 ether_acts place v (JoinsEther config link) = []
 ether_acts place v CollectsFrames = taking_in (host_at place v)
 ether_acts place v DeliversFrames = coming_in place (host_at place v) (leaving v).0
-ether_acts place v (HearsFrame other f) = if other == place then if_host (host_at place v) (Comes_in f) else []
-ether_acts place v (AsksError other fd fault) =
+ether_acts place v (ReceivesFrame other f) = if other == place then if_host (host_at place v) (Comes_in f) else []
+ether_acts place v (QueriesError other fd fault) =
     if other == place then if_host (host_at place v) (Asks_error fd fault) else []
 ether_acts place v (AgesLink other) = if other == place then if_host (host_at place v) Ages else []
 
@@ -112,7 +112,7 @@ GoByFrames (act ∷ acts) = GoesByFrames act × GoByFrames acts
 
 -- the frames from outside that arrived at the host at a place
 abbrev pub heard_in : ℕ → Act → List (List ℕ)
-heard_in place (Ether (HearsFrame other f)) = if other == place then f ∷ [] else []
+heard_in place (Ether (ReceivesFrame other f)) = if other == place then f ∷ [] else []
 heard_in place _ = []
 
 abbrev pub heard_of : ℕ → List Act → List (List ℕ)

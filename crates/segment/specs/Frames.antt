@@ -4,8 +4,8 @@ use Rattle.std.specs.List.{list_all}
 use Rattle.flat_model.specs.Machine.State.{IsConfig, boot}
 use Rattle.flat_model.specs.declared.config.Config.{Config}
 use Rattle.flat_model.specs.declared.errno.Errno.{Errno}
-use Rattle.flat_ether.specs.Frames.{is_heard, same_mac}
-use Rattle.flat_ether.specs.Hosts.{Hears, Host, gives, last_error}
+use Rattle.flat_ether.specs.Frames.{is_addressed, same_mac}
+use Rattle.flat_ether.specs.Hosts.{TakesFrame, Host, gives, last_error}
 use Rattle.flat_ether.specs.Links.{LinkState, link_up, ticks}
 use Rattle.flat_ether.specs.Routes.{is_link}
 use Rattle.flat_ether.specs.declared.error.NetFault.{NetFault}
@@ -82,7 +82,7 @@ pub record AreFramesCollected (old new : SegmentView) : Type 0 where
 -- a frame arrives at the host at this place: another host sent it, and its destination is the host's hardware address
 -- or the broadcast address
 abbrev pub frame_goes_to : ℕ → Mac → Flying → Bool
-frame_goes_to place mac f = not (f.sender == place) && is_heard mac f.packet
+frame_goes_to place mac f = not (f.sender == place) && is_addressed mac f.packet
 
 abbrev pub frames_to : ℕ → Mac → List Flying → List (List ℕ)
 frames_to place mac flight =
@@ -94,12 +94,12 @@ frames_heard place (Some l) flight = frames_to place l.link.mac flight
 
 -- a frame arrives at a host
 abbrev pub FrameComes : List ℕ → Host → Host → Type 0
-FrameComes f old new = IsBytes f × (length f ≤ ETHER_HEADER + IP_MAX_PACKET) × Hears f old new
+FrameComes f old new = IsBytes f × (length f ≤ ETHER_HEADER + IP_MAX_PACKET) × TakesFrame f old new
 
 -- these frames arrive, one after another
-abbrev pub HearEach : List (List ℕ) → Host → Host → Type 0
-HearEach [] old new = new ≡ old
-HearEach (f ∷ later) old new = (mid : Host) × FrameComes f old mid × HearEach later mid new
+abbrev pub ReceiveEach : List (List ℕ) → Host → Host → Type 0
+ReceiveEach [] old new = new ≡ old
+ReceiveEach (f ∷ later) old new = (mid : Host) × FrameComes f old mid × ReceiveEach later mid new
 
 -- What was due arrived, and the rest is a carry older. A stack without a link is as it was.
 pub record AreFramesDelivered (old new : SegmentView) : Type 0 where
@@ -112,7 +112,7 @@ pub record AreFramesDelivered (old new : SegmentView) : Type 0 where
   pub random : new.random ≡ (leaving old).1
   pub tallies : AtEach (λ place t u. u
       ≡ hears (length (frames_heard place (slice_get old.links place) (leaving old).0)) t) old.tallies new.tallies
-  pub hosts : AtEach (λ place h k. HearEach (frames_to place h.link.link.mac (leaving old).0) h k)
+  pub hosts : AtEach (λ place h k. ReceiveEach (frames_to place h.link.link.mac (leaving old).0) h k)
       (hosts_in old) (hosts_in new)
 
 -- ---- one host
@@ -132,12 +132,12 @@ pub record IsHostStep (place : ℕ) (R : Host → Host → Type 0) (old new : Se
   }
 
 -- a frame from outside arrived at it
-abbrev pub IsHeard : ℕ → List ℕ → SegmentView → SegmentView → Type 0
-IsHeard place f old new = IsHostStep place (FrameComes f) old new
+abbrev pub HasReceived : ℕ → List ℕ → SegmentView → SegmentView → Type 0
+HasReceived place f old new = IsHostStep place (FrameComes f) old new
 
 -- an error of one of its sockets was queried
-abbrev pub IsAskedError : ℕ → ℕ → Result (Option NetFault) Errno → SegmentView → SegmentView → Type 0
-IsAskedError place fd fault old new = IsHostStep place (λ h k. (fault, k) ≡ last_error fd h) old new
+abbrev pub IsErrorQueried : ℕ → ℕ → Result (Option NetFault) Errno → SegmentView → SegmentView → Type 0
+IsErrorQueried place fd fault old new = IsHostStep place (λ h k. (fault, k) ≡ last_error fd h) old new
 
 abbrev pub aged_in : List LinkState → ℕ → Option LinkState → List LinkState
 aged_in links place None = links

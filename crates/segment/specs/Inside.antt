@@ -26,8 +26,8 @@ abbrev pub under_way : Flight → List Flying
 under_way f = map flying f.frames.items
 
 -- what is under way once these packets are on the wire, up to the capacity; the generator and the counts then
-abbrev pub sent_behind : Flight → Impairment → List Flying → List Flying
-sent_behind f i fs = take (vec_capacity f.frames) (under_way f ++ (entering i.chances.items fs i.random).0)
+abbrev pub sent_after : Flight → Impairment → List Flying → List Flying
+sent_after f i fs = take (vec_capacity f.frames) (under_way f ++ (entering i.chances.items fs i.random).0)
 
 abbrev pub random_after : Impairment → List Flying → Lcg
 random_after i fs = (entering i.chances.items fs i.random).1

@@ -11,7 +11,7 @@ use Rattle.flat_model.specs.declared.errno.Errno.{Errno}
 use Rattle.flat_ether.specs.declared.error.NetFault.{NetFault}
 use Rattle.flat_ether.specs.declared.link.Link.{Link}
 use Rattle.segment.specs.Flying.{comes, transmits_of}
-use Rattle.segment.specs.Frames.{AreFramesCollected, AreFramesDelivered, IsAskedError, IsEtherJoined, IsHeard, link_aged}
+use Rattle.segment.specs.Frames.{AreFramesCollected, AreFramesDelivered, IsErrorQueried, IsEtherJoined, HasReceived, link_aged}
 use Rattle.segment.specs.Chances.{seeded}
 use Rattle.segment.specs.declared.chances.Chances.{Chances}
 use Rattle.segment.specs.Segment.{SegmentView, is_ether, IsCollected, HasComeDue, IsJoined, leaving, lost_at, no_hosts, repeated_at, swapped_at, received_in, waiting_in}
@@ -22,16 +22,16 @@ pub data EtherAct : Type 0 where
   JoinsEther : (config : Config) (link : Link) → EtherAct
   CollectsFrames : EtherAct
   DeliversFrames : EtherAct
-  HearsFrame : (place : ℕ) (frame : List ℕ) → EtherAct
-  AsksError : (place fd : ℕ) (fault : Result (Option NetFault) Errno) → EtherAct
+  ReceivesFrame : (place : ℕ) (frame : List ℕ) → EtherAct
+  QueriesError : (place fd : ℕ) (fault : Result (Option NetFault) Errno) → EtherAct
   AgesLink : (place : ℕ) → EtherAct
 
 abbrev pub IsEtherAct : SegmentView → EtherAct → SegmentView → Type 0
 IsEtherAct old (JoinsEther config link) new = IsEtherJoined config link old new
 IsEtherAct old CollectsFrames new = (is_ether old ≡ true) × AreFramesCollected old new
 IsEtherAct old DeliversFrames new = (is_ether old ≡ true) × AreFramesDelivered old new
-IsEtherAct old (HearsFrame place frame) new = IsHeard place frame old new
-IsEtherAct old (AsksError place fd fault) new = IsAskedError place fd fault old new
+IsEtherAct old (ReceivesFrame place frame) new = HasReceived place frame old new
+IsEtherAct old (QueriesError place fd fault) new = IsErrorQueried place fd fault old new
 IsEtherAct old (AgesLink place) new = (is_ether old ≡ true) × (new ≡ link_aged place old)
 
 -- what was done: a host joined; a call was made on the host at a place; from a segment in this state, what waited was

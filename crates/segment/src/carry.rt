@@ -4,14 +4,14 @@ ghost use Rattle.std.specs.List.{list_all};
 ghost use Rattle.net_stack.specs.Runs.{AreCalls};
 ghost use Rattle.segment.specs.Flying.{comes, transmits_of, waiting};
 ghost use Rattle.segment.specs.Segment.{AreCarried, AtEach, IsCarried, IsCollected, HasComeDue, given_below, is_quiet_segment, is_silent, received_in};
-ghost use Rattle.segment.specs.Inside.{sent_behind, flying, random_after, tallies_after, under_way, view};
+ghost use Rattle.segment.specs.Inside.{sent_after, flying, random_after, tallies_after, under_way, view};
 
 use crate::chances::Impairment;
 use crate::flight::Flight;
 use crate::frame::Frame;
 use crate::segment::Segment;
 use crate::tally::count_all;
-use crate::watch::{Nobody, Watch};
+use crate::watch::{NoWatcher, Watch};
 use crate::ways::{hand_all, show_due, take_all};
 use flat_model::Config;
 use net_stack::Stack;
@@ -39,7 +39,7 @@ fn collect_all<W: Watch>(
 )
     ensures hosts { AtEach (λ place s t. AreCalls s (transmits_of (waiting s)) t) stacks.old.items stacks.new.items }
     ensures taken { under_way flight.new
-        ≡ sent_behind flight.old impairment.old (given_below stacks.old.items (length stacks.old.items)) }
+        ≡ sent_after flight.old impairment.old (given_below stacks.old.items (length stacks.old.items)) }
     ensures random { impairment.new.random
         ≡ random_after impairment.old (given_below stacks.old.items (length stacks.old.items)) }
     ensures tallies { impairment.new.tallies.items
@@ -72,7 +72,7 @@ impl Segment {
     pub fn collect(&mut self)
         ensures { IsCollected (view self.old) (view self.new) }
     {
-        self.collect_watched(&mut Nobody);
+        self.collect_watched(&mut NoWatcher);
     }
 
     /// Like `collect`, and calls `sent` for each packet, in the order in which they are sent.
@@ -93,7 +93,7 @@ impl Segment {
     pub fn deliver(&mut self)
         ensures { HasComeDue (view self.old) (view self.new) }
     {
-        self.deliver_watched(&mut Nobody);
+        self.deliver_watched(&mut NoWatcher);
     }
 
     /// Like `deliver`, and calls `due` for each packet that is due, and then, for each host from place 0 on, `comes`

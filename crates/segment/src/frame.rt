@@ -2,7 +2,7 @@
 ghost use Rattle.std.specs.Prelude.{◌≡◌, ◌<◌, ◌≤◌, [], ◌∷◌, length, take};
 ghost use Rattle.params.specs.declared.TheConstants.{IP_HEADER, MAX_MTU};
 ghost use Rattle.net_stack.specs.Runs.{AreCalls};
-ghost use Rattle.flat_ether.specs.Frames.{is_heard, mac_at};
+ghost use Rattle.flat_ether.specs.Frames.{is_addressed, mac_at};
 ghost use Rattle.flat_ether.specs.declared.sizes.TheConstants.{ETHER_HEADER};
 ghost use Rattle.segment.specs.Frames.{frame_goes_to};
 ghost use Rattle.segment.specs.Flying.{ip_destination, transmits_of, goes_to, is_destination, waiting};
@@ -66,11 +66,11 @@ impl Frame {
     }
 
     /// Whether the frame is for the host at a place with this hardware address.
-    pub(crate) fn is_heard(&self, place: usize, mac: Mac) -> bool
+    pub(crate) fn is_addressed(&self, place: usize, mac: Mac) -> bool
         ensures { result ≡ frame_goes_to place mac
             (record { sender = self.now.sender; packet = take self.now.len self.now.room; wait = self.now.wait }) }
     {
-        self.sender != place && is_heard(mac, self.bytes())
+        self.sender != place && is_addressed(mac, self.bytes())
     }
 
     /// Whether the packet is for the host at a place with this configuration.
@@ -95,8 +95,8 @@ fn destination_mac(frame: &[u8]) -> Mac
 }
 
 /// Whether a frame has a header, and its destination is this hardware address or the broadcast address.
-fn is_heard(mac: Mac, frame: &[u8]) -> bool
-    ensures { result ≡ is_heard mac frame.now }
+fn is_addressed(mac: Mac, frame: &[u8]) -> bool
+    ensures { result ≡ is_addressed mac frame.now }
 {
     if frame.len() < ETHER {
         return false;

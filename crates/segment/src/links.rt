@@ -4,17 +4,17 @@ ghost use Rattle.params.specs.declared.TheConstants.{MAX_MTU};
 ghost use Rattle.ether_host.specs.Inside.{link_seen};
 ghost use Rattle.ether_host.specs.View.{halves};
 ghost use Rattle.segment.specs.Flying.{sent_by};
-ghost use Rattle.segment.specs.Frames.{AreFramesCollected, AreFramesDelivered, HearEach, frames_below, frames_given, frames_heard, frames_to, gives_short, hosts_of};
+ghost use Rattle.segment.specs.Frames.{AreFramesCollected, AreFramesDelivered, ReceiveEach, frames_below, frames_given, frames_heard, frames_to, gives_short, hosts_of};
 ghost use Rattle.segment.specs.Segment.{AtEach};
 ghost use Rattle.segment.specs.Tallies.{hears};
-ghost use Rattle.segment.specs.Inside.{sent_behind, flying, random_after, tallies_after, under_way, view};
+ghost use Rattle.segment.specs.Inside.{sent_after, flying, random_after, tallies_after, under_way, view};
 
 use crate::chances::Impairment;
 use crate::flight::Flight;
 use crate::frame::Frame;
 use crate::segment::Segment;
 use crate::tally::Tally;
-use crate::watch::{Nobody, Watch};
+use crate::watch::{NoWatcher, Watch};
 use crate::ways::{Arrival, show_due};
 use ether_host::{LinkLayer, Mac};
 use flat_ether::ETHER_MTU;
@@ -52,7 +52,7 @@ impl Frame {
 
 /// The frame in `hand` is sent by its fate. Beyond the capacity it's lost.
 fn send<W: Watch>(flight: &mut Flight, impairment: &mut Impairment, watch: &mut W)
-    ensures taken { under_way flight.new ≡ sent_behind flight.old impairment.old (flying flight.old.hand ∷ []) }
+    ensures taken { under_way flight.new ≡ sent_after flight.old impairment.old (flying flight.old.hand ∷ []) }
     ensures random { impairment.new.random ≡ random_after impairment.old (flying flight.old.hand ∷ []) }
     ensures tallies { impairment.new.tallies.items ≡ tallies_after impairment.old (flying flight.old.hand ∷ []) }
     ensures chances { impairment.new.chances ≡ impairment.old.chances }
@@ -73,7 +73,7 @@ fn take_frames<W: Watch>(
 )
     ensures host { halves stack.new (link_seen link.new)
         ≡ (frames_given FRAMES (halves stack.old (link_seen link.old))).1 }
-    ensures taken { under_way flight.new ≡ sent_behind flight.old impairment.old
+    ensures taken { under_way flight.new ≡ sent_after flight.old impairment.old
         (sent_by sender (frames_given FRAMES (halves stack.old (link_seen link.old))).0) }
     ensures random { impairment.new.random ≡ random_after impairment.old
         (sent_by sender (frames_given FRAMES (halves stack.old (link_seen link.old))).0) }
@@ -101,7 +101,7 @@ fn collect_frames<W: Watch>(
     ensures hosts { AtEach (λ place h k. k ≡ (frames_given FRAMES h).1)
         (hosts_of stacks.old.items (map link_seen links.old.items))
         (hosts_of stacks.new.items (map link_seen links.new.items)) }
-    ensures taken { under_way flight.new ≡ sent_behind flight.old impairment.old
+    ensures taken { under_way flight.new ≡ sent_after flight.old impairment.old
         (frames_below (hosts_of stacks.old.items (map link_seen links.old.items)) (length links.old.items)) }
     ensures random { impairment.new.random ≡ random_after impairment.old
         (frames_below (hosts_of stacks.old.items (map link_seen links.old.items)) (length links.old.items)) }
@@ -133,7 +133,7 @@ fn count_to(due: &[Frame], place: usize, mac: Mac) -> u64
 {
     let mut frames = 0;
     for at in 0..due.len() {
-        if due[at].is_heard(place, mac) {
+        if due[at].is_addressed(place, mac) {
             frames += 1;
         }
     }
@@ -171,7 +171,7 @@ fn hand_over<W: Watch>(
     watch: &mut W,
 )
     requires { length frame.now ≤ MAX_MTU }
-    ensures { HearEach (frame.now ∷ []) (halves stack.old (link_seen link.old))
+    ensures { ReceiveEach (frame.now ∷ []) (halves stack.old (link_seen link.old))
         (halves stack.new (link_seen link.new)) }
 {
     watch.comes(at.number, at.place, stack, link.tallies());
@@ -187,13 +187,13 @@ fn hand_frames<W: Watch>(
     link: &mut LinkLayer,
     watch: &mut W,
 )
-    ensures { HearEach (frames_to place (link_seen link.old).link.mac (map flying due.now))
+    ensures { ReceiveEach (frames_to place (link_seen link.old).link.mac (map flying due.now))
         (halves stack.old (link_seen link.old)) (halves stack.new (link_seen link.new)) }
 {
     let mac = link.link().mac;
     for at in 0..due.len() {
         let frame = &due[at];
-        if frame.is_heard(place, mac) {
+        if frame.is_addressed(place, mac) {
             hand_over(
                 stack,
                 link,
@@ -212,7 +212,7 @@ fn deliver_frames<W: Watch>(
     links: &mut Vec<LinkLayer>,
     watch: &mut W,
 )
-    ensures hosts { AtEach (λ place h k. HearEach (frames_to place h.link.link.mac (map flying due.now)) h k)
+    ensures hosts { AtEach (λ place h k. ReceiveEach (frames_to place h.link.link.mac (map flying due.now)) h k)
         (hosts_of stacks.old.items (map link_seen links.old.items))
         (hosts_of stacks.new.items (map link_seen links.new.items)) }
     ensures links { length links.new.items ≡ length links.old.items }
@@ -232,7 +232,7 @@ impl Segment {
     pub fn collect_frames(&mut self)
         ensures { AreFramesCollected (view self.old) (view self.new) }
     {
-        self.collect_frames_watched(&mut Nobody);
+        self.collect_frames_watched(&mut NoWatcher);
     }
 
     /// Like `collect_frames`, and calls `sent` for each frame, in the order in which they are sent.
@@ -253,7 +253,7 @@ impl Segment {
     pub fn deliver_frames(&mut self)
         ensures { AreFramesDelivered (view self.old) (view self.new) }
     {
-        self.deliver_frames_watched(&mut Nobody);
+        self.deliver_frames_watched(&mut NoWatcher);
     }
 
     /// Like `deliver_frames`, with the calls of `deliver_watched`.

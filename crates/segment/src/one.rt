@@ -7,7 +7,7 @@ ghost use Rattle.flat_ether.specs.Claims.{address_state};
 ghost use Rattle.flat_ether.specs.declared.sizes.TheConstants.{ETHER_HEADER};
 ghost use Rattle.ether_host.specs.Inside.{link_seen};
 ghost use Rattle.ether_host.specs.View.{held_for};
-ghost use Rattle.segment.specs.Frames.{IsAskedError, IsEtherJoined, IsEtherRefused, IsFree, IsHeard, link_aged, other_mac};
+ghost use Rattle.segment.specs.Frames.{IsErrorQueried, IsEtherJoined, IsEtherRefused, IsFree, HasReceived, link_aged, other_mac};
 ghost use Rattle.segment.specs.Inside.{view};
 
 use crate::chances::NO_CHANCES;
@@ -96,11 +96,11 @@ impl Segment {
 
     /// A frame from outside arrives at the host at a place: see `EtherHost::receive`. Returns whether there is such a
     /// host on an Ethernet.
-    pub fn hear(&mut self, place: usize, frame: &[u8]) -> bool
+    pub fn receive(&mut self, place: usize, frame: &[u8]) -> bool
         requires { length frame.now ≤ ETHER_HEADER + IP_MAX_PACKET }
         ensures is { result
             ≡ nat_lt place (length (view self.old).stacks) && nat_lt place (length (view self.old).links) }
-        ensures heard { Choice result (IsHeard place frame.now (view self.old) (view self.new))
+        ensures heard { Choice result (HasReceived place frame.now (view self.old) (view self.new))
             (view self.new ≡ view self.old) }
     {
         if place >= self.stacks.len() || place >= self.links.len() {
@@ -116,7 +116,7 @@ impl Segment {
         ensures is { is_some result
             ≡ nat_lt place (length (view self.old).stacks) && nat_lt place (length (view self.old).links) }
         ensures asked { MatchOption result (view self.new ≡ view self.old)
-            (λ fault. IsAskedError place fd fault (view self.old) (view self.new)) }
+            (λ fault. IsErrorQueried place fd fault (view self.old) (view self.new)) }
     {
         if place >= self.stacks.len() || place >= self.links.len() {
             return None;

@@ -24,9 +24,9 @@ pub trait Watch {
 
 /// No watcher.
 #[derive(Drop)]
-pub(crate) struct Nobody;
+pub(crate) struct NoWatcher;
 
-impl Watch for Nobody {
+impl Watch for NoWatcher {
     fn sent(&mut self, _sender: usize, _packet: &[u8], _fate: Fate, _copies: usize) {}
 
     fn due(&mut self, _number: usize, _sender: usize, _packet: &[u8]) {}

@@ -3,7 +3,7 @@ ghost use Rattle.std.specs.Prelude.{◌≡◌, ◌<◌, ◌≤◌, ◌++◌, ◌
 ghost use Rattle.params.specs.declared.TheConstants.{MAX_MTU};
 ghost use Rattle.net_stack.specs.Runs.{AreCalls};
 ghost use Rattle.segment.specs.Flying.{comes, transmits_of, received, sent_by, waiting};
-ghost use Rattle.segment.specs.Inside.{sent_behind, flying, random_after, tallies_after, under_way};
+ghost use Rattle.segment.specs.Inside.{sent_after, flying, random_after, tallies_after, under_way};
 
 use crate::chances::Impairment;
 use crate::flight::Flight;
@@ -23,7 +23,7 @@ pub(crate) fn take_all<W: Watch>(
     watch: &mut W,
 )
     ensures calls { AreCalls stack.old (transmits_of (waiting stack.old)) stack.new }
-    ensures taken { under_way flight.new ≡ sent_behind flight.old impairment.old (sent_by sender (waiting stack.old)) }
+    ensures taken { under_way flight.new ≡ sent_after flight.old impairment.old (sent_by sender (waiting stack.old)) }
     ensures random { impairment.new.random ≡ random_after impairment.old (sent_by sender (waiting stack.old)) }
     ensures tallies { impairment.new.tallies.items
         ≡ tallies_after impairment.old (sent_by sender (waiting stack.old)) }
@@ -47,7 +47,7 @@ fn take_one<W: Watch>(
     ensures calls { AreCalls stack.old (transmits_of (take 1 (waiting stack.old))) stack.new }
     ensures waits { waiting stack.new ≡ drop 1 (waiting stack.old) }
     ensures taken { under_way flight.new
-        ≡ sent_behind flight.old impairment.old (sent_by sender (take 1 (waiting stack.old))) }
+        ≡ sent_after flight.old impairment.old (sent_by sender (take 1 (waiting stack.old))) }
     ensures random { impairment.new.random ≡ random_after impairment.old (sent_by sender (take 1 (waiting stack.old))) }
     ensures tallies { impairment.new.tallies.items
         ≡ tallies_after impairment.old (sent_by sender (take 1 (waiting stack.old))) }

@@ -64,7 +64,7 @@ main(int argc, char* argv[])
         });
     };
     clientApps.Get(0)->TraceConnectWithoutContext("Tx", tell("sends"));
-    clientApps.Get(0)->TraceConnectWithoutContext("Rx", tell("hears"));
+    clientApps.Get(0)->TraceConnectWithoutContext("Rx", tell("receives"));
 
     if (pcap)
     {

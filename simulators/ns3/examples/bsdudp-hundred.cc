@@ -9,7 +9,7 @@
 // leaves: of a datagram of k packets (1 - loss)^k.
 //
 // The devices are ns3::SimpleNetDevice with PointToPointMode, so that no ARP is needed: every node
-// hears every packet, and counts those for others in ip.cantforward.
+// receives every packet, and counts those for others in ip.cantforward.
 
 #include "ns3/applications-module.h"
 #include "ns3/bsdudp-module.h"

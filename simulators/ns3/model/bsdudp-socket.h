@@ -178,7 +178,7 @@ class BsdudpSocket : public UdpSocket
     std::deque<Arrival> m_arrivals;              ///< an entry for each datagram that waits
     bool m_reusePort{false};                     ///< whether others may have its port, too
     bool m_shutdownSend{false};                  ///< whether it sends no more
-    bool m_shutdownRecv{false};                  ///< whether it hears no more
+    bool m_shutdownRecv{false};                  ///< whether it receives no more
     mutable SocketErrno m_errno{ERROR_NOTERROR}; ///< of the last call
 };
 

@@ -166,7 +166,7 @@ fn is_frame(segment: &Segment, at: usize, sender: usize, frame: &[u8]) -> bool {
 }
 
 fn hear(segment: &mut Segment, place: usize, frame: &[u8]) -> bool {
-    frame.len() <= 1514 && segment.hear(place, frame)
+    frame.len() <= 1514 && segment.receive(place, frame)
 }
 
 fn neighbours(segment: &Segment, place: usize) -> Option<usize> {

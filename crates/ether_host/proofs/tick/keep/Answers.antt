@@ -1,6 +1,6 @@
 use Rattle.std.proofs.Common.{◌≡◌, ◌<◌, ◌≤◌, false, List, length, sym, ap, ◌∙◌, arith}
 use Rattle.std.specs.Prelude.{is_some}
-use Rattle.ether_host.specs.Buffers.{has_hope_in}
+use Rattle.ether_host.specs.Buffers.{is_resolvable_in}
 use Rattle.ether_host.specs.declared.buffer.PacketBuffer.{PacketBuffer}
 use Rattle.ether_host.proofs.Tables.{kept_all, kept_from, kept_off}
 use Rattle.ether_host.proofs.tick.keep.Goals as goal
@@ -9,7 +9,7 @@ pub walk-preserved : goal.walk-preserved
 walk-preserved c =
     let ps : List PacketBuffer = c.walk.held.items in
     let here : c.walk.at < length ps = omega (arith, c.walk.held.ok.0, c.len.ensures, c.walk-test.true) in
-    let hopeless : has_hope_in c.args.neighbours.now c.index.result.now ≡ false =
+    let hopeless : is_resolvable_in c.args.neighbours.now c.index.result.now ≡ false =
     ap is_some (sym c.place_of.ensures) ∙ sym c.is_some.ensures ∙ c.if-is_some.false in
     record {
       kept =

@@ -7,7 +7,7 @@ use Rattle.ether_host.specs.Inside.{link_seen}
 use Rattle.ether_host.specs.View.{halves}
 use Rattle.segment.specs.Flying.{sent_by}
 use Rattle.segment.specs.Frames.{frames_below, frames_given, hosts_of}
-use Rattle.segment.specs.Inside.{sent_behind, random_after, tallies_after, under_way}
+use Rattle.segment.specs.Inside.{sent_after, random_after, tallies_after, under_way}
 use Rattle.segment.specs.declared.links.TheConstants.{FRAMES}
 use Rattle.segment.proofs.Entering.{entered_more}
 use Rattle.segment.proofs.Framing.{below_by, below_past, hosts_length, walked_by, walked_past}
@@ -75,7 +75,7 @@ loop-place-preserved g c =
               tallies = ap (λ v. v.tallies.items) w.impairment-is ∙ inv.entered.tallies
                   ∙ ap (λ fs. tallies_after c.args.impairment.now fs) (sym none);
               taken = ap (λ v. under_way v) w.flight-is ∙ inv.entered.taken
-                  ∙ ap (λ fs. sent_behind c.args.flight.now c.args.impairment.now fs) (sym none);
+                  ∙ ap (λ fs. sent_after c.args.flight.now c.args.impairment.now fs) (sym none);
               random = ap (λ v. v.random) w.impairment-is ∙ inv.entered.random
                   ∙ ap (λ fs. random_after c.args.impairment.now fs) (sym none);
             };
@@ -94,7 +94,7 @@ pub returns-clause-taken : goal.returns-clause-taken
 returns-clause-taken g c =
     let old = hosts_of c.args.stacks.now.items (map link_seen c.args.links.now.items) in
     c.loop-place.invariant.entered.taken
-    ∙ ap (λ n. sent_behind c.args.flight.now c.args.impairment.now (frames_below old n)) (all_walked g c)
+    ∙ ap (λ n. sent_after c.args.flight.now c.args.impairment.now (frames_below old n)) (all_walked g c)
 
 pub returns-clause-random : goal.returns-clause-random
 returns-clause-random g c =

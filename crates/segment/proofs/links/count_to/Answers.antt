@@ -1,25 +1,27 @@
 use Rattle.std.proofs.Common.{◌+◌, ◌∙◌, ap, cond, sym, arith}
 use Rattle.segment.proofs.Framing.{heard_counted}
 use Rattle.segment.proofs.links.count_to.Goals as goal
-use Rattle.segment.proofs.links.count_to.Goals.{then-is_heard, else-is_heard}
+use Rattle.segment.proofs.links.count_to.Goals.{then-is_addressed, else-is_addressed}
 
 pub loop-at-preserved : goal.loop-at-preserved
 loop-at-preserved c =
     let inv = c.loop-at.invariant in
     let n = c.loop-at.frames in
-    elim c.if-is_heard.branch [
-      | then-is_heard w ↦ record {
+    elim c.if-is_addressed.branch [
+      | then-is_addressed w ↦ record {
         counted =
             heard_counted c.args.place c.args.mac c.loop-at.at c.args.due.now c.index-due-at.result n
-            c.if-is_heard.frames c.is_heard.result (omega arith) c.index-due-at.is inv.counted c.is_heard.ensures
-            (w.frames-is ∙ ap (λ b. cond b (n + 1) n) (sym w.if-is_heard.true));
+            c.if-is_addressed.frames c.is_addressed.result (omega arith) c.index-due-at.is inv.counted
+              c.is_addressed.ensures
+            (w.frames-is ∙ ap (λ b. cond b (n + 1) n) (sym w.if-is_addressed.true));
         few = omega (arith, w.frames-is, inv.few);
       }
-      | else-is_heard w ↦ record {
+      | else-is_addressed w ↦ record {
         counted =
             heard_counted c.args.place c.args.mac c.loop-at.at c.args.due.now c.index-due-at.result n
-            c.if-is_heard.frames c.is_heard.result (omega arith) c.index-due-at.is inv.counted c.is_heard.ensures
-            (w.frames-is ∙ ap (λ b. cond b (n + 1) n) (sym w.if-is_heard.false));
+            c.if-is_addressed.frames c.is_addressed.result (omega arith) c.index-due-at.is inv.counted
+              c.is_addressed.ensures
+            (w.frames-is ∙ ap (λ b. cond b (n + 1) n) (sym w.if-is_addressed.false));
         few = omega (arith, w.frames-is, inv.few);
       }
     ]

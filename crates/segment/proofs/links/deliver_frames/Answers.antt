@@ -4,7 +4,7 @@ use Rattle.std.proofs.lemmas.List.{drop-set-lt, length-map}
 use Rattle.flat_ether.specs.Hosts.{Host}
 use Rattle.ether_host.specs.Inside.{link_seen}
 use Rattle.segment.specs.Flying.{Flying}
-use Rattle.segment.specs.Frames.{HearEach, frames_to, hosts_of}
+use Rattle.segment.specs.Frames.{ReceiveEach, frames_to, hosts_of}
 use Rattle.segment.specs.Inside.{flying}
 use Rattle.segment.proofs.Framing.{hosts_length, walked_by, walked_past}
 use Rattle.segment.proofs.Walking.{walk_ends}
@@ -12,7 +12,7 @@ use Rattle.segment.proofs.links.deliver_frames.Goals as goal
 use Rattle.segment.proofs.links.deliver_frames.Goals.{then-place-len, else-place-len}
 
 abbrev hears_so : List Flying → ℕ → Host → Host → Type 0
-hears_so due place h k = HearEach (frames_to place h.link.link.mac due) h k
+hears_so due place h k = ReceiveEach (frames_to place h.link.link.mac due) h k
 
 pub loop-place-preserved : goal.loop-place-preserved
 loop-place-preserved g c =
@@ -56,7 +56,7 @@ loop-place-preserved g c =
 pub returns-clause-hosts : goal.returns-clause-hosts
 returns-clause-hosts g c =
     let inv = c.loop-place.invariant in
-    walk_ends (λ place h k. HearEach (frames_to place h.link.link.mac (map flying c.args.due.now)) h k)
+    walk_ends (λ place h k. ReceiveEach (frames_to place h.link.link.mac (map flying c.args.due.now)) h k)
     (hosts_of c.args.stacks.now.items
     (map link_seen c.args.links.now.items)) (hosts_of c.loop-place.stacks.items
     (map link_seen c.loop-place.links.items))

@@ -1,13 +1,13 @@
 use Rattle.std.proofs.Common.{◌≡◌, drop, length, map}
 use Rattle.ether_host.specs.Inside.{link_seen}
-use Rattle.segment.specs.Frames.{HearEach, frames_to, hosts_of}
+use Rattle.segment.specs.Frames.{ReceiveEach, frames_to, hosts_of}
 use Rattle.segment.specs.Inside.{flying}
 use Rattle.segment.proofs.Walking.{IsWalked}
 use Rattle.segment.proofs.links.deliver_frames.Given as goal
 
 abbrev pub invariant-loop-place : goal.invariant-loop-place
 invariant-loop-place g l = record {
-  walked : IsWalked (λ place h k. HearEach (frames_to place h.link.link.mac (map flying l.due)) h k)
+  walked : IsWalked (λ place h k. ReceiveEach (frames_to place h.link.link.mac (map flying l.due)) h k)
       (hosts_of l.fn.stacks.items (map link_seen l.fn.links.items))
       (hosts_of l.stacks.items (map link_seen l.links.items))
       l.place;

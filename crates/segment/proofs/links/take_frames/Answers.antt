@@ -6,7 +6,7 @@ use Rattle.ether_host.specs.Inside.{link_seen}
 use Rattle.ether_host.specs.View.{halves}
 use Rattle.segment.specs.Flying.{Flying, sent_by}
 use Rattle.segment.specs.Frames.{frames_given, gives_short}
-use Rattle.segment.specs.Inside.{sent_behind, flying, random_after, tallies_after, under_way}
+use Rattle.segment.specs.Inside.{sent_after, flying, random_after, tallies_after, under_way}
 use Rattle.segment.specs.declared.links.TheConstants.{FRAMES}
 use Rattle.segment.proofs.Entering.{entered_more, none_entered}
 use Rattle.segment.proofs.Framing.{given_end, given_none, sent_one, so_far_end, so_far_more}
@@ -92,7 +92,7 @@ returns-then-not-give-clause-host g c = ap (λ (r : List (List ℕ) × Host). r.
 pub returns-then-not-give-clause-taken : goal.returns-then-not-give-clause-taken
 returns-then-not-give-clause-taken g c =
     c.loop.invariant.entered.taken
-    ∙ ap (λ fs. sent_behind c.args.flight.now c.args.impairment.now (sent_by c.args.sender fs)) (given_then g c)
+    ∙ ap (λ fs. sent_after c.args.flight.now c.args.impairment.now (sent_by c.args.sender fs)) (given_then g c)
 
 pub returns-then-not-give-clause-random : goal.returns-then-not-give-clause-random
 returns-then-not-give-clause-random g c =
@@ -122,7 +122,7 @@ returns-clause-host g c = ap (λ (r : List (List ℕ) × Host). r.1) (sym (full 
 pub returns-clause-taken : goal.returns-clause-taken
 returns-clause-taken g c =
     c.loop.invariant.entered.taken
-    ∙ ap (λ fs. sent_behind c.args.flight.now c.args.impairment.now (sent_by c.args.sender fs)) (given_all g c)
+    ∙ ap (λ fs. sent_after c.args.flight.now c.args.impairment.now (sent_by c.args.sender fs)) (given_all g c)
 
 pub returns-clause-random : goal.returns-clause-random
 returns-clause-random g c =

@@ -5,10 +5,10 @@ use Rattle.flat_model.specs.Machine.Count.{more_by}
 use Rattle.flat_ether.specs.Claims.{claim_ticks}
 use Rattle.flat_ether.specs.declared.claim.Claim.{Claim}
 use Rattle.flat_ether.specs.declared.sizes.TheConstants.{UNREACHABLES}
-use Rattle.flat_ether.specs.Links.{WaitingPacket, LinkState, neighbour_aged, has_hope, neighbour_stays}
+use Rattle.flat_ether.specs.Links.{WaitingPacket, LinkState, neighbour_aged, is_resolvable, neighbour_stays}
 use Rattle.flat_ether.specs.declared.neighbour.Neighbour.{Neighbour}
 use Rattle.ether_host.specs.Inside.{link_seen}
-use Rattle.ether_host.specs.Buffers.{has_hope_in, held_in}
+use Rattle.ether_host.specs.Buffers.{is_resolvable_in, held_in}
 use Rattle.ether_host.specs.declared.buffer.PacketBuffer.{PacketBuffer}
 use Rattle.ether_host.proofs.Tables.{held_filter}
 use Rattle.ether_host.proofs.layer.LinkLayer.tick.Goals as goal
@@ -19,13 +19,13 @@ returns c =
     record (link_seen c.args.self.now) { claim = claim_ticks c.args.self.now.claim; unreachables = UNREACHABLES } in
     let ps : List PacketBuffer = c.args.self.now.held.items in
     let ns : List Neighbour = filter neighbour_stays (map neighbour_aged s.neighbours) in
-    let later : List WaitingPacket = filter (has_hope ns) s.held in
+    let later : List WaitingPacket = filter (is_resolvable ns) s.held in
     let known : c.age-self.result.items ≡ ns =
     c.age-self.ensures ∙ ap (λ (xs : List Neighbour). filter neighbour_stays (map neighbour_aged xs))
     c.as_slice.ensures.value in
     let kept : map held_in c.keep.new.held.items ≡ later =
     ap (map held_in) c.keep.ensures.kept
-    ∙ ap (λ (xs : List Neighbour). map held_in (filter (has_hope_in xs) ps)) (c.as_slice-2.ensures.value ∙ known)
+    ∙ ap (λ (xs : List Neighbour). map held_in (filter (is_resolvable_in xs) ps)) (c.as_slice-2.ensures.value ∙ known)
     ∙ held_filter ns ps in
     let before : length s.held ≡ length ps = length-map ps held_in in
     let after : length later ≡ length c.keep.new.held.items =

@@ -6,7 +6,7 @@ use Rattle.segment.specs.Inside.{view}
 use Rattle.segment.proofs.Frames.{map_get, map_set}
 use Rattle.segment.proofs.Taking.{are_bytes}
 use Rattle.segment.proofs.Walking.{get_at}
-use Rattle.segment.proofs.segment.Segment.hear.Goals as goal
+use Rattle.segment.proofs.segment.Segment.receive.Goals as goal
 
 never : true ≡ false → ⊥
 never e = cc

@@ -2,7 +2,7 @@
 ghost use Rattle.std.specs.Prelude.{◌≡◌, if◌then◌else◌};
 ghost use Rattle.flat_ether.specs.Frames.{arp_of};
 ghost use Rattle.ether_host.specs.Answers.{CanAnswer};
-ghost use Rattle.flat_ether.specs.Links.{answers_with, finds_conflict, hears_arp, ignores, is_conflict, learns, owes, is_sound_arp, refuses};
+ghost use Rattle.flat_ether.specs.Links.{answers_with, counts_conflict, receives_arp, ignores, is_conflict, learns, queues_reply, is_sound_arp, refuses};
 
 use crate::answer::{echo_reply, port_unreachable};
 use crate::frames::read_arp;
@@ -52,8 +52,8 @@ impl LinkLayer {
     }
 
     /// A request for the address that this host uses: its sender gets a reply.
-    fn owe(&mut self, arp: Arp)
-        ensures { link_seen self.new ≡ owes arp (link_seen self.old) }
+    fn queue_reply(&mut self, arp: Arp)
+        ensures { link_seen self.new ≡ queues_reply arp (link_seen self.old) }
     {
         if !self.claim.is_claimed() || arp.op != ARP_REQUEST || arp.target != self.config.addr {
             return;
@@ -83,7 +83,7 @@ impl LinkLayer {
 
     /// Another host claims this one's address.
     fn contest(&mut self)
-        ensures { link_seen self.new ≡ finds_conflict (link_seen self.old) }
+        ensures { link_seen self.new ≡ counts_conflict (link_seen self.old) }
     {
         self.claim = self.claim.contested();
         self.tallies.conflicts = self.tallies.conflicts.saturating_add(1);
@@ -101,8 +101,8 @@ impl LinkLayer {
     }
 
     /// An ARP packet arrives (`in_arpinput` of volume 2, chapter 21).
-    pub(crate) fn hear_arp(&mut self, body: &[u8])
-        ensures { link_seen self.new ≡ hears_arp body.now (link_seen self.old) }
+    pub(crate) fn receive_arp(&mut self, body: &[u8])
+        ensures { link_seen self.new ≡ receives_arp body.now (link_seen self.old) }
     {
         let Some(arp) = self.sound_arp(body) else {
             self.tallies.bad_arp = self.tallies.bad_arp.saturating_add(1);
@@ -113,7 +113,7 @@ impl LinkLayer {
         } else {
             self.learn(arp);
         }
-        self.owe(arp);
+        self.queue_reply(arp);
     }
 
     /// A reply to a packet is queued, if the place for it is free.
