@@ -1,8 +1,8 @@
-//! The sum of one part of the bytes, as words in memory order: whole blocks by SIMD lanes, the rest by words of 8
-//! bytes.
+//! The sum of one part of the bytes, as words in memory order: whole blocks by SIMD lanes.
 ghost use Rattle.std.specs.Prelude.{◌≡◌, ◌+◌, ◌*◌, ◌<◌, ◌≤◌, ◌^◌, length};
-ghost use Rattle.in_cksum.specs.Inside.{CountsAs, IsAdded, IsLeft, lanes_total, swapped_sum};
+ghost use Rattle.in_cksum.specs.Inside.{CountsAs, lanes_total, swapped_sum};
 
+use crate::sum_rest;
 use std::simd::prelude::*;
 
 /// The number of bytes added at a time.
@@ -71,59 +71,6 @@ fn sum_lanes(all: u32x8, high: u32x8) -> u32
 {
     let low = all - (high << u32x8::splat(16));
     low.strict_reduce_sum() + high.strict_reduce_sum()
-}
-
-/// Adds the next 8 bytes, if that many are left, as two words of 32 bits. The high half of each counts 65,536 times,
-/// which the fold reduces to 1.
-#[inline(always)]
-fn add_eight(sum: u64, bytes: &[u8]) -> (u64, &[u8])
-    requires { sum < 2 ^ 40 }
-    ensures added { IsAdded sum bytes.now result.0 result.1.now }
-    ensures left { IsLeft 8 bytes.now result.1.now }
-    ensures small { result.0 < sum + 2 ^ 33 }
-{
-    match bytes {
-        [a, b, c, d, e, f, g, h, after @ ..] => {
-            let words = u64::from_le_bytes([*a, *b, *c, *d, *e, *f, *g, *h]);
-            (sum + (words & 0xffff_ffff) + (words >> 32), after)
-        }
-        _ => (sum, bytes),
-    }
-}
-
-#[inline(always)]
-fn add_four(sum: u64, bytes: &[u8]) -> (u64, &[u8])
-    requires { sum < 2 ^ 40 }
-    ensures added { IsAdded sum bytes.now result.0 result.1.now }
-    ensures left { IsLeft 4 bytes.now result.1.now }
-    ensures small { result.0 < sum + 2 ^ 33 }
-{
-    match bytes {
-        [a, b, c, d, after @ ..] => {
-            let word = u32::from_le_bytes([*a, *b, *c, *d]);
-            (sum + word as u64, after)
-        }
-        _ => (sum, bytes),
-    }
-}
-
-/// Sums the words of fewer bytes than one block. It has no loop: headers are so short that a loop costs more.
-#[inline(always)]
-pub(crate) fn sum_rest(bytes: &[u8]) -> u64
-    requires { length bytes.now < BLOCK_LEN }
-    ensures counts { CountsAs result (swapped_sum bytes.now) }
-    ensures small { result < 2 ^ 50 }
-{
-    let (sum, rest) = add_eight(0, bytes);
-    let (sum, rest) = add_eight(sum, rest);
-    let (sum, rest) = add_eight(sum, rest);
-    let (sum, rest) = add_four(sum, rest);
-    match rest {
-        [] => sum,
-        [a] => sum + *a as u64,
-        [a, b] => sum + u16::from_le_bytes([*a, *b]) as u64,
-        [a, b, c, ..] => sum + u16::from_le_bytes([*a, *b]) as u64 + *c as u64,
-    }
 }
 
 /// Sums the words in memory order. An odd last byte is the low half of a word. The result is exact up to what the fold

@@ -5,9 +5,9 @@
 //! complement of that. An IPv4 header with its checksum in place has the folded sum 65,535.
 #![tactic(auto)]
 
-ghost use Rattle.std.specs.Prelude.{◌≡◌, ℕ, ◌+◌, ◌*◌, ◌^◌, ◌<◌, ◌++◌, if◌then◌else◌, false, List, []};
+ghost use Rattle.std.specs.Prelude.{◌≡◌, ℕ, ◌+◌, ◌*◌, ◌^◌, ◌<◌, ◌++◌, if◌then◌else◌, false, List, [], length};
 ghost use Rattle.flat_model.specs.Packets.Checksum.{checksum, fold16, folded_sum};
-ghost use Rattle.in_cksum.specs.Inside.{swapped_sum};
+ghost use Rattle.in_cksum.specs.Inside.{CountsAs, IsAdded, IsLeft, swapped_sum};
 ghost use Rattle.in_cksum.specs.Partial.{Partial, sum_of};
 
 use std::marker::Model;
@@ -16,7 +16,7 @@ mod chain;
 mod lanes;
 
 pub use chain::cksum_chain;
-use lanes::{BLOCK_LEN, PART_LEN, sum_part, sum_rest};
+use lanes::{BLOCK_LEN, PART_LEN, sum_part};
 use params::IP_HEADER;
 
 /// 65,536 counts as 1, so the result is a remainder modulo 65,535, in 1 to 65,535. It is 0 only for 0.
@@ -32,13 +32,65 @@ fn fold(sum: u64) -> u16
 }
 
 /// Returns the folded sum of the words of `bytes`, which may have any length. For no bytes it is 0.
-///
-/// The words are added in memory order, and their bytes are swapped once, at the end (RFC 1071 section 2, "Byte Order
-/// Independence").
 pub fn sum_slice(bytes: &[u8]) -> u16
     ensures { result ≡ folded_sum bytes.now }
 {
-    fold(sum_swapped(bytes)).swap_bytes()
+    let mut sum = Sum::new();
+    sum.add(bytes);
+    !sum.finish()
+}
+
+/// Adds the next 8 bytes, if that many are left, as two words of 32 bits. The high half of each counts 65,536 times,
+/// which the fold reduces to 1.
+#[inline(always)]
+fn add_eight(sum: u64, bytes: &[u8]) -> (u64, &[u8])
+    requires { sum < 2 ^ 40 }
+    ensures added { IsAdded sum bytes.now result.0 result.1.now }
+    ensures left { IsLeft 8 bytes.now result.1.now }
+    ensures small { result.0 < sum + 2 ^ 33 }
+{
+    match bytes {
+        [a, b, c, d, e, f, g, h, after @ ..] => {
+            let words = u64::from_le_bytes([*a, *b, *c, *d, *e, *f, *g, *h]);
+            (sum + (words & 0xffff_ffff) + (words >> 32), after)
+        }
+        _ => (sum, bytes),
+    }
+}
+
+#[inline(always)]
+fn add_four(sum: u64, bytes: &[u8]) -> (u64, &[u8])
+    requires { sum < 2 ^ 40 }
+    ensures added { IsAdded sum bytes.now result.0 result.1.now }
+    ensures left { IsLeft 4 bytes.now result.1.now }
+    ensures small { result.0 < sum + 2 ^ 33 }
+{
+    match bytes {
+        [a, b, c, d, after @ ..] => {
+            let word = u32::from_le_bytes([*a, *b, *c, *d]);
+            (sum + word as u64, after)
+        }
+        _ => (sum, bytes),
+    }
+}
+
+/// Sums the words of fewer bytes than one block. It has no loop: headers are so short that a loop costs more.
+#[inline(always)]
+fn sum_rest(bytes: &[u8]) -> u64
+    requires { length bytes.now < BLOCK_LEN }
+    ensures counts { CountsAs result (swapped_sum bytes.now) }
+    ensures small { result < 2 ^ 50 }
+{
+    let (sum, rest) = add_eight(0, bytes);
+    let (sum, rest) = add_eight(sum, rest);
+    let (sum, rest) = add_eight(sum, rest);
+    let (sum, rest) = add_four(sum, rest);
+    match rest {
+        [] => sum,
+        [a] => sum + *a as u64,
+        [a, b] => sum + u16::from_le_bytes([*a, *b]) as u64,
+        [a, b, c, ..] => sum + u16::from_le_bytes([*a, *b]) as u64 + *c as u64,
+    }
 }
 
 /// Sums the words in memory order, up to what the fold makes equal.
@@ -54,19 +106,6 @@ fn sum_long(bytes: &[u8]) -> u64
         rest = after;
     }
     total as u64 + sum_part(rest)
-}
-
-/// Does the same, without a call if there are fewer bytes than one block. Most headers are that short.
-#[inline(always)]
-fn sum_swapped(bytes: &[u8]) -> u64
-    ensures folded { fold16 result ≡ fold16 (swapped_sum bytes.now) }
-    ensures small { result < 2 ^ 51 }
-{
-    if bytes.len() < BLOCK_LEN {
-        sum_rest(bytes)
-    } else {
-        sum_long(bytes)
-    }
 }
 
 /// Returns the folded sum of the words of an IPv4 header without options: 65,535 if its checksum is right.
@@ -143,8 +182,13 @@ impl Sum {
     pub fn add(&mut self, bytes: &[u8])
         ensures { (before : List ℕ) → self.old ≡ sum_of before → self.new ≡ sum_of (before ++ bytes.now) }
     {
-        let sum = turned(sum_swapped(bytes), self.is_odd);
-        self.total = add_around(self.total, sum);
+        // most headers are shorter than one block, and take no call
+        let sum = if bytes.len() < BLOCK_LEN {
+            sum_rest(bytes)
+        } else {
+            sum_long(bytes)
+        };
+        self.total = add_around(self.total, turned(sum, self.is_odd));
         self.is_odd ^= bytes.len() % 2 == 1;
     }
 

@@ -24,3 +24,4 @@ mod Reading
 mod Told
 mod Filled
 mod FilledCluster
+mod Linked

@@ -1,8 +1,9 @@
 -- Laws for owners of trains, for callers, and what a train's own steps make of it.
-use Rattle.std.proofs.Common.{◌≡◌, ◌≢◌, ℕ, zero, suc, ◌+◌, ◌<◌, Bool, true, List, [], ◌∷◌, ◌++◌, length, map, Option, Some, None, get_or, slice_get, refl, sym, ap, ◌∙◌, subst, arith, inl, inr, length-append}
+use Rattle.std.proofs.Common.{◌≡◌, ◌≢◌, ℕ, zero, suc, ◌+◌, ◌<◌, Bool, true, false, not, List, [], ◌∷◌, ◌++◌, length, map, Option, Some, None, get_or, slice_get, refl, sym, ap, ◌∙◌, subst, arith, inl, inr, length-append}
 use Rattle.std.specs.List.{insert, remove}
 use Rattle.std.specs.Option.{IfSome}
 use Rattle.std.specs.Prelude.{◌==◌, if◌then◌else◌, unwrap_or}
+use Rattle.std.specs.Bool.{then_some}
 use Rattle.std.proofs.Math.Dec.{eqb-suc-zero}
 use Rattle.std.proofs.lemmas.Bool.{cases_eq}
 use Rattle.std.proofs.lemmas.List.{map-append, length-map, append-nil}
@@ -58,6 +59,17 @@ end_there (suc n) k h = rw (eqb-suc-zero n) refl
 
 pub no_end : (n k : ℕ) → n ≡ 0 → (if n == 0 then None else Some k) ≡ None
 no_end n k e = rw e refl
+
+then_or_none : (b : Bool) (k : ℕ) → then_some (not b) k ≡ (if b then None else Some k)
+then_or_none true k = refl
+then_or_none false k = refl
+
+-- the first chain's number, by the test that there is no chain
+pub first_is : (first r : Option ℕ) (len n k : ℕ) (b : Bool) → (if n == 0 then None else Some k) ≡ first → n ≡ len
+    → b ≡ (len == 0) → r ≡ then_some (not b) k → r ≡ first
+first_is first r len n k b view len_is none is =
+    is ∙ then_or_none b k ∙ ap (λ (v : Bool). if v then None else Some k) (none ∙ ap (λ (m : ℕ). m == 0) (sym len_is))
+    ∙ view
 
 run_head : (p : PoolView) (at : Option ℕ) (xs : List ℕ) (n k : ℕ) → IsRun p at xs → n ≡ length xs → k ≡ unwrap_or at 0
     → (if n == 0 then None else Some k) ≡ at

@@ -1,15 +1,14 @@
-//! The bytes of an mbuf: reading them in place, and writing them if no other mbuf shares them.
-ghost use Rattle.std.specs.Prelude.{◌≡◌, ◌≢◌, ℕ, ◌+◌, ◌-◌, ◌<◌, ◌≤◌, ◌^◌, true, length, take, drop};
+//! The data of an mbuf: where it is, reading it in place, and writing it if no other mbuf shares it.
+ghost use Rattle.std.specs.Prelude.{◌≡◌, ◌+◌, ◌-◌, ◌<◌, ◌≤◌, ◌^◌, length, take, drop};
 ghost use Rattle.params.specs.declared.TheConstants.{MCLBYTES};
-ghost use Rattle.mbuf_pool.specs.Store.{IsStore, is_out, mbuf_head, with_bytes, bytes_in, IsRoom};
+ghost use Rattle.mbuf_pool.specs.Store.{IsStore, mbuf_head, with_bytes, bytes_in, IsRoom};
 ghost use Rattle.mbuf_pool.specs.Cells.{over};
-ghost use Rattle.mbuf_chain.specs.Chain.{IsLive, IsPlace, IsUnshared, chain_of, entry_of, with_chain, room_start, room_end, entry_in, HasLeadingSpace, HasTrailingSpace};
-ghost use Rattle.mbuf_chain.specs.Steps.{with_entry, with_front, with_back, overwritten, with_entry_in};
-ghost use Rattle.mbuf_chain.specs.Inside.Cells.{IsPool, pool_of, buffer_of, place_bytes, head_room_low, room_high, WritesPlace};
+ghost use Rattle.mbuf_chain.specs.Chain.{IsLive, IsPlace, IsUnshared, chain_of, entry_in, HasLeadingSpace, HasTrailingSpace};
+ghost use Rattle.mbuf_chain.specs.Steps.{with_front, with_back, narrowed, overwritten, with_entry_in};
+ghost use Rattle.mbuf_chain.specs.Inside.Cells.{IsPool, IsOff, pool_of, buffer_of, head_room_low, room_high, with_segment, entry_from, WritesPlace};
 
-use crate::edit::resize;
 use crate::place::Place;
-use mbuf_pool::{Buffer, Part, Store};
+use mbuf_pool::{Buffer, Change, Part, Store};
 
 /// Returns the mbuf or cluster that contains an mbuf's bytes.
 #[inline(always)]
@@ -100,6 +99,56 @@ fn copy_in(
         len: count,
     };
     store.copy(read, written);
+}
+
+/// Adjusts a chain's packet length, if it has one, by the numbers of bytes added and removed.
+#[inline(always)]
+pub(crate) fn set_total(store: &mut Store, first: u32, added: u32, removed: u32)
+    requires off { IsOff store.old first added removed }
+    requires live { IsLive (pool_of store.old) first }
+    requires few { removed < 2 ^ 31 }
+    ensures pool { IsPool store.new }
+    ensures same { pool_of store.new ≡ pool_of store.old }
+{
+    let head = store.head(first);
+    if let Some(packet) = head.packet {
+        let len = packet.len + added - removed;
+        store.change_head(first, Change::PacketLen(len));
+    }
+}
+
+/// Makes the `len` bytes from offset `start` of its buffer the data of an mbuf.
+#[inline(always)]
+pub(crate) fn resize(store: &mut Store, first: u32, at: Place, start: u32, len: u32)
+    requires pool { IsPool store.old }
+    requires live { IsLive (pool_of store.old) first }
+    requires place { IsPlace (chain_of (pool_of store.old) first) at }
+    requires low { head_room_low (mbuf_head store.old at.cell) ≤ start }
+    requires high { start + len ≤ room_high (mbuf_head store.old at.cell) }
+    ensures pool { IsPool store.new }
+    ensures change { pool_of store.new ≡
+        with_entry_in (pool_of store.old) first at
+        (entry_from store.old at.cell (with_segment (mbuf_head store.old at.cell) start len)) }
+{
+    let head = store.head(at.cell);
+    store.change_head(at.cell, Change::Data { start, len });
+    set_total(store, first, len, head.len);
+}
+
+/// Keeps only `keep` bytes of an mbuf, after the first `skip`.
+#[inline(always)]
+pub(crate) fn narrow(store: &mut Store, first: u32, at: Place, skip: u32, keep: u32)
+    requires pool { IsPool store.old }
+    requires live { IsLive (pool_of store.old) first }
+    requires place { IsPlace (chain_of (pool_of store.old) first) at }
+    requires within { skip + keep ≤ length (entry_in (pool_of store.old) first at).bytes }
+    ensures pool { IsPool store.new }
+    ensures change { pool_of store.new ≡
+        with_entry_in (pool_of store.old) first at
+        (narrowed (entry_in (pool_of store.old) first at) skip keep) }
+{
+    let head = store.head(at.cell);
+    resize(store, first, at, head.start + skip, keep);
 }
 
 /// Appends bytes to those of an mbuf, into its trailing space.

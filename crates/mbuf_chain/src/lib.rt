@@ -4,9 +4,7 @@
 mod cells;
 mod chain;
 mod data;
-mod edit;
 mod links;
-mod make;
 mod mbuf_head;
 mod pieces;
 mod place;

@@ -1,14 +1,14 @@
 //! Freeing, joining and cutting chains.
-ghost use Rattle.std.specs.Prelude.{◌≡◌, ◌≢◌, ℕ, ◌+◌, ◌<◌, ◌≤◌, true, false, IsTrue, Some, None, length, take, MatchOption, is_some, if◌then◌else◌};
+ghost use Rattle.std.specs.Prelude.{◌≡◌, ◌≢◌, ℕ, ◌+◌, ◌<◌, ◌≤◌, true, IsTrue, Some, None, length, take, MatchOption, is_some, if◌then◌else◌};
 ghost use Rattle.mbuf_pool.specs.Store.{IsStore, is_out, mbuf_head};
-ghost use Rattle.mbuf_chain.specs.Chain.{IsLive, IsPlace, chain_of, with_chain, without, string, alone, entry_of, room_start, room_end, leading_space, trailing_space, Adds, entry_in, HasLeadingSpace, HasTrailingSpace};
-ghost use Rattle.mbuf_chain.specs.Steps.{headless, joined, first_part, second_part};
+ghost use Rattle.mbuf_chain.specs.Chain.{IsLive, IsPlace, chain_of, with_chain, without, string, room_start, room_end, leading_space, trailing_space, Adds, entry_in, HasLeadingSpace, HasTrailingSpace};
+ghost use Rattle.mbuf_chain.specs.Steps.{joined, first_part, second_part};
 ghost use Rattle.mbuf_chain.specs.Inside.Cells.{IsPool, LeadsToEnd, pool_of, cells_from, weigh, one, len_at, last_of, packet_len};
 
 use crate::cells::{bytes_from, count_from, free_from, free_mbuf};
-use crate::edit::set_total;
+use crate::data::set_total;
 use crate::place::{Place, Segment};
-use mbuf_pool::{PacketHeader, Store};
+use mbuf_pool::{Change, PacketHeader, Store};
 use params::{MBUF_HEADER, MSIZE, PACKET_START};
 
 /// Returns how many bytes a chain has.
@@ -43,42 +43,6 @@ pub(crate) fn has_header(store: &Store, first: u32) -> bool
     store.head(first).packet.is_some()
 }
 
-/// Returns the number of the chain after a chain in a train.
-pub(crate) fn after(store: &Store, first: u32) -> Option<u32>
-    requires pool { IsPool store.now }
-    requires live { IsLive (pool_of store.now) first }
-    ensures { result ≡ (chain_of (pool_of store.now) first).front.after }
-{
-    store.head(first).next_packet
-}
-
-/// Returns the tag of a chain in a train.
-pub(crate) fn tag(store: &Store, first: u32) -> u32
-    requires pool { IsPool store.now }
-    requires live { IsLive (pool_of store.now) first }
-    ensures { result ≡ (chain_of (pool_of store.now) first).front.tag }
-{
-    match store.head(first).packet {
-        Some(packet) => packet.arrival,
-        None => 0,
-    }
-}
-
-/// Returns the place of a chain's first mbuf.
-#[inline(always)]
-pub(crate) fn first(store: &Store, first: u32) -> Place
-    requires pool { IsPool store.now }
-    requires live { IsLive (pool_of store.now) first }
-    ensures place { IsPlace (chain_of (pool_of store.now) first) result }
-    ensures index { result.index ≡ 0 }
-{
-    store.laws();
-    Place {
-        index: 0,
-        cell: first,
-    }
-}
-
 /// Returns the place after another.
 pub(crate) fn next(store: &Store, first: u32, at: Place) -> Option<Place>
     requires pool { IsPool store.now }
@@ -104,7 +68,10 @@ pub(crate) fn last(store: &Store, start: u32) -> Place
     ensures place { IsPlace (chain_of (pool_of store.now) start) result }
     ensures index { result.index + 1 ≡ length (chain_of (pool_of store.now) start).entries }
 {
-    let mut at = first(store, start);
+    let mut at = Place {
+        index: 0,
+        cell: start,
+    };
     let mut after = next(store, start, at);
     'mbufs: while let Some(place) = after {
         at = place;
@@ -203,38 +170,6 @@ pub(crate) fn free_first(store: &mut Store, first: u32) -> u32
     free_mbuf(store, first).unwrap()
 }
 
-/// Removes the packet header from a chain, and with it the link and the tag that it has in a train.
-pub(crate) fn strip(store: &mut Store, first: u32)
-    requires pool { IsPool store.old }
-    requires live { IsLive (pool_of store.old) first }
-    ensures pool { IsPool store.new }
-    ensures change { pool_of store.new ≡
-        with_chain (pool_of store.old) first (headless (chain_of (pool_of store.old) first)) }
-{
-    store.drop_packet(first);
-    store.set_next_packet(first, None);
-}
-
-/// Links a chain without a packet header, of `added` bytes, after another.
-fn join(store: &mut Store, front: u32, last: Place, back: u32, added: u32)
-    requires pool { IsPool store.old }
-    requires front { IsLive (pool_of store.old) front }
-    requires back { IsLive (pool_of store.old) back }
-    requires apart { front ≢ back }
-    requires place { IsPlace (chain_of (pool_of store.old) front) last }
-    requires last { last.index + 1 ≡ length (chain_of (pool_of store.old) front).entries }
-    requires bare { (chain_of (pool_of store.old) back).front ≡ alone false }
-    requires bytes { (chain_of (pool_of store.old) front).front.header ≡ true →
-        added ≡ length (string (chain_of (pool_of store.old) back)) }
-    ensures pool { IsPool store.new }
-    ensures change { pool_of store.new ≡
-        with_chain (without (pool_of store.old) back) front
-        (joined (chain_of (pool_of store.old) front) (chain_of (pool_of store.old) back)) }
-{
-    store.set_next(last.cell, Some(back));
-    set_total(store, front, added, 0);
-}
-
 /// Returns how many bytes the packet length of a chain grows by when another chain is linked after it. This is 0
 /// without a packet header, because then no length is stored.
 pub(crate) fn added_by(store: &Store, front: u32, back: u32) -> u32
@@ -269,8 +204,10 @@ pub(crate) fn link(store: &mut Store, front: u32, last: Place, back: u32, added:
     ensures place { IsPlace (chain_of (pool_of store.new) front) result }
     ensures index { result.index ≡ last.index + 1 }
 {
-    strip(store, back);
-    join(store, front, last, back, added);
+    store.change_head(back, Change::NoPacket);
+    store.change_head(back, Change::NextPacket(None));
+    store.change_head(last.cell, Change::Next(Some(back)));
+    set_total(store, front, added, 0);
     Place {
         index: last.index + 1,
         cell: back,
@@ -324,7 +261,7 @@ pub(crate) fn cut(store: &mut Store, first: u32, keep: u32) -> u32
     let (last, kept) = end_of(store, first, keep);
     let head = store.head(last);
     let rest = head.next.unwrap();
-    store.set_next(last, None);
+    store.change_head(last, Change::Next(None));
     set_total(store, first, kept, whole);
     rest
 }

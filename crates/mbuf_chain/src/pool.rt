@@ -1,22 +1,26 @@
 //! The pool.
-ghost use Rattle.std.specs.Prelude.{◌≡◌, ◌≢◌, ℕ, ◌+◌, ◌-◌, ◌<◌, ◌≤◌, ◌⊎◌, true, None, Some, Bool, length, sum, fold, max, IfOk, OnOk, OnErr, IsSome, IfSome, MatchOption, if◌then◌else◌, take, drop};
+ghost use Rattle.std.specs.Prelude.{◌≡◌, ◌≢◌, ℕ, ◌+◌, ◌-◌, ◌<◌, ◌≤◌, ◌⊎◌, true, None, Some, length, sum, fold, max, IfOk, OnOk, OnErr, IsSome, IfSome, MatchOption, if◌then◌else◌, take, drop};
 ghost use Rattle.std.specs.FinMap as finmap;
 ghost use Rattle.params.specs.declared.TheConstants.{MBUF_HEADER, MCLBYTES, MSIZE};
 ghost use Rattle.mbuf_pool.specs.Store.{mbufs_out, cluster_count};
-ghost use Rattle.mbuf_chain.specs.Chain.{IsLive, IsPlace, chain_of, with_chain, without, held_mbufs, references, reference_counts, free_clusters, string, layout, entry_of, Adds, IsUnshared, room_start, room_end, leading_space, trailing_space, entry_in, HasLeadingSpace, HasTrailingSpace};
+ghost use Rattle.mbuf_chain.specs.Chain.{IsLive, IsPlace, chain_of, with_chain, without, held_mbufs, references, reference_counts, free_clusters, string, layout, Adds, IsUnshared, room_start, room_end, leading_space, trailing_space, entry_in, HasLeadingSpace, HasTrailingSpace};
 ghost use Rattle.mbuf_chain.specs.Heads.{heads};
 ghost use Rattle.mbuf_chain.specs.Pieces.{chain_pieces};
-ghost use Rattle.mbuf_chain.specs.Steps.{one_mbuf, empty_entry, narrowed, with_entry, with_front, with_back, overwritten, headless, joined, placed, first_part, second_part, with_entry_in};
+ghost use Rattle.mbuf_chain.specs.Steps.{one_mbuf, empty_entry, narrowed, with_front, with_back, overwritten, joined, placed, first_part, second_part, with_entry_in};
 ghost use Rattle.mbuf_chain.specs.Frames.{IsBounded};
+ghost use Rattle.mbuf_chain.specs.Inside.Cells.{only_head};
 
 use crate::chain::Chain;
 use crate::pieces::{Entries, MbufHeads, Pieces};
 use crate::place::{Place, Segment};
 use crate::usage::Usage;
-use crate::{data, edit, links, make, pieces};
-use mbuf_pool::{NoBufs, Store};
+use crate::{data, links, pieces};
+use mbuf_pool::{Change, Head, NoBufs, PacketHeader, Store};
 use params::PACKET_START;
 use std::marker::Model;
+
+/// The type of each mbuf of a chain. No code reads it.
+const KIND: u16 = 1;
 
 /// A pool of chains of mbufs, over a store that it hides.
 ///
@@ -129,10 +133,7 @@ impl Pool {
         ensures err { OnErr result (held_mbufs self.old ≡ self.old.mbufs) }
         ensures same { OnErr result (self.new ≡ self.old) }
     {
-        match make::plain(&mut self.store, header, start) {
-            Ok(first) => Ok(Chain { first }),
-            Err(refusal) => Err(refusal),
-        }
+        self.new_plain_with(header, start, &[])
     }
 
     /// Makes a chain of one mbuf that contains the given bytes, with or without a packet header. They begin at `start`,
@@ -154,8 +155,16 @@ impl Pool {
         ensures err { OnErr result (held_mbufs self.old ≡ self.old.mbufs) }
         ensures same { OnErr result (self.new ≡ self.old) }
     {
-        match make::plain_with(&mut self.store, header, start, bytes) {
-            Ok(first) => Ok(Chain { first }),
+        let head = head_for(header, start, bytes.len() as u32, None);
+        match self.store.get_with(head) {
+            Ok(first) => {
+                let at = Place {
+                    index: 0,
+                    cell: first,
+                };
+                data::write_in(&mut self.store, first, at, None, start, bytes);
+                Ok(Chain { first })
+            }
             Err(refusal) => Err(refusal),
         }
     }
@@ -246,7 +255,11 @@ impl Pool {
         ensures place { IsPlace (chain_of self.now chain.now) result }
         ensures index { result.index ≡ 0 }
     {
-        links::first(&self.store, chain.first)
+        self.store.laws();
+        Place {
+            index: 0,
+            cell: chain.first,
+        }
     }
 
     /// Returns the place after another, or `None` after the last.
@@ -297,7 +310,7 @@ impl Pool {
         ensures { self.new ≡ with_entry_in self.old chain.now at
             (narrowed (entry_in self.old chain.now at) skip keep) }
     {
-        edit::narrow(&mut self.store, chain.first, at, skip, keep);
+        data::narrow(&mut self.store, chain.first, at, skip, keep);
     }
 
     /// Returns the number of free bytes before an mbuf's data. It is 0 if the data is in a cluster.
@@ -407,14 +420,6 @@ impl Pool {
         );
     }
 
-    /// Removes the packet header from a chain. Its bytes stay where they are.
-    pub fn lose_header(&mut self, chain: &Chain)
-        requires { IsLive self.old chain.now }
-        ensures { self.new ≡ with_chain self.old chain.now (headless (chain_of self.old chain.now)) }
-    {
-        links::strip(&mut self.store, chain.first);
-    }
-
     /// Makes a chain of one mbuf that shares the cluster of another mbuf, with `keep` of its bytes, after the first
     /// `skip`. The other mbuf must have a cluster and that many bytes. The cluster gets one more reference. Returns
     /// `NoBufs` exactly if no mbuf is free; nothing changes then.
@@ -436,8 +441,14 @@ impl Pool {
         ensures err { OnErr result (held_mbufs self.old ≡ self.old.mbufs) }
         ensures same { OnErr result (self.new ≡ self.old) }
     {
-        match make::shared(&mut self.store, header, chain.first, at, skip, keep) {
-            Ok(first) => Ok(Chain { first }),
+        let head = self.store.head(at.cell);
+        let cluster = head.cluster.unwrap();
+        let shared = head_for(header, head.start + skip, keep, Some(cluster));
+        match self.store.get_with(shared) {
+            Ok(first) => {
+                self.store.hold(cluster);
+                Ok(Chain { first })
+            }
             Err(refusal) => Err(refusal),
         }
     }
@@ -455,10 +466,7 @@ impl Pool {
             (free_clusters self.old ≡ 0)) }
         ensures same { OnErr result (self.new ≡ self.old) }
     {
-        match make::clustered(&mut self.store, header, start) {
-            Ok(first) => Ok(Chain { first }),
-            Err(refusal) => Err(refusal),
-        }
+        self.new_cluster_with(header, start, &[])
     }
 
     /// Makes a chain of one mbuf on a cluster of its own that contains the given bytes, from offset `start` to 2048 at
@@ -482,8 +490,24 @@ impl Pool {
             (free_clusters self.old ≡ 0)) }
         ensures same { OnErr result (self.new ≡ self.old) }
     {
-        match make::clustered_with(&mut self.store, header, start, bytes) {
-            Ok(first) => Ok(Chain { first }),
+        match self.store.get_cluster() {
+            Ok(cluster) => {
+                let head = head_for(header, start, bytes.len() as u32, Some(cluster));
+                match self.store.get_with(head) {
+                    Ok(first) => {
+                        let at = Place {
+                            index: 0,
+                            cell: first,
+                        };
+                        data::write_in(&mut self.store, first, at, Some(cluster), start, bytes);
+                        Ok(Chain { first })
+                    }
+                    Err(refusal) => {
+                        self.store.release(cluster);
+                        Err(refusal)
+                    }
+                }
+            }
             Err(refusal) => Err(refusal),
         }
     }
@@ -543,42 +567,67 @@ impl Pool {
     }
 
     /// Returns the number of the chain after a chain in a train.
-    pub(crate) fn after(&self, chain: &Chain) -> Option<u32>
-        requires { IsLive self.now chain.now }
-        ensures { result ≡ (chain_of self.now chain.now).front.after }
+    pub(crate) fn after(&self, number: u32) -> Option<u32>
+        requires { IsLive self.now number }
+        ensures { result ≡ (chain_of self.now number).front.after }
     {
-        links::after(&self.store, chain.first)
+        self.store.head(number).next_packet
     }
 
     /// Returns the tag of a chain in a train.
-    pub(crate) fn tag(&self, chain: &Chain) -> u32
-        requires { IsLive self.now chain.now }
-        ensures { result ≡ (chain_of self.now chain.now).front.tag }
+    pub(crate) fn tag(&self, number: u32) -> u32
+        requires { IsLive self.now number }
+        ensures { result ≡ (chain_of self.now number).front.tag }
     {
-        links::tag(&self.store, chain.first)
+        match self.store.head(number).packet {
+            Some(packet) => packet.arrival,
+            None => 0,
+        }
     }
 
     /// Links a chain before another in a train. Its tag stays.
-    pub(crate) fn relink(&mut self, chain: &Chain, after: Option<u32>)
-        requires live { IsLive self.old chain.now }
-        requires headed { (chain_of self.old chain.now).front.header ≡ true }
-        requires link { IfSome after (IsLive self.old) }
-        ensures placed { self.new ≡ with_chain self.old chain.now
-            (placed (chain_of self.old chain.now) after (chain_of self.old chain.now).front.tag) }
+    pub(crate) fn relink(&mut self, number: u32, next: Option<u32>)
+        requires live { IsLive self.old number }
+        requires headed { (chain_of self.old number).front.header ≡ true }
+        requires link { IfSome next (IsLive self.old) }
+        ensures placed { self.new ≡ with_chain self.old number
+            (placed (chain_of self.old number) next (chain_of self.old number).front.tag) }
         ensures bounds { IsBounded self.new }
     {
-        edit::relink(&mut self.store, chain.first, after);
+        self.store.change_head(number, Change::NextPacket(next));
     }
 
     /// Links a chain before another in a train, and sets its tag.
-    pub(crate) fn set_after(&mut self, chain: &Chain, after: Option<u32>, tag: u32)
-        requires live { IsLive self.old chain.now }
-        requires headed { (chain_of self.old chain.now).front.header ≡ true }
+    pub(crate) fn set_after(&mut self, number: u32, after: Option<u32>, tag: u32)
+        requires live { IsLive self.old number }
+        requires headed { (chain_of self.old number).front.header ≡ true }
         requires link { IfSome after (IsLive self.old) }
         ensures placed { self.new ≡
-            with_chain self.old chain.now (placed (chain_of self.old chain.now) after tag) }
+            with_chain self.old number (placed (chain_of self.old number) after tag) }
         ensures bounds { IsBounded self.new }
     {
-        edit::set_after(&mut self.store, chain.first, after, tag);
+        self.store.change_head(number, Change::NextPacket(after));
+        self.store.change_head(number, Change::Arrival(tag));
+    }
+}
+
+/// Builds the head of the only mbuf of a chain.
+#[inline(always)]
+fn head_for(header: bool, start: u32, len: u32, cluster: Option<u32>) -> Head
+    ensures { result ≡ only_head header start len cluster }
+{
+    let packet = if header {
+        Some(PacketHeader { len, arrival: 0 })
+    } else {
+        None
+    };
+    Head {
+        next: None,
+        next_packet: None,
+        len,
+        start,
+        kind: KIND,
+        packet,
+        cluster,
     }
 }

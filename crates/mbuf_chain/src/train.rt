@@ -1,10 +1,8 @@
 //! Trains of chains.
 
-ghost use Rattle.std.specs.Prelude.{◌≡◌, ◌==◌, ◌+◌, ◌<◌, ◌≤◌, [], ◌∷◌, true, Some, None, IfSome, MatchOption, length, insert, remove, slice_get};
-ghost use Rattle.mbuf_chain.specs.Chain.{IsLive, chain_of, with_chain, flat_bytes, alone};
+ghost use Rattle.std.specs.Prelude.{◌≡◌, ◌==◌, ◌+◌, ◌<◌, ◌≤◌, [], ◌∷◌, true, Some, None, MatchOption, length, insert, remove, slice_get};
+ghost use Rattle.mbuf_chain.specs.Chain.{IsLive, chain_of, flat_bytes, alone};
 ghost use Rattle.mbuf_chain.specs.Owners.{times_among, Moves};
-ghost use Rattle.mbuf_chain.specs.Steps.{placed};
-ghost use Rattle.mbuf_chain.specs.Frames.{IsBounded};
 ghost use Rattle.mbuf_chain.specs.Heads.{heads, nth_heads};
 ghost use Rattle.mbuf_chain.specs.Pieces.{pieces_of};
 ghost use Rattle.mbuf_chain.specs.Train.{queued_packets, queued_packet_at, numbers, IsQueuedPlace, IsHeld, Inserts, Takes};
@@ -207,7 +205,7 @@ impl Train {
         if self.len == at.index + 1 {
             return None;
         }
-        match after(pool, at.number) {
+        match pool.after(at.number) {
             Some(number) => Some(QueuedPlace {
                 index: at.index + 1,
                 number,
@@ -222,7 +220,7 @@ impl Train {
         requires place { IsQueuedPlace pool.now self.now at }
         ensures { result ≡ (queued_packet_at pool.now self.now at.index).tag }
     {
-        tag_of(pool, at.number)
+        pool.tag(at.number)
     }
 
     /// Returns how many bytes the chain at a place of a walk has.
@@ -249,7 +247,7 @@ impl Train {
         requires held { IsHeld pool.now self.now }
         ensures { result ≡ (queued_packet_at pool.now self.now i).tag }
     {
-        tag_of(pool, self.number(pool, i))
+        pool.tag(self.number(pool, i))
     }
 
     /// Returns how many bytes the chain at index `i` has. The index must be below the number of chains.
@@ -310,8 +308,8 @@ impl Train {
         ensures { Inserts pool.old self.old 0 number tag pool.new self.new }
     {
         let is_only = self.is_empty();
-        let first = self.first_number();
-        place(pool, number, first, tag);
+        let first = (!is_only).then_some(self.first);
+        pool.set_after(number, first, tag);
         self.first = number;
         if is_only {
             self.last = number;
@@ -335,9 +333,9 @@ impl Train {
         ensures change { Inserts pool.old self.old (before.index + 1) number tag pool.new self.new }
         ensures place { result ≡ record { index = before.index + 1; number = number } }
     {
-        let after = after(pool, before.number);
-        place(pool, number, after, tag);
-        relink(pool, before.number, Some(number));
+        let after = pool.after(before.number);
+        pool.set_after(number, after, tag);
+        pool.relink(before.number, Some(number));
         if self.len == before.index + 1 {
             self.last = number;
         }
@@ -355,9 +353,9 @@ impl Train {
         ensures { Takes pool.old self.old 0 result.0 result.1 pool.new self.new }
     {
         let number = self.first;
-        let after = after(pool, number);
-        let tag = tag_of(pool, number);
-        place(pool, number, None, 0);
+        let after = pool.after(number);
+        let tag = pool.tag(number);
+        pool.set_after(number, None, 0);
         self.first = after.unwrap_or(0);
         self.len -= 1;
         (number, tag)
@@ -370,14 +368,14 @@ impl Train {
         requires held { IsHeld pool.old self.old }
         ensures { Takes pool.old self.old (before.index + 1) result.0 result.1 pool.new self.new }
     {
-        let Some(number) = after(pool, before.number) else {
+        let Some(number) = pool.after(before.number) else {
             unreachable!()
         };
-        let rest = after(pool, number);
-        let tag = tag_of(pool, number);
-        let kept = tag_of(pool, before.number);
-        place(pool, before.number, rest, kept);
-        place(pool, number, None, 0);
+        let rest = pool.after(number);
+        let tag = pool.tag(number);
+        let kept = pool.tag(before.number);
+        pool.set_after(before.number, rest, kept);
+        pool.set_after(number, None, 0);
         if self.len == before.index + 2 {
             self.last = before.number;
         }
@@ -397,36 +395,13 @@ impl Train {
         }
         let mut at = self.first;
         'chains: for _passed in 0..i {
-            let Some(next) = after(pool, at) else {
+            let Some(next) = pool.after(at) else {
                 unreachable!()
             };
             at = next;
         }
         at
     }
-
-    /// Returns the number of the first chain, if there is one.
-    #[inline(always)]
-    fn first_number(&self) -> Option<u32>
-        ensures { result ≡ self.now.first }
-    {
-        if self.len == 0 {
-            None
-        } else {
-            Some(self.first)
-        }
-    }
-}
-
-/// Returns the number of the chain after one.
-fn after(pool: &Pool, number: u32) -> Option<u32>
-    requires { IsLive pool.now number }
-    ensures { result ≡ (chain_of pool.now number).front.after }
-{
-    let chain = Chain::from_number(number);
-    let after = pool.after(&chain);
-    let _ = chain.into_number();
-    after
 }
 
 /// Returns how many bytes a chain has.
@@ -460,43 +435,4 @@ fn heads_of(pool: &Pool, number: u32) -> MbufHeads<'_>
     let heads = pool.heads(&chain);
     let _ = chain.into_number();
     heads
-}
-
-/// Returns the tag of a chain.
-fn tag_of(pool: &Pool, number: u32) -> u32
-    requires { IsLive pool.now number }
-    ensures { result ≡ (chain_of pool.now number).front.tag }
-{
-    let chain = Chain::from_number(number);
-    let tag = pool.tag(&chain);
-    let _ = chain.into_number();
-    tag
-}
-
-/// Links a chain before another. Its tag stays.
-fn relink(pool: &mut Pool, number: u32, after: Option<u32>)
-    requires live { IsLive pool.old number }
-    requires headed { (chain_of pool.old number).front.header ≡ true }
-    requires link { IfSome after (IsLive pool.old) }
-    ensures placed { pool.new ≡ with_chain pool.old number
-        (placed (chain_of pool.old number) after (chain_of pool.old number).front.tag) }
-    ensures bounds { IsBounded pool.new }
-{
-    let chain = Chain::from_number(number);
-    pool.relink(&chain, after);
-    let _ = chain.into_number();
-}
-
-/// Links a chain before another, and sets its tag.
-fn place(pool: &mut Pool, number: u32, after: Option<u32>, tag: u32)
-    requires live { IsLive pool.old number }
-    requires headed { (chain_of pool.old number).front.header ≡ true }
-    requires link { IfSome after (IsLive pool.old) }
-    ensures placed { pool.new ≡
-        with_chain pool.old number (placed (chain_of pool.old number) after tag) }
-    ensures bounds { IsBounded pool.new }
-{
-    let chain = Chain::from_number(number);
-    pool.set_after(&chain, after, tag);
-    let _ = chain.into_number();
 }

@@ -13,6 +13,6 @@ mod store;
 
 pub use counts::Counts;
 pub use fault::{BootFault, NoBufs};
-pub use raw_cells::{Buffer, Head, PacketHeader, Part};
+pub use raw_cells::{Buffer, Change, Head, PacketHeader, Part};
 pub use sizes::Sizes;
 pub use store::Store;

@@ -1,7 +1,7 @@
 //! The store.
-ghost use Rattle.std.specs.Prelude.{◌≡◌, ◌+◌, ◌<◌, ◌≤◌, ◌↔◌, IsTrue, IsSome, None, length, sum, fold, max, IfOk, OnErr, Err};
+ghost use Rattle.std.specs.Prelude.{◌≡◌, ◌+◌, ◌<◌, ◌≤◌, ◌↔◌, IsTrue, None, length, sum, fold, max, IfOk, OnErr, Err};
 ghost use Rattle.std.specs.Borrow.{sem};
-ghost use Rattle.raw_cells.specs.Cells.{IsHead, IsLink, with_arrival, with_packet_len};
+ghost use Rattle.raw_cells.specs.Cells.{IsChange, IsHead, changed};
 ghost use Rattle.mbuf_pool.specs.Store.{is_out, mbuf_head, cluster_count, counts_of, cluster_of, free_mbufs, mbufs_out, free_clusters, with_mbuf, with_cluster, held_once_more, released, free_store, TakesMbuf, TakesWith, TakesCluster, SetsHead, IsPart, stored_part, write, IsStore, IsBad};
 ghost use Rattle.mbuf_pool.specs.Inside.AllOut.{IsAllOut};
 
@@ -10,7 +10,7 @@ use crate::fault::{BootFault, NoBufs};
 use crate::link::{First, next_cluster, set_next_cluster};
 use crate::sizes::Sizes;
 use params::{MAX_CLUSTERS, MAX_MBUFS};
-use raw_cells::{Head, Part, Region};
+use raw_cells::{Change, Head, Part, Region};
 use std::alloc::{AllocError, Global};
 use std::marker::Model;
 
@@ -141,7 +141,8 @@ impl Store {
         ensures change { self.new ≡ with_mbuf self.old index None }
         ensures store { IsStore self.new }
     {
-        self.region.set_next(index, self.first_mbuf.get());
+        self.region
+            .change_head(index, Change::Next(self.first_mbuf.get()));
         self.first_mbuf = First::new(Some(index));
         self.free_mbufs += 1;
     }
@@ -278,72 +279,17 @@ impl Store {
         self.region.set_head(index, head);
     }
 
-    /// Sets the `next` link of an mbuf, which must be in use. The rest of its head stays as it is. A link must be below
-    /// 0xffff_ffff.
-    pub fn set_next(&mut self, index: u32, next: Option<u32>)
-        requires out { IsTrue (is_out self.old index) }
-        requires link { IsLink next }
-        ensures change { SetsHead self.old self.new index (record (mbuf_head self.old index) { next = next }) }
-        ensures store { IsStore self.new }
-    {
-        self.region.set_next(index, next);
-    }
-
-    /// Sets the link to the next packet of an mbuf, which must be in use. The rest of its head stays as it is. A link
-    /// must be below 0xffff_ffff.
-    pub fn set_next_packet(&mut self, index: u32, next_packet: Option<u32>)
-        requires out { IsTrue (is_out self.old index) }
-        requires link { IsLink next_packet }
-        ensures change { SetsHead self.old self.new index
-            (record (mbuf_head self.old index) { next_packet = next_packet }) }
-        ensures store { IsStore self.new }
-    {
-        self.region.set_next_packet(index, next_packet);
-    }
-
-    /// Makes the `len` bytes from offset `start` the data of an mbuf, which must be in use. The rest of its head stays
-    /// as it is.
+    /// Changes some fields of the head of an mbuf, which must be in use. The rest of its head stays as it is.
+    /// [`Change`] gives the conditions of each change.
+    // Inlined, so that a caller that knows the change takes only its store.
     #[inline(always)]
-    pub fn set_data(&mut self, index: u32, start: u32, len: u32)
-        requires { IsTrue (is_out self.old index) }
-        ensures change { SetsHead self.old self.new index
-            (record (mbuf_head self.old index) { len = len; start = start }) }
-        ensures store { IsStore self.new }
-    {
-        self.region.set_data(index, start, len);
-    }
-
-    /// Sets the packet length of an mbuf, which must be in use and have a packet header. The rest of its head stays as
-    /// it is.
-    #[inline(always)]
-    pub fn set_packet_len(&mut self, index: u32, len: u32)
+    pub fn change_head(&mut self, index: u32, change: Change)
         requires out { IsTrue (is_out self.old index) }
-        requires packet { IsSome (mbuf_head self.old index).packet }
-        ensures change { SetsHead self.old self.new index (with_packet_len (mbuf_head self.old index) len) }
+        requires possible { IsChange (mbuf_head self.old index) change }
+        ensures change { SetsHead self.old self.new index (changed (mbuf_head self.old index) change) }
         ensures store { IsStore self.new }
     {
-        self.region.set_packet_len(index, len);
-    }
-
-    /// Sets the number stored with the packet of an mbuf, which must be in use and have a packet header. The rest of
-    /// its head stays as it is.
-    pub fn set_arrival(&mut self, index: u32, arrival: u32)
-        requires out { IsTrue (is_out self.old index) }
-        requires packet { IsSome (mbuf_head self.old index).packet }
-        ensures change { SetsHead self.old self.new index (with_arrival (mbuf_head self.old index) arrival) }
-        ensures store { IsStore self.new }
-    {
-        self.region.set_arrival(index, arrival);
-    }
-
-    /// Removes the packet header from an mbuf, which must be in use. The rest of its head stays as it is. The bytes of
-    /// the packet header become part of the data area, with their contents unchanged.
-    pub fn drop_packet(&mut self, index: u32)
-        requires { IsTrue (is_out self.old index) }
-        ensures change { SetsHead self.old self.new index (record (mbuf_head self.old index) { packet = None }) }
-        ensures store { IsStore self.new }
-    {
-        self.region.drop_packet(index);
+        self.region.change_head(index, change);
     }
 
     /// Returns the bytes of a part, without copying. The part must lie in a cluster whose count is above 0, or after

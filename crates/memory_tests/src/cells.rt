@@ -3,7 +3,7 @@ ghost use Rattle.std.specs.Prelude.{◌≡◌, ◌+◌, ◌<◌, ◌≤◌};
 ghost use Rattle.raw_cells.specs.Cells.{IsHead, IsCellPart, zero_cells};
 
 use params::{MAX_CLUSTERS, MAX_MBUFS};
-use raw_cells::{Buffer, Head, PacketHeader, Part, Region};
+use raw_cells::{Buffer, Change, Head, PacketHeader, Part, Region};
 use std::alloc::Global;
 use std::process::Abort;
 
@@ -235,14 +235,18 @@ const ALONE: Head = Head {
 fn a_field_is_stored_alone(rt: HostRuntime) {
     let mut region = made(&rt, rt.alloc(), 3, 1);
     region.set_head(1, SHARED);
-    region.set_next(1, Some(0xffff_fffe));
+    region.change_head(1, Change::Next(Some(0xffff_fffe)));
     let linked = region.head(1);
-    region.set_next_packet(1, Some(2));
+    region.change_head(1, Change::NextPacket(Some(2)));
     let queued = region.head(1);
-    region.set_data(1, 2000, 48);
+    let data = Change::Data {
+        start: 2000,
+        len: 48,
+    };
+    region.change_head(1, data);
     let moved = region.head(1);
-    region.set_next(1, None);
-    region.set_next_packet(1, None);
+    region.change_head(1, Change::Next(None));
+    region.change_head(1, Change::NextPacket(None));
     assert!(rt; [linked, queued, moved, region.head(1)] == [LINKED, QUEUED, MOVED, ALONE]);
     assert!(rt; region.head(0) == ZEROS && region.head(2) == ZEROS);
 }
@@ -251,8 +255,8 @@ fn a_field_is_stored_alone(rt: HostRuntime) {
 fn a_packet_header_is_changed(rt: HostRuntime) {
     let mut region = made(&rt, rt.alloc(), 3, 1);
     region.set_head(1, PACKET);
-    region.set_packet_len(1, 65_535);
-    region.set_arrival(1, 0xffff_ffff);
+    region.change_head(1, Change::PacketLen(65_535));
+    region.change_head(1, Change::Arrival(0xffff_ffff));
     let changed = Head {
         packet: Some(PacketHeader {
             len: 65_535,
@@ -268,10 +272,10 @@ fn a_packet_header_is_changed(rt: HostRuntime) {
 fn a_packet_header_is_dropped(rt: HostRuntime) {
     let mut region = made(&rt, rt.alloc(), 3, 1);
     region.set_head(1, PACKET);
-    region.set_packet_len(1, 65_535);
-    region.set_arrival(1, 0xffff_ffff);
+    region.change_head(1, Change::PacketLen(65_535));
+    region.change_head(1, Change::Arrival(0xffff_ffff));
     region.bytes_mut(part(Buffer::Mbuf(1), 28, 100)).fill(2);
-    region.drop_packet(1);
+    region.change_head(1, Change::NoPacket);
     let room = region.bytes(part(Buffer::Mbuf(1), 20, 9));
     assert!(rt; room == [0xff, 0xff, 0, 0, 0xff, 0xff, 0xff, 0xff, 2].as_slice());
     assert!(rt; [region.head(0), region.head(1), region.head(2)] == [ZEROS, PLAIN, ZEROS]);

@@ -2,7 +2,7 @@
 ghost use Rattle.std.specs.Prelude.{◌≡◌, ◌≤◌, length};
 ghost use Rattle.mbuf_pool.specs.Store.{free_mbufs, free_clusters, free_store, TakesMbuf, TakesCluster};
 
-use mbuf_pool::{BootFault, Buffer, Head, NoBufs, PacketHeader, Part, Sizes, Store};
+use mbuf_pool::{BootFault, Buffer, Change, Head, NoBufs, PacketHeader, Part, Sizes, Store};
 use std::alloc::Global;
 use std::process::Abort;
 
@@ -130,13 +130,13 @@ fn fields_of_a_head(rt: HostRuntime) {
     let mut store = booted(&rt, rt.alloc(), 2, 1);
     let index = store.get_with(GIVEN).expect(&rt, "an mbuf");
     let given = store.head(index);
-    store.set_next(index, Some(1));
-    store.set_next_packet(index, Some(0));
-    store.set_data(index, 40, 60);
-    store.set_packet_len(index, 60);
-    store.set_arrival(index, 16_383);
+    store.change_head(index, Change::Next(Some(1)));
+    store.change_head(index, Change::NextPacket(Some(0)));
+    store.change_head(index, Change::Data { start: 40, len: 60 });
+    store.change_head(index, Change::PacketLen(60));
+    store.change_head(index, Change::Arrival(16_383));
     let changed = store.head(index);
-    store.drop_packet(index);
+    store.change_head(index, Change::NoPacket);
     let without = Head {
         packet: None,
         ..CHANGED

@@ -4,8 +4,9 @@ use Rattle.std.specs.Prelude.{IsSome}
 use Rattle.std.proofs.lemmas.List.{get_or-take}
 use Rattle.std.proofs.lemmas.Bool.{eq-eqb, false≢true}
 use Rattle.raw_cells.specs.Over.{over}
-use Rattle.raw_cells.specs.Cells.{Cells, SetsCellHead, IsSized, zero_head, cell_head, head_size, with_arrival, with_head, with_packet_len}
+use Rattle.raw_cells.specs.Cells.{Cells, SetsCellHead, IsSized, zero_head, cell_head, changed, head_size, with_arrival, with_head, with_packet_len}
 use Rattle.raw_cells.specs.Inside.Layout.{little_u16_at, little_u32_at, link_of, head_by, cell_head_in, cells_of, IsRegion}
+use Rattle.raw_cells.specs.declared.head.Change.{Change}
 use Rattle.raw_cells.specs.declared.head.Head.{Head}
 use Rattle.raw_cells.specs.declared.head.PacketHeader.{PacketHeader}
 use Rattle.raw_cells.specs.declared.region.Region.TheInside.{Inside}
@@ -288,6 +289,11 @@ low_field h n few = omega (arith, least_size h)
 pub packet_field : (h : Head) (f : PacketHeader → PacketHeader) (n : ℕ) → n ≤ 28 → IsSome h.packet
     → n ≤ head_size (record h { packet = option_map f h.packet })
 packet_field h f n few has = omega (arith, sized_packet h f has)
+
+-- the same change by another name
+pub sets_changed : (v t : Cells) (i : ℕ) (d e : Change) → d ≡ e → SetsCellHead v t i (changed (cell_head v i) e)
+    → SetsCellHead v t i (changed (cell_head v i) d)
+sets_changed v t i d e is sets = subst (λ (x : Change). SetsCellHead v t i (changed (cell_head v i) x)) (sym is) sets
 
 module _ (r : Inside) (is : IsRegion r) (v : Cells) (e : cells_of r ≡ v) (i : ℕ) (lt : i < length v.heads) where
   there : i < r.mbufs

@@ -1,8 +1,10 @@
 -- What contracts see of a region (this project's own layout; the sizes are those of a 32-bit 4.4BSD, TCP/IP
 -- Illustrated, volume 2, section 2.2).
-use Rattle.std.specs.Prelude.{◌≡◌, ℕ, ◌+◌, ◌*◌, ◌<◌, ◌≤◌, if◌then◌else◌, is_some, Some, None, Option, option_map, List, length, take, drop, replicate, slice_index_or, slice_set}
+use Rattle.std.specs.Prelude.{◌≡◌, ℕ, ◌+◌, ◌*◌, ◌<◌, ◌≤◌, if◌then◌else◌, is_some, IsSome, Some, None, Option, option_map, List, length, take, drop, replicate, slice_index_or, slice_set}
 use Rattle.params.specs.declared.TheConstants.{MAX_CLUSTERS, MAX_MBUFS, MBUF_HEADER, MCLBYTES, MSIZE, PACKET_START}
 use Rattle.raw_cells.specs.Over.{over}
+use Rattle.raw_cells.specs.declared.head.Change.{Change}
+use Rattle.raw_cells.specs.declared.head.Change.TheVariants.{Next, NextPacket, Data, PacketLen, Arrival, NoPacket}
 use Rattle.raw_cells.specs.declared.head.Head.{Head}
 use Rattle.raw_cells.specs.declared.head.PacketHeader.{PacketHeader}
 use Rattle.raw_cells.specs.declared.part.Part.{Part}
@@ -83,9 +85,27 @@ with_head c i h b = record { heads = slice_set c.heads i h; bytes = over c.bytes
 abbrev pub SetsCellHead : Cells → Cells → ℕ → Head → Type 0
 SetsCellHead old new i h = (b : List ℕ) × (length b ≡ head_size h) × (new ≡ with_head old i h b)
 
--- ---- one field of a head
+-- ---- changes to a head
 abbrev pub with_packet_len : Head → ℕ → Head
 with_packet_len h n = record h { packet = option_map {T = PacketHeader} (λ p. record p { len = n }) h.packet }
 
 abbrev pub with_arrival : Head → ℕ → Head
 with_arrival h n = record h { packet = option_map {T = PacketHeader} (λ p. record p { arrival = n }) h.packet }
+
+-- the head after a change
+abbrev pub changed : Head → Change → Head
+changed h (Next next) = record h { next = next }
+changed h (NextPacket next) = record h { next_packet = next }
+changed h (Data start len) = record h { len = len; start = start }
+changed h (PacketLen n) = with_packet_len h n
+changed h (Arrival n) = with_arrival h n
+changed h NoPacket = record h { packet = None }
+
+-- a new link can be stored, and a packet header that is changed is there
+abbrev pub IsChange : Head → Change → Type 0
+IsChange h (Next next) = IsLink next
+IsChange h (NextPacket next) = IsLink next
+IsChange h (Data start len) = Unit {0}
+IsChange h (PacketLen n) = IsSome h.packet
+IsChange h (Arrival n) = IsSome h.packet
+IsChange h NoPacket = Unit {0}

@@ -29,3 +29,25 @@ pub struct PacketHeader {
     /// arrived.
     pub arrival: u32,
 }
+
+/// A change to some fields of a head. The other fields stay as they are.
+#[derive(Clone, Copy, Debug, PartialEq, Eq)]
+pub enum Change {
+    /// A new link to the next mbuf of the chain. A number must be below 0xffff_ffff.
+    Next(Option<u32>),
+    /// A new link to the next packet of a queue. A number must be below 0xffff_ffff.
+    NextPacket(Option<u32>),
+    /// A new offset and a new length of the data.
+    Data {
+        /// The offset of the data, in the mbuf or in its cluster.
+        start: u32,
+        /// The number of data bytes in the mbuf.
+        len: u32,
+    },
+    /// A new packet length, in a head that has a packet header.
+    PacketLen(u32),
+    /// A new number stored with the packet, in a head that has a packet header.
+    Arrival(u32),
+    /// No packet header. The 8 bytes of the packet header become part of the data area, with their contents unchanged.
+    NoPacket,
+}

@@ -10,6 +10,15 @@ use params::{MBUF_HEADER, PACKET_START};
 /// The stored number that means "no mbuf".
 const NO_MBUF: u32 = 0xffff_ffff;
 
+/// Returns the number that encodes a link.
+#[inline(always)]
+pub(crate) fn link_number(link: Option<u32>) -> u32
+    requires { IsLink link }
+    ensures { link_of result ≡ link }
+{
+    link.unwrap_or(NO_MBUF)
+}
+
 fn read_u16(bytes: &[u8], at: usize) -> u16
     requires { at + 2 ≤ length bytes.now }
     ensures { result ≡ little_u16_at bytes.now at }
@@ -112,14 +121,6 @@ fn bytes_u32(x: u32) -> [u8; 4]
     bytes
 }
 
-#[inline(always)]
-fn bytes_link(link: Option<u32>) -> [u8; 4]
-    requires { IsLink link }
-    ensures { link_of (little_u32_at result 0) ≡ link }
-{
-    bytes_u32(link.unwrap_or(NO_MBUF))
-}
-
 /// Writes a number over four bytes.
 #[inline(always)]
 pub(crate) fn put_u32(bytes: &mut [u8], x: u32)
@@ -128,16 +129,6 @@ pub(crate) fn put_u32(bytes: &mut [u8], x: u32)
     ensures len { length bytes.new ≡ 4 }
 {
     LittleEndian::write_u32(bytes, x);
-}
-
-/// Writes a link over four bytes.
-pub(crate) fn put_link(bytes: &mut [u8], link: Option<u32>)
-    requires len { length bytes.old ≡ 4 }
-    requires link { IsLink link }
-    ensures value { link_of (little_u32_at bytes.new 0) ≡ link }
-    ensures len { length bytes.new ≡ 4 }
-{
-    put_u32(bytes, link.unwrap_or(NO_MBUF));
 }
 
 /// Writes the length and the start of an mbuf's data over eight bytes.
@@ -178,8 +169,8 @@ pub(crate) fn encode(head: &Head) -> [u8; 32]
     ensures len { length result ≡ 32 }
 {
     let packet = head.packet.unwrap_or(PacketHeader { len: 0, arrival: 0 });
-    let next = bytes_link(head.next);
-    let next_packet = bytes_link(head.next_packet);
+    let next = bytes_u32(link_number(head.next));
+    let next_packet = bytes_u32(link_number(head.next_packet));
     let len = bytes_u32(head.len);
     let start = bytes_u32(head.start);
     let kind = bytes_u16(head.kind);

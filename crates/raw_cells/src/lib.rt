@@ -10,6 +10,6 @@ mod memory;
 mod part;
 mod region;
 
-pub use head::{Head, PacketHeader};
+pub use head::{Change, Head, PacketHeader};
 pub use part::{Buffer, Part};
 pub use region::Region;

@@ -1,11 +1,11 @@
 //! The region: mbufs, and clusters after them, in one block.
-ghost use Rattle.std.specs.Prelude.{◌≡◌, ◌+◌, ◌<◌, ◌≤◌, IfOk, IsSome, None, length};
+ghost use Rattle.std.specs.Prelude.{◌≡◌, ◌+◌, ◌<◌, ◌≤◌, IfOk, length};
 ghost use Rattle.std.specs.Borrow.{sem};
-ghost use Rattle.raw_cells.specs.Cells.{zero_cells, cell_head, with_arrival, with_packet_len, IsHead, IsLink, IsCellPart, IsSized, SetsCellHead, read, cells_written, place};
+ghost use Rattle.raw_cells.specs.Cells.{zero_cells, cell_head, changed, IsChange, IsHead, IsCellPart, IsSized, SetsCellHead, read, cells_written, place};
 
 use crate::block::Block;
-use crate::head::Head;
-use crate::layout::{clear_packet, encode, head_len, put_data, put_link, put_u32, read_head};
+use crate::head::{Change, Head};
+use crate::layout::{clear_packet, encode, head_len, link_number, put_data, put_u32, read_head};
 use crate::part::{Buffer, Part};
 use params::{MAX_CLUSTERS, MAX_MBUFS, MCLBYTES, MSIZE};
 use std::alloc::{AllocError, Global};
@@ -92,82 +92,25 @@ impl Region {
             .copy_from_slice(&bytes[..len]);
     }
 
-    /// Sets the `next` link of mbuf `index`, which must be one of the region's. The rest of its head stays as it is. A
-    /// number must be below 0xffff_ffff.
-    pub fn set_next(&mut self, index: u32, next: Option<u32>)
-        requires index { index < length self.old.heads }
-        requires link { IsLink next }
-        ensures change { SetsCellHead self.old self.new index (record (cell_head self.old index) { next = next }) }
-        ensures sized { IsSized self.new }
-    {
-        put_link(self.block.slice_mut(MBUF_LEN * index as usize, 4), next);
-    }
-
-    /// Sets the link to the next packet of mbuf `index`, which must be one of the region's. The rest of its head stays
-    /// as it is. A number must be below 0xffff_ffff.
-    pub fn set_next_packet(&mut self, index: u32, next_packet: Option<u32>)
-        requires index { index < length self.old.heads }
-        requires link { IsLink next_packet }
-        ensures change { SetsCellHead self.old self.new index
-            (record (cell_head self.old index) { next_packet = next_packet }) }
-        ensures sized { IsSized self.new }
-    {
-        put_link(
-            self.block.slice_mut(MBUF_LEN * index as usize + 4, 4),
-            next_packet,
-        );
-    }
-
-    /// Makes the `len` bytes from offset `start` the data of mbuf `index`, which must be one of the region's. The rest
-    /// of its head stays as it is.
+    /// Changes some fields of the head of mbuf `index`, which must be one of the region's. The rest of its head stays
+    /// as it is. [`Change`] gives the conditions of each change.
+    // Inlined, so that a caller that knows the change takes only its store.
     #[inline(always)]
-    pub fn set_data(&mut self, index: u32, start: u32, len: u32)
-        requires { index < length self.old.heads }
-        ensures change { SetsCellHead self.old self.new index
-            (record (cell_head self.old index) { len = len; start = start }) }
-        ensures sized { IsSized self.new }
-    {
-        put_data(
-            self.block.slice_mut(MBUF_LEN * index as usize + 8, 8),
-            len,
-            start,
-        );
-    }
-
-    /// Sets the packet length of mbuf `index`, which must be one of the region's and have a packet header. The rest of
-    /// its head stays as it is.
-    #[inline(always)]
-    pub fn set_packet_len(&mut self, index: u32, len: u32)
+    pub fn change_head(&mut self, index: u32, change: Change)
         requires index { index < length self.old.heads }
-        requires packet { IsSome (cell_head self.old index).packet }
-        ensures change { SetsCellHead self.old self.new index (with_packet_len (cell_head self.old index) len) }
+        requires possible { IsChange (cell_head self.old index) change }
+        ensures change { SetsCellHead self.old self.new index (changed (cell_head self.old index) change) }
         ensures sized { IsSized self.new }
     {
-        put_u32(self.block.slice_mut(MBUF_LEN * index as usize + 20, 4), len);
-    }
-
-    /// Sets the number stored with the packet of mbuf `index`, which must be one of the region's and have a packet
-    /// header. The rest of its head stays as it is.
-    pub fn set_arrival(&mut self, index: u32, arrival: u32)
-        requires index { index < length self.old.heads }
-        requires packet { IsSome (cell_head self.old index).packet }
-        ensures change { SetsCellHead self.old self.new index (with_arrival (cell_head self.old index) arrival) }
-        ensures sized { IsSized self.new }
-    {
-        put_u32(
-            self.block.slice_mut(MBUF_LEN * index as usize + 24, 4),
-            arrival,
-        );
-    }
-
-    /// Removes the packet header from mbuf `index`, which must be one of the region's. The rest of its head stays as it
-    /// is. The 8 bytes of the packet header become part of the data area, with their contents unchanged.
-    pub fn drop_packet(&mut self, index: u32)
-        requires { index < length self.old.heads }
-        ensures change { SetsCellHead self.old self.new index (record (cell_head self.old index) { packet = None }) }
-        ensures sized { IsSized self.new }
-    {
-        clear_packet(self.block.slice_mut(MBUF_LEN * index as usize + 18, 2));
+        let at = MBUF_LEN * index as usize;
+        match change {
+            Change::Next(next) => put_u32(self.block.slice_mut(at, 4), link_number(next)),
+            Change::NextPacket(next) => put_u32(self.block.slice_mut(at + 4, 4), link_number(next)),
+            Change::Data { start, len } => put_data(self.block.slice_mut(at + 8, 8), len, start),
+            Change::PacketLen(len) => put_u32(self.block.slice_mut(at + 20, 4), len),
+            Change::Arrival(arrival) => put_u32(self.block.slice_mut(at + 24, 4), arrival),
+            Change::NoPacket => clear_packet(self.block.slice_mut(at + 18, 2)),
+        }
     }
 
     /// Returns the offset in the block at which the part begins.

@@ -23,8 +23,8 @@ head-head-requires c =
     (cut_place c.args.first c.requires.pool c.requires.live c.requires.some c.requires.within
     c.end_of-last.ensures.cell).out
 
-pub set_next-requires-clause-out : goal.set_next-requires-clause-out
-set_next-requires-clause-out c =
+pub change_head-requires-clause-out : goal.change_head-requires-clause-out
+change_head-requires-clause-out c =
     (cut_place c.args.first c.requires.pool c.requires.live c.requires.some c.requires.within
     c.end_of-last.ensures.cell).out
 
@@ -35,7 +35,7 @@ unwrap-rest-requires c =
 
 -- both chains, once the first one's last mbuf is its end
 made : (c : goal.After-set_total-arg-1)
-    → IsCut c.args.store.now c.set_next.new.self c.args.first c.unwrap-rest.result c.args.keep c.end_of-last.result.1
+    → IsCut c.args.store.now c.change_head.new.self c.args.first c.unwrap-rest.result c.args.keep c.end_of-last.result.1
     c.packet_len-whole.result
 made c =
     let place =
@@ -44,7 +44,7 @@ made c =
     let next = ap (λ (h : Head). h.next) (sym c.head-head.ensures.value) ∙ c.unwrap-rest.ensures in
     cut_made c.args.first c.requires.pool c.requires.live c.requires.some c.requires.within c.end_of-last.ensures.cell
     c.end_of-last.ensures.bytes
-    c.packet_len-whole.ensures next place.out place.fit c.set_next.ensures.change c.set_next.ensures.store
+    c.packet_len-whole.ensures next place.out place.fit c.change_head.ensures.change c.change_head.ensures.store
 
 pub set_total-requires-clause-off : goal.set_total-requires-clause-off
 set_total-requires-clause-off c = (made c).off

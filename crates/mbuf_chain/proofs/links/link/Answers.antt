@@ -1,41 +1,59 @@
-use Rattle.std.proofs.Common.{length, sym, ap, subst, ◌∙◌, arith}
-use Rattle.mbuf_chain.specs.Chain.{ChainView, PoolView, IsPlace, chain_of, string}
-use Rattle.mbuf_chain.specs.Steps.{headless}
-use Rattle.mbuf_chain.specs.Inside.Cells.{pool_of}
-use Rattle.mbuf_chain.proofs.Laws.Owners.{chain_here}
-use Rattle.mbuf_chain.proofs.Places.{bared, linked_place, live_cells}
+use Rattle.std.proofs.Common.{◌∙◌, arith}
+use Rattle.mbuf_pool.proofs.Laws.{sets_out}
+use Rattle.mbuf_chain.proofs.Focused.{open_on, first_out}
+use Rattle.mbuf_chain.proofs.Heads.{shown_at}
+use Rattle.mbuf_chain.proofs.Linked.{linkable}
+use Rattle.mbuf_chain.proofs.Lists.{out_below}
+use Rattle.mbuf_chain.proofs.Joins.{joined_made}
+use Rattle.mbuf_chain.proofs.Places.{linked_place, live_cells}
 use Rattle.mbuf_chain.proofs.links.link.Goals as goal
 
-pub join-requires-clause-front : goal.join-requires-clause-front
-join-requires-clause-front c =
-    (bared _ _ _ _ c.requires.apart c.requires.front c.requires.back c.strip.ensures.change).front_live
+pub change_head-requires-clause-out : goal.change_head-requires-clause-out
+change_head-requires-clause-out c = first_out _ _ (open_on _ _ c.requires.pool c.requires.back).at
 
-pub join-requires-clause-back : goal.join-requires-clause-back
-join-requires-clause-back c =
-    (bared _ _ _ _ c.requires.apart c.requires.front c.requires.back c.strip.ensures.change).back_live
+pub change_head-requires-2-clause-out : goal.change_head-requires-2-clause-out
+change_head-requires-2-clause-out c =
+    sets_out _ _ _ _ (first_out _ _ (open_on _ _ c.requires.pool c.requires.back).at) c.change_head.ensures.change
 
-pub join-requires-clause-place : goal.join-requires-clause-place
-join-requires-clause-place c =
-    subst (λ (v : ChainView). IsPlace v c.args.last)
-    (sym (bared _ _ _ _ c.requires.apart c.requires.front c.requires.back c.strip.ensures.change).front_same)
-    c.requires.place
+pub change_head-requires-3-clause-out : goal.change_head-requires-3-clause-out
+change_head-requires-3-clause-out c =
+    let u =
+    (linkable c.args.store.now c.change_head.new.self c.change_head-2.new.self c.args.front c.args.back c.args.added
+    c.args.last c.requires.pool c.requires.front c.requires.back
+    c.requires.apart c.requires.place c.requires.last c.requires.bytes c.change_head.ensures.change
+    c.change_head-2.ensures.change c.change_head-2.ensures.store) in
+    (shown_at _ _ _ u.pool u.front u.place).out
 
-pub join-requires-clause-last : goal.join-requires-clause-last
-join-requires-clause-last c =
-    c.requires.last ∙ ap (λ (v : ChainView). length v.entries)
-    (sym (bared _ _ _ _ c.requires.apart c.requires.front c.requires.back c.strip.ensures.change).front_same)
+pub change_head-requires-3-clause-possible : goal.change_head-requires-3-clause-possible
+change_head-requires-3-clause-possible c =
+    let o = open_on c.args.store.now c.args.back c.requires.pool c.requires.back in
+    omega (
+      arith,
+      out_below c.args.store.now c.args.back (first_out c.args.store.now c.args.back o.at),
+      o.at.sound.store.mbufs,
+    )
 
-pub join-requires-clause-bare : goal.join-requires-clause-bare
-join-requires-clause-bare c =
-    (bared _ _ _ _ c.requires.apart c.requires.front c.requires.back c.strip.ensures.change).bare
+pub set_total-requires-clause-off : goal.set_total-requires-clause-off
+set_total-requires-clause-off c =
+    let u =
+    (linkable c.args.store.now c.change_head.new.self c.change_head-2.new.self c.args.front c.args.back c.args.added
+    c.args.last c.requires.pool c.requires.front c.requires.back
+    c.requires.apart c.requires.place c.requires.last c.requires.bytes c.change_head.ensures.change
+    c.change_head-2.ensures.change c.change_head-2.ensures.store) in
+    (joined_made c.change_head-2.new.self c.change_head-3.new.self c.args.front c.args.back c.args.added c.args.last
+    u.pool u.front u.back c.requires.apart u.place
+    u.ends u.bare c.change_head-3.ensures.change c.change_head-3.ensures.store u.bytes).off
 
-pub join-requires-clause-bytes : goal.join-requires-clause-bytes
-join-requires-clause-bytes c = λ headed.
-    c.requires.bytes (sym (ap (λ (v : ChainView). v.front.header)
-    (bared _ _ _ _ c.requires.apart c.requires.front c.requires.back c.strip.ensures.change).front_same) ∙ headed)
-    ∙ sym (ap (λ (q : PoolView). length (string (chain_of q c.args.back))) c.strip.ensures.change
-    ∙ ap (λ (v : ChainView). length (string v))
-    (chain_here (pool_of c.args.store.now) c.args.back (headless (chain_of (pool_of c.args.store.now) c.args.back))))
+pub set_total-requires-clause-live : goal.set_total-requires-clause-live
+set_total-requires-clause-live c =
+    let u =
+    (linkable c.args.store.now c.change_head.new.self c.change_head-2.new.self c.args.front c.args.back c.args.added
+    c.args.last c.requires.pool c.requires.front c.requires.back
+    c.requires.apart c.requires.place c.requires.last c.requires.bytes c.change_head.ensures.change
+    c.change_head-2.ensures.change c.change_head-2.ensures.store) in
+    (joined_made c.change_head-2.new.self c.change_head-3.new.self c.args.front c.args.back c.args.added c.args.last
+    u.pool u.front u.back c.requires.apart u.place
+    u.ends u.bare c.change_head-3.ensures.change c.change_head-3.ensures.store u.bytes).live
 
 pub overflow_add-result : goal.overflow_add-result
 overflow_add-result c =
@@ -43,11 +61,19 @@ overflow_add-result c =
 
 pub returns-clause-change : goal.returns-clause-change
 returns-clause-change c =
-    c.join.ensures.change ∙ (bared _ _ _ _ c.requires.apart c.requires.front c.requires.back
-    c.strip.ensures.change).whole
+    let u =
+    (linkable c.args.store.now c.change_head.new.self c.change_head-2.new.self c.args.front c.args.back c.args.added
+    c.args.last c.requires.pool c.requires.front c.requires.back
+    c.requires.apart c.requires.place c.requires.last c.requires.bytes c.change_head.ensures.change
+    c.change_head-2.ensures.change c.change_head-2.ensures.store) in
+    c.set_total.ensures.same
+    ∙ (joined_made c.change_head-2.new.self c.change_head-3.new.self c.args.front c.args.back c.args.added c.args.last
+    u.pool u.front u.back c.requires.apart
+    u.place
+    u.ends u.bare c.change_head-3.ensures.change c.change_head-3.ensures.store u.bytes).map_is
+    ∙ u.whole
 
 pub returns-clause-place : goal.returns-clause-place
 returns-clause-place c =
     linked_place c.args.store.now _ _ _ c.args.last c.requires.pool c.requires.front c.requires.back c.requires.last
-    (c.join.ensures.change ∙ (bared _ _ _ _ c.requires.apart c.requires.front c.requires.back
-    c.strip.ensures.change).whole)
+    (returns-clause-change c)

@@ -1,5 +1,5 @@
 use Rattle.std.proofs.Common.{◌∙◌, ap, ◌%◌, ◌/◌, is_some}
-use Rattle.raw_cells.specs.Inside.Layout.{head_by}
+use Rattle.raw_cells.specs.Inside.Layout.{head_by, link_of}
 use Rattle.raw_cells.specs.declared.head.PacketHeader.{PacketHeader}
 use Rattle.raw_cells.proofs.Encoded.{low_bit, high_bit, packet_back, cluster_back}
 use Rattle.raw_cells.proofs.layout.encode.Goals as goal
@@ -16,8 +16,8 @@ returns-clause-decoded c =
     cluster_back h.cluster _ _ _ (ap (λ f. f % 2) flags ∙ low_bit a b)
     (c.bytes_u32-cluster.ensures ∙ c.unwrap_or.ensures) in
     λ t. record {
-      next = c.bytes_link-next.ensures t;
-      next_packet = c.bytes_link-next_packet.ensures t;
+      next = (ap link_of c.bytes_u32-next.ensures ∙ c.link_number.ensures) t;
+      next_packet = (ap link_of c.bytes_u32-next_packet.ensures ∙ c.link_number-2.ensures) t;
       len = c.bytes_u32-len.ensures t;
       start = c.bytes_u32-start.ensures t;
       kind = c.bytes_u16-kind.ensures t;

@@ -1,13 +1,41 @@
-use Rattle.std.proofs.Common.{subst, sym}
+use Rattle.std.proofs.Common.{◌≡◌, true, sym, subst, ap, ◌∙◌}
 use Rattle.std.specs.Option.{IfSome}
-use Rattle.mbuf_chain.specs.Chain.{PoolView, IsLive}
+use Rattle.mbuf_chain.specs.Chain.{PoolView, IsLive, chain_of, with_chain}
+use Rattle.mbuf_chain.specs.Steps.{placed}
 use Rattle.mbuf_chain.proofs.Bounds.{bounded, told}
+use Rattle.mbuf_chain.proofs.Focused.{open_on, first_out}
+use Rattle.mbuf_chain.proofs.Trained.{relinked}
 use Rattle.mbuf_chain.proofs.pool.Pool.relink.Goals as goal
 
-pub relink-requires-clause-link : goal.relink-requires-clause-link
-relink-requires-clause-link c =
-    told c.self.inside.store c.args.after c.self.invariant
-    (subst (λ (p : PoolView). IfSome c.args.after (IsLive p)) (sym c.self.view_is) c.requires.link)
+pub change_head-requires-clause-out : goal.change_head-requires-clause-out
+change_head-requires-clause-out c =
+    first_out c.self.inside.store c.args.number (open_on c.self.inside.store c.args.number c.self.invariant
+    (subst (λ (p : PoolView). IsLive p c.args.number) (sym c.self.view_is) c.requires.live)).at
+
+pub change_head-requires-clause-possible : goal.change_head-requires-clause-possible
+change_head-requires-clause-possible c =
+    told c.self.inside.store c.args.next c.self.invariant
+    (subst (λ (p : PoolView). IfSome c.args.next (IsLive p)) (sym c.self.view_is) c.requires.link)
+
+pub invariant_of-self : goal.invariant_of-self
+invariant_of-self c =
+    (relinked c.self.inside.store c.change_head.new.self c.args.number c.args.next c.self.invariant
+    (subst (λ (p : PoolView). IsLive p c.args.number) (sym c.self.view_is) c.requires.live)
+    (subst (λ (p : PoolView). (chain_of p c.args.number).front.header ≡ true) (sym c.self.view_is) c.requires.headed)
+    c.change_head.ensures.change c.change_head.ensures.store).pool
+
+pub returns-clause-placed : goal.returns-clause-placed
+returns-clause-placed c =
+    (relinked c.self.inside.store c.change_head.new.self c.args.number c.args.next c.self.invariant
+    (subst (λ (p : PoolView). IsLive p c.args.number) (sym c.self.view_is) c.requires.live)
+    (subst (λ (p : PoolView). (chain_of p c.args.number).front.header ≡ true) (sym c.self.view_is) c.requires.headed)
+    c.change_head.ensures.change c.change_head.ensures.store).map_is
+    ∙ ap (λ (p : PoolView). with_chain p c.args.number
+    (placed (chain_of p c.args.number) c.args.next (chain_of p c.args.number).front.tag)) c.self.view_is
 
 pub returns-clause-bounds : goal.returns-clause-bounds
-returns-clause-bounds c = bounded c.relink.new.store c.relink.ensures.pool
+returns-clause-bounds c = bounded c.change_head.new.self
+    (relinked c.self.inside.store c.change_head.new.self c.args.number c.args.next c.self.invariant
+    (subst (λ (p : PoolView). IsLive p c.args.number) (sym c.self.view_is) c.requires.live)
+    (subst (λ (p : PoolView). (chain_of p c.args.number).front.header ≡ true) (sym c.self.view_is) c.requires.headed)
+    c.change_head.ensures.change c.change_head.ensures.store).pool

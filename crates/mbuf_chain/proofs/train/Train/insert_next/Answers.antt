@@ -16,18 +16,18 @@ after-after-requires c =
 
 pub relink-requires-clause-live : goal.relink-requires-clause-live
 relink-requires-clause-live c =
-    live_with c.args.pool.now c.place.new.pool c.args.number
+    live_with c.args.pool.now c.set_after.new.self c.args.number
     (placed (chain_of c.args.pool.now c.args.number) c.after-after.result c.args.tag) c.args.before.number
-    c.place.ensures.placed
+    c.set_after.ensures.placed
     (live_queued c.args.pool.now c.args.self.now c.args.before.index c.args.before.number c.requires.held
     c.requires.before.number)
 
 pub relink-requires-clause-headed : goal.relink-requires-clause-headed
 relink-requires-clause-headed c =
     ap (λ (v : ChainView). v.front.header)
-    (kept_with c.args.pool.now c.place.new.pool c.args.number
+    (kept_with c.args.pool.now c.set_after.new.self c.args.number
     (placed (chain_of c.args.pool.now c.args.number) c.after-after.result c.args.tag) c.args.before.number
-    c.place.ensures.placed
+    c.set_after.ensures.placed
     (apart_queued c.args.pool.now c.args.self.now c.args.before.index c.args.before.number c.args.number
     c.requires.apart c.requires.before.number))
     ∙ headed_packet c.args.pool.now c.args.self.now c.args.before.index c.args.before.number c.requires.held
@@ -37,8 +37,8 @@ pub overflow_add-self : goal.overflow_add-self
 overflow_add-self c =
     let room =
     room_for c.args.pool.now c.args.self.now c.args.number
-    (placed (chain_of c.args.pool.now c.args.number) c.after-after.result c.args.tag) c.place.new.pool
-    c.requires.held c.requires.live c.requires.apart c.place.ensures.placed c.place.ensures.bounds in
+    (placed (chain_of c.args.pool.now c.args.number) c.after-after.result c.args.tag) c.set_after.new.self
+    c.requires.held c.requires.live c.requires.apart c.set_after.ensures.placed c.set_after.ensures.bounds in
     let len = ap (λ (t : TrainView). t.len) c.self.view_is in
     elim c.if-self-before.branch [
       | then-self-before w ↦ omega (arith, room, len, ap (λ (s : Inside). s.len) w.self-inside-is)
@@ -56,37 +56,39 @@ returns-clause-change c =
     elim c.if-self-before.branch [
       | then-self-before w ↦
           inserted_after c.args.pool.now c.args.self.now c.args.before.number c.args.before.index
-          (c.args.before.index + 1) c.args.number c.args.tag _ c.after-after.result c.place.new.pool c.relink.new.pool
+          (c.args.before.index + 1) c.args.number c.args.tag _ c.after-after.result c.set_after.new.self
+          c.relink.new.self
           _ c.requires.held c.requires.live
           c.requires.headed c.requires.apart c.requires.before.number (omega arith) c.after-after.ensures refl
-          c.place.ensures.placed c.relink.ensures.placed
+          c.set_after.ensures.placed c.relink.ensures.placed
           (end_there _ _ (omega arith) ∙ ap (λ (s : Inside). Some s.first) w.self-inside-is ∙ first)
           (ap (λ (s : Inside). s.len + 1) w.self-inside-is ∙ ap (λ n. n + 1) len)
           (λ _. end_there _ _ (omega arith) ∙ ap (λ (s : Inside). Some s.last) w.self-inside-is)
           (λ h. absurd (omega (arith, h, len, w.if-self-before.true)))
       | else-self-before w ↦
           inserted_after c.args.pool.now c.args.self.now c.args.before.number c.args.before.index
-          (c.args.before.index + 1) c.args.number c.args.tag _ c.after-after.result c.place.new.pool c.relink.new.pool
+          (c.args.before.index + 1) c.args.number c.args.tag _ c.after-after.result c.set_after.new.self
+          c.relink.new.self
           _ c.requires.held c.requires.live
           c.requires.headed c.requires.apart c.requires.before.number (omega arith) c.after-after.ensures refl
-          c.place.ensures.placed c.relink.ensures.placed
+          c.set_after.ensures.placed c.relink.ensures.placed
           (end_there _ _ (omega arith) ∙ ap (λ (s : Inside). Some s.first) w.self-inside-is ∙ first)
           (ap (λ (s : Inside). s.len + 1) w.self-inside-is ∙ ap (λ n. n + 1) len)
           (λ h. absurd (omega (arith, h, len, w.if-self-before.false)))
           (λ _. end_there _ _ (omega arith) ∙ ap (λ (s : Inside). Some s.last) w.self-inside-is ∙ last)
     ]
 
-pub place-requires-clause-link : goal.place-requires-clause-link
-place-requires-clause-link c =
+pub set_after-requires-clause-link : goal.set_after-requires-clause-link
+set_after-requires-clause-link c =
     subst (λ o. IfSome o (IsLive c.args.pool.now)) (sym c.after-after.ensures)
     (live_after c.args.pool.now c.args.self.now c.args.before.index c.args.before.number c.requires.held
     c.requires.before.number)
 
 pub relink-requires-clause-link : goal.relink-requires-clause-link
 relink-requires-clause-link c =
-    live_with c.args.pool.now c.place.new.pool c.args.number
+    live_with c.args.pool.now c.set_after.new.self c.args.number
     (placed (chain_of c.args.pool.now c.args.number) c.after-after.result c.args.tag) c.args.number
-    c.place.ensures.placed c.requires.live
+    c.set_after.ensures.placed c.requires.live
 
 pub overflow_add-before : goal.overflow_add-before
 overflow_add-before c = omega (arith, c.requires.before.within, ap (λ (t : TrainView). t.len) c.self.view_is)

@@ -11,8 +11,8 @@ returns c =
     let first =
     sym (ap (λ (t : TrainView). t.first) c.self.view_is) ∙ end_there c.self.inside.len c.self.inside.first some in
     let after = c.unwrap_or-self-inside.ensures ∙ ap (λ (o : Option ℕ). unwrap_or o 0) c.after-after.ensures in
-    taken_first c.args.pool.now c.args.self.now c.self.inside.first c.tag_of-tag.result c.place.new.pool _
-    c.requires.held first c.requires.some c.tag_of-tag.ensures c.place.ensures.placed
+    taken_first c.args.pool.now c.args.self.now c.self.inside.first c.tag-tag.result c.set_after.new.self _
+    c.requires.held first c.requires.some c.tag-tag.ensures c.set_after.ensures.placed
     (first_after c.args.pool.now c.args.self.now c.self.inside.first _ _ c.requires.held first
     (omega (arith, len, c.requires.some)) after) (omega (arith, len, c.requires.some)) (λ h. no_end _ _
     (omega (arith, h, len)))

@@ -27,32 +27,32 @@ after-rest-requires c =
     (next_queued c.args.pool.now c.args.self.now c.args.before.index c.args.before.number c.in-Some.number
     c.requires.held c.requires.before.number (omega arith) (sym c.after.ensures ∙ c.in-Some.is))
 
-pub tag_of-tag-requires : goal.tag_of-tag-requires
-tag_of-tag-requires c =
+pub tag-tag-requires : goal.tag-tag-requires
+tag-tag-requires c =
     live_queued c.args.pool.now c.args.self.now (suc c.args.before.index) c.in-Some.number c.requires.held
     (next_queued c.args.pool.now c.args.self.now c.args.before.index c.args.before.number c.in-Some.number
     c.requires.held c.requires.before.number (omega arith) (sym c.after.ensures ∙ c.in-Some.is))
 
-pub place-requires-clause-headed : goal.place-requires-clause-headed
-place-requires-clause-headed c =
+pub set_after-requires-clause-headed : goal.set_after-requires-clause-headed
+set_after-requires-clause-headed c =
     headed_packet c.args.pool.now c.args.self.now c.args.before.index c.args.before.number c.requires.held
     c.requires.before.number
 
-pub place-requires-2-clause-live : goal.place-requires-2-clause-live
-place-requires-2-clause-live c =
-    live_with c.args.pool.now c.place.new.pool c.args.before.number
-    (placed (chain_of c.args.pool.now c.args.before.number) c.after-rest.result c.tag_of-kept.result) c.in-Some.number
-    c.place.ensures.placed
+pub set_after-requires-2-clause-live : goal.set_after-requires-2-clause-live
+set_after-requires-2-clause-live c =
+    live_with c.args.pool.now c.set_after.new.self c.args.before.number
+    (placed (chain_of c.args.pool.now c.args.before.number) c.after-rest.result c.tag-kept.result) c.in-Some.number
+    c.set_after.ensures.placed
     (live_queued c.args.pool.now c.args.self.now (suc c.args.before.index) c.in-Some.number c.requires.held
     (next_queued c.args.pool.now c.args.self.now c.args.before.index c.args.before.number c.in-Some.number
     c.requires.held c.requires.before.number (omega arith) (sym c.after.ensures ∙ c.in-Some.is)))
 
-pub place-requires-2-clause-headed : goal.place-requires-2-clause-headed
-place-requires-2-clause-headed c =
+pub set_after-requires-2-clause-headed : goal.set_after-requires-2-clause-headed
+set_after-requires-2-clause-headed c =
     ap (λ (v : ChainView). v.front.header)
-    (kept_with c.args.pool.now c.place.new.pool c.args.before.number
-    (placed (chain_of c.args.pool.now c.args.before.number) c.after-rest.result c.tag_of-kept.result) c.in-Some.number
-    c.place.ensures.placed
+    (kept_with c.args.pool.now c.set_after.new.self c.args.before.number
+    (placed (chain_of c.args.pool.now c.args.before.number) c.after-rest.result c.tag-kept.result) c.in-Some.number
+    c.set_after.ensures.placed
     (next_apart c.args.pool.now c.args.self.now c.args.before.index c.args.before.number c.in-Some.number
     c.requires.held c.requires.before.number (omega arith) (sym c.after.ensures ∙ c.in-Some.is)))
     ∙ headed_packet c.args.pool.now c.args.self.now (suc c.args.before.index) c.in-Some.number c.requires.held
@@ -73,11 +73,11 @@ returns c =
     elim c.if-self-before.branch [
       | then-self-before w ↦
           taken_after c.args.pool.now c.args.self.now c.args.before.number c.args.before.index (c.args.before.index + 1)
-          c.in-Some.number c.tag_of-tag.result c.tag_of-kept.result c.after-rest.result c.place.new.pool
-          c.place-2.new.pool _ c.requires.held
+          c.in-Some.number c.tag-tag.result c.tag-kept.result c.after-rest.result c.set_after.new.self
+          c.set_after-2.new.self _ c.requires.held
           c.requires.before.number (omega arith) c.requires.more (sym c.after.ensures ∙ c.in-Some.is)
-          c.after-rest.ensures c.tag_of-tag.ensures c.tag_of-kept.ensures c.place.ensures.placed
-          c.place-2.ensures.placed
+          c.after-rest.ensures c.tag-tag.ensures c.tag-kept.ensures c.set_after.ensures.placed
+          c.set_after-2.ensures.placed
           (end_there _ _ (omega (arith, ap (λ (s : Inside). s.len) w.self-inside-is, len, c.requires.more))
           ∙ ap (λ (s : Inside). Some s.first) w.self-inside-is
           ∙ first) (omega (arith, ap (λ (s : Inside). s.len) w.self-inside-is, len, c.requires.more)) (λ _.
@@ -86,11 +86,11 @@ returns c =
           (λ h. absurd (omega (arith, h, len, w.if-self-before.true)))
       | else-self-before w ↦
           taken_after c.args.pool.now c.args.self.now c.args.before.number c.args.before.index (c.args.before.index + 1)
-          c.in-Some.number c.tag_of-tag.result c.tag_of-kept.result c.after-rest.result c.place.new.pool
-          c.place-2.new.pool _ c.requires.held
+          c.in-Some.number c.tag-tag.result c.tag-kept.result c.after-rest.result c.set_after.new.self
+          c.set_after-2.new.self _ c.requires.held
           c.requires.before.number (omega arith) c.requires.more (sym c.after.ensures ∙ c.in-Some.is)
-          c.after-rest.ensures c.tag_of-tag.ensures c.tag_of-kept.ensures c.place.ensures.placed
-          c.place-2.ensures.placed
+          c.after-rest.ensures c.tag-tag.ensures c.tag-kept.ensures c.set_after.ensures.placed
+          c.set_after-2.ensures.placed
           (end_there _ _ (omega (arith, ap (λ (s : Inside). s.len) w.self-inside-is, len, c.requires.more))
           ∙ ap (λ (s : Inside). Some s.first) w.self-inside-is
           ∙ first) (omega (arith, ap (λ (s : Inside). s.len) w.self-inside-is, len, c.requires.more)) (λ h. absurd
@@ -99,8 +99,8 @@ returns c =
           ∙ ap (λ (s : Inside). Some s.last) w.self-inside-is ∙ last)
     ]
 
-pub place-requires-clause-link : goal.place-requires-clause-link
-place-requires-clause-link c =
+pub set_after-requires-clause-link : goal.set_after-requires-clause-link
+set_after-requires-clause-link c =
     subst (λ o. IfSome o (IsLive c.args.pool.now)) (sym c.after-rest.ensures)
     (live_after c.args.pool.now c.args.self.now (suc c.args.before.index) c.in-Some.number c.requires.held
     (next_queued c.args.pool.now c.args.self.now c.args.before.index c.args.before.number c.in-Some.number

@@ -1,0 +1,46 @@
+-- A chain that is about to be linked after another: it has lost its packet header and its place in a train.
+use Rattle.std.proofs.Common.{◌≡◌, ◌≢◌, ℕ, ◌+◌, true, false, None, length, sym, ap, subst, ◌∙◌}
+use Rattle.mbuf_pool.specs.Store.{StoreView, mbuf_head, SetsHead, IsStore}
+use Rattle.mbuf_chain.specs.declared.place.Place.{Place}
+use Rattle.mbuf_chain.specs.Chain.{ChainView, PoolView, chain_of, IsLive, IsPlace, with_chain, without, string, alone}
+use Rattle.mbuf_chain.specs.Steps.{headless, joined}
+use Rattle.mbuf_chain.specs.Inside.Cells.{pool_of, IsPool}
+use Rattle.mbuf_chain.proofs.Laws.Owners.{chain_here}
+use Rattle.mbuf_chain.proofs.Joins.{bared_twice, stripped}
+use Rattle.mbuf_chain.proofs.Places.{bared}
+
+pub record Linkable (s t : StoreView) (a b added : ℕ) (last : Place) : Type 0 where
+  pub pool : IsPool t
+  pub front : IsLive (pool_of t) a
+  pub back : IsLive (pool_of t) b
+  pub place : IsPlace (chain_of (pool_of t) a) last
+  pub ends : last.index + 1 ≡ length (chain_of (pool_of t) a).entries
+  pub bare : (chain_of (pool_of t) b).front ≡ alone false
+  pub bytes : (chain_of (pool_of t) a).front.header ≡ true → added ≡ length (string (chain_of (pool_of t) b))
+  pub whole : with_chain (without (pool_of t) b) a (joined (chain_of (pool_of t) a) (chain_of (pool_of t) b))
+      ≡ with_chain (without (pool_of s) b) a (joined (chain_of (pool_of s) a) (chain_of (pool_of s) b))
+
+pub linkable : (s t u : StoreView) (a b added : ℕ) (last : Place) → IsPool s → IsLive (pool_of s) a
+    → IsLive (pool_of s) b → a ≢ b → IsPlace (chain_of (pool_of s) a) last
+    → last.index + 1 ≡ length (chain_of (pool_of s) a).entries
+    → ((chain_of (pool_of s) a).front.header ≡ true → added ≡ length (string (chain_of (pool_of s) b)))
+    → SetsHead s t b (record (mbuf_head s b) { packet = None })
+    → SetsHead t u b (record (mbuf_head t b) { next_packet = None }) → IsStore u → Linkable s u a b added last
+linkable s t u a b added last pool front back apart place is_last bytes first later store =
+    let done = stripped s u b pool back (bared_twice s t u b pool back first later) store in
+    let e = bared (pool_of s) (pool_of u) a b apart front back done.map_is in
+    record {
+      pool = done.pool;
+      front = e.front_live;
+      back = e.back_live;
+      place = subst (λ (v : ChainView). IsPlace v last) (sym e.front_same) place;
+      ends = is_last ∙ ap (λ (v : ChainView). length v.entries) (sym e.front_same);
+      bare = e.bare;
+      bytes =
+          λ headed.
+          bytes (sym (ap (λ (v : ChainView). v.front.header) e.front_same) ∙ headed)
+          ∙ sym (ap (λ (q : PoolView). length (string (chain_of q b))) done.map_is
+          ∙ ap (λ (v : ChainView). length (string v))
+          (chain_here (pool_of s) b (headless (chain_of (pool_of s) b))));
+      whole = e.whole;
+    }

@@ -1,0 +1,11 @@
+use Rattle.mbuf_chain.proofs.Places.{first_place}
+use Rattle.mbuf_chain.proofs.links.last.Goals as goal
+
+pub next-after-requires-clause-place : goal.next-after-requires-clause-place
+next-after-requires-clause-place c = first_place c.args.store.now c.args.start c.requires.pool c.requires.live
+
+pub mbufs-init : goal.mbufs-init
+mbufs-init c = record {
+  place = first_place c.args.store.now c.args.start c.requires.pool c.requires.live;
+  after = c.next-after.ensures;
+}
