@@ -24,7 +24,7 @@ enum { TIMER_MOST_COLUMNS = 8, TIMER_MOST_ROWS = 24 };
 
 typedef struct {
     const char *name;
-    /* So many turns at this column; false where something went wrong. What is made once is made in each call. */
+    /* This many turns at this column; false if something went wrong. What is made once is made in each call. */
     bool (*run)(int column, uint64_t turns);
     /* The first column that the row has. */
     int from;
@@ -76,7 +76,7 @@ static inline double least_time(const Row *row, int column, uint64_t turns)
     return least;
 }
 
-/* So many turns that they can be timed, and that what is made once is little beside them. */
+/* Enough turns that they can be timed, and that what is made once takes little time compared with them. */
 static inline uint64_t turns_of(const Row *row, int column)
 {
     double once = least_time(row, column, 1);

@@ -7,7 +7,7 @@
 enum { MTU = 1500, LONGEST = 4000, PACKETS = 3, TURNS = 200 };
 
 #ifdef ETHER
-enum { PAD = 2, FRAME_HEAD = 14, ARP = 28, ICMP = 1 }; /* with PAD in front of a frame the packet in it is aligned */
+enum { PAD = 2, FRAME_HEAD = 14, ARP = 28, ICMP = 1 }; /* with PAD before a frame the packet in it is aligned */
 #else
 enum { PAD = 0, FRAME_HEAD = 0 };
 #endif
@@ -20,7 +20,7 @@ static uint32_t lengths[PACKETS], packet_count;
 /* How many packets went out. */
 static uint32_t gone;
 
-/* One turn: all packets come, and what they ask for goes out. */
+/* One turn: all packets arrive, and the replies are sent. */
 static void turn(void);
 
 static uint32_t folded(const uint8_t *bytes, uint32_t len, uint32_t sum)
@@ -55,7 +55,7 @@ static const uint8_t *datagram(uint32_t len)
     return bytes;
 }
 
-/* A packet with its header (RFC 791), and in front of it that of its frame (RFC 894). */
+/* A packet with its header (RFC 791), and before it that of its frame (RFC 894). */
 static void put_packet(const uint8_t *bytes, uint32_t len, uint32_t protocol, uint32_t fragment)
 {
     static const uint8_t head[20] = {0x45, 0, 0, 0, 0, 9, 0, 0, 64, 0, 0, 0, 10, 0, 0, 2, 10, 0, 0, 1};
@@ -97,7 +97,7 @@ static void say_number(uint32_t number)
     machine_say(digits + at);
 }
 
-/* Says how many instructions a turn takes, or 0 if not all of it was answered. */
+/* Prints how many instructions a turn takes, or 0 if a reply was missing. */
 static void measure_turn(void)
 {
     uint32_t k, ticks;
@@ -111,7 +111,7 @@ static void measure_turn(void)
     say_number(gone == TURNS * packet_count ? ticks / (TURNS / MACHINE_INSTRUCTIONS) : 0);
 }
 
-/* The echo of so many bytes. */
+/* The echo of this many bytes. */
 static void measure(uint32_t len)
 {
     make_packets(len);
@@ -130,7 +130,7 @@ static void make_arp(void)
     packet_count = 1;
 }
 
-/* A ping of so many bytes (RFC 792). */
+/* A ping of this many bytes (RFC 792). */
 static void make_ping(uint32_t len)
 {
     static uint8_t bytes[8 + MTU] = {8, 0, 0, 0, 0, 1, 0, 1};

@@ -1,5 +1,5 @@
 /* lwIP as bench/board builds it: IPv4, UDP, fragments, loopback, shared ports and counters without an operating system,
-   as ours has them, and nothing else. Pools are for as much as 16 packets, as ours. */
+   like ours, and no more. Pools are large enough for 16 packets, like ours. */
 #ifndef BSDUDP_BOARD_LWIPOPTS_H
 #define BSDUDP_BOARD_LWIPOPTS_H
 

@@ -1,5 +1,5 @@
 /*
- * Copies between two clusters, and into and out of one, beside memcpy on plain memory.
+ * Copies between two clusters, and into and out of one, compared with memcpy on plain memory.
  */
 #include "timer.h"
 

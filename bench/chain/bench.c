@@ -1,5 +1,5 @@
 /*
- * A chain of 9,216 bytes filled, shared and freed, beside memcpy of as many bytes.
+ * A chain of 9,216 bytes filled, shared and freed, compared with memcpy of the same number of bytes.
  */
 #include "timer.h"
 

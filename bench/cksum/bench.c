@@ -1,5 +1,5 @@
 /*
- * The Internet checksum of in_cksum beside C loops and memcpy.
+ * The Internet checksum of in_cksum compared with C loops and memcpy.
  */
 #include "timer.h"
 
@@ -44,7 +44,7 @@ static uint16_t c_plain(const uint8_t *p, size_t len)
     return fold(plain_words(p, len));
 }
 
-/* What is left behind the last whole 32 bytes, in memory order. */
+/* The rest after the last whole 32 bytes, in memory order. */
 static inline uint64_t rest_words(const uint8_t *p, size_t len)
 {
     uint64_t sum = 0;
@@ -161,7 +161,7 @@ RUN(c_lanes)
 RUN(c_sse2)
 RUN(c_avx2)
 
-/* The last only where the processor has AVX2. */
+/* The last only if the processor has AVX2. */
 static const Row ROWS[] = {
     {"sum_slice", run_by_sum_slice, 0}, {"Sum", run_by_sum, 0},     {"Sum-in-two", run_by_sum_in_two, 0},
     {"memcpy", run_by_memcpy, 0},       {"c-plain", run_c_plain, 0}, {"c-lanes", run_c_lanes, 0},

@@ -1,6 +1,6 @@
 /*
- * The two calls of `hex` by which a script's lines are read and replies are written: what a line with so many bytes takes
- * at least.
+ * The two calls of `hex` by which a script's lines are read and replies are written: the least time for a line with
+ * this many bytes.
  */
 #include "timer.h"
 

@@ -5,7 +5,7 @@
 #include <stdio.h>
 #include <valgrind/callgrind.h>
 
-/* What it says of each: 1 if all that came was answered, else 0; the number of instructions is callgrind's. */
+/* What it says of each: 1 if everything got its reply, otherwise 0; the number of instructions is callgrind's. */
 void machine_say(const char *text) { fputs(text, stdout); }
 void machine_watch(void) { CALLGRIND_ZERO_STATS; }
 

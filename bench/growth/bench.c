@@ -49,7 +49,7 @@ static uint32_t long_one(uint32_t mbufs, uint32_t turns)
     return sent(MOST, mbufs, 1, 0, turns);
 }
 
-/* The two fragments of a datagram, and where the second lies. */
+/* The two fragments of a datagram, and the offset of the second. */
 static const uint8_t *two_fragments(void)
 {
     uint8_t *last = packets + PACKETS_APART;

@@ -36,7 +36,7 @@ Install(bool ours, const NodeContainer& nodes, const NetDeviceContainer& devices
     addresses.Assign(devices);
 }
 
-/// Echoes between the two nodes of so many pairs; answers how many came back.
+/// Echoes between the two nodes of this many pairs; returns how many came back.
 uint64_t
 Echoes(bool ours, uint32_t pairs, uint32_t echoes, uint32_t size)
 {
@@ -65,7 +65,8 @@ Echoes(bool ours, uint32_t pairs, uint32_t echoes, uint32_t size)
     return back;
 }
 
-/// A hundred nodes on one channel, as in the example bsdudp-hundred, without loss; answers how many datagrams came.
+/// A hundred nodes on one channel, as in the example bsdudp-hundred, without loss; returns how many
+/// datagrams arrived.
 uint64_t
 Hundred(bool ours)
 {
@@ -142,7 +143,7 @@ enum Kind
     DEFAULT,
 };
 
-/// The resident memory of a process with so many nodes, in bytes.
+/// The resident memory of a process with this many nodes, in bytes.
 double
 Resident(uint32_t count, Kind kind)
 {
@@ -197,7 +198,7 @@ main()
     const char* named = std::getenv("ROUNDS");
     const int rounds = named ? std::atoi(named) : 5;
     GlobalValue::Bind("ChecksumEnabled", BooleanValue(true));
-    // else each node would forward what it hears on the one channel
+    // otherwise each node would forward what it receives on the one channel
     Config::SetDefault("ns3::Ipv4::IpForward", BooleanValue(false));
     Config::SetDefault("ns3::BsdudpStack::Mbufs", UintegerValue(512));
     Config::SetDefault("ns3::BsdudpStack::Clusters", UintegerValue(64));

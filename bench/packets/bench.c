@@ -1,6 +1,6 @@
 /*
- * What one packet or one send costs, by its size and by what happens to it: a packet that is delivered beside one that
- * is dropped for each cause, broadcasts, and sends. lwIP does the same work where it can.
+ * What one packet or one send costs, by its size and by what happens to it: a packet that is delivered, one that is
+ * dropped for each cause, broadcasts, and sends. lwIP does the same work where it can.
  */
 #include "packets.h"
 #include "timer.h"
@@ -59,7 +59,7 @@ static bool refused_to_a_connected_socket(int column, uint64_t turns)
     return bsdudp_send_refused(bytes, LENS[column], true, (uint32_t)turns) == turns;
 }
 
-/* The packet is read by all of so many sockets. */
+/* The packet is read by all of this many sockets. */
 static bool is_read(size_t len, uint8_t sockets, uint64_t turns)
 {
     return bsdudp_receive(packet, len, sockets, 0, true, (uint32_t)turns) == sockets * turns;

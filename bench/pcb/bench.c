@@ -1,5 +1,5 @@
 /*
- * The look-ups of pcb_table, beside a list in C: 1,000 packets a turn, to tables of 1, 8 and 64 blocks.
+ * The lookups of pcb_table, compared with a list in C: 1,000 packets a turn, to tables of 1, 8 and 64 blocks.
  */
 #include "timer.h"
 

@@ -1,6 +1,6 @@
 /*
- * Our stack beside lwIP, which does the same work. Both sums are made and checked, and both sides have an output queue
- * and a receive queue; the link takes 1,500 bytes.
+ * Our stack compared with lwIP, which does the same work. Both sums are made and checked, and both sides have an output
+ * queue and a receive queue; the link takes 1,500 bytes.
  *
  *   2, 1,472, 9,000 bytes   sendto, tx of each packet, rx into the other stack, recvfrom: the bytes are copied four times.
  *                           The 9,000 go in seven fragments
@@ -61,7 +61,7 @@ static const Table TABLE = {"a datagram", 1, COLUMNS, COUNT_OF(COLUMNS), ROWS, C
 /* What the port brings as lwIP's sum (sum.c), which lwIP holds against nothing but itself. */
 unsigned short peers_sum(const void *bytes, int len);
 
-/* Whether it's the sum of RFC 1071 for a length, as lwIP asks for it: words in the order of the machine, folded. */
+/* Whether it's the sum of RFC 1071 for a length, in lwIP's form: words in the order of the machine, folded. */
 static bool sums_well(const uint8_t *from, int len)
 {
     uint32_t sum = len % 2 ? from[len - 1] : 0;

@@ -55,7 +55,7 @@ static err_t put_out(struct netif *interface, struct pbuf *packet, const ip4_add
     return ERR_OK;
 }
 
-/* Copies the oldest packet of the output queue out, and answers how long it is; 0 if none waits. */
+/* Copies the oldest packet of the output queue out, and returns its length; 0 if none waits. */
 static u16_t tx(u8_t *to)
 {
     if (out.count == 0)
@@ -93,7 +93,7 @@ static void heard(void *of, struct udp_pcb *pcb, struct pbuf *bytes, const ip_ad
     in.bytes += bytes->tot_len;
 }
 
-/* Copies the oldest datagram out with its sender, and answers how long it is; -1 if none waits. */
+/* Copies the oldest datagram out with its sender, and returns its length; -1 if none waits. */
 static int received(u8_t *to, u16_t room, ip_addr_t *from, u16_t *port)
 {
     if (in.count == 0)
@@ -156,7 +156,8 @@ static void start(void)
     udp_recv(hearer, heard, NULL);
 }
 
-/* Sends a datagram from one interface to the other and reads it there, so many times; how often all of it came. */
+/* Sends a datagram from one interface to the other and reads it there, this many times; returns how often all of it
+   arrived. */
 uint32_t EXPORT(send_and_receive)(const uint8_t *bytes, size_t len, uint32_t times)
 {
     static u8_t packet[MTU], room[MOST];

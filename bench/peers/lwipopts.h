@@ -33,13 +33,13 @@
 #define MEMP_NUM_REASSDATA 16
 #define IP_REASS_MAX_PBUFS 48
 
-/* Pools in the place of its heap: lwippools.h has them. */
+/* Pools instead of its heap: lwippools.h has them. */
 #ifdef PEERS_POOLS
 #define MEM_USE_POOLS 1
 #define MEMP_USE_CUSTOM_POOLS 1
 #endif
 
-/* A sum that the port brings, which lwIP asks for under this name. */
+/* A sum that the port brings; lwIP calls it by this name. */
 #ifdef PEERS_SUM
 unsigned short peers_sum(const void *bytes, int len);
 #define LWIP_CHKSUM peers_sum

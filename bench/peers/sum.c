@@ -1,6 +1,6 @@
 /*
- * A sum for lwIP's LWIP_CHKSUM by SSE2, in the way of in_cksum: lanes of 32 bits are added whole and may wrap, and their
- * high halves are added apart, which tells what the low ones come to.
+ * A sum for lwIP's LWIP_CHKSUM by SSE2, in the way of in_cksum: lanes of 32 bits are added whole and may wrap, and
+ * their high halves are added apart, from which the sum of the low ones follows.
  */
 #include <emmintrin.h>
 #include <stddef.h>

@@ -1,5 +1,5 @@
 /*
- * The pairs of calls of mbuf_pool, beside a pool of the same kind in C and the C library's malloc.
+ * The pairs of calls of mbuf_pool, compared with a pool of the same kind in C and the C library's malloc.
  */
 #include "timer.h"
 

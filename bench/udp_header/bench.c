@@ -17,7 +17,7 @@ static const uint8_t PSEUDO[12] = {
     10, 0, 0, 1, 10, 0, 0, 2, 0, 17, (HEADER + LEN) >> 8, (HEADER + LEN) & 0xff,
 };
 
-/* The words as they lie in memory, 8 bytes at a time; the carries come in at the end. */
+/* The words as they are in memory, 8 bytes at a time; the carries are added at the end. */
 static uint16_t sum(const uint8_t *bytes, size_t len, uint64_t first)
 {
     unsigned __int128 all = first;

@@ -1,5 +1,5 @@
-/* Every call on its plain path, and every refusal that it can have. It compiles as C99 and as C++, says the line of the
-   first answer that is wrong, and then exits with 1. */
+/* Every call on its plain path, and every refusal that it can have. It compiles as C99 and as C++, prints the line of
+   the first wrong result, and then exits with 1. */
 #include "bsdudp.h"
 
 #include <limits.h>
@@ -28,7 +28,7 @@ static struct bsdudp_config config(void)
     return c;
 }
 
-/* A handle without a stack answers ENXIO to every call. */
+/* Every call returns ENXIO for a handle without a stack. */
 static int without_a_stack(struct bsdudp *s)
 {
     struct bsdudp_addr from = {1, 2};
@@ -200,7 +200,7 @@ static int traffic(void)
     return 0;
 }
 
-/* A datagram of 3,008 bytes behind its IP header, cut by hand: its last packet and then its first come to far. */
+/* A datagram of 3,008 bytes after its IP header, fragmented by hand: its last packet, then its first, arrive at far. */
 static int unfinished(void)
 {
     struct bsdudp_unfinished datagram = {0, 0, 0, 0, 0, 0, 0};

@@ -1,6 +1,6 @@
 /* A host on an Ethernet: every call on its plain path, and every refusal that it can have; its memory, refused in
-   turn; each tally with a value of its own. It compiles as C99 and as C++, says the line of the first answer that is
-   wrong, and then exits with 1. */
+   turn; each tally with a value of its own. It compiles as C99 and as C++, prints the line of the first wrong result,
+   and then exits with 1. */
 #include "bsdudp.h"
 
 #include <stdio.h>
@@ -134,7 +134,7 @@ static int drained(void)
     return count;
 }
 
-/* The calls of a host answer so: of a handle without a stack, or of a bare one. */
+/* The calls of a host return this for a handle without a stack, or for a bare one. */
 static int answers(struct bsdudp *s, int answer)
 {
     struct bsdudp_tallies tallies;
@@ -156,7 +156,7 @@ static int boot(const struct bsdudp_config *c, const struct bsdudp_link *l, size
     return bsdudp_ether_boot_in(&host, c, l, memory + GUARD, len);
 }
 
-/* Which links, and which configurations, no host has; a wrong link is told first. */
+/* Links and configurations that no host can have; a wrong link is reported first. */
 static int refusals(void)
 {
     const size_t len = sizeof memory - 2 * GUARD;
@@ -223,7 +223,7 @@ static int one_or_the_other(void)
     return 0;
 }
 
-/* Frames come and go, and neighbours are known, asked for, and grow older. */
+/* Frames arrive and leave, and neighbours are known, requested, and grow older. */
 static int frames(void)
 {
     struct bsdudp_addr to = {0x0a000003, 99};
@@ -327,7 +327,7 @@ static int tallied(void)
     return 0;
 }
 
-/* What others report of a connected socket's datagrams is answered once, to the socket that sent them. */
+/* What others report of a connected socket's datagrams is returned once, to the socket that sent them. */
 static int reports(void)
 {
     const struct bsdudp_addr peer = {PEER, 9}, local = {0, 2000};

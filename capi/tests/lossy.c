@@ -1,4 +1,4 @@
-/* capi/examples/tun_echo.c behind a wire that loses one packet in twenty, repeats one in twenty, and exchanges packets
+/* capi/examples/tun_echo.c over a wire that loses one packet in twenty, repeats one in twenty, and exchanges packets
    that wait. It's that very program: its reads and writes of the device go through the wire, and its clock runs a
    hundred times as fast, so that what lacks a fragment is dropped after a third of a second. */
 #include <stdint.h>

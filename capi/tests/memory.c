@@ -1,6 +1,6 @@
 /* The memory of a stack: each allocation refused in turn, memory that just suffices, handles booted twice, dead or
    zeroed. The linker sends malloc and free of the library here (--wrap), so that they can be refused and counted. It
-   compiles as C99 and as C++, says the line of the first answer that is wrong, and then exits with 1. */
+   compiles as C99 and as C++, prints the line of the first wrong result, and then exits with 1. */
 #include "bsdudp.h"
 
 #include <stdio.h>
@@ -182,7 +182,7 @@ static int host_from_malloc(void)
     return 0;
 }
 
-/* A handle that has a stack keeps it, whichever boot comes next, and whatever that asks for. */
+/* A handle that has a stack keeps it, whichever boot comes next, and whatever its arguments are. */
 static int booted_twice(void)
 {
     static unsigned char memory[2][BSDUDP_MEMORY(64, 16)] __attribute__((aligned(BSDUDP_ALIGNMENT)));

@@ -54,7 +54,7 @@ static void put_header_sum(uint8_t *packet)
     put16(packet + 10, ~sum(packet, 20, 0) & 0xffff);
 }
 
-/* A packet from PEER with a whole datagram, in one of five without a checksum. The answer is its length. */
+/* A packet from PEER with a whole datagram, in one of five without a checksum. Returns its length. */
 static size_t make_packet(uint8_t *packet, unsigned port, uint32_t to, unsigned to_port, unsigned ident,
                           const uint8_t *data, size_t len)
 {
@@ -81,7 +81,7 @@ static size_t make_packet(uint8_t *packet, unsigned port, uint32_t to, unsigned 
 }
 
 /* Keeps some units of eight bytes of a packet's data as a fragment, the last of which may be shorter. Some begin at 0,
-   and some go to the end. The answer is the fragment's length. */
+   and some go to the end. Returns the fragment's length. */
 static size_t keep_fragment(uint8_t *packet, size_t len)
 {
     size_t units = (len - 20 + 7) / 8, first = dice(3) ? dice((unsigned)units) : 0, end = units, last;
@@ -96,7 +96,7 @@ static size_t keep_fragment(uint8_t *packet, size_t len)
 }
 
 /* Turns a bit round; does so in the header, or changes its total length, and makes its sum right again; or cuts or
-   lengthens the packet. The answer is its length. */
+   lengthens the packet. Returns its length. */
 static size_t damage(uint8_t *packet, size_t len)
 {
     uint8_t bit = (uint8_t)(1u << dice(8));
@@ -129,7 +129,7 @@ static size_t damage(uint8_t *packet, size_t len)
     }
 }
 
-/* A packet from PEER to HOST in the place of one from HOST to PEER: the sums stay right. */
+/* A packet from PEER to HOST instead of one from HOST to PEER: the sums stay right. */
 static void turn_round(uint8_t *packet)
 {
     uint8_t swapped[4];

@@ -1,8 +1,8 @@
-/* Random calls on a stack, and the same calls as lines of `bsdudp run`, which runs beside it: random PROGRAM
-   SEED.. Each reply has to be the same, byte for byte. For each seed there are five machines, with 10,000 calls each:
-   datagrams, fragments, damaged packets, and pools that run dry. What the questions tell has to be what the calls then
-   find. In the end each refusal of each call has to have come, and each counter has to have counted. It says the first
-   thing that is wrong, and then exits with 1. */
+/* Random calls on a stack, and the same calls as lines of `bsdudp run`, which runs at the same time: random PROGRAM
+   SEED.. Each reply must be the same, byte for byte. For each seed there are five machines, with 10,000 calls each:
+   datagrams, fragments, damaged packets, and pools that run dry. The queries must agree with what the calls then find.
+   In the end each call must have failed with each of its errors, and each counter must have counted. It prints the
+   first fault, and then exits with 1. */
 #define _POSIX_C_SOURCE 200809L
 #include "bsdudp.h"
 #include "packets.h"
@@ -122,7 +122,7 @@ static void put_addr(char *text, size_t *len, const struct bsdudp_addr *it)
                             it->ip & 255, it->port);
 }
 
-/* The reply that a refusal stands for; else `ok`, with the answer if there is one to tell. */
+/* The reply for an error; otherwise `ok`, with the result if there is one. */
 static void answer_number(int number, bool told)
 {
     size_t k;
@@ -166,7 +166,7 @@ static struct bsdudp_addr some_addr(uint32_t likely)
     return it;
 }
 
-/* So many bytes of a datagram: few, at a border, or any number that a socket sends, and one more. */
+/* A number of bytes for a datagram: few, at a limit, or any number that a socket sends, and one more. */
 static size_t some_len(void)
 {
     static const unsigned borders[] = {72, 73, 100, 101, 207, 208, 1472, 1473, 1992, 1993, 9216, 9217};
@@ -180,7 +180,7 @@ static size_t some_len(void)
     }
 }
 
-/* ---- calls: each writes its line, and what it answers as a reply */
+/* ---- calls: each writes its line, and its result as a reply */
 
 static void call_socket(void)
 {
@@ -240,7 +240,7 @@ static void call_send(void)
     answer_number(bsdudp_send(&stack, fd, bytes, len), true);
 }
 
-/* Whether what stands in a room from `len` on is as it was. */
+/* Whether the bytes of a buffer from `len` on are unchanged. */
 static bool is_untouched(const uint8_t *room, size_t len, size_t end)
 {
     while (len < end && room[len] == UNTOUCHED)
@@ -307,7 +307,7 @@ static void call_setsockopt(void)
     }
 }
 
-/* The address and port of a socket, and its peer's port, if it's one that hears the peer. */
+/* The address and port of a socket, and its peer's port, if it's one that receives from the peer. */
 static struct bsdudp_addr some_name(uint16_t *peer_port)
 {
     struct bsdudp_addr it = some_addr(HOST);
@@ -321,7 +321,7 @@ static struct bsdudp_addr some_name(uint16_t *peer_port)
     return it;
 }
 
-/* What is unfinished: each has ranges in order and apart, and as many bytes as these have. */
+/* What is unfinished: each has ranges in order and apart, and their number of bytes. */
 static void look_at_unfinished(void)
 {
     struct bsdudp_unfinished datagram;
@@ -430,7 +430,7 @@ static void (*const calls[KINDS])(void) = {call_socket, call_bind,       call_co
                                            call_recvfrom, call_close,    call_setsockopt, call_rx,  call_tx,
                                            call_tick,   call_stat,       call_mbstat};
 
-/* ---- the program beside it */
+/* ---- the program that runs at the same time */
 
 static pid_t start(const char *program, const struct bsdudp_config *it)
 {

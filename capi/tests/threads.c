@@ -1,6 +1,6 @@
 /* Four threads boot, use and end stacks of their own, all at once and without a lock: in memory that they give, and in
-   that of malloc. Beside them two share a stack under a lock, and each ends what it finds there and boots another. It
-   says what is wrong, and then exits with 1; a thread sanitizer sees what two of them touch at once. */
+   that of malloc. At the same time two share a stack under a lock, and each ends what it finds there and boots another.
+   It says what is wrong, and then exits with 1; a thread sanitizer sees what two of them touch at once. */
 #include "bsdudp.h"
 
 #include <pthread.h>
@@ -20,7 +20,7 @@ static struct place places[THREADS];
 static pthread_mutex_t lock = PTHREAD_MUTEX_INITIALIZER;
 static struct bsdudp shared = BSDUDP_NONE;
 
-/* A stack of these sizes hears itself. */
+/* A stack of these sizes sends to itself. */
 static const char *works(struct bsdudp *stack, const struct place *here)
 {
     const struct bsdudp_addr self = {0x7f000001, 7};

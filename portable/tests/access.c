@@ -27,7 +27,7 @@ static int writes(const struct core *it, u32 address, u32 len)
     return 1;
 }
 
-/* A window of 24 bytes that begins at an address; of these so many may be written. */
+/* A window of 24 bytes that begins at an address; this many of them may be written. */
 static int borders(struct core *it, u32 address, u32 size)
 {
     const u32 last = address + 23;

@@ -1,5 +1,5 @@
 /* run.c on a host: scripts on standard input, replies on standard output. The memory of each stack is a block of
-   malloc's, exactly as large as bsdudp_memory tells, so that a sanitizer sees each access outside of it. */
+   malloc's, exactly as large as bsdudp_memory returns, so that a sanitizer sees each access outside of it. */
 #define _POSIX_C_SOURCE 200112L
 #include "run.h"
 

@@ -1,5 +1,5 @@
 /* run.c as a program of Linux on RISC-V with 32 bits, for qemu-riscv32. It brings what a C library and a compiler's own
-   library would have, so that the toolchain's clang and linker alone make it. */
+   library would have, so that only the toolchain's clang and linker are needed. */
 #include "run.h"
 
 #include "bsdudp.h"

@@ -1,6 +1,6 @@
 /* The language of `bsdudp run` (docs/scripts.md) over bsdudp.h. The input is one script after another: a line with
-   options, as `--mtu 68`, the script's lines, and a byte 0; and then RUN_END. So are the replies: a line for each, and
-   a byte 0. It reads and writes by the functions of run.h, so that it runs on a board too. */
+   options, such as `--mtu 68`, the script's lines, and a byte 0; and then RUN_END. So are the replies: a line for each,
+   and a byte 0. It reads and writes by the functions of run.h, so that it runs on a board too. */
 #include "run.h"
 
 #include "bsdudp.h"
@@ -60,7 +60,7 @@ static const char *const names[][2] = {{"9", "EBADF"}, {"13", "EACCES"}, {"22", 
     {"55", "ENOBUFS pool"}, {"56", "EISCONN"}, {"65", "EHOSTUNREACH"}, {"155", "ENOBUFS queue"}};
 static const int numbers[] = {9, 13, 22, 24, 35, 39, 40, 48, 49, 55, 56, 65, 155};
 
-/* Whether an answer is a refusal; then it's said. */
+/* Whether a result is an error; it's then printed. */
 static int refused(int answer)
 {
     size_t i;
@@ -182,7 +182,7 @@ static int digit_of(char c)
     return c >= 'A' && c <= 'F' ? c - 'A' + 10 : -1;
 }
 
-/* Bytes, which stand in `bytes` then. */
+/* Bytes, which are then in `bytes`. */
 static int bytes_of(struct word word, size_t *len)
 {
     size_t i;
@@ -218,7 +218,7 @@ static int split(const char *text, size_t len, struct word *words)
     return count;
 }
 
-/* ---- lines: each of these answers whether the line has its form, and has said the reply then */
+/* ---- lines: each of these returns whether the line has its form, and has then printed the reply */
 
 static int plain(const struct word *w, int count)
 {
@@ -353,7 +353,7 @@ static int config_of(size_t len, struct bsdudp_config *config)
     return 1;
 }
 
-/* Reads a line. The answer is the byte after it: a line feed, 0, or -1 at the end of the input. */
+/* Reads a line. Returns the byte after it: a line feed, 0, or -1 at the end of the input. */
 static int read_line(size_t *len)
 {
     int c;

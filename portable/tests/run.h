@@ -1,7 +1,7 @@
 /* What run.c asks of the machine that it runs on. */
 #include <stddef.h>
 
-/* A byte that ends the input, where it has no other end. */
+/* A byte that ends the input, if it has no other end. */
 enum { RUN_END = 4 };
 
 /* The next byte of the input, or -1 at its end. */

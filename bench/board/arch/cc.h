@@ -1,1 +1,1 @@
-/* What lwIP asks of a port: nothing that its own answer doesn't do for. */
+/* What lwIP requires of a port: its own defaults are enough. */

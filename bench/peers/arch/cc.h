@@ -1,4 +1,4 @@
-/* What lwIP asks of a port and has no answer of its own for. */
+/* What lwIP requires of a port and has no default for. */
 #ifndef BSDUDP_ARCH_CC_H
 #define BSDUDP_ARCH_CC_H
 
