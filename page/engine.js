@@ -210,9 +210,6 @@ function linesOf(text) {
 
 // ---- the options of the command line
 
-const DEFAULTS = { addr: "10.0.0.1", bcast: "10.0.0.255", mtu: "1500", mbufs: "512", clusters: "64", id: "1" };
-const MOST = { mtu: 65535, mbufs: 4294967295, clusters: 4294967295, id: 65535 };
-
 const numberIn = (text, most) => (/^(0|[1-9]\d{0,9})$/.test(text) && +text <= most ? +text : null);
 
 // The machine that options configure, or `wrong`, the name of the first option with an invalid value.

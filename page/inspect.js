@@ -87,7 +87,7 @@ function verdictsOf(step, before, now) {
     all.push(verdict("wait", step.packet.isFragment ? "Kept: the datagram isn't whole yet." : "Accepted."));
   }
   for (const it of step.drops) {
-    const cause = causeIn(step, it.name), rule = RULES[cause];
+    const cause = causeIn(step, it.name), { rule } = CAUSES.find(known => known.text === cause) || {};
     const many = it.by > 1 ? `${it.by} dropped` : "Dropped";
     all.push(verdict("no", h("b", {}, many), `: ${cause} (`, h("code", {}, it.name), `)${bothSums(step, it.name)}.`,
       rule && h("span", { class: "rule" }, `The rule: ${rule}.`), GIVES_UP.has(it.name) && givenUp(step, before, now)));

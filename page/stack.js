@@ -13,47 +13,12 @@ function askMeanings(engine) {
   }
 }
 
-// The checks of a packet that arrives, in their order, each with the counter that counts its failure
-// (docs/behaviour.md).
-const CHECKS = [
-  ["nobufs", "buffers for the packet"],
-  ["ip.toosmall", "at least 20 bytes"],
-  ["ip.badvers", "version 4"],
-  ["ip.badhlen", "header of at least 5 words"],
-  ["ip.options", "no options"],
-  ["ip.badsum", "header checksum"],
-  ["ip.badlen", "total length of at least 20"],
-  ["ip.tooshort", "as many bytes as the total length"],
-  ["ip.cantforward", "destination is this host"],
-  ["ip.badfrag", "fragment's size and offset"],
-  ["ip.noproto", "protocol is UDP"],
-  ["ip.fragdropped", "fragment has new bytes"],
-  ["udp.hdrops", "8 bytes of UDP header"],
-  ["udp.badlen", "UDP length"],
-  ["udp.badsum", "UDP checksum"],
-  ["udp.noport", "a socket for it"],
-  ["udp.noportbcast", "a socket for the broadcast"],
-  ["udp.fullsock", "room in the receive queue"],
-  ["nobufs later", "buffers for its delivery"],
-];
-const ENDS = new Set(CHECKS.map(([name]) => name));
-const DROPS = new Set([...ENDS, "ip.fragtimeout", "ip.reclaimed", "out.dropped"]);
-
-const ERRORS = {
-  EBADF: "no socket with this descriptor is open",
-  EACCES: "the socket's broadcast option is off",
-  EINVAL: "the socket already has a port or a local address",
-  EMFILE: "64 sockets are open",
-  EWOULDBLOCK: "the receive queue is empty, and calls don't block",
-  EDESTADDRREQ: "the socket isn't connected, so there is no address to send to",
-  EMSGSIZE: "more than 9,216 bytes, or a broadcast longer than the MTU",
-  EADDRINUSE: "another socket uses this address and port",
-  EADDRNOTAVAIL: "not an address of this host, or port 0",
-  "ENOBUFS pool": "the pool has too few free buffers for the datagram",
-  "ENOBUFS queue": "the output queue has no room for all packets: it holds 50",
-  EISCONN: "the socket is connected, so it takes no address",
-  EHOSTUNREACH: "there is no route to the address",
-};
+// The checks of a packet that arrives, in their order, each with the counter that counts its failure: the rules of
+// `bsdplay why`, without their sources. What has buffers at first may lack them later.
+const CHECKS = [...CAUSES.filter(it => it.counter === "nobufs"), ...CAUSES.filter(it => it.counter !== "nobufs")]
+  .map(({ counter, rule }) => [counter, rule.replace(/ \([^()]*\)$/, "")])
+  .concat([["nobufs later", "the pool has buffers for its delivery"]]);
+const ENDS = new Set(CHECKS.map(([name]) => name)), DROPS = new Set(DROPPED);
 
 // ---- replies
 

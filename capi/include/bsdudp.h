@@ -150,25 +150,27 @@ struct bsdudp_neighbour {
 
 /* Errors, with 4.4BSD's numbers. A call that fails returns the negative of one of them. */
 enum {
-    BSDUDP_ENXIO = 6,           /* the handle holds no stack; from boot: it holds one already */
-    BSDUDP_EBADF = 9,           /* no open socket has this descriptor */
+    BSDUDP_ENXIO = 6,           /* the handle holds no stack; boot: it holds one already */
+    BSDUDP_EBADF = 9,           /* the descriptor is not open */
     BSDUDP_ENOMEM = 12,         /* too little memory for the stack */
-    BSDUDP_EACCES = 13,         /* a send to the broadcast address without BSDUDP_SO_BROADCAST */
-    BSDUDP_EINVAL = 22,         /* an invalid configuration; bind: already bound; a query: no such number */
-    BSDUDP_EMFILE = 24,         /* 64 sockets are open */
+    BSDUDP_EACCES = 13,         /* the destination is the broadcast address, and the socket is not allowed to send to
+                                   it; SO_BROADCAST allows it */
+    BSDUDP_EINVAL = 22,         /* the socket is already bound; an invalid configuration; a query: no such number */
+    BSDUDP_EMFILE = 24,         /* all descriptors are open; at most 64 */
     BSDUDP_EDOM = 33,           /* numbers of mbufs or clusters that a pool cannot have */
-    BSDUDP_EWOULDBLOCK = 35,    /* the receive queue is empty */
-    BSDUDP_EDESTADDRREQ = 39,   /* bsdudp_send on a socket that is not connected */
-    BSDUDP_EMSGSIZE = 40,       /* a packet or datagram is too long, or a buffer is too short */
+    BSDUDP_EWOULDBLOCK = 35,    /* no datagram is queued, and the call does not wait */
+    BSDUDP_EDESTADDRREQ = 39,   /* the socket is not connected, and the call has no destination */
+    BSDUDP_EMSGSIZE = 40,       /* the datagram is too long; a packet is too long; a buffer is too short */
     BSDUDP_ENOPROTOOPT = 42,    /* no such option */
     BSDUDP_EOPNOTSUPP = 45,     /* a call for packets on a host, or a call for frames on a bare stack */
-    BSDUDP_EADDRINUSE = 48,     /* another socket uses the address and port; another host uses the address */
-    BSDUDP_EADDRNOTAVAIL = 49,  /* not an address of this host, or a destination with port 0 */
-    BSDUDP_ENOBUFS = 55,        /* the pool has too few free buffers; nothing was sent */
-    BSDUDP_EISCONN = 56,        /* bsdudp_sendto on a connected socket */
-    BSDUDP_ECONNREFUSED = 61,   /* only a report of bsdudp_ether_last_error: no socket has the port there */
-    BSDUDP_EHOSTUNREACH = 65,   /* no route to the destination */
-    BSDUDP_EQUEUE = 155         /* the output queue is full (ENOBUFS in 4.4BSD): see bsdudp_sendto */
+    BSDUDP_EADDRINUSE = 48,     /* another socket has the address and port; another host uses the address */
+    BSDUDP_EADDRNOTAVAIL = 49,  /* the address is not an address of this host, or the port to connect to is 0 */
+    BSDUDP_ENOBUFS = 55,        /* the pool has too few buffers; nothing was sent */
+    BSDUDP_EISCONN = 56,        /* the socket is connected, and the call has a destination */
+    BSDUDP_ECONNREFUSED = 61,   /* no socket has the port at the peer; only a report of bsdudp_ether_last_error */
+    BSDUDP_EHOSTUNREACH = 65,   /* no interface leads to the destination */
+    BSDUDP_EQUEUE = 155         /* the interface's output queue is full; the packets that fit are queued (ENOBUFS in
+                                   4.4BSD) */
 };
 
 /* The options of bsdudp_setsockopt. */
@@ -587,8 +589,16 @@ int bsdudp_mbstat(struct bsdudp *stack, struct bsdudp_mbstat *usage);
 /* Returns the name of counter `which`, for example "ip.total"; NULL if `which` is not below BSDUDP_COUNTERS. */
 const char *bsdudp_counter_name(uint32_t which);
 
-/* Returns the meaning of a result, for example "no buffers" for -BSDUDP_ENOBUFS. It is "ok" for 0 and above, and
-   "unknown" for a number that no call returns. */
+/* Returns the cause of each drop that counter `which` counts, for example "no socket has the port" for udp.noport; NULL
+   if it counts no drops, or `which` is not below BSDUDP_COUNTERS. */
+const char *bsdudp_counter_cause(uint32_t which);
+
+/* Returns 4.4BSD's name of an error, for example "EADDRINUSE" for -BSDUDP_EADDRINUSE, and "ENOBUFS" for both
+   -BSDUDP_ENOBUFS and -BSDUDP_EQUEUE; NULL if `result` is not the negative of a BSDUDP_E number. */
+const char *bsdudp_error_name(int result);
+
+/* Returns the meaning of a result, for example "the descriptor is not open" for -BSDUDP_EBADF. It is "ok" for 0 and
+   above, and "unknown" for a number that no call returns. */
 const char *bsdudp_strerror(int result);
 
 /* Returns the version of the library that the program is linked with. BSDUDP_VERSION is the version of this header. */

@@ -1,4 +1,4 @@
-/* The names of counters, the texts of results, and the version. */
+/* The names of counters and errors, the texts of causes and results, and the version. tools/lists writes the tables. */
 #include "bsdudp.h"
 
 const char *bsdudp_counter_name(uint32_t which)
@@ -34,52 +34,107 @@ const char *bsdudp_counter_name(uint32_t which)
     return which < BSDUDP_COUNTERS ? names[which] : NULL;
 }
 
+const char *bsdudp_counter_cause(uint32_t which)
+{
+    static const char *const causes[BSDUDP_COUNTERS] = {
+        NULL,
+        "packet shorter than a header",
+        "wrong version",
+        "header length too small",
+        "options are not taken",
+        "wrong header checksum",
+        "total length too small",
+        "packet shorter than its total length",
+        "not addressed to this machine",
+        "malformed fragment",
+        NULL,
+        "fragment held already",
+        "fragments missing for 60 ticks",
+        "unfinished datagram given up for its buffers",
+        NULL,
+        "unknown protocol",
+        "datagram shorter than a header",
+        "wrong datagram length",
+        "wrong datagram checksum",
+        "no socket has the port",
+        "no socket has the port of the broadcast",
+        "receive queue full",
+        NULL,
+        NULL,
+        "output queue full",
+        "no buffer space available",
+    };
+    return which < BSDUDP_COUNTERS ? causes[which] : NULL;
+}
+
+struct error {
+    int number;
+    const char *name, *meaning;
+};
+
+static const struct error errors[] = {
+    {BSDUDP_ENXIO, "ENXIO",
+     "the handle holds no stack; boot: it holds one already"},
+    {BSDUDP_EBADF, "EBADF",
+     "the descriptor is not open"},
+    {BSDUDP_ENOMEM, "ENOMEM",
+     "too little memory for the stack"},
+    {BSDUDP_EACCES, "EACCES",
+     "the destination is the broadcast address, and the socket is not allowed to send to it; SO_BROADCAST allows it"},
+    {BSDUDP_EINVAL, "EINVAL",
+     "the socket is already bound; an invalid configuration; a query: no such number"},
+    {BSDUDP_EMFILE, "EMFILE",
+     "all descriptors are open; at most 64"},
+    {BSDUDP_EDOM, "EDOM",
+     "numbers of mbufs or clusters that a pool cannot have"},
+    {BSDUDP_EWOULDBLOCK, "EWOULDBLOCK",
+     "no datagram is queued, and the call does not wait"},
+    {BSDUDP_EDESTADDRREQ, "EDESTADDRREQ",
+     "the socket is not connected, and the call has no destination"},
+    {BSDUDP_EMSGSIZE, "EMSGSIZE",
+     "the datagram is too long; a packet is too long; a buffer is too short"},
+    {BSDUDP_ENOPROTOOPT, "ENOPROTOOPT",
+     "no such option"},
+    {BSDUDP_EOPNOTSUPP, "EOPNOTSUPP",
+     "a call for packets on a host, or a call for frames on a bare stack"},
+    {BSDUDP_EADDRINUSE, "EADDRINUSE",
+     "another socket has the address and port; another host uses the address"},
+    {BSDUDP_EADDRNOTAVAIL, "EADDRNOTAVAIL",
+     "the address is not an address of this host, or the port to connect to is 0"},
+    {BSDUDP_ENOBUFS, "ENOBUFS",
+     "the pool has too few buffers; nothing was sent"},
+    {BSDUDP_EISCONN, "EISCONN",
+     "the socket is connected, and the call has a destination"},
+    {BSDUDP_ECONNREFUSED, "ECONNREFUSED",
+     "no socket has the port at the peer; only a report of bsdudp_ether_last_error"},
+    {BSDUDP_EHOSTUNREACH, "EHOSTUNREACH",
+     "no interface leads to the destination"},
+    {BSDUDP_EQUEUE, "ENOBUFS",
+     "the interface's output queue is full; the packets that fit are queued (ENOBUFS in 4.4BSD)"},
+};
+
+/* The error of a negative result; NULL if no call returns it. */
+static const struct error *error_of(int result)
+{
+    size_t i;
+    for (i = 0; i < sizeof errors / sizeof errors[0]; i++)
+        if (result == -errors[i].number)
+            return &errors[i];
+    return NULL;
+}
+
+const char *bsdudp_error_name(int result)
+{
+    const struct error *error = error_of(result);
+    return error != NULL ? error->name : NULL;
+}
+
 const char *bsdudp_strerror(int result)
 {
+    const struct error *error = error_of(result);
     if (result >= 0)
         return "ok";
-    switch (result) {
-    case -BSDUDP_ENXIO:
-        return "no stack, or one already";
-    case -BSDUDP_EBADF:
-        return "bad descriptor";
-    case -BSDUDP_ENOMEM:
-        return "no memory";
-    case -BSDUDP_EACCES:
-        return "access denied";
-    case -BSDUDP_EINVAL:
-        return "invalid";
-    case -BSDUDP_EMFILE:
-        return "too many sockets";
-    case -BSDUDP_EDOM:
-        return "bad sizes";
-    case -BSDUDP_EWOULDBLOCK:
-        return "would block";
-    case -BSDUDP_EDESTADDRREQ:
-        return "destination required";
-    case -BSDUDP_EMSGSIZE:
-        return "bad length";
-    case -BSDUDP_ENOPROTOOPT:
-        return "no such option";
-    case -BSDUDP_EOPNOTSUPP:
-        return "operation not supported";
-    case -BSDUDP_EADDRINUSE:
-        return "address in use";
-    case -BSDUDP_EADDRNOTAVAIL:
-        return "address not available";
-    case -BSDUDP_ENOBUFS:
-        return "no buffers";
-    case -BSDUDP_EISCONN:
-        return "is connected";
-    case -BSDUDP_ECONNREFUSED:
-        return "connection refused";
-    case -BSDUDP_EHOSTUNREACH:
-        return "host unreachable";
-    case -BSDUDP_EQUEUE:
-        return "output queue full";
-    default:
-        return "unknown";
-    }
+    return error != NULL ? error->meaning : "unknown";
 }
 
 const char *bsdudp_version(void)

@@ -358,7 +358,7 @@ static int reports(void)
     for (k = 0; k < 8; k++)
         WANT(reported(3, 4000, 100 + k), 0); /* eight are kept */
     WANT(bsdudp_ether_last_error(&host, 4), 0);
-    WANT(strcmp(bsdudp_strerror(-BSDUDP_ECONNREFUSED), "connection refused"), 0);
+    WANT(strcmp(bsdudp_error_name(-BSDUDP_ECONNREFUSED), "ECONNREFUSED"), 0);
     WANT(bsdudp_close(&host, 4), 0);
     WANT(bsdudp_ether_last_error(&host, 4), -BSDUDP_EBADF);
     return 0;

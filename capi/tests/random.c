@@ -40,25 +40,6 @@ static const struct {
     {SETSOCKOPT, {BSDUDP_EBADF}},
 };
 
-static const struct {
-    int number;
-    const char *text;
-} replies[] = {
-    {BSDUDP_EBADF, "9 EBADF"},
-    {BSDUDP_EACCES, "13 EACCES"},
-    {BSDUDP_EINVAL, "22 EINVAL"},
-    {BSDUDP_EMFILE, "24 EMFILE"},
-    {BSDUDP_EWOULDBLOCK, "35 EWOULDBLOCK"},
-    {BSDUDP_EDESTADDRREQ, "39 EDESTADDRREQ"},
-    {BSDUDP_EMSGSIZE, "40 EMSGSIZE"},
-    {BSDUDP_EADDRINUSE, "48 EADDRINUSE"},
-    {BSDUDP_EADDRNOTAVAIL, "49 EADDRNOTAVAIL"},
-    {BSDUDP_ENOBUFS, "55 ENOBUFS pool"},
-    {BSDUDP_EQUEUE, "55 ENOBUFS queue"},
-    {BSDUDP_EISCONN, "56 EISCONN"},
-    {BSDUDP_EHOSTUNREACH, "65 EHOSTUNREACH"},
-};
-
 /* The machines. With 300 mbufs and MTU 68 the output queue is full before the pool is dry. */
 static const struct bsdudp_config machines[] = {
     {HOST, BROADCAST, 512, 64, 1500, 1}, {HOST, BROADCAST, 40, 6, 576, 65530}, {HOST, BROADCAST, 300, 8, 68, 7},
@@ -125,16 +106,15 @@ static void put_addr(char *text, size_t *len, const struct bsdudp_addr *it)
 /* The reply for an error; otherwise `ok`, with the result if there is one. */
 static void answer_number(int number, bool told)
 {
-    size_t k;
+    const char *name = bsdudp_error_name(number);
     if (number >= 0) {
         answer(told ? "ok %d" : "ok", number);
         return;
     }
     if (-number < 256)
         refused[kind][-number] = true;
-    for (k = 0; k < sizeof replies / sizeof *replies; k++)
-        if (replies[k].number == -number)
-            answer("error %s", replies[k].text);
+    answer("error %d %s%s", number == -BSDUDP_EQUEUE ? BSDUDP_ENOBUFS : -number, name != NULL ? name : "of no name",
+           number == -BSDUDP_EQUEUE ? " queue" : number == -BSDUDP_ENOBUFS ? " pool" : "");
 }
 
 /* ---- what is drawn */

@@ -5,7 +5,8 @@
 const fs = require("fs");
 const { load } = require("./sources.js");
 
-const page = load(["Engine", "captureScript", "tracePlay"]);
+const [module, ...files] = process.argv.slice(2);
+const page = load(["Engine", "captureScript", "tracePlay"], module);
 
 function played(engine, file) {
   const { records, fault: end } = engine.records(new Uint8Array(fs.readFileSync(file)));
@@ -19,7 +20,7 @@ function played(engine, file) {
 }
 
 async function main() {
-  const [module, ...files] = process.argv.slice(2), engine = await page.Engine.load(fs.readFileSync(module));
+  const engine = await page.Engine.load(fs.readFileSync(module));
   for (const file of files) console.log(JSON.stringify(played(engine, file)));
 }
 

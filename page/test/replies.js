@@ -11,7 +11,7 @@ const { load } = require("./sources.js");
 const [file, examples, lessons, program, player] = process.argv.slice(2);
 const page = load(["Engine", "configOf", "optionsOf", "readNotes", "partsOf", "linesOf", "hexOf", "bytesOf", "hasHosts",
   "DEFAULTS", "DEFAULT_CONFIG", "usageIn", "slotsIn", "drawnChains", "clustersIn", "playChains", "traceHosts",
-  "isFollowed", "Frame", "tracePlay", "traceStack", "Held", "chainsIn", "captureScript"]);
+  "isFollowed", "Frame", "tracePlay", "traceStack", "Held", "chainsIn", "captureScript"], file);
 
 let faults = 0;
 function fault(script, text) {

@@ -55,28 +55,17 @@ static void say_addr(uint32_t ip)
     }
 }
 
-static const char *const names[][2] = {{"9", "EBADF"}, {"13", "EACCES"}, {"22", "EINVAL"}, {"24", "EMFILE"},
-    {"35", "EWOULDBLOCK"}, {"39", "EDESTADDRREQ"}, {"40", "EMSGSIZE"}, {"48", "EADDRINUSE"}, {"49", "EADDRNOTAVAIL"},
-    {"55", "ENOBUFS pool"}, {"56", "EISCONN"}, {"65", "EHOSTUNREACH"}, {"155", "ENOBUFS queue"}};
-static const int numbers[] = {9, 13, 22, 24, 35, 39, 40, 48, 49, 55, 56, 65, 155};
-
 /* Whether a result is an error; it's then printed. */
 static int refused(int answer)
 {
-    size_t i;
+    const char *name = bsdudp_error_name(answer);
     if (answer >= 0)
         return 0;
     say("error ");
-    for (i = 0; i < sizeof numbers / sizeof numbers[0] && numbers[i] != -answer; i++)
-        continue;
-    if (i == sizeof numbers / sizeof numbers[0]) {
-        say_number((uint64_t)-answer);
-        say(" that no line can have");
-    } else {
-        say(answer == -BSDUDP_EQUEUE ? "55" : names[i][0]);
-        say(" ");
-        say(names[i][1]);
-    }
+    say_number((uint64_t)(answer == -BSDUDP_EQUEUE ? BSDUDP_ENOBUFS : -answer));
+    say(" ");
+    say(name != NULL ? name : "that no call can have");
+    say(answer == -BSDUDP_EQUEUE ? " queue" : answer == -BSDUDP_ENOBUFS ? " pool" : "");
     return 1;
 }
 

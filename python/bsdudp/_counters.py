@@ -1,33 +1,10 @@
-"""The counters of a stack, and the texts for the causes of drops."""
+"""The counters of a stack, and the causes of drops."""
 from __future__ import annotations
 
 import html
 from typing import Dict, Iterator, List, Mapping, NamedTuple
 
-# The cause in words for each counter of drops: the words of `bsdplay` (docs/scripts.md), and three that no line causes.
-CAUSES = {
-    "ip.toosmall": "packet shorter than a header",
-    "ip.badvers": "wrong version",
-    "ip.badhlen": "header length too small",
-    "ip.options": "options are not taken",
-    "ip.badsum": "wrong header checksum",
-    "ip.badlen": "total length too small",
-    "ip.tooshort": "packet shorter than its total length",
-    "ip.cantforward": "not addressed to this machine",
-    "ip.badfrag": "malformed fragment",
-    "ip.fragdropped": "fragment held already",
-    "ip.fragtimeout": "fragments missing for 60 ticks",
-    "ip.reclaimed": "unfinished datagram given up for its buffers",
-    "ip.noproto": "unknown protocol",
-    "udp.hdrops": "datagram shorter than a header",
-    "udp.badlen": "wrong datagram length",
-    "udp.badsum": "wrong datagram checksum",
-    "udp.noport": "no socket has the port",
-    "udp.noportbcast": "no socket has the port of the broadcast",
-    "udp.fullsock": "receive queue full",
-    "out.dropped": "output queue full",
-    "nobufs": "no buffer space available",
-}
+from ._library import LIBRARY
 
 
 class MbStat(NamedTuple):
@@ -47,7 +24,7 @@ class MbStat(NamedTuple):
 
 
 class Counters(Mapping[str, int]):
-    """A snapshot of the 26 counters of a stack: a mapping from name to value. `repr` shows the counters that are not 0.
+    """A snapshot of the counters of a stack: a mapping from name to value. `repr` shows the counters that are not 0.
 
     ip.total, ip.fragments, ip.reassembled, ip.localout and ip.fragmented count packets and datagrams that were
     processed. Every other counter counts packets or datagrams that were dropped; `causes` gives its meaning in words.
@@ -83,7 +60,7 @@ class Counters(Mapping[str, int]):
         number of times."""
         return [
             text if self._values[name] == 1 else f"{text} ({self._values[name]} times)"
-            for name, text in CAUSES.items()
+            for name, text in LIBRARY.causes.items()
             if self._values.get(name)
         ]
 

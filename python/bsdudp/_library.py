@@ -4,14 +4,14 @@ from __future__ import annotations
 import ctypes
 import ctypes.util
 import errno
+import itertools
 import os
 import pathlib
-from typing import Any, Callable, Dict, List, NamedTuple, Tuple, Type
+from typing import Any, Callable, Dict, Iterator, List, Optional, Tuple, Type
 
 NAME = "libbsdudp.so.0"
 ENVIRONMENT = "BSDUDP_LIBRARY"
 
-COUNTERS = 26
 FIRST_DESCRIPTOR = 3
 MAX_SOCKETS = 64
 MAX_PACKET = 65_535
@@ -147,38 +147,9 @@ class NeighbourOfC(ctypes.Structure):
     ]
 
 
-class Refusal(NamedTuple):
-    """An error of the library: the name of the operating system's error for it, and a text."""
-
-    name: str
-    text: str
-
-
-# 4.4BSD's numbers, which the header uses. The operating system's numbers differ; the names are the same.
-REFUSALS = {
-    6: Refusal("ENXIO", "the stack has ended"),
-    9: Refusal("EBADF", "the socket isn't open"),
-    12: Refusal("ENOMEM", "too little memory"),
-    13: Refusal("EACCES", "a broadcast needs the option SO_BROADCAST"),
-    22: Refusal("EINVAL", "the socket has a name already"),
-    24: Refusal("EMFILE", "64 sockets are open"),
-    33: Refusal("EDOM", "no pool has these sizes"),
-    35: Refusal("EAGAIN", "no datagram waits"),
-    39: Refusal("EDESTADDRREQ", "the socket isn't connected, and no address is given"),
-    40: Refusal("EMSGSIZE", "the datagram is too long"),
-    42: Refusal("ENOPROTOOPT", "there's no such option"),
-    45: Refusal("EOPNOTSUPP", "a host takes and gives frames (receive, transmit), and a stack packets (rx, tx)"),
-    48: Refusal("EADDRINUSE", "another socket stands in the way"),
-    49: Refusal("EADDRNOTAVAIL", "no address of this machine, or port 0 as a destination"),
-    55: Refusal("ENOBUFS", "the pool has too few buffers; nothing was sent"),
-    56: Refusal("EISCONN", "the socket is connected, and an address is given"),
-    61: Refusal("ECONNREFUSED", "no socket has that port"),
-    65: Refusal("EHOSTUNREACH", "nothing leads there"),
-    155: Refusal("ENOBUFS", "the output queue is full; a part of the datagram, or nothing of it, was queued"),
-}
-
-QUEUE_IS_FULL = 155
-POOL_LACKS = 55
+# The two results that are ENOBUFS.
+POOL_LACKS = -55
+QUEUE_IS_FULL = -155
 
 
 class NoBuffersError(OSError):
@@ -204,13 +175,12 @@ class NoBuffersError(OSError):
 
 
 def refused(answer: int) -> OSError:
-    """Returns the exception for a negative result. OSError chooses its subclass by the number: EAGAIN is a
+    """Returns the exception for a negative result. OSError chooses its subclass by the number: EWOULDBLOCK is a
     BlockingIOError."""
-    refusal = REFUSALS[-answer]
-    number = getattr(errno, refusal.name)
-    if -answer in (POOL_LACKS, QUEUE_IS_FULL):
-        return NoBuffersError(number, refusal.text, "pool" if -answer == POOL_LACKS else "queue")
-    return OSError(number, refusal.text)
+    number, text = getattr(errno, LIBRARY.error_name(answer)), LIBRARY.error_text(answer)
+    if answer in (POOL_LACKS, QUEUE_IS_FULL):
+        return NoBuffersError(number, text, "pool" if answer == POOL_LACKS else "queue")
+    return OSError(number, text)
 
 
 _handle = ctypes.POINTER(Handle)
@@ -279,12 +249,36 @@ class Library:
             self._calls[name] = function
         self._library.bsdudp_memory.argtypes = [ctypes.POINTER(Config)]
         self._library.bsdudp_memory.restype = _size
-        self._library.bsdudp_counter_name.argtypes = [_u32]
-        self._library.bsdudp_counter_name.restype = ctypes.c_char_p
-        self._library.bsdudp_version.argtypes = []
-        self._library.bsdudp_version.restype = ctypes.c_char_p
-        self.version = self._library.bsdudp_version().decode()
-        self.counter_names = tuple(self._library.bsdudp_counter_name(which).decode() for which in range(COUNTERS))
+        self.version = self._text("version") or ""
+        self.counter_names = tuple(self._counter_names())
+        # the cause of each drop, by the counter that counts it
+        self.causes: Dict[str, str] = {}
+        for which, name in enumerate(self.counter_names):
+            cause = self._text("counter_cause", _u32(which))
+            if cause is not None:
+                self.causes[name] = cause
+
+    def _text(self, name: str, *arguments: object) -> Optional[str]:
+        """Makes the call `bsdudp_NAME`, which returns a text or NULL."""
+        function = getattr(self._library, f"bsdudp_{name}")
+        function.restype = ctypes.c_char_p
+        text = function(*arguments)
+        return None if text is None else bytes(text).decode()
+
+    def _counter_names(self) -> Iterator[str]:
+        for which in itertools.count():
+            name = self._text("counter_name", _u32(which))
+            if name is None:
+                return
+            yield name
+
+    def error_name(self, answer: int) -> str:
+        """Returns the name of the error of a negative result."""
+        return self._text("error_name", ctypes.c_int(answer)) or ""
+
+    def error_text(self, answer: int) -> str:
+        """Returns the meaning of a result."""
+        return self._text("strerror", ctypes.c_int(answer)) or ""
 
     def call(self, name: str, handle: Handle, *arguments: object) -> int:
         """Makes the call `bsdudp_NAME` with a handle, and returns its result."""

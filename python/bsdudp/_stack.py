@@ -8,7 +8,7 @@ from typing import Dict, Iterator, List, Mapping, Optional, SupportsIndex, Type
 
 from ._addresses import Host, in_range, number_of, text_of
 from ._counters import Counters, MbStat
-from ._library import ALIGNMENT, COUNTERS, FIRST_DESCRIPTOR, LIBRARY, Config, Handle, Range, Unfinished, Usage, refused
+from ._library import ALIGNMENT, FIRST_DESCRIPTOR, LIBRARY, Config, Handle, Range, Unfinished, Usage, refused
 from ._packet import AnyPacket, Packet, bytes_of
 from ._socket import Socket
 from ._uncopied import Uncopied
@@ -239,16 +239,16 @@ class Stack(Uncopied):
 
     @property
     def counters(self) -> Counters:
-        """A snapshot of the 26 counters. It does not change: read the property again for new values."""
+        """A snapshot of the counters. It does not change: read the property again for new values."""
         with self._turn:
             return self._all_counters()
 
     def _all_counters(self) -> Counters:
         value = ctypes.c_uint64()
         values = {}
-        for which in range(COUNTERS):
+        for which, name in enumerate(LIBRARY.counter_names):
             self._call("counter", which, ctypes.byref(value))
-            values[LIBRARY.counter_names[which]] = value.value
+            values[name] = value.value
         return Counters(values)
 
     @property

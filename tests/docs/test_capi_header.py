@@ -1,5 +1,5 @@
-"""The C header: what each call returns and each of its errors, with its sign and name; its parameters; its counters. And
-the sections of its manual page."""
+"""The C header: what each call returns and each of its errors, with its sign and name; its parameters. And the sections of
+its manual page."""
 import re
 import subprocess
 import sys
@@ -12,7 +12,8 @@ HEADER = read("capi/include/bsdudp.h")
 CALL = r"/\*((?:(?!\*/).)*)\*/\n((?:int|size_t|const char \*)\s?\*?(bsdudp_\w+)\([^;]*\);)"
 CALLS = {name: (comment, call) for comment, call, name in re.findall(CALL, HEADER, re.S)}
 # Boot needs no stack in the handle; the others take no handle.
-WITHOUT_STACK = ["bsdudp_memory", "bsdudp_counter_name", "bsdudp_strerror", "bsdudp_version"]
+WITHOUT_STACK = ["bsdudp_memory", "bsdudp_counter_name", "bsdudp_counter_cause"]
+WITHOUT_STACK += ["bsdudp_error_name", "bsdudp_strerror", "bsdudp_version"]
 SECTIONS = ["NAME", "SYNOPSIS", "DESCRIPTION", "CALLS", "RETURN VALUE", "ERRORS", "EXAMPLES"]
 
 
@@ -35,13 +36,6 @@ def test_call(name):
     known = re.findall(r"(BSDUDP_E[A-Z]+) = ", HEADER)
     assert set(re.findall(r"-(BSDUDP_E[A-Z]+)", errors)) <= set(known)
     assert not re.search(r"(?<!BSDUDP_)\bE[A-Z]{4,}\b", comment), "a bare name of an error"
-
-
-def test_counters():
-    """The list at bsdudp_counter has the names and the numbers of the library."""
-    names = re.findall(r'(?m)^        "([a-z.]+)",$', read("capi/src/names.c"))
-    listed = re.findall(r"(?m)^ +(\d+)  ([a-z.]+) +\S", CALLS["bsdudp_counter"][0])
-    assert listed == [(str(at), name) for at, name in enumerate(names)]
 
 
 def test_sections_of_the_manual_page():

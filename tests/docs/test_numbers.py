@@ -6,9 +6,9 @@ import sys
 
 import pytest
 
-from tests.docs.definitions import SPECS
 from tests.docs.pages import TOP, Fault, cell_of, documents, lines, none_of, number, read, sources_of, table
 from tools import crates
+from tools.listed import SPECS
 
 PERFORMANCE = "docs/performance.md"
 LENGTHS = ["2 bytes", "1,472", "9,000"]

@@ -5,21 +5,8 @@ import subprocess
 
 from tests.python.package import bsdudp
 
-# 4.4BSD's numbers, as docs/scripts.md has them.
-NUMBERS = {
-    "EBADF": 9,
-    "EACCES": 13,
-    "EINVAL": 22,
-    "EMFILE": 24,
-    "EWOULDBLOCK": 35,
-    "EDESTADDRREQ": 39,
-    "EMSGSIZE": 40,
-    "EADDRINUSE": 48,
-    "EADDRNOTAVAIL": 49,
-    "ENOBUFS": 55,
-    "EISCONN": 56,
-    "EHOSTUNREACH": 65,
-}
+# 4.4BSD's numbers of errors, which are those of the library below 128.
+NUMBERS = {bsdudp._library.LIBRARY.error_name(-number): number for number in range(128)}
 
 
 def hex_of(data):

@@ -4,6 +4,7 @@ use crate::counters::{put_counters, put_pool};
 use crate::sockets::{put_queue, put_sockets};
 use crate::topic::Topic;
 use crate::unfinished::put_unfinished;
+use flat_model::Counter;
 use net_stack::Stack;
 use play_text::Piece::Amount;
 use play_text::add;
@@ -38,7 +39,7 @@ pub fn tell_topic(
         Topic::Queue => put_queue(told, machine.output_len(), machine.next_packet()),
         Topic::Counters => {
             put_counters(below, &machine.counters());
-            told.append(b"26 counters");
+            add(told, &[Amount(Counter::all().len() as u32, b"counter")]);
         }
         Topic::Pool => put_pool(told, machine.mbstat()),
     }

@@ -140,6 +140,7 @@ BsdudpSocket::Note(int answer) const
         return Refuse(ERROR_BADF);
     case BSDUDP_ENXIO:
         return Refuse(ERROR_NODEV);
+    case BSDUDP_EINVAL:
     default:
         return Refuse(ERROR_INVAL);
     }

@@ -43,31 +43,6 @@ constexpr uint16_t GREATEST_MTU = BSDUDP_TX_ROOM;
 /// The bytes of a UDP header.
 constexpr uint32_t UDP_LENGTH = 8;
 
-/// What is told of a counter of something dropped.
-const std::map<std::string, std::string> CAUSES = {
-    {"ip.toosmall", "packet shorter than a header"},
-    {"ip.badvers", "wrong version"},
-    {"ip.badhlen", "header length too small"},
-    {"ip.options", "options are not taken"},
-    {"ip.badsum", "wrong header checksum"},
-    {"ip.badlen", "total length too small"},
-    {"ip.tooshort", "packet shorter than its total length"},
-    {"ip.cantforward", "not addressed to this machine"},
-    {"ip.badfrag", "malformed fragment"},
-    {"ip.fragdropped", "fragment held already"},
-    {"ip.fragtimeout", "fragments missing for 60 ticks"},
-    {"ip.reclaimed", "unfinished datagram given up for its buffers"},
-    {"ip.noproto", "unknown protocol"},
-    {"udp.hdrops", "datagram shorter than a header"},
-    {"udp.badlen", "wrong datagram length"},
-    {"udp.badsum", "wrong datagram checksum"},
-    {"udp.noport", "no socket has the port"},
-    {"udp.noportbcast", "no socket has the port of the broadcast"},
-    {"udp.fullsock", "receive queue full"},
-    {"out.dropped", "output queue full"},
-    {"nobufs", "no buffer space available"},
-};
-
 /// The number of a counter; BSDUDP_COUNTERS if there is none of this name.
 uint32_t
 FindCounter(const std::string& name)
@@ -78,22 +53,6 @@ FindCounter(const std::string& name)
         i++;
     }
     return i;
-}
-
-/// What Drop tells of each counter: its name and what it counts, empty of one that isn't of
-/// something dropped.
-const std::array<std::string, BSDUDP_COUNTERS>&
-GetCauses()
-{
-    static const auto causes = [] {
-        std::array<std::string, BSDUDP_COUNTERS> told;
-        for (const auto& [name, words] : CAUSES)
-        {
-            told.at(FindCounter(name)) = name + ": " + words;
-        }
-        return told;
-    }();
-    return causes;
 }
 
 /// Bytes that a call is given or gives. They're read before anything else is called.
@@ -513,7 +472,8 @@ BsdudpStack::ReadFragmentCounts(const BsdudpHeader& header) const
 void
 BsdudpStack::Drop(Ptr<const Packet> packet, uint32_t counter)
 {
-    const std::string& cause = GetCauses().at(counter);
+    const std::string cause =
+        std::string(bsdudp_counter_name(counter)) + ": " + bsdudp_counter_cause(counter);
     NS_LOG_INFO("dropped: " << cause);
     m_dropTrace(packet, cause);
 }
@@ -529,7 +489,8 @@ BsdudpStack::Settle(Ptr<const Packet> packet, const Before& before)
         for (uint32_t i = 0; i < COUNTERS; i++)
         {
             // those that are given up aren't this packet's
-            if (counts[i] != before.counts[i] && !GetCauses()[i].empty() && i != reclaimed)
+            if (counts[i] != before.counts[i] && bsdudp_counter_cause(i) != nullptr &&
+                i != reclaimed)
             {
                 Drop(packet, i);
             }

@@ -116,7 +116,7 @@ class BsdudpStack : public Object
     Ipv4Address GetBroadcast() const;
 
     /**
-     * \brief All 26 counters. docs/behaviour.md says what each one counts.
+     * \brief All counters. docs/behaviour.md says what each one counts.
      * \return the values by name, such as "ip.total"
      */
     std::map<std::string, uint64_t> GetCounters() const;

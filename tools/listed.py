@@ -1,0 +1,278 @@
+"""The lists that libraries, pages and the web page share, as the sources have them: counters, causes, errors, settings.
+tools/lists writes them where nothing can ask a program for them, and page/build puts them into the page."""
+from __future__ import annotations
+
+import functools
+import pathlib
+import re
+from typing import Any, NamedTuple
+
+TOP = pathlib.Path(__file__).resolve().parent.parent
+SPECS = TOP / "crates/flat_model/specs"
+COUNTER = "crates/flat_model/src/counter.rt"
+COUNTERS = "crates/flat_model/src/counters.rt"
+ERRNO = "crates/flat_model/src/errno.rt"
+CODES = "crates/libbsdudp/src/errors.rt"
+MEANINGS = "crates/play_show/src/counters.rt"
+RULES = "crates/play_why/src/words.rt"
+OPTIONS = "crates/link_script/src/options.rt"
+COMMAND_LINE = "crates/link_script/src/command_line.rt"
+CONFIG = "crates/flat_model/src/config.rt"
+PARAMS = "crates/params/src/lib.rt"
+
+# What is said of a drop that ends no packet, so that no `Why` has words for it.
+OTHER_CAUSES = {
+    "IpFragtimeout": "fragments missing for 60 ticks",
+    "IpReclaimed": "unfinished datagram given up for its buffers",
+    "OutDropped": "output queue full",
+}
+
+
+class Unread(Exception):
+    """A source isn't as it's known here: if it has moved, change this module, too."""
+
+
+class Counter(NamedTuple):
+    """A counter: its variant, its name, what it counts, and the cause of each drop, if it counts drops."""
+
+    variant: str
+    name: str
+    counts: str
+    cause: str
+
+
+class Error(NamedTuple):
+    """An error of a socket call: its variant, 4.4BSD's number and name, what was lacking, and its meaning."""
+
+    variant: str
+    number: int
+    name: str
+    lack: str
+    meaning: str
+
+    @property
+    def text(self) -> str:
+        """How a reply names it."""
+        return f"{self.name} {self.lack}" if self.lack else self.name
+
+
+class Setting(NamedTuple):
+    """An option of `bsdudp run`: its name, its greatest number (0: it's an address), its values, its default."""
+
+    name: str
+    most: int
+    values: str
+    default: str
+
+
+# ---- reading -------------------------------------------------------------------------------------------------------
+
+
+@functools.lru_cache(maxsize=None)
+def read(path: str) -> str:
+    return (TOP / path).read_text(encoding="utf-8")
+
+
+def pieces(path: str, pattern: str, text: str | None = None) -> list[Any]:
+    """What the pattern finds in a file, or in a part of it: at least one piece."""
+    found = re.findall(pattern, read(path) if text is None else text)
+    if not found:
+        raise Unread(f"{path}: nothing there fits {pattern}")
+    return found
+
+
+@functools.lru_cache(maxsize=None)
+def definitions(path: pathlib.Path) -> dict[str, str]:
+    """The text of each definition of a file, by name and without comments."""
+    text = re.sub(r"(?m)(^|\s)--(\s.*)?$", r"\1", path.read_text(encoding="utf-8"))
+    heads = list(re.finditer(r"(?m)^ *(?:(?:abbrev|unfoldable) pub|pub (?:record|data)) (\S+)", text))
+    ends = [head.start() for head in heads[1:]] + [len(text)]
+    return {head[1]: text[head.end() : end] for head, end in zip(heads, ends)}
+
+
+# ---- counters ------------------------------------------------------------------------------------------------------
+
+
+def named_counters() -> list[tuple[str, str]]:
+    """Each counter's variant and its name, in the order of printing."""
+    return pieces(COUNTER, r'\(Counter::(\w+), "([^"]+)"\)')
+
+
+def causes_counted() -> list[tuple[str, str]]:
+    """Each cause that ends a packet, in the order of the tests, and the counter that counts it."""
+    return pieces(COUNTERS, r"Why::(\w+) => Counter::(\w+),")
+
+
+def texts_of_causes() -> dict[str, str]:
+    """How each cause is displayed."""
+    return {why: text for text, why in pieces(COUNTERS, r'#\[error\("([^"]+)"\)\]\s*(\w+),')}
+
+
+def rules() -> dict[str, str]:
+    """The rule that a packet broke, by its cause, as `bsdplay why` prints it."""
+    arms = pieces(RULES, r'((?:Why::\w+[\s|]+)+)=>\s*(?:\{\s*)?"([^"]+)"')
+    found = {why: rule for whys, rule in arms for why in re.findall(r"Why::(\w+)", whys)}
+    for why, _ in causes_counted():
+        if why not in found:
+            raise Unread(f"{RULES}: which rule does a packet break that ends with {why}?")
+    return found
+
+
+def counters() -> list[Counter]:
+    """All counters, in the order of printing."""
+    counts = dict(pieces(MEANINGS, r'Counter::(\w+) =>\s*(?:\{\s*)?"([^"]+)"'))
+    texts = texts_of_causes()
+    causes = {counter: texts[why] for why, counter in causes_counted()} | OTHER_CAUSES
+    named = named_counters()
+    for variant, _ in named:
+        if variant not in counts:
+            raise Unread(f"{MEANINGS}: what does {variant} count?")
+    return [Counter(variant, name, counts[variant], causes.get(variant, "")) for variant, name in named]
+
+
+def variants(path: pathlib.Path, types: str) -> set[str]:
+    """The variants of these types that a file of definitions imports."""
+    pattern = r"use Rattle\.flat_model\.specs\.declared\.(?:" + types + r")\.TheVariants\.\{([^}]*)\}"
+    found = re.findall(pattern, path.read_text(encoding="utf-8"))
+    return {name.strip() for names in found for name in names.split(",")}
+
+
+@functools.lru_cache(maxsize=None)
+def places_of_counts() -> dict[str, list[tuple[str, str]]]:
+    """For each counter, the definitions that count it or end a packet with a cause of it: their files and names."""
+    counter_of = dict(causes_counted())
+    places: dict[str, list[tuple[str, str]]] = {}
+    for path in sorted(SPECS.rglob("*.antt")):
+        named = variants(path, r"counter\.Counter|counters\.Why")
+        if path.name == "Count.antt" or not named:
+            continue
+        for name, text in definitions(path).items():
+            for word in sorted(named & set(re.findall(r"\w+", text))):
+                place = str(path.relative_to(SPECS)), name
+                known = places.setdefault(counter_of.get(word, word), [])
+                known += [] if place in known else [place]
+    return places
+
+
+# ---- errors --------------------------------------------------------------------------------------------------------
+
+# The definitions whose text has the errors of a call in their order.
+CALLS = {
+    "socket": ["Opens"],
+    "bind": ["Binds"],
+    "connect": ["ConnectsTo"],
+    "recvfrom": ["Receives"],
+    "setsockopt": ["SetsOption"],
+    "close": ["Closes"],
+}
+SENDS = ["Sends", "Leaves"]
+# The calls in the order of pages.
+ORDER = ["socket", "bind", "connect", "send", "sendto", "recvfrom", "setsockopt", "close"]
+
+
+def meanings(type_name: str) -> dict[str, str]:
+    """What each variant of a type of ERRNO means, by its comment: a sentence without its capital and its full stop."""
+    body = read(ERRNO).partition(f"pub enum {type_name} {{")[2].partition("\n}")[0]
+    found = pieces(ERRNO, r"((?:    /// .*\n)+)(?:    #\[.*\n)*    (\w+)", body)
+    texts = {name: " ".join(re.findall(r"/// (.*)", said)) for said, name in found}
+    return {name: text[0].lower() + text[1:].removesuffix(".") for name, text in texts.items()}
+
+
+@functools.lru_cache(maxsize=None)
+def errors() -> list[Error]:
+    """The errors of socket calls, by their numbers; one for each thing that may be lacking."""
+    numbers = {variant: int(it) for variant, it in pieces(ERRNO, r"Errno::(\w+)(?:\(_\))? => (\d+),")}
+    lacks = pieces(ERRNO, r'Lack::(\w+) => "(\w+)",')
+    about, lacking = meanings("Errno"), meanings("Lack")
+    found = []
+    for variant, has_lack, name in pieces(ERRNO, r'Errno::(\w+)(\(_\))? => "(\w+)",'):
+        if has_lack:
+            found += [Error(variant, numbers[variant], name, lack, lacking[it]) for it, lack in lacks]
+        else:
+            found.append(Error(variant, numbers[variant], name, "", about[variant]))
+    return sorted(found, key=lambda it: it.number)
+
+
+def codes() -> dict[str, int]:
+    """The number of each error in C, by how a reply names it: the output queue's has one of its own."""
+    numbers = pieces(CODES, r"Errno::(\w+)(?:\(Lack::(\w+)\))? => -(\d+),")
+    code = {(variant, lack.lower()): int(number) for variant, lack, number in numbers}
+    return {it.text: code[it.variant, it.lack] for it in errors()}
+
+
+def errors_of(name: str, known: dict[str, str]) -> list[str]:
+    """The errors in the text of a definition, in their order, with those of the lists `.._faults` that it names."""
+    if name not in known:
+        raise Unread(f"crates/flat_model/specs/Machine: neither Calls.antt nor Send.antt has the definition {name}")
+    found = []
+    for word, lack in re.findall(r"\b(\w+)\b(?: (Pool|Queue)\b)?", known[name]):
+        if word.endswith("_faults") and word != name:
+            found += errors_of(word, known)
+        found += [it.text for it in errors() if it.variant == word and lack.lower() in ("", it.lack)]
+    return found
+
+
+def errors_by_call() -> dict[str, list[str]]:
+    """The errors of each call on an open descriptor, in their order; those of both sends under `send`."""
+    known = definitions(SPECS / "Machine/Calls.antt") | definitions(SPECS / "Machine/Send.antt")
+    calls = CALLS | {"send": SENDS}
+    return {call: [it for root in roots for it in errors_of(root, known)] for call, roots in calls.items()}
+
+
+def calls_by_error() -> dict[str, list[str]]:
+    """The calls on an open descriptor that fail with each error, in the order of pages: `sendto` apart from `send`."""
+    named = errors_by_call()
+    text = {it.variant: it.text for it in errors()}
+    with_address = set(named["send"]) & set(named["connect"]) | {text["IsConnected"]}
+    named["sendto"] = [it for it in named["send"] if it != text["DestinationRequired"]]
+    named["send"] = [it for it in named["send"] if it not in with_address]
+    return {it.text: [call for call in ORDER if it.text in named[call]] for it in errors()}
+
+
+# ---- settings ------------------------------------------------------------------------------------------------------
+
+
+def number(text: str) -> int:
+    return int(text.replace("_", "").replace(",", ""), 0)
+
+
+def dotted(address: int) -> str:
+    return ".".join(str(address >> shift & 255) for shift in (24, 16, 8, 0))
+
+
+def values_of(field: str, most: str, params: dict[str, int]) -> str:
+    """The values that a field of the configuration may have: what its check compares the field with."""
+    check = read(CONFIG).partition("#[cfg(test)]")[0]
+    if field == "bcast":
+        pieces(CONFIG, r"self\.addr != self\.bcast", check)
+        return "the same, and not that of `--addr`"
+    if field == "addr":
+        range_of = r"(\d+) <= network && network < FIRST_MULTICAST >> 24 && network != LOOPBACK >> 24"
+        first = pieces(CONFIG, range_of, check)[0]
+        last = params["FIRST_MULTICAST"] - 1
+        return f"{dotted(int(first) << 24)} to {dotted(last)}, not in {params['LOOPBACK'] >> 24}/8"
+    least = (re.findall(rf"(\w+) <= self\.{field}\b", check) + ["0"])[0]
+    most = (re.findall(rf"self\.{field} <= (\w+)", check) + [most])[0]
+    return f"{params.get(least, least)} to {params[most]}"
+
+
+def options() -> dict[str, list[str]]:
+    """The options of `bsdudp run` and of `bsdudp chain`, in the order of the code."""
+    run, _, chain = read(OPTIONS).partition("let run = ")[2].partition("let chain = ")
+    return {name: pieces(OPTIONS, r'option\(alloc, "(\w+)"\)', it) for name, it in (("run", run), ("chain", chain))}
+
+
+def settings() -> list[Setting]:
+    """The options of `bsdudp run` with their values and defaults."""
+    named = pieces(PARAMS, r"pub const (\w+): \w+ = ([0-9a-fx_]+);")
+    params = {name: number(value) for name, value in named} | {"U16_MAX": 65535, "u32::MAX": 4294967295}
+    block = read(COMMAND_LINE).partition("DEFAULTS: Config")[2].partition("};")[0]
+    defaults = {field: number(it) for field, it in pieces(COMMAND_LINE, r"(\w+): (0x[0-9a-f_]+|[0-9_]+),", block)}
+    uses = pieces(OPTIONS, r'get_str\("(\w+)"\), (?:([\w:]+), )?(?:u32::from\()?DEFAULTS\.(\w+)')
+    about = {name: (most, field) for name, most, field in uses}
+    found = []
+    for name in options()["run"]:
+        most, field = about[name]
+        default = defaults[field] if most else dotted(defaults[field])
+        found.append(Setting(name, params.get(most, 0), values_of(field, most, params), str(default)))
+    return found
