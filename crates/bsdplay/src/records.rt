@@ -80,7 +80,7 @@ fn is_wanted(range: Option<Range>, number: u64) -> bool {
 /// Prints what is told of the datagrams that were dropped unfinished, if one of their records is wanted.
 fn put_lost<W: Write>(choice: Choice, judge: &mut Judge, out: &mut W) -> Result<(), End> {
     for _ in 0..u64::MAX {
-        match judge.tell_lost() {
+        match judge.report_lost() {
             Ok(Some(_)) => {}
             Ok(None) => break,
             Err(_) => return Err(End::Memory),
@@ -115,7 +115,7 @@ fn tell_packet<W: Write>(
         return Err(End::Memory);
     }
     put_lost(choice, judge, out)?;
-    if judge.tell(arrival).is_err() {
+    if judge.receive(arrival).is_err() {
         return Err(End::Memory);
     }
     if is_wanted(choice.range, arrival.number) {
@@ -189,7 +189,7 @@ pub(crate) fn tell_records<S: Source, W: Write>(
 /// Prints the datagrams that are unfinished at the end.
 pub(crate) fn tell_unfinished<W: Write>(judge: &mut Judge, out: &mut W) -> Result<(), End> {
     for i in 0..u32::MAX {
-        match judge.tell_unfinished(i) {
+        match judge.report_unfinished(i) {
             Ok(true) => put(out, judge.text())?,
             Ok(false) => break,
             Err(_) => return Err(End::Memory),
@@ -200,6 +200,6 @@ pub(crate) fn tell_unfinished<W: Write>(judge: &mut Judge, out: &mut W) -> Resul
 
 /// Prints what came of all packets, as a table of the causes.
 pub(crate) fn tell_totals<W: Write>(judge: &mut Judge, out: &mut W) -> Result<(), End> {
-    judge.tell_totals();
+    judge.report_totals();
     put(out, judge.text())
 }

@@ -1,4 +1,4 @@
-mod FateLemmas
 mod Steps
 mod Laying
 mod KeptLemmas
+mod JoinLemmas

@@ -1,32 +1,33 @@
--- What the judge of a capture's records does with its machine, and what it prints (this project's own).
-use Rattle.std.specs.Prelude.{◌≡◌, ℕ, ◌+◌, ◌-◌, ◌/◌, ◌*◌, ◌==◌, ◌||◌, Bool, List, [], ◌∷◌, ◌++◌, length, nat_lt, codes, decimal, if◌then◌else◌, max, min, not, take, Option, Some, None, replicate}
+-- What the judge of a capture's records does with its machine, and its verdicts (this project's own).
+use Rattle.std.specs.Prelude.{◌≡◌, ℕ, ◌+◌, ◌-◌, ◌/◌, ◌*◌, ◌==◌, ◌||◌, Bool, List, [], ◌∷◌, length, nat_lt, if◌then◌else◌, max, min, not, Option, Some, None, replicate}
 use Rattle.params.specs.declared.TheConstants.{IP_HEADER, LIMITED_BROADCAST, LOOPBACK, MAX_CLUSTERS, MAX_MBUFS}
+use Rattle.flat_model.specs.Amounts.Choice.{Choice}
 use Rattle.flat_model.specs.Machine.Count.{more_by}
 use Rattle.flat_model.specs.Machine.Event.{Event, Reply, Comes, Done, Tick}
 use Rattle.flat_model.specs.Machine.State.{State, boot}
 use Rattle.flat_model.specs.Packets.Header.{u32_at}
 use Rattle.flat_model.specs.declared.config.Config.{Config}
 use Rattle.flat_model.specs.declared.counters.Counters.{Counters}
+use Rattle.ip_reass.specs.Questions.{nth_unfinished}
+use Rattle.ip_reass.specs.declared.questions.UnfinishedDatagram.{UnfinishedDatagram}
 use Rattle.net_stack.specs.Stack.{state_of}
 use Rattle.sock_calls.specs.Questions.{readable}
 use Rattle.stack_call.specs.Moves.{StackSteps}
-use Rattle.play_text.specs.Fates.{is_kept}
-use Rattle.play_text.specs.Fates.{fate_of}
-use Rattle.flat_model.specs.Amounts.Choice.{Choice}
-use Rattle.ip_reass.specs.Questions.{nth_unfinished}
-use Rattle.ip_reass.specs.declared.questions.UnfinishedDatagram.{UnfinishedDatagram}
-use Rattle.play_why.specs.Fates.{record_text}
-use Rattle.play_why.specs.Kept.{AreNone, Expires, Gathers, GathersOf, Reclaims, Remembers, TakesLost}
-use Rattle.play_why.specs.declared.parts.Loss.{Loss}
-use Rattle.play_why.specs.declared.parts.Lost.{Lost}
-use Rattle.play_why.specs.declared.parts.Parts.{Parts}
+use Rattle.play_text.specs.Fates.{fate_of, is_kept}
+use Rattle.play_why.specs.Findings.{IsVerdict}
+use Rattle.play_why.specs.Kept.{AreNone, Expires, Gathers, GathersOf, Joins, Reclaims, Remembers, TakesLost}
+use Rattle.play_why.specs.Objects.{IsPrinted}
 use Rattle.play_why.specs.Sockets.{BindsIf, Drains, IsUnbound, wanted_port}
 use Rattle.play_why.specs.Verdicts.{judged, none_dropped}
-use Rattle.play_why.specs.declared.layout.Layout.{Layout}
 use Rattle.play_why.specs.declared.judge.Arrival.{Arrival}
 use Rattle.play_why.specs.declared.judge.Judge.{Judge}
 use Rattle.play_why.specs.declared.judge.Totals.{Totals}
+use Rattle.play_why.specs.declared.layout.Layout.{Layout}
+use Rattle.play_why.specs.declared.parts.Loss.{Loss}
+use Rattle.play_why.specs.declared.parts.Lost.{Lost}
+use Rattle.play_why.specs.declared.parts.Parts.{Parts}
 use Rattle.play_why.specs.declared.seen.Seen.{Seen}
+use Rattle.play_why.specs.declared.verdict.Verdict.{Verdict}
 
 -- ---- the machine
 
@@ -106,15 +107,13 @@ totals_after here a b t = counted_as (not (readable here == 0)) (is_kept a b) t
 
 -- ---- a record
 
--- what the judge knows of this record, and of the other fragments of its datagram
+-- the record, and the datagram that was reassembled
 pub record IsOf (r : Arrival) (parts : Parts) (seen : Seen) : Type 0 where
   pub number : seen.number ≡ r.number
-  pub time : seen.time ≡ r.time
   pub original : seen.original ≡ r.original
   pub captured : seen.captured ≡ r.captured
   pub packet : seen.packet.now ≡ r.packet.now
-  pub earlier : seen.earlier.now ≡ take 64 parts.numbers.items
-  pub more : seen.more ≡ length parts.numbers.items - 64
+  pub whole : seen.whole.now ≡ parts.whole.bytes
 
 -- The ticks passed that were due at a time. If datagrams were dropped by that, their fragments are lost.
 pub record HasPassed (old : Judge) (time : ℕ) (new : Judge) : Type 0 where
@@ -131,24 +130,28 @@ pub record HasPassed (old : Judge) (time : ℕ) (new : Judge) : Type 0 where
   pub broadcast : new.broadcast ≡ old.broadcast
 
 -- A record was judged. The records of the other fragments of its datagram were gathered, and the port that it wants was
--- bound; then its packet came. What is printed of it is what became of it in this one step, and the verdicts count it.
--- Then each socket was read. If buffers were taken back, the fragments of other datagrams are lost; its own is kept if
--- the stack keeps it, and those of its datagram are forgotten if that is whole.
-pub record IsJudged (old : Judge) (r : Arrival) (new : Judge) : Type 0 where
+-- bound; then its packet arrived. If that completed a datagram that was dropped, its bytes are those of its fragments
+-- in the order in which they arrived. The verdict is what happened in this one step, and the table counts it. Then
+-- each socket was read. If buffers were reclaimed, the fragments of other datagrams are lost; its own is kept if the
+-- stack keeps it, and those of its datagram are forgotten if that is complete.
+pub record IsJudged (old : Judge) (r : Arrival) (verdict : Verdict) (new : Judge) : Type 0 where
   pub gathered : Parts
+  pub joined : Parts
   pub spared : Parts
   pub ready : State
   pub here : State
   pub seen : Seen
   pub gathers : Gathers r.packet.now old.parts gathered
-  pub is : IsOf r gathered seen
   pub opens : BindsIf old.ports (wanted_port old.ports r.packet.now) new.ports (state_of old.host.stack) ready
   pub comes : StackSteps ready (Comes r.packet.now) Done here
-  pub takes : Drains new.ports.bound.items here (state_of new.host.stack)
-  pub tells : new.text ≡ record_text old.layout seen ready.counters here.counters here old.host.address
+  pub joins : Joins r.packet.now ready.counters here.counters gathered joined
+  pub is : IsOf r joined seen
+  pub verdict_is : IsVerdict seen ready.counters here.counters here old.host.address verdict
+  pub prints : IsPrinted old.layout r.time verdict new.text
   pub counts : new.verdicts ≡ judged seen ready.counters here.counters old.verdicts
   pub totals : new.totals ≡ totals_after here ready.counters here.counters old.totals
-  pub reclaims : Reclaims r.packet.now ready.counters here.counters gathered spared
+  pub takes : Drains new.ports.bound.items here (state_of new.host.stack)
+  pub reclaims : Reclaims r.packet.now ready.counters here.counters joined spared
   pub remembers : Remembers (fate_of ready.counters here.counters) r.number r.packet.now spared new.parts
   pub ticks : new.ticks ≡ old.ticks
   pub layout : new.layout ≡ old.layout
@@ -157,7 +160,7 @@ pub record IsJudged (old : Judge) (r : Arrival) (new : Judge) : Type 0 where
 
 -- ---- datagrams that aren't whole
 
--- the first one is told that was dropped and wasn't told yet, with the records of its fragments
+-- the first one is reported that was dropped and wasn't reported yet, with the records of its fragments
 abbrev pub ReportsLostOf : Option Loss → Option Lost → Type 0
 ReportsLostOf None None = Unit {0}
 ReportsLostOf (Some why) (Some first) = first.why ≡ why
@@ -169,16 +172,16 @@ pub record ReportsLost (why : Option Loss) (old new : Judge) : Type 0 where
   pub says : ReportsLostOf why first
   pub machine : new.host ≡ old.host
 
--- the unfinished datagram at a place is told, with the records of its fragments
-pub record TellsAt (i : ℕ) (old new : Judge) : Type 0 where
+-- the unfinished datagram at a place is reported, with the records of its fragments
+pub record ReportsAt (i : ℕ) (old new : Judge) : Type 0 where
   pub datagram : UnfinishedDatagram
   pub is : nth_unfinished i (state_of old.host.stack).unfinished ≡ Some datagram
   pub gathers : GathersOf datagram.key old.parts new.parts
   pub machine : new.host ≡ old.host
 
-pub record TellsNoneAt (i : ℕ) (old new : Judge) : Type 0 where
+pub record ReportsNoneAt (i : ℕ) (old new : Judge) : Type 0 where
   pub none : nth_unfinished i (state_of old.host.stack).unfinished ≡ None
   pub same : new ≡ old
 
 abbrev pub ReportsUnfinished : Bool → ℕ → Judge → Judge → Type 0
-ReportsUnfinished there i old new = Choice there (TellsAt i old new) (TellsNoneAt i old new)
+ReportsUnfinished there i old new = Choice there (ReportsAt i old new) (ReportsNoneAt i old new)

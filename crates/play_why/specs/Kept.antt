@@ -1,19 +1,19 @@
 -- The fragments that a judge keeps, and those that are dropped unfinished (this project's own).
-use Rattle.std.specs.Prelude.{◌≡◌, ℕ, zero, suc, ◌*◌, ◌%◌, ◌==◌, ◌&&◌, ◌||◌, Bool, true, false, not, nat_lt, List, [], ◌∷◌, ◌++◌, length, slice_get, slice_index, flat_map, if◌then◌else◌, Option, Some, None}
+use Rattle.std.specs.Prelude.{◌≡◌, ℕ, zero, suc, ◌&&◌, ◌||◌, Bool, true, false, not, List, [], ◌∷◌, ◌++◌, length, slice_get, flat_map, if◌then◌else◌, Option, Some, None}
 use Rattle.std.specs.List.{filter}
-use Rattle.params.specs.declared.TheConstants.{IP_HEADER}
 use Rattle.flat_model.specs.Amounts.Choice.{Choice}
 use Rattle.flat_model.specs.Machine.State.{State, Unfinished}
-use Rattle.flat_model.specs.Packets.Header.{u16_at, u32_at}
 use Rattle.flat_model.specs.declared.counter.Counter.TheVariants.{IpFragtimeout, IpReclaimed}
 use Rattle.flat_model.specs.declared.counters.Counters.{Counters}
 use Rattle.flat_model.specs.declared.fragment_key.FragmentKey.{FragmentKey}
 use Rattle.ip_reass.specs.Questions.{nth_unfinished}
 use Rattle.ip_reass.specs.declared.questions.UnfinishedDatagram.{UnfinishedDatagram}
-use Rattle.play_text.specs.Fates.{fate_of}
+use Rattle.play_text.specs.Fates.{drops_of, fate_of, is_some_true}
 use Rattle.play_text.specs.Words.{rose}
 use Rattle.play_text.specs.declared.fate.Fate.{Fate}
 use Rattle.play_text.specs.declared.fate.Fate.TheVariants.{Whole, Kept, Other}
+use Rattle.play_why.specs.Joined.{joined_of}
+use Rattle.play_why.specs.Keys.{key_of, offset_of, same_key}
 use Rattle.play_why.specs.Values.{carried_of}
 use Rattle.play_why.specs.declared.parts.Loss.{Loss}
 use Rattle.play_why.specs.declared.parts.Loss.TheVariants.{Expired, Reclaimed}
@@ -22,25 +22,6 @@ use Rattle.play_why.specs.declared.parts.Part.{Part}
 use Rattle.play_why.specs.declared.parts.Parts.{Parts}
 
 -- ---- a datagram's fragments
-
--- two fragments are of one datagram (RFC 791, section 3.2)
-abbrev pub same_key : FragmentKey → FragmentKey → Bool
-same_key a b =
-    (a.source == b.source) && ((a.destination == b.destination) && ((a.id == b.id) && (a.protocol == b.protocol)))
-
--- what a packet goes by that has a header of 20 bytes, if it's a fragment
-abbrev pub key_of : List ℕ → Option FragmentKey
-key_of p =
-    if nat_lt (length p) IP_HEADER || (not (slice_index p 0 == 69) || u16_at 6 p % 16_384 == 0) then None
-    else Some (record {
-      source = u32_at 12 p;
-      destination = u32_at 16 p;
-      id = u16_at 4 p;
-      protocol = slice_index p 9;
-    })
-
-abbrev pub offset_of : List ℕ → ℕ
-offset_of p = u16_at 6 p % 8192 * 8
 
 abbrev pub number_if : FragmentKey → Part → List ℕ
 number_if key part = if same_key part.key key then part.number ∷ [] else []
@@ -56,18 +37,18 @@ numbers_by (Some key) parts = numbers_of key parts
 
 -- ---- datagrams that a machine drops unfinished
 
-abbrev pub goes_by : FragmentKey → Option UnfinishedDatagram → Bool
-goes_by key None = false
-goes_by key (Some d) = same_key d.key key
+abbrev pub has_same_key : FragmentKey → Option UnfinishedDatagram → Bool
+has_same_key key None = false
+has_same_key key (Some d) = same_key d.key key
 
--- one of the first so many unfinished datagrams goes by this
-unfoldable pub held_below : ℕ → FragmentKey → List Unfinished → Bool
-held_below zero key us = false
-held_below (suc n) key us = held_below n key us || goes_by key (nth_unfinished n us)
+-- one of the first n unfinished datagrams has this key
+unfoldable pub unfinished_below : ℕ → FragmentKey → List Unfinished → Bool
+unfinished_below zero key us = false
+unfinished_below (suc n) key us = unfinished_below n key us || has_same_key key (nth_unfinished n us)
 
--- one of all does
-abbrev pub is_held : FragmentKey → List Unfinished → Bool
-is_held key us = held_below (length us) key us
+-- one of all has it
+abbrev pub is_unfinished : FragmentKey → List Unfinished → Bool
+is_unfinished key us = unfinished_below (length us) key us
 
 abbrev pub is_spared : Option FragmentKey → Part → Bool
 is_spared None part = false
@@ -77,7 +58,7 @@ abbrev pub lost_if : Bool → Loss → Part → List Lost
 lost_if stays why part = if stays then [] else record { key = part.key; number = part.number; why = why } ∷ []
 
 abbrev pub expired_of : List Unfinished → List Part → List Lost
-expired_of us = flat_map (λ part. lost_if (is_held part.key us) Expired part)
+expired_of us = flat_map (λ part. lost_if (is_unfinished part.key us) Expired part)
 
 abbrev pub reclaimed_of : Option FragmentKey → List Part → List Lost
 reclaimed_of whole = flat_map (λ part. lost_if (is_spared whole part) Reclaimed part)
@@ -89,10 +70,11 @@ pub record AreNone (parts : Parts) : Type 0 where
   pub kept : parts.kept.items ≡ []
   pub lost : parts.lost.items ≡ []
 
--- the same are kept, and the same are lost
+-- the same are kept, lost and gathered
 pub record IsSame (old new : Parts) : Type 0 where
   pub kept : new.kept.items ≡ old.kept.items
   pub lost : new.lost.items ≡ old.lost.items
+  pub numbers : new.numbers.items ≡ old.numbers.items
 
 -- the records of the other fragments of a packet's datagram were gathered
 pub record Gathers (p : List ℕ) (old new : Parts) : Type 0 where
@@ -106,23 +88,42 @@ pub record GathersOf (key : FragmentKey) (old new : Parts) : Type 0 where
   pub kept : new.kept.items ≡ old.kept.items
   pub lost : new.lost.items ≡ old.lost.items
 
--- Ticks passed that led to state s: if datagrams were dropped, the fragments of those are lost that aren't held.
-pub record HaveExpired (us : List Unfinished) (old new : Parts) : Type 0 where
-  pub kept : new.kept.items ≡ filter (λ (part : Part). is_held part.key us) old.kept.items
-  pub lost : new.lost.items ≡ old.lost.items ++ expired_of us old.kept.items
-
-abbrev pub Expires : Counters → Counters → State → Parts → Parts → Type 0
-Expires a b s old new = Choice (rose IpFragtimeout a b) (HaveExpired s.unfinished old new) (IsSame old new)
-
--- A packet came: if buffers were taken back, all fragments are lost but those of the datagram that it completed.
+-- the key of a packet that completed a datagram
 abbrev pub whole_key : Fate → List ℕ → Option FragmentKey
 whole_key Whole p = key_of p
 whole_key Kept p = None
 whole_key Other p = None
 
+-- the same, if packets were dropped then
+abbrev pub dropped_key : Counters → Counters → List ℕ → Option FragmentKey
+dropped_key a b p = if is_some_true (drops_of a b) then whole_key (fate_of a b) p else None
+
+-- the bytes of the datagram that a packet completed
+abbrev pub joined_by : Option FragmentKey → List ℕ → List Part → List ℕ
+joined_by None p parts = []
+joined_by (Some key) p parts = joined_of key p parts
+
+-- A packet arrived: if it completed a datagram that was dropped, that is reassembled.
+pub record Joins (p : List ℕ) (a b : Counters) (old new : Parts) : Type 0 where
+  pub bytes : new.whole.bytes ≡ joined_by (dropped_key a b p) p old.kept.items
+  pub kept : new.kept.items ≡ old.kept.items
+  pub lost : new.lost.items ≡ old.lost.items
+  pub numbers : new.numbers.items ≡ old.numbers.items
+
+-- Ticks passed that led to state s: if datagrams were dropped, the fragments of those are lost that aren't held.
+pub record HaveExpired (us : List Unfinished) (old new : Parts) : Type 0 where
+  pub kept : new.kept.items ≡ filter (λ (part : Part). is_unfinished part.key us) old.kept.items
+  pub lost : new.lost.items ≡ old.lost.items ++ expired_of us old.kept.items
+  pub numbers : new.numbers.items ≡ old.numbers.items
+
+abbrev pub Expires : Counters → Counters → State → Parts → Parts → Type 0
+Expires a b s old new = Choice (rose IpFragtimeout a b) (HaveExpired s.unfinished old new) (IsSame old new)
+
+-- A packet came: if buffers were taken back, all fragments are lost but those of the datagram that it completed.
 pub record AreReclaimed (whole : Option FragmentKey) (old new : Parts) : Type 0 where
   pub kept : new.kept.items ≡ filter (is_spared whole) old.kept.items
   pub lost : new.lost.items ≡ old.lost.items ++ reclaimed_of whole old.kept.items
+  pub numbers : new.numbers.items ≡ old.numbers.items
 
 abbrev pub Reclaims : List ℕ → Counters → Counters → Parts → Parts → Type 0
 Reclaims p a b old new =
@@ -141,6 +142,7 @@ pub record KeepsPart (number : ℕ) (key : FragmentKey) (p : List ℕ) (old new 
   pub is : HasFragment number key p part
   pub kept : new.kept.items ≡ old.kept.items ++ part ∷ []
   pub lost : new.lost.items ≡ old.lost.items
+  pub numbers : new.numbers.items ≡ old.numbers.items
 
 abbrev pub KeepsBy : ℕ → Option FragmentKey → List ℕ → Parts → Parts → Type 0
 KeepsBy number None p old new = IsSame old new
@@ -153,6 +155,7 @@ KeepsFragment number p old new = KeepsBy number (key_of p) p old new
 pub record ForgetsPart (key : FragmentKey) (old new : Parts) : Type 0 where
   pub kept : new.kept.items ≡ filter (λ (part : Part). not (same_key part.key key)) old.kept.items
   pub lost : new.lost.items ≡ old.lost.items
+  pub numbers : new.numbers.items ≡ old.numbers.items
 
 abbrev pub ForgetsBy : Option FragmentKey → Parts → Parts → Type 0
 ForgetsBy None old new = IsSame old new

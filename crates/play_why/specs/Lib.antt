@@ -1,7 +1,9 @@
-pub mod Words
-pub mod Kept
 pub mod Values
-pub mod Fates
+pub mod Keys
+pub mod Joined
+pub mod Kept
+pub mod Findings
+pub mod Objects
 pub mod Verdicts
 pub mod Sockets
 pub mod Judged

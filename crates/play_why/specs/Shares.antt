@@ -17,7 +17,7 @@ abbrev pub raised : List Share → ℕ → Option Share → List Share
 raised shares at None = shares
 raised shares at (Some share) = slice_set shares at (record share { count = more_by 1 share.count })
 
--- or the first one for an address that wasn't counted before, if there is room
+-- or the first one for an address that wasn't counted before, if fewer than 256 are
 abbrev pub share_counted : ℕ → List Share → Option ℕ → List Share
 share_counted address shares (Some at) = raised shares at (slice_get shares at)
 share_counted address shares None =

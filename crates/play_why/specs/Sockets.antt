@@ -70,7 +70,7 @@ abbrev pub TriesToBind : ℕ → Option Bound → State → State → Type 0
 TriesToBind port (Some b) old new = BindsTo port b old new
 TriesToBind port None old new = CantBind port old new
 
--- room for one more socket: if all are bound, the one that was bound first is closed
+-- space for one more socket: if 60 are bound, the one that was bound first is closed
 abbrev pub are_all_bound : Ports → Bool
 are_all_bound ports = not (nat_lt (length ports.bound.items) MOST_PORTS)
 
@@ -87,9 +87,10 @@ bound_after ports (Some b) =
 -- a socket is bound to the port, if the machine lets it be
 pub record BindsFor (ports : Ports) (port : ℕ) (later : Ports) (old new : State) : Type 0 where
   pub bound : Option Bound
-  pub room : State
-  pub closes : Choice (are_all_bound ports) (ClosesAt ports.bound.items (ports.next % MOST_PORTS) old room) (room ≡ old)
-  pub tries : TriesToBind port bound room new
+  pub freed : State
+  pub closes :
+      Choice (are_all_bound ports) (ClosesAt ports.bound.items (ports.next % MOST_PORTS) old freed) (freed ≡ old)
+  pub tries : TriesToBind port bound freed new
   pub bound_is : later.bound.items ≡ bound_after ports bound
   pub next : later.next ≡ (if are_all_bound ports then ports.next % MOST_PORTS + 1 else ports.next)
   pub only : later.only ≡ ports.only
@@ -105,7 +106,7 @@ BindsIf ports (Some port) later old new = BindsFor ports port later old new
 abbrev pub ReadsSocket : ℕ → ℕ → State → State → Type 0
 ReadsSocket fd most old new = (reply : Reply) × StackSteps old (Receive fd most) reply new
 
--- each is read once, with room for any datagram
+-- each is read once, into a buffer for any datagram
 abbrev pub Drains : List Bound → State → State → Type 0
 Drains [] old new = new ≡ old
 Drains (b ∷ bs) old new = (mid : State) × ReadsSocket b.fd IP_MAX_PACKET old mid × Drains bs mid new

@@ -1,21 +1,13 @@
--- What stands in a packet that was dropped, and what would be right (this project's own). `p` is the packet, and `d` is
--- the datagram that it carries or makes whole, without an IP header.
-use Rattle.std.specs.Prelude.{ℕ, ◌-◌, ◌/◌, ◌%◌, Bool, true, false, not, nat_lt, List, [], ◌∷◌, ◌++◌, length, take, drop, slice_index, codes, decimal, min, if◌then◌else◌}
-use Rattle.std.specs.Char.{digit_char}
+-- What is in a packet that was dropped, and what would be right (this project's own). `p` is the packet, and `d` is the
+-- datagram that it carries or completes, without an IP header.
+use Rattle.std.specs.Prelude.{ℕ, ◌-◌, ◌/◌, ◌%◌, Bool, true, false, not, nat_lt, List, ◌∷◌, ◌++◌, length, take, drop, slice_index, min, if◌then◌else◌}
 use Rattle.params.specs.declared.TheConstants.{IP_HEADER, UDP_HEADER}
 use Rattle.flat_model.specs.Packets.Checksum.{checksum, folded_sum}
 use Rattle.flat_model.specs.Packets.Header.{head_of, not_zero, pseudo_header, total_of, u16_at, u32_at}
-use Rattle.flat_model.specs.Scripts.Grammar.{address_text}
 use Rattle.flat_model.specs.declared.counters.Why.{Why}
 use Rattle.flat_model.specs.declared.counters.Why.TheVariants.{TooSmall, BadVersion, BadHeaderLength, Options, BadSum, BadLength, TooShort, CantForward, BadFragment, FragmentDropped, NoProtocol, UdpHeaderDrops, UdpBadLength, UdpBadSum, UdpNoPort, UdpNoPortBroadcast, UdpFullSocket, NoBufs}
-use Rattle.play_text.specs.Pieces.{amount, range_text}
-
--- ---- numbers to the base 16
-
--- the four digits of a number of 16 bits
-unfoldable pub word_digits : ℕ → List ℕ
-word_digits n =
-    digit_char (n / 4096) ∷ digit_char (n / 256 % 16) ∷ digit_char (n / 16 % 16) ∷ digit_char (n % 16) ∷ []
+use Rattle.play_why.specs.declared.values.Value.{Value}
+use Rattle.play_why.specs.declared.values.Value.TheVariants as value
 
 -- ---- checksums
 
@@ -35,62 +27,39 @@ sent_by d = min (u16_at 4 d) (length d) - UDP_HEADER
 unfoldable pub right_udp_sum : List ℕ → List ℕ → ℕ
 right_udp_sum p d = not_zero (checksum (pseudo_of p d ++ take 6 d ++ 0 ∷ 0 ∷ take (sent_by d) (drop 8 d)))
 
--- the sum of the pseudo header alone, which stands in a datagram whose checksum the sender's card fills in
+-- the sum of only the pseudo header, which is in a datagram whose checksum the sender's card fills in
 unfoldable pub pseudo_sum : List ℕ → List ℕ → ℕ
 pseudo_sum p d = folded_sum (pseudo_of p d)
 
--- this stands there, and that would be right
-abbrev pub sums_text : ℕ → ℕ → List ℕ
-sums_text found right = codes "0x" ++ word_digits found ++ codes ", right would be 0x" ++ word_digits right
+-- ---- the value that shows a cause
 
--- ---- in words
-
-abbrev pub short_text : ℕ → ℕ → List ℕ
-short_text came least = amount came (codes "byte") ++ codes " came, and a header has " ++ decimal least
-
--- of a header with another number of words than 5, which is all that this stack accepts
-abbrev pub words_text : ℕ → List ℕ
-words_text n = codes "a header of " ++ amount n (codes "word") ++ codes ", right would be 5"
-
--- a length that a header names, and how many bytes came
-abbrev pub lengths_text : ℕ → ℕ → List ℕ
-lengths_text named came = codes "length " ++ decimal named ++ codes ", " ++ decimal came ++ codes " came"
-
-abbrev pub elsewhere_text : ℕ → ℕ → List ℕ
-elsewhere_text destination ours =
-    codes "it goes to " ++ address_text destination ++ codes ", and this is " ++ address_text ours
-
--- which bytes of its datagram a fragment carries
-abbrev pub carried_text : List ℕ → List ℕ
-carried_text p = range_text (head_of p).offset (total_of p - IP_HEADER)
-
--- of a packet of 20 bytes or more; `ours` is the machine's address
-unfoldable pub header_values : Why → List ℕ → ℕ → List ℕ
-header_values TooSmall p ours = short_text (length p) IP_HEADER
-header_values BadVersion p ours = codes "version " ++ decimal (slice_index p 0 / 16) ++ codes ", right would be 4"
-header_values BadHeaderLength p ours = words_text (slice_index p 0 % 16)
-header_values Options p ours = words_text (slice_index p 0 % 16)
-header_values BadSum p ours = sums_text (u16_at 10 p) (right_header_sum p)
-header_values BadLength p ours = lengths_text (total_of p) (length p)
-header_values TooShort p ours = lengths_text (total_of p) (length p)
-header_values CantForward p ours = elsewhere_text (u32_at 16 p) ours
-header_values BadFragment p ours = carried_text p
-header_values FragmentDropped p ours = carried_text p
-header_values NoProtocol p ours = codes "protocol " ++ decimal (slice_index p 9)
-header_values UdpHeaderDrops p ours = codes "none is left"
-header_values UdpBadLength p ours = codes "none is left"
-header_values UdpBadSum p ours = codes "none is left"
-header_values UdpNoPort p ours = codes "none is left"
-header_values UdpNoPortBroadcast p ours = codes "none is left"
-header_values UdpFullSocket p ours = codes "none is left"
-header_values NoBufs p ours = codes "none is left"
+-- of a packet of 20 bytes or more; `ours` is the host's address
+unfoldable pub header_value : Why → List ℕ → ℕ → Value
+header_value TooSmall p ours = value.Short (length p) IP_HEADER
+header_value BadVersion p ours = value.Version (slice_index p 0 / 16)
+header_value BadHeaderLength p ours = value.HeaderWords (slice_index p 0 % 16)
+header_value Options p ours = value.HeaderWords (slice_index p 0 % 16)
+header_value BadSum p ours = value.Sums (u16_at 10 p) (right_header_sum p)
+header_value BadLength p ours = value.Lengths (total_of p) (length p)
+header_value TooShort p ours = value.Lengths (total_of p) (length p)
+header_value CantForward p ours = value.Elsewhere (u32_at 16 p) ours
+header_value BadFragment p ours = value.Carried (head_of p).offset (total_of p - IP_HEADER)
+header_value FragmentDropped p ours = value.Carried (head_of p).offset (total_of p - IP_HEADER)
+header_value NoProtocol p ours = value.Protocol (slice_index p 9)
+header_value UdpHeaderDrops p ours = value.NoneLeft
+header_value UdpBadLength p ours = value.NoneLeft
+header_value UdpBadSum p ours = value.NoneLeft
+header_value UdpNoPort p ours = value.NoneLeft
+header_value UdpNoPortBroadcast p ours = value.NoneLeft
+header_value UdpFullSocket p ours = value.NoneLeft
+header_value NoBufs p ours = value.NoneLeft
 
 -- of a datagram of 8 bytes or more in a packet of 20 or more
-unfoldable pub datagram_values : Why → List ℕ → List ℕ → List ℕ
-datagram_values UdpBadLength p d = lengths_text (u16_at 4 d) (length d)
-datagram_values UdpBadSum p d = sums_text (u16_at 6 d) (right_udp_sum p d)
-datagram_values UdpFullSocket p d = amount (length d - UDP_HEADER) (codes "byte")
-datagram_values _ p d = codes "port " ++ decimal (u16_at 2 d)
+unfoldable pub datagram_value : Why → List ℕ → List ℕ → Value
+datagram_value UdpBadLength p d = value.Lengths (u16_at 4 d) (length d)
+datagram_value UdpBadSum p d = value.Sums (u16_at 6 d) (right_udp_sum p d)
+datagram_value UdpFullSocket p d = value.Payload (length d - UDP_HEADER)
+datagram_value _ p d = value.Port (u16_at 2 d)
 
 abbrev pub is_of_udp : Why → Bool
 is_of_udp UdpHeaderDrops = true
@@ -102,12 +71,12 @@ is_of_udp UdpFullSocket = true
 is_of_udp _ = false
 
 -- of any packet
-unfoldable pub values_text : Why → List ℕ → List ℕ → ℕ → List ℕ
-values_text why p d ours =
-    if nat_lt (length p) IP_HEADER then short_text (length p) IP_HEADER
-    else if not (is_of_udp why) then header_values why p ours
-    else if nat_lt (length d) UDP_HEADER then short_text (length d) UDP_HEADER
-    else datagram_values why p d
+unfoldable pub cause_value : Why → List ℕ → List ℕ → ℕ → Value
+cause_value why p d ours =
+    if nat_lt (length p) IP_HEADER then value.Short (length p) IP_HEADER
+    else if not (is_of_udp why) then header_value why p ours
+    else if nat_lt (length d) UDP_HEADER then value.Short (length d) UDP_HEADER
+    else datagram_value why p d
 
 -- ---- the datagram
 
@@ -115,6 +84,6 @@ values_text why p d ours =
 unfoldable pub carried_of : List ℕ → List ℕ
 carried_of p = take (min (total_of p) (length p) - IP_HEADER) (drop IP_HEADER p)
 
--- The datagram: what the packet carries; or of a fragment what was put together.
+-- what the packet carries, or the reassembled datagram if there is one
 unfoldable pub datagram_of : List ℕ → List ℕ → List ℕ
 datagram_of p whole = if nat_lt 0 (length whole) then whole else carried_of p

@@ -9,7 +9,7 @@ use Rattle.play_text.specs.Words.{all_causes, rose}
 use Rattle.play_text.specs.declared.count.Count.{Count}
 use Rattle.play_text.specs.declared.table.Row.{Row}
 use Rattle.play_text.specs.declared.table.Table.{Table}
-use Rattle.play_why.specs.Fates.{blame_of}
+use Rattle.play_why.specs.Findings.{blame_of}
 use Rattle.play_why.specs.declared.blame.Blame.{Blame}
 use Rattle.play_why.specs.declared.blame.Blame.TheVariants.{Packet, Capture, Card}
 use Rattle.play_why.specs.declared.seen.Seen.{Seen}

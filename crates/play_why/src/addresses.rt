@@ -6,7 +6,7 @@ use crate::sums::u32_at;
 use params::{FIRST_MULTICAST, IP_HEADER, PROTOCOL_UDP};
 use std::alloc::{AllocError, Global};
 
-/// So many addresses are counted, those that come first.
+/// How many addresses are counted, the first ones in the capture.
 const MOST_ADDRESSES: usize = 256;
 
 /// How many datagrams go to an address.
@@ -33,7 +33,7 @@ pub struct Busiest {
     pub all: u64,
 }
 
-/// Whether a packet carries UDP to the address of a host.
+/// Returns whether a packet carries UDP to the address of a host.
 fn goes_to_host(packet: &[u8]) -> bool
     ensures { result ≡ shares.goes_to_host packet.now }
 {
@@ -41,7 +41,7 @@ fn goes_to_host(packet: &[u8]) -> bool
         && (packet[9] == PROTOCOL_UDP && u32_at(packet, 16) < FIRST_MULTICAST)
 }
 
-/// The busier one of an address and another.
+/// Returns the busier one of an address and another.
 fn busier(all: u64, most: Option<Busiest>, share: Share) -> Option<Busiest>
     ensures { result ≡ shares.busier all most share }
 {
@@ -61,7 +61,7 @@ fn busier(all: u64, most: Option<Busiest>, share: Share) -> Option<Busiest>
 }
 
 impl Addresses {
-    /// No datagram came yet. It takes no memory.
+    /// No datagram is counted yet. It allocates no memory.
     pub fn new(alloc: Global) -> Addresses
         ensures shares { result.shares.items ≡ [] }
         ensures all { result.all ≡ 0 }
@@ -72,7 +72,7 @@ impl Addresses {
         }
     }
 
-    /// Where an address stands that was counted before.
+    /// Returns the index of an address that was counted before.
     fn place_of(&self, address: u32) -> Option<usize>
         ensures { result ≡ shares.share_place address self.now.shares.items }
     {
@@ -82,7 +82,7 @@ impl Addresses {
             .position(|share| share.address == address)
     }
 
-    /// Counts one more for an address, if it was counted before or there is room.
+    /// Counts one more for an address, if it was counted before or fewer than 256 are.
     fn count(&mut self, address: u32) -> Result<(), AllocError>
         ensures counted { IfOk result (λ done. self.new.shares.items
             ≡ shares.share_counted address self.old.shares.items (shares.share_place address self.old.shares.items)) }
@@ -103,8 +103,8 @@ impl Addresses {
         }
     }
 
-    /// Counts a packet if it carries UDP to the address of a host: to one below 224.0.0.0. The addresses are the 256
-    /// that come first. Refused if the host has no memory.
+    /// Counts a packet if it carries UDP to the address of a host, which is below 224.0.0.0. Only the first 256
+    /// addresses are counted. Fails if the host has no memory.
     pub fn note(&mut self, packet: &[u8]) -> Result<(), AllocError>
         ensures shares { IfOk result (λ done. self.new.shares.items
             ≡ shares.shares_after packet.now self.old.shares.items) }
@@ -117,7 +117,7 @@ impl Addresses {
         self.count(u32_at(packet, 16))
     }
 
-    /// The address to which most went, the first of several. `None` if none went to a host.
+    /// Returns the address to which most datagrams went, the first of several. `None` if none went to a host.
     pub fn busiest(&self) -> Option<Busiest>
         ensures { result ≡ shares.busiest_after self.now.all None self.now.shares.items }
     {

@@ -4,23 +4,27 @@ ghost use Rattle.params.specs.declared.TheConstants.{IP_MAX_PACKET};
 ghost use Rattle.flat_model.specs.Machine.Event.{Tick};
 ghost use Rattle.net_stack.specs.Boots.{IsUnbooted};
 ghost use Rattle.net_stack.specs.Stack.{state_of};
-ghost use Rattle.play_why.specs.Fates.{IsSeen};
-ghost use Rattle.play_why.specs.Judged as judged;
 ghost use Rattle.play_text.specs.Fates.{fate_of};
+ghost use Rattle.play_why.specs.Findings.{IsSeen};
+ghost use Rattle.play_why.specs.Judged as judged;
 ghost use Rattle.play_why.specs.Judged.{HasPassed, IsJudged, IsNew, IsOf, IsTick, Led, ReportsLost, ReportsUnfinished};
 ghost use Rattle.play_why.specs.Kept.{Remembers};
+ghost use Rattle.play_why.specs.Objects.{IsPrinted};
 
 use crate::FATE;
-use crate::arrive::{counted, tell_record};
-use crate::host::Host;
+use crate::finding::Counted;
+use crate::host::{Host, arrive, counters_of};
 use crate::lacks::{End, put_unfinished};
 use crate::layout::Layout;
+use crate::object::{Strings, put_object};
 use crate::parts::{Loss, Parts};
 use crate::ports::Ports;
-use crate::rooms::Rooms;
+use crate::scratch::Scratch;
 use crate::seen::Seen;
+use crate::sentences::{Report, put_lines};
 use crate::sums::u32_at;
 use crate::table::{Losses, Verdicts};
+use crate::verdict::Verdict;
 use flat_model::{Config, Counters};
 use net_stack::{BootFault, Stack};
 use params::{IP_HEADER, LIMITED_BROADCAST, LOOPBACK, MAX_CLUSTERS, MAX_MBUFS};
@@ -49,7 +53,7 @@ pub struct Arrival<'a> {
     pub packet: &'a [u8],
 }
 
-/// What came of all packets.
+/// What happened to all packets.
 #[derive(Clone, Copy)]
 struct Totals {
     packets: u64,
@@ -58,14 +62,14 @@ struct Totals {
     dropped: u64,
 }
 
-/// A host to which the packets of a capture come, and what's told of each. It must be ended by `end`.
+/// A host at which the packets of a capture arrive, and the last report. It must be consumed by `end`.
 pub struct Judge {
     host: Host,
     layout: Layout,
     broadcast: u32,
     ports: Ports,
     parts: Parts,
-    rooms: Rooms,
+    scratch: Scratch,
     text: Buffer<FATE>,
     verdicts: Verdicts,
     totals: Totals,
@@ -74,7 +78,7 @@ pub struct Judge {
     ticks: u64,
 }
 
-/// The broadcast address of a network of 256 addresses.
+/// Returns the broadcast address of a network of 256 addresses.
 fn broadcast_of(ours: u32) -> u32
     ensures { result ≡ judged.broadcast_of ours }
 {
@@ -82,7 +86,7 @@ fn broadcast_of(ours: u32) -> u32
     if last == ours { ours - 1 } else { last }
 }
 
-/// What the machine of an address is booted with. One of the loopback network has another address beside it.
+/// Returns the configuration of the machine for an address. For 127.0.0.1 the machine has another address too.
 fn config_of(ours: u32, broadcast: u32) -> Config
     ensures { result ≡ judged.machine_for ours broadcast }
 {
@@ -97,7 +101,7 @@ fn config_of(ours: u32, broadcast: u32) -> Config
     }
 }
 
-/// Lets so many ticks pass.
+/// Lets `count` ticks pass.
 #[tactic(auto, unfolding(stack_call::specs::Moves::StackSteps))]
 fn tick_all(machine: &mut Stack, count: u64)
     ensures { Led IsTick (replicate count Tick) (state_of machine.old) (state_of machine.new) }
@@ -109,7 +113,7 @@ fn tick_all(machine: &mut Stack, count: u64)
     }
 }
 
-/// What is known of a record with this packet.
+/// Returns the record with this packet, and the datagram that was reassembled.
 fn seen_by<'a>(parts: &'a Parts, arrival: &Arrival<'_>, packet: &'a [u8]) -> Seen<'a>
     requires same { packet.now ≡ arrival.now.packet.now }
     requires short { length packet.now ≤ IP_MAX_PACKET }
@@ -118,17 +122,25 @@ fn seen_by<'a>(parts: &'a Parts, arrival: &Arrival<'_>, packet: &'a [u8]) -> See
 {
     Seen {
         number: arrival.number,
-        time: arrival.time,
         original: arrival.original,
         captured: arrival.captured,
         packet,
         whole: parts.bytes(),
-        earlier: parts.numbers(),
-        more: parts.more(),
     }
 }
 
-/// Keeps what is known of a packet's fragment, or forgets what is known of those of its datagram, if that is whole.
+/// Puts a record into a buffer.
+fn put_record(text: &mut Buffer<FATE>, layout: Layout, report: &Report<'_>, strings: &mut Strings)
+    requires { length report.now.seen.now.packet.now ≤ IP_MAX_PACKET }
+    ensures { IsPrinted layout report.now.time report.now.verdict.now text.new }
+{
+    match layout {
+        Layout::Lines => put_lines(text, report),
+        Layout::Objects => put_object(text, report, strings),
+    }
+}
+
+/// Keeps a packet's fragment, or forgets the fragments of its datagram if that is complete.
 fn remember(
     parts: &mut Parts,
     number: u64,
@@ -148,7 +160,7 @@ fn remember(
 }
 
 impl Totals {
-    /// With one packet more, which was delivered, kept as a fragment, or else dropped.
+    /// Counts one packet more, which was delivered, kept as a fragment, or dropped.
     fn counted(self, is_delivered: bool, kept_as_fragment: bool) -> Totals
         ensures { result ≡ judged.counted_as is_delivered kept_as_fragment self }
     {
@@ -164,14 +176,14 @@ impl Totals {
         totals
     }
 
-    /// After one packet more. `here` is the machine after it.
+    /// Counts one packet more. `here` is the machine after it.
     fn after(self, here: &Stack, before: &Counters, after: &Counters) -> Totals
         ensures { result ≡ judged.totals_after (state_of here.now) before.now after.now self }
     {
         self.counted(here.readable() != 0, is_kept(before, after))
     }
 
-    /// Puts the line of all packets after the text.
+    /// Appends the line with all packets.
     fn put(&self, ours: u32, text: &mut Buffer<FATE>) {
         add(
             text,
@@ -193,8 +205,8 @@ impl Totals {
 }
 
 impl Judge {
-    /// A machine with this address, to which no packet came yet. Each port is bound when a datagram comes for it, or
-    /// this one alone. Refused with `BadConfig` if there is no machine with such an address, and else with `Memory`.
+    /// A machine with this address, at which no packet has arrived. Each port is bound when a datagram for it arrives,
+    /// or only `port`. Fails with `BadConfig` if no machine can have the address, otherwise with `Memory`.
     pub fn new(
         alloc: Global,
         layout: Layout,
@@ -207,9 +219,9 @@ impl Judge {
     {
         let broadcast = broadcast_of(ours);
         let stack = Stack::boot(alloc, config_of(ours, broadcast))?;
-        let (Ok(parts), Ok(rooms), Ok(text)) = (
+        let (Ok(parts), Ok(scratch), Ok(text)) = (
             Parts::new(alloc),
-            Rooms::new(alloc),
+            Scratch::new(alloc),
             Buffer::new(alloc),
         ) else {
             let _ = stack.end();
@@ -224,7 +236,7 @@ impl Judge {
             broadcast,
             ports: Ports::new(alloc, port),
             parts,
-            rooms,
+            scratch,
             text,
             verdicts: Verdicts::new(),
             totals: Totals {
@@ -238,7 +250,7 @@ impl Judge {
         })
     }
 
-    /// Spends the host's stack.
+    /// Consumes the host's stack.
     pub fn end(self) {
         let Judge {
             host,
@@ -246,7 +258,7 @@ impl Judge {
             broadcast: _broadcast,
             ports: _ports,
             parts: _parts,
-            rooms: _rooms,
+            scratch: _scratch,
             text: _text,
             verdicts: _verdicts,
             totals: _totals,
@@ -260,8 +272,8 @@ impl Judge {
         let _ = stack.end();
     }
 
-    /// Whether a packet is for this machine: it goes to its address, to the broadcast address of its network of 256
-    /// addresses or to 255.255.255.255; or it's too short to say.
+    /// Returns whether a packet is for this machine: it goes to its address, to the broadcast address of its network of
+    /// 256 addresses or to 255.255.255.255; or it's too short to say.
     pub fn is_ours(&self, packet: &[u8]) -> bool
         ensures { result ≡ judged.is_for self.now packet.now }
     {
@@ -273,60 +285,77 @@ impl Judge {
             || (destination == self.broadcast || destination == LIMITED_BROADCAST)
     }
 
-    /// Lets time pass, in nanoseconds since the first record: a tick each half second. `tell_lost` reports the
-    /// datagrams that expired. Refused if the host has no memory for their records.
+    /// Lets time pass, in nanoseconds since the first record: a tick each half second. `report_lost` reports the
+    /// datagrams that expired. Fails if the host has no memory for their records.
     pub fn pass(&mut self, time: u64) -> Result<(), AllocError>
         ensures { IfOk result (λ done. HasPassed self.old time self.new) }
     {
         let due = time / TICK;
         let count = due.saturating_sub(self.ticks).min(MOST_TICKS);
         let passed = self.ticks.max(due);
-        let before = counted(&self.host.stack);
+        let before = counters_of(&self.host.stack);
         tick_all(&mut self.host.stack, count);
-        let after = counted(&self.host.stack);
+        let after = counters_of(&self.host.stack);
         self.ticks = passed;
         self.parts.expire(&self.host.stack, &before, &after)
     }
 
-    /// Lets a record's packet come. What's told of it is then answered by `text`; `tell_lost` reports the datagrams
-    /// that were dropped for their buffers. Refused if the host has no memory for a fragment; it has come then.
-    pub fn tell(&mut self, arrival: &Arrival<'_>) -> Result<(), AllocError>
+    /// Lets a record's packet arrive. Returns the verdict on it; `text` then returns what is printed of it, and
+    /// `records` the records of the other fragments of its datagram. `report_lost` reports the datagrams that were
+    /// dropped for their buffers. Fails if the host has no memory for a fragment; the packet may have arrived then.
+    pub fn receive(&mut self, arrival: &Arrival<'_>) -> Result<Verdict, AllocError>
         requires { length arrival.now.packet.now ≤ IP_MAX_PACKET }
-        ensures { IfOk result (λ done. IsJudged self.old arrival.now self.new) }
+        ensures { IfOk result (λ verdict. IsJudged self.old arrival.now verdict self.new) }
     {
         let packet = arrival.packet;
         self.parts.gather(packet)?;
         self.ports.open_for(&mut self.host.stack, packet)?;
-        let seen = seen_by(&self.parts, arrival, packet);
-        let before = counted(&self.host.stack);
-        tell_record(
-            &mut self.host,
-            self.layout,
-            &seen,
-            &mut self.rooms,
-            &mut self.text,
+        let before = counters_of(&self.host.stack);
+        arrive(
+            &mut self.host.stack,
+            packet,
+            self.scratch.packet.as_mut_slice(),
         );
-        let after = counted(&self.host.stack);
+        let after = counters_of(&self.host.stack);
+        self.parts.join(packet, &before, &after);
+        let seen = seen_by(&self.parts, arrival, packet);
+        let counted = Counted {
+            before: &before,
+            after: &after,
+        };
+        let verdict = Verdict::of(&seen, &counted, &self.host, &mut self.scratch.covered);
+        let report = Report {
+            seen: &seen,
+            time: arrival.time,
+            verdict: &verdict,
+            records: self.parts.records(),
+        };
+        put_record(
+            &mut self.text,
+            self.layout,
+            &report,
+            &mut self.scratch.strings,
+        );
         self.verdicts.note(&seen, &before, &after);
         let totals = self.totals.after(&self.host.stack, &before, &after);
         self.totals = totals;
         self.ports
-            .drain(&mut self.host.stack, self.rooms.packet.as_mut_slice());
+            .drain(&mut self.host.stack, self.scratch.packet.as_mut_slice());
         self.parts.reclaim(packet, &before, &after)?;
         remember(&mut self.parts, arrival.number, packet, &before, &after)?;
-        Ok(())
+        Ok(verdict)
     }
 
-    /// What the last report says: that of a record as [`tell_record`] puts it.
+    /// Returns the text of the last report.
     pub fn text(&self) -> &[u8]
         ensures { result.now ≡ self.now.text }
     {
         self.text.as_slice()
     }
 
-    /// Reports on all packets, in lines: how many came, what became of them, and for each cause how many were dropped
-    /// for it and the first record. `text` answers the lines then.
-    pub fn tell_totals(&mut self)
+    /// Reports on all packets, in lines: how many arrived, what happened to them, and for each cause how many were
+    /// dropped and the first record. `text` then returns the lines.
+    pub fn report_totals(&mut self)
         ensures { self.new ≡ record (self.old) { text = self.new.text } }
     {
         self.text.clear();
@@ -335,10 +364,10 @@ impl Judge {
         self.losses.put(&mut self.text);
     }
 
-    /// Reports on the first datagram that was dropped unfinished and that wasn't reported yet: why, and the records of
-    /// its fragments, which `records` and `text` answer then. `None` if there is none. Refused if the host has no
-    /// memory for the records.
-    pub fn tell_lost(&mut self) -> Result<Option<Loss>, AllocError>
+    /// Reports on the first datagram that was dropped unfinished and that wasn't reported yet. Returns why it was
+    /// dropped; `records` and `text` then return the records of its fragments and the report. Returns `None` if no such
+    /// datagram is left. Fails if the host has no memory for the records.
+    pub fn report_lost(&mut self) -> Result<Option<Loss>, AllocError>
         ensures { IfOk result (λ why. ReportsLost why self.old self.new) }
     {
         let Some(lost) = self.parts.take_lost()? else {
@@ -357,10 +386,10 @@ impl Judge {
         Ok(Some(lost.why))
     }
 
-    /// Reports on the unfinished datagram at a place: the bytes that lack, and the records of its fragments, which
-    /// `records` and `text` answer then. Whether there is one; if not, nothing changes. Refused if the host has no
-    /// memory for the records.
-    pub fn tell_unfinished(&mut self, i: u32) -> Result<bool, AllocError>
+    /// Reports on the unfinished datagram at index `i`: the missing bytes, and the records of its fragments, which
+    /// `text` and `records` then return. Returns whether there is such a datagram; if not, nothing changes. Fails if
+    /// the host has no memory for the records.
+    pub fn report_unfinished(&mut self, i: u32) -> Result<bool, AllocError>
         ensures { IfOk result (λ there. ReportsUnfinished there i self.old self.new) }
     {
         let Some(datagram) = self.host.stack.unfinished(i) else {
@@ -377,7 +406,7 @@ impl Judge {
         Ok(true)
     }
 
-    /// The records of the datagram that was reported last.
+    /// Returns the records of the fragments that were gathered for the last report.
     pub fn records(&self) -> &[u64]
         ensures { result.now ≡ self.now.parts.numbers.items }
     {

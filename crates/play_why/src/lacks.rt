@@ -1,31 +1,28 @@
-//! The unfinished datagrams in words: what they lack, or why they were dropped, and the records of their fragments. No
-//! contract says which the words are.
+//! The datagrams that weren't completed, in English: the missing bytes or why they were dropped, and the records of
+//! their fragments. No contract says which the words are.
 use crate::FATE;
 use crate::layout::Layout;
 use crate::parts::Loss;
+use crate::sentences::MOST_LISTED;
 use flat_model::FragmentKey;
 use net_stack::Stack;
 use play_text::Piece::{Either, Long, Number, Text, Way};
 use play_text::add;
 use script_loop::Buffer;
 
-/// So many ranges of a datagram are looked at.
+/// How many ranges of a datagram a line covers.
 const MOST_RANGES: u32 = 32;
 
-/// So many records of a datagram are named in a line.
-const MOST_NAMED: usize = 64;
-
-/// What happened to a datagram that didn't become whole.
+/// What happened to a datagram that wasn't completed.
 #[derive(Clone, Copy, Debug, PartialEq, Eq)]
 pub(crate) enum End {
     /// It was dropped.
     Lost(Loss),
-    /// At the end of the capture the host still waits for the bytes that lack. It's the one at this place.
+    /// At the end of the capture the host still waits for the missing bytes. It's the datagram at this index.
     Left(u32),
 }
 
-/// Puts the bytes after the text that lack in the datagram at a place: those in front of each range, and those behind
-/// them all.
+/// Appends the bytes that are missing from the datagram at index `i`: those before each range, and those after them.
 fn add_lacks(text: &mut Buffer<FATE>, machine: &Stack, i: u32) {
     let mut end = 0;
     let mut more = true;
@@ -49,7 +46,7 @@ fn add_lacks(text: &mut Buffer<FATE>, machine: &Stack, i: u32) {
     }
 }
 
-/// Puts after the text what happened to a datagram.
+/// Appends what happened to a datagram.
 fn add_end(text: &mut Buffer<FATE>, machine: &Stack, end: End) {
     match end {
         End::Lost(Loss::Expired) => add(text, &[Text(b" expired after 30 seconds,")]),
@@ -58,25 +55,25 @@ fn add_end(text: &mut Buffer<FATE>, machine: &Stack, end: End) {
     }
 }
 
-/// Puts the records of fragments after the text, of the first 64.
+/// Appends the records of the first 64 fragments, and how many more there are.
 fn add_records(text: &mut Buffer<FATE>, numbers: &[u64]) {
     add(
         text,
         &[Either(numbers.len() == 1, b" with record", b" with records")],
     );
     for (place, number) in numbers.iter().enumerate() {
-        if place < MOST_NAMED {
+        if place < MOST_LISTED {
             let front = Either(place == 0, b" ", b", ");
             add(text, &[front, Long(*number)]);
         }
     }
-    let rest = numbers.len().saturating_sub(MOST_NAMED);
+    let rest = numbers.len().saturating_sub(MOST_LISTED);
     if rest != 0 {
         add(text, &[Text(b" and "), Long(rest as u64), Text(b" more")]);
     }
 }
 
-/// The word for what happened to a datagram in an object of JSON.
+/// Returns the word for what happened to a datagram in a JSON object.
 fn word_for(end: End) -> &'static [u8] {
     match end {
         End::Lost(Loss::Expired) => b"expired",
@@ -85,7 +82,7 @@ fn word_for(end: End) -> &'static [u8] {
     }
 }
 
-/// Puts the protocol, the addresses and the identification of a datagram after the text.
+/// Appends the protocol, the addresses and the identification of a datagram.
 fn add_key(text: &mut Buffer<FATE>, key: FragmentKey) {
     add(
         text,
@@ -97,7 +94,7 @@ fn add_key(text: &mut Buffer<FATE>, key: FragmentKey) {
     );
 }
 
-/// Puts an object into a buffer for a datagram that didn't become whole.
+/// Appends an object for a datagram that wasn't completed.
 fn put_object(text: &mut Buffer<FATE>, key: FragmentKey, end: End, numbers: &[u64]) {
     add(text, &[Text(b"{\"datagram\":\"")]);
     add_key(text, key);
@@ -115,8 +112,8 @@ fn put_object(text: &mut Buffer<FATE>, key: FragmentKey, end: End, numbers: &[u6
     add(text, &[Text(b"]}\n")]);
 }
 
-/// Puts a line or an object into a buffer for a datagram that didn't become whole: what it goes by, what happened to
-/// it, and the records that have fragments of it.
+/// Puts a line or an object into a buffer for a datagram that wasn't completed: its key, what happened to it, and the
+/// records of its fragments.
 pub(crate) fn put_unfinished(
     text: &mut Buffer<FATE>,
     layout: Layout,

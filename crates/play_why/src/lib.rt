@@ -1,39 +1,40 @@
-//! Why packets of a capture were dropped: each goes to a machine, and what became of it is put into words, with both
-//! values where one is wrong.
+//! Why packets of a capture were dropped: each arrives at a machine, and the verdict says what happened to it, with
+//! both values if one is wrong.
 #![tactic(auto)]
 
 mod addresses;
-mod arrive;
 mod blame;
-mod causes;
-mod fate;
+mod delivered;
+mod finding;
 mod host;
+mod joined;
 mod judge;
+mod key;
 mod lacks;
 mod layout;
+mod object;
 mod parts;
 mod ports;
-mod rooms;
+mod scratch;
 mod seen;
+mod sentences;
 mod sums;
 mod table;
 mod values;
-mod whole;
+mod verdict;
 mod words;
 
 pub use addresses::{Addresses, Busiest};
-pub use arrive::tell_record;
 pub use blame::Blame;
-pub use causes::Part;
-pub use fate::MOST_RECORDS;
-pub use host::Host;
+pub use delivered::Delivered;
+pub use finding::Finding;
 pub use judge::{Arrival, Judge};
 pub use layout::Layout;
 pub use parts::Loss;
 pub use ports::MOST_PORTS;
-pub use rooms::Rooms;
-pub use seen::Seen;
 pub use sums::{COVERED, pseudo_sum, right_header_sum, right_udp_sum, u32_at};
+pub use values::Value;
+pub use verdict::Verdict;
 
-/// Room for what is told of a record.
-pub const FATE: usize = 131_072;
+/// The most bytes that are printed for a record.
+pub const FATE: usize = 524_288;

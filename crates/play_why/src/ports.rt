@@ -1,4 +1,4 @@
-//! The sockets of the machine: one for each port to which datagrams of a capture go.
+//! The sockets of the machine: one for each destination port in a capture.
 ghost use Rattle.std.specs.Prelude.{◌≡◌, IfOk, length, true};
 ghost use Rattle.params.specs.declared.TheConstants.{IP_MAX_PACKET};
 ghost use Rattle.flat_model.specs.Machine.Event.{Bind, Open};
@@ -13,7 +13,7 @@ use net_stack::Stack;
 use params::{IP_UDP_HEADERS, PROTOCOL_UDP};
 use std::alloc::{AllocError, Global};
 
-/// How many ports are bound at once. If another one comes, the port that was bound first is closed.
+/// How many ports are bound at the same time. For one more, the port that was bound first is closed.
 pub const MOST_PORTS: usize = 60;
 
 /// A port, and the descriptor of the socket that is bound to it.
@@ -27,13 +27,13 @@ struct Bound {
 #[derive(Drop)]
 pub(crate) struct Ports {
     bound: Vec<Bound>,
-    /// Where the one stands that is closed next, once there are 60.
+    /// The index of the one that is closed next, once there are 60.
     next: usize,
-    /// The one port that is bound, if one was asked for.
+    /// The only port that may be bound, if the caller chose one.
     only: Option<u16>,
 }
 
-/// The destination port of a packet that carries the front of a UDP datagram.
+/// Returns the destination port of a packet that carries the first bytes of a UDP datagram.
 fn port_in(packet: &[u8]) -> Option<u16>
     ensures { result ≡ sockets.front_port packet.now }
 {
@@ -46,7 +46,7 @@ fn port_in(packet: &[u8]) -> Option<u16>
     Some(u16_at(packet, 22))
 }
 
-/// A new socket.
+/// Opens a socket.
 #[tactic(auto, unfolding(stack_call::specs::Moves::StackSteps))]
 fn open(machine: &mut Stack) -> Result<u32, Errno>
     ensures { StackSteps (state_of machine.old) Open (opened_reply result) (state_of machine.new) }
@@ -73,13 +73,13 @@ fn close(machine: &mut Stack, fd: u32)
 
 /// Reads the next datagram of a socket.
 #[tactic(auto, unfolding(stack_call::specs::Moves::StackSteps))]
-fn take(machine: &mut Stack, fd: u32, room: &mut [u8])
-    ensures { sockets.ReadsSocket fd (length room.old) (state_of machine.old) (state_of machine.new) }
+fn take(machine: &mut Stack, fd: u32, buffer: &mut [u8])
+    ensures { sockets.ReadsSocket fd (length buffer.old) (state_of machine.old) (state_of machine.new) }
 {
-    let _taken = machine.recvfrom(fd, room);
+    let _taken = machine.recvfrom(fd, buffer);
 }
 
-/// A socket that is bound to a port. `None` if there can't be one.
+/// Opens a socket and binds it to a port. `None` if the machine refuses.
 fn bound_to(machine: &mut Stack, port: u16) -> Option<Bound>
     ensures { sockets.TriesToBind port result (state_of machine.old) (state_of machine.new) }
 {
@@ -96,7 +96,7 @@ fn bound_to(machine: &mut Stack, port: u16) -> Option<Bound>
 }
 
 impl Ports {
-    /// No port is bound yet. It takes no memory.
+    /// No port is bound yet. It allocates no memory.
     pub(crate) fn new(alloc: Global, only: Option<u16>) -> Ports
         ensures { sockets.IsUnbound only result }
     {
@@ -107,7 +107,7 @@ impl Ports {
         }
     }
 
-    /// Whether a port is bound.
+    /// Returns whether a port is bound.
     fn has(&self, port: u16) -> bool
         ensures { result ≡ sockets.is_bound port self.now.bound.items }
     {
@@ -121,7 +121,7 @@ impl Ports {
         false
     }
 
-    /// Whether this port may be bound: it's the one that was asked for, or each one may.
+    /// Returns whether this port may be bound: it's the only one, or all may be bound.
     fn may_bind(&self, port: u16) -> bool
         ensures { result ≡ sockets.may_bind self.now.only port }
     {
@@ -131,7 +131,7 @@ impl Ports {
         }
     }
 
-    /// The port that a packet wants to be bound, if it isn't yet.
+    /// Returns the port to bind for a packet, if it isn't bound yet.
     fn wanted(&self, packet: &[u8]) -> Option<u16>
         ensures { result ≡ sockets.wanted_port self.now packet.now }
     {
@@ -154,7 +154,7 @@ impl Ports {
         }
     }
 
-    /// Binds a socket to a port. If 60 are bound, the one that was bound first is closed for it.
+    /// Binds a socket to a port. If 60 are bound, the one that was bound first is closed.
     fn bind(&mut self, machine: &mut Stack, port: u16) -> Result<(), AllocError>
         ensures { IfOk result
             (λ u. sockets.BindsFor self.old port self.new (state_of machine.old) (state_of machine.new)) }
@@ -167,7 +167,7 @@ impl Ports {
         Ok(())
     }
 
-    /// Binds a socket to the port that a packet wants to be bound.
+    /// Binds a socket to the destination port of a packet if it isn't bound yet.
     pub(crate) fn open_for(&mut self, machine: &mut Stack, packet: &[u8]) -> Result<(), AllocError>
         ensures { IfOk result (λ u. sockets.BindsIf self.old (sockets.wanted_port self.old packet.now) self.new
             (state_of machine.old) (state_of machine.new)) }
@@ -178,14 +178,14 @@ impl Ports {
         }
     }
 
-    /// Takes what waits out of all sockets.
-    pub(crate) fn drain(&self, machine: &mut Stack, room: &mut [u8])
-        requires { length room.old ≡ IP_MAX_PACKET }
+    /// Reads the next datagram of each socket.
+    pub(crate) fn drain(&self, machine: &mut Stack, buffer: &mut [u8])
+        requires { length buffer.old ≡ IP_MAX_PACKET }
         ensures { sockets.Drains self.now.bound.items (state_of machine.old) (state_of machine.new) }
     {
         let mut rest = self.bound.as_slice();
         'bound: while let [bound, left @ ..] = rest {
-            take(machine, bound.fd, room);
+            take(machine, bound.fd, buffer);
             rest = left;
         }
     }

@@ -1,31 +1,16 @@
-//! A record of a capture, as it's judged.
-use crate::host::Host;
-use flat_model::Counters;
+//! A record of a capture, as the judge sees it.
 
-/// A record with an IPv4 packet, and what is known of the fragments before it.
+/// A record with an IPv4 packet that has arrived at a host.
 #[derive(Clone, Copy)]
-pub struct Seen<'a> {
+pub(crate) struct Seen<'a> {
     /// Its number in the capture, from 1.
-    pub number: u64,
-    /// Nanoseconds since the first record.
-    pub time: u64,
-    /// How many bytes the record had on the wire, and how many of them the capture kept.
-    pub original: u32,
-    pub captured: u32,
+    pub(crate) number: u64,
+    /// How many bytes the record had on the wire.
+    pub(crate) original: u32,
+    /// How many of them the capture kept.
+    pub(crate) captured: u32,
     /// The packet, with its IP header first.
-    pub packet: &'a [u8],
-    /// The datagram that it makes whole if it's the last fragment to come, without an IP header; else no byte.
-    pub whole: &'a [u8],
-    /// The records of the first other fragments of its datagram, and how many more there are.
-    pub earlier: &'a [u64],
-    pub more: u64,
-}
-
-/// What became of a record's packet: what its host had counted before it and after it, and the host after it.
-#[derive(Clone, Copy)]
-pub(crate) struct Came<'a> {
-    pub(crate) seen: &'a Seen<'a>,
-    pub(crate) before: &'a Counters,
-    pub(crate) after: &'a Counters,
-    pub(crate) host: &'a Host,
+    pub(crate) packet: &'a [u8],
+    /// The reassembled datagram without an IP header, if the packet completed one that was dropped; otherwise empty.
+    pub(crate) whole: &'a [u8],
 }

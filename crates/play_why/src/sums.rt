@@ -1,6 +1,5 @@
-//! The checksums that would be right, and their digits.
+//! The checksums that would be right.
 ghost use Rattle.std.specs.Prelude.{◌≡◌, ◌+◌, ◌≤◌, ◌<◌, ◌++◌, length, take, drop};
-ghost use Rattle.std.specs.Char.{digit_char};
 ghost use Rattle.params.specs.declared.TheConstants.{IP_HEADER, UDP_HEADER};
 ghost use Rattle.flat_model.specs.Packets.Header as header;
 ghost use Rattle.play_why.specs.Values as texts;
@@ -11,32 +10,10 @@ use flat_plain::{checksum, u16_at};
 use params::PROTOCOL_UDP;
 use script_loop::Buffer;
 
-/// Room for what the checksum of the longest datagram covers.
+/// The most bytes that a checksum covers.
 pub const COVERED: usize = 65_600;
 
-/// The digit of a number below 16, in lower case.
-fn digit(n: u16) -> u8
-    requires { n < 16 }
-    ensures { result ≡ digit_char n }
-{
-    if n < 10 { 48 + n as u8 } else { 87 + n as u8 }
-}
-
-/// The four digits of a number of 16 bits to the base 16.
-#[tactic(auto, unfolding(crate::specs::Values::word_digits))]
-pub(crate) fn word_digits(n: u16) -> [u8; 4]
-    ensures { result ≡ texts.word_digits n }
-{
-    [
-        digit(n / 4096),
-        digit(n / 256 % 16),
-        digit(n / 16 % 16),
-        digit(n % 16),
-    ]
-}
-
-/// The checksum that the first 20 bytes of a packet would have as its header (RFC 791, section 3.1). `covered` is room
-/// to work in.
+/// Returns the right checksum of a header of 20 bytes (RFC 791, section 3.1). `covered` is memory to work in.
 #[tactic(auto, unfolding(crate::specs::Values::right_header_sum))]
 pub fn right_header_sum(packet: &[u8], covered: &mut Buffer<COVERED>) -> u16
     requires { IP_HEADER ≤ length packet.now }
@@ -49,7 +26,7 @@ pub fn right_header_sum(packet: &[u8], covered: &mut Buffer<COVERED>) -> u16
     checksum(covered.as_slice())
 }
 
-/// Writes a number of 32 bits over the bytes from a place on.
+/// Writes a number of 32 bits at an offset.
 fn put_u32(bytes: &mut [u8], at: usize, n: u32)
     requires { at + 4 ≤ length bytes.old }
     ensures { bytes.new ≡ take at bytes.old ++ (header.four_bytes n ++ drop (at + 4) bytes.old) }
@@ -57,7 +34,7 @@ fn put_u32(bytes: &mut [u8], at: usize, n: u32)
     BigEndian::write_u32(&mut bytes[at..at + 4], n);
 }
 
-/// Writes a number of 16 bits over the bytes from a place on.
+/// Writes a number of 16 bits at an offset.
 fn put_u16(bytes: &mut [u8], at: usize, n: u16)
     requires { at + 2 ≤ length bytes.old }
     ensures { bytes.new ≡ take at bytes.old ++ (header.two_bytes n ++ drop (at + 2) bytes.old) }
@@ -65,7 +42,7 @@ fn put_u16(bytes: &mut [u8], at: usize, n: u16)
     BigEndian::write_u16(&mut bytes[at..at + 2], n);
 }
 
-/// What the UDP checksum covers in front of a datagram of so many bytes.
+/// Returns the pseudo header of a datagram with `n` bytes.
 fn pseudo_header(source: u32, destination: u32, n: u16) -> [u8; 12]
     ensures { result ≡ header.pseudo_header source destination n }
 {
@@ -77,7 +54,7 @@ fn pseudo_header(source: u32, destination: u32, n: u16) -> [u8; 12]
     bytes
 }
 
-/// The number in the four bytes from a place on, the high byte first.
+/// Returns the big-endian number in the four bytes at an offset.
 pub fn u32_at(bytes: &[u8], at: usize) -> u32
     requires { at + 4 ≤ length bytes.now }
     ensures { result ≡ header.u32_at at bytes.now }
@@ -85,7 +62,7 @@ pub fn u32_at(bytes: &[u8], at: usize) -> u32
     BigEndian::read_u32(&bytes[at..])
 }
 
-/// The same of a datagram in a packet.
+/// Returns the pseudo header of a datagram in a packet.
 #[tactic(auto, unfolding(crate::specs::Values::pseudo_of))]
 fn pseudo_of(packet: &[u8], datagram: &[u8]) -> [u8; 12]
     requires packet { IP_HEADER ≤ length packet.now }
@@ -95,14 +72,14 @@ fn pseudo_of(packet: &[u8], datagram: &[u8]) -> [u8; 12]
     pseudo_header(u32_at(packet, 12), u32_at(packet, 16), u16_at(datagram, 4))
 }
 
-/// A computed checksum of 0 is written as 65,535.
+/// Returns how a computed checksum is sent: 0 becomes 65,535.
 fn not_zero(sum: u16) -> u16
     ensures { result ≡ header.not_zero sum }
 {
     if sum == 0 { 65_535 } else { sum }
 }
 
-/// The bytes that are sent, by the UDP length and by what there is.
+/// Returns the data of a datagram, by the UDP length and by what there is.
 fn sent_by(datagram: &[u8]) -> &[u8]
     requires { UDP_HEADER ≤ length datagram.now }
     ensures is { result.now ≡ take (texts.sent_by datagram.now) (drop 8 datagram.now) }
@@ -113,8 +90,8 @@ fn sent_by(datagram: &[u8]) -> &[u8]
     &rest[..end.saturating_sub(8)]
 }
 
-/// The checksum that a datagram of 8 bytes or more would have, by its UDP length, under the addresses of a packet (RFC
-/// 768). `covered` is room to work in.
+/// Returns the right checksum of a datagram of 8 bytes or more, by its UDP length and the addresses of a packet (RFC
+/// 768). `covered` is memory to work in.
 #[tactic(auto, unfolding(crate::specs::Values::right_udp_sum))]
 pub fn right_udp_sum(packet: &[u8], datagram: &[u8], covered: &mut Buffer<COVERED>) -> u16
     requires packet { IP_HEADER ≤ length packet.now }
@@ -129,7 +106,7 @@ pub fn right_udp_sum(packet: &[u8], datagram: &[u8], covered: &mut Buffer<COVERE
     not_zero(checksum(covered.as_slice()))
 }
 
-/// The sum of the pseudo header alone, which stands for the checksum if the sender's card was to fill it in.
+/// Returns the sum of only the pseudo header, which is in a datagram whose checksum the sender's card fills in.
 #[tactic(auto, unfolding(crate::specs::Values::pseudo_sum))]
 pub fn pseudo_sum(packet: &[u8], datagram: &[u8]) -> u16
     requires packet { IP_HEADER ≤ length packet.now }

@@ -1,7 +1,7 @@
 //! How many packets were dropped for which cause, and the first record of each.
 ghost use Rattle.std.specs.Prelude.{◌≡◌, if◌then◌else◌};
 ghost use Rattle.play_text.specs.Tables.{once_more};
-ghost use Rattle.play_why.specs.Fates.{IsSeen};
+ghost use Rattle.play_why.specs.Findings.{IsSeen};
 ghost use Rattle.play_why.specs.Verdicts as verdicts;
 
 use crate::FATE;
@@ -17,13 +17,13 @@ use script_loop::Buffer;
 pub struct Verdicts {
     /// By causes, the packets that were wrong on the wire.
     pub causes: Table,
-    /// The packets of which the capture kept a part, and that were dropped for it.
+    /// The packets that were dropped because the capture kept only a part of them.
     pub cut: Count,
     /// The packets whose checksum was left to the sender's card.
     pub card: Count,
 }
 
-/// Whether a packet was dropped for a cause that is laid to this.
+/// Returns whether a packet was dropped for a cause for which this one is to blame.
 fn is_laid(blame: Blame, seen: &Seen<'_>, before: &Counters, after: &Counters, why: Why) -> bool
     requires { IsSeen seen.now }
     ensures { result ≡ verdicts.is_laid blame seen.now before.now after.now why }
@@ -37,14 +37,14 @@ fn is_laid(blame: Blame, seen: &Seen<'_>, before: &Counters, after: &Counters, w
         }
 }
 
-/// A count with one more if so, in the record of this number.
+/// Returns the count, with one more in the record with this number if `so` is true.
 fn counted_if(count: Count, so: bool, number: u64) -> Count
     ensures { result ≡ (if so then once_more number count else count) }
 {
     if so { count.once_more(number) } else { count }
 }
 
-/// A count after a record, whose packet counts once for each cause that is laid to this.
+/// Returns a count after a record, whose packet counts once for each cause for which `blame` is to blame.
 #[tactic(auto, unfolding(crate::specs::Verdicts::laid_to))]
 fn laid(blame: Blame, seen: &Seen<'_>, before: &Counters, after: &Counters, count: Count) -> Count
     requires { IsSeen seen.now }
@@ -58,7 +58,7 @@ fn laid(blame: Blame, seen: &Seen<'_>, before: &Counters, after: &Counters, coun
     now
 }
 
-/// A row after a record.
+/// Returns a row after a record.
 fn row_judged(row: Row, seen: &Seen<'_>, before: &Counters, after: &Counters) -> Row
     requires { IsSeen seen.now }
     ensures { result ≡ verdicts.row_judged seen.now before.now after.now row }
@@ -73,7 +73,7 @@ fn row_judged(row: Row, seen: &Seen<'_>, before: &Counters, after: &Counters) ->
     }
 }
 
-/// All rows after a record.
+/// Returns all rows after a record.
 #[tactic(auto, unfolding(crate::specs::Verdicts::causes_judged))]
 fn causes_judged(table: Table, seen: &Seen<'_>, before: &Counters, after: &Counters) -> Table
     requires { IsSeen seen.now }
@@ -98,7 +98,7 @@ impl Verdicts {
         }
     }
 
-    /// The packet of a record came: it counts once for each cause for which it was dropped, where that is laid to.
+    /// Counts the packet of a record once for each cause for which it was dropped, by who is to blame.
     pub(crate) fn note(&mut self, seen: &Seen<'_>, before: &Counters, after: &Counters)
         requires { IsSeen seen.now }
         ensures { self.new ≡ verdicts.judged seen.now before.now after.now self.old }
@@ -108,7 +108,7 @@ impl Verdicts {
         self.card = laid(Blame::Card, seen, before, after, self.card);
     }
 
-    /// Puts a line after the text for each cause for which a packet was dropped.
+    /// Appends a line for each cause for which a packet was dropped.
     pub(crate) fn put(&self, text: &mut Buffer<FATE>) {
         add_table(text, &self.causes);
         add_count(
@@ -132,7 +132,7 @@ pub(crate) struct Losses {
 }
 
 impl Losses {
-    /// None was.
+    /// None was dropped.
     pub(crate) fn none() -> Losses {
         Losses {
             expired: Count::never(),
@@ -140,7 +140,7 @@ impl Losses {
         }
     }
 
-    /// Those with these records were.
+    /// Counts the fragments with these records.
     pub(crate) fn note(&mut self, why: Loss, numbers: &[u64]) {
         let mut count = match why {
             Loss::Expired => self.expired,
@@ -155,7 +155,7 @@ impl Losses {
         }
     }
 
-    /// Puts a line after the text for each reason for which some were.
+    /// Appends a line for each reason for which some were dropped.
     pub(crate) fn put(&self, text: &mut Buffer<FATE>) {
         add_count(
             text,

@@ -1,14 +1,8 @@
 //! Rules in words.
-ghost use Rattle.std.specs.Prelude.{◌≡◌, ◌≤◌, length};
-ghost use Rattle.play_why.specs.Words.{rule_words};
-
 use flat_model::Why;
 
-/// The rule that a packet broke, with its source.
-pub(crate) fn rule_for(why: Why) -> &'static str
-    ensures is { result.now ≡ rule_words why }
-    ensures short { length result.now ≤ 120 }
-{
+/// Returns the rule that a packet broke, with its source.
+pub(crate) fn rule_for(why: Why) -> &'static str {
     match why {
         Why::TooSmall => "an IPv4 header has 20 bytes at least (RFC 791, section 3.1)",
         Why::BadVersion => "the first four bits are 4 (RFC 791, section 3.1)",

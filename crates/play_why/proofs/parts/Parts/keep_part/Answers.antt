@@ -1,4 +1,4 @@
-use Rattle.std.proofs.Common.{rules, refl, ◌∙◌}
+use Rattle.std.proofs.Common.{refl, ◌∙◌}
 use Rattle.play_why.proofs.parts.Parts.keep_part.Goals as goal
 
 pub returns : goal.returns
@@ -17,4 +17,5 @@ returns c = record {
   };
   kept = c.in_ok-push.ensures.items;
   lost = refl;
+  numbers = refl;
 }

@@ -7,7 +7,7 @@ use Rattle.play_why.proofs.ports.Ports.drain.Given as goal
 
 abbrev pub invariant-bound : goal.invariant-bound
 invariant-bound l =
-    (length l.room ≡ IP_MAX_PACKET)
+    (length l.buffer ≡ IP_MAX_PACKET)
     × ((end : State) → Drains l.rest (state_of l.machine) end
     → Drains l.self.bound.items (state_of l.fn.machine) end)
 

@@ -1,0 +1,12 @@
+use Rattle.std.proofs.Common.{◌<◌, ◌≢◌, ◌∙◌, length, arith, get_or-set_other, get_or-set_same, below_more}
+use Rattle.std.proofs.lemmas.List.{length-set}
+use Rattle.play_why.proofs.delivered.deliveries_of.Goals as goal
+
+pub places-preserved : goal.places-preserved
+places-preserved c = record {
+  len = length-set c.places.delivered c.places.place c.delivered_at.result ∙ c.places.invariant.len;
+  made = below_more _ _
+      (λ k h. let ne : k ≢ c.places.place = omega arith in rw get_or-set_other (c.places.invariant.made k h))
+      (let lt : c.places.place < length c.places.delivered = omega (arith, c.places.invariant.len, c.places-test.true) in
+      rw get_or-set_same c.delivered_at.ensures);
+}

@@ -1,0 +1,23 @@
+use Rattle.std.proofs.Common.{List, refl, subst, take, arith}
+use Rattle.flat_model.specs.Fragments.Overlay.{Fragment}
+use Rattle.play_why.specs.Joined.{IsReassembled, fragments_of}
+use Rattle.play_why.proofs.JoinLemmas.{parts_more}
+use Rattle.play_why.proofs.joined.lay_parts.Goals as goal
+
+pub loop-part-init : goal.loop-part-init
+loop-part-init c = record {
+  table = record { map = c.requires.empty; reach_is = refl };
+  past = λ k h. c.requires.empty k;
+  most = omega arith;
+}
+
+pub loop-part-preserved : goal.loop-part-preserved
+loop-part-preserved c = record {
+  table =
+      subst (λ (fs : List Fragment). IsReassembled c.lay_part-reach.new.spots c.lay_part-reach.result fs)
+      (parts_more c.args.key c.args.parts.now c.loop-part.part-index c.part-item.result (omega arith) c.part-item.is)
+      (c.lay_part-reach.ensures.table (fragments_of c.args.key (take c.loop-part.part-index c.args.parts.now))
+      c.loop-part.invariant.table);
+  past = c.lay_part-reach.ensures.past;
+  most = c.lay_part-reach.ensures.most;
+}

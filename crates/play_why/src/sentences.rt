@@ -1,0 +1,236 @@
+//! What happened to a packet, in English. No contract says which the words are.
+ghost use Rattle.std.specs.Prelude.{◌≤◌, length};
+ghost use Rattle.params.specs.declared.TheConstants.{IP_MAX_PACKET};
+
+use crate::FATE;
+use crate::blame::Blame;
+use crate::finding::Finding;
+use crate::seen::Seen;
+use crate::sums::u32_at;
+use crate::values::Value;
+use crate::verdict::Verdict;
+use crate::words::rule_for;
+use flat_plain::u16_at;
+use params::IP_HEADER;
+use play_text::Piece::{Address, Amount, Either, Long, Number, Range, Text};
+use play_text::{Fate, add, add_packet, add_time, words_for};
+use script_loop::Buffer;
+
+/// How many records of other fragments a line lists.
+pub(crate) const MOST_LISTED: usize = 64;
+
+/// What is printed of a record.
+#[derive(Clone, Copy)]
+pub(crate) struct Report<'a> {
+    pub(crate) seen: &'a Seen<'a>,
+    /// Nanoseconds since the first record.
+    pub(crate) time: u64,
+    pub(crate) verdict: &'a Verdict,
+    /// The records of the other fragments of its datagram.
+    pub(crate) records: &'a [u64],
+}
+
+/// Adds a description of the packet's headers, or at least its two addresses.
+pub(crate) fn add_headers<const N: usize>(text: &mut Buffer<N>, packet: &[u8])
+    requires { length packet.now ≤ IP_MAX_PACKET }
+{
+    if packet.len() < IP_HEADER as usize || packet[0] == 69 {
+        add_packet(text, packet);
+        return;
+    }
+    add(
+        text,
+        &[
+            Address(u32_at(packet, 12)),
+            Text(b" > "),
+            Address(u32_at(packet, 16)),
+            Text(b", "),
+            Amount(packet.len() as u32, b"byte"),
+        ],
+    );
+}
+
+/// Returns the four lower-case hexadecimal digits of a number.
+fn digits_of(n: u16) -> [u8; 4] {
+    let mut digits = [0; 4];
+    let _ = hex::encode_to_slice([(n / 256) as u8, (n % 256) as u8], &mut digits);
+    digits
+}
+
+/// Adds two checksums, of which the second would be right.
+fn add_sums<const N: usize>(text: &mut Buffer<N>, found: u16, right: u16) {
+    add(
+        text,
+        &[
+            Text(b"0x"),
+            Text(&digits_of(found)),
+            Text(b", right would be 0x"),
+            Text(&digits_of(right)),
+        ],
+    );
+}
+
+/// Adds the value that shows a cause.
+fn add_value<const N: usize>(text: &mut Buffer<N>, value: Value) {
+    match value {
+        Value::Short(arrived, least) => {
+            let header = Text(b" came, and a header has ");
+            add(text, &[Amount(arrived, b"byte"), header, Number(least)]);
+        }
+        Value::Version(version) => {
+            let front = Text(b"version ");
+            add(
+                text,
+                &[
+                    front,
+                    Number(u32::from(version)),
+                    Text(b", right would be 4"),
+                ],
+            );
+        }
+        Value::HeaderWords(words) => {
+            let front = Text(b"a header of ");
+            let words = Amount(u32::from(words), b"word");
+            add(text, &[front, words, Text(b", right would be 5")]);
+        }
+        Value::Sums(found, right) => add_sums(text, found, right),
+        Value::Lengths(named, arrived) => {
+            let named = Number(u32::from(named));
+            add(
+                text,
+                &[
+                    Text(b"length "),
+                    named,
+                    Text(b", "),
+                    Number(arrived),
+                    Text(b" came"),
+                ],
+            );
+        }
+        Value::Elsewhere(to, ours) => {
+            let (to, ours) = (Address(to), Address(ours));
+            add(
+                text,
+                &[Text(b"it goes to "), to, Text(b", and this is "), ours],
+            );
+        }
+        Value::Carried(offset, len) => add(text, &[Range(offset, len)]),
+        Value::Protocol(protocol) => add(text, &[Text(b"protocol "), Number(u32::from(protocol))]),
+        Value::Payload(len) => add(text, &[Amount(len, b"byte")]),
+        Value::Port(port) => add(text, &[Text(b"port "), Number(u32::from(port))]),
+        Value::NoneLeft => add(text, &[Text(b"none is left")]),
+    }
+}
+
+/// Adds the values that show the causes.
+pub(crate) fn add_values<const N: usize>(text: &mut Buffer<N>, verdict: &Verdict) {
+    for finding in verdict.findings {
+        if let Some(finding) = finding {
+            add_value(text, finding.value);
+        }
+    }
+}
+
+/// Adds the records of a datagram's fragments, of which the last one completed it.
+fn add_records<const N: usize>(text: &mut Buffer<N>, earlier: &[u64], last: u64) {
+    for (place, number) in earlier.iter().enumerate() {
+        if place < MOST_LISTED {
+            let front = Either(place == 0, b" with records ", b", ");
+            add(text, &[front, Long(*number)]);
+        }
+    }
+    let more = earlier.len().saturating_sub(MOST_LISTED);
+    if more != 0 {
+        add(text, &[Text(b", "), Long(more as u64), Text(b" more")]);
+    }
+    if !earlier.is_empty() {
+        add(text, &[Text(b" and "), Long(last)]);
+    }
+}
+
+/// Adds what happened to a fragment.
+fn add_fragment<const N: usize>(text: &mut Buffer<N>, report: &Report<'_>) {
+    let packet = report.seen.packet;
+    if packet.len() < IP_HEADER as usize {
+        return;
+    }
+    let id = Number(u32::from(u16_at(packet, 4)));
+    match report.verdict.fate {
+        Fate::Whole => {
+            add(text, &[Text(b" => datagram "), id, Text(b" is whole")]);
+            add_records(text, report.records, report.seen.number);
+        }
+        Fate::Kept => add(
+            text,
+            &[Text(b" => kept: datagram "), id, Text(b" isn't whole yet")],
+        ),
+        Fate::Other => {}
+    }
+}
+
+/// Adds what happened to a packet. Each part begins with ` => `.
+pub(crate) fn add_became<const N: usize>(text: &mut Buffer<N>, report: &Report<'_>) {
+    add_fragment(text, report);
+    for delivered in report.verdict.delivered {
+        if let Some(it) = delivered {
+            let port = Number(u32::from(it.port));
+            let len = Amount(it.len, b"byte");
+            add(
+                text,
+                &[Text(b" => delivered to port "), port, Text(b": "), len],
+            );
+        }
+    }
+    for finding in report.verdict.findings {
+        if let Some(it) = finding {
+            let cause = Text(words_for(it.why).as_bytes());
+            add(text, &[Text(b" => dropped: "), cause, Text(b": ")]);
+            add_value(text, it.value);
+        }
+    }
+}
+
+/// Adds a line with the rule that a packet broke, or with the reason why the packet isn't to blame.
+fn add_reason(text: &mut Buffer<FATE>, seen: &Seen<'_>, finding: Finding) {
+    match finding.blame {
+        Blame::Packet => {
+            let rule = Text(rule_for(finding.why).as_bytes());
+            add(text, &[Text(b"    rule: "), rule, Text(b"\n")]);
+        }
+        Blame::Capture => add(
+            text,
+            &[
+                Text(b"    not the packet's fault: the capture kept "),
+                Number(seen.captured),
+                Text(b" of its "),
+                Amount(seen.original, b"byte"),
+                Text(b" (snap length)\n"),
+            ],
+        ),
+        Blame::Card => add(
+            text,
+            &[
+                Text(b"    not wrong on the wire: this is the sum of the pseudo header alone, "),
+                Text(b"to which the sender's card adds the rest (checksum offload)\n"),
+            ],
+        ),
+    }
+}
+
+/// Puts the line of a record into a buffer, with a line below it for each cause for which its packet was dropped.
+pub(crate) fn put_lines(text: &mut Buffer<FATE>, report: &Report<'_>)
+    requires { length report.now.seen.now.packet.now ≤ IP_MAX_PACKET }
+{
+    text.clear();
+    add(text, &[Long(report.seen.number), Text(b"  ")]);
+    add_time(text, report.time);
+    add(text, &[Text(b"  ")]);
+    add_headers(text, report.seen.packet);
+    add_became(text, report);
+    add(text, &[Text(b"\n")]);
+    for finding in report.verdict.findings {
+        if let Some(it) = finding {
+            add_reason(text, report.seen, it);
+        }
+    }
+}

@@ -1,0 +1,47 @@
+//! The verdict on a packet: what a stack did with it, and why.
+ghost use Rattle.net_stack.specs.Stack.{state_of};
+ghost use Rattle.play_why.specs.Findings.{IsSeen, IsVerdict};
+
+use crate::delivered::{Delivered, deliveries_of};
+use crate::finding::{Counted, Finding, findings_of};
+use crate::host::Host;
+use crate::seen::Seen;
+use crate::sums::COVERED;
+use params::MAX_SOCKETS;
+use play_text::{CAUSES, Fate, fate_of};
+use script_loop::Buffer;
+
+/// What a stack did with the packet of a record.
+#[derive(Clone, Copy)]
+pub struct Verdict {
+    /// The number of the record.
+    pub number: u64,
+    /// What happened to its fragment.
+    pub fate: Fate,
+    /// What was delivered to each socket, that of the lowest descriptor first.
+    pub delivered: [Option<Delivered>; MAX_SOCKETS as usize],
+    /// Why it was dropped: what was found of each cause, in the order of `play_text::causes`.
+    pub findings: [Option<Finding>; CAUSES],
+}
+
+impl Verdict {
+    /// Returns the verdict by the counters before and after the packet, and by the host after it, in which only the
+    /// datagrams wait that the packet brought. `covered` is memory to work in.
+    pub(crate) fn of(
+        seen: &Seen<'_>,
+        counted: &Counted<'_>,
+        host: &Host,
+        covered: &mut Buffer<COVERED>,
+    ) -> Verdict
+        requires { IsSeen seen.now }
+        ensures { IsVerdict seen.now counted.now.before.now counted.now.after.now (state_of host.now.stack)
+            host.now.address result }
+    {
+        Verdict {
+            number: seen.number,
+            fate: fate_of(counted.before, counted.after),
+            delivered: deliveries_of(&host.stack),
+            findings: findings_of(seen, counted, host.address, covered),
+        }
+    }
+}
