@@ -62,7 +62,7 @@ fn head_of(head: IpHead, n: u32, chunk: u32, i: u32) -> IpHead
     }
 }
 
-/// A new mbuf with packet header, in which a header lies at the front.
+/// A new mbuf with packet header, with the IP header at its front.
 #[inline(always)]
 fn header_mbuf(pool: &mut Pool, head: IpHead) -> Result<Chain, NoBufs>
     requires offset { head.offset ≤ MAX_OFFSET }
@@ -235,10 +235,13 @@ fn cut_packets(
     Ok(train)
 }
 
-/// Cuts a datagram, which lies in a chain after 20 bytes for its header, into the packets for a link that takes
-/// packets of `mtu` bytes. The first is the chain itself, trimmed at its end; each other has an mbuf for its header,
-/// and after it a copy that shares clusters. All are made, or none: `NoBufs` comes exactly where fewer mbufs are free
-/// than the later ones take, and then the chain is freed.
+/// Cuts a datagram, which is in a chain after 20 bytes for its header, into packets of at most `mtu` bytes. The first
+/// is the chain itself, trimmed at its end; each of the others has an mbuf for its header, and after it a copy that
+/// shares clusters.
+///
+/// # Errors
+///
+/// `NoBufs` exactly if fewer mbufs are free than the later packets take. Then none is made, and the chain is freed.
 pub(crate) fn fragments(
     pool: &mut Pool,
     chain: Chain,

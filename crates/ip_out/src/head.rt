@@ -1,4 +1,4 @@
-//! IP headers: what they say, and their bytes.
+//! IP headers: their fields, and their bytes.
 ghost use Rattle.std.specs.Prelude.{◌≡◌, ℕ, List, [], ◌∷◌, ◌+◌, ◌%◌, ◌≤◌, length, take, IfOk, IfErr, Some, None};
 ghost use Rattle.flat_model.specs.Packets.Checksum.{checksum};
 ghost use Rattle.flat_model.specs.Packets.Header.{u16_at, u32_at, two_bytes, four_bytes, head_fault};
@@ -28,23 +28,23 @@ pub const DONT_FRAGMENT: u16 = 0x4000;
 /// The flag "more fragments", `IP_MF`.
 const MORE_FRAGMENTS: u16 = 0x2000;
 
-/// The most that a header's offset says, in bytes: 65,528.
+/// The largest offset that a header can have, in bytes: 65,528.
 pub const MAX_OFFSET: u32 = (MORE_FRAGMENTS as u32 - 1) * FRAGMENT_UNIT;
 
-/// What the IP header of a packet says, that of an IPv4 header without options (RFC 791, section 3.1).
+/// The fields of an IPv4 header without options (RFC 791, section 3.1).
 #[derive(Clone, Copy, Debug, PartialEq, Eq)]
 pub struct IpHead {
     /// Type of service.
     pub tos: u8,
-    /// Bytes of the whole packet, its header included.
+    /// The length of the packet in bytes, including its header.
     pub total: u16,
-    /// The identification, by which fragments of one datagram are known.
+    /// The identification, which is the same in all fragments of a datagram.
     pub id: u16,
     /// The flag "don't fragment".
     pub dont: bool,
     /// The flag "more fragments".
     pub more: bool,
-    /// From which byte of its datagram on the packet carries it: a multiple of 8, up to 65,528.
+    /// The offset in the datagram of the first byte that the packet carries: a multiple of 8, up to 65,528.
     pub offset: u32,
     /// Time to live.
     pub ttl: u8,
@@ -71,7 +71,7 @@ fn flags_of(head: &IpHead) -> u16
     }
 }
 
-/// Writes a number of 8 bits over the byte at a place.
+/// Writes an 8-bit number at offset `at`.
 #[inline(always)]
 fn put_u8(bytes: &mut [u8], at: usize, n: u8)
     requires { at + 1 ≤ length bytes.old }
@@ -80,7 +80,7 @@ fn put_u8(bytes: &mut [u8], at: usize, n: u8)
     bytes[at] = n;
 }
 
-/// Writes a number of 16 bits over the bytes from a place on.
+/// Writes a 16-bit number at offset `at`.
 #[inline(always)]
 fn put_u16(bytes: &mut [u8], at: usize, n: u16)
     requires { at + 2 ≤ length bytes.old }
@@ -89,7 +89,7 @@ fn put_u16(bytes: &mut [u8], at: usize, n: u16)
     BigEndian::write_u16(&mut bytes[at..at + 2], n);
 }
 
-/// Writes a number of 32 bits over the bytes from a place on.
+/// Writes a 32-bit number at offset `at`.
 #[inline(always)]
 fn put_u32(bytes: &mut [u8], at: usize, n: u32)
     requires { at + 4 ≤ length bytes.old }
@@ -98,7 +98,7 @@ fn put_u32(bytes: &mut [u8], at: usize, n: u32)
     BigEndian::write_u32(&mut bytes[at..at + 4], n);
 }
 
-/// The checksum of a header, of its numbers.
+/// The checksum of a header, computed from its fields.
 #[inline(always)]
 fn checksum_of(head: &IpHead) -> u16
     requires { head.now.offset ≤ MAX_OFFSET }
@@ -111,7 +111,7 @@ fn checksum_of(head: &IpHead) -> u16
     Sum::of_words(u64::from(front) + middle + u64::from(carried) + addresses).finish()
 }
 
-/// Writes a header with a number in place of its checksum.
+/// Writes a header with this checksum.
 #[inline(always)]
 fn write_with(bytes: &mut [u8], head: &IpHead, sum: u16)
     requires len { length bytes.old ≡ IP_HEADER }
@@ -130,8 +130,8 @@ fn write_with(bytes: &mut [u8], head: &IpHead, sum: u16)
     put_u32(bytes, 16, head.dst);
 }
 
-/// Writes a header of 20 bytes, its checksum among them. Conditions: there are 20 bytes; the offset is a multiple
-/// of 8, up to 65,528 (RFC 791, section 3.1).
+/// Writes a header of 20 bytes with its checksum. `bytes` must have 20 bytes, and the offset must be a multiple of 8,
+/// up to 65,528 (RFC 791, section 3.1).
 #[inline(always)]
 pub fn write_head(bytes: &mut [u8], head: IpHead)
     requires len { length bytes.old ≡ IP_HEADER }
@@ -143,7 +143,7 @@ pub fn write_head(bytes: &mut [u8], head: IpHead)
     write_with(bytes, &head, sum);
 }
 
-/// The number of 16 bits in the bytes from a place on.
+/// Reads a 16-bit number at offset `at`.
 #[inline(always)]
 fn u16_at(bytes: &[u8], at: usize) -> u16
     requires { at + 2 ≤ length bytes.now }
@@ -152,7 +152,7 @@ fn u16_at(bytes: &[u8], at: usize) -> u16
     BigEndian::read_u16(&bytes[at..])
 }
 
-/// The number of 32 bits in the bytes from a place on.
+/// Reads a 32-bit number at offset `at`.
 #[inline(always)]
 fn u32_at(bytes: &[u8], at: usize) -> u32
     requires { at + 4 ≤ length bytes.now }
@@ -161,7 +161,7 @@ fn u32_at(bytes: &[u8], at: usize) -> u32
     BigEndian::read_u32(&bytes[at..])
 }
 
-/// What the first 20 bytes of a packet say.
+/// Decodes the header in the first 20 bytes of a packet.
 #[inline(always)]
 fn head_in(bytes: &[u8]) -> IpHead
     requires { length bytes.now ≡ IP_HEADER }
@@ -182,7 +182,7 @@ fn head_in(bytes: &[u8]) -> IpHead
     }
 }
 
-/// The first test that a packet of `len` bytes fails, of which these are the first 20.
+/// The first test that a packet of `len` bytes fails, from its first 20 bytes.
 #[inline(always)]
 fn fault_in(bytes: &[u8; IP_HEADER as usize], len: u32) -> Option<Why>
     requires few { IP_HEADER ≤ len }
@@ -211,7 +211,7 @@ fn fault_in(bytes: &[u8; IP_HEADER as usize], len: u32) -> Option<Why>
     None
 }
 
-/// What the first 20 bytes of a packet of `len` bytes say, or the first test that it fails.
+/// Decodes the header in the first 20 bytes of a packet of `len` bytes. Returns the first test that fails.
 #[inline(always)]
 fn head_or_fault(bytes: &[u8; IP_HEADER as usize], len: u32) -> Result<IpHead, Why>
     requires few { IP_HEADER ≤ len }
@@ -226,7 +226,7 @@ fn head_or_fault(bytes: &[u8; IP_HEADER as usize], len: u32) -> Result<IpHead, W
     }
 }
 
-/// `read_head` of a packet of `len` bytes whose header lies in more than one mbuf.
+/// `read_head` of a packet of `len` bytes whose header is split across mbufs.
 fn read_cut(pool: &Pool, chain: &Chain, len: u32) -> Result<IpHead, Why>
     requires live { IsLive pool.now chain.now }
     requires len { len ≡ length (string (chain_of pool.now chain.now)) }
@@ -240,13 +240,15 @@ fn read_cut(pool: &Pool, chain: &Chain, len: u32) -> Result<IpHead, Why>
     head_or_fault(&bytes, len)
 }
 
-/// What the header of a packet says. The packet is a chain whatever its cut; it isn't changed.
+/// Reads the header of a packet in a chain, which may be split anywhere and isn't changed.
 ///
-/// Refused is the first test that fails, in this order: fewer than 20 bytes, `TooSmall`; a version other than 4,
-/// `BadVersion`; fewer than 5 words of header, `BadHeaderLength`; more, `Options`, since none are taken; a header
-/// whose folded sum isn't 65,535, `BadSum`; a total length below 20, `BadLength`, or above that of the chain,
-/// `TooShort`. A chain may be longer than the total length (`ipintr` of TCP/IP Illustrated volume 2, chapter 8;
-/// RFC 791, section 3.1; that options are refused is this project's own).
+/// # Errors
+///
+/// The first test that fails, in this order: fewer than 20 bytes, `TooSmall`; a version other than 4, `BadVersion`;
+/// fewer than 5 words of header, `BadHeaderLength`; more than 5, `Options`, because none are supported; a header whose
+/// folded sum isn't 65,535, `BadSum`; a total length below 20, `BadLength`; a total length above that of the chain,
+/// `TooShort`. A chain may be longer than the total length (`ipintr` of TCP/IP Illustrated volume 2, chapter 8; RFC
+/// 791, section 3.1; rejecting options is this project's own).
 // Inlined, so that no field is moved through memory.
 #[inline(always)]
 pub fn read_head(pool: &Pool, chain: &Chain) -> Result<IpHead, Why>
@@ -259,7 +261,7 @@ pub fn read_head(pool: &Pool, chain: &Chain) -> Result<IpHead, Why>
     if len < IP_HEADER {
         return Err(Why::TooSmall);
     }
-    // Mostly it lies in the first mbuf, and is read there.
+    // Usually it's in the first mbuf and is read in place.
     let first = pool.bytes(chain, pool.first(chain));
     match first.split_first_chunk() {
         Some((bytes, _)) => head_or_fault(bytes, len),
@@ -271,7 +273,7 @@ pub fn read_head(pool: &Pool, chain: &Chain) -> Result<IpHead, Why>
 /// caller tests the header again.
 #[derive(Clone, Copy, Drop)]
 pub struct Headed<'a> {
-    /// The bytes as received. There may be more of them than the header's total length.
+    /// The bytes as received, possibly more than the header's total length.
     pub packet: &'a [u8],
     /// The tests that the header has passed.
     pub ghost is_headed: { IsFaultless packet.now },

@@ -79,18 +79,18 @@ fn count(n: u32, mtu: u32) -> Need
     Need { mbufs, clusters }
 }
 
-/// How many free mbufs and clusters a send of `n` bytes takes where the longest packet has `mtu` bytes: those of the
-/// datagram, and for each fragment after the first an mbuf for its header and one for each mbuf in which its bytes
-/// lie. Clusters are shared. At most 65,507 bytes; `mtu` at least 68.
+/// The number of free mbufs and clusters that a send of `n` bytes takes, with packets of at most `mtu` bytes: those of
+/// the datagram, and for each fragment after the first an mbuf for its header and one for each mbuf that contains some
+/// of its bytes. Clusters are shared. `n` is at most 65,507, `mtu` at least 68.
 ///
-/// It takes one step for each mbuf of the datagram, however many fragments there are (`sosend`, `ip_output` of
+/// It takes one step for each mbuf of the datagram; the number of fragments doesn't count (`sosend`, `ip_output` of
 /// TCP/IP Illustrated volume 2, chapters 16 and 8).
 pub fn need(n: u32, mtu: u16) -> Need
     requires short { n ≤ UDP_MAX_DATA }
     requires least { MIN_MTU ≤ mtu }
     ensures { result ≡ need n mtu }
 {
-    // A short datagram is one mbuf and one packet, and nothing has to be counted.
+    // A short datagram is one mbuf and one packet, so there is nothing to count.
     if n <= MAX_SHARED && n + IP_UDP_HEADERS <= mtu as u32 {
         return Need {
             mbufs: 1,
@@ -100,8 +100,9 @@ pub fn need(n: u32, mtu: u16) -> Need
     count(n, mtu as u32)
 }
 
-/// How many free mbufs and clusters a send of `n` bytes to the broadcast address takes, which isn't cut: those of the
-/// datagram, and as many mbufs for the copy that comes back. Clusters are shared. At most 65,507 bytes.
+/// The number of free mbufs and clusters that a send of `n` bytes to the broadcast address takes, in one packet: those
+/// of the datagram, and the same number of mbufs for the copy that comes back. Clusters are shared. `n` is at most
+/// 65,507.
 ///
 /// It takes one step for each mbuf of the datagram (`ether_output` and `looutput` of TCP/IP Illustrated volume 2,
 /// chapters 4 and 5).

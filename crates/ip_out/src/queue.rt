@@ -18,14 +18,15 @@ use std::marker::Model;
 use std::mem;
 
 /// The packets that wait for the link, at most 50, first in first out: `ifqueue` of TCP/IP Illustrated volume 2,
-/// chapter 3. They are linked through their own first mbufs, so the queue takes no buffer. It must be spent, by `end`.
+/// chapter 3. They are linked through their own first mbufs, so the queue takes no buffer. It must be consumed, by
+/// `end`.
 ///
-/// The packets stay in the pool that each call is given, which is the one that they came from.
+/// Each call gets the pool that contains the packets.
 pub struct Queue {
     train: Train,
 }
 
-/// Takes over the packets of a train, at most 50, by one in which none waits. It's no walk.
+/// Replaces an empty train by another one of at most 50 packets. O(1).
 fn take_over(pool: &Pool, train: &mut Train, more: Train)
     requires none { train.old.len ≡ 0 }
     requires few { more.len ≤ OUTPUT_QUEUE_PACKETS }
@@ -43,7 +44,7 @@ fn take_over(pool: &Pool, train: &mut Train, more: Train)
     mem::replace(train, more).end_empty();
 }
 
-/// Puts packets at the end of a train up to the 50th, and frees the others. Answers whether there were others.
+/// Appends packets to a train up to the 50th, and frees the others. Returns whether there were others.
 fn move_packets(pool: &mut Pool, train: &mut Train, more: Train) -> bool
     requires held { IsHeld pool.old train.old }
     requires more { IsHeld pool.old more }
@@ -89,22 +90,22 @@ impl Queue {
         }
     }
 
-    /// How many packets wait.
+    /// The number of queued packets.
     pub const fn len(&self) -> u32
         ensures { result ≡ self.now.len }
     {
         self.train.len()
     }
 
-    /// Whether none waits.
+    /// Whether the queue is empty.
     pub const fn is_empty(&self) -> bool
         ensures { result ≡ (self.now.len == 0) }
     {
         self.train.is_empty()
     }
 
-    /// How many bytes the packet has that has waited longest; `None` where none waits. It changes nothing, and takes a
-    /// number of steps that doesn't depend on the queue.
+    /// The length in bytes of the oldest packet; `None` if the queue is empty. It changes nothing. The number of steps
+    /// doesn't depend on the queue.
     pub fn next_len(&self, pool: &Pool) -> Option<u32>
         requires { IsOutputQueue pool.now self.now }
         ensures { result ≡ oldest_length (train_packets pool.now self.now) }
@@ -113,9 +114,9 @@ impl Queue {
         Some(self.train.len_at(pool, at))
     }
 
-    /// Copies the bytes of the packet out in front of which `i` others wait, to the front of the room, and answers how
-    /// many they are; `None` exactly if no more than `i` packets wait. The rest of the room stays as it was. Condition:
-    /// the room has a place for each of the bytes. The packet stays where it is; it takes a step for each one in front.
+    /// Copies the bytes of the packet at index `i` to the front of `room`, and returns their number; `None` exactly if
+    /// no more than `i` packets are queued. The rest of `room` is unchanged. The packet must fit there. It stays in the
+    /// queue. It takes one step for each packet before it.
     pub fn packet(&self, pool: &Pool, i: u32, room: &mut [u8]) -> Option<usize>
         requires queue { IsOutputQueue pool.now self.now }
         requires fits { IfSome (nth_packet i (train_packets pool.now self.now))
@@ -128,8 +129,8 @@ impl Queue {
         copy_packet(pool, &self.train, i, room)
     }
 
-    /// What each mbuf of the packet in front of which `i` others wait says of itself, and its bytes, in order: for a
-    /// drawing of them. `None` exactly if no more than `i` wait. It takes a step for each packet in front.
+    /// The mbufs of the packet at index `i`, in order, for drawing them: each one's head fields and its bytes. `None`
+    /// exactly if no more than `i` packets are queued. It takes one step for each packet before it.
     pub fn heads<'a>(&self, pool: &'a Pool, i: u32) -> Option<MbufHeads<'a>>
         requires { IsOutputQueue pool.now self.now }
         ensures { result ≡ nth_heads pool.now (numbers pool.now self.now) i }
@@ -137,8 +138,8 @@ impl Queue {
         self.train.heads(pool, i)
     }
 
-    /// Puts a packet at the end. Conditions: fewer than 50 wait; the first mbuf has a packet header. It takes a number
-    /// of steps that doesn't depend on the queue.
+    /// Appends a packet. Fewer than 50 must be queued, and its first mbuf must have a packet header. The number of
+    /// steps doesn't depend on the queue.
     pub fn push(&mut self, pool: &mut Pool, packet: Chain)
         requires queue { IsOutputQueue pool.old self.old }
         requires room { self.old.len < OUTPUT_QUEUE_PACKETS }
@@ -157,8 +158,7 @@ impl Queue {
         self.train.insert(pool, end, packet, 0);
     }
 
-    /// Puts a datagram of `len` bytes that isn't cut at the end, as one packet, or frees it where there is no room.
-    /// Answers whether there was none.
+    /// Appends a datagram of `len` bytes as one packet, or frees it if the queue is full. Returns whether it was full.
     #[inline(always)]
     pub(crate) fn push_whole(
         &mut self,
@@ -188,8 +188,8 @@ impl Queue {
         false
     }
 
-    /// Puts a datagram of `len` bytes that isn't cut at the end, as one packet. Conditions: fewer than 50 wait; the
-    /// chain is as `send_packets` wants it. It takes a number of steps that doesn't depend on the queue.
+    /// Appends a datagram of `len` bytes as one packet. Fewer than 50 must be queued, and the conditions of
+    /// `send_packets` hold for the chain. The number of steps doesn't depend on the queue.
     #[inline(always)]
     pub fn push_one(&mut self, pool: &mut Pool, chain: Chain, head: IpHead, len: u32)
         requires queue { IsOutputQueue pool.old self.old }
@@ -210,8 +210,7 @@ impl Queue {
         add_whole(pool, &mut self.train, chain, head, len);
     }
 
-    /// Takes the packet that has waited longest, or answers `None` where none waits. It takes a number of steps that
-    /// doesn't depend on the queue.
+    /// Removes the oldest packet; `None` if the queue is empty. The number of steps doesn't depend on the queue.
     pub fn pop(&mut self, pool: &mut Pool) -> Option<Chain>
         requires { IsOutputQueue pool.old self.old }
         ensures packets { MatchOption result
@@ -234,7 +233,7 @@ impl Queue {
         Some(packet)
     }
 
-    /// Puts packets at the end, as many as there is room for, and frees the others. Answers whether there were others.
+    /// Appends packets until the queue is full, and frees the others. Returns whether there were others.
     pub fn push_all(&mut self, pool: &mut Pool, more: Train) -> bool
         requires queue { IsOutputQueue pool.old self.old }
         requires more { IsHeld pool.old more }
@@ -255,7 +254,7 @@ impl Queue {
         move_packets(pool, &mut self.train, more)
     }
 
-    /// Frees all packets, and spends the queue.
+    /// Frees all packets, and consumes the queue.
     pub fn end(self, pool: &mut Pool)
         requires { IsOutputQueue pool.old self }
         ensures { Moves pool.old (numbers pool.old self) pool.new [] }

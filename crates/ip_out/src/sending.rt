@@ -1,4 +1,4 @@
-//! Output: the packets of a datagram, and where they go.
+//! Output of a datagram: its packets go to the link, back to this machine, or both.
 ghost use Rattle.std.specs.Prelude.{◌≡◌, ◌≤◌, ◌∷◌, ◌++◌, length, take, nat_lt, IfOk, OnOk, OnErr, IfErr};
 ghost use Rattle.mbuf_chain.specs.Chain.{IsLive, chain_of, without};
 ghost use Rattle.mbuf_chain.specs.Owners.{Moves, times_among};
@@ -18,19 +18,21 @@ use mbuf_pool::NoBufs;
 use params::{MIN_MTU, OUTPUT_QUEUE_PACKETS};
 
 /// Sends a datagram: cuts it into packets of at most `mtu` bytes, which is at least 68, writes their headers, and puts
-/// them into the output queue. The chain is spent on each answer.
+/// them into the output queue (`ip_output` of TCP/IP Illustrated volume 2, chapters 8 and 10; RFC 791, section 3.2
+/// "Fragmentation"). The chain is consumed, also on error.
 ///
-/// The datagram lies in the chain after 20 bytes for the IP header, whatever they are; these lie in the first mbuf,
-/// which is plain and has a packet header. No mbuf is empty, and the whole has at most 65,535 bytes. Of `head`, total
-/// length, offset and "more fragments" count for nothing: each packet has its own.
+/// The chain has 20 bytes for the IP header, of any value, and then the datagram. These 20 bytes are in the first mbuf,
+/// which is plain and has a packet header. No mbuf is empty, and the whole has at most 65,535 bytes. The total length,
+/// the offset and "more fragments" of `head` are ignored: each packet has its own.
 ///
-/// All packets are made before any is queued. The first is the chain itself, trimmed at its end; each other has an mbuf
-/// for its header, and after it copies that share clusters. If each packet that waited begins in a plain mbuf, so does
-/// each that waits then. It takes one step for each mbuf and each packet.
+/// All packets are made before any is queued. The first is the chain itself, trimmed at its end; each of the others has
+/// an mbuf for its header, and after it copies that share clusters. If each queued packet begins in a plain mbuf, so
+/// does each one that is queued afterwards. It takes one step for each mbuf and each packet.
 ///
-/// Refused: `Lack::Pool` exactly where fewer mbufs are free than the later packets take; nothing is queued then, and
-/// the chain is freed. `Lack::Queue` where the queue has no room for all; those that fit are queued, the others freed
-/// (`ip_output` of TCP/IP Illustrated volume 2, chapters 8 and 10; RFC 791, section 3.2 "Fragmentation").
+/// # Errors
+///
+/// `Lack::Pool` exactly if fewer mbufs are free than the later packets take: nothing is queued, and the chain is freed.
+/// `Lack::Queue` if the queue can't take all packets: those that fit are queued, and the others are freed.
 pub fn output(
     pool: &mut Pool,
     chain: Chain,
@@ -62,23 +64,26 @@ pub fn output(
     Ok(())
 }
 
-/// What came of the packets of a datagram. The train must be spent.
+/// The result of `send_packets`. The train must be consumed.
 pub struct Sent {
-    /// Those that come back.
+    /// The packets that come back.
     pub looped: Train,
     /// Whether the datagram was cut into more than one packet.
     pub is_cut: bool,
-    /// Whether the output queue had no room for all that go to the link.
+    /// Whether the output queue couldn't take all packets for the link.
     pub is_lost: bool,
 }
 
 impl Queue {
-    /// Makes the packets of a datagram as `make_packets` does, puts those for the link into the queue as `push_all`
-    /// does, and answers those that come back. The chain is spent on each answer.
+    /// Makes the packets of a datagram like `make_packets`, puts those for the link into the queue like `push_all`, and
+    /// returns those that come back (`ip_output`, `looutput` and `ether_output` of TCP/IP Illustrated volume 2,
+    /// chapters 8, 5 and 4). The chain is consumed, also on error. Packets that the queue can't take are freed; that
+    /// isn't an error.
     ///
-    /// `NoBufs` comes exactly where fewer mbufs are free than copy and later packets take; nothing is queued then, and
-    /// the chain is freed. Packets for which the queue has no room are freed, and that's no refusal (`ip_output`,
-    /// `looutput` and `ether_output` of TCP/IP Illustrated volume 2, chapters 8, 5 and 4).
+    /// # Errors
+    ///
+    /// `NoBufs` exactly if fewer mbufs are free than copy and later packets take: nothing is queued, and the chain is
+    /// freed.
     #[inline(always)]
     pub fn send_packets(
         &mut self,
@@ -113,7 +118,7 @@ impl Queue {
     {
         let len = pool.len(&chain);
         match way {
-            // Most datagrams: one packet, for which no train is made.
+            // Most datagrams are one packet, which needs no train.
             Way::Link if len <= mtu as u32 => {
                 pool.laws();
                 let is_lost = self.push_whole(pool, chain, head, len);

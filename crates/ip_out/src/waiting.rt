@@ -1,4 +1,4 @@
-//! A packet that waits for the link, read where it is.
+//! A packet in the output queue, read in place.
 ghost use Rattle.std.specs.Prelude.{◌≡◌, ◌<◌, ◌≤◌, drop, length, take, option_map, IfNone, IfSome};
 ghost use Rattle.std.specs.List.{concat};
 ghost use Rattle.mbuf_chain.specs.Train.{IsHeld, IsQueuedPlace};
@@ -7,7 +7,7 @@ ghost use Rattle.ip_out.specs.Questions.{nth_packet};
 
 use mbuf_chain::{Pieces, Pool, QueuedPlace, Train};
 
-/// The place of the packet in front of which `i` others wait.
+/// The place of the packet at index `i`.
 fn place_at(pool: &Pool, train: &Train, i: u32) -> QueuedPlace
     requires within { i < train.now.len }
     requires held { IsHeld pool.now train.now }
@@ -27,7 +27,7 @@ fn place_at(pool: &Pool, train: &Train, i: u32) -> QueuedPlace
     at
 }
 
-/// Copies the bytes of all mbufs to the front of a room that has a place for each, and answers how many they are.
+/// Copies the bytes of all mbufs to the front of `room`, in which they must fit, and returns their number.
 fn copy_all(pieces: Pieces<'_>, room: &mut [u8]) -> usize
     requires { length (concat pieces) ≤ length room.old }
     ensures copied { take result room.new ≡ concat pieces.entry }
@@ -43,7 +43,7 @@ fn copy_all(pieces: Pieces<'_>, room: &mut [u8]) -> usize
     at
 }
 
-/// Copies the packet out in front of which `i` others wait: see `Queue::packet`.
+/// Copies the packet at index `i`: see `Queue::packet`.
 pub(crate) fn copy_packet(pool: &Pool, train: &Train, i: u32, room: &mut [u8]) -> Option<usize>
     requires held { IsHeld pool.now train.now }
     requires fits { IfSome (nth_packet i (train_packets pool.now train.now)) (λ bytes. length bytes ≤ length room.old) }

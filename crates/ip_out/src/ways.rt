@@ -1,4 +1,4 @@
-//! Where the packets of a datagram go.
+//! The packets of a datagram, for the link and for this machine.
 ghost use Rattle.std.specs.Prelude.{◌≡◌, ◌≤◌, [], ◌∷◌, ◌++◌, length, nat_lt, IfOk, OnOk, OnErr};
 ghost use Rattle.mbuf_chain.specs.Chain.{IsLive, chain_of, without};
 ghost use Rattle.mbuf_chain.specs.Owners.{Moves};
@@ -14,18 +14,18 @@ use mbuf_chain::{Chain, Pool, Train};
 use mbuf_pool::NoBufs;
 use params::MIN_MTU;
 
-/// Where the packets of a datagram go.
+/// The destination of a datagram's packets.
 #[derive(Clone, Copy, Debug, PartialEq, Eq)]
 pub enum Way {
     /// To the link.
     Link,
-    /// Back to this machine, to which the datagram is sent.
+    /// Back to this machine, which is the datagram's destination.
     Loopback,
     /// To the link, and a copy back: a broadcast, which this machine receives too.
     Both,
 }
 
-/// The packets of a datagram. Both trains must be spent.
+/// The packets of a datagram. Both trains must be consumed.
 pub struct Packets {
     /// Those for the link.
     pub link: Train,
@@ -73,12 +73,14 @@ fn both_ways(pool: &mut Pool, chain: Chain, head: IpHead, mtu: u16) -> Result<Pa
     })
 }
 
-/// Makes the packets of a datagram, and tells those for the link from those that come back; see `output` for the
-/// datagram and its packets. The chain is spent on each answer.
+/// Makes the packets of a datagram: those for the link, and those that come back. See `output` for the datagram and its
+/// packets. The chain is consumed, also on error. A datagram that goes both ways is copied once, by `m_copym`, and the
+/// copy shares its clusters (`ip_output`, `looutput` and `ether_output` of TCP/IP Illustrated volume 2, chapters 8, 5
+/// and 4).
 ///
-/// A datagram that goes both ways is copied once, by `m_copym`, and its copy shares its clusters. `NoBufs` comes
-/// exactly where fewer mbufs are free than copy and later packets take, and then the chain is freed (`ip_output`,
-/// `looutput` and `ether_output` of TCP/IP Illustrated volume 2, chapters 8, 5 and 4).
+/// # Errors
+///
+/// `NoBufs` exactly if fewer mbufs are free than copy and later packets take. The chain is freed then.
 pub fn make_packets(
     pool: &mut Pool,
     chain: Chain,

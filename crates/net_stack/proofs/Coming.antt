@@ -1,10 +1,10 @@
 -- A packet from the wire: how it lies in its chain, and its arrival.
-use Rattle.std.proofs.Common.{◌≡◌, ◌⊎◌, ℕ, zero, suc, ◌+◌, ◌-◌, ◌<◌, ◌≤◌, min, Bool, true, false, cond, List, [], ◌∷◌, ◌++◌, length, is_some, refl, sym, ap, ◌∙◌, subst, arith, inl, inr}
+use Rattle.std.proofs.Common.{◌≡◌, ◌⊎◌, ℕ, zero, suc, ◌-◌, ◌<◌, ◌≤◌, min, Bool, true, false, cond, List, [], ◌∷◌, ◌++◌, length, is_some, refl, sym, ap, ◌∙◌, subst, arith, inl, inr}
 use Rattle.std.specs.Prelude.{count_by, nat_le, slice_index_or}
 use Rattle.std.proofs.lemmas.Bool.{true≢false, cases_lt}
 use Rattle.std.proofs.lemmas.List.{length-take}
 use Rattle.std.proofs.lemmas.List.Elements.{All-from_recursion}
-use Rattle.flat_model.specs.Amounts.Weight.{Weight, Item, nothing}
+use Rattle.flat_model.specs.Amounts.Weight.{Item, nothing}
 use Rattle.flat_model.specs.Amounts.Layout as flat
 use Rattle.flat_model.specs.Amounts.Layout.{Need, Room, Plain, Cluster, filled, is_cluster, laid_on, need_of, next_room, size_of, wire}
 use Rattle.flat_model.specs.Machine.Count.{counted}
@@ -15,7 +15,7 @@ use Rattle.flat_model.specs.declared.counters.Counters.{Counters}
 use Rattle.flat_model.specs.declared.counters.Why.TheVariants.{NoBufs}
 use Rattle.flat_model.proofs.Laws.{count_cons}
 use Rattle.mbuf_chain.specs.Chain.{ChainView, Entry, PoolView, chain_of, entry_of, no_entry, string}
-use Rattle.mbuf_chain.specs.Owners.{IsOwned, Moves}
+use Rattle.mbuf_chain.specs.Owners.{IsOwned}
 use Rattle.mbuf_chain.proofs.Laws.Owners.{moves_adds, owned_after}
 use Rattle.chain_ops.specs.Stored.{stored_first}
 use Rattle.ledger.specs.Accounts.{item_at, entries_weight, IsAccounted}
@@ -26,7 +26,7 @@ use Rattle.ip_reass.specs.Table.{TableView, IsReady, held_all, unfinished}
 use Rattle.sock_calls.proofs.Laws.{keeps_trans, laid_weight, bag_of_times, free_each}
 use Rattle.sock_calls.specs.Sockets.{SocksView, IsSocks, queued_chains, with_net}
 use Rattle.sock_calls.specs.Delivery.{NetView, KeepsParts, state_at}
-use Rattle.net_stack.specs.Inside.Arrivals.{HasCome, IsArrived, IsAsked, IsLaidOut}
+use Rattle.net_stack.specs.Inside.Arrivals.{HasCome, IsArrived, IsAsked, IsPacketStored}
 use Rattle.net_stack.proofs.Aside.{Aside, aside, aside_keeps, counters_accounts, net_seen, BesideSocks, beside_socks}
 
 -- ---- how it came shows in its first mbuf
@@ -131,10 +131,10 @@ pub record IsReadyToArrive (q : PoolView) (s : SocksView) (t : TableView) (q1 : 
   pub beside : Aside q t s [] q1 (c ∷ [])
   pub header : (chain_of q1 c).front.header ≡ true
 
-pub laid_ready : {p q q1 : PoolView} {s : SocksView} {r t : TableView} {a b : Counters} {need : Need} {answer : Bool}
+pub stored_ready : {p q q1 : PoolView} {s : SocksView} {r t : TableView} {a b : Counters} {need : Need} {answer : Bool}
     {packet : List ℕ} {c : ℕ} → IsSocks p s → IsOwned p (held_all p r.datagrams ++ queued_chains p s.queues)
-    → IsAsked p r a need answer q t b → IsReady q t → IsLaidOut q packet q1 c → IsReadyToArrive q s t q1 c
-laid_ready {c = c} socks owned is ready laid =
+    → IsAsked p r a need answer q t b → IsReady q t → IsPacketStored q packet q1 c → IsReadyToArrive q s t q1 c
+stored_ready {c = c} socks owned is ready laid =
     let beside = asked_socks socks owned is in
     record {
       beside = aside [] (c ∷ []) (owned_after beside.moves owned) ready beside.socks.ready (moves_adds laid.made.adds);
@@ -144,13 +144,13 @@ laid_ready {c = c} socks owned is ready laid =
 pub came : {p q q1 : PoolView} {s : SocksView} {r t : TableView} {a b : Counters} {need : Need} {answer : Bool} {c : ℕ}
     {u : NetView} (packet : List ℕ) → IsSocks p s → IsOwned p (held_all p r.datagrams ++ queued_chains p s.queues)
     → IsAsked p r a need answer q t b → need ≡ need_of (wire (length packet)) → answer ≡ true → IsReady q t
-    → IsLaidOut q packet q1 c
+    → IsPacketStored q packet q1 c
     → IsArrived (net_seen q1 s t b) c u
     → HasCome (net_seen p s r a) packet u
 came {p} {q} {q1} {s} {r} {t} {a} {b} {need} {answer} {c} {u} packet socks owned is is_need yes_answer ready laid
     arrived =
     let beside = asked_socks socks owned is in
-    let x : Aside q t s [] q1 (c ∷ []) = (laid_ready socks owned is ready laid).beside in
+    let x : Aside q t s [] q1 (c ∷ []) = (stored_ready socks owned is ready laid).beside in
     let old : State → State = λ rest. with_net p s (unfinished p r.datagrams) a rest in
     let mid : State → State = λ rest. record (old rest) { unfinished = unfinished q t.datagrams; counters = b } in
     let now : (rest : State) → with_net q s (unfinished q t.datagrams) b rest ≡ mid rest =

@@ -13,3 +13,4 @@ mod Started
 mod Exchanged
 mod Tried
 mod AtOnce
+mod Space

@@ -1,11 +1,10 @@
 -- A packet that was read where it lies: it's stored at once for the one socket that hears it, or ends.
-use Rattle.std.proofs.Common.{◌≡◌, ℕ, ◌+◌, ◌-◌, ◌<◌, ◌≤◌, Bool, true, false, cond, None, zero, suc, List, [], ◌∷◌, ◌++◌, length, refl, sym, ap, ◌∙◌, subst, arith, inl, inr}
-use Rattle.std.specs.Prelude.{count_by, ◌&&◌, nat_le}
+use Rattle.std.proofs.Common.{◌≡◌, ℕ, ◌-◌, Bool, true, false, None, List, [], ◌∷◌, ◌++◌, length, refl, sym, ap, ◌∙◌, subst, arith, inl, inr}
+use Rattle.std.specs.Prelude.{count_by, ◌&&◌}
 use Rattle.std.specs.List.{AllByRecursion as Each}
 use Rattle.std.proofs.lemmas.Bool.{true≢false, false≢true, le-leb}
-use Rattle.std.proofs.lemmas.Option.{none-some}
 use Rattle.std.proofs.lemmas.List.Elements.{All-from_recursion, recursion_from_All}
-use Rattle.flat_model.specs.Amounts.Weight.{Weight, Item, nothing, ◌⊕◌}
+use Rattle.flat_model.specs.Amounts.Weight.{Weight, nothing, ◌⊕◌}
 use Rattle.flat_model.specs.Amounts.Layout as flat
 use Rattle.flat_model.specs.Amounts.Layout.{Need, is_cluster, laid_on, need_of, wire}
 use Rattle.flat_model.specs.Packets.Header.{head_fault, head_of}
@@ -23,12 +22,12 @@ use Rattle.mbuf_chain.specs.Owners.{times_among, IsOwned}
 use Rattle.mbuf_chain.proofs.Laws.Owners.{times-append, live_at_most, moves_beside, moves_none, same_beside}
 use Rattle.chain_ops.specs.Stored.{Has}
 use Rattle.ledger.specs.Accounts.{IsAccounted}
-use Rattle.ledger.specs.Reserve.{Reserves, are_free}
+use Rattle.ledger.specs.Reserve.{are_free}
 use Rattle.ledger.proofs.Laws.{some_free, test_is}
 use Rattle.ip_out.specs.Headed.{carried_of}
 use Rattle.ip_reass.specs.Table.{TableView, IsReady, held_all, unfinished}
 use Rattle.sock_calls.specs.Sockets.{SocksView, IsSocks, queued_chains, with_net, with_sockets}
-use Rattle.sock_calls.specs.Delivery.{NetView, KeepsParts, state_at}
+use Rattle.sock_calls.specs.Delivery.{NetView, state_at}
 use Rattle.sock_calls.specs.Whole.{ArrivesWhole, DeliversWhole, EndsWhole, HasOne, StoresWhole, carried_item}
 use Rattle.sock_calls.proofs.Laws.{keeps_trans}
 use Rattle.net_stack.specs.Inside.Arrivals.{EndsFor, HasCome, IsAsked}

@@ -1,42 +1,26 @@
-//! A packet arrives.
+//! Packets that arrive in a chain, by loopback.
 ghost use Rattle.std.specs.Prelude.{◌≡◌, ◌≤◌, ◌∷◌, ◌++◌, true, length};
-ghost use Rattle.flat_model.specs.Machine.Arrival as flat;
 ghost use Rattle.mbuf_chain.specs.Chain.{chain_of, string};
 ghost use Rattle.mbuf_chain.specs.Owners.{IsOwned};
 ghost use Rattle.mbuf_chain.specs.Train.{IsHeld, numbers};
 ghost use Rattle.ip_out.specs.Packets.{BeginPlain};
 ghost use Rattle.ip_reass.specs.Table.{IsReady};
-ghost use Rattle.ip_reass.specs.Arrivals.{flat_head};
 ghost use Rattle.sock_calls.specs.Sockets.{IsSocks};
 ghost use Rattle.sock_calls.specs.Delivery.{chains_at};
-ghost use Rattle.net_stack.specs.Inside.Arrivals.{HaveArrived, IsArrived, IsFragmentTaken, is_ours_or_all};
+ghost use Rattle.net_stack.specs.Inside.Arrivals.{HaveArrived, IsArrived, IsFragmentTaken};
 ghost use Rattle.net_stack.specs.Inside.Hosts.{KeepsOutput, arrival_view};
 
 use crate::host::Host;
+use crate::receive::{is_for_us, is_fragment};
 use chain_ops::{trim_back, trim_front};
 use flat_model::{Counter, Why};
 use ip_out::{IpHead, read_head};
 use ip_reass::Arrival;
 use mbuf_chain::{Chain, Train};
-use params::{IP_HEADER, IP_MAX_PACKET, LIMITED_BROADCAST, LOOPBACK};
-use sock_calls::Socks;
-
-/// Whether the address is one that this machine hears: one of its three, or 255.255.255.255.
-pub(crate) fn is_for_us(socks: &Socks, ip: u32) -> bool
-    ensures { result ≡ is_ours_or_all socks.now.pcbs.addr socks.now.pcbs.bcast ip }
-{
-    ip == socks.addr() || ip == socks.bcast() || ip == LOOPBACK || ip == LIMITED_BROADCAST
-}
-
-/// Whether a packet carries a part of a datagram: more come after it, or some before.
-pub(crate) fn is_fragment(head: &IpHead) -> bool
-    ensures { result ≡ flat.is_fragment (flat_head head.now) }
-{
-    head.more || head.offset > 0
-}
+use params::{IP_HEADER, IP_MAX_PACKET};
 
 impl Host {
-    /// A fragment for this machine arrives, and if it makes its datagram whole, that arrives.
+    /// A fragment for this machine arrives. If it completes its datagram, that arrives.
     pub(crate) fn take_fragment(&mut self, chain: Chain, head: IpHead)
         requires socks { IsSocks self.old.pool self.old.socks }
         requires reass { IsReady self.old.pool self.old.reass }
@@ -65,13 +49,12 @@ impl Host {
         }
     }
 
-    /// A packet arrives by loopback, and its chain is spent: `ipintr` of volume 2, chapter 8.
+    /// A packet arrives by loopback; its chain is consumed (`ipintr` of volume 2, chapter 8).
     ///
-    /// It is counted; then, in this order, a packet whose header is refused ends, for the first test that it fails, and
-    /// one for another machine, `CantForward`, since packets aren't forwarded. What is longer than the total length
-    /// that the header tells is cut after. A fragment goes to the reassembly, and what that makes whole to the sockets;
-    /// any other packet goes to the sockets at once, without its header. Each packet that ends is counted for its
-    /// cause.
+    /// It's counted. Then, in this order, it's dropped for the first test of its header that fails, or for
+    /// `CantForward` if it's for another machine, because packets aren't forwarded. Bytes after its total length are
+    /// trimmed. A fragment goes to the reassembly, and a datagram that it completes to the sockets; any other packet
+    /// goes to the sockets directly, without its header. Each dropped packet is counted for its cause.
     pub(crate) fn arrive(&mut self, chain: Chain)
         requires socks { IsSocks self.old.pool self.old.socks }
         requires reass { IsReady self.old.pool self.old.reass }
@@ -110,8 +93,8 @@ impl Host {
         }
     }
 
-    /// The packets of a train arrive, one after another, while the later ones are held. Each begins in a plain mbuf, as
-    /// those do that come back.
+    /// The packets of a train arrive, one after another; the later ones keep their buffers meanwhile. Each must begin
+    /// in a plain mbuf, as looped packets do.
     pub(crate) fn arrive_all(&mut self, mut train: Train)
         requires socks { IsSocks self.old.pool self.old.socks }
         requires reass { IsReady self.old.pool self.old.reass }

@@ -8,7 +8,8 @@ use ip_reass::Reass;
 use mbuf_chain::Pool;
 use sock_calls::{Net, Socks};
 
-/// The parts of a stack but its configuration. No fact ties them here: each call says what it asks for.
+/// The parts of a stack except its configuration. The type itself says nothing about them: each call's contract states
+/// what it requires.
 pub(crate) struct Host {
     pub(crate) pool: Pool,
     pub(crate) socks: Socks,
@@ -17,7 +18,7 @@ pub(crate) struct Host {
 }
 
 impl Host {
-    /// Ends parts that were just made.
+    /// Consumes parts that were just made.
     pub(crate) fn end_new(self)
         requires socks { AreEmpty self.socks.queues }
         requires reass { self.reass.datagrams ≡ [] }

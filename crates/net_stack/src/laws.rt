@@ -1,4 +1,4 @@
-//! The laws over whole runs. Each is a function that does nothing, and its contract is the law.
+//! The laws over whole runs. Each is an empty function, and its contract is the law.
 ghost use Rattle.std.specs.Prelude.{◌≡◌, ◌++◌, ◌⊎◌, ◌∷◌, Contains, List, Some, ℕ};
 ghost use Rattle.flat_model.specs.Runs.Run.{Turn, Run};
 ghost use Rattle.flat_model.specs.Machine.Event.{Receive, Received};
@@ -13,19 +13,19 @@ ghost use Rattle.net_stack.specs.Wire.{AreOnOneWire};
 
 use flat_wire::{received_law, wire_law};
 
-/// Whatever calls are made of a stack that has just started, and however many: the replies are those of one run of the
-/// flat machine, which leads to the state that the stack shows in the end. `boot` says how a stack starts, and each
-/// call that it's one of such calls.
+/// For any sequence of calls on a stack that has just started, the replies are those of one run of the flat machine,
+/// which ends in the state of the stack. The contract of `boot` says how a stack starts, and the contract of each call
+/// that it's such a call.
 pub fn calls_are_run()
     ensures { (config : Config) (first last : StackView) (turns : List Turn) → state_of first ≡ flat_boot config
         → AreCalls first turns last → Run config turns (state_of last) }
 {}
 
-/// Two stacks on one wire that loses, repeats and reorders packets, where nobody else sends in the first one's name,
-/// and the first sends fewer than 65,536 times. What `recvfrom` of the second answers with the first's address as the
-/// sender's, the first was told that it has sent: these bytes, or, where the buffer was shorter, a datagram of which
-/// they are the front, from that port, and to the second and the port that the socket had then. The same holds, whole,
-/// of each datagram that waits in a queue of the second. That anything arrives, or once only, isn't said.
+/// Two stacks are on one wire that loses, repeats and reorders packets. No other host sends with the first one's
+/// address, and the first sends fewer than 65,536 times. If `recvfrom` of the second returns the first's address as the
+/// sender, a send of the first has succeeded with these bytes, from that port, to the second and the port that the
+/// socket had then; if the buffer was shorter than the datagram, the bytes are its front. The same holds for each whole
+/// datagram in a queue of the second. The law doesn't say that anything arrives, or that it arrives only once.
 pub fn stacks_on_a_wire()
     ensures received { (first second : Config) (sent before after : List Turn) (s t : StackView) (fd most : ℕ)
         (sender : Addr) (bytes : List ℕ) → AreOnOneWire first second sent

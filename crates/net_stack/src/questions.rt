@@ -1,4 +1,4 @@
-//! What a caller may ask of a stack. A question changes nothing, and takes no step.
+//! Queries of a stack. They change nothing, and aren't steps of the flat machine.
 ghost use Rattle.std.specs.Prelude.{◌≡◌, ◌≤◌, drop, length, take, option_map, IfNone, IfSome};
 ghost use Rattle.flat_model.specs.Machine.Count.{value_of};
 ghost use Rattle.mbuf_chain.specs.Heads.{nth_heads};
@@ -14,31 +14,31 @@ use ip_reass::{HeldRange, UnfinishedDatagram};
 use mbuf_chain::MbufHeads;
 use sock_calls::{NextDatagram, SocketName};
 
-/// Who holds chains of a stack's mbufs. A chain has one holder, and each mbuf that isn't free stands in one chain.
+/// A holder of chains of mbufs. Each chain has one holder, and each mbuf that isn't free is in one chain.
 #[derive(Clone, Copy, Debug, PartialEq, Eq)]
 pub enum Holder {
-    /// The receive queue of the socket with this descriptor: a chain for each datagram that waits, the oldest first.
-    /// The sender's address is in its first mbuf (`so_rcv` of volume 2, chapter 16).
+    /// The receive queue of the socket with this descriptor: a chain for each queued datagram, the oldest first. Its
+    /// first mbuf contains the sender's address (`so_rcv` of volume 2, chapter 16).
     Socket(u32),
-    /// The output queue: a chain for each packet that waits for the link, the oldest first (`if_snd` of chapter 3).
+    /// The output queue: a chain for each packet, the oldest first (`if_snd` of chapter 3).
     Output,
-    /// The unfinished datagram at this place, in the order of their beginning, from 0: first the mbuf of its key, and
-    /// then a chain for each fragment, in order of offset (`ipq` of chapter 10).
+    /// The unfinished datagram at this index, from the oldest on: first the mbuf of its key, and then a chain for each
+    /// fragment, in order of offset (`ipq` of chapter 10).
     Unfinished(u32),
 }
 
 impl Stack {
-    /// What a socket is bound and connected to, and its options: the port that was chosen for it, too (`getsockname`,
-    /// `getpeername` and `getsockopt` of volume 2, chapters 15 and 17). Refused: `BadDescriptor`.
+    /// The addresses that a socket is bound and connected to, also with a chosen port, and its options (`getsockname`,
+    /// `getpeername` and `getsockopt` of volume 2, chapters 15 and 17). Error: `BadDescriptor`.
     pub fn socket_name(&self, fd: u32) -> Result<SocketName, Errno>
         ensures { result ≡ socket_name fd (state_of self.now) }
     {
         self.host.socks.name(fd)
     }
 
-    /// The oldest datagram that waits in a socket, which the next `recvfrom` takes: its sender, how many bytes it has,
-    /// and how many datagrams wait. Who asks first knows how much room to give. Refused, in this order:
-    /// `BadDescriptor`; `WouldBlock` where none waits.
+    /// The oldest datagram queued at a socket, which the next `recvfrom` returns: its sender, its length, and the
+    /// number of queued datagrams. Use it to choose the length of a buffer. Errors, in this order: `BadDescriptor`;
+    /// `WouldBlock` if no datagram is queued.
     pub fn next_datagram(&self, fd: u32) -> Result<NextDatagram, Errno>
         ensures { result ≡ next_datagram fd (state_of self.now) }
     {
@@ -46,47 +46,47 @@ impl Stack {
         host.socks.next_datagram(&host.pool, fd)
     }
 
-    /// How many bytes wait in a socket in all, with 16 for each sender's address among them, 0 to 41,600: a datagram of
-    /// more than the rest finds the socket full (`sb_cc` of volume 2, chapter 16). Refused: `BadDescriptor`.
+    /// The number of bytes queued at a socket, including 16 for each sender's address, 0 to 41,600. A datagram that
+    /// exceeds this limit is dropped (`sb_cc` of volume 2, chapter 16). Error: `BadDescriptor`.
     pub fn bytes_queued(&self, fd: u32) -> Result<u32, Errno>
         ensures { result ≡ bytes_queued_at fd (state_of self.now) }
     {
         self.host.socks.bytes_queued(fd)
     }
 
-    /// The sockets in which a datagram waits, as a set of descriptors: bit k stands for descriptor 3 + k, the lowest
-    /// bit for 3. It takes one step for each of the 64 descriptors.
+    /// The set of sockets with a queued datagram: bit k is set if descriptor 3 + k has one. It takes one step for each
+    /// of the 64 descriptors.
     pub fn readable(&self) -> u64
         ensures { result ≡ readable (state_of self.now) }
     {
         self.host.socks.readable()
     }
 
-    /// What one counter has counted since boot, 0 to 2 to the 64th less 1, where it stays. It's that field of
-    /// `counters`, without a copy of all.
+    /// The value of one counter since boot. It saturates at 2 to the 64th minus 1. It's the same field as in
+    /// `counters`, without a copy of all of them.
     pub fn counter(&self, counter: Counter) -> u64
         ensures { result ≡ value_of counter (state_of self.now).counters }
     {
         self.host.net.counters.value(counter)
     }
 
-    /// The bytes of the longest packet that the link takes, 68 to 4,352, as boot was told. It's room enough for each
-    /// `tx`.
+    /// The length in bytes of the longest packet that the link takes, 68 to 4,352, from the configuration. A buffer of
+    /// this length is enough for each `tx`.
     pub fn mtu(&self) -> u16
         ensures { result ≡ self.now.config.mtu }
     {
         self.config.mtu
     }
 
-    /// How many packets wait for the link, 0 to 50.
+    /// The number of packets in the output queue, 0 to 50.
     pub fn output_len(&self) -> u32
         ensures { result ≡ length (state_of self.now).output }
     {
         self.host.net.out.len()
     }
 
-    /// How many bytes the packet has that has waited longest, which the next `tx` gives: at most the MTU. `None` where
-    /// none waits.
+    /// The length in bytes of the packet that the next `tx` returns, at most the MTU. `None` if the output queue is
+    /// empty.
     pub fn next_packet(&self) -> Option<u32>
         ensures { result ≡ oldest_length (state_of self.now).output }
     {
@@ -94,10 +94,10 @@ impl Stack {
         host.net.out.next_len(&host.pool)
     }
 
-    /// The packet in front of which `i` others wait for the link, from 0: puts its bytes in front of the room, and
-    /// answers how many they are. They're what `tx` gives once the others are gone. `None` exactly if no more than `i`
-    /// packets wait. The rest of the room stays as it was. Condition: the room has as many bytes as the MTU, as for
-    /// `tx`. It takes a step for each packet in front.
+    /// Copies the packet at index `i` of the output queue to the front of `room`, and returns its length. `tx` returns
+    /// the same bytes after the packets before it. `None` exactly if no more than `i` packets are queued. The rest of
+    /// `room` is unchanged. `room` must be at least as long as the MTU, like that of `tx`. It takes one step for each
+    /// packet before it.
     pub fn output_packet(&self, i: u32, room: &mut [u8]) -> Option<usize>
         requires { self.now.config.mtu ≤ length room.old }
         ensures packet { option_map (λ n. take n room.new) result ≡ nth_packet i (state_of self.now).output }
@@ -109,15 +109,15 @@ impl Stack {
         host.net.out.packet(&host.pool, i, room)
     }
 
-    /// How many datagrams are unfinished: some of their fragments have come, and others are missing.
+    /// The number of unfinished datagrams, of which some fragments have arrived and others are missing.
     pub fn unfinished_len(&self) -> u32
         ensures { result ≡ length (state_of self.now).unfinished }
     {
         self.host.reass.len()
     }
 
-    /// The unfinished datagram at a place, in the order of their beginning, from 0: what its fragments go by, its ticks
-    /// left, and what it holds. `None` exactly if no more than `i` are unfinished (`ip_reass` of volume 2, chapter 10).
+    /// The unfinished datagram at index `i`, from the oldest on: its key, its remaining ticks, and its fragments.
+    /// `None` exactly if no more than `i` are unfinished (`ip_reass` of volume 2, chapter 10).
     pub fn unfinished(&self, i: u32) -> Option<UnfinishedDatagram>
         ensures { result ≡ nth_unfinished i (state_of self.now).unfinished }
     {
@@ -125,9 +125,9 @@ impl Stack {
         host.reass.unfinished(&host.pool, i)
     }
 
-    /// The `k`th range of bytes that the unfinished datagram at place `i` holds, in order of offset, from 0. `None`
-    /// exactly if there is no such datagram, or if it has no more than `k` ranges. It takes a step for each range in
-    /// front.
+    /// The range of bytes at index `k`, in order of offset, that the unfinished datagram at index `i` holds. `None`
+    /// exactly if there is no such datagram, or if it has no more than `k` ranges. It takes one step for each range
+    /// before it.
     pub fn unfinished_range(&self, i: u32, k: u32) -> Option<HeldRange>
         ensures { result ≡ nth_range i k (state_of self.now).unfinished }
     {
@@ -135,17 +135,17 @@ impl Stack {
         host.reass.range(&host.pool, i, k)
     }
 
-    /// How much memory is behind what waits in a socket, in bytes: 128 for each mbuf, and 2048 for each reference to a
-    /// cluster (`sb_mbcnt` of volume 2, chapter 16). Refused: `BadDescriptor`.
+    /// The memory of the datagrams queued at a socket, in bytes: 128 for each mbuf, and 2048 for each reference to a
+    /// cluster (`sb_mbcnt` of volume 2, chapter 16). Error: `BadDescriptor`.
     pub fn memory_queued(&self, fd: u32) -> Result<u32, Errno>
         ensures { result ≡ memory_queued_at fd (state_of self.now) }
     {
         self.host.socks.memory_queued(fd)
     }
 
-    /// What each mbuf of a holder's chain at a place, from 0, says of itself, and its bytes, in order, lent without
-    /// copying: for a drawing of them (volume 2, chapter 2). `None` exactly if it holds no more than `i` chains; a
-    /// socket that isn't open and a datagram that isn't there hold none. It takes a step for each chain in front.
+    /// The mbufs of a holder's chain at index `i`, in order, for drawing them: each one's head fields and its bytes,
+    /// which aren't copied (volume 2, chapter 2). `None` exactly if it holds no more than `i` chains; a socket that
+    /// isn't open and a datagram that doesn't exist hold none. It takes one step for each chain before it.
     pub fn heads(&self, holder: Holder, i: u32) -> Option<MbufHeads<'_>>
         ensures { result ≡ nth_heads self.now.pool (chains_held self.now holder) i }
     {
@@ -157,7 +157,7 @@ impl Stack {
         }
     }
 
-    /// How many mbufs refer to a cluster. `None` exactly if the pool has no such cluster: they're counted from 0.
+    /// The number of mbufs that refer to a cluster. `None` exactly if the pool has no such cluster; the first one is 0.
     pub fn references(&self, cluster: u32) -> Option<u32>
         ensures { result ≡ nth_references self.now.pool cluster }
     {

@@ -1,4 +1,4 @@
-//! A send, with what it may give back and what comes of it.
+//! A send, with the datagrams that it may free and the packets that come back.
 ghost use Rattle.std.specs.Prelude.{◌≡◌};
 ghost use Rattle.mbuf_chain.specs.Owners.{IsOwned};
 ghost use Rattle.ip_reass.specs.Table.{IsReady};
@@ -11,7 +11,7 @@ use flat_model::{Addr, Counter, Errno, Lack};
 use mbuf_chain::{Reclaim, Train};
 use std::mem;
 
-/// Whether a send was refused for want of buffers in the pool.
+/// Whether a send failed because the pool has too few free buffers.
 fn lacks_pool(sent: &Result<usize, Errno>) -> bool
     ensures { result ≡ lacks_pool sent.now }
 {
@@ -19,7 +19,7 @@ fn lacks_pool(sent: &Result<usize, Errno>) -> bool
 }
 
 impl Host {
-    /// Sends, and if the pool has too few buffers gives all unfinished datagrams back, and sends once more.
+    /// Sends. If the pool has too few free buffers, frees all unfinished datagrams and sends again.
     fn try_send(&mut self, fd: u32, to: Option<Addr>, bytes: &[u8]) -> Result<usize, Errno>
         requires send { CanSend (send_view self.old) }
         requires reass { IsReady self.old.pool self.old.reass }
@@ -41,7 +41,7 @@ impl Host {
             .resend(&mut self.pool, &mut self.net, fd, to, bytes)
     }
 
-    /// A send, and then the arrival of the packets that come back, one after another.
+    /// Sends, and then lets the packets that come back arrive, one after another.
     pub(crate) fn send(&mut self, fd: u32, to: Option<Addr>, bytes: &[u8]) -> Result<usize, Errno>
         requires send { CanSend (send_view self.old) }
         requires reass { IsReady self.old.pool self.old.reass }

@@ -1,4 +1,4 @@
-//! The stack: what it consists of, how it starts and how it ends.
+//! The stack: its parts, its start and its end.
 ghost use Rattle.std.specs.Prelude.{◌≡◌, ◌≤◌, ◌↔◌, Err, MatchResult};
 ghost use Rattle.params.specs.declared.TheConstants.{MAX_MTU};
 ghost use Rattle.flat_model.specs.Amounts.Weight.{nothing};
@@ -18,28 +18,28 @@ use std::alloc::Global;
 use std::marker::Model;
 use thiserror::Error;
 
-/// Why a stack isn't booted.
+/// Why `boot` fails.
 #[derive(Clone, Copy, Debug, PartialEq, Eq, Error)]
 pub enum BootFault {
-    /// Host memory was asked for and refused.
+    /// An allocation of host memory failed.
     #[error("no memory")]
     Memory,
-    /// The numbers of mbufs and clusters aren't ones that a pool can have.
+    /// A pool can't have these numbers of mbufs and clusters.
     #[error("bad sizes")]
     BadSizes,
-    /// The addresses or the MTU aren't ones that a machine can have.
+    /// A machine can't have these addresses or this MTU.
     #[error("bad config")]
     BadConfig,
 }
 
-/// A host with one interface: its sockets, the datagrams of which some fragments have come, and the packets that wait
-/// for the link, over one pool of mbufs and clusters. It must be spent, by `end`.
+/// A host with one interface: its sockets, its unfinished datagrams, and the packets for the link, over one pool of
+/// mbufs and clusters. It must be consumed, by `end`.
 ///
-/// A contract sees it as a `StackView`, the parts' own views, and `state_of` of that is the flat machine's state: each
-/// call is a step from the state before it to the state after it. No call but `boot` takes host memory.
+/// A contract sees it as a `StackView`, the views of its parts, and `state_of` of that is the flat machine's state:
+/// each call is a step from the state before it to the state after it. Only `boot` allocates host memory.
 pub struct Stack {
     pub(crate) config: Config,
-    // in memory of its own, in which it's made and ended, since its tables have 4 kB
+    // in a box, because its tables have 4 kB
     pub(crate) host: Box<Host>,
 }
 
@@ -59,14 +59,14 @@ impl Model for Stack {
 }
 
 impl Stack {
-    /// A stack that has just started: no socket is open, nothing waits, and nothing was counted. All host memory that
-    /// it will ever need is taken here.
+    /// Creates a stack: no socket is open, all queues are empty, and all counters are 0. It allocates all host memory
+    /// that the stack will ever need.
     ///
     /// # Errors
     ///
-    /// `BadSizes` where the pool would have no mbuf, more than 65,535 of them or more than 4,096 clusters; else
-    /// `BadConfig` where the MTU isn't 68 to 4352, an address isn't that of a host, or both addresses are the same;
-    /// else `Memory` where host memory was refused, and then nothing is left behind.
+    /// In this order: `BadSizes` if the pool would have no mbuf, more than 65,535 of them or more than 4,096 clusters;
+    /// `BadConfig` if the MTU isn't 68 to 4352, an address isn't that of a host, or both addresses are the same;
+    /// `Memory` if an allocation fails. Everything allocated is freed then.
     pub fn boot(alloc: Global, config: Config) -> Result<Stack, BootFault>
         ensures sizes { (result ≡ Err BootFault.BadSizes) ↔ ¬ HasSizes config }
         ensures config { (result ≡ Err BootFault.BadConfig) ↔ (HasSizes config × ¬ IsConfig config) }
@@ -80,7 +80,7 @@ impl Stack {
         }
     }
 
-    /// A stack by a configuration that was checked.
+    /// `boot` with a configuration that was checked.
     fn start(alloc: Global, config: Config) -> Result<Stack, BootFault>
         requires { IsConfig config }
         ensures { MatchResult result (λ s. state_of s ≡ flat_boot config) (λ fault. fault ≡ BootFault.Memory) }
@@ -96,7 +96,7 @@ impl Stack {
         let Ok(reass) = Reass::boot(alloc, config.mbufs) else {
             return Err(BootFault::Memory);
         };
-        // it asks for no memory
+        // it allocates nothing
         let Ok(socks) = Socks::boot(alloc, config.addr, config.bcast) else {
             unreachable!();
         };
@@ -115,9 +115,9 @@ impl Stack {
         }
     }
 
-    /// What always holds of a stack: its parts fit together, and its pool holds what the state weighs. So the count of
-    /// each cluster is the number of live mbufs that refer to it. A room of 4,352 bytes is enough for each packet of
-    /// the link. It takes no step.
+    /// What always holds of a stack: its parts fit together, and its pool accounts for exactly what the state holds. So
+    /// the reference count of each cluster is the number of live mbufs that refer to it. A buffer of 4,352 bytes is
+    /// enough for each packet of the link. It does nothing.
     pub fn laws(&self)
         ensures link { self.now.config.mtu ≤ MAX_MTU }
         ensures stack { IsStack self.now }
@@ -126,7 +126,7 @@ impl Stack {
         let _ = &self.config;
     }
 
-    /// Frees all that the stack holds, and gives back its pool, of which everything is free then.
+    /// Frees everything that the stack holds, and returns its pool, in which all buffers are free.
     pub fn end(self) -> Pool
         ensures { result ≡ free_pool self.config }
     {

@@ -9,7 +9,8 @@ ghost use Rattle.net_stack.specs.Stack.{state_of};
 use crate::stack::Stack;
 use flat_model::{Addr, Errno};
 
-/// The address as it is. Its clause tells what its type says of its numbers.
+/// Returns the address unchanged. Its contract adds the ranges of its numbers, which no clause of an `Option<Addr>`
+/// contains.
 fn with_range(to: Option<Addr>) -> Option<Addr>
     ensures same { result ≡ to }
     ensures range { IfSome result IsAddr }
@@ -21,30 +22,33 @@ fn with_range(to: Option<Addr>) -> Option<Addr>
 }
 
 impl Stack {
-    /// A packet comes from the wire, with its IP header first, and arrives: it's delivered, kept for the other
-    /// fragments of its datagram, or ends and is counted for its cause (`ipintr` of volume 2, chapter 8). Of what is
-    /// longer than the header tells, the rest is left. Fewer than 65,536 bytes.
+    /// Receives a packet from the wire, which begins with its IP header and has fewer than 65,536 bytes. It's
+    /// delivered, kept for the other fragments of its datagram, or dropped and counted for its cause (`ipintr` of
+    /// volume 2, chapter 8). Bytes after the header's total length are ignored.
     ///
-    /// Where the pool has too few buffers for the packet, all unfinished datagrams are dropped, and it's tested once
-    /// more; where it has too few then, the packet is lost, counted as `Nobufs` and not as `IpTotal`.
+    /// If the pool has too few free buffers for the packet, all unfinished datagrams are dropped and the pool is tested
+    /// again. If it still has too few, the packet is dropped and counted as `Nobufs`, but not as `IpTotal`.
     pub fn rx(&mut self, packet: &[u8])
         requires { length packet.now ≤ IP_MAX_PACKET }
         ensures { Step (state_of self.old) (Comes packet.now) Done (state_of self.new) }
     {
-        self.host.come_in(packet);
+        self.host.receive(packet);
     }
 
-    /// Sends a datagram to an address, or without one to the peer, and answers how many bytes it has, which are all
-    /// (`sosend`, `udp_output` and `ip_output` of volume 2, chapters 16, 23 and 8). What is sent to this machine
-    /// arrives before the call returns, packet by packet; a broadcast goes to the link, and a copy of it arrives too.
+    /// Sends a datagram to an address, or to the peer if `to` is `None`, and returns its length (`sosend`, `udp_output`
+    /// and `ip_output` of volume 2, chapters 16, 23 and 8). Packets to this machine arrive before the call returns, one
+    /// after another. A broadcast goes to the link, and a copy of it arrives too.
     ///
-    /// Refused, and then nothing changes, in this order: `BadDescriptor`; `DestinationRequired` without an address on
-    /// an unconnected socket; `MessageSize` above 9,216 bytes; `IsConnected` with an address on a connected one;
+    /// # Errors
+    ///
+    /// Tested in this order, and nothing changes: `BadDescriptor`; `DestinationRequired` without an address on an
+    /// unconnected socket; `MessageSize` above 9,216 bytes; `IsConnected` with an address on a connected socket;
     /// `AddressNotAvailable` for port 0; `HostUnreachable`; `AddressInUse`; `Access` for the broadcast address without
-    /// the option; `MessageSize` for a broadcast that is longer than the link's packets. Then `NoBufs(Pool)`, where the
-    /// pool has too few buffers even without the unfinished datagrams, which are dropped then; and `NoBufs(Queue)`,
-    /// where not all packets find room in the output queue: those that do are sent, and port and identification are
-    /// spent.
+    /// the option; `MessageSize` for a broadcast that is longer than the link's packets.
+    ///
+    /// Then `NoBufs(Pool)` if the pool has too few free buffers: all unfinished datagrams are dropped first, and it's
+    /// tested again. Then `NoBufs(Queue)` if the output queue can't take all packets: those that fit are sent, and the
+    /// port and the identification are used up.
     pub fn sendto(&mut self, fd: u32, to: Option<Addr>, bytes: &[u8]) -> Result<usize, Errno>
         ensures { Step (state_of self.old) (Send fd to bytes.now) (sent_reply result) (state_of self.new) }
     {

@@ -1,4 +1,4 @@
-//! The packet that has waited longest, copied out.
+//! Copies the oldest packet of the output queue out.
 ghost use Rattle.std.specs.Prelude.{◌≡◌, ◌≤◌, drop, length, IfNone, IfSome};
 ghost use Rattle.flat_model.specs.Machine.Replies.{given_reply};
 ghost use Rattle.ip_out.specs.Queues.{IsOutputQueue};
@@ -8,9 +8,8 @@ use chain_ops::m_copydata;
 use ip_out::Queue;
 use mbuf_chain::Pool;
 
-/// Takes the packet that has waited longest, puts its bytes in front of the room, and frees its buffers. It answers how
-/// many bytes they are, or `None` where none waits. The rest of the room stays as it was. The room has a place for each
-/// byte of any packet that waits.
+/// Removes the oldest packet, copies its bytes to the front of `room`, and frees its buffers. Returns its length;
+/// `None` if the queue is empty. The rest of `room` is unchanged. Each queued packet must fit into `room`.
 pub(crate) fn take_packet(pool: &mut Pool, out: &mut Queue, room: &mut [u8]) -> Option<usize>
     requires queue { IsOutputQueue pool.old out.old }
     requires within { AreWithin pool.old out.old (length room.old) }

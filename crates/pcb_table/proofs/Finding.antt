@@ -20,14 +20,14 @@ use Rattle.pcb_table.specs.declared.block.Connection.{Connection}
 use Rattle.pcb_table.specs.declared.interface.Interface.{Interface}
 use Rattle.pcb_table.specs.Table.{Queues, IsDescriptor, block_at, machine, packet_key, socket_with}
 use Rattle.pcb_table.specs.Found.{ChecksDestination, EnsuresPort, Finds, FindsAll, SendsFrom}
-use Rattle.pcb_table.specs.Inside.Search.{best_block, youngest_block, hearing_blocks, block_connect_faults, interface_config, GivesPort}
+use Rattle.pcb_table.specs.Inside.Search.{best_block, youngest_block, receiving_blocks, block_connect_faults, interface_config, GivesPort}
 use Rattle.pcb_table.specs.Apart.{does_match, plain, AreApart, has_fd}
 use Rattle.pcb_table.specs.Inside.Fields.{IsCached, IsLowestUnused}
 use Rattle.pcb_table.specs.Inside.Changed.{unbound_block}
 use Rattle.pcb_table.proofs.Descriptors.{named_times, up_to_few, filter_few}
 use Rattle.pcb_table.proofs.Keeping.{addr_same, cached_is_best}
 use Rattle.pcb_table.proofs.Lifted.{best-sockets, youngest-sockets, receivers-sockets, sockets-find}
-use Rattle.pcb_table.proofs.Places.{best_by_fd, found_by_fd, hearing_by_fd, hearing_range, only_changes}
+use Rattle.pcb_table.proofs.Places.{best_by_fd, found_by_fd, receiving_by_fd, receiving_range, only_changes}
 use Rattle.pcb_table.proofs.Steps.{table_of, changed, connect_faults-blocks, gets_port}
 
 -- ---- look-ups
@@ -53,25 +53,25 @@ module _ (i : Interface) (bs : List Block) (last : Option ℕ) (q : LookupKey) w
         ∙ ap (option_map (socket_with queues)) e,
   )
 
-  pub receivers_all : AreApart bs → FindsAll (receivers q) (table_of i bs last) (map (λ b. b.fd) (hearing_blocks q bs))
+  pub receivers_all : AreApart bs → FindsAll (receivers q) (table_of i bs last) (map (λ b. b.fd) (receiving_blocks q bs))
   receivers_all apart = record {
-    found = hearing_blocks q bs;
+    found = receiving_blocks q bs;
     named = refl;
     once =
         λ fd. omega (
           arith,
-          named_times fd (hearing_blocks q bs),
+          named_times fd (receiving_blocks q bs),
           up_to_few fd (λ b. not b.reuse_port) (filter (does_match q) bs),
           filter_few fd (does_match q) bs,
           apart.fds fd,
         );
-    held = hearing_by_fd q bs apart;
+    are_open = receiving_by_fd q bs apart;
     sockets = λ queues. receivers-sockets queues q bs;
   }
 
 pub receivers_range : (q : LookupKey) (bs : List Block) → AreApart bs
-    → All IsDescriptor (map (λ b. b.fd) (hearing_blocks q bs))
-receivers_range q bs apart = All-map IsDescriptor (λ b. b.fd) (hearing_blocks q bs) (hearing_range q bs apart)
+    → All IsDescriptor (map (λ b. b.fd) (receiving_blocks q bs))
+receivers_range q bs apart = All-map IsDescriptor (λ b. b.fd) (receiving_blocks q bs) (receiving_range q bs apart)
 
 -- the connection that is cached, where it has a packet's ends
 pub cached_best : (bs : List Block) (cache : Option Connection) (k : Connection) (ip port : ℕ) (source : Addr)

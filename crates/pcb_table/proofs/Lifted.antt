@@ -6,7 +6,7 @@ use Rattle.flat_model.specs.Machine.State.{Socket}
 use Rattle.flat_model.specs.Sockets.Lookup.{matches, wildcards, youngest, best, receivers, up_to_first}
 use Rattle.pcb_table.specs.declared.block.Block.{Block}
 use Rattle.pcb_table.specs.Table.{Queues, socket_with}
-use Rattle.pcb_table.specs.Inside.Search.{youngest_block, best_block, hearing_blocks}
+use Rattle.pcb_table.specs.Inside.Search.{youngest_block, best_block, receiving_blocks}
 use Rattle.pcb_table.specs.Apart.{does_match}
 
 -- ---- lists
@@ -65,7 +65,7 @@ module _ (queues : Queues) where
       (option_or (youngest_block 1 q bs) (youngest_block 2 q bs))
 
   pub receivers-sockets : (q : LookupKey) (bs : List Block)
-      → receivers q (map (socket_with queues) bs) ≡ map (socket_with queues) (hearing_blocks q bs)
+      → receivers q (map (socket_with queues) bs) ≡ map (socket_with queues) (receiving_blocks q bs)
   receivers-sockets q bs =
       ap (up_to_first (λ socket. not socket.reuse_port)) (filter-map (socket_with queues) (matches q) bs)
       ∙ up_to_first-map (socket_with queues) (λ socket. not socket.reuse_port) (filter (does_match q) bs)

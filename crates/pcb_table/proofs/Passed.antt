@@ -1,4 +1,4 @@
--- What is passed, if the noted ports of some places are others.
+-- What is passed, if the indexed ports of some places are others.
 use Rattle.std.proofs.Common.{◌≡◌, ℕ, zero, suc, ◌+◌, ◌-◌, ◌<◌, ◌≤◌, true, false, ◌==◌, cond, List, [], ◌∷◌, ◌++◌, drop, take, take_all, length, get_or, Option, Some, None, unwrap_or, refl, sym, ap, ◌∙◌, arith, inl, inr}
 use Rattle.std.proofs.lemmas.Bool.{cases_lt}
 use Rattle.std.proofs.lemmas.List.{length-drop}
@@ -6,7 +6,7 @@ use Rattle.flat_model.specs.declared.lookup_key.LookupKey.{LookupKey}
 use Rattle.flat_model.specs.Sockets.Lookup.{are_same}
 use Rattle.pcb_table.specs.declared.block.Block.{Block}
 use Rattle.pcb_table.specs.Inside.Changed.{unbound_block}
-use Rattle.pcb_table.specs.Inside.Fields.{HasPorts, PassesLanes, noted_port}
+use Rattle.pcb_table.specs.Inside.Fields.{HasPorts, PassesLanes, port_or_zero}
 use Rattle.pcb_table.specs.Inside.Search.{from_port, has_port}
 use Rattle.pcb_table.proofs.Searching.{Walked}
 
@@ -25,11 +25,6 @@ drop_done (b ∷ done) rest = drop_done done rest
 length_both : (done rest : List Block) → length (done ++ rest) ≡ length done + length rest
 length_both [] rest = omega arith
 length_both (b ∷ done) rest = omega (arith, length_both done rest)
-
--- where a walk stands, by the length of what is left
-pub walked_within : (q : LookupKey) (whole rest : List Block) (found : Option Block) (fewest : ℕ)
-    → Walked q whole rest found fewest → length rest ≤ length whole
-walked_within q whole rest found fewest w = omega (arith, length_both w.done rest, ap length w.cut)
 
 walked_rest : (q : LookupKey) (whole rest : List Block) (found : Option Block) (fewest n : ℕ)
     → n ≡ length whole - length rest → Walked q whole rest found fewest → drop n whole ≡ rest
@@ -63,8 +58,8 @@ from_here port (b ∷ bs) (suc at) d lt e = from_here port bs at d (omega arith)
 pub from_past : (port : ℕ) (bs : List Block) (at : ℕ) → length bs ≤ at → from_port port (drop at bs) ≡ []
 from_past port bs at le = ap (from_port port) (drop_past bs at le)
 
--- a block whose noted port is another lacks the port
-lacks : (port : ℕ) (b : Block) → (noted_port b == port) ≡ false → has_port port b ≡ false
+-- a block whose indexed port is another lacks the port
+lacks : (port : ℕ) (b : Block) → (port_or_zero b == port) ≡ false → has_port port b ≡ false
 lacks port b e = go b.port e
   where
     go : (o : Option ℕ) → (unwrap_or o 0 == port) ≡ false → are_same o (Some port) ≡ false

@@ -11,7 +11,7 @@ use Rattle.pcb_table.specs.declared.block.Block.{Block}
 use Rattle.flat_model.specs.declared.lookup_key.LookupKey.{LookupKey}
 use Rattle.flat_model.specs.Sockets.Lookup.{up_to_first}
 use Rattle.pcb_table.specs.Table.{IsDescriptor}
-use Rattle.pcb_table.specs.Inside.Search.{youngest_block, best_block, hearing_blocks}
+use Rattle.pcb_table.specs.Inside.Search.{youngest_block, best_block, receiving_blocks}
 use Rattle.pcb_table.specs.Apart.{does_match, has_score, has_fd, AreApart}
 use Rattle.pcb_table.specs.Inside.Fields.{IsLocated}
 use Rattle.pcb_table.proofs.Searching.{counted-cons}
@@ -281,15 +281,15 @@ all_by_fd bs apart =
     λ k d lt. find_only (has_fd (get_or bs k d).fd) bs k d lt (eq-eqb (get_or bs k d).fd (get_or bs k d).fd refl)
     (apart.fds (get_or bs k d).fd)
 
-pub hearing_by_fd : (q : LookupKey) (bs : List Block) → AreApart bs
-    → All (λ b. find (has_fd b.fd) bs ≡ Some b) (hearing_blocks q bs)
-hearing_by_fd q bs apart =
+pub receiving_by_fd : (q : LookupKey) (bs : List Block) → AreApart bs
+    → All (λ b. find (has_fd b.fd) bs ≡ Some b) (receiving_blocks q bs)
+receiving_by_fd q bs apart =
     let P : Block → Type 0 = λ b. find (has_fd b.fd) bs ≡ Some b in
-    all_of_each P (hearing_blocks q bs)
+    all_of_each P (receiving_blocks q bs)
     (each_up_to_first P (λ b. not b.reuse_port) (filter (does_match q) bs)
     (each_filtered P (does_match q) bs (each_of_all P bs (all_by_fd bs apart))))
 
-pub hearing_range : (q : LookupKey) (bs : List Block) → AreApart bs → All (λ b. IsDescriptor b.fd) (hearing_blocks q bs)
-hearing_range q bs apart =
-    λ k d lt. found_range (has_fd (get_or (hearing_blocks q bs) k d).fd) bs (get_or (hearing_blocks q bs) k d) apart
-    (hearing_by_fd q bs apart k d lt)
+pub receiving_range : (q : LookupKey) (bs : List Block) → AreApart bs → All (λ b. IsDescriptor b.fd) (receiving_blocks q bs)
+receiving_range q bs apart =
+    λ k d lt. found_range (has_fd (get_or (receiving_blocks q bs) k d).fd) bs (get_or (receiving_blocks q bs) k d) apart
+    (receiving_by_fd q bs apart k d lt)

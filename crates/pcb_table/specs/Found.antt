@@ -23,7 +23,7 @@ pub record FindsAll (search : List Socket → List Socket) (t : Table) (fds : Li
   pub found : List Block
   pub named : fds ≡ map (λ b. b.fd) found
   pub once : (fd : ℕ) → times fd fds ≤ 1
-  pub held : All (λ b. block_at b.fd t ≡ Some b) found
+  pub are_open : All (λ b. block_at b.fd t ≡ Some b) found
   pub sockets : (queues : Queues) → search (sockets_with queues t) ≡ map (socket_with queues) found
 
 -- ---- calls on an open descriptor

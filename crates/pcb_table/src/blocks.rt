@@ -1,9 +1,9 @@
-//! The blocks of a table, with notes of where they stand, so that none is looked for by a walk past the others.
+//! The blocks of a table, with two arrays that index them, so that most lookups don't walk the blocks.
 ghost use Rattle.std.specs.Prelude.{◌≡◌, ℕ, ◌+◌, ◌<◌, ◌≤◌, ◌∷◌, [], drop, length, remove, slice_set, find, option_copied, IfSome, IsSome};
 ghost use Rattle.arrayvec.specs.ArrayVec.{array_vec_len};
 ghost use Rattle.params.specs.declared.TheConstants.{MAX_SOCKETS};
 ghost use Rattle.pcb_table.specs.Apart.{has_fd};
-ghost use Rattle.pcb_table.specs.Inside.Fields.{IsLocated, Locates, HasPorts, NotesConnected, PassesLanes, is_connected, lanes_clear};
+ghost use Rattle.pcb_table.specs.Inside.Fields.{IsLocated, Locates, HasPorts, ImpliesNoneConnected, PassesLanes, is_connected};
 ghost use Rattle.pcb_table.specs.Inside.Search.{from_port};
 
 use crate::block::Block;
@@ -16,23 +16,24 @@ use std::simd::prelude::*;
 /// How many ports are compared at once.
 const LANES: usize = 16;
 
-/// The noted ports: one for each place, and so many more that a whole load may begin at the last place.
-const NOTED: usize = SOCKETS + LANES;
+/// The length of the array of ports: one port for each block, and enough elements after them that sixteen can be loaded
+/// from the last block on.
+const INDEXED_PORTS: usize = SOCKETS + LANES;
 
 /// The blocks of at most 64 sockets, the youngest first.
 ///
-/// Beside them stand two notes, written anew by each change. `ports` has the port of the block at each place, so that
-/// sixteen blocks with another port are passed by one comparison: a datagram of 2 bytes takes 1,638 instructions beside
-/// 63 other sockets, and took 2,600 by walks from block to block. `places` has where the block of each descriptor
-/// stood. It's only looked at first: a block found there is tested, and else a walk finds it.
+/// Two arrays index them, and each change writes both again. `ports` has the port of the block at each index, so that
+/// one comparison skips sixteen blocks with another port: if 63 other sockets are open, a datagram of 2 bytes takes
+/// 1,638 instructions instead of the 2,600 of a walk from block to block. `places` has the index of the block of each
+/// descriptor. It's a hint: the block at that index is tested, and if it's another one, a walk finds the right one.
 #[derive(Drop)]
 pub(crate) struct Blocks {
     blocks: ArrayVec<Block, SOCKETS>,
     // 0 for a block without a port
-    ports: [u16; NOTED],
-    // by descriptor, modulo 64
+    ports: [u16; INDEXED_PORTS],
+    // the index of a descriptor's block, by descriptor modulo 64
     places: [u8; SOCKETS],
-    // none of them is connected
+    // if true, none of them is connected
     none_connected: bool,
 }
 
@@ -42,11 +43,11 @@ impl Model for Blocks {
 
     ghost Value = { List Block };
 
-    ghost use Rattle.pcb_table.specs.Inside.Fields.{HasPorts, NotesConnected};
+    ghost use Rattle.pcb_table.specs.Inside.Fields.{HasPorts, ImpliesNoneConnected};
 
     ghost view = { λ b. b.blocks.items };
 
-    ghost invariant = { λ b. HasPorts b.blocks.items b.ports × NotesConnected b.none_connected b.blocks.items };
+    ghost invariant = { λ b. HasPorts b.blocks.items b.ports × ImpliesNoneConnected b.none_connected b.blocks.items };
 }
 
 impl Blocks {
@@ -56,7 +57,7 @@ impl Blocks {
     {
         Blocks {
             blocks: ArrayVec::new(),
-            ports: [0; NOTED],
+            ports: [0; INDEXED_PORTS],
             places: [0; SOCKETS],
             none_connected: true,
         }
@@ -77,18 +78,18 @@ impl Blocks {
         self.blocks.as_slice()
     }
 
-    /// Whether none is connected, as far as that is known. It takes no look at the blocks.
+    /// Whether none is connected, without looking at the blocks. `false` means that one may be.
     #[inline(always)]
     pub(crate) fn is_none_connected(&self) -> bool
-        ensures { NotesConnected result self.now }
+        ensures { ImpliesNoneConnected result self.now }
     {
         self.none_connected
     }
 
-    /// Where the block of an open descriptor stands, if that's noted, and the block.
-    // Lent, since a send reads few of its fields.
+    /// The index of an open descriptor's block, and the block, if `places` has that index.
+    // A reference, because a send reads few of its fields.
     #[inline(always)]
-    pub(crate) fn noted(&self, fd: u32) -> Option<(usize, &Block)>
+    pub(crate) fn indexed(&self, fd: u32) -> Option<(usize, &Block)>
         ensures { IfSome result (λ r. IsLocated fd self.now r.0 r.1.now) }
     {
         let blocks = self.blocks.as_slice();
@@ -99,38 +100,38 @@ impl Blocks {
         None
     }
 
-    /// Puts a block into a place that holds one.
+    /// Replaces the block at an index.
     pub(crate) fn set_block(&mut self, index: usize, block: Block)
         requires { index < length self.old }
         ensures { self.new ≡ slice_set self.old index block }
     {
         self.blocks[index] = block;
-        note(self.blocks.as_slice(), &mut self.ports, &mut self.places);
+        update_index(self.blocks.as_slice(), &mut self.ports, &mut self.places);
         self.none_connected = is_none_connected(self.blocks.as_slice());
     }
 
-    /// Puts a block in front of the others.
+    /// Inserts a block before the others.
     pub(crate) fn insert_first(&mut self, block: Block)
         requires { length self.old < MAX_SOCKETS }
         ensures { self.new ≡ block ∷ self.old }
     {
         insert_first(&mut self.blocks, block);
-        note(self.blocks.as_slice(), &mut self.ports, &mut self.places);
+        update_index(self.blocks.as_slice(), &mut self.ports, &mut self.places);
         self.none_connected = is_none_connected(self.blocks.as_slice());
     }
 
-    /// Takes out the block at a place, and moves the later ones down.
+    /// Removes the block at an index, and moves the later ones down.
     pub(crate) fn remove_at(&mut self, index: usize)
         requires { index < length self.old }
         ensures { self.new ≡ remove self.old index }
     {
         remove_at(&mut self.blocks, index);
-        note(self.blocks.as_slice(), &mut self.ports, &mut self.places);
+        update_index(self.blocks.as_slice(), &mut self.ports, &mut self.places);
         self.none_connected = is_none_connected(self.blocks.as_slice());
     }
 
-    /// The block of a descriptor, with its place.
-    // Inlined, since a send wants the block alone, and no copy of the two.
+    /// The block of a descriptor, with its index.
+    // Inlined, because a send needs only the block, and so nothing is copied.
     #[inline(always)]
     pub(crate) fn locate(&self, fd: u32) -> Option<Place>
         ensures { Locates fd self.now result }
@@ -146,7 +147,7 @@ impl Blocks {
         locate_by_walk(blocks, fd)
     }
 
-    /// The block of an open descriptor, with its place.
+    /// The block of an open descriptor, with its index.
     pub(crate) fn located(&self, fd: u32) -> Place
         requires { IsSome (find (has_fd fd) self.now) }
         ensures { IsLocated fd self.now result.index result.block }
@@ -154,8 +155,8 @@ impl Blocks {
         self.locate(fd).unwrap()
     }
 
-    /// The blocks after so many others, from the first one that has the port on.
-    // Inlined, as `best` is, which calls it alone.
+    /// The blocks from the first one with this port on, after the first `passed` blocks.
+    // Inlined into its only caller.
     #[inline(always)]
     pub(crate) fn from_port(&self, passed: usize, port: u16) -> &[Block]
         requires { passed ≤ length self.now }
@@ -168,7 +169,7 @@ impl Blocks {
             if next >= blocks.len() {
                 return &blocks[blocks.len()..];
             }
-            if blocks[next].has_port(port) {
+            if blocks[next].port == Some(port) {
                 return &blocks[next..];
             }
             at = next + 1;
@@ -177,7 +178,7 @@ impl Blocks {
     }
 }
 
-/// Puts a block into a place that holds one.
+/// Replaces the block at an index.
 fn set_block(blocks: &mut ArrayVec<Block, SOCKETS>, index: usize, block: Block)
     requires { index < array_vec_len blocks.old }
     ensures { blocks.new.items ≡ slice_set blocks.old.items index block }
@@ -185,8 +186,8 @@ fn set_block(blocks: &mut ArrayVec<Block, SOCKETS>, index: usize, block: Block)
     blocks[index] = block;
 }
 
-/// Puts a block in front of the others. There has to be room for it.
-// Block by block: `ArrayVec::insert` turns a part of its array, which takes nine kilobytes of code.
+/// Inserts a block before the others. The array must not be full.
+// Block by block: `ArrayVec::insert` rotates a part of its array, which takes nine kilobytes of code.
 fn insert_first(blocks: &mut ArrayVec<Block, SOCKETS>, block: Block)
     requires { array_vec_len blocks.old < SOCKETS }
     ensures { blocks.new.items ≡ block ∷ blocks.old.items }
@@ -200,8 +201,8 @@ fn insert_first(blocks: &mut ArrayVec<Block, SOCKETS>, block: Block)
     blocks.push(moved);
 }
 
-/// Takes out the block at a place, and moves the later ones down.
-// Block by block, as `insert_first` does.
+/// Removes the block at an index, and moves the later ones down.
+// Block by block, like `insert_first`.
 fn remove_at(blocks: &mut ArrayVec<Block, SOCKETS>, index: usize)
     requires { index < array_vec_len blocks.old }
     ensures { blocks.new.items ≡ remove blocks.old.items index }
@@ -214,19 +215,7 @@ fn remove_at(blocks: &mut ArrayVec<Block, SOCKETS>, index: usize)
     blocks.pop();
 }
 
-/// How many lanes come before the first whose bit is set: all sixteen, if none is.
-#[inline(always)]
-fn lanes_clear(mask: u64) -> usize
-    ensures { result ≡ lanes_clear mask }
-{
-    if mask == 0 {
-        LANES
-    } else {
-        mask.trailing_zeros() as usize
-    }
-}
-
-/// How many of the sixteen ports from a place on come before the first that is this one: all, if none is.
+/// How many of the sixteen ports from index `at` on come before the first that is this one: all of them, if none is.
 #[inline(always)]
 fn lanes_before(ports: &[u16], at: usize, port: u16) -> usize
     requires { at + LANES ≤ length ports.now }
@@ -234,7 +223,12 @@ fn lanes_before(ports: &[u16], at: usize, port: u16) -> usize
     ensures most { result ≤ LANES }
 {
     let lanes = u16x16::from_slice(&ports[at..]);
-    lanes_clear(lanes.simd_eq(u16x16::splat(port)).to_bitmask())
+    let mask = lanes.simd_eq(u16x16::splat(port)).to_bitmask();
+    if mask == 0 {
+        LANES
+    } else {
+        mask.trailing_zeros() as usize
+    }
 }
 
 /// The youngest block that is connected.
@@ -246,7 +240,7 @@ fn first_connected(blocks: &[Block]) -> Option<&Block>
 
 /// Whether no block is connected.
 fn is_none_connected(blocks: &[Block]) -> bool
-    ensures { NotesConnected result blocks.now }
+    ensures { ImpliesNoneConnected result blocks.now }
 {
     match first_connected(blocks) {
         None => true,
@@ -254,8 +248,8 @@ fn is_none_connected(blocks: &[Block]) -> bool
     }
 }
 
-/// Notes the port of each block, and the place of each descriptor.
-fn note(blocks: &[Block], ports: &mut [u16; NOTED], places: &mut [u8; SOCKETS])
+/// Writes the port of each block, and the index of each descriptor's block.
+fn update_index(blocks: &[Block], ports: &mut [u16; INDEXED_PORTS], places: &mut [u8; SOCKETS])
     requires { length blocks.now ≤ SOCKETS }
     ensures { HasPorts blocks.now ports.new }
 {

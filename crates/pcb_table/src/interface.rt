@@ -1,4 +1,4 @@
-//! The machine's one interface: which addresses are its own.
+//! The machine's one interface, and which addresses belong to the machine.
 ghost use Rattle.std.specs.Prelude.{◌≡◌, ℕ};
 ghost use Rattle.flat_model.specs.Machine.Calls as flat;
 ghost use Rattle.pcb_table.specs.Inside.Search.{interface_config};
@@ -23,7 +23,7 @@ impl Interface {
         ip == self.addr || ip == self.bcast || ip == LOOPBACK
     }
 
-    /// The address with 0.0.0.0 read as this machine, and 255.255.255.255 as its broadcast address.
+    /// Replaces 0.0.0.0 by the machine's address, and 255.255.255.255 by its broadcast address.
     pub(crate) fn read(self, address: Addr) -> Addr
         ensures { result ≡ flat.read_addr (interface_config self) address }
     {
@@ -40,7 +40,7 @@ impl Interface {
         }
     }
 
-    /// The address that the block's packets to this one come from.
+    /// The source address of the block's packets to this address.
     pub(crate) fn source(self, block: &Block, ip: u32) -> u32
         ensures { result ≡ flat.source_for (interface_config self) (plain block.now) ip }
     {
@@ -51,8 +51,8 @@ impl Interface {
     }
 }
 
-/// Whether packets to the address leave by the loopback or the link: not those to 0/8, to 127/8 but for
-/// 127.0.0.1, nor to multicast and reserved addresses (RFC 1122 section 3.2.1.3).
+/// Whether packets to the address leave by loopback or by the link. Packets to 0/8, to 127/8 except 127.0.0.1, and to
+/// multicast and reserved addresses don't (RFC 1122 section 3.2.1.3).
 pub(crate) fn is_reached(ip: u32) -> bool
     ensures { result ≡ flat.is_reached ip }
 {

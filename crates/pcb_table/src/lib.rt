@@ -1,8 +1,8 @@
-//! The control blocks of a machine's sockets (volume 2 chapter 22): who gets a packet, which port is free,
+//! The control blocks of a machine's sockets (volume 2 chapter 22): which socket receives a packet, which port is free,
 //! and what bind and connect refuse.
 //!
-//! A contract sees a table as its list of blocks, youngest first, and says of each call that it is the step of
-//! the flat machine, whatever else that machine holds. No clause speaks of the cache of the last connection.
+//! A contract sees a table as its list of blocks, youngest first, and says that each call is the step of the flat
+//! machine, for every rest of that machine. No clause mentions the cache of the last connection.
 #![tactic(auto)]
 
 mod block;

@@ -10,10 +10,10 @@ use crate::search::best;
 use flat_model::LookupKey;
 use params::{FIRST_DESCRIPTOR, FIRST_EPHEMERAL_PORT, LAST_EPHEMERAL_PORT, MAX_SOCKETS};
 
-/// How many ephemeral ports there are, in a circle.
+/// The number of ephemeral ports. They're tried in a circle.
 const PORTS: u16 = LAST_EPHEMERAL_PORT - FIRST_EPHEMERAL_PORT + 1;
 
-/// The port so many turns after the last one chosen.
+/// The port `turns` steps after the last one chosen.
 fn port_after(last: Option<u16>, turns: u16) -> u16
     requires last { IsInCircle last }
     requires turns { turns < PORTS }
@@ -26,7 +26,7 @@ fn port_after(last: Option<u16>, turns: u16) -> u16
     FIRST_EPHEMERAL_PORT + (start + turns) % PORTS
 }
 
-/// Whether a block has the port, at this address or at one that agrees with it.
+/// Whether a block has the port and a local address that agrees with this one.
 pub(crate) fn is_in_use(blocks: &Blocks, local: Option<u32>, port: u16) -> bool
     ensures { result ≡ is_used blocks.now local port }
 {
@@ -41,7 +41,7 @@ pub(crate) fn is_in_use(blocks: &Blocks, local: Option<u32>, port: u16) -> bool
     .is_some()
 }
 
-/// The next ephemeral port that isn't in use. There is one, since there are more ports than blocks.
+/// The next ephemeral port that isn't in use. There is one, because there are more ports than blocks.
 pub(crate) fn next_free(blocks: &Blocks, local: Option<u32>, last: Option<u16>) -> u16
     requires last { IsInCircle last }
     ensures free { IsFreePort blocks.now last local result }
@@ -58,14 +58,14 @@ pub(crate) fn next_free(blocks: &Blocks, local: Option<u32>, last: Option<u16>) 
     unreachable!()
 }
 
-/// A port, and the last ephemeral one chosen now.
+/// A port, and the last ephemeral port chosen then.
 #[derive(Clone, Copy)]
 pub(crate) struct Chosen {
     pub(crate) port: u16,
     pub(crate) last: Option<u16>,
 }
 
-/// The port asked for, or else the next ephemeral one.
+/// The requested port, or the next ephemeral one if `asked` is `None`.
 pub(crate) fn port_for(
     blocks: &Blocks,
     local: Option<u32>,
@@ -88,7 +88,7 @@ pub(crate) fn port_for(
     }
 }
 
-/// The lowest descriptor that no block has. There is one of 3 to 66, since fewer than 64 are in use.
+/// The lowest descriptor that no block has. There is one from 3 to 66, because fewer than 64 are in use.
 pub(crate) fn lowest_free(blocks: &Blocks) -> u32
     requires few { length blocks.now < MAX_SOCKETS }
     ensures free { IsLowestUnused blocks.now result }

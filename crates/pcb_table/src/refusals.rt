@@ -1,4 +1,4 @@
-//! Why a bind, a connect or a destination is refused.
+//! The errors of a bind, a connect or a destination.
 ghost use Rattle.std.specs.Prelude.{◌≡◌, ℕ, Some, is_some};
 ghost use Rattle.flat_model.specs.Packets.Header.{first_fault};
 ghost use Rattle.flat_model.specs.Machine.Calls as flat;
@@ -11,22 +11,22 @@ use crate::ports::is_in_use;
 use crate::search::exact;
 use flat_model::{Addr, Errno, LookupKey};
 
-/// The value, where it isn't 0.
+/// The value, unless it's 0.
 pub(crate) fn unless_zero(ip: u32) -> Option<u32>
     ensures { result ≡ flat.unless_zero ip }
 {
     if ip == 0 { None } else { Some(ip) }
 }
 
-/// The port, where it isn't 0.
+/// The port, unless it's 0.
 pub(crate) fn port_unless_zero(port: u16) -> Option<u16>
     ensures { result ≡ flat.unless_zero port }
 {
     if port == 0 { None } else { Some(port) }
 }
 
-/// Whether a bind meets another block that stands in its way: with the reuse-port option only an exact match
-/// that lacks it, else any that has the port at an address that agrees.
+/// Whether another block prevents a bind: if the socket has the reuse-port option, an exact match without it; otherwise
+/// any block with the port and an address that agrees.
 fn is_taken(blocks: &Blocks, me: &Block, local: Option<u32>, port: u16) -> bool
     ensures { result ≡ is_in_way blocks.now me.now local port }
 {
@@ -45,7 +45,7 @@ fn is_taken(blocks: &Blocks, me: &Block, local: Option<u32>, port: u16) -> bool
     }
 }
 
-/// Why a bind is refused.
+/// The error that a bind returns, if it fails.
 pub(crate) fn bind_fault(
     blocks: &Blocks,
     interface: Interface,
@@ -67,9 +67,9 @@ pub(crate) fn bind_fault(
 }
 
 /// Whether a block is connected to the peer, from this address and port.
-// Where none is connected, none is looked for.
+// If no block is connected, there is no search.
 #[inline(always)]
-fn is_met(blocks: &Blocks, local: u32, port: Option<u16>, peer: Addr) -> bool
+fn has_connection(blocks: &Blocks, local: u32, port: Option<u16>, peer: Addr) -> bool
     ensures { result ≡ is_some (youngest_block 0
         (record { local = Some local; port = port; peer = Some peer }) blocks.now) }
 {
@@ -84,8 +84,9 @@ fn is_met(blocks: &Blocks, local: u32, port: Option<u16>, peer: Addr) -> bool
     exact(blocks, key).is_some()
 }
 
-/// Why a packet to an address, as it was read, is refused, or a connect to it.
-// Inlined, as is what a send asks of it.
+/// The error of a packet to an address, or of a connect to it, if it fails. `to` is the address as `Interface::read`
+/// returns it.
+// Inlined into the send path.
 #[inline(always)]
 pub(crate) fn destination_fault(
     blocks: &Blocks,
@@ -101,7 +102,7 @@ pub(crate) fn destination_fault(
     if !is_reached(to.ip) {
         return Some(Errno::HostUnreachable);
     }
-    if is_met(blocks, interface.source(me, to.ip), me.port, to) {
+    if has_connection(blocks, interface.source(me, to.ip), me.port, to) {
         return Some(Errno::AddressInUse);
     }
     None

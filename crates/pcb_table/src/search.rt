@@ -1,6 +1,6 @@
-//! How control blocks are found, in their order.
+//! Searches of the control blocks, in their order.
 ghost use Rattle.std.specs.Prelude.{◌≡◌, ℕ, ◌==◌, ◌+◌, ◌<◌, ◌≤◌, ◌∷◌, length, map, find, option_copied, position, IsSome};
-ghost use Rattle.pcb_table.specs.Inside.Search.{best_block, from_port, hearing_blocks, youngest_block};
+ghost use Rattle.pcb_table.specs.Inside.Search.{best_block, from_port, receiving_blocks, youngest_block};
 ghost use Rattle.pcb_table.specs.Apart.{has_fd};
 ghost use Rattle.pcb_table.specs.Inside.Fields.{IsLocated, Locates};
 
@@ -10,10 +10,10 @@ use crate::table::SOCKETS;
 use arrayvec::ArrayVec;
 use flat_model::LookupKey;
 
-/// How many blocks are walked sooner than looked up by their ports.
+/// Up to this many blocks, a walk is faster than a search by port.
 const FEW: usize = 8;
 
-/// A block and where it stands.
+/// A block and its index.
 #[derive(Clone, Copy)]
 pub(crate) struct Place {
     pub(crate) index: usize,
@@ -26,7 +26,7 @@ fn index_of(blocks: &[Block], fd: u32) -> Option<usize>
     blocks.iter().position(|block| block.fd == fd)
 }
 
-/// The block of a descriptor, with its place.
+/// The block of a descriptor, with its index.
 pub(crate) fn locate_by_walk(blocks: &[Block], fd: u32) -> Option<Place>
     ensures { Locates fd blocks.now result }
 {
@@ -39,8 +39,8 @@ pub(crate) fn locate_by_walk(blocks: &[Block], fd: u32) -> Option<Place>
     }
 }
 
-/// The youngest of the blocks that meet the key with the fewest wildcards.
-// Inlined, so that what a caller's key has set isn't asked at each block.
+/// The youngest of the blocks that match the key with the fewest wildcards.
+// Inlined, so that what the caller's key has set isn't tested for each block.
 #[inline(always)]
 pub(crate) fn best(blocks: &Blocks, key: LookupKey) -> Option<&Block>
     ensures { option_copied result ≡ best_block key blocks.now }
@@ -68,16 +68,16 @@ pub(crate) fn best(blocks: &Blocks, key: LookupKey) -> Option<&Block>
     found
 }
 
-/// The youngest of the blocks that meet the key without a wildcard, by a walk.
+/// The youngest of the blocks that match the key without a wildcard, by a walk.
 fn exact_by_walk(blocks: &[Block], key: LookupKey) -> Option<&Block>
     ensures { option_copied result ≡ youngest_block 0 key blocks.now }
 {
-    blocks.iter().find(|block| block.meets_exactly(&key))
+    blocks.iter().find(|block| block.matches_exactly(&key))
 }
 
-/// The youngest of the blocks that meet the key without a wildcard: the best, if that one has none.
-// Few are walked: a send asks this, and with one open socket it took 46 instructions more without the walk.
-// Never inlined: a send asks this only beside a connected socket.
+/// The youngest of the blocks that match the key without a wildcard: the best match, if it has none.
+// With few blocks it walks: without the walk, a send with one open socket took 46 instructions more.
+// Never inlined: a send calls it only if another socket is connected.
 #[inline(never)]
 pub(crate) fn exact(blocks: &Blocks, key: LookupKey) -> Option<&Block>
     ensures { option_copied result ≡ youngest_block 0 key blocks.now }
@@ -96,15 +96,15 @@ pub(crate) fn exact(blocks: &Blocks, key: LookupKey) -> Option<&Block>
     }
 }
 
-/// The descriptors of the blocks that meet the key, the youngest first, up to and with the first one
-/// that doesn't share its port.
+/// The descriptors of the blocks that match the key, the youngest first, up to and including the first one that doesn't
+/// share its port.
 pub(crate) fn receivers(blocks: &[Block], key: LookupKey) -> ArrayVec<u32, SOCKETS>
     requires { length blocks.now ≤ SOCKETS }
-    ensures { result.items ≡ map (λ b. b.fd) (hearing_blocks key blocks.now) }
+    ensures { result.items ≡ map (λ b. b.fd) (receiving_blocks key blocks.now) }
 {
     let mut fds = ArrayVec::new();
     for block in blocks {
-        if block.meets(&key) {
+        if block.matches(&key) {
             fds.push(block.fd);
             if !block.reuse_port {
                 return fds;

@@ -11,7 +11,7 @@ ghost use Rattle.pcb_table.specs.Inside.Changed.{forgotten};
 ghost use Rattle.pcb_table.specs.Apart.{AreApart};
 ghost use Rattle.pcb_table.specs.Found.{Changes, ChecksDestination, ChoosesNext, EnsuresPort, Finds, FindsAll, SendsFrom};
 
-use crate::block::{Block, Connection, key_of_packet};
+use crate::block::{Block, Connection};
 use crate::blocks::Blocks;
 use crate::interface::Interface;
 use crate::ports::{lowest_free, next_free, port_for};
@@ -22,18 +22,18 @@ use flat_model::{Addr, Errno, LookupKey, Opt};
 use params::{LOOPBACK, MAX_SOCKETS};
 use std::marker::Model;
 
-/// How many sockets are open at most, as the length of an array.
+/// The largest number of open sockets, as the length of an array.
 pub const SOCKETS: usize = MAX_SOCKETS as usize;
 
-/// The control blocks of at most 64 sockets, the last ephemeral port chosen, and the addresses of the machine that
-/// they belong to. A call that changes them is a step of the flat machine, whatever is queued at the sockets.
+/// The control blocks of at most 64 sockets, the last ephemeral port chosen, and the machine's addresses. A call that
+/// changes them is a step of the flat machine, for every content of the sockets' queues.
 #[derive(Drop)]
 pub struct Pcbs {
     interface: Interface,
     blocks: Blocks,
     // the last ephemeral port chosen
     last_port: Option<u16>,
-    // the last block with all four values set that a packet's look-up found
+    // the last block with all four values set that a packet's lookup found
     cache: Option<Connection>,
 }
 
@@ -52,7 +52,7 @@ impl Model for Pcbs {
 }
 
 impl Pcbs {
-    /// A table with no block, of a machine with this address and this broadcast address. It asks for no memory.
+    /// Creates a table without blocks, for a machine with these two addresses. It allocates nothing.
     pub fn new(addr: u32, bcast: u32) -> Pcbs
         ensures { result ≡ record { addr = addr; bcast = bcast; blocks = []; last_port = None } }
     {
@@ -78,8 +78,8 @@ impl Pcbs {
         self.interface.bcast
     }
 
-    /// What holds of every table: descriptors are 3 to 66 and no two the same, a connected block has a port, and
-    /// no two blocks have all four of their values set and equal.
+    /// What holds of every table: descriptors are 3 to 66 and unique, a connected block has a port, and no two blocks
+    /// have all four of their values set and equal.
     pub fn laws(&self)
         ensures few { length self.now.blocks ≤ MAX_SOCKETS }
         ensures apart { AreApart self.now.blocks }
@@ -87,7 +87,7 @@ impl Pcbs {
         let _few = self.blocks.len();
     }
 
-    /// The block of a descriptor, or `None` where it isn't open.
+    /// The block of a descriptor, or `None` if it isn't open.
     pub fn block(&self, fd: u32) -> Option<Block>
         ensures value { result ≡ block_at fd self.now }
         ensures named { IfSome result (λ block. block.fd ≡ fd) }
@@ -99,13 +99,13 @@ impl Pcbs {
         }
     }
 
-    /// The block of an open descriptor, lent, if it stands where it's noted; `None` says nothing. It takes a number of
-    /// steps that doesn't depend on the table.
+    /// Borrows the block of an open descriptor, if the table has its current index. `None` doesn't mean that the
+    /// descriptor isn't open: use `block` then. O(1).
     #[inline(always)]
-    pub fn noted(&self, fd: u32) -> Option<&Block>
+    pub fn indexed(&self, fd: u32) -> Option<&Block>
         ensures { IfSome result (λ b. block_at fd self.now ≡ Some b.now) }
     {
-        let (_, block) = self.blocks.noted(fd)?;
+        let (_, block) = self.blocks.indexed(fd)?;
         Some(block)
     }
 
@@ -123,11 +123,11 @@ impl Pcbs {
         (local, block.peer.unwrap_or(Addr { ip: 0, port: 0 }))
     }
 
-    // ---- look-ups
+    // ---- lookups
 
-    /// Who gets a packet (volume 2 section 22.6): the descriptor of the block that meets its four values with the
-    /// fewest wildcards, of several the youngest; `None` where no block meets them. All four count as set, 0.0.0.0
-    /// and port 0 among them. No block changes.
+    /// The socket that receives a packet (volume 2 section 22.6): the descriptor of the block that matches the packet's
+    /// four values with the fewest wildcards, and of several such blocks the youngest. `None` if no block matches. All
+    /// four values count as set, also 0.0.0.0 and port 0. No block changes.
     pub fn lookup(&mut self, destination: u32, port: u16, source: Addr) -> Option<u32>
         ensures found { Finds (flat.best (packet_key destination port source)) self.old result }
         ensures range { IfSome result IsDescriptor }
@@ -142,10 +142,15 @@ impl Pcbs {
                 return Some(cached.fd);
             }
         }
-        match best(&self.blocks, key_of_packet(local, source)) {
+        let key = LookupKey {
+            local: Some(destination),
+            port: Some(port),
+            peer: Some(source),
+        };
+        match best(&self.blocks, key) {
             None => None,
             Some(block) => {
-                // What is remembered stays where the block isn't connected.
+                // A block that isn't connected leaves the cache as it is.
                 let Some(connection) = block.connection() else {
                     return Some(block.fd);
                 };
@@ -155,8 +160,8 @@ impl Pcbs {
         }
     }
 
-    /// The youngest block that meets the key without a wildcard: its port is that of the key, and its local
-    /// address and its peer are set where those of the key are, with the same values.
+    /// The youngest block that matches the key without a wildcard: its port is the key's, and its local address and its
+    /// peer are set exactly if the key's are, with the same values.
     pub fn exact(&self, key: LookupKey) -> Option<u32>
         ensures found { Finds (flat.exact key) self.now result }
         ensures range { IfSome result IsDescriptor }
@@ -167,20 +172,22 @@ impl Pcbs {
         }
     }
 
-    /// Who hears a broadcast (volume 2 chapter 23, and this project's own reading of SO_REUSEPORT): the blocks that
-    /// meet its four values, the youngest first, up to and with the first one without the reuse-port option.
+    /// The sockets that receive a broadcast (volume 2 chapter 23; the use of SO_REUSEPORT is this project's own): the
+    /// blocks that match its four values, the youngest first, up to and including the first one without the reuse-port
+    /// option.
     pub fn receivers(&self, destination: u32, port: u16, source: Addr) -> ArrayVec<u32, SOCKETS>
         ensures found { FindsAll (flat.receivers (packet_key destination port source)) self.now result.items }
         ensures range { All IsDescriptor result.items }
     {
-        let local = Addr {
-            ip: destination,
-            port,
+        let key = LookupKey {
+            local: Some(destination),
+            port: Some(port),
+            peer: Some(source),
         };
-        receivers(self.blocks.as_slice(), key_of_packet(local, source))
+        receivers(self.blocks.as_slice(), key)
     }
 
-    /// The ephemeral port, 1024 to 5000, that a bind to 0.0.0.0 with port 0 would choose now (volume 2 section 22.7).
+    /// The ephemeral port, 1024 to 5000, that a bind to 0.0.0.0 and port 0 would choose now (volume 2 section 22.7).
     pub fn next_port(&self) -> u16
         ensures { ChoosesNext self.now result }
     {
@@ -189,8 +196,11 @@ impl Pcbs {
 
     // ---- calls
 
-    /// Opens a socket, with the lowest free descriptor of 3 to 66 (volume 2 section 22.4). Refused, and then nothing
-    /// changes: `TooManyFiles` where 64 are open.
+    /// Opens a socket, with the lowest free descriptor from 3 to 66 (volume 2 section 22.4).
+    ///
+    /// # Errors
+    ///
+    /// `TooManyFiles` if 64 are open. Nothing changes then.
     pub fn open(&mut self) -> Result<u32, Errno>
         ensures step { (rest : State) (queues : Queues) → IfOk result (λ fd. queues fd ≡ [])
             → Step (machine rest queues self.old) Open (opened_reply result) (machine rest queues self.new) }
@@ -206,7 +216,11 @@ impl Pcbs {
         Ok(fd)
     }
 
-    /// Closes a socket (volume 2 section 22.4). Refused, and then nothing changes: `BadDescriptor` where it isn't open.
+    /// Closes a socket (volume 2 section 22.4).
+    ///
+    /// # Errors
+    ///
+    /// `BadDescriptor` if it isn't open. Nothing changes then.
     pub fn close(&mut self, fd: u32) -> Result<(), Errno>
         ensures step { IsCall self.old (Close fd) (done_reply result) self.new }
         ensures closed { OnOk result (ClosesOnly self.old fd self.new) }
@@ -220,7 +234,11 @@ impl Pcbs {
         Ok(())
     }
 
-    /// Sets or clears an option. Refused, and then nothing changes: `BadDescriptor` where the socket isn't open.
+    /// Sets or clears an option.
+    ///
+    /// # Errors
+    ///
+    /// `BadDescriptor` if the socket isn't open. Nothing changes then.
     pub fn set_option(&mut self, fd: u32, option: Opt, on: bool) -> Result<(), Errno>
         ensures step { IsCall self.old (Set_option fd option on) (done_reply result) self.new }
         ensures descriptors { KeepsOpen self.old self.new }
@@ -234,10 +252,14 @@ impl Pcbs {
         Ok(())
     }
 
-    /// Gives an unbound socket its local address, unless that is 0.0.0.0, and its port, where that is 0 an
-    /// ephemeral one (volume 2 section 22.7). Refused, and then nothing changes, in this order: `BadDescriptor`;
-    /// `Invalid` where the socket has a port or a local address; `AddressNotAvailable` where the address isn't 0.0.0.0
-    /// or one of the machine; `AddressInUse` where the port isn't 0 and another block stands in the way.
+    /// Binds an unbound socket: sets its local address, unless that is 0.0.0.0, and its port. Port 0 chooses an
+    /// ephemeral port (volume 2 section 22.7).
+    ///
+    /// # Errors
+    ///
+    /// Tested in this order, and nothing changes: `BadDescriptor`; `Invalid` if the socket has a port or a local
+    /// address; `AddressNotAvailable` if the address is neither 0.0.0.0 nor one of the machine's; `AddressInUse` if the
+    /// port isn't 0 and another block prevents the bind.
     pub fn bind(&mut self, fd: u32, address: Addr) -> Result<(), Errno>
         ensures step { IsCall self.old (Bind fd address) (done_reply result) self.new }
         ensures descriptors { KeepsOpen self.old self.new }
@@ -263,11 +285,15 @@ impl Pcbs {
         Ok(())
     }
 
-    /// Connects a socket (volume 2 section 22.8) to an address, 0.0.0.0 read as this machine and 255.255.255.255 as its
-    /// broadcast address; a connected one is first disconnected. One without a port gets an ephemeral one, and one
-    /// without a local address that of its packets to the peer. Refused in this order: `BadDescriptor`;
-    /// `AddressNotAvailable` where the port is 0; `HostUnreachable`; `AddressInUse` where another socket has the same
-    /// four values. A socket that was connected is then disconnected, and any other is as it was.
+    /// Connects a socket to an address (volume 2 section 22.8). 0.0.0.0 means the machine's address, and
+    /// 255.255.255.255 its broadcast address. A connected socket is disconnected first. A socket without a port gets an
+    /// ephemeral one, and a socket without a local address gets the source address of its packets to the peer.
+    ///
+    /// # Errors
+    ///
+    /// Tested in this order: `BadDescriptor`; `AddressNotAvailable` if the port is 0; `HostUnreachable`; `AddressInUse`
+    /// if another socket has the same four values. On error, a socket that was connected is disconnected, and any other
+    /// is unchanged.
     pub fn connect(&mut self, fd: u32, address: Addr) -> Result<(), Errno>
         ensures step { IsCall self.old (Connect fd address) (done_reply result) self.new }
         ensures descriptors { KeepsOpen self.old self.new }
@@ -290,8 +316,8 @@ impl Pcbs {
         Ok(())
     }
 
-    /// Clears the foreign address and port of a connected socket, and its local address. The local port stays
-    /// (volume 2 section 22.9). Any other socket is left as it is.
+    /// Clears the foreign address and port of a connected socket, and its local address. It keeps its local port
+    /// (volume 2 section 22.9). A socket that isn't connected is unchanged.
     pub fn disconnect(&mut self, fd: u32)
         requires { IsOpen fd self.old }
         ensures step { Changes self.old fd disconnected self.new }
@@ -302,10 +328,13 @@ impl Pcbs {
         self.blocks.set_block(at.index, at.block.disconnected());
     }
 
-    /// A destination as it is read, 0.0.0.0 as this machine and 255.255.255.255 as its broadcast address.
-    /// Refused, in this order: `IsConnected` where the socket is; `AddressNotAvailable` where the port is 0;
-    /// `HostUnreachable`; `AddressInUse` where another socket has the same four values. It changes nothing, and is
-    /// what a send to an address asks first.
+    /// Tests the destination of a send, and returns it with 0.0.0.0 replaced by the machine's address and
+    /// 255.255.255.255 by its broadcast address. Nothing changes.
+    ///
+    /// # Errors
+    ///
+    /// Tested in this order: `IsConnected` if the socket is connected; `AddressNotAvailable` if the port is 0;
+    /// `HostUnreachable`; `AddressInUse` if another socket has the same four values.
     pub fn check_destination(&self, fd: u32, to: Addr) -> Result<Addr, Errno>
         requires { IsOpen fd self.now }
         ensures { ChecksDestination self.now fd to result }
@@ -330,8 +359,8 @@ impl Pcbs {
         }
     }
 
-    /// Whether packets of the socket that has this block go to the address by the link, to another machine:
-    /// `check_destination_of` answers the address as it stands then. `false` says nothing. A question of speed alone.
+    /// If `true`, packets of the socket that has this block go to the address by the link, to another machine, and
+    /// `check_destination_of` returns the address unchanged. `false`: take the general path (the result is the same).
     #[inline(always)]
     pub fn goes_by_link(&self, block: &Block, to: Addr) -> bool
         requires { block_at block.now.fd self.now ≡ Some block.now }
@@ -347,7 +376,7 @@ impl Pcbs {
     }
 
     /// The peer of the socket that has this block, if the peer is another machine, so that packets to it leave by the
-    /// link. `None`: take the general path; the result is the same.
+    /// link. `None`: take the general path (the result is the same).
     #[inline(always)]
     pub fn peer_by_link(&self, block: &Block) -> Option<Addr>
         ensures peer { IfSome result (λ a. block.now.peer ≡ Some a) }
@@ -365,8 +394,8 @@ impl Pcbs {
         }
     }
 
-    /// The address that an open socket's packets to an address come from: its local address if set, or else
-    /// 127.0.0.1 for 127.0.0.1 and the machine's address for every other.
+    /// The source address of an open socket's packets to an address: its local address, if that is set; otherwise
+    /// 127.0.0.1 for packets to 127.0.0.1, and the machine's address for all others.
     pub fn source_for(&self, fd: u32, ip: u32) -> u32
         requires { IsOpen fd self.now }
         ensures { SendsFrom self.now fd ip result }
@@ -384,7 +413,7 @@ impl Pcbs {
         self.interface.source(block, ip)
     }
 
-    /// The local port of the socket that has this block, if it has one: what `ensure_port_of` answers then.
+    /// The local port of the socket that has this block, if it has one. `ensure_port_of` returns the same port then.
     #[inline(always)]
     pub fn port_of(&self, block: &Block) -> Option<u16>
         requires { block_at block.now.fd self.now ≡ Some block.now }
@@ -410,7 +439,7 @@ impl Pcbs {
         }
     }
 
-    /// The local port of an open socket. One without gets the next free ephemeral port, as at its first send.
+    /// The local port of an open socket. A socket without one gets the next free ephemeral port, as at its first send.
     pub fn ensure_port(&mut self, fd: u32) -> u16
         requires { IsOpen fd self.old }
         ensures port { EnsuresPort self.old fd result self.new }
@@ -425,7 +454,7 @@ impl Pcbs {
     }
 }
 
-/// The cached connection, unless it is that of the descriptor.
+/// The cached connection, unless it belongs to the descriptor.
 fn without(cache: Option<Connection>, fd: u32) -> Option<Connection>
     ensures { result ≡ forgotten fd cache }
 {

@@ -32,7 +32,7 @@ use Rattle.sock_calls.specs.Sockets.{SocksView, IsSocks, queues_of, queued_chain
 use Rattle.sock_calls.specs.Delivery.{seen, IsDelivered, IsInput, socket_named, sockets_named}
 use Rattle.sock_calls.proofs.Frames.{Kept, kept}
 use Rattle.sock_calls.proofs.Delivered.{freed, freed_accounts, ends_here, shows_same}
-use Rattle.sock_calls.proofs.Hearing.{named_is}
+use Rattle.sock_calls.proofs.Copies.{named_is}
 
 -- ---- weights
 pub laid_weight : (es : List Entry) → flat.weight_of (laid_entries es) ≡ entries_weight es
@@ -52,7 +52,7 @@ kept_weight {p} {q} {c} {d} is =
     ∙ ap (λ (v : ChainView). entries_weight v.entries) (shown_with p q c _ is.chain)
     ∙ sym (laid_weight _) ∙ data_weight _ (chain_of p c) ∙ laid_weight (chain_of p c).entries
 
--- ---- the sockets that hear it
+-- ---- the sockets that match it
 pub sockets_are : (f : Queues) (t : Table) (found : List Block) → Each (λ (b : Block). block_at b.fd t ≡ Some b) found
     → map (socket_with f) found ≡ sockets_named f t (map (λ b. b.fd) found)
 sockets_are f t [] hs = refl
@@ -64,12 +64,12 @@ open_all : (t : Table) (found : List Block) → Each (λ (b : Block). block_at b
 open_all t [] hs = tt
 open_all t (b ∷ bs) hs = (ap is_some hs.0, open_all t bs hs.1)
 
-pub all_open : (t : Table) (destination : ℕ) (q : LookupKey) (fds : List ℕ) → udp.AreHearers t destination q fds
+pub all_open : (t : Table) (destination : ℕ) (q : LookupKey) (fds : List ℕ) → udp.AreMatching t destination q fds
     → All (λ (fd : ℕ). IsOpen fd t) fds
 all_open t destination q fds h =
     subst (All (λ (fd : ℕ). IsOpen fd t)) (sym h.named)
     (All-from_recursion (λ (fd : ℕ). IsOpen fd t) (map (λ b. b.fd) h.found)
-    (open_all t h.found (recursion_from_All (λ (b : Block). block_at b.fd t ≡ Some b) h.found h.held)))
+    (open_all t h.found (recursion_from_All (λ (b : Block). block_at b.fd t ≡ Some b) h.found h.are_open)))
 
 -- ---- what the delivery asks for
 pub record Reached (p : PoolView) (c : ℕ) (xs : List ℕ) (s : SocksView) (q : PoolView) (d : ℕ) : Type 0 where
@@ -147,10 +147,10 @@ delivered_input {p} {q} {r} {t} {u} {bs} {cs} {us} {vs} {ws} {xs} {ys} {zs} {c} 
     → IsAccounted q (with_net q s vs c rest) (held ⊕ weight_at q d) = λ rest held a.
     subst (λ (m : State). IsAccounted q m (held ⊕ weight_at q d)) (sym (now rest))
     (same_accounts held chain d a (λ k. omega (arith, owned k)) m heavy) in
-    let named : (f : Queues) → sockets_named f t to ≡ map (socket_with f) is.heard.found = λ f.
-    ap (sockets_named f t) is.heard.named
-    ∙ sym (sockets_are f t is.heard.found (recursion_from_All (λ (b : Block). block_at b.fd t ≡ Some b)
-    is.heard.found is.heard.held)) in
+    let named : (f : Queues) → sockets_named f t to ≡ map (socket_with f) is.matched.found = λ f.
+    ap (sockets_named f t) is.matched.named
+    ∙ sym (sockets_are f t is.matched.found (recursion_from_All (λ (b : Block). block_at b.fd t ≡ Some b)
+    is.matched.found is.matched.are_open)) in
     record {
       step = λ rest held a.
           let new : State = with_net r (record { pcbs = u; queues = cs }) ws e rest in

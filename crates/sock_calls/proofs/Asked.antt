@@ -11,20 +11,20 @@ use Rattle.pcb_table.specs.Table.{Table, Queues, block_at, machine, socket_with}
 use Rattle.pcb_table.proofs.Laws.{socket_found}
 use Rattle.sockbuf.specs.SockBuf.{SockBufView, IsSockBuf, datagrams, no_datagrams}
 use Rattle.sock_calls.specs.Questions.{name_or_fault, next_in, oldest_datagram, next_datagram, bytes_waiting, bytes_queued_at, memory_behind, memory_queued_at, socket_name, set_below, waits_in}
-use Rattle.sock_calls.specs.Inside.Asked.{told_name, waits_at}
+use Rattle.sock_calls.specs.Inside.Asked.{name_of_block, waits_at}
 use Rattle.sock_calls.specs.Sockets.{IsSocks, from_three, queue_at, queues_of}
 use Rattle.sock_calls.proofs.Frames.{at_default}
-use Rattle.sock_calls.proofs.Hearing.{named_at}
+use Rattle.sock_calls.proofs.Copies.{named_at}
 use Rattle.sock_calls.proofs.Places.{at_three}
 
 -- ---- one socket
 
 -- a socket has the name of its block
 pub block_named : (f : Queues) (t : Table) (fd : ℕ) (rest : State)
-    → told_name (block_at fd t) ≡ socket_name fd (machine rest f t)
+    → name_of_block (block_at fd t) ≡ socket_name fd (machine rest f t)
 block_named f t fd rest = go (block_at fd t) ∙ ap name_or_fault (sym (socket_found rest f t fd))
   where
-    go : (o : Option Block) → told_name o ≡ name_or_fault (option_map (socket_with f) o)
+    go : (o : Option Block) → name_of_block o ≡ name_or_fault (option_map (socket_with f) o)
     go None = refl
     go (Some b) = refl
 

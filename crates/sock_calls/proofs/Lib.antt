@@ -5,7 +5,7 @@ mod Copied
 mod Received
 pub mod Laws
 mod Delivered
-mod Hearing
+mod Copies
 mod Arriving
 mod Places
 mod SentRooms

@@ -1,26 +1,21 @@
 -- The datagram of a send: its bytes, and room for both headers in front.
-use Rattle.std.proofs.Common.{◌≡◌, ℕ, suc, ◌+◌, ◌≤◌, Bool, true, false, cond, List, [], ◌∷◌, ◌++◌, length, take, drop, count_by, None, refl, sym, ap, ◌∙◌, arith, inl, inr}
+use Rattle.std.proofs.Common.{◌≡◌, ℕ, suc, ◌+◌, ◌≤◌, Bool, true, false, cond, List, [], ◌∷◌, ◌++◌, length, drop, count_by, None, refl, sym, ap, ◌∙◌, arith, inl, inr}
 use Rattle.std.specs.Prelude.{nat_le, slice_index_or, sum_by}
-use Rattle.std.proofs.lemmas.List.{length-map, length-append, length-drop, length-take}
+use Rattle.std.proofs.lemmas.List.{length-map, length-append, length-drop}
 use Rattle.std.proofs.lemmas.List.Sums.{sum_by-cons}
 use Rattle.std.proofs.Math.Seq.{drop-append_seam}
 use Rattle.flat_model.specs.Amounts.Layout as flat
 use Rattle.flat_model.specs.Amounts.Layout.{is_cluster, user, sent, laid_on}
-use Rattle.flat_model.specs.Packets.Header.{udp}
-use Rattle.flat_model.specs.Machine.Sending as sending
-use Rattle.mbuf_chain.specs.Chain.{Entry, ChainView, PoolView, alone, chain_of, entry_of, no_entry, flat_bytes, string, with_chain, without}
-use Rattle.mbuf_chain.proofs.Laws.Owners.{shown_with}
+use Rattle.mbuf_chain.specs.Chain.{Entry, ChainView, PoolView, alone, chain_of, entry_of, no_entry, flat_bytes, string, without}
 use Rattle.mbuf_chain.proofs.Laws.Steps.{adds_undone}
 use Rattle.chain_ops.specs.Makes.{Makes, LacksMbufs}
 use Rattle.chain_ops.specs.Prepends.{has_front, prepended, prepended_front, prepend_need}
 use Rattle.chain_ops.specs.Stored.{AreFree, Has, Lacks, stored_first}
 use Rattle.chain_ops.specs.Weights.{laid_entries}
-use Rattle.chain_ops.proofs.Laws.Makes.{makes_held, makes_mbufs, makes_as, makes_then}
+use Rattle.chain_ops.proofs.Laws.Makes.{makes_held, makes_mbufs, makes_as}
 use Rattle.ip_out.specs.Packets.{IsDatagramChain}
 use Rattle.ip_out.proofs.Laws.{datagram_sent}
-use Rattle.udp.specs.Datagrams.{with_udp_header}
-use Rattle.udp.proofs.Laws.{built_laid}
-use Rattle.sock_calls.specs.Inside.Putting.{IsSendLaidOut, IsStored, IsBuilt}
+use Rattle.sock_calls.specs.Inside.Putting.{IsSendLaidOut, IsStored}
 use Rattle.sock_calls.proofs.SentRooms.{beside, laid_count}
 
 -- ---- the bytes in buffers of their own
@@ -151,46 +146,3 @@ string_size (e ∷ es) = omega (
       (laid_entries es),
   string_size es,
 )
-
-pub built_is : {p q r : PoolView} {c : ℕ} (x : sending.Sending) → IsStored p x.bytes q c
-    → r ≡ with_chain q c (with_udp_header x.source x.to.ip x.port x.to.port (chain_of q c))
-    → string (chain_of r c) ≡ take 20 (string (chain_of q c))
-    ++ udp x.source x.to.ip x.port x.to.port (drop 28 (string (chain_of q c))) → IsBuilt p x r c
-built_is {p} {q} {r} {c} x s e string_is =
-    let v : ChainView = chain_of q c in
-    let w : ChainView = with_udp_header x.source x.to.ip x.port x.to.port v in
-    let shown : chain_of r c ≡ w = shown_with q r c w e in
-    let laid_is : laid_entries (chain_of r c).entries ≡ laid_entries v.entries =
-    ap (λ (u : ChainView). laid_entries u.entries) shown
-    ∙ built_laid x.source x.to.ip x.port x.to.port v (has_headers s.lies) in
-    let m : Makes p q c v.front v.entries = record { adds = s.lies.made; front = refl; entries = refl } in
-    let made : Makes p r c w.front w.entries = makes_then r w m e in
-    let front_size : length (take 20 (string v)) ≡ 20 = omega (arith, length-take 20 (string v), s.lies.size) in
-    record {
-      clusters = s.clusters;
-      lies = record {
-        number = s.lies.number;
-        free = s.lies.free;
-        made = made.adds;
-        headed = ap (λ (u : ChainView). u.front.header) shown ∙ s.lies.headed;
-        laid = laid_is ∙ s.lies.laid;
-        size = string_size (chain_of r c).entries
-            ∙ ap (λ (es : List flat.LayoutEntry). sum_by (λ (y : flat.LayoutEntry). y.size) es) laid_is
-            ∙ sym (string_size v.entries) ∙ s.lies.size;
-        held = omega (
-          arith,
-          makes_held made,
-          ap (λ (u : ChainView). length u.entries) shown,
-          length-map {B = flat.LayoutEntry} (chain_of r c).entries
-              (λ (y : Entry). record { size = length y.bytes; cluster = y.cluster }),
-          ap (λ (es : List flat.LayoutEntry). length es) laid_is,
-          ap (λ (es : List flat.LayoutEntry). length es) s.lies.laid,
-          laid_count s.clusters (sent (length x.bytes)),
-        );
-      };
-      datagram = ap (drop 20) string_is
-          ∙ ap (λ (k : ℕ). drop k (take 20 (string v) ++ udp x.source x.to.ip x.port x.to.port (drop 28 (string v))))
-          (sym front_size)
-          ∙ drop-append_seam (take 20 (string v)) (udp x.source x.to.ip x.port x.to.port (drop 28 (string v)))
-          ∙ ap (udp x.source x.to.ip x.port x.to.port) s.holds;
-    }

@@ -15,7 +15,7 @@ use Rattle.flat_model.specs.declared.errno.Errno.{Errno}
 use Rattle.pcb_table.specs.Apart.{AreApart}
 use Rattle.pcb_table.specs.Table.{Table, Queues, IsDescriptor, block_at, machine}
 use Rattle.pcb_table.proofs.Laws.{on_open, not_open, same_machine, queue_changed}
-use Rattle.sock_calls.proofs.Hearing.{named_at, descriptor_of}
+use Rattle.sock_calls.proofs.Copies.{named_at, descriptor_of}
 
 -- what was taken of a queue, and how it was copied
 abbrev pub TookOf : List Datagram → List Datagram → ℕ → Option (Addr × ℕ) → List ℕ → Type 0

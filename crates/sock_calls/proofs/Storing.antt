@@ -1,7 +1,7 @@
 -- The data of a packet from the wire in a chain of their own, and their delivery to all sockets that match.
-use Rattle.std.proofs.Common.{◌≡◌, ℕ, suc, ◌+◌, ◌-◌, ◌<◌, ◌≤◌, List, [], ◌∷◌, ◌++◌, length, map, take, drop, true, false, Some, refl, sym, ap, ◌∙◌, subst, arith}
+use Rattle.std.proofs.Common.{◌≡◌, ℕ, suc, ◌-◌, ◌<◌, List, [], ◌∷◌, ◌++◌, length, map, take, drop, true, false, Some, refl, sym, ap, ◌∙◌, subst, arith}
 use Rattle.std.specs.Prelude.{count_by}
-use Rattle.std.specs.List.{cons_option, AllByRecursion as Each}
+use Rattle.std.specs.List.{cons_option}
 use Rattle.std.proofs.lemmas.List.{length-map}
 use Rattle.std.proofs.lemmas.List.Elements.{recursion_from_All, All-from_recursion}
 use Rattle.flat_model.specs.Amounts.Weight.{Weight, Item, nothing, ◌⊕◌}
@@ -23,13 +23,13 @@ use Rattle.chain_ops.specs.Stored.{AreFree, Has, stored_first}
 use Rattle.chain_ops.specs.Trims.{only_first, without_first}
 use Rattle.chain_ops.specs.Weights.{laid_entries}
 use Rattle.chain_ops.proofs.Laws.Strings.{only_first_bytes, without_first_bytes}
-use Rattle.ledger.specs.Accounts.{entries_weight, item_at, weight_at, IsAccounted}
+use Rattle.ledger.specs.Accounts.{entries_weight, weight_at, IsAccounted}
 use Rattle.ledger.proofs.Laws.{some_free}
 use Rattle.pcb_table.specs.declared.block.Block.{Block}
-use Rattle.pcb_table.specs.Table.{Queues, Table, block_at, machine, packet_key, socket_with}
+use Rattle.pcb_table.specs.Table.{Queues, Table, block_at, packet_key, socket_with}
 use Rattle.sockbuf.specs.SockBuf.{SockBufView}
 use Rattle.udp.specs.Checked.{IsChecked, unmatched}
-use Rattle.udp.specs.Datagrams.{AreHearers}
+use Rattle.udp.specs.Datagrams.{AreMatching}
 use Rattle.sock_calls.specs.Sockets.{SocksView, IsSocks, queues_of, queued_chains, with_net}
 use Rattle.sock_calls.specs.Delivery.{IsDelivered, seen, sockets_named}
 use Rattle.ip_out.specs.Headed.{carried_of}
@@ -39,7 +39,7 @@ use Rattle.sock_calls.proofs.Arriving.{laid_weight, sockets_are}
 use Rattle.sock_calls.proofs.Delivered.{ends_accounted, shows_same}
 use Rattle.sock_calls.proofs.Frames.{Kept, kept}
 use Rattle.sock_calls.proofs.Going.{bag_of_times, free_each}
-use Rattle.sock_calls.proofs.Hearing.{copy_accounts}
+use Rattle.sock_calls.proofs.Copies.{copy_accounts}
 use Rattle.sock_calls.proofs.Whole.{arrives_as}
 
 -- ---- trims leave weights
@@ -137,7 +137,7 @@ taken {p} {s} {clusters} packet acc free number = record {
 pub delivers_whole : {p q r : PoolView} {t u : Table} {bs cs : List SockBufView} {us vs ws : List Unfinished}
     {xs ys zs : List ℕ} {c e : Counters} {d end : ℕ} {fds packet : List ℕ} {from to : Addr}
     → IsSocks p (record { pcbs = t; queues = bs }) → IsOwned p (xs ++ queued_chains p bs)
-    → IsChecked packet end from to → AreHearers t to.ip (packet_key to.ip to.port from) fds → 0 < length fds
+    → IsChecked packet end from to → AreMatching t to.ip (packet_key to.ip to.port from) fds → 0 < length fds
     → IsDataStored p packet end q d → vs ≡ us → ys ≡ xs
     → IsDelivered (seen q (record { pcbs = t; queues = bs }) vs ys c) d fds from
     (seen r (record { pcbs = u; queues = cs }) ws zs e)
@@ -156,7 +156,7 @@ delivers_whole {p} {q} {r} {t} {u} {bs} {cs} {us} {vs} {ws} {xs} {ys} {zs} {c} {
     let named : (f : Queues) → sockets_named f t fds ≡ map (socket_with f) matching.found = λ f.
     ap (sockets_named f t) matching.named
     ∙ sym (sockets_are f t matching.found (recursion_from_All (λ (b : Block). block_at b.fd t ≡ Some b)
-    matching.found matching.held)) in
+    matching.found matching.are_open)) in
     let some_found : (f : Queues) → 0 < length (map (socket_with f) matching.found) = λ f. omega (
       arith,
       some,
@@ -199,7 +199,7 @@ delivers_whole {p} {q} {r} {t} {u} {bs} {cs} {us} {vs} {ws} {xs} {ys} {zs} {c} {
 pub delivers_to : {p q r : PoolView} {t t' u : Table} {bs cs : List SockBufView} {us vs ws : List Unfinished}
     {xs ys zs : List ℕ} {c e : Counters} {d end : ℕ} {fds to_all packet : List ℕ} {from to : Addr}
     → IsSocks p (record { pcbs = t; queues = bs }) → IsOwned p (xs ++ queued_chains p bs)
-    → IsChecked packet end from to → AreHearers t to.ip (packet_key to.ip to.port from) fds → 0 < length fds
+    → IsChecked packet end from to → AreMatching t to.ip (packet_key to.ip to.port from) fds → 0 < length fds
     → IsDataStored p packet end q d → vs ≡ us → ys ≡ xs → t' ≡ t → to_all ≡ fds
     → IsDelivered (seen q (record { pcbs = t'; queues = bs }) vs ys c) d to_all from
     (seen r (record { pcbs = u; queues = cs }) ws zs e)
@@ -223,7 +223,7 @@ none_found f (b ∷ found) e = absurd (omega (arith, e))
 pub unmatched_ends : {p : PoolView} {t : Table} {bs : List SockBufView} {us : List Unfinished} {xs fds : List ℕ}
     {c e : Counters} {end : ℕ} {packet : List ℕ} {from to : Addr} (why : Why)
     → IsSocks p (record { pcbs = t; queues = bs }) → IsChecked packet end from to
-    → AreHearers t to.ip (packet_key to.ip to.port from) fds → length fds ≡ 0 → Has p (wire (length packet))
+    → AreMatching t to.ip (packet_key to.ip to.port from) fds → length fds ≡ 0 → Has p (wire (length packet))
     → why ≡ unmatched t to.ip → e ≡ counted why c
     → DeliversWhole (seen p (record { pcbs = t; queues = bs }) us xs c) packet
     (seen p (record { pcbs = t; queues = bs }) us xs e)

@@ -1,6 +1,6 @@
--- A packet that carries a whole datagram, and was read where it lies: it's stored at once for the one socket that hears
--- it, or ends.
-use Rattle.std.proofs.Common.{◌≡◌, ℕ, ◌+◌, ◌-◌, ◌<◌, ◌≤◌, Bool, true, false, cond, List, [], ◌∷◌, ◌++◌, length, take, drop, Option, Some, None, refl, sym, ap, ◌∙◌, subst, arith, inl}
+-- A packet that carries a whole datagram and was read in place: it's stored for the one socket that matches it, or
+-- dropped.
+use Rattle.std.proofs.Common.{◌≡◌, ℕ, ◌<◌, ◌≤◌, Bool, true, false, cond, List, [], ◌∷◌, ◌++◌, length, take, drop, Option, Some, None, Result, Ok, Err, refl, sym, ap, ◌∙◌, subst, arith, inl}
 use Rattle.std.specs.Prelude.{count_by, ◌==◌, ◌&&◌, option_to_list}
 use Rattle.std.specs.List.{AllByRecursion as Each}
 use Rattle.std.proofs.lemmas.Bool.{true≢false, false≢true, le-leb}
@@ -12,13 +12,13 @@ use Rattle.flat_model.specs.declared.counters.Why.TheVariants.{NoProtocol, UdpFu
 use Rattle.flat_model.specs.Amounts.Weight.{Weight, Item, nothing, ◌⊕◌, times as bag_times}
 use Rattle.flat_model.specs.Amounts.Layout as flat
 use Rattle.flat_model.specs.Amounts.Layout.{Room, is_cluster, laid_on, wire}
-use Rattle.flat_model.specs.Packets.Header.{head_of, u16_at, udp_bytes, udp_fault}
+use Rattle.flat_model.specs.Packets.Header.{head_of, u16_at, udp_fault}
 use Rattle.flat_model.specs.Sockets.Fits.{fits}
 use Rattle.flat_model.specs.Sockets.Lookup.{best, receivers}
 use Rattle.flat_model.specs.Machine.State.{State, Socket, Datagram, change_socket, ends}
 use Rattle.flat_model.specs.Machine.Ledger as state
 use Rattle.flat_model.specs.Machine.Ledger.{IsFree, exact_ledger, has_enough, need_mbufs}
-use Rattle.flat_model.specs.Machine.Arrival.{Appends, GoesTo, WholeArrives, hearers, no_port, with_datagram}
+use Rattle.flat_model.specs.Machine.Arrival.{Appends, GoesTo, WholeArrives, hearers, with_datagram}
 use Rattle.flat_model.proofs.Laws.{count_cons}
 use Rattle.mbuf_chain.specs.Chain.{PoolView, references}
 use Rattle.ledger.specs.Accounts.{IsAccounted}
@@ -31,7 +31,8 @@ use Rattle.ip_out.specs.Headed.{carried_of}
 use Rattle.udp.specs.Checked.{IsChecked, datagram_fault, is_to_all}
 use Rattle.sock_calls.specs.Sockets.{SocksView, IsSocks, StepsAt, queues_of, with_sockets}
 use Rattle.sock_calls.proofs.Delivered.{moved_accounts}
-use Rattle.sock_calls.specs.Whole.{ArrivesWhole, EndsWhole, HasOne, StoresWhole, carried_item, one_room}
+use Rattle.sock_calls.specs.Inside.Storing.{StoresAtEnd}
+use Rattle.sock_calls.specs.Whole.{ArrivesWhole, EndsWhole, HasOne, StoresWhole, TakesWhole, carried_item, one_room}
 use Rattle.sock_calls.proofs.Going.{free_each}
 
 -- ---- the cluster that it takes
@@ -69,9 +70,9 @@ bag p false None n h = record {
 }
 bag p false (Some c) n h = absurd h
 
--- ---- what a checked packet comes to
+-- ---- what happens to a checked packet
 
--- It arrives as what becomes of its data, whatever buffers it takes.
+-- It arrives as its data are delivered, whatever buffers it takes.
 pub arrives_as : (packet : List ℕ) (end : ℕ) (from to : Addr) (w : Weight) (old new : State) → IsChecked packet end from to
     → GoesTo exact_ledger nothing from (record { bytes = drop 28 (take end packet); weight = w }) to.ip
     (hearers old to.ip (packet_key to.ip to.port from)) old new
@@ -121,25 +122,25 @@ module _ (p : PoolView) (t : Table) (bs : List SockBufView) (packet : List ℕ) 
   abbrev f : Queues
   f = queues_of p bs
 
-  hearers_are : (rest : State) → hearers (machine rest f t) to.ip (packet_key to.ip to.port from)
+  matching_are : (rest : State) → hearers (machine rest f t) to.ip (packet_key to.ip to.port from)
       ≡ option_to_list (best (packet_key to.ip to.port from) (sockets_with f t))
-  hearers_are rest = λ i. cond (one i) (receivers (packet_key to.ip to.port from) (sockets_with f t))
+  matching_are rest = λ i. cond (one i) (receivers (packet_key to.ip to.port from) (sockets_with f t))
       (option_to_list (best (packet_key to.ip to.port from) (sockets_with f t)))
 
-  pub unheard : Finds (best (packet_key to.ip to.port from)) t None
+  pub unmatched : Finds (best (packet_key to.ip to.port from)) t None
       → EndsWhole p (record { pcbs = t; queues = bs }) packet UdpNoPort
-  unheard found = λ rest w.
+  unmatched found = λ rest w.
       let old : State = machine rest f t in
       let none : hearers old to.ip (packet_key to.ip to.port from) ≡ [] =
-      hearers_are rest ∙ ap option_to_list (found f) in
+      matching_are rest ∙ ap option_to_list (found f) in
       arrives_as packet end from to w old (ends UdpNoPort old) checked
       (subst (λ (l : List Socket). GoesTo exact_ledger nothing from
       (record { bytes = drop 28 (take end packet); weight = w }) to.ip l old (ends UdpNoPort old)) (sym none)
       (ap (λ (b : Bool). ends (cond b UdpNoPortBroadcast UdpNoPort) old) (sym one)))
 
-  heard : {fd : ℕ} (rest : State) (found : Finds (best (packet_key to.ip to.port from)) t (Some fd))
+  matched : {fd : ℕ} (rest : State) (found : Finds (best (packet_key to.ip to.port from)) t (Some fd))
       → hearers (machine rest f t) to.ip (packet_key to.ip to.port from) ≡ socket_with f found.0 ∷ []
-  heard rest found = hearers_are rest ∙ ap option_to_list (found.3 f)
+  matched rest found = matching_are rest ∙ ap option_to_list (found.3 f)
 
   pub full : {fd : ℕ} → Finds (best (packet_key to.ip to.port from)) t (Some fd)
       → fits (queues_of p bs fd) (length (drop 28 (take end packet))) ≡ false
@@ -149,7 +150,7 @@ module _ (p : PoolView) (t : Table) (bs : List SockBufView) (packet : List ℕ) 
       arrives_as packet end from to w old (ends UdpFullSocket old) checked
       (subst (λ (l : List Socket). GoesTo exact_ledger nothing from
       (record { bytes = drop 28 (take end packet); weight = w }) to.ip l old (ends UdpFullSocket old))
-      (sym (heard rest found)) (record {
+      (sym (matched rest found)) (record {
         yes = λ e. absurd (true≢false (sym e
             ∙ ap (λ (k : ℕ). fits (f k) (length (drop 28 (take end packet)))) found.1 ∙ over));
         no = λ _. refl;
@@ -225,7 +226,7 @@ module _ (p q : PoolView) (t : Table) (bs cs : List SockBufView) (packet : List 
       subst (λ (x : Weight). ArrivesWhole packet (record { bytes = carried_of packet; weight = x }) old new) (sym weighs)
       (arrives_as packet end from to w old new is.checked
       (subst (λ (l : List Socket). GoesTo exact_ledger nothing from data_of to.ip l old new)
-      (sym (heard p t bs packet end from to is.checked is.one rest is.found)) appends))
+      (sym (matched p t bs packet end from to is.checked is.one rest is.found)) appends))
 
   pub comes : (clusters : List ℕ)
       × state.AreTaken exact_ledger old (flat.need_of (wire (length packet))).clusters clusters
@@ -264,3 +265,32 @@ stores_whole {p} {q} {t} {bs} {cs} {packet} {end} {from} {to} {fd} {is_large} is
       closed = λ k none. is.steps.others k (λ e. none-some is.found.0
           (sym none ∙ ap (λ (j : ℕ). block_at j t) e ∙ is.found.2)) ∙ is.socks.closed k none;
     }
+
+-- ---- the result of the queue, as that of the packet
+
+module _ (p : PoolView) (t : Table) (bs : List SockBufView) (packet : List ℕ) (end : ℕ) (from to : Addr) (fd : ℕ)
+    (is_large : Bool) (checked : IsChecked packet end from to) (socks : IsSocks p (record { pcbs = t; queues = bs }))
+    (one : is_to_all t to.ip ≡ false) (found : Finds (best (packet_key to.ip to.port from)) t (Some fd))
+    (has : HasOne p (length packet) is_large) where
+  pub takes : (bytes : List ℕ) (q : PoolView) (cs : List SockBufView) (result : Result Unit Why)
+      → bytes ≡ drop 28 (take end packet) → StoresAtEnd p bs fd from is_large bytes q cs result
+      → TakesWhole p (record { pcbs = t; queues = bs }) packet q (record { pcbs = t; queues = cs }) result
+  takes bytes q cs (Ok done) same is = stores_whole (record {
+    checked = checked;
+    socks = socks;
+    one = one;
+    found = found;
+    has = has;
+    cluster = is.cluster;
+    taken = is.taken;
+    fits = ap (λ (xs : List ℕ). fits (queues_of p bs fd) (length xs)) (sym same) ∙ is.fits;
+    steps = is.steps;
+    here = is.here ∙ ap (λ (xs : List ℕ). queues_of p bs fd ++ stored_datagram from xs is.cluster ∷ []) same;
+  })
+  takes bytes q cs (Err why) same is = (
+    is.pool,
+    λ i. record { pcbs = t; queues = is.queues i },
+    subst (λ (y : Why). EndsWhole p (record { pcbs = t; queues = bs }) packet y) (sym is.cause)
+        (full p t bs packet end from to checked one found
+        (ap (λ (xs : List ℕ). fits (queues_of p bs fd) (length xs)) (sym same) ∙ is.over)),
+  )

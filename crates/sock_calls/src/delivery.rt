@@ -1,14 +1,13 @@
-//! Delivery of a datagram into the queues of those who hear it.
-ghost use Rattle.std.specs.Prelude.{◌≡◌, ◌+◌, ◌<◌, ◌≤◌, ◌∷◌, [], ◌++◌, true, false, length, All, IfSome, Option, ℕ, if◌then◌else◌};
+//! Delivery of a datagram into the queues of the sockets that match it.
+ghost use Rattle.std.specs.Prelude.{◌≡◌, ◌<◌, ◌≤◌, ◌∷◌, [], ◌++◌, true, length, All, ℕ};
 ghost use Rattle.flat_model.specs.Sockets.Fits as flat;
-ghost use Rattle.mbuf_chain.specs.Chain.{IsLive, PoolView, chain_of, free_clusters, held_mbufs, string};
+ghost use Rattle.mbuf_chain.specs.Chain.{IsLive, PoolView, chain_of, held_mbufs, string};
 ghost use Rattle.mbuf_chain.specs.Owners.{IsOwned, Moves};
 ghost use Rattle.flat_model.specs.Amounts.Weight.{times};
 ghost use Rattle.chain_ops.specs.Makes.{HasMbufs};
 ghost use Rattle.pcb_table.specs.Table.{IsDescriptor, IsOpen};
 ghost use Rattle.ledger.specs.Accounts.{item_at};
 ghost use Rattle.sockbuf.specs.SockBuf.{IsSockBuf, datagram_from};
-ghost use Rattle.sockbuf.specs.Stored.{IsTaken, stored_datagram};
 ghost use Rattle.sock_calls.specs.Sockets.{IsSocks, StepsAt, from_three, queue_at, queues_of, queued_chains};
 ghost use Rattle.sock_calls.specs.Delivery.{seen, IsAppended, IsOffered, IsDelivered};
 ghost use Rattle.sock_calls.specs.Inside.Parts.{socks_of};
@@ -20,9 +19,8 @@ use chain_ops::{Extent, m_copym};
 use flat_model::{Addr, Counters, Why};
 use ledger::{Waiting, reserve};
 use mbuf_chain::{Chain, Pool};
-use params::{IP_UDP_HEADERS, MCLBYTES, MHLEN, PACKET_START};
 
-/// A datagram without its headers, and who sent it.
+/// A datagram without its headers, and its sender.
 pub(crate) struct Datagram {
     pub(crate) sender: Addr,
     pub(crate) chain: Chain,
@@ -38,8 +36,8 @@ impl ReceiveQueues {
         self.queues[place_of(fd)].fits(len)
     }
 
-    /// Puts a datagram of `len` bytes at the end of a descriptor's queue. It has to fit, and an mbuf has to be free.
-    // Inlined, as `deliver` is.
+    /// Appends a datagram of `len` bytes to a descriptor's queue. It must fit, and an mbuf must be free.
+    // Inlined, like `deliver`.
     #[inline(always)]
     fn append_at(&mut self, pool: &mut Pool, fd: u32, datagram: Datagram, len: u32)
         requires each { (k : ℕ) → IsSockBuf pool.old (queue_at (from_three self.old) k) }
@@ -56,40 +54,9 @@ impl ReceiveQueues {
         let Datagram { sender, chain } = datagram;
         self.queues[place_of(fd)].append_fitting(pool, sender, chain, len);
     }
-
-    /// Stores bytes as a datagram of one mbuf at the end of a descriptor's queue, where they'd stand in a packet. They
-    /// have to fit, and the buffers have to be free.
-    #[inline(always)]
-    pub(crate) fn store_at(
-        &mut self,
-        pool: &mut Pool,
-        fd: u32,
-        sender: Addr,
-        is_large: bool,
-        bytes: &[u8],
-    )
-        requires each { (k : ℕ) → IsSockBuf pool.old (queue_at (from_three self.old) k) }
-        requires descriptor { IsDescriptor fd }
-        requires owned { IsOwned pool.old (queued_chains pool.old (from_three self.old)) }
-        requires most { IP_UDP_HEADERS + length bytes.now ≤ (if is_large then MCLBYTES else MHLEN) }
-        requires free { held_mbufs pool.old + 2 ≤ pool.old.mbufs }
-        requires cluster { is_large ≡ true → 0 < free_clusters pool.old }
-        requires fits { flat.fits (queues_of pool.old (from_three self.old) fd) (length bytes.now) ≡ true }
-        ensures steps { StepsAt pool.old [] (from_three self.old) fd pool.new [] (from_three self.new) }
-        ensures here { (o : Option ℕ) × IsTaken pool.old is_large o
-            × (queues_of pool.new (from_three self.new) fd ≡ queues_of pool.old (from_three self.old) fd
-            ++ stored_datagram sender bytes.now o ∷ []) }
-    {
-        let start = if is_large {
-            IP_UDP_HEADERS
-        } else {
-            PACKET_START + IP_UDP_HEADERS
-        };
-        self.queues[place_of(fd)].store(pool, sender, is_large, start, bytes);
-    }
 }
 
-/// A copy of a chain, which shares its clusters. So many mbufs have to be free.
+/// Copies a chain; the copy shares its clusters. A free mbuf is needed for each of the chain's mbufs.
 fn copy_whole(pool: &mut Pool, chain: &Chain) -> Chain
     requires live { IsLive pool.old chain.now }
     requires free { HasMbufs pool.old (length (chain_of pool.old chain.now).entries) }
@@ -103,9 +70,9 @@ fn copy_whole(pool: &mut Pool, chain: &Chain) -> Chain
 }
 
 impl Parts {
-    /// Puts a datagram into the queue of an open socket, with an mbuf for the sender's address, if both fit; else it's
-    /// freed and counted, as one at a full queue or as one that lacks buffers (volume 2, chapter 16).
-    // Inlined, since most datagrams have one receiver.
+    /// Appends a datagram to the queue of an open socket, with an mbuf for the sender's address. If the queue is full
+    /// or no mbuf is free, the datagram is freed and counted for this cause (volume 2, chapter 16).
+    // Inlined, because most datagrams have one receiver.
     #[inline(always)]
     fn deliver<R: Waiting>(
         &mut self,
@@ -145,8 +112,8 @@ impl Parts {
         self.queues.append_at(pool, fd, datagram, len);
     }
 
-    /// Puts a copy of a datagram into the queue of an open socket, if it and an mbuf for the sender's address fit; else
-    /// that is counted. The datagram itself stays in hand.
+    /// Appends a copy of a datagram to the queue of an open socket, with an mbuf for the sender's address. If the queue
+    /// is full or too few mbufs are free, the cause is counted. The caller keeps the datagram itself.
     fn deliver_copy<R: Waiting>(
         &mut self,
         pool: &mut Pool,
@@ -181,8 +148,8 @@ impl Parts {
         self.deliver(pool, waiting, counters, fd, copy);
     }
 
-    /// Puts a datagram into the queues of all these sockets: a copy of it into each but the last, and itself into that.
-    /// If one lacks something, its own part ends alone (volume 2, chapter 23).
+    /// Appends a datagram to the queues of all these sockets: a copy to each but the last, and the datagram itself to
+    /// the last. If one of them fails, the others are still delivered (volume 2, chapter 23).
     // Inlined: out of line it costs 30 instructions a delivery.
     #[inline(always)]
     pub(crate) fn deliver_all<R: Waiting>(

@@ -1,4 +1,4 @@
-//! Where a send goes, and what it is refused for before its buffers are looked at.
+//! The destination of a send, and its errors that don't depend on buffers.
 ghost use Rattle.std.specs.Prelude.{◌≡◌, ◌≢◌, ℕ, ◌+◌, ◌≤◌, Ok, Some, IfNone, IfOk, IfSome, OnOk, true};
 ghost use Rattle.flat_model.specs.Packets.Header.{first_fault};
 ghost use Rattle.pcb_table.specs.Table.{block_at};
@@ -8,7 +8,7 @@ use flat_model::{Addr, Errno};
 use params::{IP_UDP_HEADERS, LOOPBACK, UDP_SEND_SPACE};
 use pcb_table::{Block, Pcbs};
 
-/// What is asked before the address is looked at: that there is one, and that the bytes aren't too many.
+/// The tests before those of the address: that there is an address, and that there aren't too many bytes.
 #[inline(always)]
 fn early_fault(to: Option<Addr>, peer: Option<Addr>, len: usize) -> Option<Errno>
     ensures fault { result ≡ first_fault (early_faults to peer len) }
@@ -23,7 +23,7 @@ fn early_fault(to: Option<Addr>, peer: Option<Addr>, len: usize) -> Option<Errno
     None
 }
 
-/// The address given, as it's read, or else the peer's.
+/// The destination: the address given, after `check_destination_of`, or otherwise the peer's.
 #[inline(always)]
 fn target_of(pcbs: &Pcbs, block: &Block, to: Option<Addr>) -> Result<Addr, Errno>
     requires { block_at block.now.fd pcbs.now ≡ Some block.now }
@@ -35,7 +35,7 @@ fn target_of(pcbs: &Pcbs, block: &Block, to: Option<Addr>) -> Result<Addr, Errno
     }
 }
 
-/// What a send to the broadcast address is refused for.
+/// The error of a send to the broadcast address, if it fails.
 #[inline(always)]
 fn broadcast_fault(to_all: bool, allowed: bool, mtu: u16, len: usize) -> Option<Errno>
     requires { len ≤ 65535 }
@@ -51,9 +51,9 @@ fn broadcast_fault(to_all: bool, allowed: bool, mtu: u16, len: usize) -> Option<
     None
 }
 
-/// The address given, or else the peer's, if a send of at most 9,216 bytes to it by the socket of a block leaves by the
-/// link to another machine: then `send_target` returns the same address. `None`: take the general path; the result is
-/// the same. No test is made twice.
+/// The address given, or otherwise the peer's, if a send of at most 9,216 bytes to it from the block's socket
+/// leaves by the link to another machine. `send_target` returns the same address then. `None`: take the general path
+/// (the result is the same). No test is made twice.
 #[inline(always)]
 pub(crate) fn link_target(pcbs: &Pcbs, block: &Block, to: Option<Addr>) -> Option<Addr>
     requires { block_at block.now.fd pcbs.now ≡ Some block.now }
@@ -71,11 +71,14 @@ pub(crate) fn link_target(pcbs: &Pcbs, block: &Block, to: Option<Addr>) -> Optio
     Some(address)
 }
 
-/// Where a send of `len` bytes by the socket of a block goes: to the address given, as it's read, or else to its peer.
-/// Refused, in this order: `DestinationRequired`, `MessageSize` above 9,216 bytes, `IsConnected`,
-/// `AddressNotAvailable`, `HostUnreachable`, `AddressInUse`, `Access` for the broadcast address without the option,
-/// `MessageSize` for a broadcast that is longer than the link's packets. It changes nothing (volume 2 chapters 16 and
-/// 23).
+/// The destination of a send of `len` bytes from the socket of a block: the address given, after
+/// `check_destination_of`, or otherwise its peer's. It changes nothing (volume 2 chapters 16 and 23).
+///
+/// # Errors
+///
+/// In this order: `DestinationRequired`, `MessageSize` above 9,216 bytes, `IsConnected`, `AddressNotAvailable`,
+/// `HostUnreachable`, `AddressInUse`, `Access` for the broadcast address without the option, `MessageSize` for a
+/// broadcast that is longer than the link's packets.
 #[inline(always)]
 pub(crate) fn send_target(
     pcbs: &Pcbs,

@@ -1,8 +1,8 @@
-//! The socket calls over the pool: control blocks with a receive queue each, sends, and the delivery of what came
-//! (TCP/IP Illustrated volume 2, chapters 15, 16, 22 and 23).
+//! The socket calls over the pool: control blocks with a receive queue each, sends, and the delivery of received
+//! datagrams (TCP/IP Illustrated volume 2, chapters 15, 16, 22 and 23).
 //!
-//! Each call is one step of the flat machine, whatever else that machine holds. A send is tested once: who has
-//! unfinished datagrams gives them back and sends again.
+//! Each call is one step of the flat machine, for every rest of that machine. A send tests the pool once: a caller with
+//! unfinished datagrams frees them and sends again.
 #![tactic(auto)]
 
 mod delivery;

@@ -1,4 +1,4 @@
-//! What the sockets of a machine have below them.
+//! The link, the packets and the counters that all sockets share.
 ghost use Rattle.std.specs.Prelude.{◌≡◌, [], None};
 ghost use Rattle.flat_model.specs.Machine.Count.{no_counts};
 ghost use Rattle.mbuf_chain.specs.Chain.{PoolView};
@@ -10,24 +10,24 @@ use flat_model::Counters;
 use ip_out::Queue;
 use mbuf_chain::{Pool, Train};
 
-/// What all sockets of a machine share: its link, the packets on their way, and what was counted. It must be spent, by
+/// What all sockets of a machine share: its link, the packets on their way, and the counters. It must be consumed, by
 /// `end`.
 pub struct Net {
-    /// The bytes of the longest packet that the link takes, 68 to 4352.
+    /// The length in bytes of the longest packet that the link takes, 68 to 4352.
     pub mtu: u16,
-    /// The identification of the next datagram that is sent.
+    /// The identification of the next datagram sent.
     pub next_id: u16,
-    /// What was counted since boot.
+    /// The counters since boot.
     pub counters: Counters,
-    /// The packets that wait for the link.
+    /// The output queue: the packets for the link.
     pub out: Queue,
-    /// The packets that come back to this machine, in order. A send puts them here, and they have to be taken before
-    /// the next one.
+    /// The packets that come back to this machine, in order. A send puts them here, and they must be taken before the
+    /// next send.
     pub looped: Train,
 }
 
 impl Net {
-    /// Nothing is on its way, and nothing was counted.
+    /// Creates it without packets; all counters are 0.
     pub fn new(mtu: u16, first_id: u16) -> Net
         ensures mtu { result.mtu ≡ mtu }
         ensures next_id { result.next_id ≡ first_id }
@@ -45,7 +45,7 @@ impl Net {
         }
     }
 
-    /// Frees all packets that wait for the link. None may be left that was to come back.
+    /// Frees all packets in the output queue. `looped` must be empty.
     pub fn end(self, pool: &mut Pool)
         requires out { IsOutputQueue pool.old self.out }
         requires none { self.looped.len ≡ 0 }

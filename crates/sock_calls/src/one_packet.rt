@@ -1,4 +1,4 @@
-//! A send that makes one packet for the link, and whose bytes lie in one mbuf.
+//! A send that makes one packet for the link, and whose bytes are in one mbuf.
 ghost use Rattle.std.specs.Prelude.{◌≡◌, ◌+◌, ◌-◌, ◌<◌, ◌≤◌, ◌++◌, IfSome, length};
 ghost use Rattle.flat_model.specs.Amounts.Layout.{need, sent};
 ghost use Rattle.mbuf_chain.specs.Chain.{chain_of, free_clusters, held_mbufs, string};
@@ -10,14 +10,14 @@ use flat_model::Need;
 use mbuf_chain::{Chain, Pool};
 use params::{CLUSTER_LEADING_SPACE, IP_UDP_HEADERS, MCLBYTES, MHLEN, MINCLSIZE, MSIZE};
 
-/// The most bytes that lie behind their headers in one mbuf.
+/// The largest number of bytes after their headers in one mbuf.
 const MOST_IN_MBUF: usize = (MHLEN - IP_UDP_HEADERS) as usize;
 
-/// The most bytes that lie in one cluster.
+/// The largest number of bytes in one cluster.
 const MOST_IN_CLUSTER: usize = (MCLBYTES - CLUSTER_LEADING_SPACE) as usize;
 
-/// How many free buffers a send of `len` bytes takes that makes one packet for a link with this MTU, and lies in one
-/// mbuf behind its headers, or in a cluster behind an mbuf with them; `None` for any other.
+/// The number of free buffers for a send of `len` bytes that makes one packet for a link with this MTU, and is in one
+/// mbuf after its headers, or in a cluster after an mbuf with the headers. `None` for any other send.
 #[inline(always)]
 pub(crate) fn need_of_one(len: usize, mtu: u16) -> Option<Need>
     ensures need { IfSome result (λ n. n ≡ need len mtu) }
@@ -43,7 +43,7 @@ pub(crate) fn need_of_one(len: usize, mtu: u16) -> Option<Need>
     })
 }
 
-/// The bytes behind the 28 bytes of the headers, in one mbuf, at its end. An mbuf has to be free.
+/// Makes one mbuf with the 28 bytes of the headers and the bytes, at its end. An mbuf must be free.
 #[inline(always)]
 fn in_mbuf(pool: &mut Pool, headers: &[u8; IP_UDP_HEADERS as usize], bytes: &[u8]) -> Chain
     requires few { length bytes.now ≤ MOST_IN_MBUF }
@@ -60,7 +60,7 @@ fn in_mbuf(pool: &mut Pool, headers: &[u8; IP_UDP_HEADERS as usize], bytes: &[u8
     chain
 }
 
-/// The same in a cluster, with the headers in an mbuf in front of it. Two mbufs and a cluster have to be free.
+/// Puts the bytes into a cluster, after an mbuf with the headers. Two mbufs and a cluster must be free.
 #[inline(always)]
 fn in_cluster(pool: &mut Pool, headers: &[u8; IP_UDP_HEADERS as usize], bytes: &[u8]) -> Chain
     requires many { MINCLSIZE ≤ length bytes.now }
@@ -81,8 +81,8 @@ fn in_cluster(pool: &mut Pool, headers: &[u8; IP_UDP_HEADERS as usize], bytes: &
     chain
 }
 
-/// `datagram` of bytes that lie in one mbuf, as `need_of_one` says. Its buffers have to be free.
-// So few steps, since neither the rooms for the bytes nor that for the headers are looked for.
+/// `datagram` of bytes that fit into one mbuf or cluster, by `need_of_one`. Its buffers must be free.
+// It's short because the layout is known.
 #[inline(always)]
 pub(crate) fn datagram_of_one(pool: &mut Pool, heading: Heading, bytes: &[u8]) -> Chain
     requires most { length bytes.now ≤ MOST_IN_CLUSTER }

@@ -1,4 +1,4 @@
-//! The packets of a send that has its buffers.
+//! The packets of a send whose buffers are free.
 ghost use Rattle.std.specs.Prelude.{◌≡◌, ℕ, ◌+◌, ◌≤◌, ◌++◌, drop, length};
 ghost use Rattle.flat_model.specs.Amounts.Layout.{sent};
 ghost use Rattle.mbuf_chain.specs.Chain.{chain_of, string};
@@ -20,7 +20,7 @@ use params::{
 use pcb_table::Pcbs;
 use udp::header_for;
 
-/// What the headers of a send say.
+/// The header fields of a send.
 #[derive(Clone, Copy, Debug, PartialEq, Eq)]
 pub(crate) struct Heading {
     /// The identification.
@@ -33,18 +33,18 @@ pub(crate) struct Heading {
     pub(crate) to: Addr,
 }
 
-/// The way of a send.
+/// The route of a send.
 #[derive(Clone, Copy, Debug, PartialEq, Eq)]
 pub(crate) struct Route {
     /// The destination.
     pub(crate) to: Addr,
-    /// Where its packets go.
+    /// To the link, back to this machine, or both.
     pub(crate) way: Way,
-    /// How many bytes the longest of them has, at most.
+    /// The largest length in bytes of its packets.
     pub(crate) longest: u16,
 }
 
-/// Whether packets to an address come back and stay off the link.
+/// Whether packets to an address only come back, and don't go to the link.
 #[inline(always)]
 fn is_looped(pcbs: &Pcbs, ip: u32) -> bool
     ensures { result ≡ is_looped (send_config pcbs.now 0) ip }
@@ -52,7 +52,7 @@ fn is_looped(pcbs: &Pcbs, ip: u32) -> bool
     ip == pcbs.addr() || ip == LOOPBACK
 }
 
-/// Where packets to an address go, and how long the longest of them is.
+/// The way of packets to an address, and their largest length.
 #[inline(always)]
 pub(crate) fn way_to(pcbs: &Pcbs, mtu: u16, ip: u32) -> (Way, u16)
     ensures way { result.0 ≡ way_of (send_config pcbs.now mtu) ip }
@@ -67,8 +67,8 @@ pub(crate) fn way_to(pcbs: &Pcbs, mtu: u16, ip: u32) -> (Way, u16)
     }
 }
 
-/// How many free buffers a send of `len` bytes takes: those of its packets, of which the longest has `longest` bytes,
-/// and of a copy of a broadcast.
+/// The number of free buffers that a send of `len` bytes takes: those of its packets, which have at most `longest`
+/// bytes, and of the copy of a broadcast.
 pub(crate) fn need_to(pcbs: &Pcbs, longest: u16, ip: u32, len: u32) -> Need
     requires most { len ≤ UDP_SEND_SPACE }
     requires longest { MIN_MTU ≤ longest }
@@ -82,7 +82,7 @@ pub(crate) fn need_to(pcbs: &Pcbs, longest: u16, ip: u32, len: u32) -> Need
     }
 }
 
-/// A chain of the bytes after the 28 bytes of the headers.
+/// Makes a chain of the 28 bytes of the headers and the bytes after them.
 #[inline(always)]
 fn with_headers(pool: &mut Pool, headers: &[u8; IP_UDP_HEADERS as usize], bytes: &[u8]) -> Chain
     requires most { length bytes.now ≤ UDP_SEND_SPACE }
@@ -101,7 +101,7 @@ fn with_headers(pool: &mut Pool, headers: &[u8; IP_UDP_HEADERS as usize], bytes:
     chain
 }
 
-/// Writes UDP's header behind the 20 bytes for that of IP.
+/// Writes UDP's header after the 20 bytes for that of IP.
 #[inline(always)]
 fn put_udp(headers: &mut [u8; IP_UDP_HEADERS as usize], udp: &[u8; UDP_HEADER as usize])
     ensures { drop IP_HEADER headers.new ≡ udp.now }
@@ -109,8 +109,8 @@ fn put_udp(headers: &mut [u8; IP_UDP_HEADERS as usize], udp: &[u8; UDP_HEADER as
     headers[IP_HEADER as usize..].copy_from_slice(udp);
 }
 
-/// Writes UDP's header of these bytes behind the 20 bytes for that of IP.
-// It's made from the bytes where they lie, and written where it's copied from, so that it's in no other place between.
+/// Writes UDP's header of these bytes after the 20 bytes for that of IP.
+// The header is computed from the caller's bytes and written once, into the array that is copied into the mbuf.
 #[inline(always)]
 pub(crate) fn write_udp(headers: &mut [u8; IP_UDP_HEADERS as usize], heading: Heading, bytes: &[u8])
     requires { length bytes.now ≤ UDP_SEND_SPACE }
@@ -135,7 +135,7 @@ pub(crate) fn datagram(pool: &mut Pool, heading: Heading, bytes: &[u8]) -> Chain
     with_headers(pool, &headers, bytes)
 }
 
-/// The IP header of all its packets, but for their lengths and offsets.
+/// The IP header of all its packets, except their lengths and offsets.
 #[inline(always)]
 pub(crate) fn ip_head(heading: Heading) -> IpHead
     ensures { result ≡ head_as heading }

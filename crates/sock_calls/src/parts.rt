@@ -1,9 +1,9 @@
-//! The parts of the sockets that a delivery and a send go through.
+//! The parts of the sockets that a delivery and a send change.
 use crate::queues::ReceiveQueues;
 use pcb_table::Pcbs;
 
-/// The control blocks, and for each descriptor its receive queue. No fact ties them here: each call says what it asks
-/// for.
+/// The control blocks, and the receive queue of each descriptor. The type itself says nothing about them: each call's
+/// contract states what it requires.
 pub(crate) struct Parts {
     pub(crate) pcbs: Pcbs,
     pub(crate) queues: ReceiveQueues,

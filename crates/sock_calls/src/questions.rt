@@ -1,4 +1,4 @@
-//! What a caller may ask of the sockets. A question changes nothing.
+//! Queries of the sockets. They change nothing.
 ghost use Rattle.std.specs.Prelude.{◌≡◌, ◌<◌, length, ℕ};
 ghost use Rattle.flat_model.specs.Sockets.Fits as flat;
 ghost use Rattle.mbuf_chain.specs.Chain.{PoolView};
@@ -6,7 +6,7 @@ ghost use Rattle.mbuf_chain.specs.Heads.{nth_heads};
 ghost use Rattle.pcb_table.specs.Table.{block_at};
 ghost use Rattle.sockbuf.specs.SockBuf.{IsSockBuf, chains_of, datagrams};
 ghost use Rattle.sock_calls.specs.Questions.{set_below, oldest_datagram};
-ghost use Rattle.sock_calls.specs.Inside.Asked.{told_name, waits_at};
+ghost use Rattle.sock_calls.specs.Inside.Asked.{name_of_block, waits_at};
 ghost use Rattle.sock_calls.specs.Sockets.{queue_at, queues_of};
 
 use crate::queues::QUEUES;
@@ -16,36 +16,36 @@ use params::MAX_SOCKETS;
 use pcb_table::Pcbs;
 use sockbuf::SockBuf;
 
-/// What an open socket is bound and connected to, and its options: what `getsockname`, `getpeername` and `getsockopt`
-/// tell (volume 2, chapters 15 and 17).
+/// The addresses that an open socket is bound and connected to, and its options: the results of `getsockname`,
+/// `getpeername` and `getsockopt` (volume 2, chapters 15 and 17).
 #[derive(Clone, Copy, Debug, PartialEq, Eq)]
 pub struct SocketName {
-    /// The local address; unset takes packets to each address of the machine.
+    /// The local address. If it's unset, the socket receives packets to each address of the machine.
     pub local: Option<u32>,
-    /// The local port, where one was given or chosen.
+    /// The local port, if one was given or chosen.
     pub port: Option<u16>,
     /// The peer of a connected socket.
     pub peer: Option<Addr>,
     /// Whether the socket may send to the broadcast address (SO_BROADCAST).
     pub broadcast: bool,
-    /// Whether others that have it too may bind to the same address and port (SO_REUSEPORT).
+    /// Whether other sockets with this option may bind to the same address and port (SO_REUSEPORT).
     pub reuse_port: bool,
 }
 
-/// The oldest datagram that waits in a socket, which the next `recvfrom` takes.
+/// The oldest datagram queued at a socket, which the next `recvfrom` returns.
 #[derive(Clone, Copy, Debug, PartialEq, Eq)]
 pub struct NextDatagram {
-    /// Who sent it.
+    /// The sender.
     pub sender: Addr,
-    /// How many bytes it has, 0 to 65,507: a `recvfrom` with less room loses the others.
+    /// Its length in bytes, 0 to 65,507. A `recvfrom` with a shorter buffer loses the rest.
     pub len: u32,
-    /// How many datagrams wait, this one among them.
+    /// The number of queued datagrams, including this one.
     pub waiting: u32,
 }
 
 /// The name of a descriptor's socket.
 pub(crate) fn name_of(pcbs: &Pcbs, fd: u32) -> Result<SocketName, Errno>
-    ensures { result ≡ told_name (block_at fd pcbs.now) }
+    ensures { result ≡ name_of_block (block_at fd pcbs.now) }
 {
     match pcbs.block(fd) {
         Some(block) => Ok(SocketName {
@@ -59,7 +59,7 @@ pub(crate) fn name_of(pcbs: &Pcbs, fd: u32) -> Result<SocketName, Errno>
     }
 }
 
-/// The oldest datagram of the queue at a place.
+/// The oldest datagram of the queue at index `place`.
 pub(crate) fn next_at(pool: &Pool, queues: &[SockBuf], place: usize) -> Result<NextDatagram, Errno>
     requires each { (k : ℕ) → IsSockBuf pool.now (queue_at queues.now k) }
     requires place { place < length queues.now }
@@ -76,7 +76,7 @@ pub(crate) fn next_at(pool: &Pool, queues: &[SockBuf], place: usize) -> Result<N
     }
 }
 
-/// How many bytes wait in the queue at a place, with those of the senders' addresses.
+/// The number of bytes in the queue at index `place`, including the senders' addresses.
 pub(crate) fn bytes_at(queues: &[SockBuf], place: usize) -> u32
     requires { place < length queues.now }
     ensures { (p : PoolView) → IsSockBuf p (queue_at queues.now place)
@@ -85,7 +85,7 @@ pub(crate) fn bytes_at(queues: &[SockBuf], place: usize) -> u32
     queues[place].cc()
 }
 
-/// How much memory is behind what waits in the queue at a place.
+/// The memory in bytes of the datagrams in the queue at index `place`.
 pub(crate) fn memory_at(queues: &[SockBuf], place: usize) -> u32
     requires { place < length queues.now }
     ensures { (p : PoolView) → IsSockBuf p (queue_at queues.now place)
@@ -94,7 +94,7 @@ pub(crate) fn memory_at(queues: &[SockBuf], place: usize) -> u32
     queues[place].mbcnt()
 }
 
-/// The mbufs of a datagram of the queue at a place.
+/// The mbufs of a datagram in the queue at index `place`.
 pub(crate) fn heads_at<'a>(
     pool: &'a Pool,
     queues: &[SockBuf],
@@ -108,7 +108,7 @@ pub(crate) fn heads_at<'a>(
     queues[place].heads(pool, i)
 }
 
-/// The places of the queues in which a datagram waits: bit k is set where one does in that at place k.
+/// The set of queues that aren't empty: bit k is set if the queue at index k isn't.
 pub(crate) fn readable(queues: &[SockBuf]) -> u64
     requires { length queues.now ≡ MAX_SOCKETS }
     ensures { (p : PoolView) → ((k : ℕ) → IsSockBuf p (queue_at queues.now k))

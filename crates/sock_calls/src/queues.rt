@@ -10,10 +10,10 @@ use std::array;
 use std::marker::Model;
 use std::mem::ManuallyDrop;
 
-/// How many receive queues there are.
+/// The number of receive queues.
 pub(crate) const QUEUES: usize = MAX_SOCKETS as usize;
 
-/// A queue for each descriptor, from 3 on. They must be spent, by `end_empty`.
+/// A queue for each descriptor, from 3 on. They must be consumed, by `end_empty`.
 pub(crate) struct ReceiveQueues {
     // always 64
     pub(crate) queues: ArrayVec<SockBuf, QUEUES>,
@@ -33,7 +33,7 @@ impl Model for ReceiveQueues {
 }
 
 impl ReceiveQueues {
-    /// Queues in which nothing waits.
+    /// Creates empty queues.
     pub(crate) fn new() -> ReceiveQueues
         ensures empty { (k : ℕ) → queue_at result k ≡ no_datagrams }
         ensures places { length result ≡ MAX_SOCKETS }
@@ -48,7 +48,7 @@ impl ReceiveQueues {
         }
     }
 
-    /// The queues, that of descriptor 3 first.
+    /// The queues, from that of descriptor 3 on.
     pub(crate) fn as_slice(&self) -> &[SockBuf]
         ensures value { result.now ≡ self.now }
         ensures len { length result.now ≡ MAX_SOCKETS }
@@ -56,7 +56,7 @@ impl ReceiveQueues {
         self.queues.as_slice()
     }
 
-    /// How many there are: 64.
+    /// The number of queues: 64.
     pub(crate) fn len(&self) -> usize
         ensures value { result ≡ length self.now }
         ensures all { result ≡ MAX_SOCKETS }
@@ -64,13 +64,13 @@ impl ReceiveQueues {
         self.queues.len()
     }
 
-    /// Ends queues in which nothing waits.
+    /// Consumes empty queues.
     pub(crate) fn end_empty(self)
         requires { AreEmpty self }
     {
         let ReceiveQueues { queues } = self;
-        // A vector of the library gives out only what may be dropped, and a queue has to be spent. These are empty, so
-        // nothing is lost with them.
+        // The library's vector can only be taken apart if its elements may be dropped, but a queue must be consumed.
+        // These are empty, so nothing is lost.
         let _empty = unsafe { ManuallyDrop::new_unchecked(queues) };
     }
 }

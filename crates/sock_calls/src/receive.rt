@@ -1,4 +1,4 @@
-//! The oldest datagram of a receive queue, copied out.
+//! Receiving: copies the oldest datagram of a queue out.
 ghost use Rattle.std.specs.Prelude.{◌≡◌, ◌<◌, ◌≤◌, ◌∷◌, [], drop, length, take, is_some, if◌then◌else◌, IfNone, IfSome, MatchOption, ℕ};
 ghost use Rattle.flat_model.specs.Machine.State.{Datagram};
 ghost use Rattle.flat_model.specs.declared.errno.Errno.TheVariants.{BadDescriptor, WouldBlock};
@@ -15,8 +15,8 @@ use params::MAX_SOCKETS;
 use pcb_table::Pcbs;
 use sockbuf::SockBuf;
 
-/// Takes the oldest datagram of a queue, and copies as many of its bytes as there is room for; the others are lost. It
-/// answers the sender, and how many were copied; `None` where none waits.
+/// Removes the oldest datagram of a queue, and copies as many of its bytes as fit into `room`; the others are lost.
+/// Returns the sender and the number of bytes copied; `None` if the queue is empty.
 fn take_oldest(pool: &mut Pool, queue: &mut SockBuf, room: &mut [u8]) -> Option<(Addr, usize)>
     requires ready { IsSockBuf pool.old queue.old }
     ensures taken { MatchOption result ((datagrams pool.old queue.old ≡ []) × (datagrams pool.new queue.new ≡ []))
@@ -35,7 +35,7 @@ fn take_oldest(pool: &mut Pool, queue: &mut SockBuf, room: &mut [u8]) -> Option<
     Some((sender, len))
 }
 
-/// Why nothing is received of a descriptor in whose queue no datagram waits.
+/// The error of a receive from a descriptor whose queue is empty.
 pub(crate) fn refusal(pcbs: &Pcbs, fd: u32) -> Errno
     ensures { result ≡ (if is_some (block_at fd pcbs.now) then WouldBlock else BadDescriptor) }
 {
@@ -47,7 +47,7 @@ pub(crate) fn refusal(pcbs: &Pcbs, fd: u32) -> Errno
 }
 
 impl ReceiveQueues {
-    /// `take_oldest` of the queue at a place, 0 for descriptor 3.
+    /// `take_oldest` of the queue at index `place`, which is 0 for descriptor 3.
     pub(crate) fn take_at(
         &mut self,
         pool: &mut Pool,
@@ -69,7 +69,7 @@ impl ReceiveQueues {
         take_oldest(pool, &mut self.queues[place], room)
     }
 
-    /// Frees all that waits in the queue at a place.
+    /// Frees all datagrams in the queue at index `place`.
     pub(crate) fn flush_at(&mut self, pool: &mut Pool, place: usize)
         requires each { (k : ℕ) → IsSockBuf pool.old (queue_at self.old k) }
         requires owned { IsOwned pool.old (queued_chains pool.old self.old) }

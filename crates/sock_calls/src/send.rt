@@ -34,8 +34,8 @@ fn count_send(counters: &mut Counters, is_cut: bool, is_lost: bool)
 }
 
 impl Parts {
-    /// Sends a datagram by its route, and answers whether a packet of it was lost at the output queue. Its buffers have
-    /// to be free. A broadcast isn't cut.
+    /// Sends a datagram by its route, and returns whether the output queue dropped one of its packets. Its buffers must
+    /// be free. A broadcast must fit into one packet.
     fn put(
         &mut self,
         pool: &mut Pool,
@@ -82,8 +82,9 @@ impl Parts {
         is_lost
     }
 
-    /// Sends a datagram to an address that makes one packet for the link, by a socket that has a port, and answers
-    /// whether it did: all is asked before anything is made. Else nothing changes, and `send_any` has to be asked.
+    /// The short path: sends a datagram that makes one packet for the link, from a socket that has a port, and returns
+    /// true. Returns false for any other send; nothing changes then, and the caller uses `send_any`. All tests come
+    /// before anything is allocated.
     #[inline(always)]
     fn send_one(
         &self,
@@ -104,7 +105,7 @@ impl Parts {
         let Some(wants) = need_of_one(bytes.len(), net.mtu) else {
             return false;
         };
-        let Some(block) = self.pcbs.noted(fd) else {
+        let Some(block) = self.pcbs.indexed(fd) else {
             return false;
         };
         let Some(port) = self.pcbs.port_of(block) else {
@@ -130,7 +131,7 @@ impl Parts {
         true
     }
 
-    /// See `Socks::sendto`. The queues aren't touched.
+    /// See `Socks::sendto`. The receive queues don't change.
     #[inline(always)]
     pub(crate) fn send(
         &mut self,
@@ -150,7 +151,7 @@ impl Parts {
         self.send_any(pool, net, fd, to, bytes)
     }
 
-    /// Any send.
+    /// The general path, for any send.
     #[inline(never)]
     pub(crate) fn send_any(
         &mut self,

@@ -1,24 +1,18 @@
 //! Sockets: control blocks and receive queues.
-ghost use Rattle.std.specs.Prelude.{◌≡◌, ◌<◌, ◌≤◌, ◌+◌, ◌∷◌, ◌++◌, [], None, true, false, drop, length, IfOk, IsOk, OnErr};
+ghost use Rattle.std.specs.Prelude.{◌≡◌, ◌<◌, ◌+◌, [], None, drop, length, IfOk, IsOk, OnErr};
 ghost use Rattle.flat_model.specs.Machine.Event.{Open, Bind, Close, Connect, Receive, Set_option};
 ghost use Rattle.flat_model.specs.Machine.State.{State};
 ghost use Rattle.flat_model.specs.Machine.Step.{Step};
 ghost use Rattle.flat_model.specs.Machine.Replies.{opened_reply, done_reply, received_reply, FitsRoom};
-ghost use Rattle.mbuf_chain.specs.Chain.{PoolView, chain_of, string};
+ghost use Rattle.mbuf_chain.specs.Chain.{PoolView};
 ghost use Rattle.mbuf_chain.specs.Heads.{nth_heads};
-ghost use Rattle.mbuf_chain.specs.Owners.{IsOwned, Moves};
+ghost use Rattle.mbuf_chain.specs.Owners.{Moves};
 ghost use Rattle.pcb_table.specs.Table.{IsDescriptor};
 ghost use Rattle.sockbuf.specs.SockBuf.{chains_of};
-ghost use Rattle.sock_calls.specs.Delivery.{seen, IsInput};
-ghost use Rattle.sock_calls.specs.Whole.{DeliversWhole, HasOne, TakesWhole};
-ghost use Rattle.udp.specs.Checked.{is_to_all};
-ghost use Rattle.chain_ops.specs.Stored.{Has};
-ghost use Rattle.flat_model.specs.Amounts.Layout.{wire};
 ghost use Rattle.sock_calls.specs.Outgoing.{sending, CanSend, IsSent};
 ghost use Rattle.sock_calls.specs.Questions.{bytes_queued_at, memory_queued_at, next_datagram, readable, socket_name};
 ghost use Rattle.sock_calls.specs.Sockets.{AreEmpty, IsSocks, IsCalled, queue_at, queued_chains, with_sockets};
 
-use crate::delivery::Datagram;
 use crate::ending::flush_all;
 use crate::net::Net;
 use crate::parts::Parts;
@@ -28,17 +22,14 @@ use crate::questions::{
 use crate::queues::ReceiveQueues;
 use crate::receive::refusal;
 use arrayvec::ArrayVec;
-use flat_model::{Addr, Counters, Errno, Opt, Why};
-use ip_out::IpHead;
-use ledger::Waiting;
-use mbuf_chain::{Chain, MbufHeads, Pool};
-use params::{FIRST_DESCRIPTOR, IP_MAX_PACKET, MAX_SOCKETS};
+use flat_model::{Addr, Errno, Opt};
+use mbuf_chain::{MbufHeads, Pool};
+use params::{FIRST_DESCRIPTOR, MAX_SOCKETS};
 use pcb_table::{Pcbs, SOCKETS};
 use std::alloc::{AllocError, Global};
 use std::marker::Model;
-use udp::{Checked, Outcome, is_broadcast};
 
-/// The place of a descriptor's queue.
+/// The index of a descriptor's queue.
 pub(crate) fn place_of(fd: u32) -> usize
     requires { IsDescriptor fd }
     ensures value { result + FIRST_DESCRIPTOR ≡ fd }
@@ -47,11 +38,11 @@ pub(crate) fn place_of(fd: u32) -> usize
     (fd - FIRST_DESCRIPTOR) as usize
 }
 
-/// Up to 64 sockets: their control blocks, and for each descriptor its receive queue. It must be spent, by `end`.
+/// Up to 64 sockets: their control blocks, and the receive queue of each descriptor. It must be consumed, by `end`.
 pub struct Socks {
-    parts: Parts,
-    // room for the descriptors of those who hear a datagram, so that it isn't made for each one
-    hearers: ArrayVec<u32, SOCKETS>,
+    pub(crate) parts: Parts,
+    // the descriptors of the sockets that match a datagram; kept here, so that no datagram needs an array of its own
+    pub(crate) matching: ArrayVec<u32, SOCKETS>,
 }
 
 impl Model for Socks {
@@ -64,8 +55,9 @@ impl Model for Socks {
 }
 
 impl Socks {
-    /// No socket, of a machine with this address and broadcast address. Control blocks and queues are places in the
-    /// value itself, and what waits in a queue lies in the pool. So no memory is asked for, and it always answers `Ok`.
+    /// Creates it without sockets, for a machine with this address and broadcast address. Control blocks and queues are
+    /// arrays in the value itself, and queued datagrams are in the pool, so it allocates nothing and always returns
+    /// `Ok`.
     pub fn boot(_alloc: Global, addr: u32, bcast: u32) -> Result<Socks, AllocError>
         ensures ok { IsOk result }
         ensures blocks { IfOk result (λ s. s.pcbs
@@ -79,34 +71,27 @@ impl Socks {
         };
         Ok(Socks {
             parts,
-            hearers: ArrayVec::new(),
+            matching: ArrayVec::new(),
         })
     }
 
-    /// The machine's address.
-    pub fn addr(&self) -> u32
-        ensures { result ≡ self.now.pcbs.addr }
+    /// The control blocks.
+    pub fn pcbs(&self) -> &Pcbs
+        ensures { result.now ≡ self.now.pcbs }
     {
-        self.parts.pcbs.addr()
+        &self.parts.pcbs
     }
 
-    /// The machine's broadcast address.
-    pub fn bcast(&self) -> u32
-        ensures { result ≡ self.now.pcbs.bcast }
-    {
-        self.parts.pcbs.bcast()
-    }
-
-    /// What a socket is bound and connected to, and its options (`getsockname`, `getpeername` and `getsockopt` of
-    /// volume 2, chapters 15 and 17). It changes nothing. Refused: `BadDescriptor`.
+    /// The addresses that a socket is bound and connected to, and its options (`getsockname`, `getpeername` and
+    /// `getsockopt` of volume 2, chapters 15 and 17). Error: `BadDescriptor`.
     pub fn name(&self, fd: u32) -> Result<SocketName, Errno>
         ensures { (p : PoolView) (rest : State) → result ≡ socket_name fd (with_sockets p self.now rest) }
     {
         name_of(&self.parts.pcbs, fd)
     }
 
-    /// The oldest datagram that waits in a socket: its sender, how many bytes it has, and how many wait. It changes
-    /// nothing. Refused, in this order: `BadDescriptor`; `WouldBlock` where none waits.
+    /// The oldest datagram queued at a socket: its sender, its length, and the number of queued datagrams. It changes
+    /// nothing. Errors, in this order: `BadDescriptor`; `WouldBlock` if none is queued.
     pub fn next_datagram(&self, pool: &Pool, fd: u32) -> Result<NextDatagram, Errno>
         requires { IsSocks pool.now self.now }
         ensures { (rest : State) → result ≡ next_datagram fd (with_sockets pool.now self.now rest) }
@@ -117,9 +102,8 @@ impl Socks {
         }
     }
 
-    /// How many bytes wait in a socket in all, with 16 for each sender's address, 0 to 41,600 (`sb_cc` of volume 2,
-    /// chapter 16). It changes nothing, and takes a number of steps that doesn't depend on the queue. Refused:
-    /// `BadDescriptor`.
+    /// The number of bytes queued at a socket, including 16 for each sender's address, 0 to 41,600 (`sb_cc` of volume
+    /// 2, chapter 16). It changes nothing. The number of steps doesn't depend on the queue. Error: `BadDescriptor`.
     pub fn bytes_queued(&self, fd: u32) -> Result<u32, Errno>
         ensures { (p : PoolView) (rest : State) → IsSocks p self.now
             → result ≡ bytes_queued_at fd (with_sockets p self.now rest) }
@@ -130,9 +114,9 @@ impl Socks {
         }
     }
 
-    /// How much memory is behind what waits in a socket, in bytes: 128 for each mbuf, and 2048 for each reference to a
-    /// cluster (`sb_mbcnt` of volume 2, chapter 16). It changes nothing, and takes a number of steps that doesn't
-    /// depend on the queue. Refused: `BadDescriptor`.
+    /// The memory of the datagrams queued at a socket, in bytes: 128 for each mbuf, and 2048 for each reference to a
+    /// cluster (`sb_mbcnt` of volume 2, chapter 16). It changes nothing. The number of steps doesn't depend on the
+    /// queue. Error: `BadDescriptor`.
     pub fn memory_queued(&self, fd: u32) -> Result<u32, Errno>
         ensures { (p : PoolView) (rest : State) → IsSocks p self.now
             → result ≡ memory_queued_at fd (with_sockets p self.now rest) }
@@ -143,9 +127,9 @@ impl Socks {
         }
     }
 
-    /// What each mbuf of the datagram in front of which `i` others wait in a socket says of itself, and its bytes, in
-    /// order: for a drawing of them. The sender's address is in the first. `None` exactly if no more than `i` wait,
-    /// also if no such socket is open. It takes a step for each datagram in front.
+    /// The mbufs of the datagram at index `i` in a socket's queue, in order, for drawing them: each one's head fields
+    /// and its bytes. The first contains the sender's address. `None` exactly if no more than `i` datagrams are queued,
+    /// also if the socket isn't open. It takes one step for each datagram before it.
     pub fn heads<'a>(&self, pool: &'a Pool, fd: u32, i: u32) -> Option<MbufHeads<'a>>
         requires { IsSocks pool.now self.now }
         ensures { result ≡ nth_heads pool.now (chains_of pool.now (queue_at self.now.queues fd)) i }
@@ -156,8 +140,8 @@ impl Socks {
         }
     }
 
-    /// The sockets in which a datagram waits, as a set: bit k stands for descriptor 3 + k, the lowest for k = 0. It
-    /// takes one step for each of the 64 descriptors.
+    /// The set of sockets with a queued datagram: bit k is set if descriptor 3 + k has one. It takes one step for each
+    /// of the 64 descriptors.
     pub fn readable(&self) -> u64
         ensures { (p : PoolView) (rest : State) → IsSocks p self.now
             → result ≡ readable (with_sockets p self.now rest) }
@@ -165,8 +149,11 @@ impl Socks {
         readable(self.parts.queues.as_slice())
     }
 
-    /// Opens a socket, with the lowest free descriptor of 3 to 66 (volume 2 chapter 15). Refused, and then nothing
-    /// changes: `TooManyFiles` where 64 are open.
+    /// Opens a socket, with the lowest free descriptor from 3 to 66 (volume 2 chapter 15).
+    ///
+    /// # Errors
+    ///
+    /// `TooManyFiles` if 64 are open. Nothing changes then.
     pub fn socket(&mut self) -> Result<u32, Errno>
         ensures { (p : PoolView) → IsSocks p self.old → IsCalled p self.old Open (opened_reply result) self.new }
     {
@@ -175,10 +162,14 @@ impl Socks {
         opened
     }
 
-    /// Gives an unbound socket its local address, unless that is 0.0.0.0, and its port, where that is 0 an ephemeral
-    /// one (volume 2 chapter 22). Refused, and then nothing changes, in this order: `BadDescriptor`; `Invalid` where
-    /// the socket has a port or a local address; `AddressNotAvailable` where the address isn't 0.0.0.0 or one of the
-    /// machine; `AddressInUse` where the port isn't 0 and another socket stands in the way.
+    /// Binds an unbound socket: sets its local address, unless that is 0.0.0.0, and its port. Port 0 chooses an
+    /// ephemeral port (volume 2 chapter 22).
+    ///
+    /// # Errors
+    ///
+    /// Tested in this order, and nothing changes: `BadDescriptor`; `Invalid` if the socket has a port or a local
+    /// address; `AddressNotAvailable` if the address is neither 0.0.0.0 nor one of the machine's; `AddressInUse` if the
+    /// port isn't 0 and another socket prevents the bind.
     pub fn bind(&mut self, fd: u32, local: Addr) -> Result<(), Errno>
         ensures { (p : PoolView) → IsSocks p self.old
             → IsCalled p self.old (Bind fd local) (done_reply result) self.new }
@@ -188,9 +179,12 @@ impl Socks {
         done
     }
 
-    /// Connects a socket; one that is connected is disconnected first, and stays so where the call is refused (volume 2
-    /// chapter 22). Refused, in this order: `BadDescriptor`; `AddressNotAvailable` where the port is 0;
-    /// `HostUnreachable`; `AddressInUse` where another socket has the same four values.
+    /// Connects a socket (volume 2 chapter 22). A connected socket is disconnected first, and stays so on error.
+    ///
+    /// # Errors
+    ///
+    /// Tested in this order: `BadDescriptor`; `AddressNotAvailable` if the port is 0; `HostUnreachable`; `AddressInUse`
+    /// if another socket has the same four values.
     pub fn connect(&mut self, fd: u32, to: Addr) -> Result<(), Errno>
         ensures { (p : PoolView) → IsSocks p self.old
             → IsCalled p self.old (Connect fd to) (done_reply result) self.new }
@@ -200,7 +194,7 @@ impl Socks {
         done
     }
 
-    /// Sets or clears an option (volume 2 chapter 17). Refused, and then nothing changes: `BadDescriptor`.
+    /// Sets or clears an option (volume 2 chapter 17). Error: `BadDescriptor`; nothing changes then.
     pub fn setsockopt(&mut self, fd: u32, option: Opt, on: bool) -> Result<(), Errno>
         ensures { (p : PoolView) → IsSocks p self.old
             → IsCalled p self.old (Set_option fd option on) (done_reply result) self.new }
@@ -210,20 +204,22 @@ impl Socks {
         done
     }
 
-    /// Sends bytes to an address, or without one to the socket's peer, and answers how many they were. Where the
-    /// machine hears the packets too, they're put into `net.looped`, which has to be empty before. The MTU has to be 68
-    /// or more, and the machine's two addresses have to differ, with a broadcast address that isn't 127.0.0.1. The
-    /// bytes are copied once.
+    /// Sends bytes to an address, or to the socket's peer if `to` is `None`, and returns their number (`sosend`,
+    /// `udp_output` and `ip_output` of volume 2, chapters 16, 23 and 8). Packets that this machine receives too are put
+    /// into `net.looped`, which must be empty before. The MTU must be at least 68, and the machine's two addresses must
+    /// differ, with a broadcast address that isn't 127.0.0.1. The bytes are copied once. A socket without a port gets
+    /// an ephemeral one, the identification goes up, and the send is counted.
     ///
-    /// Refused, and then nothing changes, in this order: `BadDescriptor`; `DestinationRequired` without an address and
-    /// a peer; `MessageSize` above 9,216 bytes; of an address that was given `IsConnected`, `AddressNotAvailable` for
-    /// port 0, `HostUnreachable`, and `AddressInUse` where another socket has the same four values; `Access` for the
-    /// broadcast address without the option; `MessageSize` for a broadcast that the link would have to cut; `NoBufs`
-    /// of the pool where it has too few buffers now for all packets. Nothing is given back for them.
+    /// # Errors
     ///
-    /// Else a missing port is chosen, the identification is spent, and the send is counted; `NoBufs` of the queue says
-    /// that the output queue had no room for all packets: the first of them wait for the link, and what comes back does
-    /// come (`sosend`, `udp_output` and `ip_output` of volume 2, chapters 16, 23 and 8).
+    /// Tested in this order, and nothing changes: `BadDescriptor`; `DestinationRequired` without an address and a peer;
+    /// `MessageSize` above 9,216 bytes; if an address is given, `IsConnected`, `AddressNotAvailable` for port 0,
+    /// `HostUnreachable`, and `AddressInUse` if another socket has the same four values; `Access` for the broadcast
+    /// address without the option; `MessageSize` for a broadcast that needs fragments; `NoBufs` of the pool if it has
+    /// too few free buffers for all packets. No buffer is freed for them.
+    ///
+    /// After these tests, `NoBufs` of the queue means that the output queue couldn't take all packets: the first ones
+    /// are queued, and packets for this machine arrive.
     #[inline(always)]
     pub fn sendto(
         &mut self,
@@ -240,8 +236,7 @@ impl Socks {
         self.parts.send(pool, net, fd, to, bytes)
     }
 
-    /// `sendto` once more, after buffers were given back. It asks for no shorter way, so that the code of one stands
-    /// where it's mostly taken alone.
+    /// Repeats `sendto` after buffers were freed, by the general path only. So the short path is compiled once.
     pub fn resend(
         &mut self,
         pool: &mut Pool,
@@ -257,10 +252,13 @@ impl Socks {
         self.parts.send_any(pool, net, fd, to, bytes)
     }
 
-    /// Takes the oldest datagram that waits in a socket, copies as many of its bytes as there is room for, and answers
-    /// its sender and how many were copied; the others are lost, and all its buffers are freed (`soreceive` of volume
-    /// 2, chapter 16). The rest of the room stays as it was. It never blocks. Refused, and then nothing changes, the
-    /// room neither: `BadDescriptor`; `WouldBlock` where none waits.
+    /// Removes the oldest datagram from a socket's queue, copies as many of its bytes as fit into `room`, and returns
+    /// its sender and the number of bytes copied. The other bytes are lost, and all its buffers are freed (`soreceive`
+    /// of volume 2, chapter 16). The rest of `room` is unchanged. It never blocks.
+    ///
+    /// # Errors
+    ///
+    /// `BadDescriptor`; `WouldBlock` if no datagram is queued. Nothing changes then, nor does `room`.
     pub fn recvfrom(
         &mut self,
         pool: &mut Pool,
@@ -281,15 +279,15 @@ impl Socks {
         if fd < FIRST_DESCRIPTOR || fd >= FIRST_DESCRIPTOR + MAX_SOCKETS {
             return Err(Errno::BadDescriptor);
         }
-        // a datagram waits only where a socket is open, so that is asked only where none does
+        // only an open socket has a queued datagram, so this is tested only if the queue is empty
         match self.parts.queues.take_at(pool, place_of(fd), room) {
             Some(taken) => Ok(taken),
             None => Err(refusal(&self.parts.pcbs, fd)),
         }
     }
 
-    /// Closes a socket, and frees all that waits in it; packets that it sent stay where they are (volume 2 chapter 15).
-    /// Refused, and then nothing changes: `BadDescriptor`.
+    /// Closes a socket, and frees the datagrams in its queue. Packets that it sent stay in the output queue (volume 2
+    /// chapter 15). Error: `BadDescriptor`; nothing changes then.
     pub fn close(&mut self, pool: &mut Pool, fd: u32) -> Result<(), Errno>
         requires ready { IsSocks pool.old self.old }
         ensures step { (rest : State) → Step (with_sockets pool.old self.old rest) (Close fd) (done_reply result)
@@ -306,93 +304,7 @@ impl Socks {
         Ok(())
     }
 
-    /// Whether an address is one of the two broadcast addresses.
-    #[inline(always)]
-    pub fn is_broadcast(&self, ip: u32) -> bool
-        ensures { result ≡ is_to_all self.now.pcbs ip }
-    {
-        is_broadcast(&self.parts.pcbs, ip)
-    }
-
-    /// A packet from the wire that carries a whole datagram for one socket, no broadcast, and takes one mbuf, with a
-    /// cluster if `is_large`. These are free, and so is a second mbuf. The packet is stored in the queue of the socket
-    /// that matches it. Refused, and then nothing changes: `UdpNoPort` if no socket matches; `UdpFullSocket` if the
-    /// datagram doesn't fit into the queue. The caller counts the cause.
-    #[inline(always)]
-    pub fn take(&mut self, pool: &mut Pool, is_large: bool, packet: &Checked<'_>) -> Result<(), Why>
-        requires socks { IsSocks pool.old self.old }
-        requires one { HasOne pool.old (length packet.now.packet.now) is_large }
-        requires lone { is_to_all self.old.pcbs packet.now.to.ip ≡ false }
-        ensures { TakesWhole pool.old self.old packet.now.packet.now pool.new self.new result }
-    {
-        self.parts.take(pool, is_large, packet)
-    }
-
-    /// A packet of at most 65,535 bytes from the wire that carries a whole datagram, and whose buffers are free: its
-    /// data are stored in a chain of their own and put into the queues of all sockets that match, a copy into each but
-    /// the last, or it's dropped and counted (`udp_input` of volume 2, chapter 23). If a buffer is needed and none is
-    /// free, all that waits for fragments is freed first.
-    pub fn deliver<R: Waiting>(
-        &mut self,
-        pool: &mut Pool,
-        waiting: &mut R,
-        counters: &mut Counters,
-        packet: &Checked<'_>,
-    )
-        requires ready { IsSocks pool.old self.old }
-        requires waits { R.is_ready pool.old waiting.old }
-        requires owned { IsOwned pool.old (R.owned pool.old waiting.old ++ queued_chains pool.old self.old.queues) }
-        requires most { length packet.now.packet.now ≤ IP_MAX_PACKET }
-        requires free { Has pool.old (wire (length packet.now.packet.now)) }
-        ensures delivered { DeliversWhole
-            (seen pool.old self.old (R.unfinished pool.old waiting.old) (R.owned pool.old waiting.old) counters.old)
-            packet.now.packet.now
-            (seen pool.new self.new (R.unfinished pool.new waiting.new) (R.owned pool.new waiting.new) counters.new) }
-        ensures waits { R.is_ready pool.new waiting.new }
-    {
-        self.parts
-            .deliver_packet(pool, waiting, counters, &mut self.hearers, packet);
-    }
-
-    /// A whole datagram without its IP header, which said `head`: it's put into the queues of all sockets that hear it,
-    /// a copy into each but the last, or it ends and is counted (`udp_input` of volume 2, chapter 23). Where a buffer
-    /// is wanted and none is free, all that waits for fragments is given back first. The chain has at most 65,535
-    /// bytes.
-    pub fn input<R: Waiting>(
-        &mut self,
-        pool: &mut Pool,
-        waiting: &mut R,
-        counters: &mut Counters,
-        chain: Chain,
-        head: IpHead,
-    )
-        requires ready { IsSocks pool.old self.old }
-        requires waits { R.is_ready pool.old waiting.old }
-        requires owned { IsOwned pool.old
-            (chain ∷ (R.owned pool.old waiting.old ++ queued_chains pool.old self.old.queues)) }
-        requires most { length (string (chain_of pool.old chain)) ≤ IP_MAX_PACKET }
-        ensures input { IsInput
-            (seen pool.old self.old (R.unfinished pool.old waiting.old) (R.owned pool.old waiting.old) counters.old)
-            chain head.src head.dst head.proto
-            (seen pool.new self.new (R.unfinished pool.new waiting.new) (R.owned pool.new waiting.new) counters.new) }
-        ensures waits { R.is_ready pool.new waiting.new }
-    {
-        match udp::input(pool, chain, head, &mut self.parts.pcbs, &mut self.hearers) {
-            Outcome::Drop(why) => counters.count_ended(why),
-            Outcome::Deliver { from, chain } => {
-                let datagram = Datagram {
-                    sender: from,
-                    chain,
-                };
-                let hearers = self.hearers.as_slice();
-                self.parts
-                    .deliver_all(pool, waiting, counters, hearers, datagram);
-            }
-        }
-    }
-
-    /// Frees all that waits in the sockets, which may end by `end_empty` then: so they needn't be moved before. The
-    /// control blocks stay as they are.
+    /// Frees all queued datagrams, so that `end_empty` may be called. The control blocks are unchanged.
     pub fn flush(&mut self, pool: &mut Pool)
         requires { IsSocks pool.old self.old }
         ensures empty { AreEmpty self.new.queues }
@@ -402,16 +314,16 @@ impl Socks {
         flush_all(pool, &mut self.parts.queues);
     }
 
-    /// Ends sockets in which nothing waits.
+    /// Consumes sockets whose queues are empty.
     pub fn end_empty(self)
         requires { AreEmpty self.queues }
     {
-        let Socks { parts, hearers: _ } = self;
+        let Socks { parts, matching: _ } = self;
         let Parts { pcbs: _, queues } = parts;
         queues.end_empty();
     }
 
-    /// Ends all sockets, and frees all that waits in them.
+    /// Frees all queued datagrams, and consumes the sockets.
     pub fn end(self, pool: &mut Pool)
         requires { IsSocks pool.old self }
         ensures { Moves pool.old (queued_chains pool.old self.queues) pool.new [] }

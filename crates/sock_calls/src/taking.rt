@@ -1,29 +1,35 @@
-//! A packet from the wire that carries a whole datagram, from its tests to the queue of a socket.
-ghost use Rattle.std.specs.Prelude.{◌≡◌, ◌≤◌, ◌++◌, length, false};
+//! A datagram that arrives, from the lookup to the queue of a socket.
+ghost use Rattle.std.specs.Prelude.{◌≡◌, ◌+◌, ◌<◌, ◌≤◌, ◌∷◌, ◌++◌, length, true, false, if◌then◌else◌, ℕ};
 ghost use Rattle.flat_model.specs.Amounts.Layout.{wire};
+ghost use Rattle.mbuf_chain.specs.Chain.{chain_of, free_clusters, held_mbufs, string};
 ghost use Rattle.mbuf_chain.specs.Owners.{IsOwned};
 ghost use Rattle.chain_ops.specs.Stored.{Has};
+ghost use Rattle.pcb_table.specs.Table.{IsDescriptor};
+ghost use Rattle.sockbuf.specs.SockBuf.{IsSockBuf};
 ghost use Rattle.udp.specs.Checked.{is_to_all};
-ghost use Rattle.sock_calls.specs.Sockets.{IsSocks, queued_chains, from_three};
-ghost use Rattle.sock_calls.specs.Delivery.{seen};
-ghost use Rattle.sock_calls.specs.Inside.Storing.{IsDataStored};
+ghost use Rattle.sock_calls.specs.Sockets.{IsSocks, queue_at, queued_chains, from_three};
+ghost use Rattle.sock_calls.specs.Delivery.{seen, IsInput};
+ghost use Rattle.sock_calls.specs.Inside.Storing.{IsDataStored, StoresAtEnd};
 ghost use Rattle.sock_calls.specs.Inside.Parts.{socks_of};
 ghost use Rattle.sock_calls.specs.Whole.{DeliversWhole, HasOne, TakesWhole};
 
 use crate::delivery::Datagram;
 use crate::parts::Parts;
+use crate::queues::ReceiveQueues;
+use crate::sockets::{Socks, place_of};
 use arrayvec::ArrayVec;
 use chain_ops::theorems::stored_layout;
 use chain_ops::{from_wire, trim_back, trim_front};
-use flat_model::{Counters, Why};
+use flat_model::{Addr, Counters, Why};
+use ip_out::IpHead;
 use ledger::Waiting;
 use mbuf_chain::{Chain, Pool};
-use params::{IP_MAX_PACKET, IP_UDP_HEADERS};
+use params::{IP_MAX_PACKET, IP_UDP_HEADERS, MCLBYTES, MHLEN, PACKET_START};
 use pcb_table::SOCKETS;
-use udp::{Checked, matching_sockets, no_port};
+use udp::{Checked, Outcome, is_broadcast, matching_sockets, no_port};
 
 /// Copies the data of a packet of at most 65,535 bytes into a new chain, laid out as if the whole packet had been
-/// stored and its headers cut off. The buffers for the packet have to be free.
+/// stored and its headers cut off. The buffers for the packet must be free.
 fn store_data(pool: &mut Pool, packet: &Checked<'_>) -> Chain
     requires most { length packet.now.packet.now ≤ IP_MAX_PACKET }
     requires free { Has pool.old (wire (length packet.now.packet.now)) }
@@ -38,32 +44,44 @@ fn store_data(pool: &mut Pool, packet: &Checked<'_>) -> Chain
     chain
 }
 
-impl Parts {
-    /// See `Socks::take`. All tests come before any of the packet is stored.
+impl ReceiveQueues {
+    /// Stores bytes as a datagram of one mbuf at the end of a descriptor's queue, at the offset that they'd have in a
+    /// packet. The buffers must be free. Returns `UdpFullSocket` if the datagram doesn't fit into the queue; nothing
+    /// changes then.
     #[inline(always)]
-    pub(crate) fn take(
+    fn store_at(
         &mut self,
         pool: &mut Pool,
+        fd: u32,
+        sender: Addr,
         is_large: bool,
-        packet: &Checked<'_>,
+        bytes: &[u8],
     ) -> Result<(), Why>
-        requires socks { IsSocks pool.old (socks_of self.old) }
-        requires one { HasOne pool.old (length packet.now.packet.now) is_large }
-        requires lone { is_to_all self.old.pcbs packet.now.to.ip ≡ false }
-        ensures { TakesWhole pool.old (socks_of self.old) packet.now.packet.now pool.new (socks_of self.new) result }
+        requires each { (k : ℕ) → IsSockBuf pool.old (queue_at (from_three self.old) k) }
+        requires descriptor { IsDescriptor fd }
+        requires owned { IsOwned pool.old (queued_chains pool.old (from_three self.old)) }
+        requires most { IP_UDP_HEADERS + length bytes.now ≤ (if is_large then MCLBYTES else MHLEN) }
+        requires free { held_mbufs pool.old + 2 ≤ pool.old.mbufs }
+        requires cluster { is_large ≡ true → 0 < free_clusters pool.old }
+        ensures { StoresAtEnd pool.old (from_three self.old) fd sender is_large bytes.now
+            pool.new (from_three self.new) result }
     {
-        let Some(fd) = self.pcbs.lookup(packet.to.ip, packet.to.port, packet.from) else {
-            return Err(Why::UdpNoPort);
-        };
-        let data = packet.data();
-        if !self.queues.fits_at(fd, data.len() as u32) {
+        let place = place_of(fd);
+        if !self.queues[place].fits(bytes.len() as u32) {
             return Err(Why::UdpFullSocket);
         }
-        self.queues.store_at(pool, fd, packet.from, is_large, data);
+        let start = if is_large {
+            IP_UDP_HEADERS
+        } else {
+            PACKET_START + IP_UDP_HEADERS
+        };
+        self.queues[place].store(pool, sender, is_large, start, bytes);
         Ok(())
     }
+}
 
-    /// See `Socks::deliver`. `matching` is room for the sockets that match.
+impl Parts {
+    /// See `Socks::deliver`. `matching` receives the sockets that match.
     pub(crate) fn deliver_packet<R: Waiting>(
         &mut self,
         pool: &mut Pool,
@@ -99,5 +117,106 @@ impl Parts {
         };
         let fds = matching.as_slice();
         self.deliver_all(pool, waiting, counters, fds, datagram);
+    }
+}
+
+impl Socks {
+    /// Whether the address is one of the two broadcast addresses.
+    // A core for size (portable/core) replaces its result by `true`, so that each datagram takes the general path.
+    #[inline(always)]
+    pub fn is_broadcast(&self, ip: u32) -> bool
+        ensures { result ≡ is_to_all self.now.pcbs ip }
+    {
+        is_broadcast(&self.parts.pcbs, ip)
+    }
+
+    /// Stores a packet from the wire that carries a whole datagram for one socket in the queue of the socket that
+    /// matches it. The packet isn't a broadcast and takes one mbuf, with a cluster if `is_large`. These must be free,
+    /// and a second mbuf too. All tests come before any of the packet is stored.
+    ///
+    /// # Errors
+    ///
+    /// `UdpNoPort` if no socket matches; `UdpFullSocket` if the datagram doesn't fit into the queue. Nothing changes
+    /// then, and the caller counts the cause.
+    #[inline(always)]
+    pub fn take(&mut self, pool: &mut Pool, is_large: bool, packet: &Checked<'_>) -> Result<(), Why>
+        requires socks { IsSocks pool.old self.old }
+        requires one { HasOne pool.old (length packet.now.packet.now) is_large }
+        requires lone { is_to_all self.old.pcbs packet.now.to.ip ≡ false }
+        ensures { TakesWhole pool.old self.old packet.now.packet.now pool.new self.new result }
+    {
+        let Some(fd) = self
+            .parts
+            .pcbs
+            .lookup(packet.to.ip, packet.to.port, packet.from)
+        else {
+            return Err(Why::UdpNoPort);
+        };
+        self.parts
+            .queues
+            .store_at(pool, fd, packet.from, is_large, packet.data())
+    }
+
+    /// Delivers a packet of at most 65,535 bytes from the wire that carries a whole datagram, and whose buffers are
+    /// free. Its data are stored in a chain of their own and put into the queues of all sockets that match, a copy into
+    /// each but the last; or it's dropped and counted (`udp_input` of volume 2, chapter 23). If a copy or an address
+    /// needs a buffer and none is free, all unfinished datagrams are freed first.
+    pub fn deliver<R: Waiting>(
+        &mut self,
+        pool: &mut Pool,
+        waiting: &mut R,
+        counters: &mut Counters,
+        packet: &Checked<'_>,
+    )
+        requires ready { IsSocks pool.old self.old }
+        requires waits { R.is_ready pool.old waiting.old }
+        requires owned { IsOwned pool.old (R.owned pool.old waiting.old ++ queued_chains pool.old self.old.queues) }
+        requires most { length packet.now.packet.now ≤ IP_MAX_PACKET }
+        requires free { Has pool.old (wire (length packet.now.packet.now)) }
+        ensures delivered { DeliversWhole
+            (seen pool.old self.old (R.unfinished pool.old waiting.old) (R.owned pool.old waiting.old) counters.old)
+            packet.now.packet.now
+            (seen pool.new self.new (R.unfinished pool.new waiting.new) (R.owned pool.new waiting.new) counters.new) }
+        ensures waits { R.is_ready pool.new waiting.new }
+    {
+        self.parts
+            .deliver_packet(pool, waiting, counters, &mut self.matching, packet);
+    }
+
+    /// Delivers a whole datagram in a chain, without its IP header, whose fields are in `head`: it's put into the
+    /// queues of all sockets that match, a copy into each but the last; or it's dropped and counted (`udp_input` of
+    /// volume 2, chapter 23). If a buffer is needed and none is free, all unfinished datagrams are freed first. The
+    /// chain has at most 65,535 bytes.
+    pub fn input<R: Waiting>(
+        &mut self,
+        pool: &mut Pool,
+        waiting: &mut R,
+        counters: &mut Counters,
+        chain: Chain,
+        head: IpHead,
+    )
+        requires ready { IsSocks pool.old self.old }
+        requires waits { R.is_ready pool.old waiting.old }
+        requires owned { IsOwned pool.old
+            (chain ∷ (R.owned pool.old waiting.old ++ queued_chains pool.old self.old.queues)) }
+        requires most { length (string (chain_of pool.old chain)) ≤ IP_MAX_PACKET }
+        ensures input { IsInput
+            (seen pool.old self.old (R.unfinished pool.old waiting.old) (R.owned pool.old waiting.old) counters.old)
+            chain head.src head.dst head.proto
+            (seen pool.new self.new (R.unfinished pool.new waiting.new) (R.owned pool.new waiting.new) counters.new) }
+        ensures waits { R.is_ready pool.new waiting.new }
+    {
+        match udp::input(pool, chain, head, &mut self.parts.pcbs, &mut self.matching) {
+            Outcome::Drop(why) => counters.count_ended(why),
+            Outcome::Deliver { from, chain } => {
+                let datagram = Datagram {
+                    sender: from,
+                    chain,
+                };
+                let matching = self.matching.as_slice();
+                self.parts
+                    .deliver_all(pool, waiting, counters, matching, datagram);
+            }
+        }
     }
 }

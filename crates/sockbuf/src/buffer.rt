@@ -1,20 +1,25 @@
 //! The queue and its calls.
 
-ghost use Rattle.std.specs.Prelude.{◌≡◌, ◌+◌, ◌*◌, ◌==◌, ◌<◌, ◌≤◌, ◌∷◌, [], ◌++◌, true, length, MatchOption, Ok, ℕ};
+ghost use Rattle.std.specs.Prelude.{◌≡◌, ◌+◌, ◌*◌, ◌==◌, ◌<◌, ◌≤◌, ◌∷◌, [], ◌++◌, true, false, length, if◌then◌else◌, MatchOption, Ok, Option, ℕ};
 ghost use Rattle.params.specs.declared.TheConstants.{MAX_MBUFS, MCLBYTES};
 ghost use Rattle.flat_model.specs.Sockets.Fits as flat;
-ghost use Rattle.mbuf_chain.specs.Chain.{IsLive, PoolView, chain_of, held_mbufs, string};
+ghost use Rattle.mbuf_chain.specs.Chain.{Adds, IsLive, PoolView, chain_of, free_clusters, held_mbufs, string};
 ghost use Rattle.mbuf_chain.specs.Heads.{nth_heads};
 ghost use Rattle.mbuf_chain.specs.Owners.{times_among, Moves};
+ghost use Rattle.mbuf_chain.specs.Steps.{one_mbuf};
 ghost use Rattle.ledger.specs.Accounts.{weight_at};
 ghost use Rattle.sockbuf.specs.Questions.{oldest_of};
+ghost use Rattle.sockbuf.specs.Stored.{IsTaken, StoresAt};
 ghost use Rattle.sockbuf.specs.SockBuf.{AppendsAddr, IsEmpty, IsSockBuf, TakesOldest, chains_of, datagram_from, datagrams, memory_of, no_datagrams};
 
-use crate::address::{sockaddr_in, with_address};
+use crate::address::{sockaddr_bytes, sockaddr_in};
 use crate::measure::memory_of;
 use flat_model::Addr;
 use mbuf_chain::{Chain, MbufHeads, Pool, Reclaim, Train};
-use params::{MSIZE, SOCKADDR_BYTES, UDP_RECEIVE_MEMORY, UDP_RECEIVE_SPACE};
+use params::{
+    MBUF_HEADER, MCLBYTES, MSIZE, PACKET_START, SOCKADDR_BYTES, UDP_RECEIVE_MEMORY,
+    UDP_RECEIVE_SPACE,
+};
 use std::alloc::{AllocError, Global};
 use std::marker::Model;
 use thiserror::Error;
@@ -50,6 +55,30 @@ impl Model for SockBuf {
     ghost view = { λ b. record { train = b.train; cc = b.cc; mbcnt = b.mbcnt } };
 }
 
+/// Makes a chain of one mbuf with the bytes from offset `start`, in a cluster of its own or in the mbuf's data area.
+/// The buffers must be free.
+#[inline(always)]
+fn one_mbuf(pool: &mut Pool, is_large: bool, start: u32, bytes: &[u8]) -> Chain
+    requires low { MBUF_HEADER ≤ start }
+    requires high { start + length bytes.now ≤ (if is_large then MCLBYTES else MSIZE) }
+    requires free { held_mbufs pool.old < pool.old.mbufs }
+    requires cluster { is_large ≡ true → 0 < free_clusters pool.old }
+    ensures { (o : Option ℕ) × IsTaken pool.old is_large o × Adds pool.old pool.new result
+        (one_mbuf false (record { bytes = bytes.now; start = start; cluster = o }) result) }
+{
+    if is_large {
+        let Ok(chain) = pool.new_cluster_with(false, start, bytes) else {
+            unreachable!()
+        };
+        chain
+    } else {
+        let Ok(chain) = pool.new_plain_with(false, start, bytes) else {
+            unreachable!()
+        };
+        chain
+    }
+}
+
 impl SockBuf {
     /// Creates an empty queue. It fits every pool.
     pub const fn new() -> SockBuf
@@ -62,7 +91,7 @@ impl SockBuf {
         }
     }
 
-    /// Creates an empty queue, as `new` does, for a caller that boots it like the other parts of a stack. The queued
+    /// Creates an empty queue like `new`, for a caller that boots it like the other parts of a stack. The queued
     /// datagrams are in the pool, so this allocates nothing and always returns `Ok`.
     pub fn boot(_alloc: Global) -> Result<SockBuf, AllocError>
         ensures { result ≡ Ok no_datagrams }
@@ -162,8 +191,8 @@ impl SockBuf {
         Ok(())
     }
 
-    /// Appends a datagram of `len` bytes, as `append_addr` does, for a caller that has made the tests: it must fit, and
-    /// an mbuf must be free.
+    /// Appends a datagram of `len` bytes like `append_addr`, for a caller that has made the tests: it must fit, and an
+    /// mbuf must be free.
     // Inlined, because a stack appends in only one place.
     #[inline(always)]
     pub fn append_fitting(&mut self, pool: &mut Pool, sender: Addr, chain: Chain, len: u32)
@@ -206,11 +235,35 @@ impl SockBuf {
         ensures moves { Moves pool.old (chain ∷ chains_of pool.old self.old) pool.new (chains_of pool.new self.new) }
     {
         pool.laws();
-        let whole = with_address(pool, sender, chain, len);
+        let Ok(whole) = pool.new_plain_with(true, PACKET_START, &sockaddr_bytes(sender)) else {
+            unreachable!()
+        };
+        let first = pool.first(&whole);
+        pool.link_counted(&whole, first, chain, len);
         let end = self.train.len();
         self.train.insert(pool, end, whole, 0);
         self.cc += SOCKADDR_BYTES + len;
         self.mbcnt += MSIZE + memory;
+    }
+
+    /// Appends a datagram of one mbuf, after an mbuf with its sender's address. The bytes go into a cluster or into the
+    /// mbuf's own data area, from offset `start`. They must fit there and into the queue, and the buffers must be free.
+    // Inlined, because a stack stores in only one place.
+    #[inline(always)]
+    pub fn store(&mut self, pool: &mut Pool, sender: Addr, is_large: bool, start: u32, bytes: &[u8])
+        requires ready { IsSockBuf pool.old self.old }
+        requires low { MBUF_HEADER ≤ start }
+        requires high { start + length bytes.now ≤ (if is_large then MCLBYTES else MSIZE) }
+        requires fits { flat.fits (datagrams pool.old self.old) (length bytes.now) ≡ true }
+        requires free { held_mbufs pool.old + 2 ≤ pool.old.mbufs }
+        requires cluster { is_large ≡ true → 0 < free_clusters pool.old }
+        ensures stores { StoresAt pool.old self.old sender is_large bytes.now pool.new self.new }
+        ensures ready { IsSockBuf pool.new self.new }
+        ensures moves { Moves pool.old (chains_of pool.old self.old) pool.new (chains_of pool.new self.new) }
+    {
+        let chain = one_mbuf(pool, is_large, start, bytes);
+        let memory = if is_large { MSIZE + MCLBYTES } else { MSIZE };
+        self.append_sized(pool, sender, chain, bytes.len() as u32, memory);
     }
 
     /// Removes the oldest datagram and returns its sender and its chain. The chain's mbufs are those that were queued;

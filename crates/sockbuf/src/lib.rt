@@ -8,6 +8,5 @@
 mod address;
 mod buffer;
 mod measure;
-mod stored;
 
 pub use buffer::{Refusal, SockBuf};

@@ -21,7 +21,7 @@ use Rattle.chain_ops.specs.Weights.{laid_entries}
 use Rattle.ip_out.specs.declared.head.IpHead.{IpHead}
 use Rattle.pcb_table.specs.declared.block.Block.{Block}
 use Rattle.pcb_table.specs.Table.{Queues, Table, machine, socket_with}
-use Rattle.udp.specs.Datagrams.{IsForSockets, IsDropped, IsUnheard, with_udp_header, fault_of, sender_of, without_header}
+use Rattle.udp.specs.Datagrams.{IsForSockets, IsDropped, IsUnmatched, with_udp_header, fault_of, sender_of, without_header}
 use Rattle.udp.proofs.Building.{header_length}
 
 -- ---- the flat machine's arrival, for every rest of the machine
@@ -35,43 +35,43 @@ untested : (h : IpHead) (s : List ℕ) (o : Option Why) → fault_of h s ≡ o �
 untested h s o e not17 = sym (ap (λ t. cond t (udp_fault h.src h.dst s) (Some NoProtocol)) not17) ∙ e
 
 module _ (L : Ledger) (held : Weight) where
-  some_hear : (sender : Addr) (item : Item) (destination : ℕ) (sockets : List Socket) (old new : State)
+  some_match : (sender : Addr) (item : Item) (destination : ℕ) (sockets : List Socket) (old new : State)
       → 0 < length sockets → Delivers L held sender item sockets old new
       → GoesTo L held sender item destination sockets old new
-  some_hear sender item destination [] old new some delivers = absurd (omega arith)
-  some_hear sender item destination (to ∷ more) old new some delivers = delivers
+  some_match sender item destination [] old new some delivers = absurd (omega arith)
+  some_match sender item destination (to ∷ more) old new some delivers = delivers
 
   -- One that is delivered arrives so, whatever becomes of its deliveries. It may weigh anything.
   pub delivered_arrives : (p q : PoolView) (c d : ℕ) (h : IpHead) (t : Table) (to : List ℕ) (from : Addr) (w : Weight)
       → (is : IsForSockets p c h t q to from d)
       → (rest new : State) (queues : Queues)
       → Delivers L held from (record { bytes = udp_bytes (string (chain_of p c)); weight = w })
-      (map (socket_with queues) is.heard.found) (machine rest queues t) new
+      (map (socket_with queues) is.matched.found) (machine rest queues t) new
       → WholeArrives L held h.src h.dst h.proto (record { bytes = string (chain_of p c); weight = w })
       (machine rest queues t) new
   delivered_arrives p q c d h t to from w is rest new queues delivers =
       let s : List ℕ = string (chain_of p c) in
       let old : State = machine rest queues t in
-      let some : 0 < length (map (socket_with queues) is.heard.found) =
+      let some : 0 < length (map (socket_with queues) is.matched.found) =
       omega (
         arith,
         is.some,
-        ap (λ (xs : List ℕ). length xs) is.heard.named,
-        length-map is.heard.found (λ (b : Block). b.fd),
-        length-map is.heard.found (socket_with queues),
+        ap (λ (xs : List ℕ). length xs) is.matched.named,
+        length-map is.matched.found (λ (b : Block). b.fd),
+        length-map is.matched.found (socket_with queues),
       ) in
       let goes : GoesTo L held (sender_of h s) (record { bytes = udp_bytes s; weight = w }) h.dst
-      (map (socket_with queues) is.heard.found) old new =
-      some_hear (sender_of h s) (record { bytes = udp_bytes s; weight = w }) h.dst
-      (map (socket_with queues) is.heard.found) old new some
+      (map (socket_with queues) is.matched.found) old new =
+      some_match (sender_of h s) (record { bytes = udp_bytes s; weight = w }) h.dst
+      (map (socket_with queues) is.matched.found) old new some
       (subst (λ (a : Addr). Delivers L held a (record { bytes = udp_bytes s; weight = w })
-      (map (socket_with queues) is.heard.found) old new) is.sender delivers) in
+      (map (socket_with queues) is.matched.found) old new) is.sender delivers) in
       record {
         yes = λ is17. record {
           none =
               λ _. subst (λ (sockets : List Socket). GoesTo L held (sender_of h s)
               (record { bytes = udp_bytes s; weight = w }) h.dst sockets old new) (sym
-              (is.heard.sockets rest queues)) goes;
+              (is.matched.sockets rest queues)) goes;
           some = λ why e. absurd (none-some why (sym (tested h s None is.faultless is17) ∙ e));
         };
         no = λ not17. absurd (none-some NoProtocol (sym (untested h s None is.faultless not17)));
@@ -95,7 +95,7 @@ module _ (L : Ledger) (held : Weight) where
       nobody [] e = refl
       nobody (b ∷ found) e = absurd (omega (arith, ap (λ (xs : List ℕ). length xs) e))
 
-      go : (fault_of h s ≡ Some why) ⊎ IsUnheard h t s why
+      go : (fault_of h s ≡ Some why) ⊎ IsUnmatched h t s why
           → WholeArrives L held h.src h.dst h.proto (record { bytes = s; weight = w }) old (ends why old)
       go (inl fault) = record {
         yes = λ is17. record {
@@ -107,16 +107,16 @@ module _ (L : Ledger) (held : Weight) where
         no = λ not17. ap (λ (y : Why). ends y old)
             (sym (same_Some NoProtocol why (untested h s (Some why) fault not17)));
       }
-      go (inr unheard) = record {
+      go (inr unmatched) = record {
         yes = λ is17. record {
           none =
               λ _. subst (λ (sockets : List Socket). GoesTo L held (sender_of h s)
               (record { bytes = udp_bytes s; weight = w }) h.dst sockets old (ends why old))
-              (sym (unheard.heard.sockets rest queues ∙ nobody unheard.heard.found unheard.heard.named))
-              (ap (λ (y : Why). ends y old) (unheard.counted rest queues));
-          some = λ other e. absurd (none-some other (sym (tested h s None unheard.faultless is17) ∙ e));
+              (sym (unmatched.matched.sockets rest queues ∙ nobody unmatched.matched.found unmatched.matched.named))
+              (ap (λ (y : Why). ends y old) (unmatched.counted rest queues));
+          some = λ other e. absurd (none-some other (sym (tested h s None unmatched.faultless is17) ∙ e));
         };
-        no = λ not17. absurd (none-some NoProtocol (sym (untested h s None unheard.faultless not17)));
+        no = λ not17. absurd (none-some NoProtocol (sym (untested h s None unmatched.faultless not17)));
       }
 
 -- ---- weights

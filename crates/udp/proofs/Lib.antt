@@ -1,5 +1,5 @@
 pub mod Laws
-mod Hearing
+mod Matching
 mod Cutting
 mod Summing
 mod Building

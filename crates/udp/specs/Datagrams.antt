@@ -1,4 +1,4 @@
--- A datagram in a chain: what is written of it when it's sent, and what becomes of it when it came (RFC 768;
+-- A datagram in a chain: what is written of it when it's sent, and what happens to one that arrives (RFC 768;
 -- `udp_output` and `udp_input` of TCP/IP Illustrated, volume 2, chapter 23).
 use Rattle.std.specs.Prelude.{◌≡◌, ◌⊎◌, ℕ, ◌<◌, ◌≤◌, ◌==◌, if◌then◌else◌, List, [], ◌∷◌, length, take, drop, map, All, Option, Some, None}
 use Rattle.params.specs.declared.TheConstants.{IP_HEADER, IP_UDP_HEADERS, PROTOCOL_UDP, UDP_HEADER}
@@ -27,29 +27,29 @@ with_udp_header src dst sport dport v =
     with_entry v 0 (overwritten (entry_of v 0) IP_HEADER
     (take UDP_HEADER (udp src dst sport dport (drop IP_UDP_HEADERS (string v)))))
 
--- ---- come
+-- ---- received
 
--- a datagram of n bytes cut to its data: what stands after them goes, and then the header; no mbuf goes
+-- a datagram of n bytes trimmed to its data: the bytes after them are removed, and then the header; no mbuf is
 abbrev pub without_header : ℕ → ChainView → ChainView
 without_header n v = record v { entries = without_first UDP_HEADER (only_first n v.entries) }
 
 abbrev pub sender_of : IpHead → List ℕ → Addr
 sender_of h s = record { ip = h.src; port = u16_at 0 s }
 
--- what a datagram asks for: its four values
+-- the lookup key of a datagram: its four values
 abbrev pub key_by : IpHead → List ℕ → LookupKey
 key_by h s = packet_key h.dst (u16_at 2 s) (sender_of h s)
 
--- what ends it before anybody is looked for
+-- the fault for which it's dropped before the lookup
 abbrev pub fault_of : IpHead → List ℕ → Option Why
 fault_of h s = if h.proto == PROTOCOL_UDP then udp_fault h.src h.dst s else Some NoProtocol
 
--- In each machine that has these blocks the sockets of these descriptors hear it, in this order, and no others.
-pub record AreHearers (t : Table) (destination : ℕ) (q : LookupKey) (fds : List ℕ) : Type 0 where
+-- In each machine that has these blocks, exactly the sockets of these descriptors match, in this order.
+pub record AreMatching (t : Table) (destination : ℕ) (q : LookupKey) (fds : List ℕ) : Type 0 where
   pub found : List Block
   pub named : fds ≡ map (λ b. b.fd) found
   pub once : (fd : ℕ) → times fd fds ≤ 1
-  pub held : All (λ b. block_at b.fd t ≡ Some b) found
+  pub are_open : All (λ b. block_at b.fd t ≡ Some b) found
   pub sockets : (rest : State) (queues : Queues)
       → hearers (machine rest queues t) destination q ≡ map (socket_with queues) found
 
@@ -58,29 +58,29 @@ pub record IsForSockets (p : PoolView) (c : ℕ) (h : IpHead) (t : Table) (q : P
     (d : ℕ) : Type 0 where
   pub faultless : fault_of h (string (chain_of p c)) ≡ None
   pub sender : from ≡ sender_of h (string (chain_of p c))
-  pub heard : AreHearers t h.dst (key_by h (string (chain_of p c))) to
+  pub matched : AreMatching t h.dst (key_by h (string (chain_of p c))) to
   pub some : 0 < length to
   pub same : d ≡ c
   pub chain : q ≡ with_chain p c (without_header (u16_at 4 (string (chain_of p c))) (chain_of p c))
   pub bytes : string (chain_of q c) ≡ udp_bytes (string (chain_of p c))
 
--- nobody hears it, and it's counted so
-pub record IsUnheard (h : IpHead) (t : Table) (s : List ℕ) (why : Why) : Type 0 where
+-- no socket matches, and this is the cause that counts it
+pub record IsUnmatched (h : IpHead) (t : Table) (s : List ℕ) (why : Why) : Type 0 where
   pub faultless : fault_of h s ≡ None
-  pub heard : AreHearers t h.dst (key_by h s) []
+  pub matched : AreMatching t h.dst (key_by h s) []
   pub counted : (rest : State) (queues : Queues) → why ≡ no_port (machine rest queues t) h.dst
 
 -- from p to q, chain c was freed, for this cause
 pub record IsDropped (p : PoolView) (c : ℕ) (h : IpHead) (t : Table) (q : PoolView) (why : Why) : Type 0 where
-  pub cause : (fault_of h (string (chain_of p c)) ≡ Some why) ⊎ IsUnheard h t (string (chain_of p c)) why
+  pub cause : (fault_of h (string (chain_of p c)) ≡ Some why) ⊎ IsUnmatched h t (string (chain_of p c)) why
   pub freed : q ≡ without p c
 
--- what becomes of a datagram, and the descriptors of those who get it
+-- what happens to a datagram, and the descriptors of the sockets that receive it
 abbrev pub IsUdpInput : PoolView → ℕ → IpHead → Table → PoolView → List ℕ → Outcome → Type 0
 IsUdpInput p c h t q to (Deliver from chain) = IsForSockets p c h t q to from chain
 IsUdpInput p c h t q to (Drop why) = (to ≡ []) × IsDropped p c h t q why
 
--- the chains in hand then
+-- the chains that the caller has then
 abbrev pub outcome_chains : Outcome → List ℕ
 outcome_chains (Deliver from chain) = chain ∷ []
 outcome_chains (Drop why) = []

@@ -1,23 +1,21 @@
 //! A UDP datagram that is read in place, before any of it is stored.
-ghost use Rattle.std.specs.Prelude.{◌≡◌, ◌+◌, ◌≤◌, None, Some, length, take, drop, IfOk, IfErr};
-ghost use Rattle.flat_model.specs.Packets.Header.{udp_fault};
-ghost use Rattle.udp.specs.Checked.{IsChecked, datagram_fault};
+ghost use Rattle.std.specs.Prelude.{◌≡◌, ◌+◌, ◌≤◌, Some, length, take, drop, IfOk, IfErr};
+ghost use Rattle.udp.specs.Checked.{IsChecked, datagram_fault, is_to_all, unmatched};
 ghost use Rattle.pcb_table.specs.Table.{packet_key};
-ghost use Rattle.udp.specs.Datagrams.{AreHearers};
+ghost use Rattle.udp.specs.Datagrams.{AreMatching};
 ghost use Rattle.udp.specs.Inside.{has_right_sum, header_in};
 
-use crate::arrival::find_hearers;
-use crate::header::{Header, header_of};
-use crate::sums::pseudo_sum;
+use crate::arrival::find_matching;
+use crate::header::{Header, header_of, pseudo_sum};
 use arrayvec::ArrayVec;
 use flat_model::{Addr, Why};
 use in_cksum::Sum;
 use ip_out::Headed;
-use params::{IP_HEADER, IP_UDP_HEADERS, PROTOCOL_UDP, UDP_HEADER};
+use params::{IP_HEADER, IP_UDP_HEADERS, LIMITED_BROADCAST, PROTOCOL_UDP, UDP_HEADER};
 use pcb_table::{Pcbs, SOCKETS};
 
-/// A packet that carries a UDP datagram, both without a fault, as `read` found. The value proves it, so no caller tests
-/// the packet again.
+/// A packet that carries a UDP datagram, both without a fault: `read` has tested them. The value proves it, so no
+/// caller tests the packet again.
 #[derive(Clone, Copy, Drop)]
 pub struct Checked<'a> {
     /// The bytes as received. The first 28 are the headers.
@@ -47,26 +45,6 @@ fn has_right_sum(carried: &[u8], header: Header, from: u32, to: u32) -> bool
     sum.finish() == 0
 }
 
-/// The header of a datagram that lies in one slice, or the first test that it fails.
-#[inline(always)]
-fn examine(carried: &[u8], from: u32, to: u32) -> Result<Header, Why>
-    ensures ok { IfOk result (λ header. (udp_fault from to carried.now ≡ None) × (header ≡ header_in carried.now)) }
-    ensures size { IfOk result (λ header. (UDP_HEADER ≤ header.len) × (header.len ≤ length carried.now)) }
-    ensures err { IfErr result (λ why. udp_fault from to carried.now ≡ Some why) }
-{
-    let Some((front, _)) = carried.split_first_chunk() else {
-        return Err(Why::UdpHeaderDrops);
-    };
-    let header = header_of(front);
-    if carried.len() < header.len as usize || (header.len as u32) < UDP_HEADER {
-        return Err(Why::UdpBadLength);
-    }
-    if !has_right_sum(carried, header, from, to) {
-        return Err(Why::UdpBadSum);
-    }
-    Ok(header)
-}
-
 /// Reads the datagram in a packet in place. Returns the first test that fails: the protocol isn't UDP (`NoProtocol`);
 /// the packet carries fewer than 8 bytes (`UdpHeaderDrops`); the UDP length is above the number of bytes carried, or
 /// below 8 (`UdpBadLength`); the checksum isn't 0 and is wrong (`UdpBadSum`).
@@ -79,10 +57,17 @@ pub fn read(packet: Headed<'_>) -> Result<Checked<'_>, Why>
     if head.proto != PROTOCOL_UDP {
         return Err(Why::NoProtocol);
     }
-    let header = match examine(packet.carried(), head.src, head.dst) {
-        Ok(header) => header,
-        Err(why) => return Err(why),
+    let carried = packet.carried();
+    let Some((front, _)) = carried.split_first_chunk() else {
+        return Err(Why::UdpHeaderDrops);
     };
+    let header = header_of(front);
+    if carried.len() < header.len as usize || (header.len as u32) < UDP_HEADER {
+        return Err(Why::UdpBadLength);
+    }
+    if !has_right_sum(carried, header, head.src, head.dst) {
+        return Err(Why::UdpBadSum);
+    }
     let from = Addr {
         ip: head.src,
         port: header.source,
@@ -111,19 +96,38 @@ impl<'a> Checked<'a> {
     }
 }
 
-/// Puts the descriptors of the sockets that match a packet into `matching`: for a broadcast all, the youngest first,
-/// else the best match. What was there goes. No control block changes.
+/// Whether the address is one of the two broadcast addresses.
+#[inline(always)]
+pub fn is_broadcast(pcbs: &Pcbs, ip: u32) -> bool
+    ensures { result ≡ is_to_all pcbs.now ip }
+{
+    ip == pcbs.bcast() || ip == LIMITED_BROADCAST
+}
+
+/// The cause that counts a datagram for this address that no socket matches.
+pub fn no_port(pcbs: &Pcbs, destination: u32) -> Why
+    ensures { result ≡ unmatched pcbs.now destination }
+{
+    if is_broadcast(pcbs, destination) {
+        Why::UdpNoPortBroadcast
+    } else {
+        Why::UdpNoPort
+    }
+}
+
+/// Replaces the contents of `matching` by the descriptors of the sockets that match a packet: for a broadcast all of
+/// them, the youngest first, otherwise the best match. No control block changes.
 pub fn matching_sockets(
     pcbs: &mut Pcbs,
     packet: &Checked<'_>,
     matching: &mut ArrayVec<u32, SOCKETS>,
 )
-    ensures found { AreHearers pcbs.old packet.now.to.ip
+    ensures found { AreMatching pcbs.old packet.now.to.ip
         (packet_key packet.now.to.ip packet.now.to.port packet.now.from) matching.new.items }
     ensures blocks { pcbs.new ≡ pcbs.old }
 {
     // Popping the usual single entry takes fewer steps than clearing an array.
     let _ = matching.pop();
     matching.clear();
-    find_hearers(pcbs, packet.to.ip, packet.to.port, packet.from, matching);
+    find_matching(pcbs, packet.to.ip, packet.to.port, packet.from, matching);
 }

@@ -4,8 +4,7 @@ ghost use Rattle.flat_model.specs.Packets.Header.{udp};
 ghost use Rattle.mbuf_chain.specs.Chain.{IsLive, chain_of, entry_of, string, with_chain};
 ghost use Rattle.udp.specs.Datagrams.{with_udp_header};
 
-use crate::header::{Header, to_bytes};
-use crate::sums::headers_sum;
+use crate::header::{Header, headers_sum, to_bytes};
 use flat_model::Addr;
 use in_cksum::cksum_chain;
 use mbuf_chain::{Chain, Pool};
@@ -38,9 +37,8 @@ pub fn header_for(from: Addr, to: Addr, bytes: &[u8]) -> [u8; 8]
 /// Writes the UDP header of a datagram from one address and port to another, with its checksum. A computed 0 is written
 /// as 65,535 (`udp_output` of volume 2, chapter 23; RFC 768).
 ///
-/// The chain is the whole packet: its first mbuf is plain and has the 28 bytes of both headers, of which the first 20
-/// are left as they are, and the data follows. It has at most 65,535 bytes. Nothing is taken and nothing can be
-/// refused: 8 bytes are written over, and every mbuf is where it was.
+/// The chain is the whole packet, of at most 65,535 bytes: its first mbuf is plain and has the 28 bytes of both
+/// headers, and the data follows. 8 bytes are overwritten, after the first 20. Nothing is allocated, and it can't fail.
 #[inline(always)]
 pub fn build(pool: &mut Pool, chain: &Chain, from: Addr, to: Addr)
     requires live { IsLive pool.old chain.now }

@@ -1,13 +1,16 @@
-//! The 8 bytes in front of a datagram.
-ghost use Rattle.std.specs.Prelude.{◌≡◌, ℕ, List, ◌+◌, ◌≤◌, ◌++◌, length, take, drop};
-ghost use Rattle.flat_model.specs.Packets.Header.{two_bytes, u16_at};
+//! The header of a datagram, and its checksum (RFC 768; RFC 1071).
+ghost use Rattle.std.specs.Prelude.{◌≡◌, ℕ, List, ◌+◌, ◌≤◌, ◌++◌, if◌then◌else◌, None, Some, length, take, drop};
+ghost use Rattle.flat_model.specs.Packets.Header.{pseudo_header, two_bytes, u16_at, udp_fault};
+ghost use Rattle.flat_model.specs.declared.counters.Why.TheVariants.{UdpBadSum};
 ghost use Rattle.mbuf_chain.specs.Chain.{IsLive, chain_of, string};
-ghost use Rattle.udp.specs.Inside.{header_bytes, header_in};
+ghost use Rattle.in_cksum.specs.Partial.{sum_of};
+ghost use Rattle.udp.specs.Inside.{header_bytes, header_in, has_right_sum};
 
 use byteorder::{BigEndian, ByteOrder};
 use chain_ops::m_copydata;
+use in_cksum::{Sum, cksum_chain};
 use mbuf_chain::{Chain, Pool};
-use params::UDP_HEADER;
+use params::{PROTOCOL_UDP, UDP_HEADER};
 
 /// Bytes of a header.
 pub(crate) const HEADER: usize = UDP_HEADER as usize;
@@ -17,13 +20,13 @@ pub(crate) const HEADER: usize = UDP_HEADER as usize;
 pub(crate) struct Header {
     pub(crate) source: u16,
     pub(crate) destination: u16,
-    // of header and data
+    // the length of header and data
     pub(crate) len: u16,
-    // 0 where there is none
+    // 0: no checksum
     pub(crate) sum: u16,
 }
 
-/// The number of 16 bits in the bytes from a place on.
+/// Reads a 16-bit number at offset `at`.
 #[inline(always)]
 pub(crate) fn field(bytes: &[u8], at: usize) -> u16
     requires { at + 2 ≤ length bytes.now }
@@ -32,7 +35,7 @@ pub(crate) fn field(bytes: &[u8], at: usize) -> u16
     BigEndian::read_u16(&bytes[at..])
 }
 
-/// What the first 8 bytes of a string say.
+/// Decodes the header in the first 8 bytes of a string.
 #[inline(always)]
 pub(crate) fn header_of(bytes: &[u8; HEADER]) -> Header
     ensures { (s : List ℕ) → bytes.now ≡ take UDP_HEADER s → result ≡ header_in s }
@@ -45,7 +48,7 @@ pub(crate) fn header_of(bytes: &[u8; HEADER]) -> Header
     }
 }
 
-/// What the first 8 bytes of a chain say, which lie in more than one mbuf.
+/// Decodes the header at the front of a chain, if it's split across mbufs.
 fn read_cut(pool: &Pool, chain: &Chain) -> Header
     requires live { IsLive pool.now chain.now }
     requires header { UDP_HEADER ≤ length (string (chain_of pool.now chain.now)) }
@@ -56,14 +59,14 @@ fn read_cut(pool: &Pool, chain: &Chain) -> Header
     header_of(&bytes)
 }
 
-/// What the first 8 bytes of a chain say.
+/// Decodes the header at the front of a chain.
 #[inline(always)]
 pub(crate) fn read_header(pool: &Pool, chain: &Chain) -> Header
     requires live { IsLive pool.now chain.now }
     requires header { UDP_HEADER ≤ length (string (chain_of pool.now chain.now)) }
     ensures { result ≡ header_in (string (chain_of pool.now chain.now)) }
 {
-    // Mostly they lie in the first mbuf, and are read there.
+    // Usually the header is in the first mbuf and is read in place.
     let first = pool.bytes(chain, pool.first(chain));
     match first.split_first_chunk() {
         Some((bytes, _)) => header_of(bytes),
@@ -71,7 +74,7 @@ pub(crate) fn read_header(pool: &Pool, chain: &Chain) -> Header
     }
 }
 
-/// Writes two numbers of 16 bits, one after the other.
+/// Writes two 16-bit numbers, one after the other.
 #[inline(always)]
 fn put_pair(bytes: &mut [u8], first: u16, second: u16)
     requires { 4 ≤ length bytes.old }
@@ -81,7 +84,7 @@ fn put_pair(bytes: &mut [u8], first: u16, second: u16)
     BigEndian::write_u16(&mut bytes[2..], second);
 }
 
-/// The bytes of a header.
+/// Encodes a header.
 #[inline(always)]
 pub(crate) fn to_bytes(header: Header) -> [u8; 8]
     ensures { result ≡ header_bytes header }
@@ -90,4 +93,61 @@ pub(crate) fn to_bytes(header: Header) -> [u8; 8]
     put_pair(&mut bytes, header.source, header.destination);
     put_pair(&mut bytes[4..], header.len, header.sum);
     bytes
+}
+
+/// The sum of the words of the pseudo header of a datagram of `len` bytes, with each address as one number.
+#[inline(always)]
+fn pseudo_words(src: u32, dst: u32, len: u16) -> u64
+    ensures { result ≡ src + dst + PROTOCOL_UDP + len }
+{
+    u64::from(src) + u64::from(dst) + u64::from(PROTOCOL_UDP) + u64::from(len)
+}
+
+/// The sum of the pseudo header of a datagram of `len` bytes.
+#[inline(always)]
+pub(crate) fn pseudo_sum(src: u32, dst: u32, len: u16) -> Sum
+    ensures { result ≡ sum_of (pseudo_header src dst len) }
+{
+    Sum::of_words(pseudo_words(src, dst, len))
+}
+
+/// The sum of the pseudo header of a datagram and of its header.
+#[inline(always)]
+pub(crate) fn headers_sum(src: u32, dst: u32, header: Header) -> Sum
+    ensures { result ≡ sum_of (pseudo_header src dst header.len ++ header_bytes header) }
+{
+    let ports = u64::from(header.source) + u64::from(header.destination);
+    let rest = u64::from(header.len) + u64::from(header.sum);
+    Sum::of_words(pseudo_words(src, dst, header.len) + ports + rest)
+}
+
+/// Whether a datagram with this header has no checksum or the right one.
+pub(crate) fn is_right(pool: &Pool, chain: &Chain, header: Header, src: u32, dst: u32) -> bool
+    requires live { IsLive pool.now chain.now }
+    requires header { header ≡ header_in (string (chain_of pool.now chain.now)) }
+    requires within { header.len ≤ length (string (chain_of pool.now chain.now)) }
+    ensures { result ≡ has_right_sum src dst (string (chain_of pool.now chain.now)) }
+{
+    if header.sum == 0 {
+        return true;
+    }
+    let sum = pseudo_sum(src, dst, header.len);
+    cksum_chain(pool, chain, 0, header.len as u32, sum) == 0
+}
+
+/// Whether a datagram without its IP header, from `src` to `dst`, has no checksum or the right one. The checksum covers
+/// the pseudo header and the bytes up to the UDP length. This length must be at least 8 and at most that of the chain.
+/// Bytes after it don't count. A checksum field of 0 means that there is no checksum (RFC 768).
+///
+/// The conditions are the two tests that precede this one, so the result says whether the datagram has a fault.
+pub fn check(pool: &Pool, chain: &Chain, src: u32, dst: u32) -> bool
+    requires live { IsLive pool.now chain.now }
+    requires header { UDP_HEADER ≤ u16_at 4 (string (chain_of pool.now chain.now)) }
+    requires within { u16_at 4 (string (chain_of pool.now chain.now))
+        ≤ length (string (chain_of pool.now chain.now)) }
+    ensures { udp_fault src dst (string (chain_of pool.now chain.now))
+        ≡ (if result then None else Some UdpBadSum) }
+{
+    let header = read_header(pool, chain);
+    is_right(pool, chain, header, src, dst)
 }

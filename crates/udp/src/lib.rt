@@ -1,17 +1,17 @@
 //! UDP over chains of mbufs (RFC 768; TCP/IP Illustrated volume 2, chapter 23): the header of a datagram that is sent,
-//! and who gets one that came.
+//! and the sockets that receive one.
 //!
-//! A contract sees a datagram as the string of its chain. What is written is the string of the definitions, and what
-//! becomes of a datagram is said in their words: its first fault, who hears it, and the bytes that they get.
+//! A contract sees a datagram as the string of its chain. The string that is sent is the one of the definitions. For a
+//! received datagram it says, in the words of the definitions: its first fault, the sockets that match, and the bytes
+//! that they receive.
 #![tactic(auto)]
 
 mod arrival;
 mod checked;
 mod departure;
 mod header;
-mod sums;
 
-pub use arrival::{Outcome, input, is_broadcast, no_port};
-pub use checked::{Checked, matching_sockets, read};
+pub use arrival::{Outcome, input};
+pub use checked::{Checked, is_broadcast, matching_sockets, no_port, read};
 pub use departure::{build, header_for};
-pub use sums::check;
+pub use header::check;

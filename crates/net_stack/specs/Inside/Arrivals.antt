@@ -60,7 +60,7 @@ pub record AreArriving (v : NetView) (t : TrainView) (u : NetView) (left : Train
 -- ---- from the wire
 
 -- chain c came with these bytes, laid as a packet from the wire is, on clusters that were free
-pub record IsLaidOut (p : PoolView) (bytes : List ℕ) (q : PoolView) (c : ℕ) : Type 0 where
+pub record IsPacketStored (p : PoolView) (bytes : List ℕ) (q : PoolView) (c : ℕ) : Type 0 where
   pub clusters : List ℕ
   pub free : AreFree p clusters
   pub number : length clusters ≡ count_by is_cluster (wire (length bytes))

@@ -1,7 +1,5 @@
 -- What holds of the fields of a table, and where a block stands in it (this project's own).
 use Rattle.std.specs.Prelude.{◌≡◌, ℕ, ◌+◌, ◌<◌, ◌≤◌, Bool, true, false, is_some, ◌&&◌, ◌==◌, List, length, get_or, slice_index_or, count_by, find, Option, Some, None, IsSome, unwrap_or}
-use Rattle.std.specs.Prelude.{if◌then◌else◌}
-use Rattle.std.specs.Int.{w64, trailing_zeros}
 use Rattle.params.specs.declared.TheConstants.{FIRST_DESCRIPTOR, FIRST_EPHEMERAL_PORT, LAST_EPHEMERAL_PORT}
 use Rattle.pcb_table.specs.Apart.{has_fd, has_four}
 use Rattle.pcb_table.specs.declared.block.Block.{Block}
@@ -17,7 +15,7 @@ abbrev pub IsCached : List Block → Option Connection → Type 0
 IsCached bs None = Unit {0}
 IsCached bs (Some c) = 0 < count_by (is_connected_as c) bs
 
--- a last port is one of the circle
+-- the last port chosen is ephemeral
 abbrev pub IsInCircle : Option ℕ → Type 0
 IsInCircle None = Unit {0}
 IsInCircle (Some port) = (FIRST_EPHEMERAL_PORT ≤ port) × (port ≤ LAST_EPHEMERAL_PORT)
@@ -38,17 +36,13 @@ abbrev pub Locates : ℕ → List Block → Option Place → Type 0
 Locates fd bs None = find (has_fd fd) bs ≡ None
 Locates fd bs (Some place) = IsLocated fd bs place.index place.block
 
--- the port that is noted of a block: 0 if it has none
-abbrev pub noted_port : Block → ℕ
-noted_port b = unwrap_or b.port 0
+-- the port that is indexed of a block: 0 if it has none
+abbrev pub port_or_zero : Block → ℕ
+port_or_zero b = unwrap_or b.port 0
 
--- the port of each block is noted at its place
+-- the port of each block is indexed at its place
 abbrev pub HasPorts : List Block → List ℕ → Type 0
-HasPorts bs ports = (k : ℕ) (d : Block) → k < length bs → get_or ports k 0 ≡ noted_port (slice_index_or bs k d)
-
--- how many lanes come before the first whose bit is set, of sixteen
-abbrev pub lanes_clear : ℕ → ℕ
-lanes_clear mask = if mask == 0 then 16 else trailing_zeros w64 mask
+HasPorts bs ports = (k : ℕ) (d : Block) → k < length bs → get_or ports k 0 ≡ port_or_zero (slice_index_or bs k d)
 
 -- the first n of the ports from a place on are others
 abbrev pub PassesLanes : List ℕ → ℕ → ℕ → ℕ → Type 0
@@ -58,6 +52,6 @@ PassesLanes ports port at n = (k : ℕ) → at ≤ k → k < at + n → (get_or 
 abbrev pub is_connected : Block → Bool
 is_connected b = is_some b.peer
 
--- where it's noted that none is connected, none is
-abbrev pub NotesConnected : Bool → List Block → Type 0
-NotesConnected none bs = none ≡ true → find is_connected bs ≡ None
+-- where it's indexed that none is connected, none is
+abbrev pub ImpliesNoneConnected : Bool → List Block → Type 0
+ImpliesNoneConnected none bs = none ≡ true → find is_connected bs ≡ None

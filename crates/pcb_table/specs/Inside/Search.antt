@@ -31,8 +31,8 @@ youngest_block k q bs = find (has_score k q) bs
 abbrev pub best_block : LookupKey → List Block → Option Block
 best_block q bs = option_or (youngest_block 0 q bs) (option_or (youngest_block 1 q bs) (youngest_block 2 q bs))
 
-abbrev pub hearing_blocks : LookupKey → List Block → List Block
-hearing_blocks q bs = up_to_first (λ b. not b.reuse_port) (filter (does_match q) bs)
+abbrev pub receiving_blocks : LookupKey → List Block → List Block
+receiving_blocks q bs = up_to_first (λ b. not b.reuse_port) (filter (does_match q) bs)
 
 -- ---- ports
 
@@ -65,7 +65,7 @@ abbrev pub lacks_option : Option Block → Bool
 lacks_option None = false
 lacks_option (Some b) = not b.reuse_port
 
--- whether a bind of the block to this address and port meets another one that stands in its way
+-- whether a bind of the block to this address and port matches another one that stands in its way
 abbrev pub is_in_way : List Block → Block → Option ℕ → ℕ → Bool
 is_in_way bs me local port =
     if me.reuse_port then lacks_option (youngest_block 0 (key_port local port) bs) else is_used bs local port

@@ -9,9 +9,9 @@ use Rattle.sock_calls.specs.declared.questions.SocketName.{SocketName}
 use Rattle.sock_calls.specs.Sockets.{queues_of}
 
 -- the name that a control block tells
-abbrev pub told_name : Option Block → Result SocketName Errno
-told_name None = Err BadDescriptor
-told_name (Some b) = Ok (record {
+abbrev pub name_of_block : Option Block → Result SocketName Errno
+name_of_block None = Err BadDescriptor
+name_of_block (Some b) = Ok (record {
   local = b.local;
   port = b.port;
   peer = b.peer;

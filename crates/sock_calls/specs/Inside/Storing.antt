@@ -1,12 +1,19 @@
 -- The data of a packet from the wire in a chain of their own (this project's own).
-use Rattle.std.specs.Prelude.{◌≡◌, ℕ, List, [], ◌∷◌, length, take, drop, count_by}
+use Rattle.std.specs.Prelude.{◌≡◌, ℕ, Bool, true, false, List, [], ◌∷◌, ◌++◌, length, take, drop, count_by, Option, Result, Ok, Err}
 use Rattle.params.specs.declared.TheConstants.{IP_UDP_HEADERS}
 use Rattle.flat_model.specs.Amounts.Layout.{is_cluster, laid_on, weight_of, wire}
 use Rattle.flat_model.specs.Amounts.Weight.{Item}
 use Rattle.mbuf_chain.specs.Chain.{PoolView}
 use Rattle.mbuf_chain.specs.Owners.{Moves}
 use Rattle.chain_ops.specs.Stored.{AreFree}
+use Rattle.flat_model.specs.Sockets.Fits.{fits}
+use Rattle.flat_model.specs.declared.address.Addr.{Addr}
+use Rattle.flat_model.specs.declared.counters.Why.{Why}
+use Rattle.flat_model.specs.declared.counters.Why.TheVariants.{UdpFullSocket}
 use Rattle.ledger.specs.Accounts.{item_at}
+use Rattle.sockbuf.specs.SockBuf.{SockBufView}
+use Rattle.sockbuf.specs.Stored.{IsTaken, stored_datagram}
+use Rattle.sock_calls.specs.Sockets.{StepsAt, queues_of}
 
 -- the data of a packet up to `end`, in the mbufs of the whole packet
 abbrev pub data_of : List ℕ → ℕ → List ℕ → Item
@@ -23,3 +30,25 @@ pub record IsDataStored (p : PoolView) (packet : List ℕ) (end : ℕ) (q : Pool
   pub number : length clusters ≡ count_by is_cluster (wire (length packet))
   pub item : item_at q c ≡ data_of packet end clusters
   pub moves : Moves p [] q (c ∷ [])
+
+-- Bytes that fit into queue fd are its newest datagram, in one mbuf, with or without a cluster that was free.
+pub record IsStoredAt (p : PoolView) (bs : List SockBufView) (fd : ℕ) (sender : Addr) (is_large : Bool)
+    (bytes : List ℕ) (q : PoolView) (cs : List SockBufView) : Type 0 where
+  pub fits : fits (queues_of p bs fd) (length bytes) ≡ true
+  pub steps : StepsAt p [] bs fd q [] cs
+  pub cluster : Option ℕ
+  pub taken : IsTaken p is_large cluster
+  pub here : queues_of q cs fd ≡ queues_of p bs fd ++ stored_datagram sender bytes cluster ∷ []
+
+-- Bytes don't fit into queue fd, and nothing has changed.
+pub record IsFullAt (p : PoolView) (bs : List SockBufView) (fd : ℕ) (bytes : List ℕ) (why : Why) (q : PoolView)
+    (cs : List SockBufView) : Type 0 where
+  pub over : fits (queues_of p bs fd) (length bytes) ≡ false
+  pub cause : why ≡ UdpFullSocket
+  pub pool : q ≡ p
+  pub queues : cs ≡ bs
+
+abbrev pub StoresAtEnd : PoolView → List SockBufView → ℕ → Addr → Bool → List ℕ → PoolView → List SockBufView
+    → Result Unit Why → Type 0
+StoresAtEnd p bs fd sender is_large bytes q cs (Ok done) = IsStoredAt p bs fd sender is_large bytes q cs
+StoresAtEnd p bs fd sender is_large bytes q cs (Err why) = IsFullAt p bs fd bytes why q cs

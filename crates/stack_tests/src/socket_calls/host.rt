@@ -80,7 +80,8 @@ impl Host {
         to: Option<Addr>,
         bytes: &[u8],
     ) -> Result<usize, Errno> {
-        let (addr, bcast) = (self.socks.addr(), self.socks.bcast());
+        let pcbs = self.socks.pcbs();
+        let (addr, bcast) = (pcbs.addr(), pcbs.bcast());
         assert!(rt; self.net.mtu >= MIN_MTU && bcast != addr && bcast != LOOPBACK);
         let sent = self
             .socks

@@ -4,7 +4,7 @@ use Rattle.chain_ops.specs.Rooms.{room_low}
 use Rattle.mbuf_chain.specs.Chain.{chain_of}
 use Rattle.ledger.specs.Accounts.{item_of}
 use Rattle.flat_model.specs.Amounts.Weight.{Item}
-use Rattle.sock_calls.proofs.Hearing.{copied_item}
+use Rattle.sock_calls.proofs.Copies.{copied_item}
 use Rattle.sock_calls.proofs.delivery.copy_whole.Goals as goal
 
 pub unreachable-requires : goal.unreachable-requires

@@ -6,7 +6,7 @@ use Rattle.mbuf_chain.proofs.Laws.Owners.{moves_with, moves_without, shown_with}
 use Rattle.pcb_table.specs.Table.{packet_key}
 use Rattle.udp.specs.declared.arrival.Outcome.{Outcome}
 use Rattle.udp.specs.declared.header.Header.{Header}
-use Rattle.udp.specs.Datagrams.{AreHearers, outcome_chains, without_header}
+use Rattle.udp.specs.Datagrams.{AreMatching, outcome_chains, without_header}
 use Rattle.udp.specs.Inside.{header_in}
 use Rattle.udp.proofs.Cutting.{data_of}
 use Rattle.udp.proofs.arrival.input.Goals as goal
@@ -44,10 +44,10 @@ returns-clause-answer c =
     record {
       faultless = first_of (search rules, grind (arith, common_steps));
       sender = ap (λ (x : Header). record { ip = h.src; port = x.source }) said;
-      heard =
-          subst (λ (x : Header). AreHearers c.args.pcbs.now h.dst
+      matched =
+          subst (λ (x : Header). AreMatching c.args.pcbs.now h.dst
           (packet_key h.dst x.destination (record { ip = h.src; port = x.source }))
-          c.find_hearers.new.hearers.items) said c.find_hearers.ensures.found;
+          c.find_matching.new.matching.items) said c.find_matching.ensures.found;
       some = first_of (search rules, grind (arith, common_steps));
       same = refl;
       chain = cut;

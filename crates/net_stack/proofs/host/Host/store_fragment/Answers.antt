@@ -5,25 +5,25 @@ use Rattle.ip_out.specs.Headings.{head_in}
 use Rattle.ip_out.specs.declared.head.IpHead.{IpHead}
 use Rattle.ip_reass.specs.Arrivals.{flat_head}
 use Rattle.net_stack.specs.Inside.Arrivals.{is_ours_or_all}
-use Rattle.net_stack.proofs.Coming.{laid_ready, came}
+use Rattle.net_stack.proofs.Coming.{stored_ready, came}
 use Rattle.net_stack.proofs.Whole.{asked_now}
 use Rattle.net_stack.proofs.host.Host.store_fragment.Goals as goal
 
 pub arrive_fragment-requires-clause-socks : goal.arrive_fragment-requires-clause-socks
 arrive_fragment-requires-clause-socks c =
-    (laid_ready {a = c.args.self.now.net.counters} c.requires.socks c.requires.owned
+    (stored_ready {a = c.args.self.now.net.counters} c.requires.socks c.requires.owned
     (asked_now c.args.self.now.pool c.args.self.now.reass c.args.self.now.net.counters (length c.args.packet.now)
     c.requires.free) c.requires.reass c.put_packet-chain.ensures).beside.socks.ready
 
 pub arrive_fragment-requires-clause-reass : goal.arrive_fragment-requires-clause-reass
 arrive_fragment-requires-clause-reass c =
-    (laid_ready {a = c.args.self.now.net.counters} c.requires.socks c.requires.owned
+    (stored_ready {a = c.args.self.now.net.counters} c.requires.socks c.requires.owned
     (asked_now c.args.self.now.pool c.args.self.now.reass c.args.self.now.net.counters (length c.args.packet.now)
     c.requires.free) c.requires.reass c.put_packet-chain.ensures).beside.reass.table
 
 pub arrive_fragment-requires-clause-owned : goal.arrive_fragment-requires-clause-owned
 arrive_fragment-requires-clause-owned c =
-    (laid_ready {a = c.args.self.now.net.counters} c.requires.socks c.requires.owned
+    (stored_ready {a = c.args.self.now.net.counters} c.requires.socks c.requires.owned
     (asked_now c.args.self.now.pool c.args.self.now.reass c.args.self.now.net.counters (length c.args.packet.now)
     c.requires.free) c.requires.reass c.put_packet-chain.ensures).beside.owned
 

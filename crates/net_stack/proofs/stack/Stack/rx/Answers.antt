@@ -4,19 +4,19 @@ use Rattle.net_stack.proofs.Called.{Called, lent, lent_inside, lent_shows}
 use Rattle.net_stack.proofs.Exchanged.{are_bytes, come_owned, come_called}
 use Rattle.net_stack.proofs.stack.Stack.rx.Goals as goal
 
-pub come_in-requires-clause-owned : goal.come_in-requires-clause-owned
-come_in-requires-clause-owned c = come_owned (stack_of (lent c.self.inside c.deref_mut.result.now))
+pub receive-requires-clause-owned : goal.receive-requires-clause-owned
+receive-requires-clause-owned c = come_owned (stack_of (lent c.self.inside c.deref_mut.result.now))
     (lent_inside c.self.inside c.deref_mut.result.now c.deref_mut.ensures.value c.self.invariant).stack
 
 all : (c : goal.After-self-1)
     → Called c.args.self.now (Comes c.args.packet.now) Done
-    (record (lent c.self.inside c.deref_mut.result.now) { host = c.come_in.new.self })
+    (record (lent c.self.inside c.deref_mut.result.now) { host = c.receive.new.self })
 all c =
-    come_called (lent c.self.inside c.deref_mut.result.now) c.args.self.now c.come_in.new.self c.args.packet.now
+    come_called (lent c.self.inside c.deref_mut.result.now) c.args.self.now c.receive.new.self c.args.packet.now
     (lent_inside c.self.inside c.deref_mut.result.now c.deref_mut.ensures.value c.self.invariant)
     (lent_shows c.self.inside c.deref_mut.result.now c.args.self.now c.deref_mut.ensures.value c.self.view_is)
-    (are_bytes c.args.packet.now c.type_inv.packet, c.requires) c.come_in.ensures.came c.come_in.ensures.reass
-    c.come_in.ensures.output
+    (are_bytes c.args.packet.now c.type_inv.packet, c.requires) c.receive.ensures.came c.receive.ensures.reass
+    c.receive.ensures.output
 
 pub invariant_of-self : goal.invariant_of-self
 invariant_of-self c = (all c).inside

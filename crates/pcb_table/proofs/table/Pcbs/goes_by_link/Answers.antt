@@ -1,6 +1,5 @@
 use Rattle.std.proofs.Common.{◌≡◌, find, Some, None, Ok, sym, subst, ◌∙◌}
 use Rattle.flat_model.specs.Packets.Header.{first_fault}
-use Rattle.flat_model.specs.Machine.Calls.{read_addr}
 use Rattle.pcb_table.specs.Table.{Table, block_at}
 use Rattle.pcb_table.specs.Apart.{has_fd}
 use Rattle.pcb_table.specs.Inside.Search.{block_connect_faults, interface_config}

@@ -34,10 +34,10 @@ returns-then-has_ends-clause-range c =
     subst IsDescriptor found.1 (best_range q c.self.inside.blocks found.0 c.self.invariant.0 found.2)
 
 -- the block that was found
-best_is : (q k : LookupKey) (items : List Block) (r : Option (Bor Block)) (b : Bor Block) → k ≡ q
-    → option_copied r ≡ best_block k items → r ≡ Some b
+best_is : (q : LookupKey) (items : List Block) (r : Option (Bor Block)) (b : Bor Block)
+    → option_copied r ≡ best_block q items → r ≡ Some b
     → best_block q items ≡ Some b.now
-best_is q k items r b key found is = ap (λ x. best_block x items) (sym key) ∙ sym found ∙ ap option_copied is
+best_is q items r b found is = sym found ∙ ap option_copied is
 
 pub invariant_of-self : goal.invariant_of-self
 invariant_of-self c =
@@ -45,7 +45,7 @@ invariant_of-self c =
     let items = c.self.inside.blocks in
     let cached =
     cached_by_best q items c.in-Some-best.block.now
-    (best_is q _ items _ _ c.key_of_packet.ensures c.best.ensures c.in-Some-best.is) in (
+    (best_is q items _ _ c.best.ensures c.in-Some-best.is) in (
       c.self.invariant.0,
       subst (IsCached items) (sym c.connection.ensures ∙ c.in-Some-connection.is) cached,
       c.self.invariant.2,
@@ -56,8 +56,7 @@ returns-in-None-clause-found c =
     let q = packet_key c.args.destination c.args.port c.args.source in
     subst (λ (t : Table). Finds (flat.best q) t None) c.self.view_is
     (best_none c.self.inside.interface c.self.inside.blocks c.self.inside.last_port q
-    (ap (λ q. best_block q c.self.inside.blocks) (sym c.key_of_packet.ensures) ∙ sym c.best.ensures
-    ∙ ap option_copied c.in-None.is))
+    (sym c.best.ensures ∙ ap option_copied c.in-None.is))
 
 pub returns-in_default-connection-clause-found : goal.returns-in_default-connection-clause-found
 returns-in_default-connection-clause-found c =
@@ -65,14 +64,14 @@ returns-in_default-connection-clause-found c =
     let items = c.self.inside.blocks in
     subst (λ (t : Table). Finds (flat.best q) t (Some c.in-Some-best.block.now.fd)) c.self.view_is
     (best_some c.self.inside.interface items c.self.inside.last_port q c.in-Some-best.block.now c.self.invariant.0
-    (best_is q _ items _ _ c.key_of_packet.ensures c.best.ensures c.in-Some-best.is))
+    (best_is q items _ _ c.best.ensures c.in-Some-best.is))
 
 pub returns-in_default-connection-clause-range : goal.returns-in_default-connection-clause-range
 returns-in_default-connection-clause-range c =
     let q = packet_key c.args.destination c.args.port c.args.source in
     let items = c.self.inside.blocks in
     best_range q items c.in-Some-best.block.now c.self.invariant.0
-    (best_is q _ items _ _ c.key_of_packet.ensures c.best.ensures c.in-Some-best.is)
+    (best_is q items _ _ c.best.ensures c.in-Some-best.is)
 
 pub returns-in-Some-connection-clause-found : goal.returns-in-Some-connection-clause-found
 returns-in-Some-connection-clause-found c =
@@ -80,11 +79,11 @@ returns-in-Some-connection-clause-found c =
     let items = c.self.inside.blocks in
     subst (λ (t : Table). Finds (flat.best q) t (Some c.in-Some-best.block.now.fd)) c.self.view_is
     (best_some c.self.inside.interface items c.self.inside.last_port q c.in-Some-best.block.now c.self.invariant.0
-    (best_is q _ items _ _ c.key_of_packet.ensures c.best.ensures c.in-Some-best.is))
+    (best_is q items _ _ c.best.ensures c.in-Some-best.is))
 
 pub returns-in-Some-connection-clause-range : goal.returns-in-Some-connection-clause-range
 returns-in-Some-connection-clause-range c =
     let q = packet_key c.args.destination c.args.port c.args.source in
     let items = c.self.inside.blocks in
     best_range q items c.in-Some-best.block.now c.self.invariant.0
-    (best_is q _ items _ _ c.key_of_packet.ensures c.best.ensures c.in-Some-best.is)
+    (best_is q items _ _ c.best.ensures c.in-Some-best.is)

@@ -6,7 +6,7 @@ use Rattle.mbuf_chain.proofs.Laws.Owners.{times-append, live_first}
 use Rattle.ledger.proofs.Laws.{enough_mbufs}
 use Rattle.sock_calls.specs.Sockets.{from_three, queues_of, queued_chains}
 use Rattle.sock_calls.proofs.Delivered.{freed, tested, joined, full_end, lacking_end, fitting_end}
-use Rattle.sock_calls.proofs.Hearing.{named_at, descriptor_of}
+use Rattle.sock_calls.proofs.Copies.{named_at, descriptor_of}
 use Rattle.sock_calls.proofs.parts.Parts.deliver.Goals as goal
 
 pub fits_at-requires : goal.fits_at-requires

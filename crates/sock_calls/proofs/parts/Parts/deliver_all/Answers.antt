@@ -6,7 +6,7 @@ use Rattle.pcb_table.specs.Table.{Table, IsOpen, block_at}
 use Rattle.sock_calls.specs.Delivery.{seen}
 use Rattle.sock_calls.specs.Inside.Delivering.{IsUnderWay}
 use Rattle.sock_calls.specs.Inside.Parts.{socks_of}
-use Rattle.sock_calls.proofs.Hearing.{starts, offered_one, delivered_all}
+use Rattle.sock_calls.proofs.Copies.{starts, offered_one, delivered_all}
 use Rattle.sock_calls.proofs.parts.Parts.deliver_all.Goals as goal
 
 pub receivers-init : goal.receivers-init

@@ -6,7 +6,7 @@ use Rattle.ledger.proofs.Laws.{enough_mbufs}
 use Rattle.sock_calls.specs.Sockets.{from_three, queued_chains}
 use Rattle.sock_calls.specs.Inside.Parts.{socks_of}
 use Rattle.sock_calls.proofs.Delivered.{IsTested, tested}
-use Rattle.sock_calls.proofs.Hearing.{lacking_offer, copy_ready, copy_offer}
+use Rattle.sock_calls.proofs.Copies.{lacking_offer, copy_ready, copy_offer}
 use Rattle.sock_calls.proofs.parts.Parts.deliver_copy.Goals as goal
 
 pub returns-then-not-reserve-clause-offered : goal.returns-then-not-reserve-clause-offered

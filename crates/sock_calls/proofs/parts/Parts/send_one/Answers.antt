@@ -18,7 +18,7 @@ use Rattle.sock_calls.specs.Inside.Destination.{ChecksSend}
 use Rattle.sock_calls.specs.Inside.Putting.{AreMade, IsPut, send_config, sent_as, way_of}
 use Rattle.sock_calls.specs.declared.packets.Heading.{Heading}
 use Rattle.sock_calls.proofs.Going.{sent_is}
-use Rattle.sock_calls.proofs.Hearing.{named_at}
+use Rattle.sock_calls.proofs.Copies.{named_at}
 use Rattle.sock_calls.proofs.Made.{packets_made}
 use Rattle.sock_calls.proofs.Making.{ready}
 use Rattle.sock_calls.proofs.OnePacket.{by_link, mtu_link, need_link}
@@ -28,20 +28,20 @@ use Rattle.sock_calls.proofs.parts.Parts.send_one.Goals as goal
 pub port_of-requires : goal.port_of-requires
 port_of-requires c =
     ap (λ (k : ℕ). block_at k c.args.self.now.pcbs)
-    (named_at c.args.self.now.pcbs c.args.fd c.in-Some-noted.block.now c.in-Some-noted.ensures)
-    ∙ c.in-Some-noted.ensures
+    (named_at c.args.self.now.pcbs c.args.fd c.in-Some-indexed.block.now c.in-Some-indexed.ensures)
+    ∙ c.in-Some-indexed.ensures
 
 pub link_target-requires : goal.link_target-requires
 link_target-requires c =
     ap (λ (k : ℕ). block_at k c.args.self.now.pcbs)
-    (named_at c.args.self.now.pcbs c.args.fd c.in-Some-noted.block.now c.in-Some-noted.ensures)
-    ∙ c.in-Some-noted.ensures
+    (named_at c.args.self.now.pcbs c.args.fd c.in-Some-indexed.block.now c.in-Some-indexed.ensures)
+    ∙ c.in-Some-indexed.ensures
 
 pub source_of-requires : goal.source_of-requires
 source_of-requires c =
     ap (λ (k : ℕ). block_at k c.args.self.now.pcbs)
-    (named_at c.args.self.now.pcbs c.args.fd c.in-Some-noted.block.now c.in-Some-noted.ensures)
-    ∙ c.in-Some-noted.ensures
+    (named_at c.args.self.now.pcbs c.args.fd c.in-Some-indexed.block.now c.in-Some-indexed.ensures)
+    ∙ c.in-Some-indexed.ensures
 
 pub push_one-requires-clause-queue : goal.push_one-requires-clause-queue
 push_one-requires-clause-queue c = record {
@@ -66,7 +66,7 @@ returns-clause-sent c = λ _.
     let r = c.push_one.new.pool in
     let t = c.args.self.now.pcbs in
     let n = c.args.net.now in
-    let b = c.in-Some-noted.block.now in
+    let b = c.in-Some-indexed.block.now in
     let len : ℕ = length c.args.bytes.now in
     let mtu : ℕ = n.mtu in
     let ip : ℕ = c.in-Some-link_target.target.ip in
@@ -96,7 +96,7 @@ returns-clause-sent c = λ _.
     (subst AreBegunPlain (sym none_queued) tt) c.push_one.ensures.queue
     (subst (λ (xs : List ℕ). Moves q (c.datagram_of_one-chain.result ∷ numbers q n.out) r
     (xs ++ numbers r c.push_one.new.self)) (sym none) c.push_one.ensures.moves) in
-    let named : b.fd ≡ c.args.fd = named_at t c.args.fd b c.in-Some-noted.ensures in
+    let named : b.fd ≡ c.args.fd = named_at t c.args.fd b c.in-Some-indexed.ensures in
     let put =
     put_is {p = p} {q = r} {t = t} {u = t} {n = n} {made = made} {o = c.push_one.new.self} {back = n.looped}
     {d = c.count.new.self} {fd = b.fd} {to = c.in-Some-link_target.target} {bytes = c.args.bytes.now} h refl refl
@@ -115,6 +115,6 @@ returns-clause-sent c = λ _.
     (c.in-Some-link_target.ensures.target n.mtu len (few c.in-Some.ensures.most)) in
     let wanted : c.in-Some.wants ≡ need_to cfg ip len =
     c.in-Some.ensures.need ∙ ap (need len) (sym (mtu_link cfg ip link)) ∙ sym (need_link cfg ip len link) in
-    sent_is b (Ok len) c.requires put_here c.requires.socks.apart c.in-Some-noted.ensures checked
+    sent_is b (Ok len) c.requires put_here c.requires.socks.apart c.in-Some-indexed.ensures checked
     (ap (λ (x : Need). are_free p x.mbufs x.clusters) (sym wanted) ∙ sym c.are_free.ensures ∙ c.if-not-are_free.false)
     refl tt

@@ -1,4 +1,4 @@
-use Rattle.std.proofs.Common.{List, ◌<◌, ◌∷◌, [], ◌++◌, suc, length, ap, sym, subst, ◌∙◌, arith}
+use Rattle.std.proofs.Common.{List, ◌<◌, ◌∷◌, [], ◌++◌, suc, length, refl, ap, sym, subst, ◌∙◌, arith}
 use Rattle.std.specs.Prelude.{slice_set}
 use Rattle.flat_model.specs.Sockets.Fits.{fits}
 use Rattle.sockbuf.specs.SockBuf.{SockBufView, IsSockBuf, datagrams}
@@ -11,45 +11,76 @@ use Rattle.sock_calls.proofs.queues.ReceiveQueues.store_at.Goals as goal
 pub store-requires-clause-ready : goal.store-requires-clause-ready
 store-requires-clause-ready c =
     let is = c.deref_mut.ensures.value in
-    let lt : c.place_of.result < length c.deref_mut.result.now =
-    omega (arith, c.place_of.ensures.within, c.self.invariant, ap length is) in
-    let here = named_is c.index-deref_mut-place_of.result c.args.fd (is ∙ c.self.view_is) lt c.place_of.ensures.value in
+    let lt : c.place_of-place.result < length c.deref_mut.result.now =
+    omega (arith, c.place_of-place.ensures.within, c.self.invariant, ap length is) in
+    let here = named_is c.index-deref_mut-place.result c.args.fd (is ∙ c.self.view_is) lt
+    c.place_of-place.ensures.value in
     subst (IsSockBuf c.args.pool.now) (sym here) (c.requires.each c.args.fd)
 
 pub store-requires-clause-fits : goal.store-requires-clause-fits
 store-requires-clause-fits c =
+    let p = c.args.pool.now in
+    let n = length c.args.bytes.now in
+    let has = c.deref.ensures.0 in
+    let within : c.place_of-place.result < length c.deref.result.now =
+    omega (arith, c.place_of-place.ensures.within, c.self.invariant, ap length has) in
+    let at = c.index-deref-place.is ∙ named_is c.index-deref-place.result c.args.fd (has ∙ c.self.view_is) within
+    c.place_of-place.ensures.value in
     let is = c.deref_mut.ensures.value in
-    let lt : c.place_of.result < length c.deref_mut.result.now =
-    omega (arith, c.place_of.ensures.within, c.self.invariant, ap length is) in
-    let here = named_is c.index-deref_mut-place_of.result c.args.fd (is ∙ c.self.view_is) lt c.place_of.ensures.value in
-    ap (λ (v : SockBufView). fits (datagrams c.args.pool.now v) (length c.args.bytes.now)) here ∙ c.requires.fits
+    let lt : c.place_of-place.result < length c.deref_mut.result.now =
+    omega (arith, c.place_of-place.ensures.within, c.self.invariant, ap length is) in
+    let here = named_is c.index-deref_mut-place.result c.args.fd (is ∙ c.self.view_is) lt
+    c.place_of-place.ensures.value in
+    ap (λ (v : SockBufView). fits (datagrams p v) n) here ∙ sym (ap (λ (v : SockBufView). fits (datagrams p v) n) at)
+    ∙ sym (c.fits.ensures p (subst (IsSockBuf p) (sym at) (c.requires.each c.args.fd))) ∙ c.if-not-fits.false
 
-pub returns-clause-steps : goal.returns-clause-steps
-returns-clause-steps c =
-    let is = c.deref_mut.ensures.value in
-    let lt : c.place_of.result < length c.deref_mut.result.now =
-    omega (arith, c.place_of.ensures.within, c.self.invariant, ap length is) in
-    steps_three c.args.fd c.place_of.ensures.value
-    (steps_inside c.self.inside.queues c.index-deref_mut-place_of.result [] [] is c.self.view_is lt
-    (λ k. c.requires.each (suc (suc (suc k)))) c.requires.owned c.store.ensures.ready c.store.ensures.moves)
+pub returns-then-not-fits : goal.returns-then-not-fits
+returns-then-not-fits c =
+    let p = c.args.pool.now in
+    let n = length c.args.bytes.now in
+    let has = c.deref.ensures.0 in
+    let within : c.place_of-place.result < length c.deref.result.now =
+    omega (arith, c.place_of-place.ensures.within, c.self.invariant, ap length has) in
+    let at = c.index-deref-place.is ∙ named_is c.index-deref-place.result c.args.fd (has ∙ c.self.view_is) within
+    c.place_of-place.ensures.value in
+    record {
+      over = sym (ap (λ (v : SockBufView). fits (datagrams p v) n) at)
+          ∙ sym (c.fits.ensures p (subst (IsSockBuf p) (sym at) (c.requires.each c.args.fd))) ∙ c.if-not-fits.true;
+      cause = refl;
+      pool = refl;
+      queues = refl;
+    }
 
-pub returns-clause-here : goal.returns-clause-here
-returns-clause-here c =
+pub returns : goal.returns
+returns c =
     let p = c.args.pool.now in
     let q = c.store.new.pool in
+    let n = length c.args.bytes.now in
     let bs = c.deref_mut.result.now in
-    let i = c.place_of.result in
+    let i = c.place_of-place.result in
     let y = c.store.new.self in
     let o = c.store.ensures.stores.cluster in
+    let has = c.deref.ensures.0 in
+    let within : c.place_of-place.result < length c.deref.result.now =
+    omega (arith, c.place_of-place.ensures.within, c.self.invariant, ap length has) in
+    let at = c.index-deref-place.is ∙ named_is c.index-deref-place.result c.args.fd (has ∙ c.self.view_is) within
+    c.place_of-place.ensures.value in
     let is = c.deref_mut.ensures.value in
-    let lt : c.place_of.result < length c.deref_mut.result.now =
-    omega (arith, c.place_of.ensures.within, c.self.invariant, ap length is) in
-    let here = named_is c.index-deref_mut-place_of.result c.args.fd (is ∙ c.self.view_is) lt c.place_of.ensures.value in (
-      o,
-      c.store.ensures.stores.taken,
-      ap (λ (l : List SockBufView). datagrams q (queue_at (from_three l) c.args.fd))
+    let lt : c.place_of-place.result < length c.deref_mut.result.now =
+    omega (arith, c.place_of-place.ensures.within, c.self.invariant, ap length is) in
+    let here = named_is c.index-deref_mut-place.result c.args.fd (is ∙ c.self.view_is) lt
+    c.place_of-place.ensures.value in
+    record {
+      fits = sym (ap (λ (v : SockBufView). fits (datagrams p v) n) at)
+          ∙ sym (c.fits.ensures p (subst (IsSockBuf p) (sym at) (c.requires.each c.args.fd))) ∙ c.if-not-fits.false;
+      steps = steps_three c.args.fd c.place_of-place.ensures.value
+          (steps_inside c.self.inside.queues c.index-deref_mut-place.result [] [] is c.self.view_is lt
+          (λ k. c.requires.each (suc (suc (suc k)))) c.requires.owned c.store.ensures.ready c.store.ensures.moves);
+      cluster = o;
+      taken = c.store.ensures.stores.taken;
+      here = ap (λ (l : List SockBufView). datagrams q (queue_at (from_three l) c.args.fd))
           (written c.self.inside.queues bs i y is)
-          ∙ ap (datagrams q) (at_three (slice_set bs i y) i c.args.fd c.place_of.ensures.value ∙ at_set bs i y lt)
+          ∙ ap (datagrams q) (at_three (slice_set bs i y) i c.args.fd c.place_of-place.ensures.value ∙ at_set bs i y lt)
           ∙ c.store.ensures.stores.datagrams
-          ∙ ap (λ (v : SockBufView). datagrams p v ++ stored_datagram c.args.sender c.args.bytes.now o ∷ []) here,
-    )
+          ∙ ap (λ (v : SockBufView). datagrams p v ++ stored_datagram c.args.sender c.args.bytes.now o ∷ []) here;
+    }

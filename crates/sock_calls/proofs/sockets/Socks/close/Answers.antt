@@ -7,7 +7,7 @@ use Rattle.sock_calls.specs.Sockets.{SocksView, IsSocks, from_three, queues_of, 
 use Rattle.sock_calls.proofs.Keeping.{keeps_closed, closed_machine}
 use Rattle.sockbuf.specs.SockBuf.{datagrams}
 use Rattle.sock_calls.proofs.Frames.{each_from_three}
-use Rattle.sock_calls.proofs.Hearing.{descriptor_of}
+use Rattle.sock_calls.proofs.Copies.{descriptor_of}
 use Rattle.sock_calls.proofs.Places.{at_three, steps_three}
 use Rattle.sock_calls.proofs.sockets.Socks.close.Goals as goal
 

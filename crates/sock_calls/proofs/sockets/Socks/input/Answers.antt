@@ -21,14 +21,14 @@ deliver_all-requires-clause-socks g c =
 
 pub deliver_all-requires-clause-opened : goal.deliver_all-requires-clause-opened
 deliver_all-requires-clause-opened g c =
-    subst (λ (l : List ℕ). All (λ (fd : ℕ). IsOpen fd c.input.new.pcbs) l) (sym c.as_slice-hearers.ensures.value)
-    (subst (λ (t : Table). All (λ (fd : ℕ). IsOpen fd t) c.input.new.hearers.items) (sym c.input.ensures.blocks)
-    (all_open c.self.inside.parts.pcbs _ _ c.input.new.hearers.items c.in-Deliver.ensures.answer.heard))
+    subst (λ (l : List ℕ). All (λ (fd : ℕ). IsOpen fd c.input.new.pcbs) l) (sym c.as_slice-matching.ensures.value)
+    (subst (λ (t : Table). All (λ (fd : ℕ). IsOpen fd t) c.input.new.matching.items) (sym c.input.ensures.blocks)
+    (all_open c.self.inside.parts.pcbs _ _ c.input.new.matching.items c.in-Deliver.ensures.answer.matched))
 
 pub deliver_all-requires-clause-distinct : goal.deliver_all-requires-clause-distinct
 deliver_all-requires-clause-distinct g c =
-    λ fd. subst (λ (l : List ℕ). times fd l ≤ 1) (sym c.as_slice-hearers.ensures.value)
-    (c.in-Deliver.ensures.answer.heard.once fd)
+    λ fd. subst (λ (l : List ℕ). times fd l ≤ 1) (sym c.as_slice-matching.ensures.value)
+    (c.in-Deliver.ensures.answer.matched.once fd)
 
 pub deliver_all-requires-clause-waits : goal.deliver_all-requires-clause-waits
 deliver_all-requires-clause-waits g c =
@@ -71,7 +71,7 @@ returns-in-Deliver-clause-input g c =
     c.self.view_is
     (delivered_to {h = c.args.head} socks owned c.in-Deliver.ensures.answer c.in-Deliver.ensures.moves
     (g.met.R.Waiting.unfinished_same p q w x.same) (g.met.R.Reclaim.owned_same p q w x.same)
-    c.input.ensures.blocks c.as_slice-hearers.ensures.value c.deliver_all.ensures.delivered)
+    c.input.ensures.blocks c.as_slice-matching.ensures.value c.deliver_all.ensures.delivered)
 
 pub returns-in-Drop-clause-input : goal.returns-in-Drop-clause-input
 returns-in-Drop-clause-input g c =

@@ -1,27 +1,57 @@
-use Rattle.std.proofs.Common.{◌≡◌, ◌+◌, ℕ, List, ap, sym, subst, ◌∙◌, arith}
+use Rattle.std.proofs.Common.{◌≡◌, ◌+◌, ℕ, List, length, ap, sym, subst, ◌∙◌, arith}
 use Rattle.std.specs.List.{insert}
 use Rattle.mbuf_chain.specs.Owners.{times_among}
-use Rattle.mbuf_chain.specs.Chain.{chain_of}
+use Rattle.mbuf_chain.specs.Chain.{ChainView, chain_of, string}
 use Rattle.mbuf_chain.specs.Train.{QueuedPacket, queued_packets}
+use Rattle.mbuf_chain.proofs.Laws.Owners.{live_adds, kept_with}
+use Rattle.mbuf_chain.proofs.Laws.Steps.{apart, live_beside, count_new}
 use Rattle.sockbuf.specs.SockBuf.{SockBufView, IsSockBuf, chains_of}
+use Rattle.sockbuf.proofs.Fronts.{with_bytes, addressed}
 use Rattle.sockbuf.proofs.Queues.{appended, Appended, held_beside, apart_beside}
 use Rattle.sockbuf.proofs.buffer.SockBuf.append_sized.Goals as goal
+
+pub first-first-requires : goal.first-first-requires
+first-first-requires c = live_adds c.in-Ok.ensures.ok
+
+pub link_counted-requires-clause-back : goal.link_counted-requires-clause-back
+link_counted-requires-clause-back c = live_beside _ _ _ _ c.in-Ok.ensures.ok _ c.requires.live
+
+pub link_counted-requires-clause-last : goal.link_counted-requires-clause-last
+link_counted-requires-clause-last c =
+    omega (arith, c.first-first.ensures.index, count_new _ _ _ _ _ c.in-Ok.ensures.ok)
+
+pub link_counted-requires-clause-len : goal.link_counted-requires-clause-len
+link_counted-requires-clause-len c =
+    let a = c.in-Ok.ensures.ok in
+    c.requires.len ∙ ap (λ (v : ChainView). length (string v))
+    (sym (kept_with _ _ _ _ _ a.pool (apart _ _ _ _ a _ c.requires.live)))
 
 pub insert-requires-clause-held : goal.insert-requires-clause-held
 insert-requires-clause-held c =
     let ready = subst (IsSockBuf c.args.pool.now) (sym c.self.view_is) c.requires.ready in
-    let apart =
+    let beside =
     subst (λ (v : SockBufView). times_among c.args.chain (chains_of c.args.pool.now v) ≡ 0) (sym c.self.view_is)
     c.requires.apart in
-    held_beside c.self.inside.train c.with_address-whole.ensures.moves apart ready.held
+    let made =
+    addressed _ _ _ (with_bytes c.args.sender _ c.in-Ok.ensures.ok c.sockaddr_bytes.ensures) c.requires.live
+    c.link_counted.ensures.change in
+    held_beside c.self.inside.train made.moves beside ready.held
+
+pub insert-requires-clause-headed : goal.insert-requires-clause-headed
+insert-requires-clause-headed c =
+    (addressed _ _ _ (with_bytes c.args.sender _ c.in-Ok.ensures.ok c.sockaddr_bytes.ensures) c.requires.live
+    c.link_counted.ensures.change).headed
 
 pub insert-requires-clause-apart : goal.insert-requires-clause-apart
 insert-requires-clause-apart c =
     let ready = subst (IsSockBuf c.args.pool.now) (sym c.self.view_is) c.requires.ready in
-    let apart =
+    let beside =
     subst (λ (v : SockBufView). times_among c.args.chain (chains_of c.args.pool.now v) ≡ 0) (sym c.self.view_is)
     c.requires.apart in
-    apart_beside c.self.inside.train c.with_address-whole.ensures.moves c.requires.live apart ready.held
+    let made =
+    addressed _ _ _ (with_bytes c.args.sender _ c.in-Ok.ensures.ok c.sockaddr_bytes.ensures) c.requires.live
+    c.link_counted.ensures.change in
+    apart_beside c.self.inside.train made.moves c.requires.live beside ready.held
 
 -- what is queued then
 queued : (c : goal.After-self-2-1)
@@ -33,14 +63,17 @@ queued : (c : goal.After-self-2-1)
     })
 queued c =
     let ready = subst (IsSockBuf c.args.pool.now) (sym c.self.view_is) c.requires.ready in
-    let apart =
+    let beside =
     subst (λ (v : SockBufView). times_among c.args.chain (chains_of c.args.pool.now v) ≡ 0) (sym c.self.view_is)
     c.requires.apart in
-    let old : List QueuedPacket = queued_packets c.with_address-whole.new.pool c.self.inside.train in
+    let made =
+    addressed _ _ _ (with_bytes c.args.sender _ c.in-Ok.ensures.ok c.sockaddr_bytes.ensures) c.requires.live
+    c.link_counted.ensures.change in
+    let old : List QueuedPacket = queued_packets c.link_counted.new.self c.self.inside.train in
     let new : QueuedPacket =
     record {
-      number = c.with_address-whole.result;
-      entries = (chain_of c.with_address-whole.new.pool c.with_address-whole.result).entries;
+      number = c.in-Ok.whole;
+      entries = (chain_of c.link_counted.new.self c.in-Ok.whole).entries;
       tag = 0;
     } in
     subst (λ (v : SockBufView). Appended c.args.pool.now v c.args.chain c.args.sender c.insert.new.pool
@@ -53,9 +86,9 @@ queued c =
     {a = c.args.sender} _ _ ready (record {
       live = c.requires.live;
       some = c.laws.ensures.some _ c.requires.live;
-      apart = apart;
-      entries = c.with_address-whole.ensures.entries;
-      made = c.with_address-whole.ensures.moves;
+      apart = beside;
+      entries = made.entries;
+      made = made.moves;
       queued_packets = c.insert.ensures.queued_packets ∙ ap (λ (n : ℕ). insert old n new) c.len-end.ensures;
       held = c.insert.ensures.held;
       moves = c.insert.ensures.moves;

@@ -1,7 +1,0 @@
-use Rattle.std.proofs.Common.{◌≡◌, ℕ, ◌<◌, get_or}
-use Rattle.pcb_table.specs.declared.block.Block.{Block}
-use Rattle.pcb_table.specs.Inside.Fields.{noted_port}
-use Rattle.pcb_table.proofs.blocks.note.Given as goal
-
-abbrev pub invariant-places : goal.invariant-places
-invariant-places l = (k : ℕ) (d : Block) → k < l.place → get_or l.ports k 0 ≡ noted_port (get_or l.blocks k d)
