@@ -14,7 +14,7 @@ help:
 	@echo "make run [SCRIPT=FILE]       play a script by bsdudp and show each line with its reply: half a minute, no proof"
 	@echo "make play SCRIPT=FILE        play a script by bsdplay, which says what happens to each packet"
 	@echo "make test [K=WORD]           run the tests that need no proof: 3 minutes; with K those with WORD in their name"
-	@echo "make prove                   run the gate: prove everything and run every test: 40 minutes on four idle cores"
+	@echo "make prove                   run the gate: prove everything and run every test: about an hour on four idle cores"
 	@echo "make lib [FOLDER=out]        prove the C library and build it in FOLDER"
 	@echo "make install [PREFIX=..]     prove the C library and install it with its header below PREFIX"
 	@echo "make packages [FOLDER=out]   make the Debian packages of what make prove has built"

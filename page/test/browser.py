@@ -209,19 +209,28 @@ BESIDE = {
 }
 
 
+def look(browser, shots, name, picture=None):
+    """The faults of what the page shows, in both themes and at each width. `picture` selects what is below on a narrow
+    one."""
+    yield from unnamed(browser, name)
+    for theme in ("light", "dark"):
+        browser.run(f"setTheme('{theme}')")
+        for width in WIDTHS if theme == "light" else DARK:
+            browser.resize(width)
+            for fault in browser.run("faultsOfLayout()"):
+                yield f"{name}, {width} pixels, {theme}: {fault}"
+            if (theme, width) in SHOT:
+                browser.shoot(shots / f"{name}-{theme}-{width}.png")
+            if picture and width == 360:
+                browser.run(f"document.querySelector('{picture}').scrollIntoView()")
+                browser.shoot(shots / f"{name}-{theme}-{width}-picture.png")
+
+
 def look_beside(browser, shots):
     """The card at the beginning, a question, the editor, an exercise with its questions, the forms, and all queues."""
     for name, code in BESIDE.items():
         browser.run(code)
-        yield from unnamed(browser, name)
-        for theme in ("light", "dark"):
-            browser.run(f"setTheme('{theme}')")
-            for width in WIDTHS if theme == "light" else DARK:
-                browser.resize(width)
-                for fault in browser.run("faultsOfLayout()"):
-                    yield f"{name}, {width} pixels, {theme}: {fault}"
-                if (theme, width) in SHOT:
-                    browser.shoot(shots / f"{name}-{theme}-{width}.png")
+        yield from look(browser, shots, name)
     browser.run("anew(); setTheme('light')") if browser.run("isExercise()") else browser.run("setTheme('light')")
 
 
@@ -229,19 +238,8 @@ def look_all(browser, shots):
     """Looks at the page's layout and colours at each width."""
     for command, name, line in VIEWS:
         browser.run(f"open({json.dumps(command)}, {{ name: {json.dumps(name)}, place: {line} }}); revealAll()")
-        yield from unnamed(browser, name)
         yield from printed(browser, name)
-        for theme in ("light", "dark"):
-            browser.run(f"setTheme('{theme}')")
-            for width in WIDTHS if theme == "light" else DARK:
-                browser.resize(width)
-                for fault in browser.run("faultsOfLayout()"):
-                    yield f"{name}, {width} pixels, {theme}: {fault}"
-                if (theme, width) in SHOT:
-                    browser.shoot(shots / f"{name}-{theme}-{width}.png")
-                if command == "chain" and width == 360:
-                    browser.run("document.querySelector('.wide').scrollIntoView()")
-                    browser.shoot(shots / f"{name}-{theme}-{width}-picture.png")
+        yield from look(browser, shots, name, ".wide" if command == "chain" else None)
     yield from look_beside(browser, shots)
     for dialog in ("make", "about"):
         browser.run(f"open('run', {{ name: '01_a_datagram' }}); byId('{dialog}').click()")
