@@ -7,7 +7,7 @@
 
 enum { MOST = 9000, MTU = 1500, LARGE_MTU = 4352, PORT = 7, OTHER_PORT = 99, FILLS = 600 };
 
-/* crates/bench_packets/src/lib.rt */
+/* crates/bench_c/src/packets.rt */
 uint32_t bsdudp_exchange(const uint8_t *bytes, size_t len, uint16_t mtu, bool is_connected, uint32_t times);
 uint32_t bsdudp_loop_back(const uint8_t *bytes, size_t len, uint32_t times);
 uint32_t bsdudp_send_refused(const uint8_t *bytes, size_t len, bool is_connected, uint32_t times);

@@ -10,7 +10,7 @@ measure_packets() { # WORK
     else
         echo "lwIP's sources can't be had by apt-get: lwIP is left out"
     fi
-    build_bench "$1" packets bench_packets "${more[@]}"
+    build_bench "$1" packets bench_c "${more[@]}"
     print_tables "$1" packets
     check_drops
 }

@@ -1,3 +1,3 @@
 mod Datagrams
-mod Packets
+mod PacketLemmas
 mod Reassembly

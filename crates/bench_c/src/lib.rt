@@ -10,6 +10,7 @@ mod cksum;
 mod digits;
 mod ops;
 mod output;
+mod packets;
 mod pcb;
 mod pool;
 mod reass;

@@ -1,4 +1,5 @@
-//! An example caller of each library: small whole programs, which the READMEs of the crates show.
+//! An example caller of each library: small whole programs, which the READMEs of the crates show. And tests of the
+//! players.
 #![tactic(auto)]
 
 pub mod admission;
@@ -22,6 +23,8 @@ pub mod named_packet;
 pub mod other_machine;
 pub mod packet_sum;
 pub mod packet_taken;
+#[cfg(test)]
+mod players;
 pub mod printed_line;
 pub mod receive_queue;
 pub mod send;

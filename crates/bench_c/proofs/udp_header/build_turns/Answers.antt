@@ -1,7 +1,7 @@
 use Rattle.std.proofs.Common.{sym, subst}
 use Rattle.mbuf_chain.proofs.Laws.Owners.{shown_with}
 use Rattle.mbuf_chain.proofs.Laws.Steps.{live_shown}
-use Rattle.bench_c.proofs.Packets.{HasRoom, room_kept}
+use Rattle.bench_c.proofs.PacketLemmas.{HasRoom, room_kept}
 use Rattle.bench_c.proofs.udp_header.build_turns.Goals as goal
 
 pub turns-init : goal.turns-init

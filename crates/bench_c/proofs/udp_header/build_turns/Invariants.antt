@@ -1,5 +1,5 @@
 use Rattle.mbuf_chain.specs.Chain.{IsLive, chain_of}
-use Rattle.bench_c.proofs.Packets.{HasRoom}
+use Rattle.bench_c.proofs.PacketLemmas.{HasRoom}
 use Rattle.bench_c.proofs.udp_header.build_turns.Given as goal
 
 abbrev pub invariant-turns : goal.invariant-turns

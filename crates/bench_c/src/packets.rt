@@ -1,6 +1,4 @@
-//! What one packet or one send costs a stack: `bench/packets` calls it from C. It's a library of its own, because all
-//! that is compiled together decides what is inlined. No other crate depends on this one.
-#![tactic(auto)]
+//! What one packet or one send costs a stack.
 
 use flat_model::{Addr, Config, Counter, Opt};
 use net_stack::Stack;

@@ -1,8 +1,8 @@
 //! Captures of either format by one reader. The files are those of `pcapng_blocks` and `captures`, joined to a file of
 //! two sections in both byte orders, and one with simple packets, put together by hand. tshark 4.0.17 prints the same
 //! numbers, times and lengths of them.
-use crate::captures::COOKED;
-use crate::pcapng_blocks::{BIG, MERGED};
+use super::captures::COOKED;
+use super::pcapng_blocks::{BIG, MERGED};
 use capture::pcap::LinkType;
 use capture::{Fault, ROOM, Records, Why};
 use script_loop::Buffer;
