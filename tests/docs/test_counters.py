@@ -16,7 +16,7 @@ AMOUNTS = {
     "capi/include/bsdudp.h": r"BSDUDP_COUNTERS = (\d+)",
     "python/bsdudp/_library.py": r"(?m)^COUNTERS = (\d+)",
     "docs/python.md": r"the (\d+) counters",
-    "crates/play_show/src/tell.rt": r"(\d+) counters",
+    "crates/play_show/src/topic_text.rt": r"(\d+) counters",
 }
 
 
