@@ -22,8 +22,8 @@ SERVE = "script_loop::serve::serve_within"
 SERVED = [
     "link_script::caller::CallerAnswersTEXT::answer",
     "chain_script::caller::CallerAnswersTEXT::answer",
-    "play_script::player::PlayerAnswersROOM::answer",
-    "play_wire::player::PlayerAnswersROOM::answer",
+    "play_script::player::PlayerAnswersOUTPUT::answer",
+    "play_wire::player::PlayerAnswersOUTPUT::answer",
 ]
 ENDS = ["net_stack::stack::Stack::end", "chain_script::caller::Caller::end"]
 # Calls that aren't followed, and why.
@@ -33,7 +33,7 @@ LEFT_OUT = {
     ("script_loop::buffer::Buffer::push", "std_alloc::vec::Vec::push"),
     # A line of settings boots the machine, and each line `host` one more.
     ("play_script::player::Player::set_up", "play_script::settle::settled"),
-    ("play_wire::hosts::Hosts::answer_ask", "play_wire::hosts::Hosts::add"),
+    ("play_wire::hosts::Hosts::execute_ask", "play_wire::hosts::Hosts::add"),
     # A line `rx pcap` reads a whole capture, and gives back the memory for its records.
     ("play_script::replay::play_in", "play_pcap::play::play_file"),
     # It's the writer that the page gives, and takes memory for the replies.

@@ -1,4 +1,4 @@
-//! Which of its two players plays a script: what its first line says that asks for something.
+//! Chooses the player of a script by its first line with a request: one machine, or many hosts.
 ghost use Rattle.std.specs.Io.{ReadsAtMost};
 ghost use Rattle.std.specs.Prelude.{◌≡◌, ◌≤◌, [], ◌∷◌, bytes_eq, if◌then◌else◌, length, take};
 
@@ -8,23 +8,23 @@ use std::io::{self, Read};
 /// How many bytes are read ahead at most.
 const AHEAD: usize = 4096;
 
-/// The byte order mark of UTF-8, which editors may put in front of a script (RFC 3629 section 6).
+/// The byte order mark of UTF-8, which editors may write at the beginning of a script (RFC 3629 section 6).
 const MARK: &[u8] = b"\xef\xbb\xbf";
 
 /// The word that a script of many machines begins with.
 const HOST: &[u8] = b"host";
 
-/// Where in a script the next byte stands.
+/// The place of the next byte in a script.
 #[derive(Clone, Copy)]
 enum Place {
-    /// In front of a line's first word.
+    /// Before a line's first word.
     Front,
     Comment,
-    /// After so many bytes of the word `host`.
+    /// After this many bytes of the word `host`.
     Word(usize),
 }
 
-/// How many bytes of a script are a byte order mark at its head.
+/// Returns how many bytes of a script are a byte order mark at its head.
 fn mark_len(script: &[u8]) -> usize
     ensures is { result ≡ (if bytes_eq (take 3 script.now) (239 ∷ 187 ∷ 191 ∷ []) then 3 else 0) }
     ensures most { result ≤ length script.now }
@@ -36,7 +36,7 @@ fn mark_len(script: &[u8]) -> usize
     }
 }
 
-/// Whether the first line that asks for something begins with the word `host`. `None` if these bytes don't tell yet.
+/// Returns whether the first line with a request begins with the word `host`. `None` if these bytes don't show it yet.
 fn begins_with_host(script: &[u8]) -> Option<bool> {
     if script.len() < MARK.len() && MARK.starts_with(script) {
         return None;
@@ -61,14 +61,14 @@ fn begins_with_host(script: &[u8]) -> Option<bool> {
     None
 }
 
-/// What is put after a script if a summary is wanted.
+/// The text that is appended to a script if a summary was requested.
 const SUMMARY: &[u8] = b"\nsummary\n";
 
 /// A script whose first bytes were read ahead.
 #[derive(Drop)]
 pub(crate) struct Ahead<R> {
     inner: R,
-    /// Whether the line `summary` comes after it.
+    /// Whether the line `summary` is appended to it.
     summary: bool,
     front: [u8; AHEAD],
     /// How many bytes were read ahead, and how many of them were given.
@@ -77,7 +77,7 @@ pub(crate) struct Ahead<R> {
 }
 
 impl<R: Read> Ahead<R> {
-    /// A script of which nothing was read yet.
+    /// Returns a script of which nothing was read yet.
     pub(crate) fn over(inner: R) -> Ahead<R> {
         Ahead {
             inner,
@@ -93,27 +93,27 @@ impl<R: Read> Ahead<R> {
         self.summary = true;
     }
 
-    /// Whether it's a script of many machines: its first line that asks for something begins with `host`. It reads as
-    /// far as it has to, and 4,096 bytes at most; a script that doesn't tell by then has one machine. A byte order mark
-    /// at the script's head is passed over: it won't be given.
+    /// Returns whether this is a script of many machines: its first line with a request begins with `host`. Reads as
+    /// far as needed, at most 4,096 bytes; a script that doesn't show it by then has one machine. A byte order mark at
+    /// the beginning of the script is skipped.
     pub(crate) fn has_hosts(&mut self) -> bool {
-        let told = self.look_ahead();
+        let found = self.look_ahead();
         let len = self.len;
         if len <= AHEAD {
             self.given = mark_len(&self.front[..len]);
         }
-        told
+        found
     }
 
-    /// Whether the bytes that are read ahead tell that it's a script of many machines.
+    /// Returns whether the bytes read so far show a script of many machines.
     fn look_ahead(&mut self) -> bool {
         for _ in 0..AHEAD {
             let len = self.len;
             if len > AHEAD {
                 return false;
             }
-            if let Some(told) = begins_with_host(&self.front[..len]) {
-                return told;
+            if let Some(found) = begins_with_host(&self.front[..len]) {
+                return found;
             }
             if len == AHEAD {
                 return false;

@@ -10,12 +10,12 @@ use std::str;
 #[derive(Drop)]
 pub(crate) struct HostFolder<'a> {
     rt: &'a HostRuntime,
-    /// What stands in front of a name: the script's own name up to its last `/`.
+    /// The folder of the script, with which names are completed: its own name up to its last `/`.
     front: &'a [u8],
 }
 
 impl<'a> HostFolder<'a> {
-    /// The folder of the script of this name. That of standard input is the one that the program was called in.
+    /// Returns the folder of the script of this name. That of standard input is the one that the program was called in.
     pub(crate) fn of(rt: &'a HostRuntime, script: &'a str) -> HostFolder<'a> {
         HostFolder {
             rt,
@@ -24,7 +24,7 @@ impl<'a> HostFolder<'a> {
     }
 }
 
-/// The front of a name up to its last `/`.
+/// Returns the front of a name up to its last `/`.
 fn front_of(name: &[u8]) -> &[u8] {
     let mut front = &name[..0];
     for at in 0..name.len() {
@@ -35,7 +35,7 @@ fn front_of(name: &[u8]) -> &[u8] {
     front
 }
 
-/// Whether a name says by itself where its file is.
+/// Returns whether a name says by itself where its file is.
 fn is_absolute(name: &[u8]) -> bool {
     match name {
         [first, ..] => *first == b'/',
@@ -43,7 +43,7 @@ fn is_absolute(name: &[u8]) -> bool {
     }
 }
 
-/// Why a file couldn't be read: a fault that says no more of it.
+/// Returns the fault for a file that couldn't be read.
 fn unread(fault: CaptureFault) -> CaptureFault
     ensures { IsUnread result }
 {

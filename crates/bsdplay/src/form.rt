@@ -1,10 +1,10 @@
-//! How scripts are printed, by the options and by where the output goes.
+//! How scripts are printed: by the options, and by whether the output is a terminal.
 use clap::ArgMatches;
 use play_script::Form;
 use std::env::{self, VarError};
 use std::io::IsTerminal;
 
-/// Whether the variable `NO_COLOR` is there and isn't empty.
+/// Returns whether the variable `NO_COLOR` is there and isn't empty.
 fn declines_colours(rt: &HostRuntime) -> bool {
     match env::var(rt, "NO_COLOR") {
         Ok(value) => !value.is_empty(),
@@ -23,7 +23,7 @@ fn has_colours(rt: &HostRuntime, when: Option<&str>) -> Option<bool> {
     }
 }
 
-/// The form that the options say, or what is wrong with them.
+/// Returns the form that the options say, or what is wrong with them.
 pub(crate) fn form_of(rt: &HostRuntime, found: &ArgMatches<'_>) -> Result<Form, &'static str> {
     let quiet = found.get_flag("quiet");
     let Some(colours) = has_colours(rt, found.get_str("WHEN")) else {

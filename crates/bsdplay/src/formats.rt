@@ -1,8 +1,9 @@
-//! Captures of either format, whole. What plays a capture reads classic files, so a pcapng file becomes one: with the
-//! same records and times, and of each frame the packet alone, since the frames may be of several link types.
+//! Captures of either format, as whole files. The player of captures reads classic files, so a pcapng file is converted
+//! to one: with the same records and times, and with the packets instead of their frames, since these may be of several
+//! link types.
 use byteorder::{ByteOrder, LittleEndian};
 use capture::pcap::ipv4_packet;
-use capture::{Fault, ROOM, Record, Records};
+use capture::{Fault, LONGEST_RECORD, Record, Records};
 use play_pcap::{CaptureFault, read_whole};
 use play_script::Silent;
 use script_loop::{Buffer, Source};
@@ -22,7 +23,7 @@ const SNAP_LEN: u32 = 65_549;
 
 const ETHERNET: u32 = 1;
 
-/// An Ethernet header in front of an IPv4 packet, and one with no protocol.
+/// An Ethernet header for an IPv4 packet, and one without a protocol.
 const IPV4_FRAME: [u8; 14] = [0, 0, 0, 0, 0, 0, 0, 0, 0, 0, 0, 0, 0x08, 0x00];
 
 const OTHER_FRAME: [u8; 14] = [0; 14];
@@ -36,7 +37,7 @@ pub(crate) enum Unread {
     Bad(Fault),
 }
 
-/// The header of a classic file: little endian, version 2.4, nanoseconds, Ethernet.
+/// Returns the header of a classic file: little endian, version 2.4, nanoseconds, Ethernet.
 fn file_header() -> [u8; 24] {
     let mut header = [0; 24];
     LittleEndian::write_u32(&mut header, MAGIC);
@@ -45,7 +46,8 @@ fn file_header() -> [u8; 24] {
     header
 }
 
-/// The header of a record of this time in nanoseconds, with so many bytes. A time after the year 2106 has none.
+/// Returns the header of a record with this time in nanoseconds and this many bytes. The format has no time after the
+/// year 2106.
 fn record_header(time: u64, len: u32) -> [u8; 16] {
     let seconds = (time / NANOSECONDS).min(u64::from(u32::MAX)) as u32;
     let mut header = [0; 16];
@@ -71,13 +73,13 @@ fn push_record(
         Some(packet) => (IPV4_FRAME, packet),
         None => (OTHER_FRAME, [].as_slice()),
     };
-    let len = (front.len() + packet.len().min(ROOM)) as u32;
+    let len = (front.len() + packet.len().min(LONGEST_RECORD)) as u32;
     file.extend_from_slice(&record_header(time, len))?;
     file.extend_from_slice(&front)?;
-    file.extend_from_slice(&packet[..packet.len().min(ROOM)])
+    file.extend_from_slice(&packet[..packet.len().min(LONGEST_RECORD)])
 }
 
-/// The records as a classic file. A record without a time has that of the one before it.
+/// Returns the records as a classic file. A record without a time has that of the one before it.
 fn classic_of<S: Source>(alloc: Global, records: &mut Records<S>) -> Result<Vec<u8>, Unread> {
     let lacking = Unread::Whole(CaptureFault::Memory);
     let mut file = Vec::new(alloc);
@@ -99,7 +101,7 @@ fn classic_of<S: Source>(alloc: Global, records: &mut Records<S>) -> Result<Vec<
     Ok(file)
 }
 
-/// A whole file in classic form: as it stands, unless it's a pcapng file or one that gzip compressed.
+/// Returns a whole file in classic format: unchanged, unless it's a pcapng file or compressed by gzip.
 fn classic_form(alloc: Global, file: Vec<u8>) -> Result<Vec<u8>, Unread> {
     if !file.starts_with(&PCAPNG) && !file.starts_with(&GZIP) {
         return Ok(file);
@@ -121,7 +123,7 @@ fn load_source<S: Source + Drop>(alloc: Global, mut source: S) -> Result<Vec<u8>
     }
 }
 
-/// The capture of this name in classic form; `-` is standard input.
+/// Returns the capture of this name in classic form; `-` is standard input.
 pub(crate) fn load_capture(rt: &HostRuntime, name: &str) -> Result<Vec<u8>, Unread> {
     if name == "-" {
         return load_source(rt.alloc(), Silent(rt.stdin()));
@@ -129,7 +131,7 @@ pub(crate) fn load_capture(rt: &HostRuntime, name: &str) -> Result<Vec<u8>, Unre
     load_file(rt, rt.alloc(), name)
 }
 
-/// The capture in a file in classic form.
+/// Returns the capture in a file in classic form.
 pub(crate) fn load_file(rt: &HostRuntime, alloc: Global, name: &str) -> Result<Vec<u8>, Unread> {
     match fs::open(rt, name) {
         Ok(file) => load_source(alloc, Silent(file)),

@@ -10,10 +10,10 @@ use play_script::Silent;
 use script_loop::{Buffer, LineBuffers};
 use std::{io, str};
 
-/// The status if a capture isn't one, or has fewer records than are asked for.
+/// The status if the file isn't a capture, or has fewer records than the range requests.
 pub(crate) const BAD: u8 = 1;
 
-/// Says what came of a capture, and answers the status.
+/// Prints the result of reading a capture, and returns the status.
 pub(crate) fn report(
     rt: &HostRuntime,
     name: &str,
@@ -31,7 +31,7 @@ pub(crate) fn report(
     }
 }
 
-/// Says what is wrong with a pcapng file, or one that gzip compressed, and answers the status.
+/// Prints what is wrong with a pcapng file or a gzip file, and returns the status.
 fn report_fault(rt: &HostRuntime, name: &str, fault: Fault) -> io::Result<u8> {
     if fault.why == Why::Gzip {
         eprintln!(rt;
@@ -61,7 +61,7 @@ fn print_file(rt: &HostRuntime, name: &str, details: Details) -> io::Result<u8>
     Ok(if whole { status } else { UNREAD })
 }
 
-/// Prints the capture that the command line names, with the records and the ticks that it asks for.
+/// Prints the capture that the command line names as a script, with the records and the ticks that the options request.
 pub(crate) fn print_capture(
     rt: &HostRuntime,
     name: &str,

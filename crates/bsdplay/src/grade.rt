@@ -10,18 +10,18 @@ use std::io::{self, Write};
 /// The status if a hand-in doesn't pass, or the key itself doesn't.
 const FAILED: u8 = 1;
 
-/// What is reported of a hand-in.
+/// The report on a hand-in.
 #[derive(Clone, Copy)]
 struct Report<'a> {
     name: &'a str,
     /// `passed`, `failed`, `empty` or `unread`.
     word: &'static str,
     marks: Option<Marks>,
-    /// What is wrong first, if something is.
+    /// The first fault, if there is one.
     note: &'a [u8],
 }
 
-/// A verdict in one word.
+/// Returns a verdict in one word.
 fn word_of(verdict: &Verdict) -> &'static str {
     if verdict.is_passed() {
         "passed"
@@ -32,7 +32,7 @@ fn word_of(verdict: &Verdict) -> &'static str {
     }
 }
 
-/// Prints a report for people, in a line.
+/// Prints a report as a line of text.
 fn print_line(out: &mut impl Write, report: &Report<'_>) -> io::Result<()> {
     write!(out, "{}: {}", report.name, report.word)?;
     if let Some(marks) = report.marks {
@@ -52,7 +52,7 @@ fn print_line(out: &mut impl Write, report: &Report<'_>) -> io::Result<()> {
     writeln!(out)
 }
 
-/// Writes a number as a field, or nothing if there is none.
+/// Writes a number as a field; an empty field for `None`.
 fn write_number<W: Write + Drop>(
     table: &mut Writer<W>,
     number: Option<u64>,
@@ -80,7 +80,7 @@ fn write_record<W: Write + Drop>(
     table.end_record()
 }
 
-/// The names of the fields, as the first record.
+/// Returns the names of the fields, as the first record.
 fn write_head<W: Write + Drop>(table: &mut Writer<W>) -> Result<(), csv::Error> {
     for name in [
         "file", "verdict", "right", "wrong", "missing", "first", "note",
@@ -107,11 +107,11 @@ impl<W: Write + Drop> Reports<W> {
     }
 }
 
-/// What hand-ins are graded by.
+/// The grader of hand-ins.
 #[derive(Drop)]
 struct Grader {
     marker: Marker,
-    /// What is printed of a script.
+    /// The output of a script.
     written: Vec<u8>,
 }
 
@@ -174,7 +174,7 @@ fn is_key(rt: &HostRuntime, grader: &mut Grader, name: &str, key: &[u8]) -> io::
     Ok(false)
 }
 
-/// Grades a hand-in and reports it. The answer is its status.
+/// Grades a hand-in, prints the report, and returns its status.
 fn grade_file<W: Write + Drop>(
     rt: &HostRuntime,
     grader: &mut Grader,
@@ -211,7 +211,7 @@ fn grade_file<W: Write + Drop>(
     }
 }
 
-/// Grades all hand-ins and answers the greatest status.
+/// Grades all hand-ins, and returns the greatest status.
 fn grade_all<W: Write + Drop>(
     rt: &HostRuntime,
     grader: &mut Grader,

@@ -8,10 +8,10 @@ use std::fs;
 /// The most bytes of a hand-in, and of a key.
 const LONGEST: usize = 65_536;
 
-/// What begins a text in UTF-8 that an editor has marked as such.
+/// The mark at the beginning of a text in UTF-8 that some editors write.
 const MARK: &[u8] = b"\xef\xbb\xbf";
 
-/// The bytes of a file that is graded, or why they can't be had.
+/// Reads a file that is graded. On error, returns the message.
 pub(crate) fn load(rt: &HostRuntime, name: &str) -> Result<Vec<u8>, &'static str> {
     let Ok(file) = fs::open(rt, name) else {
         return Err("it can't be opened");
@@ -32,12 +32,12 @@ pub(crate) fn load(rt: &HostRuntime, name: &str) -> Result<Vec<u8>, &'static str
     }
 }
 
-/// Whether a text is marked as UTF-16.
+/// Returns whether a text is marked as UTF-16.
 fn is_wide(text: &[u8]) -> bool {
     text.starts_with(b"\xff\xfe") || text.starts_with(b"\xfe\xff")
 }
 
-/// A text without the mark that it begins with, if it has one.
+/// Returns a text without the mark that it begins with, if it has one.
 pub(crate) fn unmarked(text: &[u8]) -> &[u8] {
     if text.starts_with(MARK) {
         text.get(MARK.len()..).unwrap_or_default()

@@ -10,7 +10,7 @@ file can't be read, or writing fails.
 Lines, also with a time in front (+0.5s tx); docs/scripts.md or man bsdplay has more:
 ";
 
-/// Puts the forms of commands after the text, a line for each.
+/// Appends the forms of commands, a line for each.
 fn add_forms(text: &mut String, commands: &[Command]) -> Result<(), AllocError> {
     for command in commands {
         text.push_str("  ")?;
@@ -23,7 +23,7 @@ fn add_forms(text: &mut String, commands: &[Command]) -> Result<(), AllocError> 
     Ok(())
 }
 
-/// Puts the forms of `rx` that have words of their own after the text.
+/// Appends the forms of `rx` that have words of their own.
 fn add_forms_of_rx(text: &mut String) -> Result<(), AllocError> {
     for command in [Command::RxPcap, Command::RxUdp, Command::RxRaw] {
         text.push_str("  ")?;
@@ -33,7 +33,7 @@ fn add_forms_of_rx(text: &mut String) -> Result<(), AllocError> {
     Ok(())
 }
 
-/// The statuses, and the forms of all lines, those that docs/scripts.md has.
+/// Returns the statuses, and the forms of all lines, those that docs/scripts.md has.
 pub(crate) fn lines(alloc: Global) -> Result<String, AllocError> {
     let mut text = String::new(alloc);
     text.push_str(FRONT)?;

@@ -21,8 +21,8 @@ pub(crate) fn play_uncaptured<R: Source, W: Sink>(
     play_hosts(rt.alloc(), style, start, reader, writer)
 }
 
-/// Plays a script of many machines, and writes what goes on its wire to a new file. `None` if there can't be such a
-/// file.
+/// Plays a script of many machines, and writes what is sent on its wire to a new file. `None` if the file can't be
+/// created.
 pub(crate) fn play_captured<R: Source, W: Sink>(
     rt: &HostRuntime,
     style: Style<'_>,
@@ -40,7 +40,7 @@ pub(crate) fn play_captured<R: Source, W: Sink>(
     Some(play_hosts(rt.alloc(), style, start, reader, writer))
 }
 
-/// The status of a script, after a line for a capture that isn't whole.
+/// Returns the status of a script, after a line for a capture that isn't whole.
 pub(crate) fn status_of(rt: &HostRuntime, played: &Played, kept: bool) -> io::Result<u8> {
     if kept {
         return Ok(played.status());

@@ -1,5 +1,5 @@
-//! The program that plays scripts for people: it reads its command line, opens the scripts, and has `play_script` play
-//! each on a machine of its own.
+//! The program that plays play scripts: it parses its command line, opens the scripts, and plays each with
+//! `play_script` on a machine of its own, or with `play_wire` on many.
 #![tactic(auto)]
 
 mod choice;
@@ -33,7 +33,7 @@ use std::alloc::{AllocError, Global};
 use std::io::{IsTerminal, Read};
 use std::process::ExitCode;
 use std::{env, fs, io};
-use strict::{print_blank, tell_lacks};
+use strict::{print_blank, print_lacks};
 use sweep::{Seeds, seed_in, seeds_in, sweep};
 use why::{print_why, why_command};
 
@@ -46,7 +46,7 @@ const LACKS: u8 = 1;
 /// The status if a script can't be opened, or something can't be printed.
 const UNREAD: u8 = 4;
 
-/// The command line.
+/// Returns the command line.
 fn command<'a>(alloc: Global, lines: &'a str) -> Result<Command<'a>, AllocError> {
     let command = Command::new(alloc, "bsdplay")
         .version("0.3.0")
@@ -81,13 +81,13 @@ pub(crate) fn report(rt: &HostRuntime, name: &str, played: &Played) -> io::Resul
 struct Manner<'a> {
     form: Form,
     seed: u64,
-    /// Each of these seeds in the place of one.
+    /// Each of these seeds instead of one.
     seeds: Option<Seeds>,
     summary: bool,
     progress: bool,
-    /// Whether each line that asks for something has to have an expectation.
+    /// Whether each line with a request must have an expectation.
     strict: bool,
-    /// Where the capture is written.
+    /// The file to which the capture is written.
     capture: Option<&'a str>,
 }
 
@@ -168,7 +168,7 @@ fn play_wired<R: Read + Drop>(
     status_of(rt, &done.played, done.kept)
 }
 
-/// Plays a script as [`play_source`] does, after it was read whole, and says then of which lines nothing is expected.
+/// Plays a script as [`play_source`] does, after it was read whole, and then prints the lines without an expectation.
 fn play_strictly<R: Read + Drop>(
     rt: &HostRuntime,
     mut source: R,
@@ -182,11 +182,11 @@ fn play_strictly<R: Read + Drop>(
         form: manner.form,
         name: name.as_bytes(),
     };
-    let lacks = tell_lacks(rt, unmarked(script.as_slice()), style)?;
+    let lacks = print_lacks(rt, unmarked(script.as_slice()), style)?;
     Ok(if lacks && status == 0 { LACKS } else { status })
 }
 
-/// Plays a script: on many machines if it begins with a host, and else on one.
+/// Plays a script: on many machines if it begins with a host, otherwise on one.
 fn play_source<R: Read + Drop>(
     rt: &HostRuntime,
     source: R,
@@ -221,7 +221,7 @@ fn play_input<R: Read + Drop>(
     }
 }
 
-/// Plays a script that stands in a file, or standard input if its name is `-`.
+/// Plays the script in a file, or from standard input if the name is `-`.
 fn play_file(rt: &HostRuntime, name: &str, manner: Manner<'_>) -> io::Result<u8> {
     if name == "-" {
         return play_input(rt, rt.stdin(), "-", manner);
@@ -233,7 +233,7 @@ fn play_file(rt: &HostRuntime, name: &str, manner: Manner<'_>) -> io::Result<u8>
     play_input(rt, file, name, manner)
 }
 
-/// Plays all scripts, and answers the greatest of their statuses.
+/// Plays all scripts, and returns the greatest status.
 fn play_all(rt: &HostRuntime, found: &ArgMatches<'_>) -> io::Result<u8> {
     let form = match form_of(rt, found) {
         Ok(form) => form,
@@ -265,7 +265,7 @@ fn play_all(rt: &HostRuntime, found: &ArgMatches<'_>) -> io::Result<u8> {
     Ok(worst)
 }
 
-/// What is wrong with options that stand beside one another, if something is.
+/// Returns what is wrong with the combination of options, or `None`.
 fn misfit(found: &ArgMatches<'_>) -> Option<&'static str> {
     let graded = found.get_flag("grade");
     if !graded && (found.get_str("KEY").is_some() || found.get_flag("csv")) {
@@ -280,7 +280,7 @@ fn misfit(found: &ArgMatches<'_>) -> Option<&'static str> {
     None
 }
 
-/// Does what the options ask for.
+/// Does what the options request.
 fn serve_found(rt: &HostRuntime, found: &ArgMatches<'_>) -> io::Result<u8> {
     if let Some(what) = misfit(found) {
         eprintln!(rt; "bsdplay: {what}")?;
@@ -299,12 +299,12 @@ fn serve_found(rt: &HostRuntime, found: &ArgMatches<'_>) -> io::Result<u8> {
     }
 }
 
-/// The words that the program was called with, its name first.
+/// Returns the words that the program was called with, its name first.
 fn words(rt: &HostRuntime) -> io::Result<Vec<String>> {
     Ok(env::args(rt)?.collect(rt.alloc())?)
 }
 
-/// Does what the command line asks for, and answers the status.
+/// Does what the command line requests, and returns the status.
 fn serve(rt: &HostRuntime) -> io::Result<u8> {
     let Ok(words) = words(rt) else {
         eprintln!(rt; "bsdplay: the command line can't be read")?;

@@ -11,7 +11,7 @@ use script_loop::Buffer;
 use std::fs;
 use std::io::{self, Read};
 
-/// Plays a script from a folder, and writes the packets that come and go to a sink. Answers the status.
+/// Plays a script from a folder, writes the packets that arrive and leave to a sink, and returns the status.
 fn play_to<R: Source, S: Sink + Drop>(
     rt: &HostRuntime,
     style: Style<'_>,

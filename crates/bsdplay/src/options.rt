@@ -5,7 +5,7 @@ use std::alloc::{AllocError, Global};
 /// An option with a long name.
 #[derive(Clone, Copy)]
 pub(crate) struct LongOption {
-    /// What it's looked up by, and what the help calls its value.
+    /// The key of an option, and the name of its value in the help.
     pub(crate) id: &'static str,
     pub(crate) long: &'static str,
     pub(crate) help: &'static str,

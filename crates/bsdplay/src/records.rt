@@ -1,4 +1,4 @@
-//! The records of a capture, each of which a judge is given.
+//! The records of a capture, each of which is given to a judge.
 ghost use Rattle.std.specs.Prelude.{◌≤◌, length, IfSome};
 
 use crate::why::Choice;
@@ -13,7 +13,7 @@ use std::io::Write;
 /// The most bytes of a packet.
 const MOST_BYTES: usize = 65_535;
 
-/// The packet in a record of these bytes, if it has one that a machine takes.
+/// Returns the packet in a record of these bytes, if it has one that a machine takes.
 fn packet_in(record: Record, bytes: &[u8]) -> Option<&[u8]>
     ensures { IfSome result (λ p. length p.now ≤ 65535) }
 {
@@ -23,7 +23,7 @@ fn packet_in(record: Record, bytes: &[u8]) -> Option<&[u8]>
     }
 }
 
-/// The address to which most datagrams of a capture go, and the fault by which the capture ended.
+/// Returns the address to which most datagrams of a capture go, and the fault by which the capture ended.
 pub(crate) fn busiest_of<S: Source>(
     alloc: Global,
     records: &mut Records<S>,
@@ -53,7 +53,7 @@ pub(crate) struct Others {
     pub(crate) without: u64,
 }
 
-/// Why the records of a capture weren't all told.
+/// Why the records of a capture weren't all printed.
 #[derive(Drop)]
 pub(crate) enum End {
     Fault(Fault),
@@ -61,7 +61,7 @@ pub(crate) enum End {
     Unwritten,
 }
 
-/// Writes what's told, and answers whether all was written.
+/// Writes bytes to the output.
 fn put<W: Write>(out: &mut W, bytes: &[u8]) -> Result<(), End> {
     match out.write_all(bytes) {
         Ok(()) => Ok(()),
@@ -69,7 +69,7 @@ fn put<W: Write>(out: &mut W, bytes: &[u8]) -> Result<(), End> {
     }
 }
 
-/// Whether a record is to be printed.
+/// Returns whether a record is to be printed.
 fn is_wanted(range: Option<Range>, number: u64) -> bool {
     match range {
         None => true,
@@ -77,7 +77,7 @@ fn is_wanted(range: Option<Range>, number: u64) -> bool {
     }
 }
 
-/// Prints what is told of the datagrams that were dropped unfinished, if one of their records is wanted.
+/// Prints the datagrams that were dropped unfinished, if one of their records is selected.
 fn put_lost<W: Write>(choice: Choice, judge: &mut Judge, out: &mut W) -> Result<(), End> {
     for _ in 0..u64::MAX {
         match judge.report_lost() {
@@ -96,9 +96,9 @@ fn put_lost<W: Write>(choice: Choice, judge: &mut Judge, out: &mut W) -> Result<
     Ok(())
 }
 
-/// Lets the packet of a record come, and prints what became of it, if the record is for the machine and wanted. Printed
-/// too are the datagrams that were dropped unfinished since the record before.
-fn tell_packet<W: Write>(
+/// Gives the packet of a record to the machine, and prints what happened to it, if the record is for the machine and
+/// selected. Also prints the datagrams that were dropped unfinished since the previous record.
+fn print_packet<W: Write>(
     choice: Choice,
     judge: &mut Judge,
     arrival: &Arrival<'_>,
@@ -132,7 +132,7 @@ struct Clock {
 }
 
 impl Clock {
-    /// How many nanoseconds after the first record this one came.
+    /// Returns how many nanoseconds after the first record this one came.
     fn time_of(&mut self, record: Record) -> u64 {
         let now = record.time.unwrap_or(self.last);
         self.last = now;
@@ -146,8 +146,8 @@ impl Clock {
     }
 }
 
-/// Lets the packets of all records come, and prints what became of each.
-pub(crate) fn tell_records<S: Source, W: Write>(
+/// Gives the packets of all records to the machine, and prints what happened to each.
+pub(crate) fn print_records<S: Source, W: Write>(
     records: &mut Records<S>,
     choice: Choice,
     judge: &mut Judge,
@@ -179,7 +179,7 @@ pub(crate) fn tell_records<S: Source, W: Write>(
                     captured: bytes.len().min(u32::MAX as usize) as u32,
                     packet,
                 };
-                tell_packet(choice, judge, &arrival, &mut others, out)?;
+                print_packet(choice, judge, &arrival, &mut others, out)?;
             }
         }
     }
@@ -187,7 +187,7 @@ pub(crate) fn tell_records<S: Source, W: Write>(
 }
 
 /// Prints the datagrams that are unfinished at the end.
-pub(crate) fn tell_unfinished<W: Write>(judge: &mut Judge, out: &mut W) -> Result<(), End> {
+pub(crate) fn print_unfinished<W: Write>(judge: &mut Judge, out: &mut W) -> Result<(), End> {
     for i in 0..u32::MAX {
         match judge.report_unfinished(i) {
             Ok(true) => put(out, judge.text())?,
@@ -198,8 +198,8 @@ pub(crate) fn tell_unfinished<W: Write>(judge: &mut Judge, out: &mut W) -> Resul
     Ok(())
 }
 
-/// Prints what came of all packets, as a table of the causes.
-pub(crate) fn tell_totals<W: Write>(judge: &mut Judge, out: &mut W) -> Result<(), End> {
+/// Prints what happened to all packets, as a table of the causes.
+pub(crate) fn print_totals<W: Write>(judge: &mut Judge, out: &mut W) -> Result<(), End> {
     judge.report_totals();
     put(out, judge.text())
 }

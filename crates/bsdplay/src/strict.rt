@@ -1,19 +1,19 @@
-//! Scripts of which each line that asks for something has to have an expectation, and exercises that are made of keys.
+//! Scripts in which each line with a request must have an expectation, and exercises that are made from keys.
 use crate::UNREAD;
 use crate::hand_in::{load, unmarked};
 use play_grade::{Marker, first_line};
-use play_script::{Printer, ROOM, Style};
+use play_script::{OUTPUT, Printer, Style};
 use script_loop::Buffer;
 use std::alloc::{AllocError, Global};
 use std::io::{self, Write};
 
-/// Says of each line of a script that nothing is expected of it, where it asks for something.
-fn tell_each(
+/// Prints each line of a script that makes a request without an expectation.
+fn print_each(
     rt: &HostRuntime,
     script: &[u8],
     marker: &mut Marker,
     printer: &mut Printer,
-    text: &mut Buffer<ROOM>,
+    text: &mut Buffer<OUTPUT>,
 ) -> io::Result<()> {
     let mut left = script;
     for _ in 0..script.len().saturating_add(1) {
@@ -35,15 +35,15 @@ fn tell_each(
     Ok(())
 }
 
-/// Says of each line of a script that nothing is expected of it, where it asks for something. Whether there is one.
-pub(crate) fn tell_lacks(rt: &HostRuntime, script: &[u8], style: Style<'_>) -> io::Result<bool> {
-    let mut text: Buffer<ROOM> = Buffer::new(rt.alloc())?;
+/// Prints each line of a script that makes a request without an expectation. Returns whether there is one.
+pub(crate) fn print_lacks(rt: &HostRuntime, script: &[u8], style: Style<'_>) -> io::Result<bool> {
+    let mut text: Buffer<OUTPUT> = Buffer::new(rt.alloc())?;
     let mut printer = Printer::new(rt.alloc(), style)?;
     let mut marker = Marker::new(rt.alloc())?;
-    let told = tell_each(rt, script, &mut marker, &mut printer, &mut text);
+    let result = print_each(rt, script, &mut marker, &mut printer, &mut text);
     let lacks = !printer.sound;
     drop(marker);
-    told.map(|()| lacks)
+    result.map(|()| lacks)
 }
 
 /// Adds a key as an exercise has it.
@@ -60,7 +60,7 @@ fn put_blank(marker: &mut Marker, key: &[u8], text: &mut Vec<u8>) -> Result<(), 
     Ok(())
 }
 
-/// A key as an exercise has it.
+/// Returns a key as an exercise has it.
 fn blank(alloc: Global, key: &[u8]) -> Result<Vec<u8>, AllocError> {
     let mut marker = Marker::new(alloc)?;
     let mut text = Vec::new(alloc);

@@ -3,7 +3,7 @@ use crate::hosts::play_uncaptured;
 use play_script::{Form, Played, Style};
 use std::io::{self, Write};
 
-/// After how many seeds progress is told.
+/// The number of seeds between two messages of progress.
 const STRIDE: u64 = 100;
 
 /// Some seeds, from the first to the last one.
@@ -13,12 +13,12 @@ pub(crate) struct Seeds {
     pub(crate) last: u64,
 }
 
-/// The seed that a word writes.
+/// Returns the seed that a word writes.
 pub(crate) fn seed_in(word: &str) -> Option<u64> {
     word.parse::<u64>().ok()
 }
 
-/// The seeds that a word writes: `1-1000`.
+/// Returns the seeds that a word writes: `1-1000`.
 pub(crate) fn seeds_in(word: &str) -> Option<Seeds> {
     let (first, last) = word.split_once('-')?;
     let (first, last) = (seed_in(first)?, seed_in(last)?);
@@ -29,7 +29,7 @@ pub(crate) fn seeds_in(word: &str) -> Option<Seeds> {
     }
 }
 
-/// The first of these lines that begins with a script's name and a colon: what was wrong with one of its lines.
+/// Returns the first of these lines that begins with a script's name and a colon: what was wrong with one of its lines.
 pub(crate) fn first_fault<'a>(written: &'a [u8], name: &[u8]) -> &'a [u8] {
     let mut rest = written;
     for _ in 0..written.len() {
@@ -63,8 +63,8 @@ fn tell(
     }
 }
 
-/// Plays the script for each seed. A seed for which all comes that is expected is told nothing of; of each other one it
-/// says what went wrong first. The answer is the greatest of the statuses. Progress goes to standard error.
+/// Plays the script for each seed. If all expectations are met for a seed, nothing is printed for it; otherwise the
+/// first fault is. Returns the greatest status. Progress is printed to standard error.
 pub(crate) fn sweep(
     rt: &HostRuntime,
     script: &[u8],

@@ -1,7 +1,7 @@
 //! Why the packets of a capture were dropped: the subcommand, its options, and the capture that it opens.
 use crate::from_pcap::{BAD, report};
 use crate::options::{WHY_OPTIONS, with_options};
-use crate::records::{End, Others, busiest_of, tell_records, tell_totals, tell_unfinished};
+use crate::records::{End, Others, busiest_of, print_records, print_totals, print_unfinished};
 use crate::{UNREAD, USAGE};
 use capture::{Fault, Records, Why};
 use clap::{Arg, ArgAction, ArgMatches, Command};
@@ -13,7 +13,7 @@ use std::alloc::{AllocError, Global};
 use std::net::Ipv4Addr;
 use std::{fs, io};
 
-/// The subcommand, with its options.
+/// Returns the subcommand, with its options.
 pub(crate) fn why_command<'a>(alloc: Global) -> Result<Command<'a>, AllocError> {
     let command = Command::new(alloc, "why")
         .about("Say of each packet of a capture what became of it, and why it was dropped")
@@ -25,7 +25,7 @@ pub(crate) fn why_command<'a>(alloc: Global) -> Result<Command<'a>, AllocError> 
     with_options(alloc, command, &WHY_OPTIONS)
 }
 
-/// What the options say.
+/// The values of the options.
 #[derive(Clone, Copy)]
 pub(crate) struct Choice {
     address: Option<u32>,
@@ -35,7 +35,7 @@ pub(crate) struct Choice {
     layout: Layout,
 }
 
-/// The address that an option names.
+/// Returns the address that an option names.
 fn address_in(word: Option<&str>) -> Result<Option<u32>, &'static str> {
     let Some(word) = word else {
         return Ok(None);
@@ -46,7 +46,7 @@ fn address_in(word: Option<&str>) -> Result<Option<u32>, &'static str> {
     }
 }
 
-/// The port that an option names.
+/// Returns the port that an option names.
 fn port_in(word: Option<&str>) -> Result<Option<u16>, &'static str> {
     let Some(word) = word else {
         return Ok(None);
@@ -57,7 +57,7 @@ fn port_in(word: Option<&str>) -> Result<Option<u16>, &'static str> {
     }
 }
 
-/// The records that an option names.
+/// Returns the records that an option names.
 fn records_in(word: Option<&str>) -> Result<Option<Range>, &'static str> {
     let Some(word) = word else {
         return Ok(None);
@@ -68,7 +68,7 @@ fn records_in(word: Option<&str>) -> Result<Option<Range>, &'static str> {
     }
 }
 
-/// What the options say, or what is wrong with them.
+/// Returns the values of the options, or what is wrong with them.
 fn choice_of(found: &ArgMatches<'_>) -> Result<Choice, &'static str> {
     Ok(Choice {
         address: address_in(found.get_str("A"))?,
@@ -83,7 +83,7 @@ fn choice_of(found: &ArgMatches<'_>) -> Result<Choice, &'static str> {
     })
 }
 
-/// Prints what is wrong with a capture, and answers the status.
+/// Prints what is wrong with a capture, and returns the status.
 fn print_fault(rt: &HostRuntime, name: &str, fault: Fault) -> io::Result<u8> {
     match fault.why {
         Why::Gzip => {
@@ -115,7 +115,7 @@ fn print_others(rt: &HostRuntime, others: Others) -> io::Result<()> {
     Ok(())
 }
 
-/// Has a machine of this address judge the records, and answers the status.
+/// Judges the records by a machine with this address, and returns the status.
 fn judge_records<S: Source>(
     rt: &HostRuntime,
     name: &str,
@@ -132,17 +132,17 @@ fn judge_records<S: Source>(
         }
     };
     let mut out = rt.stdout();
-    let told = tell_records(records, choice, &mut judge, &mut out);
+    let printed = print_records(records, choice, &mut judge, &mut out);
     let totals = match choice.layout {
-        Layout::Lines => tell_totals(&mut judge, &mut out),
+        Layout::Lines => print_totals(&mut judge, &mut out),
         Layout::Objects => Ok(()),
     };
-    let left = tell_unfinished(&mut judge, &mut out);
+    let left = print_unfinished(&mut judge, &mut out);
     judge.end();
     if totals.is_err() || left.is_err() {
         return Ok(UNREAD);
     }
-    match told {
+    match printed {
         Ok(others) => {
             if matches!(choice.layout, Layout::Lines) {
                 print_others(rt, others)?;
@@ -158,7 +158,7 @@ fn judge_records<S: Source>(
     }
 }
 
-/// Chooses the address that most datagrams of a capture go to, and says which it is; or answers the status.
+/// Chooses the address to which most datagrams of a capture go, and prints it; on error, returns the status.
 fn choose_address<S: Source>(
     rt: &HostRuntime,
     name: &str,
@@ -185,7 +185,7 @@ fn choose_address<S: Source>(
     Ok(Ok(busiest.address))
 }
 
-/// Judges what a source gives, which is read once.
+/// Judges the records of a source, which is read once.
 fn judge_source<S: Source + Drop>(
     rt: &HostRuntime,
     name: &str,
@@ -199,7 +199,7 @@ fn judge_source<S: Source + Drop>(
     status
 }
 
-/// Chooses the address by what a source gives; or answers the status.
+/// Chooses the address by the records of a source; on error, returns the status.
 fn choose_by_source<S: Source + Drop>(
     rt: &HostRuntime,
     name: &str,
@@ -233,7 +233,7 @@ fn judge_file(rt: &HostRuntime, name: &str, choice: Choice) -> io::Result<u8> {
     judge_source(rt, name, Silent(file), choice, ours)
 }
 
-/// Judges standard input: by an address that was given as it comes, and otherwise once all of it was read.
+/// Judges standard input: record by record if an address was given, otherwise after all of it was read.
 fn judge_input(rt: &HostRuntime, choice: Choice) -> io::Result<u8> {
     let name = "-";
     if let Some(ours) = choice.address {
@@ -255,7 +255,7 @@ fn judge_input(rt: &HostRuntime, choice: Choice) -> io::Result<u8> {
     }
 }
 
-/// Prints why packets of the capture were dropped that the words behind `why` name, and answers the status.
+/// Prints why packets of the capture named after `why` were dropped, and returns the status.
 pub(crate) fn print_why(rt: &HostRuntime, found: &ArgMatches<'_>) -> io::Result<u8> {
     let choice = match choice_of(found) {
         Ok(choice) => choice,

@@ -20,7 +20,6 @@ pub mod line_echo;
 pub mod lines_of_hosts;
 pub mod link_packets;
 pub mod named_packet;
-pub mod other_machine;
 pub mod packet_sum;
 pub mod packet_taken;
 #[cfg(test)]

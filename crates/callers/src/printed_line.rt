@@ -14,7 +14,7 @@ pub fn line_7(alloc: Global, line: &[u8; 6], reply: &[u8; 2]) -> Result<Buffer<5
     let outcome = Outcome {
         number: 7,
         line: line.as_slice(),
-        told: reply.as_slice(),
+        reply: reply.as_slice(),
         below: b"",
         texts: false,
         expects: false,

@@ -1,6 +1,6 @@
 //! The state of a stack, in words.
 use net_stack::Stack;
-use play_show::{SHOWN, tell_topic, topic_of};
+use play_show::{SHOWN, topic_of, write_topic};
 use script_loop::Buffer;
 use std::alloc::{AllocError, Global};
 
@@ -10,8 +10,8 @@ pub fn told_len(alloc: Global, stack: &Stack, line: &[u8]) -> Result<Option<usiz
     let Some(topic) = topic_of(line) else {
         return Ok(None);
     };
-    let mut told = Buffer::<SHOWN>::new(alloc)?;
+    let mut reply = Buffer::<SHOWN>::new(alloc)?;
     let mut below = Buffer::<SHOWN>::new(alloc)?;
-    tell_topic(stack, topic, &mut told, &mut below);
-    Ok(Some(told.len() + below.len()))
+    write_topic(stack, topic, &mut reply, &mut below);
+    Ok(Some(reply.len() + below.len()))
 }

@@ -21,34 +21,34 @@ use Rattle.capture.specs.declared.fault.Slip.{Slip}
 use Rattle.capture.specs.declared.fault.Why.TheVariants.{NotRead}
 
 -- a stream that can't be read
-pub not_loaded : (o : Order) (old new : Option (List ℕ)) (held room : List ℕ) (s : Slip) → held ≡ []
-    → Fills old held new room → s.why ≡ NotRead → IsLoaded o old new room (Err s)
-not_loaded o old new held room s none f why = (fills_all old new held room none f, inl why)
+pub not_loaded : (o : Order) (old new : Option (List ℕ)) (held buffer : List ℕ) (s : Slip) → held ≡ []
+    → Fills old held new buffer → s.why ≡ NotRead → IsLoaded o old new buffer (Err s)
+not_loaded o old new held buffer s none f why = (fills_all old new held buffer none f, inl why)
 
 -- a header was read, and then as many bytes as it says, or all that are left
-pub record_loaded : (o : Order) (old mid new : Option (List ℕ)) (held first room : List ℕ) (n : ℕ) → held ≡ []
-    → Fills old held mid first → Fills mid first new room → 16 ≤ length first → n ≡ captured_in o first
-    → length room ≤ 16 + n → (length room < 16 + n → IsAtEnd new) → IsLoaded o old new room (Ok tt)
-record_loaded o old mid new held first room n none f g le is most ended =
+pub record_loaded : (o : Order) (old mid new : Option (List ℕ)) (held first buffer : List ℕ) (n : ℕ) → held ≡ []
+    → Fills old held mid first → Fills mid first new buffer → 16 ≤ length first → n ≡ captured_in o first
+    → length buffer ≤ 16 + n → (length buffer < 16 + n → IsAtEnd new) → IsLoaded o old new buffer (Ok tt)
+record_loaded o old mid new held first buffer n none f g le is most ended =
     let long = ap length g.behind ∙ length-append first g.more in
-    let stays : captured_in o room ≡ n =
+    let stays : captured_in o buffer ≡ n =
     ap (captured_in o) g.behind ∙ number_stays_at o 8 first g.more (omega (arith, le)) ∙ sym is in (
-      fills_all old new held room none (fills_then old mid new held first room f g),
+      fills_all old new held buffer none (fills_then old mid new held first buffer f g),
       inr (omega (arith, le, long), omega (arith, stays, most), λ lt. ended (omega (arith, stays, lt))),
     )
 
 -- an empty room at the end
-pub ended_empty : (o : Order) (room : List ℕ) (ended : Type 0) → IsRecord o room ended → room ≡ [] → ended
-ended_empty o room ended read none =
+pub ended_empty : (o : Order) (buffer : List ℕ) (ended : Type 0) → IsRecord o buffer ended → buffer ≡ [] → ended
+ended_empty o buffer ended read none =
     elim read [
       | inl h ↦ h.1
       | inr h ↦ absurd (let len = ap length none in let le = h.0 in omega (arith, le, len))
     ]
 
 -- too few bytes for a record
-pub ended_early : (o : Order) (room : List ℕ) (ended : Type 0) → IsRecord o room ended
-    → length room < 16 + captured_in o room → ended
-ended_early o room ended read lt = elim read [ inl h ↦ h.1 | inr h ↦ h.2 lt ]
+pub ended_early : (o : Order) (buffer : List ℕ) (ended : Type 0) → IsRecord o buffer ended
+    → length buffer < 16 + captured_in o buffer → ended
+ended_early o buffer ended read lt = elim read [ inl h ↦ h.1 | inr h ↦ h.2 lt ]
 
 header_len : (o : Order) (a b c d : ℕ) (bytes : List ℕ)
     → drop 16 ((number o w32 a ++ number o w32 b ++ number o w32 c ++ number o w32 d) ++ bytes) ≡ bytes
@@ -56,17 +56,18 @@ header_len Little a b c d bytes = refl
 header_len Big a b c d bytes = refl
 
 -- the bytes of a record
-pub record_found : (o : Order) (r : Captured) (room : List ℕ) → room ≡ record_bytes o r
-    → take (length r.bytes) (drop 16 room) ≡ r.bytes
-record_found o r room is =
+pub record_found : (o : Order) (r : Captured) (buffer : List ℕ) → buffer ≡ record_bytes o r
+    → take (length r.bytes) (drop 16 buffer) ≡ r.bytes
+record_found o r buffer is =
     ap (λ (xs : List ℕ). take (length r.bytes) (drop 16 xs)) is
     ∙ ap (take (length r.bytes)) (header_len o r.seconds r.fraction (length r.bytes) r.original r.bytes)
     ∙ take_all (length r.bytes) r.bytes (omega arith)
 
 -- a record that was read is all that was read
-pub all_of_record : (o : Order) (room rest : List ℕ) (ended : Type 0) (r : Captured) → room ≡ record_bytes o r ++ rest
-    → length room ≡ 16 + captured_in o room + length rest → IsRecord o room ended → room ≡ record_bytes o r
-all_of_record o room rest ended r is len read =
+pub all_of_record : (o : Order) (buffer rest : List ℕ) (ended : Type 0) (r : Captured) → buffer ≡ record_bytes o r ++
+    rest
+    → length buffer ≡ 16 + captured_in o buffer + length rest → IsRecord o buffer ended → buffer ≡ record_bytes o r
+all_of_record o buffer rest ended r is len read =
     elim read [
       | inl h ↦ absurd (let lt = h.0 in omega (arith, lt, len))
       | inr h ↦
@@ -81,42 +82,42 @@ of_record h r time len =
     record { time = Some time; original_len = r.original; link = Some h.link; from = 16; len = len }
 
 -- a record was read, and found in the room
-pub record_read : (h : Header) (old new : Option (List ℕ)) (room bytes rest : List ℕ) (r : Captured) (time len : ℕ)
-    → bytes ≡ room → IsLoaded h.order old new room (Ok tt) → FitsFields r → bytes ≡ record_bytes h.order r ++ rest
+pub record_read : (h : Header) (old new : Option (List ℕ)) (buffer bytes rest : List ℕ) (r : Captured) (time len : ℕ)
+    → bytes ≡ buffer → IsLoaded h.order old new buffer (Ok tt) → FitsFields r → bytes ≡ record_bytes h.order r ++ rest
     → length bytes ≡ 16 + captured_in h.order bytes + length rest → time ≡ nanoseconds h.resolution r.seconds r.fraction
-    → len ≡ length r.bytes → ClassicReads h old new room (Ok (Some (of_record h r time len)))
-record_read h old new room bytes rest r time len same loaded fits spelled sized time_is len_is =
+    → len ≡ length r.bytes → ClassicReads h old new buffer (Ok (Some (of_record h r time len)))
+record_read h old new buffer bytes rest r time len same loaded fits spelled sized time_is len_is =
     let sized_room = subst (λ (xs : List ℕ). length xs ≡ 16 + captured_in h.order xs + length rest) same sized in
-    let all = all_of_record h.order room rest (IsAtEnd new) r (sym same ∙ spelled) sized_room loaded.1 in
-    let found : take len (drop 16 room) ≡ r.bytes =
-    ap (λ (n : ℕ). take n (drop 16 room)) len_is ∙ record_found h.order r room all in
+    let all = all_of_record h.order buffer rest (IsAtEnd new) r (sym same ∙ spelled) sized_room loaded.1 in
+    let found : take len (drop 16 buffer) ≡ r.bytes =
+    ap (λ (n : ℕ). take n (drop 16 buffer)) len_is ∙ record_found h.order r buffer all in
     let packet : ℕ → List ℕ → Packet =
     λ t xs. record { time = Some t; original = r.original; link = Some h.link; bytes = xs } in
     (r, fits, loaded.0, all, ap (packet time) found ∙ ap (λ (t : ℕ). packet t r.bytes) time_is)
 
-pub record_inside : (h : Header) (room bytes rest : List ℕ) (r : Captured) (ended : Type 0) (time len : ℕ)
-    → bytes ≡ room → IsRecord h.order room ended → bytes ≡ record_bytes h.order r ++ rest
+pub record_inside : (h : Header) (buffer bytes rest : List ℕ) (r : Captured) (ended : Type 0) (time len : ℕ)
+    → bytes ≡ buffer → IsRecord h.order buffer ended → bytes ≡ record_bytes h.order r ++ rest
     → length bytes ≡ 16 + captured_in h.order bytes + length rest → len ≡ length r.bytes
-    → IsInside (length room) (Some (of_record h r time len))
-record_inside h room bytes rest r ended time len same read spelled sized len_is =
+    → IsInside (length buffer) (Some (of_record h r time len))
+record_inside h buffer bytes rest r ended time len same read spelled sized len_is =
     let sized_room = subst (λ (xs : List ℕ). length xs ≡ 16 + captured_in h.order xs + length rest) same sized in
-    let all = all_of_record h.order room rest ended r (sym same ∙ spelled) sized_room read in
-    let body : drop 16 room ≡ r.bytes =
+    let all = all_of_record h.order buffer rest ended r (sym same ∙ spelled) sized_room read in
+    let body : drop 16 buffer ≡ r.bytes =
     ap (drop 16) all ∙ header_len h.order r.seconds r.fraction (length r.bytes) r.original r.bytes in
-    let is = sym (ap length body) ∙ length-drop 16 room in
+    let is = sym (ap length body) ∙ length-drop 16 buffer in
     omega (arith, is, len_is, sized_room)
 
 -- bytes that are no whole record
-pub record_cut : (h : Header) (old new : Option (List ℕ)) (room bytes : List ℕ) (f : classic.Fault) → bytes ≡ room
-    → IsLoaded h.order old new room (Ok tt) → IsCut f.why h.order bytes f.offset
-    → length bytes < 16 + captured_in h.order bytes → ClassicReads h old new room (Err (classic_slip f))
-record_cut h old new room bytes f same loaded is lt =
+pub record_cut : (h : Header) (old new : Option (List ℕ)) (buffer bytes : List ℕ) (f : classic.Fault) → bytes ≡ buffer
+    → IsLoaded h.order old new buffer (Ok tt) → IsCut f.why h.order bytes f.offset
+    → length bytes < 16 + captured_in h.order bytes → ClassicReads h old new buffer (Err (classic_slip f))
+record_cut h old new buffer bytes f same loaded is lt =
     let short = subst (λ (xs : List ℕ). length xs < 16 + captured_in h.order xs) same lt in (
       loaded.0,
       inr (inr (
         f,
         refl,
         subst (λ (xs : List ℕ). IsCut f.why h.order xs f.offset) same is,
-        ended_early h.order room (IsAtEnd new) loaded.1 short,
+        ended_early h.order buffer (IsAtEnd new) loaded.1 short,
       )),
     )

@@ -15,14 +15,14 @@ use Rattle.capture.specs.declared.fault.Why.TheVariants.{NotRead}
 use Rattle.capture.specs.declared.records.Kind.TheVariants as kinds
 
 -- a stream that can't be read
-pub not_opened : (old new : Option (List ℕ)) (held room : List ℕ) (s : Slip) → held ≡ [] → Fills old held new room
-    → s.why ≡ NotRead → Opens old new room (Err s)
-not_opened old new held room s none f why = (fills_all old new held room none f, inl why)
+pub not_opened : (old new : Option (List ℕ)) (held buffer : List ℕ) (s : Slip) → held ≡ [] → Fills old held new buffer
+    → s.why ≡ NotRead → Opens old new buffer (Err s)
+not_opened old new held buffer s none f why = (fills_all old new held buffer none f, inl why)
 
-pub not_opened_then : (old mid new : Option (List ℕ)) (held first room : List ℕ) (s : Slip) → held ≡ []
-    → Fills old held mid first → Fills mid first new room → s.why ≡ NotRead → Opens old new room (Err s)
-not_opened_then old mid new held first room s none f g why =
-    not_opened old new held room s none (fills_then old mid new held first room f g) why
+pub not_opened_then : (old mid new : Option (List ℕ)) (held first buffer : List ℕ) (s : Slip) → held ≡ []
+    → Fills old held mid first → Fills mid first new buffer → s.why ≡ NotRead → Opens old new buffer (Err s)
+not_opened_then old mid new held first buffer s none f g why =
+    not_opened old new held buffer s none (fills_then old mid new held first buffer f g) why
 
 -- what the first bytes say, whatever stands behind them
 kind_stays : (front more : List ℕ) → 4 ≤ length front → kind_in (front ++ more) ≡ kind_in front
@@ -37,9 +37,9 @@ kind_stays (a ∷ b ∷ c ∷ d ∷ xs) more le =
     let four_of : ltb (length (a ∷ b ∷ c ∷ d ∷ xs)) 4 ≡ false = le-ltb _ _ (omega arith) in
     rw (two, four, two_of, four_of) refl
 
-is_classic : (mid new : Option (List ℕ)) (first room : List ℕ) → Fills mid first new room
-    → kind_in first ≡ kinds.Classic → 12 ≤ length first → kind_in room ≡ kinds.Classic
-is_classic mid new first room f kind le =
+is_classic : (mid new : Option (List ℕ)) (first buffer : List ℕ) → Fills mid first new buffer
+    → kind_in first ≡ kinds.Classic → 12 ≤ length first → kind_in buffer ≡ kinds.Classic
+is_classic mid new first buffer f kind le =
     ap kind_in f.behind ∙ kind_stays first f.more (omega (arith, le)) ∙ kind
 
 -- a header needs 24 bytes
@@ -59,30 +59,30 @@ header_long bytes h is =
     ]
 
 -- a file that ends before a header does
-pub short_header : (old new : Option (List ℕ)) (held room : List ℕ) → held ≡ [] → Fills old held new room
-    → kind_in room ≡ kinds.Classic → length room < 12 → IsAtEnd new
-    → Opens old new room (Err (classic_slip (fault HeaderCut 0)))
-short_header old new held room none f kind lt ended = (
-  fills_all old new held room none f,
-  inr (inr (fault HeaderCut 0, kind, cut room (omega (arith, lt)), λ l. ended, refl)),
+pub short_header : (old new : Option (List ℕ)) (held buffer : List ℕ) → held ≡ [] → Fills old held new buffer
+    → kind_in buffer ≡ kinds.Classic → length buffer < 12 → IsAtEnd new
+    → Opens old new buffer (Err (classic_slip (fault HeaderCut 0)))
+short_header old new held buffer none f kind lt ended = (
+  fills_all old new held buffer none f,
+  inr (inr (fault HeaderCut 0, kind, cut buffer (omega (arith, lt)), λ l. ended, refl)),
 )
 
 -- a header with a fault
-pub bad_header : (old mid new : Option (List ℕ)) (held first room : List ℕ) (f : classic.Fault) → held ≡ []
-    → Fills old held mid first → Fills mid first new room → kind_in first ≡ kinds.Classic → 12 ≤ length first
-    → header_of room ≡ Err f → (length room < 24 → IsAtEnd new) → Opens old new room (Err (classic_slip f))
-bad_header old mid new held first room f none a b kind le is ended = (
-  fills_all old new held room none (fills_then old mid new held first room a b),
-  inr (inr (f, is_classic mid new first room b kind le, is, ended, refl)),
+pub bad_header : (old mid new : Option (List ℕ)) (held first buffer : List ℕ) (f : classic.Fault) → held ≡ []
+    → Fills old held mid first → Fills mid first new buffer → kind_in first ≡ kinds.Classic → 12 ≤ length first
+    → header_of buffer ≡ Err f → (length buffer < 24 → IsAtEnd new) → Opens old new buffer (Err (classic_slip f))
+bad_header old mid new held first buffer f none a b kind le is ended = (
+  fills_all old new held buffer none (fills_then old mid new held first buffer a b),
+  inr (inr (f, is_classic mid new first buffer b kind le, is, ended, refl)),
 )
 
 -- a header
-pub good_header : (old mid new : Option (List ℕ)) (held first room : List ℕ) (h : Header) → held ≡ []
-    → Fills old held mid first → Fills mid first new room → header_of room ≡ Ok h → length room ≤ 24
-    → Opens old new room (Ok (Some h))
-good_header old mid new held first room h none a b is le =
-    let long = header_long room h is in (
-      fills_all old new held room none (fills_then old mid new held first room a b),
+pub good_header : (old mid new : Option (List ℕ)) (held first buffer : List ℕ) (h : Header) → held ≡ []
+    → Fills old held mid first → Fills mid first new buffer → header_of buffer ≡ Ok h → length buffer ≤ 24
+    → Opens old new buffer (Ok (Some h))
+good_header old mid new held first buffer h none a b is le =
+    let long = header_long buffer h is in (
+      fills_all old new held buffer none (fills_then old mid new held first buffer a b),
       omega (arith, le, long),
       is,
     )

@@ -66,9 +66,9 @@ the_size : (p o : Order) (m n : ℕ) → pair p m ≡ pair o n → m ≡ n
 the_size p o m n e = ap said e
 
 -- a block that was read to the length that its head says is all that was read
-pub all_of_it : (o : Option Order) (room : List ℕ) (ended : Type 0) (b : Part) → IsFirst o room b
-    → IsBlockRead o room ended → room ≡ block_bytes b
-all_of_it o room ended b first read =
+pub all_of_it : (o : Option Order) (buffer : List ℕ) (ended : Type 0) (b : Part) → IsFirst o buffer b
+    → IsBlockRead o buffer ended → buffer ≡ block_bytes b
+all_of_it o buffer ended b first read =
     let long = ap length first.spelled ∙ length-append (block_bytes b) first.rest in
     let len = block_len b in
     elim read [

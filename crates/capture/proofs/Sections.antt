@@ -16,16 +16,17 @@ use Rattle.capture.specs.declared.fault.Slip.{Slip}
 use Rattle.capture.specs.declared.section.Step.TheVariants as steps
 
 -- a head was read, and then as many bytes as it says, or all that are left
-pub block_loaded : (o : Option Order) (old mid new : Option (List ℕ)) (held first room : List ℕ) (p : Order) (n : ℕ)
-    → Fills old held mid first → Fills mid first new room → 12 ≤ length first → head_of o first ≡ Ok (p, n)
-    → length room ≤ n → (length room < n → IsAtEnd new) → BlockLoads o old held new room (Ok tt)
-block_loaded o old mid new held first room p n f g le head most ended =
+pub block_loaded : (o : Option Order) (old mid new : Option (List ℕ)) (held first buffer : List ℕ) (p : Order) (n : ℕ)
+    → Fills old held mid first → Fills mid first new buffer → 12 ≤ length first → head_of o first ≡ Ok (p, n)
+    → length buffer ≤ n → (length buffer < n → IsAtEnd new) → BlockLoads o old held new buffer (Ok tt)
+block_loaded o old mid new held first buffer p n f g le head most ended =
     let long = ap length g.behind ∙ length-append first g.more in
-    let stays : head_of o room ≡ Ok (p, n) = ap (head_of o) g.behind ∙ head_stays o first g.more le ∙ head in
-    (fills_then old mid new held first room f g, inr (p, n, stays, omega (arith, le, long), most, ended))
+    let stays : head_of o buffer ≡ Ok (p, n) = ap (head_of o) g.behind ∙ head_stays o first g.more le ∙ head in
+    (fills_then old mid new held first buffer f g, inr (p, n, stays, omega (arith, le, long), most, ended))
 
-pub block_ended : (o : Option Order) (room : List ℕ) (ended : Type 0) → IsBlockRead o room ended → room ≡ [] → ended
-block_ended o room ended read none =
+pub block_ended : (o : Option Order) (buffer : List ℕ) (ended : Type 0) → IsBlockRead o buffer ended → buffer ≡ [] →
+    ended
+block_ended o buffer ended read none =
     elim read [
       | inl h ↦ h.1
       | inr h ↦ absurd (let len = ap length none in let le = h.3 in omega (arith, le, len))
@@ -55,24 +56,24 @@ passed_none k offset old held lt = record {
 
 -- what stands behind the blocks that were passed over
 passed_then : (k : Known) (offset : ℕ) (old : Option (List ℕ)) (held : List ℕ) (mid : Known) (at : ℕ)
-    (now new : Option (List ℕ)) (room filled : List ℕ) → Passed k offset old held mid at now room
-    → Fills now room new filled → Passed k offset old held mid at new filled
-passed_then k offset old held mid at now new room filled p f = record {
+    (now new : Option (List ℕ)) (buffer filled : List ℕ) → Passed k offset old held mid at now buffer
+    → Fills now buffer new filled → Passed k offset old held mid at new filled
+passed_then k offset old held mid at now new buffer filled p f = record {
   blocks = p.blocks;
   pass = p.pass;
-  read = fills_behind old now new held (blocks_bytes p.blocks) room filled p.read f;
+  read = fills_behind old now new held (blocks_bytes p.blocks) buffer filled p.read f;
   offset_is = p.offset_is;
 }
 
 -- a block more was passed over
 passed_more : (k : Known) (offset : ℕ) (old : Option (List ℕ)) (held : List ℕ) (mid new : Known) (at : ℕ)
-    (now : Option (List ℕ)) (room : List ℕ) (b : Part) → Passed k offset old held mid at now room
-    → room ≡ block_bytes b → IsTaken mid b new None
-    → Passed k offset old held new (min (at + length room) (2 ^ 64 - 1)) now []
-passed_more k offset old held mid new at now room b p is t =
-    let more : blocks_bytes (p.blocks ++ b ∷ []) ≡ blocks_bytes p.blocks ++ room =
+    (now : Option (List ℕ)) (buffer : List ℕ) (b : Part) → Passed k offset old held mid at now buffer
+    → buffer ≡ block_bytes b → IsTaken mid b new None
+    → Passed k offset old held new (min (at + length buffer) (2 ^ 64 - 1)) now []
+passed_more k offset old held mid new at now buffer b p is t =
+    let more : blocks_bytes (p.blocks ++ b ∷ []) ≡ blocks_bytes p.blocks ++ buffer =
     bytes_more p.blocks b ∙ ap (λ (xs : List ℕ). blocks_bytes p.blocks ++ xs) (sym is) in
-    let long = ap length more ∙ length-append (blocks_bytes p.blocks) room in
+    let long = ap length more ∙ length-append (blocks_bytes p.blocks) buffer in
     let at_is = p.offset_is in
     record {
       blocks = p.blocks ++ b ∷ [];
@@ -82,12 +83,13 @@ passed_more k offset old held mid new at now room b p is t =
     }
 
 -- a block was read, and says this
-pub block_read : (k new : Known) (old now : Option (List ℕ)) (held room bytes : List ℕ) (found : Option Found)
-    → bytes ≡ room → Fills old held now room → IsBlockRead k.order room (IsAtEnd now) → Takes k bytes (Ok found) new
-    → (b : Part) × Fills old held now room × (room ≡ block_bytes b) × IsTaken k b new (packet_found room found)
-block_read k new old now held room bytes found e f read t =
+pub block_read : (k new : Known) (old now : Option (List ℕ)) (held buffer bytes : List ℕ) (found : Option Found)
+    → bytes ≡ buffer → Fills old held now buffer → IsBlockRead k.order buffer (IsAtEnd now) → Takes k bytes (Ok found)
+    new
+    → (b : Part) × Fills old held now buffer × (buffer ≡ block_bytes b) × IsTaken k b new (packet_found buffer found)
+block_read k new old now held buffer bytes found e f read t =
     let first = subst (λ (xs : List ℕ). IsFirst k.order xs t.0) e t.1 in
-    let all = all_of_it k.order room (IsAtEnd now) t.0 first read in (
+    let all = all_of_it k.order buffer (IsAtEnd now) t.0 first read in (
       t.0,
       f,
       all,
@@ -98,15 +100,15 @@ block_read k new old now held room bytes found e f read t =
     )
 
 -- a block was read that is none, or whose body has a fault
-pub block_refused : (k new : Known) (old now : Option (List ℕ)) (held room bytes : List ℕ) (s : Slip) → bytes ≡ room
-    → Fills old held now room → IsBlockRead k.order room (IsAtEnd now) → Takes k bytes (Err s) new
-    → BlockReads k old held new now room (Err s)
-block_refused k new old now held room bytes s e f read t =
-    let long : IsAtEnd now ⊎ IsLong k.order room =
+pub block_refused : (k new : Known) (old now : Option (List ℕ)) (held buffer bytes : List ℕ) (s : Slip) → bytes ≡ buffer
+    → Fills old held now buffer → IsBlockRead k.order buffer (IsAtEnd now) → Takes k bytes (Err s) new
+    → BlockReads k old held new now buffer (Err s)
+block_refused k new old now held buffer bytes s e f read t =
+    let long : IsAtEnd now ⊎ IsLong k.order buffer =
     elim read [
       | inl h ↦ inl h.1
       | inr h ↦
-          elim (cases_lt (length room) h.1) [
+          elim (cases_lt (length buffer) h.1) [
             | inl lt ↦ inl (h.5 lt)
             | inr le ↦ inr (h.0, h.1, h.2, le)
           ]
@@ -114,52 +116,52 @@ block_refused k new old now held room bytes s e f read t =
     elim (subst (λ (xs : List ℕ). Takes k xs (Err s) new) e t) [
       | inl h ↦ (f, inl (inr (inr (inr (h.0, h.1, long, h.2)))))
       | inr h ↦
-          let all = all_of_it k.order room (IsAtEnd now) h.0 h.1 read in
+          let all = all_of_it k.order buffer (IsAtEnd now) h.0 h.1 read in
           (f, inr (h.0, all, h.1.next, h.2, h.3))
     ]
 
 -- ---- the next packet
 
 pub none_is_left : (k : Known) (offset : ℕ) (old : Option (List ℕ)) (held : List ℕ) (mid new : Known) (at : ℕ)
-    (now then : Option (List ℕ)) (room filled : List ℕ) → Passed k offset old held mid at now room
-    → BlockReads mid now room new then filled (Ok steps.Ended)
+    (now then : Option (List ℕ)) (buffer filled : List ℕ) → Passed k offset old held mid at now buffer
+    → BlockReads mid now buffer new then filled (Ok steps.Ended)
     → BlocksRead k offset old held new at then filled (Ok None)
-none_is_left k offset old held mid new at now then room filled p b = (
+none_is_left k offset old held mid new at now then buffer filled p b = (
   subst (λ (m : Known). Passed k offset old held m at then filled) (sym b.3)
-      (passed_then k offset old held mid at now then room filled p b.0),
+      (passed_then k offset old held mid at now then buffer filled p b.0),
   b.1,
   b.2,
 )
 
 pub packet_read : (k : Known) (offset : ℕ) (old : Option (List ℕ)) (held : List ℕ) (mid new : Known) (at : ℕ)
-    (now then : Option (List ℕ)) (room filled : List ℕ) (f : Found) → Passed k offset old held mid at now room
-    → BlockReads mid now room new then filled (Ok (steps.Packet f))
+    (now then : Option (List ℕ)) (buffer filled : List ℕ) (f : Found) → Passed k offset old held mid at now buffer
+    → BlockReads mid now buffer new then filled (Ok (steps.Packet f))
     → BlocksRead k offset old held new at then filled (Ok (Some f))
-packet_read k offset old held mid new at now then room filled f p b =
-    (mid, b.0, passed_then k offset old held mid at now then room filled p b.1, b.2, b.3)
+packet_read k offset old held mid new at now then buffer filled f p b =
+    (mid, b.0, passed_then k offset old held mid at now then buffer filled p b.1, b.2, b.3)
 
 pub refused_then : (k : Known) (offset : ℕ) (old : Option (List ℕ)) (held : List ℕ) (mid new : Known) (at : ℕ)
-    (now then : Option (List ℕ)) (room filled : List ℕ) (s : Slip) → Passed k offset old held mid at now room
-    → BlockReads mid now room new then filled (Err s) → BlocksRead k offset old held new at then filled (Err s)
-refused_then k offset old held mid new at now then room filled s p b = (
+    (now then : Option (List ℕ)) (buffer filled : List ℕ) (s : Slip) → Passed k offset old held mid at now buffer
+    → BlockReads mid now buffer new then filled (Err s) → BlocksRead k offset old held new at then filled (Err s)
+refused_then k offset old held mid new at now then buffer filled s p b = (
   mid,
-  passed_then k offset old held mid at now then room filled p b.0,
+  passed_then k offset old held mid at now then buffer filled p b.0,
   elim b.1 [ inl h ↦ inl h | inr h ↦ inr (inl h) ],
 )
 
 passed_one : (k : Known) (offset : ℕ) (old : Option (List ℕ)) (held : List ℕ) (mid new : Known) (at : ℕ)
-    (now then : Option (List ℕ)) (room filled : List ℕ) → Passed k offset old held mid at now room
-    → BlockReads mid now room new then filled (Ok steps.Passed)
+    (now then : Option (List ℕ)) (buffer filled : List ℕ) → Passed k offset old held mid at now buffer
+    → BlockReads mid now buffer new then filled (Ok steps.Passed)
     → Passed k offset old held new (further at filled) then []
-passed_one k offset old held mid new at now then room filled p b =
+passed_one k offset old held mid new at now then buffer filled p b =
     passed_more k offset old held mid new at then filled b.0
-    (passed_then k offset old held mid at now then room filled p b.1) b.2 b.3
+    (passed_then k offset old held mid at now then buffer filled p b.1) b.2 b.3
 
 pub passed_next : (k : Known) (offset : ℕ) (old : Option (List ℕ)) (held : List ℕ) (mid new : Known) (at next : ℕ)
-    (now then : Option (List ℕ)) (room filled cleared : List ℕ) → Passed k offset old held mid at now room
-    → BlockReads mid now room new then filled (Ok steps.Passed) → next ≡ further at filled → cleared ≡ []
+    (now then : Option (List ℕ)) (buffer filled cleared : List ℕ) → Passed k offset old held mid at now buffer
+    → BlockReads mid now buffer new then filled (Ok steps.Passed) → next ≡ further at filled → cleared ≡ []
     → Passed k offset old held new next then cleared
-passed_next k offset old held mid new at next now then room filled cleared p b is none =
+passed_next k offset old held mid new at next now then buffer filled cleared p b is none =
     subst (λ (xs : List ℕ). Passed k offset old held new next then xs) (sym none)
     (subst (λ (n : ℕ). Passed k offset old held new n then []) (sym is)
-    (passed_one k offset old held mid new at now then room filled p b))
+    (passed_one k offset old held mid new at now then buffer filled p b))

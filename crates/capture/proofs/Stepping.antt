@@ -1,6 +1,6 @@
 -- Steps of a reader.
 use Rattle.std.proofs.Common.{◌≡◌, ℕ, ◌+◌, ◌-◌, ◌^◌, min, List, Option, Some, None, Result, refl, sym, ap, subst, ◌∙◌}
-use Rattle.capture.specs.Places.{FindsIn, Place, Reading, Shows, Steps, StepsAfter}
+use Rattle.capture.specs.Places.{FindsIn, Place, Reading, StepGives, Steps, StepsAfter}
 use Rattle.capture.specs.Steps.{further}
 use Rattle.capture.specs.declared.blocks.Found.{Found}
 use Rattle.capture.specs.declared.fault.Fault.{Fault}
@@ -14,20 +14,20 @@ none_of (Some f) other = absurd (other f refl)
 
 -- what was found, and what is answered of it, is a step
 pub stepped : (now : Reading) (place : Place) (fault : Option Fault) (bytes : List ℕ) (new : Reading)
-    (result : Result (Option Record) Fault) (mid : Place) (room : List ℕ) (out : Result (Option Found) Slip)
+    (result : Result (Option Record) Fault) (mid : Place) (buffer : List ℕ) (out : Result (Option Found) Slip)
     → record { place = place; fault = fault; bytes = bytes } ≡ now → fault ≡ None
-    → FindsIn place.format place mid room out → mid.number ≡ place.number → Shows mid room out result new
+    → FindsIn place.format place mid buffer out → mid.number ≡ place.number → StepGives mid buffer out result new
     → Steps now new result
-stepped now place fault bytes new result mid room out view none finds number shows =
-    let step : StepsAfter None place new result = (mid, room, out, finds, number, shows) in
+stepped now place fault bytes new result mid buffer out view none finds number shows =
+    let step : StepsAfter None place new result = (mid, buffer, out, finds, number, shows) in
     subst (λ (r : Reading). Steps r new result) view
     (subst (λ (f : Option Fault). StepsAfter f place new result) (sym none) step)
 
 -- where a reader stands behind a record
-pub moved : (mid : Place) (room : List ℕ) (number offset : ℕ) → number ≡ min (mid.number + 1) (2 ^ 64 - 1)
-    → offset ≡ further mid.offset room
+pub moved : (mid : Place) (buffer : List ℕ) (number offset : ℕ) → number ≡ min (mid.number + 1) (2 ^ 64 - 1)
+    → offset ≡ further mid.offset buffer
     → record mid { number = number; offset = offset }
-    ≡ record mid { number = min (mid.number + 1) (2 ^ 64 - 1); offset = further mid.offset room }
-moved mid room number offset number_is offset_is =
+    ≡ record mid { number = min (mid.number + 1) (2 ^ 64 - 1); offset = further mid.offset buffer }
+moved mid buffer number offset number_is offset_is =
     ap (λ (n : ℕ). record mid { number = n; offset = offset }) number_is
     ∙ ap (λ (n : ℕ). record mid { number = min (mid.number + 1) (2 ^ 64 - 1); offset = n }) offset_is

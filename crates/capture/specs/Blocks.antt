@@ -1,6 +1,6 @@
 -- The blocks of a pcapng file (draft-ietf-opsawg-pcapng, sections 3.1 and 4.1): each has a type, its total length, a
--- body and its total length once more. Numbers are in the order of the section that the block is in, and a section's
--- header says which that is.
+-- body and again its total length. Numbers are in the byte order of the block's section, which the section's header
+-- gives.
 use Rattle.std.specs.Prelude.{◌≡◌, ℕ, ◌+◌, ◌-◌, ◌%◌, ◌^◌, ◌<◌, ◌⊎◌, List, [], ◌++◌, length, take, drop, Option, Some, None, Result, Ok, Err, nat_lt, not, ◌==◌, if◌then◌else◌}
 use Rattle.std.specs.Int.{w32}
 use Rattle.capture.specs.File.{number, number_of}
@@ -46,7 +46,7 @@ order_at None bytes =
 order_at (Some o) bytes =
     if number_of o w32 bytes == SECTION_HEADER then marked (number_of Little w32 (drop 8 bytes)) else Ok o
 
--- what stands behind a block's type and its first length
+-- what follows a block's type and its first length
 abbrev pub behind : List ℕ → List ℕ
 behind bytes = drop 4 (drop 4 bytes)
 
@@ -77,8 +77,8 @@ head_in (Ok o) bytes = head_of_total o (number_of o w32 (drop 4 bytes))
 unfoldable pub head_of : Option Order → List ℕ → Result (Order × ℕ) Fault
 head_of o bytes = head_in (order_at o bytes) bytes
 
--- the block that begins these bytes in a section of this order, or why there is none, with the offset in them of what
--- shows it
+-- the block at the beginning of these bytes in a section of this order; or why it can't be read, with the offset of
+-- what is wrong
 unfoldable pub next_of : Option Order → List ℕ → Result Part Fault
 next_of o bytes = if nat_lt (length bytes) 12 then Err (fault BlockCut 0) else of_order (order_at o bytes) bytes
 
@@ -103,7 +103,7 @@ pub record Reading : Type 0 where
   pub offset : ℕ
   pub rest : List ℕ
 
--- a step of a reader, from old to new: no block is left, or the next one, or why there is none
+-- a step of a reader, from old to new: the end of the file, the next block, or why it can't be read
 abbrev pub Steps : Reading → Reading → Result (Option Part) Fault → Type 0
 Steps old new (Ok None) = (old.rest ≡ []) × (new ≡ old)
 Steps old new (Ok (Some b)) = (next_of old.order old.rest ≡ Ok b) × (old.rest ≡ block_bytes b ++ new.rest)

@@ -24,28 +24,27 @@ section_in o body =
 abbrev pub padded : ℕ → ℕ
 padded n = (n + 3) / 4 * 4
 
--- how many ticks are a second, by the option if_tsresol: one byte, a power of 10, or of 2 if its high bit is set. Of
--- more
--- than 19 and 63 a number of 64 bits would end within seconds
-abbrev pub ticks_said : ℕ → Result ℕ BodyFault
-ticks_said n =
+-- The ticks of a second by the option if_tsresol: one byte, the exponent of 10, or of 2 if its high bit is set. With an
+-- exponent above 19 or 63, a 64-bit number of ticks would overflow within seconds.
+abbrev pub ticks_given : ℕ → Result ℕ BodyFault
+ticks_given n =
     if nat_lt n 20 then Ok (10 ^ n) else
     if (nat_lt n 128) || (not (nat_lt n 192)) then Err BadResolution else Ok (2 ^ (n - 128))
 
--- behind the first option of these bytes, if another may say the ticks; else what the options say
+-- the bytes after the first option, if a later option may give the ticks; otherwise the result of the options
 abbrev pub passed : Order → List ℕ → Result (List ℕ) (Result ℕ BodyFault)
 passed o bytes =
     if nat_lt (length bytes) 4 then Err (Ok 1_000_000) else
     if number_of o w16 bytes == 0 then Err (Ok 1_000_000) else
     if nat_lt (length bytes) (4 + padded (number_of o w16 (drop 2 bytes))) then Err (Err OptionCut) else
     if not (number_of o w16 bytes == 9) then Ok (drop (4 + padded (number_of o w16 (drop 2 bytes))) bytes) else
-    if number_of o w16 (drop 2 bytes) == 1 then Err (ticks_said (get_or bytes 4 0)) else Err (Err BadResolution)
+    if number_of o w16 (drop 2 bytes) == 1 then Err (ticks_given (get_or bytes 4 0)) else Err (Err BadResolution)
 
 abbrev pub following : (List ℕ → Result ℕ BodyFault) → Result (List ℕ) (Result ℕ BodyFault) → Result ℕ BodyFault
 following others (Ok rest) = others rest
 following others (Err said) = said
 
--- the ticks of a second that the first so many options say: microseconds if none does
+-- the ticks of a second that one of the first `n` options gives; a million if none does
 unfoldable pub ticks_by : ℕ → Order → List ℕ → Result ℕ BodyFault
 ticks_by zero o bytes = Ok 1_000_000
 ticks_by (suc n) o bytes = following (ticks_by n o) (passed o bytes)

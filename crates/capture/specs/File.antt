@@ -14,10 +14,10 @@ use Rattle.capture.specs.declared.pcap.header.Order.TheVariants.{Little, Big}
 use Rattle.capture.specs.declared.pcap.header.Resolution.{Resolution}
 use Rattle.capture.specs.declared.pcap.header.Resolution.TheVariants.{Microseconds, Nanoseconds}
 
--- what a function answered, seen by view, is this
-abbrev pub AnswersBy : {X Y E : Type 0} → (X → Y) → Result X E → Result Y E → Type 0
-AnswersBy view (Ok x) answer = answer ≡ Ok (view x)
-AnswersBy view (Err e) answer = answer ≡ Err e
+-- the result of a function, mapped by `view`, is this
+abbrev pub ReturnsBy : {X Y E : Type 0} → (X → Y) → Result X E → Result Y E → Type 0
+ReturnsBy view (Ok x) answer = answer ≡ Ok (view x)
+ReturnsBy view (Err e) answer = answer ≡ Err e
 
 -- the bytes of a number, in either order
 abbrev pub number : Order → Width → ℕ → List ℕ

@@ -13,29 +13,29 @@ abbrev pub ◌>>=◌ : {A B : Type 0} → Result A NoPacket → (A → Result B 
 (Ok x) >>= f = f x
 (Err e) >>= f = Err e
 
--- A packet without what stands behind its total length, a 16-bit number at byte 2 (RFC 791, section 3.1). If that
--- number is less than a header, or more than there is, it tells nothing, and nothing is taken off.
+-- A packet without the bytes after its total length, a 16-bit number at byte 2 (RFC 791, section 3.1). If that number
+-- is less than a header or more than the bytes, nothing is cut off.
 abbrev pub unpadded : List ℕ → List ℕ
 unpadded bytes =
     if nat_lt (number_of Big w16 (drop 2 bytes)) 20 || nat_lt (length bytes) (number_of Big w16 (drop 2 bytes))
     then bytes
     else take (number_of Big w16 (drop 2 bytes)) bytes
 
--- A protocol, and the bytes behind it. 0x8100 and 0x88a8 are VLAN tags: two bytes of the tag's own, then the protocol.
+-- A protocol, and the bytes after it. 0x8100 and 0x88a8 are VLAN tags: two bytes of the tag's own, then the protocol.
 abbrev pub untagged : ℕ → List ℕ → Result (ℕ × List ℕ) NoPacket
 untagged protocol rest =
     if (protocol == 0x8100) || (protocol == 0x88a8)
     then (if nat_lt (length rest) 4 then Err FrameCut else Ok (number_of Big w16 (drop 2 rest), drop 4 rest))
     else Ok (protocol, rest)
 
--- the packet behind a protocol and at most two tags
+-- the packet after a protocol and at most two tags
 unfoldable pub behind : ℕ → List ℕ → Result (List ℕ) NoPacket
 behind protocol rest = do
   one ← untagged protocol rest
   two ← untagged one.0 one.1
   if two.0 == 0x800 then Ok (unpadded two.1) else Err (OtherProtocol two.0)
 
--- the packet of a frame whose protocol stands at `at`, and whose header has so many bytes
+-- the packet of a frame with the protocol at offset `at` and a header of `header` bytes
 abbrev pub by_protocol : ℕ → ℕ → List ℕ → Result (List ℕ) NoPacket
 by_protocol at header frame =
     if nat_lt (length frame) header then Err FrameCut
@@ -46,7 +46,7 @@ abbrev pub host_family : List ℕ → ℕ
 host_family frame =
     if nat_lt (number_of Little w32 frame) 65_536 then number_of Little w32 frame else number_of Big w32 frame
 
--- the packet behind a protocol family
+-- the packet after a protocol family
 abbrev pub by_family : (List ℕ → ℕ) → List ℕ → Result (List ℕ) NoPacket
 by_family family frame =
     if nat_lt (length frame) 4 then Err FrameCut else
@@ -57,7 +57,7 @@ abbrev pub by_version : List ℕ → Result (List ℕ) NoPacket
 by_version [] = Err FrameCut
 by_version (b ∷ bs) = if b / 16 == 4 then Ok (unpadded (b ∷ bs)) else Err (OtherVersion (b / 16))
 
--- the IPv4 packet in a frame of a link type, or why there is none
+-- the IPv4 packet in a frame of a link type, or why the frame has no packet
 abbrev pub packet_in_frame : LinkType → List ℕ → Result (List ℕ) NoPacket
 packet_in_frame Ethernet frame = by_protocol 12 14 frame
 packet_in_frame LinuxCooked frame = by_protocol 14 16 frame
@@ -75,7 +75,7 @@ pub record IsPacket (packet : List ℕ) : Type 0 where
   pub header : 20 ≤ length packet
   pub total : number_of Big w16 (drop 2 packet) ≡ length packet
 
--- what stands for IPv4 between the rest of a header and these bytes: its protocol, behind no VLAN tag, one or two
+-- what says IPv4 between the rest of a header and these bytes: the protocol, after at most two VLAN tags
 abbrev pub IsTagged : List ℕ → List ℕ → Type 0
 IsTagged bytes carried =
     (bytes ≡ 8 ∷ 0 ∷ carried)

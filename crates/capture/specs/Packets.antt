@@ -27,7 +27,7 @@ pub record Packet : Type 0 where
   pub link : Option LinkType
   pub bytes : List ℕ
 
--- nanoseconds of so many ticks, as many as 64 bits hold
+-- ticks in nanoseconds, at most what 64 bits hold
 abbrev pub nanoseconds_of : ℕ → ℕ → ℕ
 nanoseconds_of ticks per = if per == 0 then 0 else min (ticks * 1_000_000_000 / per) (2 ^ 64 - 1)
 
@@ -131,10 +131,10 @@ abbrev pub packet_found : List ℕ → Option Found → Option Packet
 packet_found bytes None = None
 packet_found bytes (Some f) = Some (found_in bytes f)
 
--- what was made of a block, with where its packet's bytes stand in its body
-abbrev pub Says : Known → Part → Result (Option Found) Why → Known → Type 0
-Says k b (Ok found) new = taken k b ≡ Ok (new, packet_found b.body found)
-Says k b (Err why) new = taken k b ≡ Err why
+-- the result of reading a block, with the place of its packet's bytes in its body
+abbrev pub BlockGives : Known → Part → Result (Option Found) Why → Known → Type 0
+BlockGives k b (Ok found) new = taken k b ≡ Ok (new, packet_found b.body found)
+BlockGives k b (Err why) new = taken k b ≡ Err why
 
 abbrev pub IsInside : ℕ → Option Found → Type 0
 IsInside n None = Unit {0}

@@ -18,8 +18,8 @@ use Rattle.capture.specs.declared.records.Format.TheVariants as formats
 use Rattle.capture.specs.declared.records.Kind.{Kind}
 use Rattle.capture.specs.declared.records.Kind.TheVariants as kinds
 
--- what a file is, by its first bytes: gzip (RFC 1952, section 2.3.1), pcapng by the type of its first block, or else
--- classic
+-- the kind of a file by its first bytes: gzip (RFC 1952, section 2.3.1), pcapng by the type of its first block,
+-- otherwise classic
 abbrev pub kind_in : List ℕ → Kind
 kind_in bytes =
     if not (nat_lt (length bytes) 2) && (get_or bytes 0 0 == 0x1f) && (get_or bytes 1 0 == 0x8b) then kinds.Gzip else
@@ -55,27 +55,27 @@ abbrev pub place_of : Format → Blocks → ℕ → ℕ → Option (List ℕ) �
 place_of format blocks number offset rest =
     record { format = format; known = known blocks; number = number; offset = offset; rest = rest }
 
--- what was found in a pcapng file whose first bytes were held, in the room where it was read
+-- what was found in a pcapng file whose first bytes were already read, in the buffer after the read
 abbrev pub FindsBlock : Place → Option (List ℕ) → List ℕ → Place → List ℕ → Result (Option Found) Slip → Type 0
-FindsBlock old mid held new room out =
-    BlocksRead old.known old.offset mid held new.known new.offset new.rest room out × (new.format ≡ formats.Pcapng)
+FindsBlock old mid held new buffer out =
+    BlocksRead old.known old.offset mid held new.known new.offset new.rest buffer out × (new.format ≡ formats.Pcapng)
 
 -- what was found in a classic file
 abbrev pub FindsRecord : Place → ℕ → Option (List ℕ) → Header → Place → List ℕ → Result (Option Found) Slip → Type 0
-FindsRecord old offset mid h new room out =
-    ClassicReads h mid new.rest room out × (new.offset ≡ offset) × (new.known ≡ old.known)
+FindsRecord old offset mid h new buffer out =
+    ClassicReads h mid new.rest buffer out × (new.offset ≡ offset) × (new.known ≡ old.known)
     × (new.format ≡ formats.Classic h)
 
 -- what was found: the file is opened first if it wasn't
 abbrev pub FindsIn : Format → Place → Place → List ℕ → Result (Option Found) Slip → Type 0
-FindsIn (formats.Classic h) old new room out = FindsRecord old old.offset old.rest h new room out
-FindsIn formats.Pcapng old new room out = FindsBlock old old.rest [] new room out
-FindsIn formats.Unread old new room out =
+FindsIn (formats.Classic h) old new buffer out = FindsRecord old old.offset old.rest h new buffer out
+FindsIn formats.Pcapng old new buffer out = FindsBlock old old.rest [] new buffer out
+FindsIn formats.Unread old new buffer out =
     ((mid : Option (List ℕ)) × (front : List ℕ) × (h : Header) × Opens old.rest mid front (Ok (Some h))
-    × FindsRecord old 24 mid h new room out)
+    × FindsRecord old 24 mid h new buffer out)
     ⊎ ((mid : Option (List ℕ)) × (front : List ℕ) × Opens old.rest mid front (Ok None)
-    × FindsBlock old mid front new room out)
-    ⊎ ((s : Slip) × Opens old.rest new.rest room (Err s) × (out ≡ Err s) × (new.offset ≡ old.offset)
+    × FindsBlock old mid front new buffer out)
+    ⊎ ((s : Slip) × Opens old.rest new.rest buffer (Err s) × (out ≡ Err s) × (new.offset ≡ old.offset)
     × (new.known ≡ old.known) × (new.format ≡ formats.Unread))
 
 -- a reader, with the fault by which reading ended, and the bytes of the record that was read last
@@ -101,25 +101,25 @@ start rest = record {
 abbrev pub packet_in : Record → List ℕ → Packet
 packet_in r bytes = record { time = r.time; original = r.original_len; link = r.link; bytes = bytes }
 
--- what a step answers of what was found, in the room where it was read
-abbrev pub Shows : Place → List ℕ → Result (Option Found) Slip → Result (Option Record) Fault → Reading → Type 0
-Shows mid room (Ok None) result new =
+-- what a step returns for what was found, in the buffer after the read
+abbrev pub StepGives : Place → List ℕ → Result (Option Found) Slip → Result (Option Record) Fault → Reading → Type 0
+StepGives mid buffer (Ok None) result new =
     (result ≡ Ok None) × (new.place ≡ mid) × (new.fault ≡ None) × (new.bytes ≡ [])
-Shows mid room (Ok (Some f)) result new =
-    (r : Record) × (result ≡ Ok (Some r)) × (r.number ≡ new.place.number) × (packet_in r new.bytes ≡ found_in room f)
-    × (new.place ≡ record mid { number = min (mid.number + 1) (2 ^ 64 - 1); offset = further mid.offset room })
+StepGives mid buffer (Ok (Some f)) result new =
+    (r : Record) × (result ≡ Ok (Some r)) × (r.number ≡ new.place.number) × (packet_in r new.bytes ≡ found_in buffer f)
+    × (new.place ≡ record mid { number = min (mid.number + 1) (2 ^ 64 - 1); offset = further mid.offset buffer })
     × (new.fault ≡ None)
-Shows mid room (Err s) result new =
+StepGives mid buffer (Err s) result new =
     (f : Fault) × (result ≡ Err f) × (f.why ≡ s.why) × (f.offset ≡ min (mid.offset + s.at) (2 ^ 64 - 1))
     × (new.place ≡ mid) × (new.fault ≡ Some f) × (new.bytes ≡ [])
 
--- a step of a reader by what ended it; after a fault it answers the same again, and reads nothing
+-- A step of a reader by its last fault: after a fault it returns the same fault, and reads nothing.
 abbrev pub StepsAfter : Option Fault → Place → Reading → Result (Option Record) Fault → Type 0
 StepsAfter (Some f) old new result =
     (result ≡ Err f) × (new.place ≡ old) × (new.fault ≡ Some f) × (new.bytes ≡ [])
 StepsAfter None old new result =
-    (mid : Place) × (room : List ℕ) × (out : Result (Option Found) Slip) × FindsIn old.format old mid room out
-    × (mid.number ≡ old.number) × Shows mid room out result new
+    (mid : Place) × (buffer : List ℕ) × (out : Result (Option Found) Slip) × FindsIn old.format old mid buffer out
+    × (mid.number ≡ old.number) × StepGives mid buffer out result new
 
 -- a step of a reader
 abbrev pub Steps : Reading → Reading → Result (Option Record) Fault → Type 0

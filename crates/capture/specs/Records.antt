@@ -25,7 +25,7 @@ pub record FitsFields (r : Captured) : Type 0 where
   pub captured : length r.bytes < 2 ^ 32
   pub original : r.original < 2 ^ 32
 
--- the 16 bytes in front of a record
+-- the 16 bytes before a record's packet
 abbrev pub record_header : Order → ℕ → ℕ → ℕ → ℕ → List ℕ
 record_header o seconds fraction captured original =
     number o w32 seconds ++ number o w32 fraction ++ number o w32 captured ++ number o w32 original
@@ -70,7 +70,7 @@ pub record RecordReading : Type 0 where
   pub offset : ℕ
   pub rest : List ℕ
 
--- a step of a reader, from old to new: no record is left, or the next one, or why there is none
+-- a step of a reader, from old to new: the end of the file, the next record, or why it can't be read
 abbrev pub Steps : RecordReading → RecordReading → Result (Option Captured) Fault → Type 0
 Steps old new (Ok None) = (old.rest ≡ []) × (new ≡ old)
 Steps old new (Ok (Some r)) = FitsFields r × (old.rest ≡ record_bytes old.header.order r ++ new.rest)
@@ -84,7 +84,7 @@ pub record Whole : Type 0 where
   pub header : Header
   pub records : List Captured
 
--- the file has a header and then whole records, and behind them this fault
+-- the file has a header and then whole records, and after them this fault
 pub record StopsIn (file : List ℕ) (f : Fault) : Type 0 where
   pub header : Header
   pub records : List Captured

@@ -1,4 +1,4 @@
--- What contracts see of the types that lie in memory.
+-- How contracts see the types in memory.
 use Rattle.std.specs.Prelude.{Option, Some, None, Result, Ok, Err}
 use Rattle.capture.specs.Blocks.{Part}
 use Rattle.capture.specs.declared.pcapng.block.Block.{Block}
@@ -10,7 +10,7 @@ use Rattle.capture.specs.declared.pcapng.fault.Fault.{Fault}
 abbrev pub part : Block → Part
 part b = record { order = b.order; kind = b.kind; body = b.body.now }
 
--- what a step answered
+-- the result of a step
 abbrev pub stepped : Result (Option Block) Fault → Result (Option Part) Fault
 stepped (Ok None) = Ok None
 stepped (Ok (Some b)) = Ok (Some (part b))

@@ -16,7 +16,7 @@ use Rattle.capture.specs.Packets.{IsInside, Known, Packet, classic_packet, found
 use Rattle.capture.specs.declared.blocks.Found.{Found}
 use Rattle.capture.specs.declared.fault.Slip.{Slip}
 use Rattle.capture.specs.declared.fault.Why.TheVariants.{NotRead, TooLong, TooMany}
-use Rattle.capture.specs.declared.feed.TheConstants.{ROOM}
+use Rattle.capture.specs.declared.feed.TheConstants.{LONGEST_RECORD}
 use Rattle.capture.specs.declared.section.Step.{Step}
 use Rattle.capture.specs.declared.section.Step.TheVariants as steps
 
@@ -26,30 +26,31 @@ use Rattle.capture.specs.declared.section.Step.TheVariants as steps
 abbrev pub captured_in : Order → List ℕ → ℕ
 captured_in o bytes = number_of o w32 (drop 8 bytes)
 
--- why the bytes that were read of a record are none, if the stream has ended or not
+-- why the bytes that were read aren't a record; `ended` says that the stream has ended
 abbrev pub ClassicFails : Order → List ℕ → Type 0 → Slip → Type 0
 ClassicFails o front ended s =
     (s.why ≡ NotRead)
-    ⊎ ((s ≡ slip TooLong 8) × (16 ≤ length front) × (ROOM < 16 + captured_in o front))
+    ⊎ ((s ≡ slip TooLong 8) × (16 ≤ length front) × (LONGEST_RECORD < 16 + captured_in o front))
     ⊎ ((f : classic.Fault) × (s ≡ classic_slip f) × IsCut f.why o front f.offset × ended)
 
--- a whole record stands in the room, or the stream has ended
+-- the buffer holds a whole record, or the stream has ended
 abbrev pub IsRecord : Order → List ℕ → Type 0 → Type 0
-IsRecord o room ended =
-    ((length room < 16) × ended)
-    ⊎ ((16 ≤ length room) × (length room ≤ 16 + captured_in o room) × (length room < 16 + captured_in o room → ended))
+IsRecord o buffer ended =
+    ((length buffer < 16) × ended)
+    ⊎ ((16 ≤ length buffer) × (length buffer ≤ 16 + captured_in o buffer) × (length buffer < 16 + captured_in o buffer →
+    ended))
 
 abbrev pub IsLoaded : Order → Option (List ℕ) → Option (List ℕ) → List ℕ → Result (Unit {0}) Slip → Type 0
-IsLoaded o old new room (Ok done) = Consumes old new room × IsRecord o room (IsAtEnd new)
-IsLoaded o old new room (Err s) = Consumes old new room × ClassicFails o room (IsAtEnd new) s
+IsLoaded o old new buffer (Ok done) = Consumes old new buffer × IsRecord o buffer (IsAtEnd new)
+IsLoaded o old new buffer (Err s) = Consumes old new buffer × ClassicFails o buffer (IsAtEnd new) s
 
--- what was read of a stream of records: none, one, or what is none
+-- what was read of a stream of records: the end, a record, or why there is no record
 abbrev pub ClassicReads : Header → Option (List ℕ) → Option (List ℕ) → List ℕ → Result (Option Found) Slip → Type 0
-ClassicReads h old new room (Ok None) = Consumes old new room × (room ≡ []) × IsAtEnd new
-ClassicReads h old new room (Ok (Some f)) =
-    (r : Captured) × FitsFields r × Consumes old new room × (room ≡ record_bytes h.order r)
-    × (found_in room f ≡ classic_packet h r)
-ClassicReads h old new room (Err s) = Consumes old new room × ClassicFails h.order room (IsAtEnd new) s
+ClassicReads h old new buffer (Ok None) = Consumes old new buffer × (buffer ≡ []) × IsAtEnd new
+ClassicReads h old new buffer (Ok (Some f)) =
+    (r : Captured) × FitsFields r × Consumes old new buffer × (buffer ≡ record_bytes h.order r)
+    × (found_in buffer f ≡ classic_packet h r)
+ClassicReads h old new buffer (Err s) = Consumes old new buffer × ClassicFails h.order buffer (IsAtEnd new) s
 
 -- ---- pcapng files
 
@@ -65,16 +66,16 @@ Passes k (b ∷ bs) new = (mid : Known) × IsTaken k b mid None × Passes mid bs
 abbrev pub blocks_bytes : List Part → List ℕ
 blocks_bytes bs = flat_map block_bytes bs
 
--- the bytes are as many as a block's head says
+-- the bytes have the length that the head of the block gives
 abbrev pub IsLong : Option Order → List ℕ → Type 0
 IsLong o front = (p : Order) × (n : ℕ) × (head_of o front ≡ Ok (p, n)) × (n ≤ length front)
 
--- why the bytes that were read of a block are none: by its head, by the whole of it or because the stream has ended, or
--- by its body
+-- why the bytes that were read aren't a block: by the head, by the whole block or because the stream has ended, or by
+-- the body
 abbrev pub BlockFails : Option Order → List ℕ → Type 0 → Slip → Type 0
 BlockFails o front ended s =
     (s.why ≡ NotRead)
-    ⊎ ((p : Order) × (n : ℕ) × (head_of o front ≡ Ok (p, n)) × (ROOM < n) × (s ≡ slip TooLong 4))
+    ⊎ ((p : Order) × (n : ℕ) × (head_of o front ≡ Ok (p, n)) × (LONGEST_RECORD < n) × (s ≡ slip TooLong 4))
     ⊎ ((f : blocks.Fault) × (12 ≤ length front) × (head_of o front ≡ Err f) × (s ≡ block_slip f))
     ⊎ ((f : blocks.Fault) × (next_of o front ≡ Err f) × (ended ⊎ IsLong o front) × (s ≡ block_slip f))
 
@@ -82,29 +83,29 @@ abbrev pub BodyFails : Known → List ℕ → Slip → Type 0
 BodyFails k front s =
     (b : Part) × (front ≡ block_bytes b) × (next_of k.order front ≡ Ok b) × (taken k b ≡ Err s.why) × (s.at ≡ 0)
 
--- a whole block stands in the room, or the stream has ended
+-- the buffer holds a whole block, or the stream has ended
 abbrev pub IsBlockRead : Option Order → List ℕ → Type 0 → Type 0
-IsBlockRead o room ended =
-    ((length room < 12) × ended)
-    ⊎ ((p : Order) × (n : ℕ) × (head_of o room ≡ Ok (p, n)) × (12 ≤ length room) × (length room ≤ n)
-    × (length room < n → ended))
+IsBlockRead o buffer ended =
+    ((length buffer < 12) × ended)
+    ⊎ ((p : Order) × (n : ℕ) × (head_of o buffer ≡ Ok (p, n)) × (12 ≤ length buffer) × (length buffer ≤ n)
+    × (length buffer < n → ended))
 
 abbrev pub BlockLoads : Option Order → Option (List ℕ) → List ℕ → Option (List ℕ) → List ℕ → Result (Unit {0}) Slip
     → Type 0
-BlockLoads o old held new room (Ok done) = Fills old held new room × IsBlockRead o room (IsAtEnd new)
-BlockLoads o old held new room (Err s) =
-    Fills old held new room × BlockFails o room (IsAtEnd new) s
+BlockLoads o old held new buffer (Ok done) = Fills old held new buffer × IsBlockRead o buffer (IsAtEnd new)
+BlockLoads o old held new buffer (Err s) =
+    Fills old held new buffer × BlockFails o buffer (IsAtEnd new) s
 
 -- what one block comes to, of which the room may hold the first bytes already
 abbrev pub BlockReads : Known → Option (List ℕ) → List ℕ → Known → Option (List ℕ) → List ℕ → Result Step Slip → Type 0
-BlockReads k old held new now room (Ok steps.Ended) =
-    Fills old held now room × (room ≡ []) × IsAtEnd now × (new ≡ k)
-BlockReads k old held new now room (Ok steps.Passed) =
-    (b : Part) × Fills old held now room × (room ≡ block_bytes b) × IsTaken k b new None
-BlockReads k old held new now room (Ok (steps.Packet f)) =
-    (b : Part) × Fills old held now room × (room ≡ block_bytes b) × IsTaken k b new (Some (found_in room f))
-BlockReads k old held new now room (Err s) =
-    Fills old held now room × (BlockFails k.order room (IsAtEnd now) s ⊎ BodyFails k room s)
+BlockReads k old held new now buffer (Ok steps.Ended) =
+    Fills old held now buffer × (buffer ≡ []) × IsAtEnd now × (new ≡ k)
+BlockReads k old held new now buffer (Ok steps.Passed) =
+    (b : Part) × Fills old held now buffer × (buffer ≡ block_bytes b) × IsTaken k b new None
+BlockReads k old held new now buffer (Ok (steps.Packet f)) =
+    (b : Part) × Fills old held now buffer × (buffer ≡ block_bytes b) × IsTaken k b new (Some (found_in buffer f))
+BlockReads k old held new now buffer (Err s) =
+    Fills old held now buffer × (BlockFails k.order buffer (IsAtEnd now) s ⊎ BodyFails k buffer s)
 
 -- a packet's bytes stand inside the room
 abbrev pub StepInside : ℕ → Result Step Slip → Type 0
@@ -113,11 +114,11 @@ StepInside n (Ok steps.Ended) = Unit {0}
 StepInside n (Ok steps.Passed) = Unit {0}
 StepInside n (Err s) = Unit {0}
 
--- so many bytes further, as far as 64 bits count
+-- a number of bytes further, as far as 64 bits count
 abbrev pub further : ℕ → List ℕ → ℕ
 further offset bytes = min (offset + length bytes) (2 ^ 64 - 1)
 
--- blocks without a packet were passed over, and behind them stand these bytes
+-- blocks without a packet were skipped, and these bytes follow them
 pub record Passed (k : Known) (offset : ℕ) (old : Option (List ℕ)) (held : List ℕ) (mid : Known) (at : ℕ)
     (now : Option (List ℕ)) (bytes : List ℕ) : Type 0 where
   pub blocks : List Part
@@ -128,11 +129,11 @@ pub record Passed (k : Known) (offset : ℕ) (old : Option (List ℕ)) (held : L
 -- what the blocks up to the next packet come to
 abbrev pub BlocksRead : Known → ℕ → Option (List ℕ) → List ℕ → Known → ℕ → Option (List ℕ) → List ℕ
     → Result (Option Found) Slip → Type 0
-BlocksRead k offset old held new at now room (Ok None) =
-    Passed k offset old held new at now room × (room ≡ []) × IsAtEnd now
-BlocksRead k offset old held new at now room (Ok (Some f)) =
-    (mid : Known) × (b : Part) × Passed k offset old held mid at now room × (room ≡ block_bytes b)
-    × IsTaken mid b new (Some (found_in room f))
-BlocksRead k offset old held new at now room (Err s) =
-    (mid : Known) × Passed k offset old held mid at now room
-    × (BlockFails mid.order room (IsAtEnd now) s ⊎ BodyFails mid room s ⊎ (s ≡ slip TooMany 0))
+BlocksRead k offset old held new at now buffer (Ok None) =
+    Passed k offset old held new at now buffer × (buffer ≡ []) × IsAtEnd now
+BlocksRead k offset old held new at now buffer (Ok (Some f)) =
+    (mid : Known) × (b : Part) × Passed k offset old held mid at now buffer × (buffer ≡ block_bytes b)
+    × IsTaken mid b new (Some (found_in buffer f))
+BlocksRead k offset old held new at now buffer (Err s) =
+    (mid : Known) × Passed k offset old held mid at now buffer
+    × (BlockFails mid.order buffer (IsAtEnd now) s ⊎ BodyFails mid buffer s ⊎ (s ≡ slip TooMany 0))

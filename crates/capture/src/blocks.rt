@@ -1,9 +1,9 @@
-//! What the blocks of a pcapng file say.
+//! Parsing the blocks of a pcapng file.
 ghost use Rattle.std.specs.Prelude.{◌≡◌, ◌<◌, Some, Ok, Err, None, IfOk, MatchResult, length};
 ghost use Rattle.capture.specs.Bodies.{enhanced_in, interface_in, plain_in, section_in};
 ghost use Rattle.capture.specs.SeenBlocks.{part};
 ghost use Rattle.capture.specs.Packets as packets;
-ghost use Rattle.capture.specs.Packets.{IsInside, Says, Takes, known};
+ghost use Rattle.capture.specs.Packets.{IsInside, BlockGives, Takes, known};
 
 use crate::fault::{Slip, Why};
 use crate::pcap::{LinkType, Order};
@@ -14,14 +14,14 @@ use arrayvec::ArrayVec;
 /// How many interfaces a section may describe.
 pub const INTERFACES: usize = 64;
 
-/// The types of blocks that are read beside section headers (sections 4.2 to 4.4).
+/// The types of blocks that are parsed, apart from section headers (sections 4.2 to 4.4).
 const INTERFACE: u32 = 1;
 
 const SIMPLE_PACKET: u32 = 3;
 
 const ENHANCED_PACKET: u32 = 6;
 
-/// A packet, and where its bytes stand in a record or a block.
+/// A packet, and the place of its bytes in a record or a block.
 #[derive(Clone, Copy, Debug)]
 pub(crate) struct Found {
     pub(crate) time: Option<u64>,
@@ -31,7 +31,7 @@ pub(crate) struct Found {
     pub(crate) len: usize,
 }
 
-/// What the blocks so far have said.
+/// What the blocks so far give: the byte order and the interfaces of the section.
 #[derive(Drop)]
 pub(crate) struct Blocks {
     pub(crate) order: Option<Order>,
@@ -59,14 +59,14 @@ impl Blocks {
         Ok(())
     }
 
-    /// An interface of the section.
+    /// Returns an interface of the section.
     fn interface_at(&self, index: usize) -> Option<Interface>
         ensures { packets.InterfaceAt (known self.now) index result }
     {
         self.interfaces.get(index).copied()
     }
 
-    /// A packet with its time.
+    /// Returns a packet with its time.
     fn enhanced(&self, block: &Block<'_>) -> Result<Found, Why>
         ensures says { MatchResult result
             (λ f. packets.by_enhanced (known self.now) (part block.now)
@@ -92,7 +92,7 @@ impl Blocks {
         })
     }
 
-    /// A packet of the first interface.
+    /// Returns a packet of the first interface.
     fn simple(&self, block: &Block<'_>) -> Result<Found, Why>
         ensures says { MatchResult result
             (λ f. packets.by_first (known self.now) (part block.now)
@@ -115,9 +115,9 @@ impl Blocks {
         }
     }
 
-    /// What a block says. The place of a packet's bytes is that in the block's body.
+    /// Parses a block. The place of a packet's bytes is an offset in the block's body.
     fn take_block(&mut self, block: &Block<'_>) -> Result<Option<Found>, Why>
-        ensures says { Says (known self.old) (part block.now) result (known self.new) }
+        ensures says { BlockGives (known self.old) (part block.now) result (known self.new) }
         ensures inside { IfOk result (IsInside (length block.now.body.now)) }
     {
         match block.kind {
@@ -146,8 +146,8 @@ impl Blocks {
         Ok(None)
     }
 
-    /// What the block says that begins these bytes. The place of a packet's bytes is that in these bytes. Refused with
-    /// a fault of the block, or of its body.
+    /// Parses the block at the beginning of these bytes. The place of a packet's bytes is an offset in these bytes.
+    /// Fails with a fault of the block, or of its body.
     pub(crate) fn take(&mut self, bytes: &[u8]) -> Result<Option<Found>, Slip>
         ensures takes { Takes (known self.old) bytes.now result (known self.new) }
         ensures inside { IfOk result (IsInside (length bytes.now)) }

@@ -5,7 +5,7 @@ ghost use Rattle.capture.specs.Steps.{ClassicReads, IsLoaded};
 
 use crate::blocks::Found;
 use crate::fault::{Slip, Why};
-use crate::feed::{Feed, ROOM};
+use crate::feed::{Feed, LONGEST_RECORD};
 use crate::pcap::{Header, Order, captured_len, first_record};
 use script_loop::Source;
 
@@ -15,17 +15,17 @@ const RECORD_HEADER: usize = 16;
 /// Reads the next record of a classic file into an empty room, or as much of it as there is.
 #[tactic(auto, using(crate::proofs::Loaded::not_loaded, crate::proofs::Loaded::record_loaded))]
 fn load_record<S: Source>(feed: &mut Feed<S>, order: Order) -> Result<(), Slip>
-    requires { feed.old.room ≡ [] }
-    ensures { IsLoaded order (S.remaining feed.old.source) (S.remaining feed.new.source) feed.new.room result }
+    requires { feed.old.buffer ≡ [] }
+    ensures { IsLoaded order (S.remaining feed.old.source) (S.remaining feed.new.source) feed.new.buffer result }
 {
     if let Err(slip) = feed.fill(RECORD_HEADER) {
         return Err(slip);
     }
-    if feed.room.len() < RECORD_HEADER {
+    if feed.buffer.len() < RECORD_HEADER {
         return Ok(());
     }
-    let captured = captured_len(order, feed.room.as_slice());
-    if captured > ROOM - RECORD_HEADER {
+    let captured = captured_len(order, feed.buffer.as_slice());
+    if captured > LONGEST_RECORD - RECORD_HEADER {
         return Err(Slip {
             why: Why::TooLong,
             at: 8,
@@ -37,25 +37,25 @@ fn load_record<S: Source>(feed: &mut Feed<S>, order: Order) -> Result<(), Slip>
     }
 }
 
-/// The next record of a classic file, which is read into an empty room; `None` at the end. Refused with `NotRead`, with
-/// `TooLong`, and with a fault of the record.
+/// Returns the next record of a classic file, which is read into an empty room; `None` at the end. Fails with
+/// `NotRead`, with `TooLong`, and with a fault of the record.
 #[tactic(auto, using(crate::proofs::Loaded::ended_empty, crate::proofs::Loaded::record_cut))]
 pub(crate) fn read_record<S: Source>(
     feed: &mut Feed<S>,
     header: Header,
 ) -> Result<Option<Found>, Slip>
-    requires { feed.old.room ≡ [] }
-    ensures reads { ClassicReads header (S.remaining feed.old.source) (S.remaining feed.new.source) feed.new.room
+    requires { feed.old.buffer ≡ [] }
+    ensures reads { ClassicReads header (S.remaining feed.old.source) (S.remaining feed.new.source) feed.new.buffer
         result }
-    ensures inside { IfOk result (IsInside (length feed.new.room)) }
+    ensures inside { IfOk result (IsInside (length feed.new.buffer)) }
 {
     if let Err(slip) = load_record(feed, header.order) {
         return Err(slip);
     }
-    if feed.room.is_empty() {
+    if feed.buffer.is_empty() {
         return Ok(None);
     }
-    match first_record(header.order, feed.room.as_slice()) {
+    match first_record(header.order, feed.buffer.as_slice()) {
         Ok((record, _rest)) => Ok(Some(Found {
             time: Some(header.nanoseconds(&record)),
             original_len: record.original_len,

@@ -27,10 +27,10 @@ pub enum Why {
     /// A section describes more than [`crate::INTERFACES`] interfaces.
     #[error("more than 64 interfaces")]
     TooManyInterfaces,
-    /// A record or a block has more than [`crate::ROOM`] bytes.
+    /// A record or a block has more than [`crate::LONGEST_RECORD`] bytes.
     #[error("longer than 1048576 bytes")]
     TooLong,
-    /// So many blocks without a packet stand behind one another that they aren't passed over.
+    /// The file has 2^32 or more consecutive blocks without a packet; the reader doesn't skip more.
     #[error("more than 2^32 blocks without a packet")]
     TooMany,
 }
@@ -45,7 +45,7 @@ pub struct Fault {
     pub offset: u64,
 }
 
-/// What is wrong with a record or a block, and how far into it that stands.
+/// What is wrong with a record or a block, and its offset in it.
 #[derive(Clone, Copy, Debug, PartialEq, Eq)]
 pub(crate) struct Slip {
     pub(crate) why: Why,

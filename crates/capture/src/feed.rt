@@ -1,4 +1,4 @@
-//! The bytes of a stream, as many at a time as are wanted.
+//! A stream of bytes, read in pieces of the size that the caller needs.
 ghost use Rattle.std.specs.Prelude.{◌≡◌, ◌<◌, ◌≤◌, length, IfErr, OnOk};
 ghost use Rattle.std.specs.Io.KnownBytes.{IsAtEnd};
 ghost use Rattle.capture.specs.Feeds.{Fills};
@@ -8,7 +8,7 @@ use crate::fault::{Slip, Why};
 use script_loop::{Buffer, Source};
 
 /// The most bytes of a record, with its header, and of a pcapng block.
-pub const ROOM: usize = 1_048_576;
+pub const LONGEST_RECORD: usize = 1_048_576;
 
 /// How many bytes are read at a time.
 const CHUNK: usize = 4096;
@@ -16,32 +16,33 @@ const CHUNK: usize = 4096;
 /// A stream, and room for what is read of it.
 pub(crate) struct Feed<S: Source> {
     pub(crate) source: S,
-    pub(crate) room: Buffer<ROOM>,
+    pub(crate) buffer: Buffer<LONGEST_RECORD>,
 }
 
 impl<S: Source> Feed<S> {
-    /// Reads until so many bytes stand in the room, or no more are left. Refused with `NotRead`.
+    /// Reads until the buffer holds `goal` bytes or the stream ends. Fails with `NotRead` if the source fails.
     pub(crate) fn fill(&mut self, goal: usize) -> Result<(), Slip>
-        requires begun { length self.old.room ≤ goal }
-        requires room { goal ≤ ROOM }
-        ensures read { Fills (S.remaining self.old.source) self.old.room (S.remaining self.new.source) self.new.room }
+        requires begun { length self.old.buffer ≤ goal }
+        requires buffer { goal ≤ LONGEST_RECORD }
+        ensures read { Fills (S.remaining self.old.source) self.old.buffer (S.remaining self.new.source)
+            self.new.buffer }
         ensures refused { IfErr result (λ s. s.why ≡ NotRead) }
-        ensures most { length self.new.room ≤ goal }
-        ensures ended { OnOk result (length self.new.room < goal → IsAtEnd (S.remaining self.new.source)) }
+        ensures most { length self.new.buffer ≤ goal }
+        ensures ended { OnOk result (length self.new.buffer < goal → IsAtEnd (S.remaining self.new.source)) }
     {
         let mut chunk = [0; CHUNK];
-        'chunks: while self.room.len() < goal {
-            let want = (goal - self.room.len()).min(CHUNK);
+        'chunks: while self.buffer.len() < goal {
+            let want = (goal - self.buffer.len()).min(CHUNK);
             let Ok(n) = self.source.read_some(&mut chunk[..want]) else {
                 return Err(Slip {
                     why: Why::NotRead,
-                    at: self.room.len(),
+                    at: self.buffer.len(),
                 });
             };
             if n == 0 {
                 return Ok(());
             }
-            self.room.append(&chunk[..n]);
+            self.buffer.append(&chunk[..n]);
         }
         Ok(())
     }

@@ -14,5 +14,5 @@ mod time;
 
 pub use blocks::INTERFACES;
 pub use fault::{Fault, Why};
-pub use feed::ROOM;
+pub use feed::LONGEST_RECORD;
 pub use records::{Record, Records};

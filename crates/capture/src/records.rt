@@ -6,7 +6,7 @@ ghost use Rattle.capture.specs.Places.{FindsIn, Opens, Steps, kind_in, place_of,
 use crate::blocks::{Blocks, Found};
 use crate::classic::read_record;
 use crate::fault::{Fault, Slip, Why};
-use crate::feed::{Feed, ROOM};
+use crate::feed::{Feed, LONGEST_RECORD};
 use crate::pcap::{Header, LinkType, Reader};
 use crate::section::{EMPTY_BLOCK, read_packet};
 use arrayvec::ArrayVec;
@@ -30,7 +30,7 @@ pub struct Record {
     pub link: Option<LinkType>,
 }
 
-/// What a file is, by its first bytes.
+/// The kind of a file, by its first bytes.
 #[derive(Clone, Copy, Debug, PartialEq, Eq)]
 pub(crate) enum Kind {
     Gzip,
@@ -38,7 +38,7 @@ pub(crate) enum Kind {
     Classic,
 }
 
-/// What is known of a file.
+/// The format of a file, as far as it's known.
 #[derive(Clone, Copy, Debug, PartialEq, Eq)]
 pub(crate) enum Format {
     /// Nothing was read so far.
@@ -48,7 +48,7 @@ pub(crate) enum Format {
     Pcapng,
 }
 
-/// What a file of these first bytes is.
+/// Returns the kind of a file with these first bytes.
 fn kind_of(bytes: &[u8]) -> Kind
     ensures { result ≡ kind_in bytes.now }
 {
@@ -75,24 +75,25 @@ pub(crate) struct Course<S: Source> {
     pub(crate) offset: u64,
 }
 
-/// Reads the first bytes of a file into an empty room: the header of a classic one, which is the answer, or the first
-/// bytes of a pcapng file's first block. Refused with `NotRead`, `Gzip`, and a fault of the header.
+/// Reads the first bytes of a file into an empty buffer. Returns the header of a classic file; of a pcapng file the
+/// buffer then holds the first bytes of the first block. Fails with `NotRead`, with `Gzip`, or with the fault of the
+/// header.
 #[tactic(auto, using(crate::proofs::Opening::bad_header, crate::proofs::Opening::short_header))]
 fn open<S: Source>(feed: &mut Feed<S>) -> Result<Option<Header>, Slip>
-    requires { feed.old.room ≡ [] }
-    ensures { Opens (S.remaining feed.old.source) (S.remaining feed.new.source) feed.new.room result }
+    requires { feed.old.buffer ≡ [] }
+    ensures { Opens (S.remaining feed.old.source) (S.remaining feed.new.source) feed.new.buffer result }
 {
     if let Err(slip) = feed.fill(EMPTY_BLOCK) {
         return Err(slip);
     }
-    match kind_of(feed.room.as_slice()) {
+    match kind_of(feed.buffer.as_slice()) {
         Kind::Gzip => Err(Slip {
             why: Why::Gzip,
             at: 0,
         }),
         Kind::Pcapng => Ok(None),
         Kind::Classic => {
-            if feed.room.len() < EMPTY_BLOCK {
+            if feed.buffer.len() < EMPTY_BLOCK {
                 return Err(Slip {
                     why: Why::Classic(crate::pcap::Why::HeaderCut),
                     at: 0,
@@ -101,7 +102,7 @@ fn open<S: Source>(feed: &mut Feed<S>) -> Result<Option<Header>, Slip>
             if let Err(slip) = feed.fill(FILE_HEADER) {
                 return Err(slip);
             }
-            match Reader::open(feed.room.as_slice()) {
+            match Reader::open(feed.buffer.as_slice()) {
                 Ok(reader) => Ok(Some(reader.header())),
                 Err(found) => Err(found.into()),
             }
@@ -109,21 +110,22 @@ fn open<S: Source>(feed: &mut Feed<S>) -> Result<Option<Header>, Slip>
     }
 }
 
-/// The next packet, and where its bytes stand in the room, which is empty. The file is opened if it wasn't.
+/// Returns the next packet, and the place of its bytes in the buffer, which must be empty. Opens the file at the first
+/// call.
 fn find<S: Source>(course: &mut Course<S>) -> Result<Option<Found>, Slip>
-    requires empty { course.old.feed.room ≡ [] }
+    requires empty { course.old.feed.buffer ≡ [] }
     ensures finds { FindsIn course.old.format (place_of course.old.format course.old.blocks course.old.number
         course.old.offset (S.remaining course.old.feed.source)) (place_of course.new.format course.new.blocks
-        course.new.number course.new.offset (S.remaining course.new.feed.source)) course.new.feed.room result }
+        course.new.number course.new.offset (S.remaining course.new.feed.source)) course.new.feed.buffer result }
     ensures number { course.new.number ≡ course.old.number }
-    ensures inside { IfOk result (IsInside (length course.new.feed.room)) }
+    ensures inside { IfOk result (IsInside (length course.new.feed.buffer)) }
 {
     match course.format {
         Format::Unread => match open(&mut course.feed) {
             Ok(Some(header)) => {
                 course.format = Format::Classic(header);
                 course.offset = 24;
-                course.feed.room.clear();
+                course.feed.buffer.clear();
                 read_record(&mut course.feed, header)
             }
             Ok(None) => {
@@ -142,7 +144,7 @@ pub struct Records<S: Source> {
     course: Course<S>,
     /// The fault by which reading ended.
     fault: Option<Fault>,
-    /// Where the bytes of the record that was read last stand in the room.
+    /// The offset in the buffer of the bytes of the last record.
     from: usize,
     len: usize,
 }
@@ -157,20 +159,20 @@ impl<S: Source> Model for Records<S> {
       place = place_of r.course.format r.course.blocks r.course.number r.course.offset
           (S.remaining r.course.feed.source);
       fault = r.fault;
-      bytes = take r.len (drop r.from r.course.feed.room);
+      bytes = take r.len (drop r.from r.course.feed.buffer);
     } };
 
-    ghost invariant = { λ r. r.from + r.len ≤ length r.course.feed.room };
+    ghost invariant = { λ r. r.from + r.len ≤ length r.course.feed.buffer };
 }
 
 impl<S: Source> Records<S> {
-    /// A reader at the start of a file. It reads nothing so far.
-    pub fn new(source: S, room: Buffer<ROOM>) -> Records<S>
+    /// Returns a reader at the start of a file. It reads nothing so far.
+    pub fn new(source: S, buffer: Buffer<LONGEST_RECORD>) -> Records<S>
         ensures { result ≡ start (S.remaining source) }
     {
         Records {
             course: Course {
-                feed: Feed { source, room },
+                feed: Feed { source, buffer },
                 blocks: Blocks {
                     order: None,
                     interfaces: ArrayVec::new(),
@@ -185,11 +187,11 @@ impl<S: Source> Records<S> {
         }
     }
 
-    /// The next record, or `None` if the file has ended. After a fault it answers the same again.
+    /// Returns the next record, or `None` at the end of the file. After an error, every call returns the same error.
     ///
     /// # Errors
     ///
-    /// What is wrong with the file, and where. What stands in front of that was answered before.
+    /// What is wrong with the file, and at which offset. All records before that offset were returned.
     pub fn next_record(&mut self) -> Result<Option<Record>, Fault>
         ensures { Steps self.old self.new result }
     {
@@ -198,12 +200,12 @@ impl<S: Source> Records<S> {
         if let Some(fault) = self.fault {
             return Err(fault);
         }
-        self.course.feed.room.clear();
+        self.course.feed.buffer.clear();
         match find(&mut self.course) {
             Ok(None) => Ok(None),
             Ok(Some(found)) => {
                 self.course.number = self.course.number.saturating_add(1);
-                let read = self.course.feed.room.len() as u64;
+                let read = self.course.feed.buffer.len() as u64;
                 self.course.offset = self.course.offset.saturating_add(read);
                 self.from = found.from;
                 self.len = found.len;
@@ -225,16 +227,16 @@ impl<S: Source> Records<S> {
         }
     }
 
-    /// The bytes that were captured of the record that was read last; none before the first one, at the end and after a
-    /// fault.
+    /// Returns the bytes that were captured of the record that was read last; none before the first one, at the end and
+    /// after a fault.
     pub fn bytes(&self) -> &[u8]
         ensures { result.now ≡ self.now.bytes }
     {
-        &self.course.feed.room.as_slice()[self.from..self.from + self.len]
+        &self.course.feed.buffer.as_slice()[self.from..self.from + self.len]
     }
 
-    /// Ends reading, and gives the source and the room back.
-    pub fn end(self) -> (S, Buffer<ROOM>)
+    /// Ends reading, and returns the source and the buffer.
+    pub fn end(self) -> (S, Buffer<LONGEST_RECORD>)
         ensures { S.remaining result.0 ≡ self.place.rest }
     {
         let Records {
@@ -250,7 +252,7 @@ impl<S: Source> Records<S> {
             number: _number,
             offset: _offset,
         } = course;
-        let Feed { source, room } = feed;
-        (source, room)
+        let Feed { source, buffer } = feed;
+        (source, buffer)
     }
 }

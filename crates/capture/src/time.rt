@@ -2,7 +2,7 @@
 ghost use Rattle.std.specs.Prelude.{◌≡◌};
 ghost use Rattle.capture.specs.Packets.{nanoseconds_of};
 
-/// Nanoseconds of so many ticks, 18,446,744,073,709,551,615 at most.
+/// Converts ticks to nanoseconds, at most 18,446,744,073,709,551,615.
 pub(crate) fn nanoseconds(ticks: u64, ticks_per_second: u64) -> u64
     ensures { result ≡ nanoseconds_of ticks ticks_per_second }
 {

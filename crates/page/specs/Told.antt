@@ -14,7 +14,7 @@ use Rattle.page.specs.declared.settings.PagePool.{PagePool}
 use Rattle.capture.specs.File.{file_header_bytes, our_header}
 use Rattle.play_pcap.specs.Files.{no_folder}
 use Rattle.play_pcap.specs.Traces.{Keeps, Traced, unwritten}
-use Rattle.play_script.specs.Tells as plays
+use Rattle.play_script.specs.Reports as plays
 use Rattle.play_script.specs.declared.print.TheConstants.{NAME}
 use Rattle.play_text.specs.declared.form.Form.TheVariants.{Json}
 use Rattle.script_loop.specs.Serves.{Serves}
@@ -118,7 +118,7 @@ pub record Kept (config : Config) (script : List ℕ) (answer len : ℕ) (before
   pub ticks : begun.ticks ≡ 0
   pub headed : Keeps (unwritten (Some [])) begun (file_header_bytes our_header)
   pub allowed : stack_boots.BootsRun config outcome
-  pub served : Serves (plays.Tells Step no_folder)
+  pub served : Serves (plays.Reports Step no_folder)
       (plays.started (boot config) begun Json (take NAME (codes "script"))) new
       (Some script) unread (Some []) (Some objects) outcome
   pub wrote : new.traced.wrote ≡ Some file

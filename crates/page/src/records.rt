@@ -4,7 +4,7 @@ ghost use Rattle.page.specs.Recorded.{HasNoWords, IsCaptureText, IsCaptureUnread
 
 use crate::handed::{hand_over, number_of};
 use capture::pcap::{LinkType, ipv4_packet};
-use capture::{Fault, ROOM, Record, Records};
+use capture::{Fault, LONGEST_RECORD, Record, Records};
 use link_script::RunFault;
 use script_loop::Buffer;
 use std::alloc::{AllocError, Global};
@@ -138,7 +138,7 @@ fn read_file(alloc: Global, file: &[u8]) -> Result<Text, AllocError>
 {
     let mut head = Buffer::new(alloc)?;
     let mut bytes = Vec::new(alloc);
-    let room: Buffer<ROOM> = Buffer::new(alloc)?;
+    let room: Buffer<LONGEST_RECORD> = Buffer::new(alloc)?;
     let mut records = Records::new(file, room);
     let read = put_records(&mut records, &mut head, &mut bytes);
     let (_file, _room) = records.end();

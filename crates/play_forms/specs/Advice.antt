@@ -1,4 +1,4 @@
--- What a line that asks for nothing could have been (this project's own).
+-- What the author of a line without a request probably meant (this project's own).
 use Rattle.std.specs.Prelude.{◌≡◌, ◌⊎◌, ℕ, Bool, true, false, List, [], ◌∷◌, codes, bytes_eq, if◌then◌else◌, Option, Some, None}
 use Rattle.std.specs.List.{find}
 use Rattle.flat_model.specs.Scripts.Grammar.{words}
@@ -15,7 +15,7 @@ pub data Advice : Type 0 where
   Empty : Advice  -- it has no word
   Unknown : (word : List ℕ) (near : Option Command) → Advice  -- its first word is no command, and this one is near
   OfHost : (asked : Command) → Advice  -- that is asked of a host, and it names none
-  Wrong : (word : List ℕ) (wanted : Argument) (asked : Command) → Advice  -- a word that isn't what stands there
+  Wrong : (word : List ℕ) (wanted : Argument) (asked : Command) → Advice  -- a word that isn't what belongs there
   Missing : (wanted : Argument) (asked : Command) → Advice  -- a word is missing
   More : (word : List ℕ) (asked : Command) → Advice  -- the first word that is too much
   Otherwise : (asked : Command) → Advice  -- it has another form
@@ -56,7 +56,7 @@ arrival_form rest =
 abbrev pub narrowed : Command → List (List ℕ) → Command
 narrowed asked rest = if is_rx asked then arrival_form rest else asked
 
--- The words after the command, by its arguments: the first one that isn't what stands there, is missing or is too much.
+-- The words after the command, by its arguments: the first word that is wrong, missing or too much.
 abbrev pub AdvisesAfter : Command → List Argument → List (List ℕ) → Advice → Type 0
 AdvisesAfter asked [] [] advice = advice ≡ Otherwise asked
 AdvisesAfter asked [] (word ∷ rest) advice = advice ≡ More word asked

@@ -27,7 +27,7 @@ is_slip (a ∷ word) (b ∷ name) = if a == b then is_slip word name else differ
 abbrev pub is_front : List ℕ → List ℕ → Bool
 is_front front word = nat_le 3 (length front) && bytes_eq front (take (length front) word)
 
--- A word is near to a name if one slip makes it of the name, or if one begins with the other.
+-- A word is near to a name if one edit turns it into the name, or if one of the two begins with the other.
 abbrev pub is_near : List ℕ → List ℕ → Bool
 is_near word name = is_slip word name || (is_front word name || is_front name word)
 

@@ -79,7 +79,7 @@ host_commands =
     ∷ command.Show
     ∷ []
 
--- what one host of many is asked: the same, and what only one on an Ethernet answers
+-- the commands for one host of many: those of a machine, and those for hosts on an Ethernet only
 abbrev pub hosted_commands : List Command
 hosted_commands =
     command.Socket

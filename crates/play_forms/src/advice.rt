@@ -1,4 +1,4 @@
-//! What a line that asks for nothing could have been.
+//! What the author of a line without a request probably meant.
 ghost use Rattle.std.specs.Prelude.{◌≡◌};
 ghost use Rattle.std.specs.List.{find};
 ghost use Rattle.script_loop.specs.Left.{left};
@@ -14,12 +14,12 @@ use crate::hosted::hosted_commands;
 use crate::nearest::{named, nearest};
 use script_loop::first_word;
 
-/// What plays a line.
+/// The player that executes a line.
 #[derive(Clone, Copy)]
 pub enum Player {
     /// One machine.
     Machine,
-    /// One host of many, whose name stands in front of the line.
+    /// One host of many; the line begins with its name.
     Host,
     /// All hosts and their wire.
     Wire,
@@ -32,9 +32,9 @@ pub enum Advice<'l> {
     Empty,
     /// Its first word is no command. The one that it's near to.
     Unknown(&'l [u8], Option<Command>),
-    /// That is asked of a host, and it names none.
+    /// It's a command for a host, and the line names none.
     OfHost(Command),
-    /// A word isn't what stands in its place.
+    /// A word isn't what belongs in its place.
     Wrong(&'l [u8], Argument, Command),
     /// A word is missing.
     Missing(Argument, Command),
@@ -44,7 +44,7 @@ pub enum Advice<'l> {
     Otherwise(Command),
 }
 
-/// The first of these arguments that a word isn't or that is missing, or the first word that is too much.
+/// Returns the first of these arguments that a word isn't or that is missing, or the first word that is too much.
 fn advice_by<'l>(asked: Command, wanted: &[Argument], rest: Option<&'l [u8]>) -> Advice<'l>
     ensures { AdvisesAfter asked wanted.now (left rest.entry) (advice_of result) }
 {
@@ -66,7 +66,7 @@ fn advice_by<'l>(asked: Command, wanted: &[Argument], rest: Option<&'l [u8]>) ->
     }
 }
 
-/// What is wrong with the words after a command.
+/// Returns what is wrong with the words after a command.
 fn advice_after<'l>(asked: Command, rest: Option<&'l [u8]>) -> Advice<'l>
     ensures { AdvisesArguments asked (arguments_of asked) (left rest.entry) (advice_of result) }
 {
@@ -76,7 +76,7 @@ fn advice_after<'l>(asked: Command, rest: Option<&'l [u8]>) -> Advice<'l>
     }
 }
 
-/// Whether the first word that is left is this one.
+/// Returns whether the first word that is left is this one.
 fn begins_so(word: &[u8], rest: Option<&[u8]>) -> bool
     ensures { result ≡ advice.begins_so word.now (left rest.entry) }
 {
@@ -89,7 +89,7 @@ fn begins_so(word: &[u8], rest: Option<&[u8]>) -> bool
     }
 }
 
-/// The command of a line `rx`: `rx pcap`, `rx udp` and `rx raw` have forms of their own.
+/// Returns the command of a line `rx`: `rx pcap`, `rx udp` and `rx raw` have forms of their own.
 fn arrival_form(rest: Option<&[u8]>) -> Command
     ensures { result ≡ advice.arrival_form (left rest.entry) }
 {
@@ -104,7 +104,7 @@ fn arrival_form(rest: Option<&[u8]>) -> Command
     }
 }
 
-/// The command, or the one with a form of its own.
+/// Returns the command, or the one with a form of its own.
 fn narrowed(asked: Command, rest: Option<&[u8]>) -> Command
     ensures { result ≡ advice.narrowed asked (left rest.entry) }
 {
@@ -114,7 +114,7 @@ fn narrowed(asked: Command, rest: Option<&[u8]>) -> Command
     }
 }
 
-/// A word that no line of the player begins with.
+/// Returns a word that no line of the player begins with.
 fn unknown<'l>(player: Player, word: &'l [u8]) -> Advice<'l>
     ensures { advice_of result ≡ advice.unknown player word.now }
 {
@@ -128,7 +128,7 @@ fn unknown<'l>(player: Player, word: &'l [u8]) -> Advice<'l>
     }
 }
 
-/// The command of the player that has this name.
+/// Returns the command of the player that has this name.
 pub fn command_of(player: Player, word: &[u8]) -> Option<Command>
     ensures { result ≡ find (near.has_name word.now) (advice.commands_of player) }
 {
@@ -139,8 +139,8 @@ pub fn command_of(player: Player, word: &[u8]) -> Option<Command>
     }
 }
 
-/// What is wrong with a plain line that asks the player for nothing, which has one space between each two words: the
-/// word that is wrong, and the command that was meant.
+/// Returns what is wrong with a plain line that is no request to the player: the word that is wrong, and the command
+/// that was meant. A plain line has one space between each two words.
 pub fn advice_on<'l>(player: Player, plain: &'l [u8]) -> Advice<'l>
     ensures { Advises player plain.now (advice_of result) }
 {

@@ -6,7 +6,7 @@ ghost use Rattle.play_forms.specs.declared.argument.Argument.TheVariants as argu
 use request::address_of;
 use script_loop::number;
 
-/// What a word after a command is.
+/// An argument: a word after a command.
 #[derive(Clone, Copy)]
 pub enum Argument {
     /// A descriptor.
@@ -23,15 +23,15 @@ pub enum Argument {
     Option,
     /// Whether it's set.
     Switch,
-    /// The bytes of a packet or a datagram. Whatever stands there was read before, or has its own fault.
+    /// The bytes of a packet or a datagram. They were parsed before, or have a fault of their own.
     Bytes,
-    /// What is shown of a machine.
+    /// A query about a machine.
     Topic,
-    /// What is shown of one host of many.
+    /// A query about one host of many.
     HostTopic,
 }
 
-/// Whether a word is one of those that `show` takes.
+/// Returns whether a word is one of those that `show` takes.
 fn is_shown(word: &[u8]) -> bool
     ensures { result ≡ is_topic word.now }
 {
@@ -41,21 +41,21 @@ fn is_shown(word: &[u8]) -> bool
                 || (word == b"counters".as_slice() || word == b"pool".as_slice())))
 }
 
-/// Whether a word is one of those that `show` takes of one host of many.
+/// Returns whether a word is one of those that `show` takes of one host of many.
 fn is_shown_of_host(word: &[u8]) -> bool
     ensures { result ≡ is_host_topic word.now }
 {
     is_shown(word) || (word == b"neighbours".as_slice() || word == b"link".as_slice())
 }
 
-/// Whether a word is a number of 1 to 65,535.
+/// Returns whether a word is a number of 1 to 65,535.
 fn is_count(word: &[u8]) -> bool
     ensures { MatchBool result (IsCount word.now) (¬ IsCount word.now) }
 {
     word != b"0".as_slice() && number(word, 65_535).is_some()
 }
 
-/// Whether a word is a socket option.
+/// Returns whether a word is a socket option.
 fn is_option(word: &[u8]) -> bool
     ensures { MatchBool result (Takes argument.Option word.now) (¬ Takes argument.Option word.now) }
 {
@@ -65,7 +65,7 @@ fn is_option(word: &[u8]) -> bool
     }
 }
 
-/// Whether a word sets an option or clears it.
+/// Returns whether a word sets an option or clears it.
 fn is_switch(word: &[u8]) -> bool
     ensures { MatchBool result (Takes argument.Switch word.now) (¬ Takes argument.Switch word.now) }
 {
@@ -94,7 +94,7 @@ impl Argument {
         }
     }
 
-    /// Whether a word is such an argument.
+    /// Returns whether a word is such an argument.
     pub(crate) fn takes(self, word: &[u8]) -> bool
         ensures { MatchBool result (Takes self word.now) (¬ Takes self word.now) }
     {

@@ -8,7 +8,7 @@ use crate::argument::Argument::{
     Addr, Bytes, Count, Fd, HostTopic, Len, Option as Opt, Port, Switch, Topic,
 };
 
-/// What a line begins with.
+/// A command: what a line begins with.
 #[derive(Clone, Copy)]
 pub enum Command {
     Socket,
@@ -52,13 +52,13 @@ pub enum Command {
 pub struct Row {
     /// The word that a line begins with.
     pub name: &'static str,
-    /// How it's written: words in small letters stand as they are, and what stands in brackets may be left out.
+    /// How it's written: lower-case words are typed as they are; what is in brackets is optional.
     pub form: &'static str,
-    /// What its other words are, one by one. `None` if they aren't looked at one by one.
+    /// Its arguments, one by one. `None` if they aren't checked one by one.
     pub(crate) arguments: Option<&'static [Argument]>,
 }
 
-/// A line whose words are looked at one by one.
+/// Returns the row of a command whose arguments are checked one by one.
 fn by_words(name: &'static str, form: &'static str, arguments: &'static [Argument]) -> Row
     ensures name { result.name.now ≡ name.now }
     ensures arguments { option_map (λ a. a.now) result.arguments ≡ Some arguments.now }
@@ -70,7 +70,7 @@ fn by_words(name: &'static str, form: &'static str, arguments: &'static [Argumen
     }
 }
 
-/// A line with a form of its own.
+/// Returns a line with a form of its own.
 fn otherwise(name: &'static str, form: &'static str) -> Row
     ensures name { result.name.now ≡ name.now }
     ensures arguments { option_map (λ a. a.now) result.arguments ≡ None }
@@ -83,7 +83,7 @@ fn otherwise(name: &'static str, form: &'static str) -> Row
 }
 
 impl Command {
-    /// Its row. It's what lines are read by, what `bsdplay --help` prints, and what advice goes by.
+    /// Returns its row. Lines are parsed by it, `bsdplay --help` prints it, and advice is given by it.
     pub fn row(self) -> Row
         ensures name { result.name.now ≡ name_of self }
         ensures arguments { option_map (λ a. a.now) result.arguments ≡ arguments_of self }
@@ -135,7 +135,7 @@ impl Command {
     }
 }
 
-/// What a machine is asked.
+/// Returns the commands for a machine.
 pub fn host_commands() -> [Command; 14]
     ensures { result ≡ table.host_commands }
 {
@@ -157,7 +157,7 @@ pub fn host_commands() -> [Command; 14]
     ]
 }
 
-/// What is asked of all hosts and their wire.
+/// Returns the commands for all hosts and their wire.
 pub fn wire_commands() -> [Command; 15]
     ensures { result ≡ table.wire_commands }
 {

@@ -1,10 +1,10 @@
-//! What one host of many is asked.
+//! The commands for one host of many.
 ghost use Rattle.std.specs.Prelude.{◌≡◌};
 ghost use Rattle.play_forms.specs.Table as table;
 
 use crate::command::Command;
 
-/// What one host of many is asked: what a machine is, and what only one on an Ethernet answers.
+/// Returns the commands for one host of many: those of a machine, and those for hosts on an Ethernet only.
 pub fn hosted_commands() -> [Command; 16]
     ensures { result ≡ table.hosted_commands }
 {

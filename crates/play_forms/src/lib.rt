@@ -1,5 +1,5 @@
-//! The forms of all lines of a script for people, and what a line could have been that has none of them: which word is
-//! wrong, how the line is written, and the command that was meant.
+//! The forms of all lines of a play script; and for a line that has none of them, what its author probably meant: which
+//! word is wrong, how the line is written, and which command is nearest.
 #![tactic(auto)]
 
 mod advice;

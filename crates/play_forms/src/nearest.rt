@@ -5,7 +5,7 @@ ghost use Rattle.play_forms.specs.Near as near;
 
 use crate::command::Command;
 
-/// What is left of a word without its first byte.
+/// Returns a word without its first byte.
 fn tail(word: &[u8]) -> &[u8]
     ensures { result.now ≡ drop 1 word.now }
 {
@@ -15,7 +15,7 @@ fn tail(word: &[u8]) -> &[u8]
     }
 }
 
-/// Whether the first two bytes of two words have changed places.
+/// Returns whether the first two bytes of two words have changed places.
 fn is_swapped(word: &[u8], name: &[u8]) -> bool
     ensures { result ≡ near.is_swapped word.now name.now }
 {
@@ -23,7 +23,7 @@ fn is_swapped(word: &[u8], name: &[u8]) -> bool
         && (word[0] == name[1] && (word[1] == name[0] && word[2..] == name[2..]))
 }
 
-/// Whether two words differ in one way from their first bytes on.
+/// Returns whether two words differ in one way from their first bytes on.
 fn differs_once(word: &[u8], name: &[u8]) -> bool
     ensures { result ≡ near.differs_once word.now name.now }
 {
@@ -31,7 +31,7 @@ fn differs_once(word: &[u8], name: &[u8]) -> bool
         || (word == tail(name) || (tail(word) == name || is_swapped(word, name)))
 }
 
-/// Whether two words differ in one way from some byte on, or are the same.
+/// Returns whether two words differ in one way from some byte on, or are the same.
 fn is_slip(word: &[u8], name: &[u8]) -> bool
     ensures { result ≡ near.is_slip word.now name.now }
 {
@@ -41,28 +41,28 @@ fn is_slip(word: &[u8], name: &[u8]) -> bool
     }
 }
 
-/// Whether the second word begins with the first one, which has three bytes or more.
+/// Returns whether the second word begins with the first one, which has three bytes or more.
 fn is_front(front: &[u8], word: &[u8]) -> bool
     ensures { result ≡ near.is_front front.now word.now }
 {
     front.len() >= 3 && word.starts_with(front)
 }
 
-/// Whether a word is near to a name: one slip makes it of the name, or one begins with the other.
+/// Returns whether a word is near to a name: one edit turns it into the name, or one of the two begins with the other.
 fn is_near(word: &[u8], name: &[u8]) -> bool
     ensures { result ≡ near.is_near word.now name.now }
 {
     is_slip(word, name) || (is_front(word, name) || is_front(name, word))
 }
 
-/// Whether a word is the command's.
+/// Returns whether a word is the command's.
 fn has_name(word: &[u8], asked: Command) -> bool
     ensures { result ≡ near.has_name word.now asked }
 {
     word == asked.row().name.as_bytes()
 }
 
-/// The first of some commands that has this name.
+/// Returns the first of some commands that has this name.
 pub(crate) fn named(word: &[u8], commands: &[Command]) -> Option<Command>
     ensures { result ≡ find (near.has_name word.now) commands.now }
 {
@@ -78,7 +78,7 @@ pub(crate) fn named(word: &[u8], commands: &[Command]) -> Option<Command>
     }
 }
 
-/// The first of some commands that a word is near to.
+/// Returns the first of some commands that a word is near to.
 pub(crate) fn nearest(word: &[u8], commands: &[Command]) -> Option<Command>
     ensures { result ≡ near.nearest word.now commands.now }
 {

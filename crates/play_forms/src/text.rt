@@ -1,4 +1,4 @@
-//! What is said of a line that asks for nothing. No contract says in which words.
+//! The advice on a line without a request, as text. No contract pins its words.
 use crate::advice::Advice;
 use crate::command::Command;
 use script_loop::Buffer;
@@ -9,13 +9,13 @@ pub const ADVICE: usize = 160;
 /// The most bytes that are printed of a word.
 const SHOWN: usize = 32;
 
-/// Puts bytes after the text, as far as there is room for them.
+/// Appends bytes, as far as there is space for them.
 fn add(text: &mut Buffer<ADVICE>, bytes: &[u8]) {
-    let room = ADVICE - text.len();
-    text.append(&bytes[..bytes.len().min(room)]);
+    let space = ADVICE - text.len();
+    text.append(&bytes[..bytes.len().min(space)]);
 }
 
-/// Puts a word in quotes after the text, of which 32 bytes are printed at most.
+/// Appends a word in quotes, at most its first 32 bytes.
 fn add_word(text: &mut Buffer<ADVICE>, word: &[u8]) {
     let shown = word.len().min(SHOWN);
     add(text, b"`");
@@ -31,14 +31,14 @@ fn add_word(text: &mut Buffer<ADVICE>, word: &[u8]) {
     add(text, b"`");
 }
 
-/// Puts how the lines of a command are written after the text, in front of which these bytes stand.
+/// Appends the form of a command's lines, after the bytes `front`.
 fn add_form(text: &mut Buffer<ADVICE>, front: &[u8], asked: Command) {
     add(text, front);
     add(text, asked.row().form.as_bytes());
     add(text, b"`");
 }
 
-/// Puts into a text what is said of a line: the word that is wrong, the form of its command, and the command that was
+/// Writes the advice on a line into a buffer: the word that is wrong, the form of its command, and the command that was
 /// meant.
 pub fn put_advice(text: &mut Buffer<ADVICE>, advice: &Advice<'_>) {
     text.clear();

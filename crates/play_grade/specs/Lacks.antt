@@ -2,7 +2,7 @@
 use Rattle.std.specs.Prelude.{ℕ, ◌||◌, not, Bool, false, List, [], ◌∷◌, if◌then◌else◌, codes, bytes_eq, Option}
 use Rattle.flat_model.specs.Machine.Count.{more_by}
 use Rattle.flat_model.specs.Scripts.Grammar.{words}
-use Rattle.play_read.specs.Settings.{has_dashes}
+use Rattle.play_script.specs.Settings.{has_dashes}
 use Rattle.play_script.specs.Lines.{Reading, Nothing, TooLong, Faulty, Asks}
 use Rattle.play_grade.specs.Asked.{lines_in, asked_on}
 use Rattle.play_grade.specs.Answers.{is_answer}

@@ -8,7 +8,7 @@ use crate::marks::Mark;
 use play_script::{Line, bytes_of, meets};
 use script_loop::first_word;
 
-/// Returns whether a word is open: it is missing, it stands for any word, or it is the placeholder of an answer.
+/// Returns whether a word is open: it is missing, it matches any word, or it is the placeholder of an answer.
 fn is_open_word(word: &[u8]) -> bool
     ensures { result ≡ answers.is_open_word word.now }
 {

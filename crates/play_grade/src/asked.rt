@@ -6,7 +6,7 @@ ghost use Rattle.play_script.specs.Views.{plain_line};
 
 use play_line::LONGEST;
 use play_packet::PACKET;
-use play_script::{Line, bytes_of, room_for};
+use play_script::{Line, bytes_of, zero_bytes};
 use script_loop::{Buffer, put_hex, put_number};
 use std::alloc::{AllocError, Global};
 
@@ -43,7 +43,7 @@ impl Asked {
         Ok(Asked {
             line: Line::new(alloc)?,
             plain: Buffer::new(alloc)?,
-            digits: room_for(alloc, 2 * PACKET)?,
+            digits: zero_bytes(alloc, 2 * PACKET)?,
         })
     }
 

@@ -2,7 +2,7 @@
 use Rattle.std.specs.Prelude.{Result, Ok, Err, MatchResult}
 
 -- what is had if a call is answered
-pub had_by : {V E : Type 0} (r : Result V E) (A B : V → Type 0) (C : E → Type 0) → ((v : V) → A v → B v)
+pub available_by : {V E : Type 0} (r : Result V E) (A B : V → Type 0) (C : E → Type 0) → ((v : V) → A v → B v)
     → MatchResult r A C → MatchResult r B C
-had_by (Ok v) A B C gives h = gives v h
-had_by (Err e) A B C gives h = h
+available_by (Ok v) A B C gives h = gives v h
+available_by (Err e) A B C gives h = h

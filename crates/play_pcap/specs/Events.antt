@@ -49,19 +49,19 @@ record_place k number c = record { number = number; time = time_of k.header c - 
 
 -- ---- all records
 
--- what a record's packet adds in front of what follows it, or of what follows a record without one
+-- what a record's packet adds before the rest; a record without a packet adds nothing
 abbrev pub put_before : Option (List ℕ) → RecordPlace → ℕ → List Act → List Act → List Act
 put_before (Some packet) place n after skipped = replicate n Passes ++ Arrives place packet ∷ after
 put_before None place n after skipped = skipped
 
--- what the records do from the one of this number on, after so many ticks
+-- the acts of these records, where the first has this number, after some ticks
 unfoldable pub record_acts : Course → ℕ → ℕ → List Captured → List Act
 record_acts k number passed [] = []
 record_acts k number passed (c ∷ cs) =
     put_before (packet_in_record k.header.link c.bytes) (record_place k number c) (due k c - passed)
     (record_acts k (more_by 1 number) (max passed (due k c)) cs) (record_acts k (more_by 1 number) passed cs)
 
--- the records that are asked for
+-- the records of a range
 abbrev pub selected : {A : Type 0} → Option Range → List A → List A
 selected None xs = xs
 selected (Some r) xs = take (r.last - (r.first - 1)) (drop (r.first - 1) xs)
@@ -116,14 +116,14 @@ going m = record { course = m.course; number = m.number; passed = m.passed; rest
 abbrev pub acts_left : Going → List Act
 acts_left g = record_acts g.course g.number g.passed g.rest
 
--- the next packet with its ticks, and what is left behind it
+-- the next packet with its ticks, and what remains after it
 abbrev pub Moves_on : Going → Option Move → Going → Type 0
 Moves_on old None new = (acts_left old ≡ []) × (new.passed ≡ old.passed)
 Moves_on old (Some m) new =
     (acts_left old ≡ replicate m.ticks Passes ++ Arrives m.place m.packet.now ∷ acts_left new)
     × (length m.packet.now ≤ 65_535) × (new.passed ≡ old.passed + m.ticks) × (length new.rest < length old.rest)
 
--- ---- what came of it
+-- ---- the result
 
 -- how many packets came, and how many ticks passed
 abbrev pub came : List Act → ℕ

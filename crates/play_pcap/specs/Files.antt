@@ -18,8 +18,8 @@ abbrev pub no_folder : List ℕ → List ℕ → Type 0
 no_folder name file = ⊥
 
 -- the file that a word names may have these bytes, if `has` says which bytes the file of a name may have
-abbrev pub IsHad : (List ℕ → List ℕ → Type 0) → List ℕ → List ℕ → Type 0
-IsHad has word file = (name : List ℕ) × IsName word name × has name file
+abbrev pub IsAvailable : (List ℕ → List ℕ → Type 0) → List ℕ → List ℕ → Type 0
+IsAvailable has word file = (name : List ℕ) × IsName word name × has name file
 
 -- the file can't be read into memory
 abbrev pub IsUnread : CaptureFault → Type 0
@@ -32,5 +32,5 @@ IsUnread _ = Unit {0}
 abbrev pub PlaysNamed : {S : Type 0} → (List ℕ → List ℕ → Type 0) → (S → Act → S → Type 0) → Details → List ℕ
     → Result Tally CaptureFault → S → S → Type 0
 PlaysNamed has go d word outcome old new =
-    ((file : List ℕ) × IsHad has word file × PlaysFile go d file outcome old new)
+    ((file : List ℕ) × IsAvailable has word file × PlaysFile go d file outcome old new)
     ⊎ ((fault : CaptureFault) × IsUnread fault × (outcome ≡ Err fault) × (new ≡ old))

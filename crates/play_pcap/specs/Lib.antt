@@ -2,5 +2,5 @@ pub mod Acts
 pub mod Asks
 pub mod Events
 pub mod Files
-pub mod Told
+pub mod Results
 pub mod Traces

@@ -10,13 +10,14 @@ use Rattle.play_pcap.specs.Acts.{Act, Arrives, Passes}
 use Rattle.play_pcap.specs.declared.wire.RecordPlace.{RecordPlace}
 use Rattle.play_text.specs.Times.{time_text}
 
--- how many ticks have passed, whether each record so far was written whole, and what the writer holds, where it tells
+-- how many ticks have passed, whether each record so far was written whole, and what was written, if the writer's model
+-- says it
 pub record Traced : Type 0 where
   pub ticks : ℕ
   pub whole : Bool
   pub wrote : Option (List ℕ)
 
--- A packet or a frame that passed: after so many ticks, by the line of this number.
+-- A packet or a frame that passed: after this many ticks, by the line of this number.
 pub record Pass : Type 0 where
   pub ticks : ℕ
   pub line : ℕ
@@ -49,7 +50,7 @@ pub record IsPass (p : Pass) : Type 0 where
 abbrev pub file_of : LinkType → List Pass → Whole
 file_of link ps = record { header = header_for link; records = map record_of ps }
 
--- so many ticks, and one more
+-- one tick more
 abbrev pub later : ℕ → ℕ
 later n = min (n + 1) (2 ^ 32 - 1)
 
@@ -79,7 +80,7 @@ pub record WireTraced : Type 0 where
   pub link : LinkType
   pub headed : Bool
 
--- the header, where it's still to be written
+-- the header, if it wasn't written yet
 abbrev pub header_due : WireTraced → List ℕ
 header_due t = if t.headed then [] else file_header_bytes (header_for t.link)
 
@@ -90,7 +91,7 @@ abbrev pub place_line : RecordPlace → List ℕ
 place_line place =
     codes "# record " ++ decimal place.number ++ codes ", " ++ time_text place.time ++ codes " s\n"
 
--- the lines of a script that ask for this
+-- the lines of a script that request this
 abbrev pub act_lines : Act → List ℕ
 act_lines (Arrives place packet) = place_line place ++ codes "rx " ++ hex_text packet ++ codes "\n"
 act_lines Passes = codes "tick\n"

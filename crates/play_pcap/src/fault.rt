@@ -1,10 +1,10 @@
 //! Why a capture wasn't played.
 ghost use Rattle.std.specs.Prelude.{◌≡◌, ◌≤◌, length};
-ghost use Rattle.play_pcap.specs.Told.{capture_fault_words, why_words};
+ghost use Rattle.play_pcap.specs.Results.{capture_fault_words, why_words};
 
 use capture::pcap::{Fault, Why};
 
-/// Why a capture wasn't played in. Nothing has happened then.
+/// Why a capture wasn't played. Nothing has happened then.
 #[derive(Clone, Copy, Debug, PartialEq, Eq)]
 pub enum CaptureFault {
     /// The file can't be opened.
@@ -15,13 +15,13 @@ pub enum CaptureFault {
     TooLong,
     /// Host memory was lacking.
     Memory,
-    /// It has fewer records than were asked for.
+    /// It has fewer records than the range requests.
     TooFew,
     /// It's no capture file, or it's cut short.
     Bad(Fault),
 }
 
-/// What is wrong with a file, in words.
+/// Returns what is wrong with a file, in words.
 pub(crate) fn words_for(why: Why) -> &'static str
     ensures is { result.now ≡ why_words why }
     ensures short { length result.now ≤ 24 }

@@ -2,7 +2,7 @@
 ghost use Rattle.std.specs.Prelude.{◌≡◌, ◌≤◌, ℕ, List, length, IfOk, IfErr, MatchResult};
 ghost use Rattle.std.specs.Io.KnownBytes.{Consumes, IsAtEnd};
 ghost use Rattle.params.specs.declared.TheConstants.{IP_MAX_PACKET};
-ghost use Rattle.play_pcap.specs.Files.{IsHad, IsUnread, no_folder};
+ghost use Rattle.play_pcap.specs.Files.{IsAvailable, IsUnread, no_folder};
 
 use crate::fault::CaptureFault;
 use script_loop::{Source, bytes};
@@ -65,18 +65,18 @@ impl Folder for NoFolder {
 
 /// Reads all bytes of the file that a word of a plain line names. If the word is hexadecimal digits, as it is when the
 /// name was written as a text, the name has the bytes that they encode. Otherwise the name is the word itself. The
-/// errors are those of [`Folder::load`]. The contents of `room`, which has exactly 65,535 bytes, may be lost.
+/// errors are those of [`Folder::load`]. The contents of `buffer`, which has exactly 65,535 bytes, may be lost.
 pub fn load_named<F: Folder>(
     alloc: Global,
     folder: &F,
     word: &[u8],
-    room: &mut [u8],
+    buffer: &mut [u8],
 ) -> Result<Vec<u8>, CaptureFault>
-    requires { length room.old ≡ IP_MAX_PACKET }
-    ensures { MatchResult result (λ v. IsHad F.may_have word.now v.items) IsUnread }
+    requires { length buffer.old ≡ IP_MAX_PACKET }
+    ensures { MatchResult result (λ v. IsAvailable F.may_have word.now v.items) IsUnread }
 {
-    match bytes(word, room) {
-        Some(len) => folder.load(alloc, &room[..len]),
+    match bytes(word, buffer) {
+        Some(len) => folder.load(alloc, &buffer[..len]),
         None => folder.load(alloc, word),
     }
 }

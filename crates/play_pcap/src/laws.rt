@@ -16,7 +16,7 @@ ghost use Rattle.play_pcap.specs.Traces.{IsPass, Keeps, Pass, Traced, file_of, p
 
 use capture::pcap::written_is_read;
 
-/// What is written for one part of a run and then for the next one is what is written for both.
+/// What is written for one part of a run and then for the next part is what is written for both.
 #[tactic(auto, using(crate::proofs::Kept::both_kept))]
 pub fn trace_law()
     ensures { (old mid new : Traced) (a b : List ℕ) → Keeps old mid a → Keeps mid new b → Keeps old new (a ++ b) }
@@ -30,8 +30,8 @@ pub fn read_back_law()
     written_is_read();
 }
 
-/// Played in again, that of packets does nothing else than let these packets come, each without what stands behind its
-/// total length.
+/// If a written capture of packets is played, exactly these packets arrive, each without the bytes after its total
+/// length.
 #[tactic(auto, using(crate::proofs::Back::played_back))]
 pub fn played_back_law()
     ensures { (origin number : ℕ) (ps : List Pass) → AllByRecursion IsPass ps
@@ -39,7 +39,7 @@ pub fn played_back_law()
         ≡ map (λ (p : Pass). Comes (unpadded p.packet)) ps }
 {}
 
-/// The line that [`crate::Lines`] writes of a packet asks for this packet.
+/// The line that [`crate::Lines`] writes for a packet requests this packet.
 pub fn lines_law()
     ensures { (packet : List ℕ) → IsBytes packet → length packet ≤ 65535
         → IsLine (codes "rx " ++ hex_text packet) (Comes packet) }

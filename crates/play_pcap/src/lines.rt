@@ -9,11 +9,11 @@ use play_text::{put, put_time};
 use script_loop::{Buffer, LineBuffers, Sink, put_hex};
 use std::marker::Model;
 
-/// Room for the longest line, with the comment in front of it.
+/// The size of a buffer for the longest line and the comment before it.
 pub const LINE: usize = 131_200;
 
-/// Writes what happens as lines of a script: a packet that comes as `rx` with its bytes, and in front of it a comment
-/// with the number and the time of its record; and a tick as `tick`. It must be ended by `end`.
+/// Writes events as lines of a script: for a packet that arrives, a comment with the number and the time of its record,
+/// and then `rx` with its bytes; for a tick, `tick`. It must be consumed by `end`.
 pub struct Lines<W: Sink> {
     sink: W,
     text: Buffer<LINE>,
@@ -42,7 +42,7 @@ impl<W: Sink> Lines<W> {
         }
     }
 
-    /// Ends the script, and answers whether all its lines were written.
+    /// Ends the script, and returns the writer and whether all lines were written.
     pub fn end(self) -> (W, bool)
         ensures { (result.1 ≡ self.0) × (W.contents result.0 ≡ self.1) }
     {
@@ -56,7 +56,7 @@ impl<W: Sink> Lines<W> {
     }
 }
 
-/// Puts a comment after the text that says which record a packet is from.
+/// Appends a comment that says which record a packet is from.
 fn put_place(text: &mut Buffer<LINE>, place: RecordPlace)
     requires { length text.old + 64 ≤ LINE }
     ensures items { text.new ≡ text.old ++ place_line place }

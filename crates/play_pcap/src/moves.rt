@@ -1,4 +1,4 @@
-//! The packets of a capture, one after another, with the ticks in front of each.
+//! The packets of a capture, one after another, with the ticks before each.
 ghost use Rattle.std.specs.Prelude.{◌≡◌, ◌≤◌, length, map, IfSome};
 ghost use Rattle.capture.specs.Seen.{captured};
 ghost use Rattle.capture.specs.Records.{nanoseconds};
@@ -10,13 +10,13 @@ use capture::pcap::{Header, LinkType, Record, ipv4_packet};
 /// The most bytes of a packet.
 const MOST_BYTES: usize = 65_535;
 
-/// The most ticks that pass while a capture is played in.
+/// The most ticks that pass while a capture is played.
 const MOST_TICKS: u64 = 65_535;
 
 /// Half a second, in nanoseconds.
 const TICK: u64 = 500_000_000;
 
-/// What came of a capture that was played in.
+/// The result of playing a capture.
 #[derive(Clone, Copy, Debug, PartialEq, Eq)]
 pub struct Tally {
     /// How many packets came.
@@ -37,7 +37,7 @@ pub(crate) struct Course {
     pub(crate) begin: u64,
 }
 
-/// A packet with its record, and how many ticks pass in front of it.
+/// A packet with its record, and the number of ticks that pass before it.
 #[derive(Clone, Copy)]
 pub(crate) struct Move<'a> {
     pub(crate) ticks: u32,
@@ -54,7 +54,7 @@ pub(crate) struct Moves<'a> {
     pub(crate) rest: &'a [Record<'a>],
 }
 
-/// The packet in a record, if there is one that a machine takes.
+/// Returns the packet in a record, if there is one that a machine takes.
 fn packet_in<'a>(link: LinkType, bytes: &'a [u8]) -> Option<&'a [u8]>
     ensures is { events.seen_packet result ≡ events.packet_in_record link bytes.now }
     ensures short { IfSome result (λ p. length p.now ≤ 65535) }
@@ -66,7 +66,7 @@ fn packet_in<'a>(link: LinkType, bytes: &'a [u8]) -> Option<&'a [u8]>
 }
 
 impl Course {
-    /// How many ticks have passed before a record is played.
+    /// Returns how many ticks have passed before a record is played.
     fn due(&self, of: &Record<'_>) -> u32
         ensures is { result ≡ events.due self.now (captured of.now) }
         ensures most { result ≤ 65535 }
@@ -78,7 +78,7 @@ impl Course {
         ticks.min(MOST_TICKS) as u32
     }
 
-    /// The place of the record of this number.
+    /// Returns the place of the record of this number.
     fn place(&self, number: u64, of: &Record<'_>) -> RecordPlace
         ensures { result ≡ events.record_place self.now number (captured of.now) }
     {
@@ -88,7 +88,7 @@ impl Course {
 }
 
 impl<'a> Moves<'a> {
-    /// The next packet, with the ticks in front of it.
+    /// Returns the next packet, with the ticks before it.
     pub(crate) fn next_move(&mut self) -> Option<Move<'a>>
         requires { self.old.passed ≤ 65535 }
         ensures is { events.Moves_on (events.going self.old) result (events.going self.new) }

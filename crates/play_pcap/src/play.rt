@@ -1,4 +1,4 @@
-//! Captures that are played in.
+//! Captures that are played.
 ghost use Rattle.std.specs.Prelude.{◌≡◌, ◌≤◌, ◌+◌, length, map, replicate};
 ghost use Rattle.capture.specs.Seen.{captured};
 ghost use Rattle.play_pcap.specs.Acts.{Passes};
@@ -12,7 +12,7 @@ use crate::wire::Wire;
 use capture::pcap::{Header, ReadError, Record, read};
 use std::alloc::Global;
 
-/// Lets so many ticks pass.
+/// Lets this many ticks pass.
 fn tick_all<X: Wire>(wire: &mut X, count: u32)
     ensures { Goes X.may_go (replicate count Passes) (X.state wire.old) (X.state wire.new) }
 {
@@ -23,8 +23,8 @@ fn tick_all<X: Wire>(wire: &mut X, count: u32)
     }
 }
 
-/// Lets all packets come that are left, with their ticks, and answers how many they were.
-fn go_all<X: Wire>(wire: &mut X, moves: &mut Moves<'_>) -> u64
+/// Plays all remaining packets with their ticks, and returns how many there were.
+fn play_moves<X: Wire>(wire: &mut X, moves: &mut Moves<'_>) -> u64
     requires { moves.old.passed ≤ 65535 }
     ensures goes { Goes X.may_go (acts_left (going moves.old)) (X.state wire.old) (X.state wire.new) }
     ensures packets { result ≡ came (acts_left (going moves.old)) }
@@ -40,7 +40,7 @@ fn go_all<X: Wire>(wire: &mut X, moves: &mut Moves<'_>) -> u64
     packets
 }
 
-/// The records that are asked for, or `None` if there are fewer.
+/// Returns the records of a range, or `None` if there are fewer.
 fn select<'a>(range: Option<Range>, records: &'a [Record<'a>]) -> Option<&'a [Record<'a>]>
     requires { IsOrdered range }
     ensures { Selects range records.now result }
@@ -55,7 +55,7 @@ fn select<'a>(range: Option<Range>, records: &'a [Record<'a>]) -> Option<&'a [Re
     Some(&records[front..end])
 }
 
-/// The number of the first record that is asked for.
+/// Returns the number of the first record of a range, 1 without a range.
 fn first_of(range: Option<Range>) -> u64
     ensures { result ≡ events.first_of range }
 {
@@ -65,7 +65,7 @@ fn first_of(range: Option<Range>) -> u64
     }
 }
 
-/// The time of the first of these records.
+/// Returns the time of the first of these records.
 fn begin_of(header: Header, records: &[Record<'_>]) -> u64
     ensures { result ≡ events.begin_of header (map captured records.now) }
 {
@@ -75,7 +75,7 @@ fn begin_of(header: Header, records: &[Record<'_>]) -> u64
     }
 }
 
-/// Plays records of a capture, of which the first has this number.
+/// Plays records of a capture; the first has this number.
 fn play_records<X: Wire>(wire: &mut X, course: Course, number: u64, records: &[Record<'_>]) -> Tally
     ensures goes { Goes X.may_go (record_acts course number 0 (map captured records.now)) (X.state wire.old)
         (X.state wire.new) }
@@ -87,7 +87,7 @@ fn play_records<X: Wire>(wire: &mut X, course: Course, number: u64, records: &[R
         passed: 0,
         rest: records,
     };
-    let packets = go_all(wire, &mut moves);
+    let packets = play_moves(wire, &mut moves);
     Tally {
         packets,
         others: records.len() as u64 - packets,
@@ -95,15 +95,15 @@ fn play_records<X: Wire>(wire: &mut X, course: Course, number: u64, records: &[R
     }
 }
 
-/// Plays a capture in, of which all bytes are given: each IPv4 packet of its records comes, in their order, and others
-/// are counted. If ticks are asked for, so many have passed before a packet comes as there are half seconds between the
-/// times of the first record that is played and of the packet's, 65,535 at most.
+/// Plays a capture, given all its bytes: the IPv4 packets of its records arrive in order, and other records are
+/// counted. If `details.ticks` is set, a packet arrives after one tick for each half second between the times of the
+/// first record that is played and of its own, at most 65,535 ticks.
 ///
 /// # Errors
 ///
-/// `Bad` with the first fault of a file that is no capture, is cut short, or claims a length that it lacks; `TooFew` if
-/// it has fewer records than are asked for; `Memory` if host memory is lacking for the list of its records, of 16 bytes
-/// of the file at least each. Nothing has happened then.
+/// `Bad` with the first fault of a file that isn't a capture, is truncated, or claims a length that it doesn't have;
+/// `TooFew` if it has fewer records than the range requests; `Memory` if host memory for the list of its records is
+/// lacking (each has at least 16 bytes in the file). On error, nothing has arrived.
 pub fn play_file<X: Wire>(
     alloc: Global,
     wire: &mut X,

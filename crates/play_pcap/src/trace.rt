@@ -1,4 +1,4 @@
-//! The capture of a run, which is written as packets come and go.
+//! The capture of a run, which is written as packets arrive and leave.
 ghost use Rattle.std.specs.Prelude.{◌≡◌, ◌≤◌, ◌+◌, length};
 ghost use Rattle.params.specs.declared.TheConstants.{IP_MAX_PACKET};
 ghost use Rattle.capture.specs.File.{file_header_bytes, header_for, our_header};
@@ -9,7 +9,7 @@ use script_loop::{Buffer, Sink};
 use std::io::{self, Write};
 use std::marker::Model;
 
-/// Room for the record of a packet or a frame.
+/// The size of a buffer for the record of a packet or a frame.
 pub const RECORD: usize = 65_551;
 
 /// The most microseconds that a line counts.
@@ -20,7 +20,7 @@ const MOST_LINES: u64 = 499_999;
 /// must be ended by `end`.
 pub struct Trace<W: Sink> {
     sink: W,
-    room: Buffer<RECORD>,
+    buffer: Buffer<RECORD>,
     ticks: u32,
     whole: bool,
 }
@@ -33,7 +33,7 @@ impl<W: Sink> Model for Trace<W> {
     ghost view = { λ t. record { ticks = t.ticks; whole = t.whole; wrote = W.contents t.sink } };
 }
 
-/// Writes all the bytes, and answers whether it did. An error, and a write of no bytes, end it.
+/// Writes all bytes, and returns whether it did. An error, or a write of no bytes, ends it.
 pub(crate) fn send<W: Sink>(writer: &mut W, bytes: &[u8]) -> bool
     ensures { Sent result (W.contents writer.old) (W.contents writer.new) bytes.now }
 {
@@ -47,7 +47,7 @@ pub(crate) fn send<W: Sink>(writer: &mut W, bytes: &[u8]) -> bool
     true
 }
 
-/// Puts the record of a packet into a buffer.
+/// Writes the record of a packet into a buffer.
 fn put_record(out: &mut Buffer<RECORD>, ticks: u32, line: u64, packet: &[u8])
     requires { length packet.now ≤ IP_MAX_PACKET }
     ensures { out.new ≡ pass_bytes (pass_at ticks line packet.now) }
@@ -61,12 +61,12 @@ fn put_record(out: &mut Buffer<RECORD>, ticks: u32, line: u64, packet: &[u8])
 
 impl<W: Sink> Trace<W> {
     /// Begins a capture, without a header so far.
-    pub(crate) fn unheaded(sink: W, room: Buffer<RECORD>) -> Trace<W>
+    pub(crate) fn unheaded(sink: W, buffer: Buffer<RECORD>) -> Trace<W>
         ensures { result ≡ unwritten (W.contents sink) }
     {
         Trace {
             sink,
-            room,
+            buffer,
             ticks: 0,
             whole: true,
         }
@@ -83,11 +83,11 @@ impl<W: Sink> Trace<W> {
     }
 
     /// Begins a capture of IPv4 packets: writes the header of its file.
-    pub fn begin(sink: W, room: Buffer<RECORD>) -> Trace<W>
+    pub fn begin(sink: W, buffer: Buffer<RECORD>) -> Trace<W>
         ensures ticks { result.ticks ≡ 0 }
         ensures kept { Keeps (unwritten (W.contents sink)) result (file_header_bytes our_header) }
     {
-        let mut trace = Trace::unheaded(sink, room);
+        let mut trace = Trace::unheaded(sink, buffer);
         trace.head(LinkType::Ipv4);
         trace
     }
@@ -101,8 +101,8 @@ impl<W: Sink> Trace<W> {
         if !self.whole {
             return;
         }
-        put_record(&mut self.room, self.ticks, line, packet);
-        self.whole = send(&mut self.sink, self.room.as_slice());
+        put_record(&mut self.buffer, self.ticks, line, packet);
+        self.whole = send(&mut self.sink, self.buffer.as_slice());
     }
 
     /// A tick passes. More than 4,294,967,295 of them aren't counted.
@@ -114,20 +114,20 @@ impl<W: Sink> Trace<W> {
         self.ticks = self.ticks.saturating_add(1);
     }
 
-    /// Whether all records so far were written whole.
+    /// Returns whether all records so far were written whole.
     pub fn is_whole(&self) -> bool
         ensures { result ≡ self.now.whole }
     {
         self.whole
     }
 
-    /// Ends the capture, and gives the writer back.
+    /// Ends the capture, and returns the writer.
     pub fn end(self) -> W
         ensures { W.contents result ≡ self.wrote }
     {
         let Trace {
             sink,
-            room: _room,
+            buffer: _buffer,
             ticks: _ticks,
             whole: _whole,
         } = self;

@@ -2,7 +2,7 @@ ghost use Rattle.std.specs.Prelude.{◌≡◌, ◌≤◌, length};
 ghost use Rattle.params.specs.declared.TheConstants.{IP_MAX_PACKET};
 ghost use Rattle.play_pcap.specs.Acts.{Act, Arrives, Passes};
 
-/// The record of a capture from which a packet comes.
+/// The record of a packet in a capture.
 #[derive(Clone, Copy, Debug, PartialEq, Eq)]
 pub struct RecordPlace {
     /// The record's number, from 1, as in Wireshark.

@@ -1,4 +1,4 @@
-//! The capture of a wire, whose hosts say only later what goes on it: packets or frames.
+//! The capture of a wire. Its link type, for packets or for frames, is chosen when the first one passes.
 ghost use Rattle.std.specs.Prelude.{◌≡◌, ◌≤◌, ◌++◌, true, false, length, if◌then◌else◌};
 ghost use Rattle.params.specs.declared.TheConstants.{IP_MAX_PACKET};
 ghost use Rattle.capture.specs.declared.pcap.link_type.LinkType.{LinkType};
@@ -27,18 +27,18 @@ impl<W: Sink> Model for WireTrace<W> {
 }
 
 impl<W: Sink> WireTrace<W> {
-    /// Begins a capture with this link type, of which nothing is written so far.
-    pub fn begin(link: LinkType, sink: W, room: Buffer<RECORD>) -> WireTrace<W>
+    /// Begins a capture with this link type; nothing is written yet.
+    pub fn begin(link: LinkType, sink: W, buffer: Buffer<RECORD>) -> WireTrace<W>
         ensures { result ≡ record { traced = unwritten (W.contents sink); link = link; headed = false } }
     {
         WireTrace {
-            trace: Trace::unheaded(sink, room),
+            trace: Trace::unheaded(sink, buffer),
             link,
             headed: false,
         }
     }
 
-    /// Chooses the link type anew. Once something has passed it stays as it is.
+    /// Changes the link type. After the first packet or frame it has no effect.
     pub fn choose(&mut self, link: LinkType)
         ensures { self.new ≡ record self.old { link = if self.old.headed then self.old.link else link } }
     {
@@ -61,8 +61,8 @@ impl<W: Sink> WireTrace<W> {
         self.headed = true;
     }
 
-    /// A packet or a frame passes, by the line of this number: its record is written, behind the header if nothing has
-    /// passed before. If that fails, nothing more is written.
+    /// Records that a packet or a frame passes, by the line of this number; before the first one it writes the header.
+    /// If writing fails, nothing more is written.
     pub fn keep(&mut self, line: u64, bytes: &[u8])
         requires { length bytes.now ≤ IP_MAX_PACKET }
         ensures kept { Keeps self.old.traced self.new.traced
@@ -83,7 +83,7 @@ impl<W: Sink> WireTrace<W> {
         self.trace.tick();
     }
 
-    /// Whether all that passed so far was written whole.
+    /// Returns whether all that passed so far was written whole.
     pub fn is_whole(&self) -> bool
         ensures { result ≡ self.now.traced.whole }
     {

@@ -8,12 +8,12 @@ use Rattle.flat_model.specs.Runs.Run.{Turn}
 use Rattle.capture.specs.Records.{Captured, record_bytes}
 use Rattle.capture.specs.declared.pcap.header.Order.TheVariants.{Little}
 use Rattle.play_pcap.specs.Traces.{Keeps, Pass, SentAfter, Traced, later, pass_bytes, passes_bytes, record_of}
-use Rattle.play_script.proofs.DeedLemmas.{ticks_move}
-use Rattle.play_script.specs.Deeds.{moved_in, turns_with}
+use Rattle.play_script.proofs.ActionLemmas.{ticks_move}
+use Rattle.play_script.specs.Actions.{moved_in, turns_with}
 use Rattle.play_script.specs.Captures.{Captures, Notes, after_ticks, all_passes, later_by, moved_by, pass_if, passes, tick_in, ticks_after, ticks_by, turn_of}
 use Rattle.play_script.specs.Inside.{events_of, ticks_of}
-use Rattle.play_script.specs.declared.deed.Deed.{Deed}
-use Rattle.play_script.specs.declared.deed.Deed.TheVariants.{Call, Ticks}
+use Rattle.play_script.specs.declared.action.Action.{Action}
+use Rattle.play_script.specs.declared.action.Action.TheVariants.{Call, Ticks}
 use Rattle.request.specs.Requests.{event_of}
 
 -- ---- what is written
@@ -76,12 +76,13 @@ Captures-one number old new event reply moved n is ticks h = (
 )
 
 -- what a line has a machine do
-pub Captures-deed : (number : ℕ) (old new : Traced) (deed : Deed) (reply : Reply) (moved : Option (List ℕ)) (n : ℕ)
-    → moved ≡ moved_in (events_of deed) reply → n ≡ ticks_of deed → Notes number old moved n new
-    → Captures number old (turns_with (events_of deed) reply) new
-Captures-deed number old new (Call request) reply moved n is ticks h =
+pub Captures-action : (number : ℕ) (old new : Traced) (action : Action) (reply : Reply) (moved : Option (List ℕ)) (n :
+    ℕ)
+    → moved ≡ moved_in (events_of action) reply → n ≡ ticks_of action → Notes number old moved n new
+    → Captures number old (turns_with (events_of action) reply) new
+Captures-action number old new (Call request) reply moved n is ticks h =
     Captures-one number old new (event_of request) reply moved n is ticks h
-Captures-deed number old new (Ticks count) reply moved n is ticks h = (
+Captures-action number old new (Ticks count) reply moved n is ticks h = (
   subst (λ (ps : List Pass). Keeps old new (passes_bytes ps)) (sym (ticks_pass number count old.ticks reply))
       (subst (λ (m : Option (List ℕ)). Keeps old new (passes_bytes (pass_if old.ticks number m)))
       (is ∙ ticks_move count reply) h.0),

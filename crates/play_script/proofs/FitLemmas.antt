@@ -20,8 +20,9 @@ and-and-false true b = and-false b
 and-and-false false b = refl
 
 -- `..` alone fits whatever is left
-pub rest-fits : (wanted told : List (List ℕ)) → outcomes.is_rest wanted ≡ true → outcomes.fits_words wanted told ≡ true
-rest-fits [] told e = absurd (Rattle.std.proofs.lemmas.Bool.false≢true e)
+pub rest-fits : (wanted reply_line : List (List ℕ)) → outcomes.is_rest wanted ≡ true → outcomes.fits_words wanted
+    reply_line ≡ true
+rest-fits [] reply_line e = absurd (Rattle.std.proofs.lemmas.Bool.false≢true e)
 rest-fits (word ∷ more) [] e = e
 rest-fits (word ∷ more) (got ∷ rest) e = rw e refl
 
@@ -36,41 +37,44 @@ pub fits-end : (wanted : List (List ℕ)) → (wanted ≡ [] → ⊥) → outcom
 fits-end [] some = absurd (some refl)
 fits-end (word ∷ more) some = refl
 
-fits-fewer : (told : List (List ℕ)) → (told ≡ [] → ⊥) → outcomes.fits_words [] told ≡ false
+fits-fewer : (reply_line : List (List ℕ)) → (reply_line ≡ [] → ⊥) → outcomes.fits_words [] reply_line ≡ false
 fits-fewer [] some = absurd (some refl)
 fits-fewer (got ∷ rest) some = refl
 
 -- a word that isn't the rest, by itself and what comes after it
-pub fits-step : (wanted told more rest : List (List ℕ)) (word got : List ℕ) → wanted ≡ word ∷ more → told ≡ got ∷ rest
+pub fits-step : (wanted reply_line more rest : List (List ℕ)) (word got : List ℕ) → wanted ≡ word ∷ more → reply_line ≡
+    got ∷ rest
     → outcomes.is_rest wanted ≡ false
-    → outcomes.fits_words wanted told
+    → outcomes.fits_words wanted reply_line
     ≡ ((bytes_eq word (codes "_") || bytes_eq word got) && outcomes.fits_words more rest)
-fits-step wanted told more rest word got e f none =
+fits-step wanted reply_line more rest word got e f none =
     rw (e, f) (
     let mine : outcomes.is_rest (word ∷ more) ≡ false = rw e at none in rw mine refl
     )
 
 -- more words are wanted than were told, or fewer
-pub fits-longer : (wanted told more : List (List ℕ)) (word got : List ℕ) → wanted ≡ word ∷ more → told ≡ got ∷ []
+pub fits-longer : (wanted reply_line more : List (List ℕ)) (word got : List ℕ) → wanted ≡ word ∷ more → reply_line ≡ got
+    ∷ []
     → (more ≡ [] → ⊥) → outcomes.is_rest wanted ≡ false → (bytes_eq word (codes "_") || bytes_eq word got) ≡ true
-    → outcomes.fits_words wanted told ≡ outcomes.is_rest more
-fits-longer wanted told more word got e f some none same =
-    rw (fits-step wanted told more [] word got e f none, same) (fits-end more some)
+    → outcomes.fits_words wanted reply_line ≡ outcomes.is_rest more
+fits-longer wanted reply_line more word got e f some none same =
+    rw (fits-step wanted reply_line more [] word got e f none, same) (fits-end more some)
 
-pub fits-shorter : (wanted told more : List (List ℕ)) (word got : List ℕ) → wanted ≡ word ∷ [] → told ≡ got ∷ more
+pub fits-shorter : (wanted reply_line more : List (List ℕ)) (word got : List ℕ) → wanted ≡ word ∷ [] → reply_line ≡ got
+    ∷ more
     → (more ≡ [] → ⊥) → outcomes.is_rest wanted ≡ false
-    → outcomes.fits_words wanted told ≡ false
-fits-shorter wanted told more word got e f some none =
-    rw (fits-step wanted told [] more word got e f none, fits-fewer more some) (and-false _)
+    → outcomes.fits_words wanted reply_line ≡ false
+fits-shorter wanted reply_line more word got e f some none =
+    rw (fits-step wanted reply_line [] more word got e f none, fits-fewer more some) (and-false _)
 
-pub unnumbered-longer : (wanted told more : List (List ℕ)) (word got number : List ℕ) → wanted ≡ word ∷ more
-    → told ≡ got ∷ number ∷ [] → (more ≡ [] → ⊥)
-    → outcomes.fits_unnumbered wanted told
+pub unnumbered-longer : (wanted reply_line more : List (List ℕ)) (word got number : List ℕ) → wanted ≡ word ∷ more
+    → reply_line ≡ got ∷ number ∷ [] → (more ≡ [] → ⊥)
+    → outcomes.fits_unnumbered wanted reply_line
     ≡ (bytes_eq word (codes "error") && (bytes_eq got (codes "error") && outcomes.is_rest more))
-unnumbered-longer wanted told more word got number e f some = rw (e, f, fits-end more some) refl
+unnumbered-longer wanted reply_line more word got number e f some = rw (e, f, fits-end more some) refl
 
-pub unnumbered-shorter : (wanted told more : List (List ℕ)) (word got number : List ℕ) → wanted ≡ word ∷ []
-    → told ≡ got ∷ number ∷ more
-    → (more ≡ [] → ⊥) → outcomes.fits_unnumbered wanted told ≡ false
-unnumbered-shorter wanted told more word got number e f some =
+pub unnumbered-shorter : (wanted reply_line more : List (List ℕ)) (word got number : List ℕ) → wanted ≡ word ∷ []
+    → reply_line ≡ got ∷ number ∷ more
+    → (more ≡ [] → ⊥) → outcomes.fits_unnumbered wanted reply_line ≡ false
+unnumbered-shorter wanted reply_line more word got number e f some =
     rw (e, f, fits-fewer more some) (and-and-false _ _)

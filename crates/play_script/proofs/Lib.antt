@@ -1,4 +1,7 @@
-mod DeedLemmas
+mod DashLemmas
+mod DetailLemmas
+mod LineLemmas
+mod ActionLemmas
 mod CaptureLemmas
 mod FitLemmas
 mod RoomLemmas
@@ -7,3 +10,4 @@ mod AnswerLemmas
 mod SettingLemmas
 mod PlayLemmas
 mod TurnLemmas
+pub mod Laws

@@ -9,13 +9,13 @@ use Rattle.flat_model.specs.Runs.Run.{Turn, Leads}
 use Rattle.play_pcap.specs.Acts.{Act}
 use Rattle.play_pcap.specs.Asks.{IsAsked}
 use Rattle.play_pcap.specs.Events.{Goes, PlaysFile, capture_acts}
-use Rattle.play_pcap.specs.Files.{IsHad, PlaysNamed}
+use Rattle.play_pcap.specs.Files.{IsAvailable, PlaysNamed}
 use Rattle.play_pcap.specs.Traces.{Keeps, Pass, Traced, passes_bytes}
 use Rattle.play_pcap.specs.declared.ask.Details.{Details}
 use Rattle.play_pcap.specs.declared.fault.CaptureFault.{CaptureFault}
 use Rattle.play_pcap.specs.declared.fault.CaptureFault.TheVariants.{NotOpened, NotRead, TooLong, Memory, TooFew, Bad}
 use Rattle.play_pcap.specs.declared.moves.Tally.{Tally}
-use Rattle.play_read.proofs.Laws.{Capture-idle}
+use Rattle.play_script.proofs.Laws.{Capture-idle}
 use Rattle.play_script.proofs.CaptureLemmas.{Joins, Keeps-none, passes_bytes-append}
 use Rattle.play_script.specs.Captures.{Captures, moved_by, pass_if, passes, ticks_after, ticks_by}
 use Rattle.play_text.specs.Tables.{no_drops}
@@ -92,9 +92,9 @@ Turns-none has shown plain word wanted d old new asked same = (
 -- what the file that was read does
 File-turns : Joins → (has : List ℕ → List ℕ → Type 0) (shown plain word file : List ℕ) (wanted : Option (List ℕ))
     (d : Details)
-    (outcome : Result Tally CaptureFault) (old new : ReplayView) → IsAsked plain word d → IsHad has word file
+    (outcome : Result Tally CaptureFault) (old new : ReplayView) → IsAsked plain word d → IsAvailable has word file
     → PlaysFile (ComesTo Step) d file outcome old new → MakesTurns has shown plain wanted old.seen new.seen
-File-turns join has shown plain word file wanted d (Ok tally) old new asked had (w, reads, range, goes, told) =
+File-turns join has shown plain word file wanted d (Ok tally) old new asked had (w, reads, range, goes, reported) =
     let made = Goes-turns join (capture_acts d w) old new goes in (
       map came_turn (capture_acts d w),
       inr (inr (inl (word, d, file, w, asked, had, reads, range, refl))),

@@ -11,7 +11,7 @@ use Rattle.link_script.specs.Boots.{IsRunUnbooted}
 use Rattle.play_text.specs.declared.form.Form.{Form}
 use Rattle.play_pcap.specs.Files.{no_folder}
 use Rattle.play_pcap.specs.Traces.{Traced, unwritten}
-use Rattle.play_script.specs.Tells.{Play, Tells, started}
+use Rattle.play_script.specs.Reports.{Play, Reports, started}
 
 pub started-is : (machine : State) (traced : Traced) (config : Config) (number : ℕ) (sound texts : Bool)
     (form form' : Form) (name name' : List ℕ)
@@ -22,7 +22,7 @@ started-is machine traced config number sound texts form form' name name' c e f 
 
 unserved : (step : State → Event → Reply → State → Type 0) (has : List ℕ → List ℕ → Type 0) (c : Config)
     (fault : RunFault) (begun : Play) (a w : Option (List ℕ))
-    → IsRunUnbooted c fault → Serves (Tells step has) begun begun a a w w (Err fault)
+    → IsRunUnbooted c fault → Serves (Reports step has) begun begun a a w w (Err fault)
 unserved step has c Memory begun a w h = (Moves-none a w, refl)
 unserved step has c BadSizes begun a w h = (Moves-none a w, refl)
 unserved step has c BadConfig begun a w h = (Moves-none a w, refl)
@@ -34,7 +34,7 @@ unserved step has c TooManyLines begun a w h = absurd h
 pub Serves-unbooted : (step : State → Event → Reply → State → Type 0) (has : List ℕ → List ℕ → Type 0) (c : Config)
     (fault : RunFault) (traced : Traced)
     (form : Form) (name : List ℕ) (a w : Option (List ℕ)) → IsRunUnbooted c fault
-    → (new : Play) × Serves (Tells step has) (started (boot c) traced form name) new a a w w (Err fault)
+    → (new : Play) × Serves (Reports step has) (started (boot c) traced form name) new a a w w (Err fault)
     × (true ≡ new.sound) × (traced ≡ new.traced)
 Serves-unbooted step has c fault traced form name a w h =
     (started (boot c) traced form name, unserved step has c fault (started (boot c) traced form name) a w h, refl, refl)
@@ -44,7 +44,7 @@ abbrev pub Served : (State → Event → Reply → State → Type 0) → (List �
     → List ℕ → Option (List ℕ)
     → Option (List ℕ) → Option (List ℕ) → Option (List ℕ) → Result Unit RunFault → Bool → Traced → Type 0
 Served step has machine traced form name a b w v r sound after =
-    (new : Play) × Serves (Tells step has) (started machine traced form name) new a b w v r × (sound ≡ new.sound)
+    (new : Play) × Serves (Reports step has) (started machine traced form name) new a b w v r × (sound ≡ new.sound)
     × (after ≡ new.traced)
 
 pub Serves-captured : (step : State → Event → Reply → State → Type 0) (has : List ℕ → List ℕ → Type 0)
@@ -61,7 +61,7 @@ abbrev pub Untraced : (State → Event → Reply → State → Type 0) → State
     → Option (List ℕ) → Option (List ℕ)
     → Option (List ℕ) → Result Unit RunFault → Bool → Type 0
 Untraced step machine form name a b w v r sound =
-    (traced : Traced) × (new : Play) × Serves (Tells step no_folder) (started machine traced form name) new a b w v r
+    (traced : Traced) × (new : Play) × Serves (Reports step no_folder) (started machine traced form name) new a b w v r
     × (sound ≡ new.sound)
 
 pub Serves-untraced : (step : State → Event → Reply → State → Type 0) (c : Config) (fault : RunFault) (form : Form)
@@ -95,14 +95,14 @@ pub Serves-started : (step : State → Event → Reply → State → Type 0) (ha
     (a b w v : Option (List ℕ)) (r : Result Unit RunFault)
     → config ≡ machine.config → form ≡ form' → number ≡ 0 → name ≡ name' → sound ≡ true → texts ≡ false
     → after ≡ new.traced
-    → Serves (Tells step has) (record (started machine traced form name)
+    → Serves (Reports step has) (record (started machine traced form name)
     { config = config; number = number; sound = sound; texts = texts }) new a b w v r
-    → (x : Play) × Serves (Tells step has) (started machine traced form' name') x a b w v r × (new.sound ≡ x.sound)
+    → (x : Play) × Serves (Reports step has) (started machine traced form' name') x a b w v r × (new.sound ≡ x.sound)
     × (after ≡ x.traced)
 Serves-started step has machine traced after config number sound texts form form' name name' new a b w v r c e f h s q t
     served = (
       new,
-      subst (λ (p : Play). Serves (Tells step has) p new a b w v r)
+      subst (λ (p : Play). Serves (Reports step has) p new a b w v r)
           (started-is machine traced config number sound texts form form' name name' c e f h s q) served,
       refl,
       t,

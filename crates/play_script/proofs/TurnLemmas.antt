@@ -14,21 +14,21 @@ use Rattle.flat_model.specs.Scripts.Script as script
 use Rattle.flat_model.specs.Scripts.Script.{all_events}
 use Rattle.flat_model.proofs.Laws.{in_range}
 use Rattle.script_loop.specs.Printed.{Prints}
-use Rattle.play_read.specs.Settings.{IsSet}
-use Rattle.play_read.specs.declared.fault.SettingFault.{SettingFault}
-use Rattle.play_read.specs.declared.fault.SettingFault.TheVariants.{Late}
+use Rattle.play_script.specs.Settings.{IsSet}
+use Rattle.play_script.specs.declared.fault.SettingFault.{SettingFault}
+use Rattle.play_script.specs.declared.fault.SettingFault.TheVariants.{Late}
 use Rattle.play_pcap.specs.Traces.{Traced, Keeps, passes_bytes}
-use Rattle.play_read.specs.Asks.{Ask, Call, Ticks, Show, Capture, Settings, IsTicks, Writes}
-use Rattle.play_read.proofs.Laws.{Settings-idle, Show-idle}
+use Rattle.play_script.specs.Asks.{Ask, Call, Ticks, Show, Capture, Settings, IsTicks, Writes}
+use Rattle.play_script.proofs.Laws.{Settings-idle, Show-idle}
 use Rattle.play_script.proofs.CaptureLemmas.{Joins, Keeps-none, Captures-join, Captures-more}
 use Rattle.play_script.proofs.PlayLemmas.{Captures-same, Named-turns}
-use Rattle.play_script.specs.Deeds.{Does, turns_with}
+use Rattle.play_script.specs.Actions.{Does, turns_with}
 use Rattle.play_script.specs.Captures.{Captures, all_passes, turn_of}
 use Rattle.play_script.specs.Lines.{Reading, Nothing, TooLong, Faulty, Asks, reading_part}
 use Rattle.play_text.specs.Tables.{no_drops}
 use Rattle.play_script.specs.Plays.{CapturedView, captured_of, replay_of}
 use Rattle.play_script.specs.Runs.{AreAskedTurns, ArePlayedTurns, AreTimedTurns, IsRunOf, all_turns, MaySet, MaySetAll, MayTimedSet}
-use Rattle.play_script.specs.Tells.{Play, Tells, TellsAsk, TellsReading, TellsAsked, TellsSettled, TellsTimed, IsSettled, IsWaited, next_line, stays_head}
+use Rattle.play_script.specs.Reports.{Play, Reports, ReportsAsk, ReportsReading, ReportsAsked, ReportsSettled, ReportsTimed, IsSettled, IsWaited, next_line, stays_head}
 
 -- ticks one after another are turns
 Ticks-lead : (n : ℕ) (old new : State) (reply : Reply) → Does Step old (replicate n Tick) reply new
@@ -105,23 +105,23 @@ not_late : (c : Config) → Ok c ≡ Err Late → ⊥
 not_late c e = cc
 
 -- what is told of what a line asks for, by its turns
-Told-turns : Joins → (has : List ℕ → List ℕ → Type 0) (ask : Ask) (old new : CapturedView) (shown plain : List ℕ)
+Executed-turns : Joins → (has : List ℕ → List ℕ → Type 0) (ask : Ask) (old new : CapturedView) (shown plain : List ℕ)
     (wanted : Option (List ℕ)) (text : List ℕ) (failed : Bool)
-    → Writes plain ask → TellsAsk Step has ask old failed text new
+    → Writes plain ask → ReportsAsk Step has ask old failed text new
     → (turns : List Turn) × AreAskedTurns has plain turns
     × Leads exact_ledger old.machine turns new.machine
     × Captures old.line old.traced turns new.traced × (stays_head ask ≡ true → turns ≡ [])
-Told-turns join has (Call event) old new shown plain wanted text failed asks (done, fine) =
+Executed-turns join has (Call event) old new shown plain wanted text failed asks (done, fine) =
     let made =
     Makes-one has old.line old.machine new.machine old.traced new.traced shown plain wanted event done.reply asks
     done.does done.captured in
     (made.0, made.1, made.2, made.3, λ stays. absurd (false≢true stays))
-Told-turns join has (Ticks n) old new shown plain wanted text failed ticks (done, fine) =
+Executed-turns join has (Ticks n) old new shown plain wanted text failed ticks (done, fine) =
     let made =
     Makes-ticks has old.line old.machine new.machine old.traced new.traced shown plain wanted n done.reply ticks
     done.does done.captured in
     (made.0, made.1, made.2, made.3, λ stays. absurd (false≢true stays))
-Told-turns join has (Show topic) old new shown plain wanted text failed is (same, traced, fine) =
+Executed-turns join has (Show topic) old new shown plain wanted text failed is (same, traced, fine) =
     let idle = Show-idle plain topic is in (
       [],
       inr (inr (inr (idle.0, idle.1, refl))),
@@ -129,12 +129,12 @@ Told-turns join has (Show topic) old new shown plain wanted text failed is (same
       Captures-same old.line old.traced new.traced traced,
       λ stays. refl,
     )
-Told-turns join has (Capture name d) old new shown plain wanted text failed asked
-    (causes, (outcome, before, after, plays, was, now, tells, fails)) =
+Executed-turns join has (Capture name d) old new shown plain wanted text failed asked
+    (causes, (outcome, before, after, plays, was, now, reports, fails)) =
     let made =
     Named-turns join has shown plain name wanted d outcome (replay_of old no_drops) (replay_of new causes) asked plays in
     (made.0, made.1, made.2, made.3, λ stays. absurd (false≢true stays))
-Told-turns join has (Settings named) old new shown plain wanted text failed asks told = absurd told
+Executed-turns join has (Settings named) old new shown plain wanted text failed asks reported = absurd reported
 
 and_first : (a b : Bool) → (a && b) ≡ true → a ≡ true
 and_first true b h = refl
@@ -160,15 +160,15 @@ Idle Are now new are machine traced number config head = record {
 Settings-line : (has : List ℕ → List ℕ → Type 0) (now new : Play) (shown plain text : List ℕ) (wanted : Option (List ℕ))
     (named : List (List ℕ)) (head : Bool) → now.head ≡ head
     → Writes plain (Settings named) → (outcome : Result Config SettingFault) → IsSettled head now.config named outcome
-    → TellsSettled now shown wanted outcome text new
+    → ReportsSettled now shown wanted outcome text new
     → Asked (AreAskedTurns has plain) now new
     ⊎ Settled (AreAskedTurns has plain) (MaySet (Asks shown plain wanted)) now new
-Settings-line has now new shown plain text wanted named head was is (Err fault) settled (told, same) =
+Settings-line has now new shown plain text wanted named head was is (Err fault) settled (reported, same) =
     inl (Idle (AreAskedTurns has plain) now new
     (inr (inr (inr ((Settings-idle plain is.0).0, (Settings-idle plain is.0).1, refl))))
     (ap (λ (p : Play). p.machine) same) (ap (λ (p : Play). p.traced) same)
     (ap (λ (p : Play). p.number) same) (ap (λ (p : Play). p.config) same) (ap (λ (p : Play). p.head) same))
-Settings-line has now new shown plain text wanted named true was is (Ok c) (set, right) (told, same) =
+Settings-line has now new shown plain text wanted named true was is (Ok c) (set, right) (reported, same) =
     inr (record {
       are = inr (inr (inr ((Settings-idle plain is.0).0, (Settings-idle plain is.0).1, refl)));
       captured = Captures-same now.number now.traced new.traced (ap (λ (p : Play). p.traced) same);
@@ -183,25 +183,37 @@ Settings-line has now new shown plain text wanted named true was is (Ok c) (set,
                 set,
           );
     })
-Settings-line has now new shown plain text wanted named false was is (Ok c) settled told =
+Settings-line has now new shown plain text wanted named false was is (Ok c) settled reported =
     absurd (not_late c settled)
 
 Asked-line : Joins → (has : List ℕ → List ℕ → Type 0) (now new : Play) (shown plain text : List ℕ)
     (wanted : Option (List ℕ))
-    → TellsAsked Step has now shown plain wanted text new
+    → ReportsAsked Step has now shown plain wanted text new
     → Asked (AreAskedTurns has plain) now new
     ⊎ Settled (AreAskedTurns has plain) (MaySet (Asks shown plain wanted)) now new
-Asked-line join has now new shown plain text wanted (None, none, (what, tells, same)) =
+Asked-line join has now new shown plain text wanted (None, none, (what, reports, same)) =
     inl (Idle (AreAskedTurns has plain) now new
     (inr (inr (inr (λ event. none (Call event), λ n. none (Ticks n), refl))))
     (ap (λ (p : Play). p.machine) same) (ap (λ (p : Play). p.traced) same)
     (ap (λ (p : Play). p.number) same) (ap (λ (p : Play). p.config) same) (ap (λ (p : Play). p.head) same))
-Asked-line join has now new shown plain text wanted (Some ask, asks, inr (named, is, (outcome, settled, told))) =
+Asked-line join has now new shown plain text wanted (Some ask, asks, inr (named, is, (outcome, settled, reported))) =
     Settings-line has now new shown plain text wanted named now.head refl (subst (λ (a : Ask). Writes plain a) is asks)
-    outcome settled told
-Asked-line join has now new shown plain text wanted (Some ask, asks, inl (after, failed, said, below, answered, tells, same)) =
+    outcome settled reported
+Asked-line join has now new shown plain text wanted (
+  Some ask,
+  asks,
+  inl (
+    after,
+    failed,
+    said,
+    below,
+    answered,
+    reports,
+    same,
+  ),
+) =
     let made =
-    Told-turns join has ask (captured_of now.machine now.traced now.number) after shown plain wanted said failed asks
+    Executed-turns join has ask (captured_of now.machine now.traced now.number) after shown plain wanted said failed asks
     answered in
     let stayed : new.head ≡ (now.head && stays_head ask) = ap (λ (p : Play). p.head) same in
     inl (record {
@@ -276,31 +288,31 @@ Waited-line join has n now mid new shown plain wanted waited line =
           })
     ]
 
-Tells-line : Joins → (has : List ℕ → List ℕ → Type 0) (now new : Play) (n before : ℕ) (line : Reading)
-    (text : List ℕ) → TellsReading Step has now n before line text new
+Reports-line : Joins → (has : List ℕ → List ℕ → Type 0) (now new : Play) (n before : ℕ) (line : Reading)
+    (text : List ℕ) → ReportsReading Step has now n before line text new
     → Asked (ArePlayedTurns has n line) now new ⊎ Settled (ArePlayedTurns has n line) (MaySet line) now new
-Tells-line join has now new n before Nothing text (is, same) =
+Reports-line join has now new n before Nothing text (is, same) =
     inl (Idle (ArePlayedTurns has n Nothing) now new refl (ap (λ (p : Play). p.machine) same) (ap (λ (p : Play). p.traced) same)
     (ap (λ (p : Play). p.number) same) (ap (λ (p : Play). p.config) same) (ap (λ (p : Play). p.head) same))
-Tells-line join has now new n before TooLong text (is, same) =
+Reports-line join has now new n before TooLong text (is, same) =
     inl (Idle (ArePlayedTurns has n TooLong) now new refl (ap (λ (p : Play). p.machine) same) (ap (λ (p : Play). p.traced) same)
     (ap (λ (p : Play). p.number) same) (ap (λ (p : Play). p.config) same) (ap (λ (p : Play). p.head) same))
-Tells-line join has now new n before (Faulty slip) text (is, same) =
+Reports-line join has now new n before (Faulty slip) text (is, same) =
     inl (Idle (ArePlayedTurns has n (Faulty slip)) now new refl (ap (λ (p : Play). p.machine) same) (ap (λ (p : Play). p.traced) same)
     (ap (λ (p : Play). p.number) same) (ap (λ (p : Play). p.config) same) (ap (λ (p : Play). p.head) same))
-Tells-line join has now new n before (Asks shown plain wanted) text (mid, waited, told) =
+Reports-line join has now new n before (Asks shown plain wanted) text (mid, waited, reported) =
     Waited-line join has n now mid new shown plain wanted waited
-    (Asked-line join has mid new shown plain text wanted told)
+    (Asked-line join has mid new shown plain text wanted reported)
 
 Timed-line : Joins → (has : List ℕ → List ℕ → Type 0) (now new : Play) (line text : List ℕ)
-    (t : Result TimedView Slip) → TellsTimed Step has now line t text new
+    (t : Result TimedView Slip) → ReportsTimed Step has now line t text new
     → Asked (AreTimedTurns has line t) now new ⊎ Settled (AreTimedTurns has line t) (MayTimedSet line t) now new
 Timed-line join has now new line text (Err slip) (is, same) =
     inl (Idle (AreTimedTurns has line (Err slip)) now new refl
     (ap (λ (p : Play). p.machine) same) (ap (λ (p : Play). p.traced) same)
     (ap (λ (p : Play). p.number) same) (ap (λ (p : Play). p.config) same) (ap (λ (p : Play). p.head) same))
-Timed-line join has now new line text (Ok t) told =
-    Tells-line join has now new t.ticks (length line - length t.part) (reading_part line t.part) text told
+Timed-line join has now new line text (Ok t) reported =
+    Reports-line join has now new t.ticks (length line - length t.part) (reading_part line t.part) text reported
 
 -- ---- all lines
 
@@ -408,7 +420,7 @@ Settled-before join has now old mid new line lines t n c h first rest =
     ]
 
 pub Prints-run : Joins → (has : List ℕ → List ℕ → Type 0) (old new : Play) (lines : List (List ℕ)) (printed : List ℕ)
-    → Prints (Tells Step has) old lines printed new → IsRunOf has old lines new
+    → Prints (Reports Step has) old lines printed new → IsRunOf has old lines new
 Prints-run join has old new [] printed (same, none) = record {
   first = old.machine;
   begins = inl refl;
@@ -417,9 +429,9 @@ Prints-run join has old new [] printed (same, none) = record {
   leads = ap (λ (p : Play). p.machine) same;
   kept = subst (λ (t : Traced). Keeps old.traced t []) (sym (ap (λ (p : Play). p.traced) same)) (Keeps-none old.traced);
 }
-Prints-run join has old new (line ∷ lines) printed (mid, text, rest, tells, later, joined) =
+Prints-run join has old new (line ∷ lines) printed (mid, text, rest, reports, later, joined) =
     let after = Prints-run join has mid new lines rest later in
-    elim (Timed-line join has (next_line line old) mid line text (timed line) tells) [
+    elim (Timed-line join has (next_line line old) mid line text (timed line) reports) [
       | inl asked ↦ Asked-before join has (next_line line old) old mid new line lines refl refl refl refl refl asked after
       | inr settled ↦ Settled-before join has (next_line line old) old mid new line lines refl refl refl refl settled after
     ]

@@ -25,7 +25,7 @@ abbrev pub tick_in : Event → ℕ
 tick_in Tick = 1
 tick_in event = 0
 
--- how many have passed after so many more
+-- this many ticks later
 abbrev pub later_by : ℕ → ℕ → ℕ
 later_by zero ticks = ticks
 later_by (suc n) ticks = later_by n (later ticks)
@@ -40,14 +40,14 @@ abbrev pub pass_if : ℕ → ℕ → Option (List ℕ) → List Pass
 pass_if ticks number None = []
 pass_if ticks number (Some packet) = pass_at ticks number packet ∷ []
 
--- what a capture has after the packet that moves, if one does, and so many ticks
+-- what a capture has after the packet that moves, if one does, and then n ticks
 abbrev pub Notes : ℕ → Traced → Option (List ℕ) → ℕ → Traced → Type 0
 Notes number old moved n new =
     Keeps old new (passes_bytes (pass_if old.ticks number moved)) × (new.ticks ≡ later_by n old.ticks)
 
 -- ---- the turns of a line
 
--- the packets that they move, by the line of this number, where so many ticks have passed before
+-- the packets that they move, by the line of this number, after this many ticks
 abbrev pub passes : ℕ → ℕ → List Turn → List Pass
 passes number ticks [] = []
 passes number ticks (turn ∷ turns) =
@@ -64,7 +64,7 @@ Captures number old turns new =
 
 -- ---- the turns of all lines, a list of them for each line
 
--- the packets that they move, where so many lines and ticks came before
+-- the packets that they move, after this many lines and ticks
 abbrev pub all_passes : ℕ → ℕ → List (List Turn) → List Pass
 all_passes number ticks [] = []
 all_passes number ticks (turns ∷ lines) =

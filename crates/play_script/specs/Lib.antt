@@ -1,9 +1,11 @@
+pub mod Settings
+pub mod Asks
 pub mod Lines
 pub mod Outcomes
-pub mod Deeds
+pub mod Actions
 pub mod Captures
 pub mod Plays
-pub mod Tells
+pub mod Reports
 pub mod Runs
 pub mod Views
 pub mod Inside

@@ -16,12 +16,12 @@ unheaded text = if get_or text 0 0 == 32 then drop 1 text else text
 
 -- ---- texts
 
--- a quote, in front of a comment
+-- a quote, before any comment
 abbrev pub quote_at : List ℕ → Option ℕ → Bool
 quote_at line (Some at) = get_or line at 0 == 34
 quote_at line None = false
 
--- a text stands in the line
+-- the line contains a text in quotes
 abbrev pub has_text : List ℕ → Bool
 has_text line = quote_at line (position (λ byte. byte == 34 || byte == 35) line)
 
@@ -36,7 +36,7 @@ abbrev pub back_at : List ℕ → Option ℕ → Option (List ℕ)
 back_at text (Some at) = if get_or text (at + 1) 0 == 62 then Some (drop (at + 2) text) else None
 back_at text None = None
 
--- what stands in front of `=>`, the first `=` of the text
+-- what comes before `=>`, the first `=` of the text
 abbrev pub asked : List ℕ → List ℕ
 asked text = front_at text (position (λ byte. byte == 61) text)
 
@@ -47,7 +47,7 @@ expected text = back_at text (position (λ byte. byte == 61) text)
 -- ---- what a line is
 
 pub data Reading : Type 0 where
-  Nothing : Reading  -- a blank line, or a comment alone
+  Nothing : Reading  -- a blank line, or only a comment
   TooLong : Reading  -- more than 262,144 bytes
   Faulty : (slip : Slip) → Reading  -- bytes that can't be read, or words that name no packet
   -- the line as it's written, the plain line that it stands for, and the reply that is expected
@@ -63,7 +63,7 @@ reading_of shown [] None = Nothing
 reading_of shown [] (Some wanted) = Asks shown [] (Some wanted)
 reading_of shown (byte ∷ bytes) wanted = Asks shown (byte ∷ bytes) wanted
 
--- the words of a line, with the bytes of a packet in the place of those that name it, and what is expected
+-- the words of a line, with the bytes of a packet instead of the words that name it, and what is expected
 abbrev pub reading_words : List ℕ → Result (List ℕ) Slip → Option (List ℕ) → Reading
 reading_words shown (Ok words) wanted = reading_of shown words wanted
 reading_words shown (Err slip) wanted = Faulty slip
@@ -80,6 +80,6 @@ reading_part line part =
     if nat_lt LONGEST (length line) then TooLong
     else reading_plain line part (expanded part)
 
--- what is wrong with a part of a line, in front of which so many bytes stand
+-- an error in a part of a line that `before` bytes precede
 abbrev pub shifted : ℕ → Slip → Slip
 shifted before slip = record slip { column = more_by before slip.column }

@@ -1,4 +1,4 @@
--- What is told of a line: its reply, and why packets were dropped (this project's own).
+-- The reply to a line, with the causes for which packets were dropped (this project's own).
 use Rattle.std.specs.Prelude.{ℕ, ◌&&◌, ◌||◌, Bool, true, false, List, [], ◌∷◌, ◌++◌, drop, flat_map, if◌then◌else◌, codes, bytes_eq, Option, Some, None}
 use Rattle.flat_model.specs.Machine.Count.{counter_of}
 use Rattle.flat_model.specs.Machine.Event.{Reply}
@@ -10,7 +10,7 @@ use Rattle.play_text.specs.Words.{all_causes, cause_words, rose}
 
 -- ---- why packets were dropped
 
--- a cause is told if its counter went up
+-- a cause is printed if its counter went up
 abbrev pub cause_text : Counters → Counters → Why → List ℕ
 cause_text before after why =
     if rose (counter_of why) before after then codes " dropped " ++ cause_words why else []
@@ -24,25 +24,24 @@ abbrev pub is_some_text : List ℕ → Bool
 is_some_text [] = false
 is_some_text (byte ∷ bytes) = true
 
--- The reply, and what was dropped. A mere `ok` isn't told of what was dropped.
-abbrev pub told : List ℕ → List ℕ → List ℕ
-told reply drops = if bytes_eq reply (codes "ok") && is_some_text drops then drop 1 drops else reply ++ drops
+-- The reply and the causes. If packets were dropped, a bare `ok` isn't printed.
+abbrev pub reply_line : List ℕ → List ℕ → List ℕ
+reply_line reply drops = if bytes_eq reply (codes "ok") && is_some_text drops then drop 1 drops else reply ++ drops
 
--- nothing is told of a line that asks for nothing
+-- a line without a request has no outcome
 abbrev pub outcome : Option Reply → Counters → Counters → Option (List ℕ)
 outcome None before after = None
-outcome (Some reply) before after = Some (told (reply_text reply) (drops_text before after))
+outcome (Some reply) before after = Some (reply_line (reply_text reply) (drops_text before after))
 
 -- ---- what is expected
 
--- `..` alone
+-- the single word `..`
 abbrev pub is_rest : List (List ℕ) → Bool
 is_rest [] = false
 is_rest (word ∷ []) = bytes_eq word (codes "..")
 is_rest (word ∷ next ∷ words) = false
 
--- Word by word the same, but for `_`, which is any word, and for `..` at the end, which is whatever is left, even
--- nothing.
+-- The words match one by one: `_` matches any word, and `..` at the end matches any rest, even an empty one.
 abbrev pub fits_words : List (List ℕ) → List (List ℕ) → Bool
 fits_words [] [] = true
 fits_words (word ∷ words) (got ∷ gots) =
@@ -59,4 +58,5 @@ fits_unnumbered (word ∷ words) [] = false
 fits_unnumbered (word ∷ words) (got ∷ []) = false
 
 abbrev pub meets_reply : List ℕ → List ℕ → Bool
-meets_reply wanted told = fits_words (words wanted) (words told) || fits_unnumbered (words wanted) (words told)
+meets_reply wanted reply_line = fits_words (words wanted) (words reply_line) || fits_unnumbered (words wanted) (words
+    reply_line)

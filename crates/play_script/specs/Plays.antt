@@ -1,4 +1,4 @@
--- Captures that are played in: the machine's steps, and what is told of them (this project's own).
+-- Captures that are played: the machine's steps, and what is printed for them (this project's own).
 use Rattle.std.specs.Prelude.{◌≡◌, ℕ, Bool, true, false, List, [], ◌∷◌, ◌++◌, map, length, Result, Ok, Err}
 use Rattle.flat_model.specs.Machine.Event.{Event, Reply, IsEvent, Done}
 use Rattle.flat_model.specs.Machine.State.{State}
@@ -8,8 +8,8 @@ use Rattle.capture.specs.Records.{Whole, Reads}
 use Rattle.play_pcap.specs.Acts.{Act, Arrives, Passes, act_event}
 use Rattle.play_pcap.specs.Asks.{IsAsked}
 use Rattle.play_pcap.specs.Events.{HasRange, capture_acts}
-use Rattle.play_pcap.specs.Files.{IsHad, PlaysNamed}
-use Rattle.play_pcap.specs.Told.{capture_text}
+use Rattle.play_pcap.specs.Files.{IsAvailable, PlaysNamed}
+use Rattle.play_pcap.specs.Results.{capture_text}
 use Rattle.play_pcap.specs.Traces.{Traced}
 use Rattle.play_pcap.specs.declared.ask.Details.{Details}
 use Rattle.play_pcap.specs.declared.fault.CaptureFault.{CaptureFault}
@@ -21,7 +21,7 @@ use Rattle.play_show.specs.declared.snapshot.Snapshot.{Snapshot}
 use Rattle.play_script.specs.Captures.{Captures, turn_of}
 use Rattle.play_script.specs.Outcomes.{drops_text}
 
--- A machine, the capture of its packets, and the number of the line in hand.
+-- A machine, the capture of its packets, and the number of the current line.
 pub record CapturedView : Type 0 where
   pub machine : State
   pub traced : Traced
@@ -44,15 +44,15 @@ replay_of seen causes = record { seen = seen; causes = causes }
 abbrev pub came_turn : Act → Turn
 came_turn act = turn_of (act_event act) Done
 
--- The plain line asks for a capture in a file that is there, which reads as a capture with all records that are asked
--- for. The turns are all that these do: their packets come one after another, with the ticks between them.
+-- The plain line requests a capture in a file that exists, and that reads as a capture with all records of the range.
+-- The turns are those of these records: their packets arrive one after another, with the ticks between them.
 abbrev pub PlaysIn : (List ℕ → List ℕ → Type 0) → List ℕ → List Turn → Type 0
 PlaysIn has plain turns =
     (word : List ℕ) × (d : Details) × (file : List ℕ) × (w : Whole)
-    × IsAsked plain word d × IsHad has word file × Reads file (Ok w) × HasRange d.range (length w.records)
+    × IsAsked plain word d × IsAvailable has word file × Reads file (Ok w) × HasRange d.range (length w.records)
     × (turns ≡ map came_turn (capture_acts d w))
 
--- ---- what is told
+-- ---- what is printed
 
 -- a packet counts for each cause whose counter went up by it
 abbrev pub noted_by : Act → Counters → Counters → Table → Table
@@ -73,14 +73,14 @@ module _ (step : State → Event → Reply → State → Type 0) where
       × Captures old.seen.line old.seen.traced (came_turn act ∷ []) new.seen.traced × (new.seen.line ≡ old.seen.line)
       × (new.causes ≡ noted_by act old.seen.machine.counters new.seen.machine.counters old.causes)
 
-  -- What may be told of the capture in the file that a word names: how many packets came, or what is wrong with the
-  -- file, and why packets were dropped. For each cause it's noted how many were dropped, and the first record. It has
+  -- What may be printed for the capture in the file of this name: how many packets arrived, or what is wrong with the
+  -- file, and why packets were dropped. For each cause, the number of packets and the first record are noted. It has
   -- failed if the file couldn't be played.
   abbrev pub IsPlayed : (List ℕ → List ℕ → Type 0) → Details → List ℕ → CapturedView → Bool → List ℕ → Table
       → CapturedView → Type 0
-  IsPlayed has d word old failed told causes new =
+  IsPlayed has d word old failed reply_line causes new =
       (outcome : Result Tally CaptureFault) × (before after : Snapshot)
       × PlaysNamed has ComesTo d word outcome (replay_of old no_drops) (replay_of new causes)
       × IsSnapshot step old.machine before × IsSnapshot step new.machine after
-      × (told ≡ capture_text outcome ++ drops_text before.counters after.counters)
+      × (reply_line ≡ capture_text outcome ++ drops_text before.counters after.counters)
       × (failed ≡ has_failed outcome)

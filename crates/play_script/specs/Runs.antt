@@ -9,18 +9,17 @@ use Rattle.flat_model.specs.Scripts.Script as script
 use Rattle.flat_model.specs.declared.config.Config.{Config}
 use Rattle.play_line.specs.Time.{TimedView, timed}
 use Rattle.play_line.specs.declared.fault.Slip.{Slip}
-use Rattle.play_read.specs.Settings.{IsSet}
+use Rattle.play_script.specs.Settings.{IsSet}
 use Rattle.play_pcap.specs.Traces.{Keeps, passes_bytes}
 use Rattle.play_script.specs.Captures.{all_passes, turn_of}
-use Rattle.play_read.specs.Asks.{IsTicks, Settings, Writes}
+use Rattle.play_script.specs.Asks.{IsTicks, Settings, Writes}
 use Rattle.play_script.specs.Lines.{Reading, Nothing, TooLong, Faulty, Asks, reading_part}
 use Rattle.play_script.specs.Plays.{PlaysIn}
-use Rattle.play_script.specs.Tells.{Play}
+use Rattle.play_script.specs.Reports.{Play}
 
--- The turns that a line makes, where `has` says which bytes the file of a name may have: one for the event that it asks
--- for, so many ticks, or those of the capture that it plays in; none if it asks for nothing, or for a capture that
--- isn't
--- played in.
+-- The turns of a line, where `has` says which bytes the file of a name may have: one for the event that it requests,
+-- one for each of its ticks, or those of the capture that it plays; none if it has no request, or the capture can't be
+-- played.
 abbrev pub AreAskedTurns : (List ℕ → List ℕ → Type 0) → List ℕ → List Turn → Type 0
 AreAskedTurns has plain turns =
     ((event : Event) × (reply : Reply) × script.Asks all_events plain event × (turns ≡ turn_of event reply ∷ []))
@@ -28,7 +27,7 @@ AreAskedTurns has plain turns =
     ⊎ PlaysIn has plain turns
     ⊎ (((event : Event) → ¬ script.Asks all_events plain event) × ((n : ℕ) → ¬ IsTicks plain n) × (turns ≡ []))
 
--- the same of a line before which so many ticks pass
+-- the same for a line after this many ticks
 abbrev pub ArePlayedTurns : (List ℕ → List ℕ → Type 0) → ℕ → Reading → List Turn → Type 0
 ArePlayedTurns has ticks Nothing turns = turns ≡ []
 ArePlayedTurns has ticks TooLong turns = turns ≡ []
@@ -72,7 +71,7 @@ abbrev pub MaySetAll : List (List ℕ) → Config → Config → Type 0
 MaySetAll [] old new = new ≡ old
 MaySetAll (line ∷ lines) old new = (mid : Config) × MayTimedSet line (timed line) old mid × MaySetAll lines mid new
 
--- The machine that the turns begin with: the one in hand, or in the head one that settings have made.
+-- The machine that the turns begin with: the current one, or in the head one that settings have made.
 abbrev pub Begins : Play → List (List ℕ) → State → Type 0
 Begins old lines first =
     (first ≡ old.machine) ⊎ ((old.head ≡ true) × ((c : Config) × MaySetAll lines old.config c × (first ≡ boot c)))

@@ -1,4 +1,4 @@
-//! The capture of the packets that come and go.
+//! The capture of the packets that arrive and leave.
 ghost use Rattle.std.specs.Prelude.{◌≡◌, ◌≤◌, length, IfSome, Some};
 ghost use Rattle.params.specs.declared.TheConstants.{IP_MAX_PACKET};
 ghost use Rattle.request.specs.Replies.{packet_behind};
@@ -7,14 +7,14 @@ ghost use Rattle.play_script.specs.Captures.{Notes, after_ticks};
 use play_pcap::Trace;
 use script_loop::Sink;
 
-/// A capture, and the number of the script's line whose packets are kept in it.
+/// A capture, and the number of the script's line whose packets are recorded.
 pub struct Capture<T: Sink> {
     pub trace: Trace<T>,
     pub line: u64,
 }
 
 impl<T: Sink> Capture<T> {
-    /// Keeps a packet, by the line in hand.
+    /// Records a packet, under the number of the current line.
     pub fn keep(&mut self, packet: &[u8])
         requires { length packet.now ≤ IP_MAX_PACKET }
         ensures line { self.new.line ≡ self.old.line }
@@ -23,7 +23,7 @@ impl<T: Sink> Capture<T> {
         self.trace.keep(self.line, packet);
     }
 
-    /// Lets so many ticks pass.
+    /// Lets this many ticks pass.
     pub fn tick(&mut self, count: u32)
         ensures line { self.new.line ≡ self.old.line }
         ensures trace { self.new.trace ≡ after_ticks count self.old.trace }
@@ -35,7 +35,7 @@ impl<T: Sink> Capture<T> {
         }
     }
 
-    /// Keeps a packet, if there is one.
+    /// Records a packet, if there is one.
     fn keep_moved(&mut self, moved: Option<&[u8]>)
         requires { IfSome moved (λ p. length p.now ≤ IP_MAX_PACKET) }
         ensures line { self.new.line ≡ self.old.line }
@@ -46,7 +46,7 @@ impl<T: Sink> Capture<T> {
         }
     }
 
-    /// Keeps the packet that came or went, if one did, and lets so many ticks pass.
+    /// Records the packet that arrived or left, if one did, and lets this many ticks pass.
     pub(crate) fn note(&mut self, moved: Option<&[u8]>, ticks: u32)
         requires { IfSome moved (λ p. length p.now ≤ IP_MAX_PACKET) }
         ensures line { self.new.line ≡ self.old.line }

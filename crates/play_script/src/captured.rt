@@ -1,35 +1,35 @@
-//! A stack with the capture of its packets. The packets of another capture come to both, and it's noted why some were
-//! dropped.
+//! A stack with the capture of its packets. A capture that is played gives its packets to the stack, and
+//! the causes of drops are counted.
 ghost use Rattle.std.specs.Prelude.{◌≡◌, replicate, vec_len};
 ghost use Rattle.flat_model.specs.Machine.Event.{Done, Tick};
 ghost use Rattle.params.specs.declared.TheConstants.{IP_MAX_PACKET};
 ghost use Rattle.play_script.specs.Captures.{Captures};
-ghost use Rattle.play_script.specs.Deeds.{Does, turns_with};
+ghost use Rattle.play_script.specs.Actions.{Does, turns_with};
 ghost use Rattle.play_script.specs.Plays.{ComesTo, ReplayView, captured_of, replay_of};
 ghost use Rattle.net_stack.specs.Stack.{state_of};
 ghost use Rattle.stack_call.specs.Moves.{StackSteps};
 
+use crate::action::tick_all;
 use crate::capture_out::Capture;
-use crate::deed::tick_all;
 use flat_model::Counters;
 use net_stack::Stack;
 use play_pcap::{RecordPlace, Trace, Wire};
 use play_text::Table;
 use script_loop::Sink;
 
-/// A stack, and the capture to which the packets are added that come and go.
+/// A stack, and the capture of the packets that arrive and leave.
 pub(crate) struct CapturedStack<T: Sink> {
     pub(crate) stack: Stack,
     pub(crate) capture: Capture<T>,
-    /// For which causes the packets of a capture were dropped that was played in last.
+    /// The causes for which packets of the last played capture were dropped.
     pub(crate) causes: Table,
-    /// Room for the bytes of a reply, or for those of a file that's read.
-    pub(crate) room: Vec<u8>,
-    ghost room_len: { vec_len room ≡ IP_MAX_PACKET },
+    /// A buffer for the bytes of a reply, or for those of a file that's read.
+    pub(crate) buffer: Vec<u8>,
+    ghost buffer_len: { vec_len buffer ≡ IP_MAX_PACKET },
 }
 
 impl<T: Sink> CapturedStack<T> {
-    /// Lets so many ticks pass before this line.
+    /// Lets this many ticks pass before the line.
     pub(crate) fn wait(&mut self, line: u64, ticks: u32)
         ensures does { Does StackSteps (state_of self.old.stack) (replicate ticks Tick) Done (state_of self.new.stack) }
         ensures captured { Captures line self.old.capture.trace (turns_with (replicate ticks Tick) Done)
@@ -40,7 +40,7 @@ impl<T: Sink> CapturedStack<T> {
         self.capture.note(None, ticks);
     }
 
-    /// Spends the stack, and gives the capture back.
+    /// Frees the stack, and returns the capture.
     pub(crate) fn end(self) -> Trace<T>
         ensures { result ≡ self.capture.trace }
     {
@@ -48,7 +48,7 @@ impl<T: Sink> CapturedStack<T> {
             stack,
             capture,
             causes: _causes,
-            room: _room,
+            buffer: _buffer,
         } = self;
         let _ = stack.end();
         let Capture { trace, line: _line } = capture;
@@ -56,7 +56,7 @@ impl<T: Sink> CapturedStack<T> {
     }
 }
 
-/// What a stack has counted.
+/// Returns the counters of a stack.
 #[tactic(auto, unfolding(stack_call::specs::Moves::StackSteps))]
 fn counted(stack: &Stack) -> Counters
     ensures { result ≡ (state_of stack.now).counters }

@@ -1,11 +1,11 @@
-//! Whether what is told of a line is what was expected.
+//! Whether a reply meets an expectation.
 ghost use Rattle.std.specs.Prelude.{◌≡◌, ◌&&◌, ◌||◌, bytes_eq, codes};
 ghost use Rattle.flat_model.specs.Scripts.Grammar.{words};
 ghost use Rattle.play_script.specs.Outcomes as outcomes;
 
 use script_loop::first_word;
 
-/// Whether these words are `..` alone, which is whatever is left.
+/// Returns whether the rest of an expectation is the single word `..`, which matches any rest.
 fn is_rest(wanted: &[u8]) -> bool
     ensures { result ≡ outcomes.is_rest (words wanted.now) }
 {
@@ -16,7 +16,7 @@ fn is_rest(wanted: &[u8]) -> bool
     }
 }
 
-/// Whether a word is the expected one, or the expected one is `_`.
+/// Returns whether a word is the expected one, or the expected one is `_`.
 fn is_same(word: &[u8], got: &[u8]) -> bool
     ensures { result ≡ (bytes_eq word.now (codes "_") || bytes_eq word.now got.now) }
 {
@@ -30,13 +30,12 @@ fn if_errors(word: &[u8], got: &[u8], so: bool) -> bool
     word == b"error".as_slice() && (got == b"error".as_slice() && so)
 }
 
-/// Whether the words are the same one by one, but for `_`, which is any word, and for `..` at the end, which is
-/// whatever is left.
-fn fits(wanted: &[u8], told: &[u8]) -> bool
-    ensures { result ≡ outcomes.fits_words (words wanted.now) (words told.now) }
+/// Returns whether the words match one by one: `_` matches any word, and `..` at the end matches any rest.
+fn fits(wanted: &[u8], reply_line: &[u8]) -> bool
+    ensures { result ≡ outcomes.fits_words (words wanted.now) (words reply_line.now) }
 {
     let mut left = wanted;
-    let mut got_left = told;
+    let mut got_left = reply_line;
     'words: loop {
         if is_rest(left) {
             return true;
@@ -59,12 +58,12 @@ fn fits(wanted: &[u8], told: &[u8]) -> bool
     }
 }
 
-/// Whether both are errors, and fit without the number of the second.
-fn fits_unnumbered(wanted: &[u8], told: &[u8]) -> bool
-    ensures { result ≡ outcomes.fits_unnumbered (words wanted.now) (words told.now) }
+/// Returns whether both are errors, and fit without the number of the second.
+fn fits_unnumbered(wanted: &[u8], reply_line: &[u8]) -> bool
+    ensures { result ≡ outcomes.fits_unnumbered (words wanted.now) (words reply_line.now) }
 {
     let (word, more) = first_word(wanted);
-    let (got, rest) = first_word(told);
+    let (got, rest) = first_word(reply_line);
     let Some(rest) = rest else {
         return false;
     };
@@ -78,10 +77,10 @@ fn fits_unnumbered(wanted: &[u8], told: &[u8]) -> bool
     }
 }
 
-/// Whether what is told is what was expected: word by word the same, but for `_`, which is any word, for `..` at the
-/// end, which is whatever is left, even nothing, and for the number of an error, which may be left out.
-pub fn meets(wanted: &[u8], told: &[u8]) -> bool
-    ensures { result ≡ outcomes.meets_reply wanted.now told.now }
+/// Returns whether a reply meets an expectation word by word: `_` matches any word, `..` at the end matches any rest,
+/// even an empty one, and the number of an error may be left out.
+pub fn meets(wanted: &[u8], reply_line: &[u8]) -> bool
+    ensures { result ≡ outcomes.meets_reply wanted.now reply_line.now }
 {
-    fits(wanted, told) || fits_unnumbered(wanted, told)
+    fits(wanted, reply_line) || fits_unnumbered(wanted, reply_line)
 }

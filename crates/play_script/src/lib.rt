@@ -1,35 +1,48 @@
-//! Scripts for people: the lines of `bsdudp run` with comments, several ticks in one line, and the replies that are
-//! expected. What is told of a line is its reply, and why packets were dropped.
+//! Play scripts: the lines of `bsdudp run` with comments, settings, times and expected replies, several ticks in one
+//! line, queries, and captures to play. A line is parsed once, into an `Ask`; its reply also says why packets were
+//! dropped.
 #![tactic(auto)]
 
+mod action;
+mod ask;
 mod capture_out;
 mod captured;
-mod deed;
+mod draft;
+mod execute;
+mod fault;
 mod fits;
-mod laws;
+mod law;
 mod line;
 mod outcome;
 mod player;
 mod print;
 mod printer;
+mod read;
 mod replay;
 mod report;
 mod runs;
+mod setting;
+mod settings;
 mod settle;
-mod tell;
+mod ticks;
 
+pub use action::moved_by_call;
+pub use ask::Ask;
 pub use capture_out::Capture;
-pub use deed::moved_by_call;
+pub use fault::SettingFault;
 pub use fits::meets;
 pub use flat_model::Config;
-pub use laws::runs_law;
+pub use law::{asks_law, runs_law};
 pub use line::{Kind, Line, read_part, shift};
 pub use link_script::DEFAULTS;
-pub use outcome::{DROPS, TOLD, put_drops};
+pub use outcome::{DROPS, REPLY_LINE, put_drops};
 pub use play_pcap::{CaptureFault, Folder, NoFolder, RECORD, Trace};
 pub use play_text::Form;
-pub use print::{LABELLED, NAME, ROOM};
+pub use print::{LABELLED, NAME, OUTPUT};
 pub use printer::{Printer, Style};
-pub use report::{Report, bytes_of, room_for};
+pub use read::ask_of;
+pub use report::{Report, bytes_of, zero_bytes};
 pub use runs::{Captured, Played, Start, play, play_captured};
 pub use script_loop::{RunFault, Silent, Sink, Source};
+pub use settings::settings_of;
+pub use ticks::ticks_of;

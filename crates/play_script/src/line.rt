@@ -1,32 +1,32 @@
-//! What a line is made of: words, a comment, and what is expected.
+//! The parts of a line: its words, a comment, and an expectation.
 ghost use Rattle.std.specs.Prelude.{◌≡◌, ◌*◌, ◌<◌, ◌≤◌, ◌==◌, ◌++◌, ◌||◌, codes, length, position, IfSome, option_map};
 ghost use Rattle.play_script.specs.Lines as lines;
 ghost use Rattle.play_script.specs.Lines.{asked, expected, reading_part, unheaded, untailed};
 ghost use Rattle.flat_model.specs.Scripts.Texts.{hex_text};
 ghost use Rattle.params.specs.declared.TheConstants.{IP_MAX_PACKET};
-ghost use Rattle.play_read.specs.Asks.{AsksFor, Writes};
-ghost use Rattle.play_read.specs.Views.{IsSoundAsk, ask_of as ask_value, asked_by};
-ghost use Rattle.play_script.specs.Views.{is_reading, plain_line};
+ghost use Rattle.play_script.specs.Asks.{AsksFor, Writes};
+ghost use Rattle.play_script.specs.Views.{IsSoundAsk, ask_of as ask_value, asked_by, is_reading, plain_line};
 
+use crate::ask::Ask;
+use crate::read::ask_of;
 use crate::report::bytes_of;
 use play_line::{LONGEST, Slip, put_shown};
 use play_packet::{LineReader, PACKET};
 use play_pcap::lines_law;
-use play_read::{Ask, ask_of};
 use request::Request;
 use script_loop::{Buffer, put_hex};
 use std::alloc::{AllocError, Global};
 
-/// What a line is. Its words stand beside it, in a `Line`.
+/// The kind of a line. Its words are in a `Line`.
 #[derive(Clone, Copy)]
 pub enum Kind {
-    /// A blank line, or a comment alone.
+    /// A blank line, or only a comment.
     Nothing,
     /// It has more bytes than a line may have.
     TooLong,
     /// It has bytes that can't be read, or words that name no packet.
     Faulty(Slip),
-    /// A line that asks for something, or expects something.
+    /// A line with a request or an expectation.
     Asks,
 }
 
@@ -35,7 +35,7 @@ pub enum Kind {
 pub struct Line {
     /// The line as it's written.
     pub shown: Buffer<LONGEST>,
-    /// Its words, as in the plain line that it stands for.
+    /// Its words, as in its plain line.
     pub words: Buffer<LONGEST>,
     /// Whether its words name a packet, and that packet.
     pub named: bool,
@@ -45,7 +45,7 @@ pub struct Line {
     pub wanted: Buffer<LONGEST>,
 }
 
-/// What the line `rx` asks for with this packet.
+/// Returns the request of the line `rx` with this packet.
 fn packet_ask<'a>(packet: &'a [u8]) -> Ask<'a, 'a>
     requires { length packet.now ≤ IP_MAX_PACKET }
     ensures writes { Writes (codes "rx " ++ hex_text packet.now) (ask_value result) }
@@ -56,7 +56,7 @@ fn packet_ask<'a>(packet: &'a [u8]) -> Ask<'a, 'a>
 }
 
 impl Line {
-    /// No line.
+    /// Allocates the memory for a line; there is no line yet.
     pub fn new(alloc: Global) -> Result<Line, AllocError> {
         Ok(Line {
             shown: Buffer::new(alloc)?,
@@ -68,7 +68,7 @@ impl Line {
         })
     }
 
-    /// Spells its plain line out, in the place of its words, with the digits of a packet that they name.
+    /// Replaces the words by the plain line, with the digits of a packet that they name.
     pub(crate) fn spell(&mut self, digits: &mut [u8])
         requires { length digits.old ≡ 2 * IP_MAX_PACKET }
         ensures { self.new ≡ record (self.old) { words = plain_line self.old } }
@@ -80,21 +80,22 @@ impl Line {
         }
     }
 
-    /// What it asks for, if it asks for anything. The bytes that its words write stand in the room then, which has
-    /// 65,535.
-    pub fn ask<'l>(&'l self, room: &'l mut [u8]) -> Option<Ask<'l, 'l>>
-        requires { length room.old ≡ IP_MAX_PACKET }
+    /// Returns the request of the line, or `None` if it has none. Bytes in it are decoded into `buffer`, which has
+    /// 65,535
+    /// bytes.
+    pub fn ask<'l>(&'l self, buffer: &'l mut [u8]) -> Option<Ask<'l, 'l>>
+        requires { length buffer.old ≡ IP_MAX_PACKET }
         ensures asks { AsksFor (plain_line self.now) (asked_by result) }
         ensures sound { IfSome result IsSoundAsk }
     {
         if self.named {
             return Some(packet_ask(bytes_of(&self.packet)));
         }
-        ask_of(bytes_of(&self.words), room)
+        ask_of(bytes_of(&self.words), buffer)
     }
 }
 
-/// A text without the space at its end.
+/// Returns a text without the space at its end.
 fn without_tail(text: &[u8]) -> &[u8]
     ensures is { result.now ≡ untailed text.now }
     ensures shorter { length result.now ≤ length text.now }
@@ -107,7 +108,7 @@ fn without_tail(text: &[u8]) -> &[u8]
     }
 }
 
-/// A text without the space in front.
+/// Returns a text without the space in front.
 fn without_head(text: &[u8]) -> &[u8]
     ensures is { result.now ≡ unheaded text.now }
     ensures shorter { length result.now ≤ length text.now }
@@ -119,14 +120,14 @@ fn without_head(text: &[u8]) -> &[u8]
     }
 }
 
-/// Where a byte is first.
+/// Returns the index of the first such byte.
 fn place_of(text: &[u8], sought: u8) -> Option<usize>
     ensures { result ≡ position (λ byte. byte == sought) text.now }
 {
     text.iter().position(|byte| *byte == sought)
 }
 
-/// Where the first quote stands, or the first `#`.
+/// Returns the index of the first quote or `#`.
 fn quote_or_comment(line: &[u8]) -> Option<usize>
     ensures is { result ≡ position (λ byte. byte == 34 || byte == 35) line.now }
     ensures most { IfSome result (λ at. at < length line.now) }
@@ -134,7 +135,7 @@ fn quote_or_comment(line: &[u8]) -> Option<usize>
     line.iter().position(|byte| *byte == b'"' || *byte == b'#')
 }
 
-/// Whether a text stands in a line.
+/// Returns whether the line contains a text in quotes.
 pub(crate) fn has_text(line: &[u8]) -> bool
     ensures { result ≡ lines.has_text line.now }
 {
@@ -163,7 +164,7 @@ fn cut(text: &[u8]) -> (&[u8], Option<&[u8]>)
     }
 }
 
-/// What is wrong with a part of a line, in front of which so many bytes stand.
+/// Moves the column of an error in a part of a line, which `before` bytes precede.
 pub fn shift(slip: Slip, before: u64) -> Slip
     ensures { result ≡ lines.shifted before slip }
 {
@@ -173,8 +174,8 @@ pub fn shift(slip: Slip, before: u64) -> Slip
     }
 }
 
-/// Reads the part of a line that stands behind its time and the name of its host: the whole line as it's written, the
-/// words of the plain line that the part stands for or the packet that they name, and the words that are expected.
+/// Parses the part of a line after its time and the name of its host, into `line`: the whole line as it's written, the
+/// words of the plain line or the packet that they name, and the words that are expected.
 pub fn read_part(whole: &[u8], text: &[u8], reader: &mut LineReader, line: &mut Line) -> Kind
     requires { length text.now ≤ length whole.now }
     ensures { reading_part whole.now text.now ≡ is_reading result line.new }

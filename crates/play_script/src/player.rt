@@ -1,22 +1,22 @@
-//! What plays a script line by line.
+//! The player of a script, line by line.
 ghost use Rattle.std.specs.Prelude.{◌≡◌, ◌-◌, ◌≤◌, ◌++◌, List, length, vec_len, ℕ};
 ghost use Rattle.flat_model.specs.Scripts.Grammar.{words};
 ghost use Rattle.net_stack.specs.Stack.{state_of};
 ghost use Rattle.params.specs.declared.TheConstants.{IP_MAX_PACKET};
 ghost use Rattle.play_script.specs.Inside.{play_of};
 ghost use Rattle.play_script.specs.Lines.{reading_part};
-ghost use Rattle.play_script.specs.Tells.{IsWaited, Play, Tells, TellsAsked, TellsReading, TellsSettings, is_done};
+ghost use Rattle.play_script.specs.Reports.{IsWaited, Play, Reports, ReportsAsked, ReportsReading, ReportsSettings, is_done};
 ghost use Rattle.play_script.specs.Views.{expected_on, plain_line};
 ghost use Rattle.stack_call.specs.Moves.{StackSteps};
 
 use crate::captured::CapturedStack;
+use crate::execute::{Executed, execute_line};
 use crate::line::{Kind, Line, read_part, shift};
-use crate::print::ROOM;
+use crate::print::OUTPUT;
 use crate::printer::{Printer, both};
 use crate::replay::Files;
 use crate::report::{Report, bytes_of};
 use crate::settle::settled;
-use crate::tell::{Told, tell_line};
 use flat_model::Config;
 use play_forms::Player as Advised;
 use play_line::{Timed, read_time};
@@ -25,25 +25,25 @@ use play_pcap::{Folder, Trace};
 use script_loop::{Answers, Buffer, HELD, Sink};
 use std::mem;
 
-/// What plays a script.
+/// The player of a script.
 pub(crate) struct Player<T: Sink, F> {
     pub(crate) files: Files<F>,
-    /// The machine, with the capture of the packets that come and go.
+    /// The machine, with the capture of the packets that arrive and leave.
     pub(crate) captured: CapturedStack<T>,
-    /// What the machine was booted with.
+    /// The configuration of the machine.
     pub(crate) config: Config,
-    /// Whether settings may still make another machine.
+    /// Whether settings are still accepted.
     pub(crate) head: bool,
     pub(crate) reader: LineReader,
     pub(crate) line: Line,
-    /// Room for the bytes that a line names.
+    /// A buffer for the bytes in a line.
     pub(crate) bytes: Vec<u8>,
     pub(crate) report: Report,
     pub(crate) printer: Printer,
     ghost bytes_len: { vec_len bytes ≡ IP_MAX_PACKET },
 }
 
-/// Whether what a line asks for was done, or something was expected of it.
+/// Returns whether the line didn't fail, or had an expectation.
 fn is_done(line: &Line, failed: bool) -> bool
     ensures { result ≡ is_done (expected_on line.now) failed }
 {
@@ -51,7 +51,7 @@ fn is_done(line: &Line, failed: bool) -> bool
 }
 
 impl<T: Sink, F: Folder> Player<T, F> {
-    /// Spends the player and its machine, and gives the capture back.
+    /// Frees the player and its machine, and returns the capture.
     pub(crate) fn end(self) -> Trace<T>
         ensures { result ≡ self.captured.capture.trace }
     {
@@ -69,7 +69,7 @@ impl<T: Sink, F: Folder> Player<T, F> {
         captured.end()
     }
 
-    /// Lets so many ticks pass before the line. If some do, no settings may come any more.
+    /// Lets this many ticks pass before the line. After any tick, settings are no longer accepted.
     fn wait(&mut self, ticks: u32)
         ensures waited { IsWaited StackSteps ticks
             (play_of (state_of self.old.captured.stack) self.old.captured.capture.trace self.old.config self.old.head
@@ -82,11 +82,11 @@ impl<T: Sink, F: Folder> Player<T, F> {
         self.head = both(self.head, ticks == 0);
     }
 
-    /// Makes a new machine as the settings of the line say, and prints `ok` or what is wrong with them.
-    fn set_up(&mut self, text: &mut Buffer<ROOM>)
+    /// Boots a new machine with the settings of the line, and prints `ok` or what is wrong with them.
+    fn set_up(&mut self, text: &mut Buffer<OUTPUT>)
         requires { length text.old ≤ HELD }
         ensures { (added : List ℕ)
-            × TellsSettings
+            × ReportsSettings
             (play_of (state_of self.old.captured.stack) self.old.captured.capture.trace self.old.config self.old.head
             self.old.printer)
             self.old.line.shown (words self.old.line.words) (expected_on self.old.line) added
@@ -104,18 +104,18 @@ impl<T: Sink, F: Folder> Player<T, F> {
             Ok((stack, config)) => {
                 let _ = mem::replace(&mut self.captured.stack, stack).end();
                 self.config = config;
-                self.report.tell_ok();
-                self.printer.put_told(text, &self.line, &self.report);
+                self.report.set_ok();
+                self.printer.put_reply_line(text, &self.line, &self.report);
             }
             Err(fault) => self.printer.put_fault(text, fault.words().as_bytes()),
         }
     }
 
-    /// Does what the line asks for, and prints what is told of it.
-    fn ask(&mut self, text: &mut Buffer<ROOM>)
+    /// Executes the line, and prints its reply.
+    fn ask(&mut self, text: &mut Buffer<OUTPUT>)
         requires { length text.old ≤ HELD }
         ensures { (added : List ℕ)
-            × TellsAsked StackSteps F.may_have
+            × ReportsAsked StackSteps F.may_have
             (play_of (state_of self.old.captured.stack) self.old.captured.capture.trace self.old.config self.old.head
             self.old.printer)
             self.old.line.shown (plain_line self.old.line) (expected_on self.old.line) added
@@ -125,20 +125,20 @@ impl<T: Sink, F: Folder> Player<T, F> {
     {
         self.captured.capture.line = self.printer.number;
         self.report.quiet = self.printer.form.is_quiet();
-        match tell_line(
+        match execute_line(
             &mut self.captured,
             &self.files,
             &self.line,
             self.bytes.as_mut_slice(),
             &mut self.report,
         ) {
-            Told::Nothing => {
-                self.report.tell_advice(Advised::Machine, &mut self.line);
+            Executed::Nothing => {
+                self.report.set_advice(Advised::Machine, &mut self.line);
                 self.printer.put_fault(text, bytes_of(&self.report.advice));
             }
-            Told::Settings => self.set_up(text),
-            Told::Done { stays, failed } => {
-                self.printer.put_told(text, &self.line, &self.report);
+            Executed::Settings => self.set_up(text),
+            Executed::Done { stays, failed } => {
+                self.printer.put_reply_line(text, &self.line, &self.report);
                 let done = is_done(&self.line, failed);
                 let sound = both(self.printer.sound, done);
                 self.printer.sound = sound;
@@ -150,12 +150,12 @@ impl<T: Sink, F: Folder> Player<T, F> {
 }
 
 impl<T: Sink, F: Folder> Player<T, F> {
-    /// Answers a line with its time.
-    fn answer_timed(&mut self, line: &[u8], timed: Timed<'_>, text: &mut Buffer<ROOM>)
+    /// Executes a line with its time.
+    fn execute_timed(&mut self, line: &[u8], timed: Timed<'_>, text: &mut Buffer<OUTPUT>)
         requires held { length text.old ≤ HELD }
         requires part { length timed.part.now ≤ length line.now }
         ensures { (added : List ℕ)
-            × TellsReading StackSteps F.may_have
+            × ReportsReading StackSteps F.may_have
             (play_of (state_of self.old.captured.stack) self.old.captured.capture.trace self.old.config self.old.head
             self.old.printer)
             timed.entry.ticks (length line.now - length timed.entry.part.now)
@@ -179,17 +179,17 @@ impl<T: Sink, F: Folder> Player<T, F> {
     }
 }
 
-impl<T: Sink, F: Folder> Answers<ROOM> for Player<T, F> {
+impl<T: Sink, F: Folder> Answers<OUTPUT> for Player<T, F> {
     ghost State = { Play };
 
     ghost state = { λ p. play_of (state_of p.captured.stack) p.captured.capture.trace p.config p.head p.printer };
 
-    ghost may_answer = { Tells StackSteps F.may_have };
+    ghost may_answer = { Reports StackSteps F.may_have };
 
-    fn answer(&mut self, line: &[u8], text: &mut Buffer<ROOM>) {
+    fn answer(&mut self, line: &[u8], text: &mut Buffer<OUTPUT>) {
         self.printer.next_line(line);
         match read_time(line) {
-            Ok(timed) => self.answer_timed(line, timed, text),
+            Ok(timed) => self.execute_timed(line, timed, text),
             Err(slip) => self.printer.put_slip(text, slip),
         }
     }

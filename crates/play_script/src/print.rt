@@ -1,5 +1,5 @@
-//! How much room the texts need that a player prints.
-use crate::outcome::TOLD;
+//! The sizes of the texts that a player prints.
+use crate::outcome::REPLY_LINE;
 use play_line::LONGEST;
 use play_show::SHOWN;
 use script_loop::HELD;
@@ -7,8 +7,8 @@ use script_loop::HELD;
 /// The most bytes of a script's name that are printed.
 pub const NAME: usize = 4096;
 
-/// Room for a line with the name of its host in front.
+/// The size of a buffer for a line with the name of its host in front.
 pub const LABELLED: usize = LONGEST + 34;
 
-/// Room for the longest text of a line, after those that are held: six bytes for each byte in JSON.
-pub const ROOM: usize = HELD + 6 * (NAME + LABELLED + LONGEST + TOLD + SHOWN) + 512;
+/// The size of the output buffer: for the longest text of a line, six bytes for each byte in JSON, after `HELD` bytes.
+pub const OUTPUT: usize = HELD + 6 * (NAME + LABELLED + LONGEST + REPLY_LINE + SHOWN) + 512;

@@ -1,15 +1,15 @@
-//! What prints a script.
+//! Printing a script.
 ghost use Rattle.std.specs.Prelude.{◌≡◌, ◌≤◌, ◌++◌, ◌&&◌, ◌||◌, IfOk, codes, false, length, take, true};
 ghost use Rattle.flat_model.specs.Machine.Count.{more_by};
 ghost use Rattle.play_forms.specs.declared.text.TheConstants.{ADVICE};
 ghost use Rattle.play_text.specs.Texts.{fault_text, slip_text};
 ghost use Rattle.play_script.specs.Lines as lines;
-ghost use Rattle.play_script.specs.Tells.{is_sound, told_text};
+ghost use Rattle.play_script.specs.Reports.{is_sound, reply_line_text};
 ghost use Rattle.play_script.specs.Views.{expected_on};
 
 use crate::fits::meets;
 use crate::line::{Line, has_text};
-use crate::print::{LABELLED, NAME, ROOM};
+use crate::print::{LABELLED, NAME, OUTPUT};
 use crate::report::{Report, bytes_of};
 use play_forms::ADVICE;
 use play_line::Slip;
@@ -20,26 +20,26 @@ use std::alloc::{AllocError, Global};
 /// How a script is printed.
 #[derive(Clone, Copy)]
 pub struct Style<'a> {
-    /// In which form.
+    /// The form.
     pub form: Form,
-    /// The script's name, in front of what is wrong with a line. Its first 4,096 bytes are printed.
+    /// The script's name, printed before what is wrong with a line. Only its first 4,096 bytes are printed.
     pub name: &'a [u8],
 }
 
-/// What prints a script: in which form, and under which name what is wrong with a line.
+/// The printer of a script: its form, and the name that errors are printed with.
 #[derive(Drop)]
 pub struct Printer {
     pub form: Form,
     pub name: Buffer<NAME>,
     /// How many lines it has seen.
     pub number: u64,
-    /// Whether all of them could be read, and all expectations held.
+    /// Whether all of them could be read, and all expectations were met.
     pub sound: bool,
-    /// Whether a text stood in one of them.
+    /// Whether one of them contains a text in quotes.
     pub texts: bool,
 }
 
-/// The part of a name that is printed.
+/// Returns the part of a name that is printed.
 fn front_of(name: &[u8]) -> &[u8]
     ensures is { result.now ≡ take NAME name.now }
     ensures most { length result.now ≤ NAME }
@@ -51,22 +51,22 @@ fn front_of(name: &[u8]) -> &[u8]
     front
 }
 
-/// Whether both hold.
+/// Returns whether both hold.
 pub(crate) fn both(first: bool, second: bool) -> bool
     ensures { result ≡ (first && second) }
 {
     first && second
 }
 
-/// Whether what is told of a line is what was expected, or nothing was.
-fn is_met(line: &Line, told: &[u8]) -> bool
-    ensures { result ≡ is_sound (expected_on line.now) told.now }
+/// Returns whether the reply meets the line's expectation, or the line has none.
+fn is_met(line: &Line, reply_line: &[u8]) -> bool
+    ensures { result ≡ is_sound (expected_on line.now) reply_line.now }
 {
-    !line.expects || meets(bytes_of(&line.wanted), told)
+    !line.expects || meets(bytes_of(&line.wanted), reply_line)
 }
 
 impl Printer {
-    /// Before the first line of a script of this style. The name is copied.
+    /// Returns the printer before the first line of a script of this style. The name is copied.
     pub fn new(alloc: Global, style: Style<'_>) -> Result<Printer, AllocError>
         ensures { IfOk result (λ p. (p.form ≡ style.entry.form) × (p.number ≡ 0)
             × (p.name ≡ take NAME style.entry.name.now) × (p.sound ≡ true)
@@ -83,7 +83,7 @@ impl Printer {
         })
     }
 
-    /// Counts the next line, and notes whether a text stands in it.
+    /// Counts the next line, and notes whether it contains a text in quotes.
     pub fn next_line(&mut self, line: &[u8])
         ensures { self.new ≡ record self.old {
           number = more_by 1 self.old.number;
@@ -94,8 +94,8 @@ impl Printer {
         self.texts = self.texts || has_text(line);
     }
 
-    /// Puts what is wrong with the line after the text.
-    pub fn put_fault(&mut self, text: &mut Buffer<ROOM>, what: &[u8])
+    /// Appends what is wrong with the line.
+    pub fn put_fault(&mut self, text: &mut Buffer<OUTPUT>, what: &[u8])
         requires held { length text.old ≤ HELD }
         requires what { length what.now ≤ ADVICE }
         ensures text { text.new ≡ text.old ++ fault_text self.old.form self.old.name self.old.number what.now }
@@ -105,8 +105,8 @@ impl Printer {
         self.sound = false;
     }
 
-    /// Puts after the text that the line is too long.
-    pub fn put_too_long(&mut self, text: &mut Buffer<ROOM>)
+    /// Appends that the line is too long.
+    pub fn put_too_long(&mut self, text: &mut Buffer<OUTPUT>)
         requires { length text.old ≤ HELD }
         ensures text { text.new ≡ text.old
             ++ fault_text self.old.form self.old.name self.old.number (codes "the line is too long") }
@@ -115,8 +115,8 @@ impl Printer {
         self.put_fault(text, b"the line is too long");
     }
 
-    /// Puts what is wrong with a byte of the line after the text.
-    pub fn put_slip(&mut self, text: &mut Buffer<ROOM>, slip: Slip)
+    /// Appends what is wrong with a byte of the line.
+    pub fn put_slip(&mut self, text: &mut Buffer<OUTPUT>, slip: Slip)
         requires { length text.old ≤ HELD }
         ensures text { text.new ≡ text.old ++ slip_text self.old.form self.old.name self.old.number slip }
         ensures printer { self.new ≡ record self.old { sound = false } }
@@ -125,26 +125,26 @@ impl Printer {
         self.sound = false;
     }
 
-    /// Puts the line and what is told of it after the text. `shown` is the line as it's printed.
+    /// Appends the line and its reply. `shown` is the line as it's printed.
     pub fn put_labelled(
         &mut self,
-        text: &mut Buffer<ROOM>,
+        text: &mut Buffer<OUTPUT>,
         shown: &[u8],
         line: &Line,
         report: &Report,
     )
         requires held { length text.old ≤ HELD }
         requires shown { length shown.now ≤ LABELLED }
-        ensures text { text.new ≡ text.old ++ told_text self.old.form self.old.texts self.old.name self.old.number
-            shown.now (expected_on line.now) report.now.told report.now.below }
+        ensures text { text.new ≡ text.old ++ reply_line_text self.old.form self.old.texts self.old.name self.old.number
+            shown.now (expected_on line.now) report.now.reply_line report.now.below }
         ensures printer { self.new
-            ≡ record self.old { sound = self.old.sound && is_sound (expected_on line.now) report.now.told } }
+            ≡ record self.old { sound = self.old.sound && is_sound (expected_on line.now) report.now.reply_line } }
     {
-        let met = is_met(line, bytes_of(&report.told));
+        let met = is_met(line, bytes_of(&report.reply_line));
         let outcome = Outcome {
             number: self.number,
             line: shown,
-            told: bytes_of(&report.told),
+            reply: bytes_of(&report.reply_line),
             below: bytes_of(&report.below),
             texts: self.texts,
             expects: line.expects,
@@ -155,13 +155,13 @@ impl Printer {
         self.sound = both(self.sound, met);
     }
 
-    /// Puts the line, as it's written, and what is told of it after the text.
-    pub fn put_told(&mut self, text: &mut Buffer<ROOM>, line: &Line, report: &Report)
+    /// Appends the line as it's written, and its reply.
+    pub fn put_reply_line(&mut self, text: &mut Buffer<OUTPUT>, line: &Line, report: &Report)
         requires { length text.old ≤ HELD }
-        ensures text { text.new ≡ text.old ++ told_text self.old.form self.old.texts self.old.name self.old.number
-            line.now.shown (expected_on line.now) report.now.told report.now.below }
+        ensures text { text.new ≡ text.old ++ reply_line_text self.old.form self.old.texts self.old.name self.old.number
+            line.now.shown (expected_on line.now) report.now.reply_line report.now.below }
         ensures printer { self.new
-            ≡ record self.old { sound = self.old.sound && is_sound (expected_on line.now) report.now.told } }
+            ≡ record self.old { sound = self.old.sound && is_sound (expected_on line.now) report.now.reply_line } }
     {
         self.put_labelled(text, bytes_of(&line.shown), line, report);
     }

@@ -1,4 +1,4 @@
-//! Captures that are played in.
+//! Captures that are played.
 ghost use Rattle.std.specs.Prelude.{◌≡◌};
 ghost use Rattle.play_pcap.specs.Events.{IsOrdered};
 ghost use Rattle.play_pcap.specs.Files.{PlaysNamed};
@@ -7,23 +7,23 @@ ghost use Rattle.net_stack.specs.Stack.{state_of};
 ghost use Rattle.stack_call.specs.Moves.{StackSteps};
 
 use crate::captured::CapturedStack;
+use crate::execute::put_below;
 use crate::outcome::put_drops;
 use crate::report::{Report, bytes_of};
-use crate::tell::put_below;
 use play_pcap::{Ask, CaptureFault, Folder, Tally, load_named, play_file, put_outcome};
 use play_show::{SHOWN, snapshot_of};
 use play_text::{Table, add_table};
 use script_loop::{Buffer, Sink};
 use std::alloc::Global;
 
-/// The files that a script may name, and the memory that one of them is read into.
+/// The files that a script may name, and the allocator for the one that is read.
 #[derive(Drop)]
 pub(crate) struct Files<F> {
     pub(crate) alloc: Global,
     pub(crate) folder: F,
 }
 
-/// Plays in the capture that a line asks for, if there is one.
+/// Plays the capture of a line, if its file can be read.
 fn play_in<T: Sink, F: Folder>(
     captured: &mut CapturedStack<T>,
     files: &Files<F>,
@@ -36,14 +36,14 @@ fn play_in<T: Sink, F: Folder>(
         (replay_of (captured_of (state_of captured.new.stack) captured.new.capture.trace captured.new.capture.line)
         captured.new.causes) }
 {
-    let room = captured.room.as_mut_slice();
-    match load_named(files.alloc, &files.folder, ask.name, room) {
+    let buffer = captured.buffer.as_mut_slice();
+    match load_named(files.alloc, &files.folder, ask.name, buffer) {
         Ok(file) => play_file(files.alloc, captured, file.as_slice(), ask.details),
         Err(fault) => Err(fault),
     }
 }
 
-/// Whether a capture wasn't played in.
+/// Returns whether a capture wasn't played.
 fn has_failed(outcome: &Result<Tally, CaptureFault>) -> bool
     ensures { result ≡ has_failed outcome.now }
 {
@@ -53,15 +53,15 @@ fn has_failed(outcome: &Result<Tally, CaptureFault>) -> bool
     }
 }
 
-/// Puts a line after the text for each cause for which packets were dropped, or nothing.
+/// Appends a line for each cause for which packets were dropped, or nothing.
 fn put_causes(quiet: bool, causes: &Table, below: &mut Buffer<SHOWN>) {
     if !quiet {
         add_table(below, causes);
     }
 }
 
-/// Plays in the capture that a line asks for, and reports what is told of it. Answers whether that failed.
-pub(crate) fn tell_capture<T: Sink, F: Folder>(
+/// Plays the capture of a line, and writes its reply into `report`. Returns whether that failed.
+pub(crate) fn execute_capture<T: Sink, F: Folder>(
     captured: &mut CapturedStack<T>,
     files: &Files<F>,
     ask: Ask<'_>,
@@ -70,7 +70,7 @@ pub(crate) fn tell_capture<T: Sink, F: Folder>(
     requires { IsOrdered ask.details.range }
     ensures plays { IsPlayed StackSteps F.may_have ask.entry.details ask.entry.name.now
         (captured_of (state_of captured.old.stack) captured.old.capture.trace captured.old.capture.line) result
-        report.new.told captured.new.causes
+        report.new.reply_line captured.new.causes
         (captured_of (state_of captured.new.stack) captured.new.capture.trace captured.new.capture.line) }
     ensures quiet { report.new.quiet ≡ report.old.quiet }
 {
@@ -79,9 +79,9 @@ pub(crate) fn tell_capture<T: Sink, F: Folder>(
     let outcome = play_in(captured, files, ask);
     let after = snapshot_of(&captured.stack);
     put_drops(&mut report.drops, &before.counters, &after.counters);
-    report.told.clear();
-    put_outcome(&mut report.told, outcome);
-    report.told.append(bytes_of(&report.drops));
+    report.reply_line.clear();
+    put_outcome(&mut report.reply_line, outcome);
+    report.reply_line.append(bytes_of(&report.drops));
     put_below(
         report.quiet,
         &captured.stack,

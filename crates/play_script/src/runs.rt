@@ -1,4 +1,4 @@
-//! The scripts that callers have played.
+//! The calls that play a script.
 ghost use Rattle.std.specs.Prelude.{◌≡◌, ◌≤◌, IfOk, false, length, take, true, vec_len};
 ghost use Rattle.params.specs.declared.TheConstants.{IP_MAX_PACKET};
 ghost use Rattle.play_pcap.specs.Traces.{Traced};
@@ -9,7 +9,7 @@ ghost use Rattle.script_loop.specs.Serves.{Serves, IsServed};
 ghost use Rattle.link_script.specs.Boots.{BootsRun};
 ghost use Rattle.play_script.specs.declared.print.TheConstants.{NAME};
 ghost use Rattle.play_pcap.specs.Files.{no_folder};
-ghost use Rattle.play_script.specs.Tells.{Play, Tells, started, play_status};
+ghost use Rattle.play_script.specs.Reports.{Play, Reports, started, play_status};
 ghost use Rattle.net_stack.specs.Stack.{state_of};
 ghost use Rattle.stack_call.specs.Moves.{StackSteps};
 
@@ -20,7 +20,7 @@ use crate::player::Player;
 use crate::print::NAME;
 use crate::printer::{Printer, Style};
 use crate::replay::Files;
-use crate::report::{Report, room_for};
+use crate::report::{Report, zero_bytes};
 use flat_model::Config;
 use link_script::booted;
 use net_stack::Stack;
@@ -30,20 +30,19 @@ use play_text::Table;
 use script_loop::{Buffer, RunFault, Sink, Source, serve_script};
 use std::alloc::{AllocError, Global};
 
-/// What came of a script.
+/// The result of playing a script.
 #[derive(Clone, Copy)]
 pub struct Played {
     /// How it ended.
     pub outcome: Result<(), RunFault>,
-    /// Whether all lines asked for something, each capture was played in that wasn't expected to fail, and all
-    /// expectations held.
+    /// Whether all lines made requests, all captures were played that weren't expected to fail, and all expectations
+    /// were met.
     pub sound: bool,
 }
 
 impl Played {
-    /// The status that the program ends with: 0 if all lines asked for something, each capture was played in that
-    /// wasn't expected to fail, and all expectations held, 1 if not; 3 if there is no machine, 4 if reading or writing
-    /// failed or the script has too many lines (this project's own).
+    /// Returns the exit status of the program: 0 if `sound` and the script was played to its end, 1 if not `sound`; 3
+    /// if there is no machine; 4 if reading or writing failed or the script has too many lines (this project's own).
     pub fn status(&self) -> u8
         ensures { result ≡ play_status self.now.outcome self.now.sound }
     {
@@ -56,10 +55,10 @@ impl Played {
     }
 }
 
-/// All memory for playing a script. What has most pieces is taken last.
+/// All memory for playing a script. The part with the most pieces is allocated last.
 #[derive(Drop)]
 struct Parts {
-    room: Vec<u8>,
+    buffer: Vec<u8>,
     bytes: Vec<u8>,
     printer: Printer,
     line: Line,
@@ -67,15 +66,15 @@ struct Parts {
     reader: LineReader,
 }
 
-/// Takes all memory for playing a script.
+/// Allocates all memory for playing a script.
 fn parts_for(alloc: Global, style: Style<'_>) -> Result<Parts, AllocError>
     ensures { IfOk result (λ p. (p.printer.form ≡ style.entry.form) × (p.printer.number ≡ 0)
         × (p.printer.name ≡ take NAME style.entry.name.now) × (p.printer.sound ≡ true) × (p.printer.texts ≡ false)
-        × (vec_len p.room ≡ IP_MAX_PACKET) × (vec_len p.bytes ≡ IP_MAX_PACKET)) }
+        × (vec_len p.buffer ≡ IP_MAX_PACKET) × (vec_len p.bytes ≡ IP_MAX_PACKET)) }
 {
     Ok(Parts {
-        room: room_for(alloc, PACKET)?,
-        bytes: room_for(alloc, PACKET)?,
+        buffer: zero_bytes(alloc, PACKET)?,
+        bytes: zero_bytes(alloc, PACKET)?,
         printer: Printer::new(alloc, style)?,
         line: Line::new(alloc)?,
         report: Report::new(alloc, style.form.is_quiet())?,
@@ -83,23 +82,23 @@ fn parts_for(alloc: Global, style: Style<'_>) -> Result<Parts, AllocError>
     })
 }
 
-/// What a script begins with.
+/// The start of a script.
 pub struct Start<T: Sink, F> {
-    /// What the machine is booted with.
+    /// The configuration of the machine.
     pub config: Config,
-    /// The capture to which the packets are added that come and go.
+    /// The capture of the packets that arrive and leave.
     pub trace: Trace<T>,
     /// The files that its lines may name.
     pub folder: F,
 }
 
-/// What came of a script, and its capture. This must be ended by `Trace::end`.
+/// The result of playing a script, and its capture, which must be consumed by `Trace::end`.
 pub struct Captured<T: Sink> {
     pub played: Played,
     pub trace: Trace<T>,
 }
 
-/// Plays a script on a machine of this configuration, and spends it.
+/// Plays a script on a machine of this configuration, and frees it.
 fn play_machine<R: Source, W: Sink, T: Sink, F: Folder>(
     alloc: Global,
     booted: (Stack, Start<T, F>),
@@ -111,7 +110,7 @@ fn play_machine<R: Source, W: Sink, T: Sink, F: Folder>(
     ensures read { MoreBy (reader_failures result.played.outcome) (R.failures reader.old) (R.failures reader.new) }
     ensures wrote { MoreBy (writer_failures result.played.outcome) (W.failures writer.old) (W.failures writer.new) }
     ensures served { (new : Play)
-        × Serves (Tells StackSteps F.may_have)
+        × Serves (Reports StackSteps F.may_have)
         (started (state_of booted.0) booted.1.trace style.entry.form (take NAME style.entry.name.now)) new
         (R.remaining reader.old) (R.remaining reader.new)
         (W.contents writer.old) (W.contents writer.new) result.played.outcome
@@ -135,7 +134,7 @@ fn play_machine<R: Source, W: Sink, T: Sink, F: Folder>(
         return Captured { played, trace };
     };
     let Parts {
-        room,
+        buffer,
         bytes,
         reader: lines,
         line,
@@ -148,7 +147,7 @@ fn play_machine<R: Source, W: Sink, T: Sink, F: Folder>(
             stack,
             capture: Capture { trace, line: 0 },
             causes: Table::new(),
-            room,
+            buffer,
         },
         config,
         head: true,
@@ -167,7 +166,7 @@ fn play_machine<R: Source, W: Sink, T: Sink, F: Folder>(
     }
 }
 
-/// Plays a script on a machine of this configuration, without a capture, and spends it.
+/// Plays a script on a machine of this configuration, without a capture, and frees it.
 fn play_untraced<R: Source, W: Sink>(
     alloc: Global,
     booted: (Stack, Config),
@@ -179,7 +178,7 @@ fn play_untraced<R: Source, W: Sink>(
     ensures read { MoreBy (reader_failures result.outcome) (R.failures reader.old) (R.failures reader.new) }
     ensures wrote { MoreBy (writer_failures result.outcome) (W.failures writer.old) (W.failures writer.new) }
     ensures served { (traced : Traced) × (new : Play)
-        × Serves (Tells StackSteps no_folder)
+        × Serves (Reports StackSteps no_folder)
         (started (state_of booted.0) traced style.entry.form (take NAME style.entry.name.now)) new
         (R.remaining reader.old) (R.remaining reader.new)
         (W.contents writer.old) (W.contents writer.new) result.outcome
@@ -187,7 +186,7 @@ fn play_untraced<R: Source, W: Sink>(
     ensures started { IsServed result.outcome }
 {
     let (machine, config) = booted;
-    let Ok(room) = Buffer::new(alloc) else {
+    let Ok(buffer) = Buffer::new(alloc) else {
         let _ = machine.end();
         return Played {
             outcome: Err(RunFault::Memory),
@@ -196,7 +195,7 @@ fn play_untraced<R: Source, W: Sink>(
     };
     let start = Start {
         config,
-        trace: Trace::begin(Nowhere, room),
+        trace: Trace::begin(Nowhere, buffer),
         folder: NoFolder,
     };
     let Captured { played, trace } = play_machine(alloc, (machine, start), style, reader, writer);
@@ -204,23 +203,23 @@ fn play_untraced<R: Source, W: Sink>(
     played
 }
 
-/// Plays a script on a new stack. Each line is answered when its end was read: by the reply to what it asks for, with
-/// the causes for which packets were dropped, and by the difference if something else was expected. The stack is spent
-/// then.
+/// Plays a script on a new stack. Each line is executed when its end was read. What is printed is the reply to its
+/// request, the causes for which packets were dropped, and the difference to its expectation, if there is one. The
+/// stack is freed at the end.
 ///
-/// `sound` tells whether all lines that were read asked for something, and all that was expected came. A capture that
-/// can't be played in has to be expected to fail.
+/// `sound` is true if all lines that were read made requests and all their expectations were met. A capture that can't
+/// be played must be expected to fail.
 ///
 /// # Errors
 ///
-/// `BadSizes` if `config` has no mbuf, more than 65,535 of them or more than 4,096 clusters; else `BadConfig` if its
-/// MTU isn't 68 to 4352, an address isn't that of a host, or both addresses are the same; else `Memory` if host memory
-/// is lacking. Nothing was read or written then.
+/// `BadSizes` if `config` has no mbuf, more than 65,535 mbufs or more than 4,096 clusters; otherwise `BadConfig` if its
+/// MTU isn't 68 to 4352, an address isn't that of a host, or both addresses are the same; otherwise `Memory` if host
+/// memory is lacking. In these cases nothing was read or written.
 ///
-/// `Read` if the reader answers an error: each whole line before it was answered. `Write` if the writer answers an
-/// error, or takes none of the bytes that it is given: a front of the answers was written. `TooManyLines` at a byte
-/// after the 10,000,000th line, or one that makes a line longer than 1,048,576 bytes: each whole line before it was
-/// answered.
+/// `Read` if the reader returns an error; each whole line before it was executed and its reply written. `Write` if the
+/// writer returns an error, or writes none of the bytes that it is given; the beginning of the replies was written.
+/// `TooManyLines` at a byte after the 10,000,000th line, or at a byte that makes a line longer than 1,048,576 bytes;
+/// each whole line before it was executed and its reply written.
 #[tactic(auto, unfolding(stack_call::specs::Moves::StackSteps))]
 pub fn play<R: Source, W: Sink>(
     alloc: Global,
@@ -230,13 +229,13 @@ pub fn play<R: Source, W: Sink>(
     writer: &mut W,
 ) -> Played
     ensures booted { BootsRun config result.outcome }
-    // The reader failed once if the fault is `Read`, and the writer if it is `Write`; else they didn't.
+    // The reader failed once if the fault is `Read`, the writer once if it is `Write`; otherwise neither did.
     ensures read { MoreBy (reader_failures result.outcome) (R.failures reader.old) (R.failures reader.new) }
     ensures wrote { MoreBy (writer_failures result.outcome) (W.failures writer.old) (W.failures writer.new) }
-    // What is written is told on the way of the machine with exact accounts from boot, over the lines of what is read.
-    // The capture is nobody's, and no file can be opened.
+    // What is written follows the machine with exact accounts from boot, over the lines of what is read. There is no
+    // capture, and no file can be opened.
     ensures served { (traced : Traced) × (new : Play)
-        × Serves (Tells Step no_folder)
+        × Serves (Reports Step no_folder)
         (started (boot config) traced style.entry.form (take NAME style.entry.name.now)) new
         (R.remaining reader.old) (R.remaining reader.new)
         (W.contents writer.old) (W.contents writer.new) result.outcome
@@ -251,14 +250,14 @@ pub fn play<R: Source, W: Sink>(
     }
 }
 
-/// Plays a script on a new stack, as [`play`] does, and adds each packet that comes or goes to a capture: one that a
-/// line `rx` lets come, and one that a line `tx` gives. A packet's time is half a second for each tick before it, and a
-/// microsecond for each line of the script up to its own, 499,999 at most. Once writing to the capture has failed,
-/// nothing more is added to it, and the script goes on.
+/// Plays a script on a new stack, as [`play`] does, and adds each packet that arrives or leaves to a capture: those of
+/// `rx` lines, and those that `tx` lines return. A packet's time is half a second for each tick before it, and a
+/// microsecond for each line of the script up to its own, at most 499,999. After an error in writing to the capture,
+/// nothing more is added to it, and the script continues.
 ///
 /// # Errors
 ///
-/// Those of [`play`], with which nothing is added to the capture unless a line was answered.
+/// Those of [`play`]. If no line was executed, nothing was added to the capture.
 #[tactic(auto, unfolding(stack_call::specs::Moves::StackSteps))]
 pub fn play_captured<R: Source, W: Sink, T: Sink, F: Folder>(
     alloc: Global,
@@ -270,9 +269,9 @@ pub fn play_captured<R: Source, W: Sink, T: Sink, F: Folder>(
     ensures booted { BootsRun start.config result.played.outcome }
     ensures read { MoreBy (reader_failures result.played.outcome) (R.failures reader.old) (R.failures reader.new) }
     ensures wrote { MoreBy (writer_failures result.played.outcome) (W.failures writer.old) (W.failures writer.new) }
-    // The capture has what the lines add to it that were answered: see `runs_law`.
+    // The capture has what the executed lines add to it: see `runs_law`.
     ensures served { (new : Play)
-        × Serves (Tells Step F.may_have)
+        × Serves (Reports Step F.may_have)
         (started (boot start.config) start.trace style.entry.form (take NAME style.entry.name.now)) new
         (R.remaining reader.old) (R.remaining reader.new)
         (W.contents writer.old) (W.contents writer.new) result.played.outcome

@@ -1,20 +1,21 @@
-//! The machine that settings ask for.
+//! The machine with the configuration of a line of settings.
 ghost use Rattle.std.specs.Prelude.{◌≡◌, Err, MatchResult, Ok};
 ghost use Rattle.flat_model.specs.Machine.State.{boot};
 ghost use Rattle.flat_model.specs.Scripts.Grammar.{words};
 ghost use Rattle.flat_model.specs.declared.config.Config.{Config};
 ghost use Rattle.link_script.specs.Boots.{IsRunUnbooted};
 ghost use Rattle.net_stack.specs.Stack.{state_of};
-ghost use Rattle.play_script.specs.Tells.{IsSettingRefused, IsSettled};
+ghost use Rattle.play_script.specs.Reports.{IsSettingRefused, IsSettled};
 
+use crate::fault::SettingFault;
+use crate::settings::settings_of;
 use flat_model::Config;
 use link_script::booted;
 use net_stack::Stack;
-use play_read::{SettingFault, settings_of};
 use script_loop::RunFault;
 use std::alloc::Global;
 
-/// Why settings are refused that no machine has.
+/// Returns the setting fault for a machine that doesn't boot.
 fn refusal_of(fault: RunFault) -> SettingFault
     ensures { (c : Config) → IsRunUnbooted c fault → IsSettingRefused c result }
 {
@@ -26,7 +27,8 @@ fn refusal_of(fault: RunFault) -> SettingFault
     }
 }
 
-/// A new machine as the settings of a line say, if these stand in the script's head, and its configuration.
+/// Boots a new machine with the settings of a line, and returns it with its configuration. `head` says whether settings
+/// are still accepted.
 pub(crate) fn settled(
     alloc: Global,
     head: bool,

@@ -13,7 +13,7 @@ use Rattle.sock_calls.specs.declared.questions.NextDatagram.{NextDatagram}
 use Rattle.play_text.specs.Fates.{drops_of, fate_of}
 use Rattle.play_show.specs.declared.changes.Change.{Change}
 use Rattle.play_show.specs.declared.changes.Change.TheVariants as change
-use Rattle.play_show.specs.declared.changes.Became.{Became}
+use Rattle.play_show.specs.declared.changes.Effect.{Effect}
 use Rattle.play_show.specs.declared.snapshot.Snapshot.{Snapshot}
 
 -- ---- a look
@@ -49,7 +49,7 @@ AreDelivered before after delivered =
     (k : ℕ) → k < MAX_SOCKETS
     → get_or delivered k false ≡ nat_lt (get_or before.waiting k 0) (get_or after.waiting k 0)
 
-pub record HasBecome (before after : Snapshot) (x : Became) : Type 0 where
+pub record IsEffect (before after : Snapshot) (x : Effect) : Type 0 where
   pub drops : x.drops ≡ drops_of before.counters after.counters
   pub fate : x.fate ≡ fate_of before.counters after.counters
   pub delivered : AreDelivered before after x.delivered

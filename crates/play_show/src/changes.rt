@@ -1,4 +1,4 @@
-//! What has changed between two looks at a machine.
+//! What changed between two snapshots of a machine.
 ghost use Rattle.std.specs.Prelude.{◌≡◌, ◌<◌, get_or, length, nat_lt};
 ghost use Rattle.params.specs.declared.TheConstants.{MAX_MTU, MAX_SOCKETS};
 ghost use Rattle.play_show.specs.Changes as changes;
@@ -12,24 +12,24 @@ use play_text::Piece::{Amount, Long, Number, Text};
 use play_text::{CAUSES, Fate, add, add_fate, add_packet, drops_between, fate_of};
 use script_loop::Buffer;
 
-/// So many packets of a send are told; of more than these, how many more there are.
+/// The most packets of a send that are printed; for more than these, only their number is.
 const MOST_SENT: u32 = 16;
 
 /// How the number of free buffers changed.
 #[derive(Clone, Copy, Debug, PartialEq, Eq)]
 pub enum Change {
-    /// As many are free as before.
+    /// The number is the same.
     Same,
-    /// So many were taken from the pool.
+    /// This many were taken from the pool.
     Taken(u32),
-    /// So many were given back.
+    /// This many were returned to the pool.
     Given(u32),
 }
 
-/// What an event did, by looks at the machine before and after it.
+/// The effect of an event on a machine, by snapshots before and after it.
 #[derive(Clone, Copy)]
-pub struct Became {
-    /// For which causes packets were dropped, in the order of [`play_text::causes`].
+pub struct Effect {
+    /// The causes for which packets were dropped, in the order of [`play_text::causes`].
     pub drops: [bool; CAUSES],
     /// What happened to a packet's fragment.
     pub fate: Fate,
@@ -37,7 +37,7 @@ pub struct Became {
     pub delivered: [bool; SOCKETS],
     /// How many packets waited for the link before.
     pub first_sent: u32,
-    /// How many packets wait behind these now.
+    /// How many packets were added to the output queue.
     pub sent: u32,
     /// How many unfinished datagrams were dropped after their 60 ticks.
     pub timed_out: u64,
@@ -49,14 +49,14 @@ pub struct Became {
     pub clusters: Change,
 }
 
-/// By how much a counter went up.
+/// Returns by how much a counter went up.
 fn risen(counter: Counter, before: &Counters, after: &Counters) -> u64
     ensures { result ≡ changes.risen counter before.now after.now }
 {
     after.value(counter).saturating_sub(before.value(counter))
 }
 
-/// How many are free now beside before.
+/// Returns how the number of free buffers changed.
 fn change_of(before: u32, after: u32) -> Change
     ensures { result ≡ changes.change_of before after }
 {
@@ -69,7 +69,7 @@ fn change_of(before: u32, after: u32) -> Change
     }
 }
 
-/// Whether more datagrams wait in a socket than before.
+/// Returns whether more datagrams wait in a socket than before.
 fn is_delivered(before: &Snapshot, after: &Snapshot, place: usize) -> bool
     requires { place < MAX_SOCKETS }
     ensures { result ≡ nat_lt (get_or before.now.waiting place 0) (get_or after.now.waiting place 0) }
@@ -77,7 +77,7 @@ fn is_delivered(before: &Snapshot, after: &Snapshot, place: usize) -> bool
     before.waiting[place] < after.waiting[place]
 }
 
-/// In which sockets more datagrams wait than before.
+/// Returns in which sockets more datagrams wait than before.
 fn delivered_between(before: &Snapshot, after: &Snapshot) -> [bool; SOCKETS]
     ensures { changes.AreDelivered before.now after.now result }
 {
@@ -88,12 +88,12 @@ fn delivered_between(before: &Snapshot, after: &Snapshot) -> [bool; SOCKETS]
     delivered
 }
 
-/// What came of an event.
-pub fn became_of(before: &Snapshot, after: &Snapshot) -> Became
-    ensures { changes.HasBecome before.now after.now result }
+/// Compares two snapshots of a machine, taken before and after an event.
+pub fn effect_of(before: &Snapshot, after: &Snapshot) -> Effect
+    ensures { changes.IsEffect before.now after.now result }
 {
     let (old, new) = (&before.counters, &after.counters);
-    Became {
+    Effect {
         drops: drops_between(old, new),
         fate: fate_of(old, new),
         delivered: delivered_between(before, after),
@@ -106,14 +106,14 @@ pub fn became_of(before: &Snapshot, after: &Snapshot) -> Became
     }
 }
 
-/// Puts what a packet's headers say after the text, as a line.
+/// Appends what a packet's headers say, as a line.
 fn add_line(text: &mut Buffer<SHOWN>, packet: &[u8]) {
     add(text, &[Text(b"    ")]);
     add_packet(text, packet);
     add(text, &[Text(b"\n")]);
 }
 
-/// Puts a line after the text for each socket to which a datagram was delivered.
+/// Appends a line for each socket to which a datagram was delivered.
 fn put_delivered(text: &mut Buffer<SHOWN>, delivered: &[bool; SOCKETS]) {
     for place in 0..SOCKETS {
         if delivered[place] {
@@ -126,9 +126,9 @@ fn put_delivered(text: &mut Buffer<SHOWN>, delivered: &[bool; SOCKETS]) {
     }
 }
 
-/// Puts lines after the text if packets were sent: how many, and the first of them, which are asked of the machine.
-fn put_sent(text: &mut Buffer<SHOWN>, machine: &Stack, first: u32, all: u32, room: &mut [u8])
-    requires { length room.old ≡ MAX_MTU }
+/// Appends lines if packets were sent: how many, and the first of them, which are read from the machine.
+fn put_sent(text: &mut Buffer<SHOWN>, machine: &Stack, first: u32, all: u32, buffer: &mut [u8])
+    requires { length buffer.old ≡ MAX_MTU }
 {
     if all == 0 {
         return;
@@ -139,8 +139,8 @@ fn put_sent(text: &mut Buffer<SHOWN>, machine: &Stack, first: u32, all: u32, roo
         &[Text(b"    sent as "), Amount(all, b"packet"), Text(b"\n")],
     );
     for i in first..first.saturating_add(all.min(MOST_SENT)) {
-        if let Some(len) = machine.output_packet(i, room) {
-            add_line(text, &room[..len]);
+        if let Some(len) = machine.output_packet(i, buffer) {
+            add_line(text, &buffer[..len]);
         }
     }
     if MOST_SENT < all {
@@ -149,7 +149,7 @@ fn put_sent(text: &mut Buffer<SHOWN>, machine: &Stack, first: u32, all: u32, roo
     }
 }
 
-/// Puts a line after the text if unfinished datagrams were dropped.
+/// Appends a line if unfinished datagrams were dropped.
 fn put_lost(text: &mut Buffer<SHOWN>, count: u64, what: &[u8]) {
     if count != 0 {
         add(
@@ -165,7 +165,7 @@ fn put_lost(text: &mut Buffer<SHOWN>, count: u64, what: &[u8]) {
     }
 }
 
-/// Puts a line after the text if mbufs or clusters were taken or given back.
+/// Appends a line if mbufs or clusters were taken or given back.
 fn put_change(text: &mut Buffer<SHOWN>, change: Change, what: &[u8]) {
     let front = Text(b"    ");
     match change {
@@ -175,30 +175,30 @@ fn put_change(text: &mut Buffer<SHOWN>, change: Change, what: &[u8]) {
     }
 }
 
-/// Puts into a buffer what came of an event, by looks at the machine before and after it. `packet` is the one that came
-/// from the link or went to it. Told are, each in a line with its line feed: what the packet's headers say; what became
-/// of its fragment; the sockets to which a datagram was delivered; as how many packets something was sent, and what the
-/// headers of the first 16 say, which are asked of the machine; how many unfinished datagrams were dropped; and how
-/// many mbufs and clusters were taken or given back. What doesn't change isn't told, and what the buffer held before is
-/// lost. The packets are copied into the room, one after another; it has 4,352 bytes.
+/// Writes what an event changed into a buffer, by the snapshots of the machine before and after it; `packet` is the one
+/// that came from the link or went to it. Each of these is a line with its line feed: the packet's headers; what
+/// happened to its fragment; each socket to which a datagram was delivered; the number of packets that were sent, and
+/// the headers of the first 16, which are read from the machine; the number of unfinished datagrams that were dropped;
+/// and the numbers of mbufs and clusters taken or returned. What didn't change has no line. The old contents of the
+/// buffer are lost. The packets are copied into `buffer`, which has 4,352 bytes.
 pub fn put_changes(
     text: &mut Buffer<SHOWN>,
     packet: Option<&[u8]>,
     looks: (&Snapshot, &Snapshot),
     machine: &Stack,
-    room: &mut [u8],
+    buffer: &mut [u8],
 )
-    requires { length room.old ≡ MAX_MTU }
+    requires { length buffer.old ≡ MAX_MTU }
 {
     let (before, after) = looks;
-    let it = became_of(before, after);
+    let it = effect_of(before, after);
     text.clear();
     if let Some(packet) = packet {
         add_line(text, packet);
         add_fate(text, packet, it.fate);
     }
     put_delivered(text, &it.delivered);
-    put_sent(text, machine, it.first_sent, it.sent, room);
+    put_sent(text, machine, it.first_sent, it.sent, buffer);
     put_lost(text, it.timed_out, b"timed out");
     put_lost(text, it.reclaimed, b"dropped for their buffers");
     put_change(text, it.mbufs, b"mbuf");

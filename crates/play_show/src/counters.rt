@@ -5,7 +5,7 @@ use play_text::Piece::{Amount, Long, Number, Text};
 use play_text::add;
 use script_loop::Buffer;
 
-/// What a counter counts.
+/// Returns the meaning of a counter.
 fn meaning_of(counter: Counter) -> &'static str {
     match counter {
         Counter::IpTotal => "packets that reached IP input, from the link or by loopback",
@@ -40,7 +40,7 @@ fn meaning_of(counter: Counter) -> &'static str {
     }
 }
 
-/// Puts the lines of all counters into a buffer.
+/// Writes the lines of all counters into a buffer.
 pub(crate) fn put_counters(text: &mut Buffer<SHOWN>, counters: &Counters) {
     for counter in Counter::all() {
         add(
@@ -58,7 +58,7 @@ pub(crate) fn put_counters(text: &mut Buffer<SHOWN>, counters: &Counters) {
     }
 }
 
-/// Puts after the text how much of the pool is free, and how its clusters are shared.
+/// Appends how much of the pool is free, and how its clusters are shared.
 pub(crate) fn put_pool(text: &mut Buffer<SHOWN>, usage: Mbstat) {
     add(
         text,

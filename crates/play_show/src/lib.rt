@@ -1,5 +1,5 @@
-//! What a line that begins with `show` asks for: a machine's sockets, its unfinished datagrams, its output queue, its
-//! counters and its pool, in words.
+//! The queries `show ..` of a play script: a machine's sockets, unfinished datagrams, output queue, counters and pool,
+//! as text; and what an event changed, by snapshots of the machine before and after it.
 #![tactic(auto)]
 
 mod changes;
@@ -7,15 +7,15 @@ mod counters;
 mod shown_law;
 mod snapshot;
 mod sockets;
-mod tell;
 mod topic;
+mod topic_text;
 mod unfinished;
 
-pub use changes::{Became, Change, became_of, put_changes};
+pub use changes::{Change, Effect, effect_of, put_changes};
 pub use shown_law::looks_law;
 pub use snapshot::{Snapshot, snapshot_of};
-pub use tell::tell_topic;
 pub use topic::{Topic, topic_of};
+pub use topic_text::write_topic;
 
-/// Room for what is told of a machine.
+/// The size of a buffer for the text of a query, or for what an event changed.
 pub const SHOWN: usize = 32_768;

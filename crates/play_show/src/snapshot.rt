@@ -1,4 +1,4 @@
-//! A look at a machine, to tell later what has changed.
+//! A snapshot of a machine, from which later changes are found.
 ghost use Rattle.std.specs.Prelude.{◌≡◌};
 ghost use Rattle.sock_calls.specs.Questions.{next_datagram};
 ghost use Rattle.play_show.specs.Changes.{IsSnapshot, waiting_of};
@@ -12,10 +12,10 @@ use params::{FIRST_DESCRIPTOR, MAX_SOCKETS};
 /// How many sockets there can be.
 pub(crate) const SOCKETS: usize = MAX_SOCKETS as usize;
 
-/// What was looked at of a machine.
+/// A snapshot of a machine.
 #[derive(Clone, Copy)]
 pub struct Snapshot {
-    /// What was counted since boot.
+    /// The counters since boot.
     pub counters: Counters,
     /// How much of the pool is in use.
     pub usage: Mbstat,
@@ -25,7 +25,7 @@ pub struct Snapshot {
     pub waiting: [u32; SOCKETS],
 }
 
-/// How many datagrams wait in a descriptor's socket.
+/// Returns how many datagrams wait in a descriptor's socket.
 fn waiting_in(machine: &Stack, fd: u32) -> u32
     ensures { result ≡ waiting_of (next_datagram fd (state_of machine.now)) }
 {
@@ -35,7 +35,8 @@ fn waiting_in(machine: &Stack, fd: u32) -> u32
     }
 }
 
-/// Looks at a machine, which isn't changed. It takes a step for each of the 64 descriptors, and one for each cluster.
+/// Takes a snapshot of a machine, which isn't changed. Takes a step for each of the 64 descriptors, and one for each
+/// cluster.
 #[tactic(auto, unfolding(stack_call::specs::Moves::StackSteps))]
 pub fn snapshot_of(machine: &Stack) -> Snapshot
     ensures { IsSnapshot StackSteps (state_of machine.now) result }

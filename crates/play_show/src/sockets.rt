@@ -7,7 +7,7 @@ use play_text::Piece::{Address, Amount, Either, End, Number, Text};
 use play_text::add;
 use script_loop::Buffer;
 
-/// Puts after the text what a socket is bound and connected to, with a star for what isn't set.
+/// Appends what a socket is bound and connected to, with a star for what isn't set.
 fn put_ends(text: &mut Buffer<SHOWN>, name: SocketName) {
     let star = Text(b"*");
     let ip = match name.local {
@@ -24,7 +24,7 @@ fn put_ends(text: &mut Buffer<SHOWN>, name: SocketName) {
     }
 }
 
-/// Puts after the text how many datagrams wait in a socket, who sent the oldest one, and how many bytes wait in all.
+/// Appends how many datagrams wait in a socket, who sent the oldest one, and how many bytes wait in all.
 fn put_waiting(
     text: &mut Buffer<SHOWN>,
     next: Result<NextDatagram, Errno>,
@@ -58,7 +58,7 @@ fn put_waiting(
     }
 }
 
-/// Puts the lines of all open sockets into a buffer, and answers how many are open.
+/// Writes the lines of all open sockets into a buffer, and returns how many are open.
 pub(crate) fn put_sockets(machine: &Stack, text: &mut Buffer<SHOWN>) -> u32 {
     let mut count: u32 = 0;
     for place in 0..MAX_SOCKETS {
@@ -82,7 +82,7 @@ pub(crate) fn put_sockets(machine: &Stack, text: &mut Buffer<SHOWN>) -> u32 {
     count
 }
 
-/// Puts after the text how many packets wait for the link, and how many bytes the next one has.
+/// Appends how many packets wait for the link, and how many bytes the next one has.
 pub(crate) fn put_queue(text: &mut Buffer<SHOWN>, count: u32, next: Option<u32>) {
     match next {
         Some(len) => add(

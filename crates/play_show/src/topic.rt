@@ -1,8 +1,8 @@
-//! What a line asks to be shown.
+//! The query of a line.
 ghost use Rattle.std.specs.Prelude.{◌≡◌};
 ghost use Rattle.play_show.specs.Topics.{topic_asked};
 
-/// What of a machine is shown (this project's own).
+/// A query about a machine (this project's own).
 #[derive(Clone, Copy, Debug, PartialEq, Eq)]
 pub enum Topic {
     /// Its sockets: what each is bound and connected to, its options, and what waits in it.
@@ -17,7 +17,7 @@ pub enum Topic {
     Pool,
 }
 
-/// What a plain line asks to be shown, or `None` if it asks for something else.
+/// Returns the query of a plain line, or `None` if it has none.
 pub fn topic_of(plain: &[u8]) -> Option<Topic>
     ensures { result ≡ topic_asked plain.now }
 {

@@ -5,13 +5,13 @@ use play_text::Piece::{Amount, Either, Long, Number, Text, Way};
 use play_text::add;
 use script_loop::Buffer;
 
-/// So many unfinished datagrams are told; of more than these, how many more there are.
+/// The most unfinished datagrams that are printed; for more than these, only their number is.
 const MOST_DATAGRAMS: u32 = 32;
 
-/// So many ranges of a datagram are told.
+/// The most ranges of a datagram that are printed.
 const MOST_RANGES: u32 = 16;
 
-/// Puts a range after the text: its first byte and its last one, and whether it ends its datagram.
+/// Appends a range: its first byte and its last one, and whether it ends its datagram.
 fn put_range(text: &mut Buffer<SHOWN>, range: HeldRange) {
     let past = u64::from(range.offset) + u64::from(range.len);
     add(
@@ -26,7 +26,7 @@ fn put_range(text: &mut Buffer<SHOWN>, range: HeldRange) {
     );
 }
 
-/// Puts the line of the datagram at a place after the text.
+/// Appends the line of the datagram at a place.
 fn put_datagram(machine: &Stack, text: &mut Buffer<SHOWN>, datagram: UnfinishedDatagram, i: u32) {
     let key = datagram.key;
     add(
@@ -55,7 +55,7 @@ fn put_datagram(machine: &Stack, text: &mut Buffer<SHOWN>, datagram: UnfinishedD
     add(text, &[Text(b"\n")]);
 }
 
-/// Puts the lines of the unfinished datagrams into a buffer, in the order of their beginning.
+/// Writes the lines of the unfinished datagrams into a buffer, in the order of their beginning.
 pub(crate) fn put_unfinished(machine: &Stack, text: &mut Buffer<SHOWN>) {
     for i in 0..MOST_DATAGRAMS {
         if let Some(datagram) = machine.unfinished(i) {

@@ -8,10 +8,10 @@ next : (byte : ℕ) (bytes : List ℕ) → begins_with (byte ∷ bytes) (codes "
     → drops_at (byte ∷ bytes) ≡ suc (drops_at bytes)
 next byte bytes h = rw h refl
 
-pub step : (told : List ℕ) (at : ℕ) → at < length told → begins_with (drop at told) (codes "dropped ") ≡ false
-    → at + drops_at (drop at told) ≡ at + 1 + drops_at (drop (at + 1) told)
-step told at h none =
-    let begins = drop_more told at 0 h in
+pub step : (reply : List ℕ) (at : ℕ) → at < length reply → begins_with (drop at reply) (codes "dropped ") ≡ false
+    → at + drops_at (drop at reply) ≡ at + 1 + drops_at (drop (at + 1) reply)
+step reply at h none =
+    let begins = drop_more reply at 0 h in
     ap (λ n. at + n) (ap drops_at begins
-    ∙ next (get_or told at 0) (drop (at + 1) told) (ap (λ t. begins_with t (codes "dropped ")) (sym begins) ∙ none))
+    ∙ next (get_or reply at 0) (drop (at + 1) reply) (ap (λ t. begins_with t (codes "dropped ")) (sym begins) ∙ none))
     ∙ omega arith

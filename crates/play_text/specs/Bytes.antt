@@ -128,6 +128,6 @@ apart_text first second =
 
 -- the same for the bytes of two replies, unless all digits are printed
 abbrev pub difference : ByteForm → List ℕ → List ℕ → List ℕ
-difference Digits wanted told = []
-difference Cut wanted told = apart_text (bytes_word wanted) (bytes_word told)
-difference Texts wanted told = apart_text (bytes_word wanted) (bytes_word told)
+difference Digits wanted reply = []
+difference Cut wanted reply = apart_text (bytes_word wanted) (bytes_word reply)
+difference Texts wanted reply = apart_text (bytes_word wanted) (bytes_word reply)

@@ -66,9 +66,9 @@ part_text colour form (byte ∷ bytes) = colour ++ seen form (byte ∷ bytes) ++
 
 -- the reply, and why packets were dropped
 abbrev pub parts_text : ByteForm → ℕ → List ℕ → List ℕ
-parts_text form at told =
-    part_text (reply_colour told) form (take at told) ++ part_text yellow Digits (drop at told)
+parts_text form at reply =
+    part_text (reply_colour reply) form (take at reply) ++ part_text yellow Digits (drop at reply)
 
-abbrev pub told_reply : Bool → ByteForm → List ℕ → List ℕ
-told_reply true form told = parts_text form (drops_at told) told
-told_reply false form told = seen form told
+abbrev pub coloured_reply : Bool → ByteForm → List ℕ → List ℕ
+coloured_reply true form reply = parts_text form (drops_at reply) reply
+coloured_reply false form reply = seen form reply

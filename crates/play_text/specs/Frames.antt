@@ -16,15 +16,15 @@ abbrev pub frame_way_text : Mac → Mac → List ℕ
 frame_way_text source destination = mac_text source ++ codes " > " ++ mac_text destination ++ codes " "
 
 -- a request or a reply
-abbrev pub arp_says : Arp → List ℕ
-arp_says a =
+abbrev pub arp_words : Arp → List ℕ
+arp_words a =
     if a.op == ARP_REQUEST
     then codes "ARP who has " ++ address_text a.target ++ codes ", tell " ++ address_text a.ip
     else codes "ARP " ++ address_text a.ip ++ codes " is at " ++ mac_text a.mac
 
 abbrev pub arp_text : List ℕ → List ℕ
 arp_text body =
-    if is_arp body then arp_says (arp_of body)
+    if is_arp body then arp_words (arp_of body)
     else codes "ARP of " ++ amount (length body) (codes "byte") ++ codes ", no request or reply for IPv4"
 
 -- another type, in four digits

@@ -62,7 +62,7 @@ piece_text (Way protocol source destination) = way_text protocol source destinat
 piece_text (Range offset n) = range_text offset n
 piece_text (Quoted bytes) = string_text bytes.now
 piece_text (Reply form reply) = seen form reply.now
-piece_text (Apart form wanted told) = difference form wanted.now told.now
+piece_text (Apart form wanted reply) = difference form wanted.now reply.now
 
 abbrev pub pieces_after : List ℕ → List Piece → List ℕ
 pieces_after text [] = text
@@ -88,7 +88,7 @@ piece_room (Way protocol source destination) = 53
 piece_room (Range offset n) = 40
 piece_room (Quoted bytes) = 6 * length bytes.now + 2
 piece_room (Reply form reply) = length reply.now + 2
-piece_room (Apart form wanted told) = 48
+piece_room (Apart form wanted reply) = 48
 
 abbrev pub pieces_room : List Piece → ℕ
 pieces_room [] = 0

@@ -14,12 +14,12 @@ use Rattle.play_text.specs.declared.table.Table.{Table}
 abbrev pub never : Count
 never = record { count = 0; first = 0 }
 
--- once more, in the record of this number
+-- one more, in the record of this number
 abbrev pub once_more : ℕ → Count → Count
 once_more number c =
     record { count = more_by 1 c.count; first = if c.count == 0 then number else c.first }
 
--- nothing stands there for what never came
+-- a cause that never occurred has no line
 abbrev pub drops_line : Count → List ℕ → List ℕ
 drops_line c what =
     if c.count == 0 then []
@@ -35,7 +35,7 @@ never_for why = record { why = why; count = never }
 unfoldable pub no_drops : Table
 no_drops = record { rows = map never_for all_causes }
 
--- a cause counts once more if its counter went up
+-- a cause counts one more if its counter went up
 abbrev pub row_after : ℕ → Counters → Counters → Row → Row
 row_after number a b row =
     if rose (counter_of row.why) a b then record row { count = once_more number row.count } else row

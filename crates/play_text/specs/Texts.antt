@@ -3,7 +3,7 @@ use Rattle.std.specs.Prelude.{ℕ, Bool, true, false, List, [], ◌++◌, if◌t
 use Rattle.play_line.specs.Faults.{misread_words}
 use Rattle.play_line.specs.declared.fault.Slip.{Slip}
 use Rattle.play_text.specs.Bytes.{difference, seen}
-use Rattle.play_text.specs.Forms.{byte_form, is_quiet, is_coloured, is_json, if_coloured, red, ended, told_reply}
+use Rattle.play_text.specs.Forms.{byte_form, is_quiet, is_coloured, is_json, if_coloured, red, ended, coloured_reply}
 use Rattle.play_text.specs.Pieces.{number_or}
 use Rattle.play_text.specs.Strings.{string_text}
 use Rattle.play_text.specs.declared.form.Form.{Form}
@@ -22,23 +22,24 @@ head_text false number line = decimal number ++ codes "  " ++ line ++ codes " =>
 
 -- The line and its output. Bytes may be printed as texts if `texts`.
 abbrev pub line_text : Form → Bool → ℕ → List ℕ → List ℕ → List ℕ
-line_text form texts number line told =
-    head_text (is_quiet form) number line ++ told_reply (is_coloured form) (byte_form form texts) told ++ codes "\n"
+line_text form texts number line reply =
+    head_text (is_quiet form) number line ++ coloured_reply (is_coloured form) (byte_form form texts) reply ++ codes
+    "\n"
 
 abbrev pub differs_text : Form → Bool → List ℕ → ℕ → List ℕ → List ℕ → List ℕ
-differs_text form texts name number wanted told =
+differs_text form texts name number wanted reply =
     if_coloured form red ++ name ++ codes ":" ++ decimal number ++ codes ": expected "
-    ++ seen (byte_form form texts) wanted ++ codes ", got " ++ seen (byte_form form texts) told
-    ++ difference (byte_form form texts) wanted told ++ if_coloured form ended ++ codes "\n"
+    ++ seen (byte_form form texts) wanted ++ codes ", got " ++ seen (byte_form form texts) reply
+    ++ difference (byte_form form texts) wanted reply ++ if_coloured form ended ++ codes "\n"
 
 -- empty, if the expectation was met or there was none
 abbrev pub difference_text : Form → Bool → List ℕ → ℕ → Option (List ℕ) → Bool → List ℕ → List ℕ
-difference_text form texts name number (Some wanted) false told = differs_text form texts name number wanted told
-difference_text form texts name number _ met told = []
+difference_text form texts name number (Some wanted) false reply = differs_text form texts name number wanted reply
+difference_text form texts name number _ met reply = []
 
 abbrev pub lines_text : Form → Bool → List ℕ → ℕ → List ℕ → Option (List ℕ) → Bool → List ℕ → List ℕ → List ℕ
-lines_text form texts name number line wanted met told below =
-    line_text form texts number line told ++ below ++ difference_text form texts name number wanted met told
+lines_text form texts name number line wanted met reply below =
+    line_text form texts number line reply ++ below ++ difference_text form texts name number wanted met reply
 
 -- ---- texts for programs
 
@@ -50,9 +51,9 @@ expected_text (Some wanted) met =
     ++ codes ",\"met\":" ++ (if met then codes "true" else codes "false") ++ codes "}\n"
 
 abbrev pub outcome_object : List ℕ → ℕ → List ℕ → Option (List ℕ) → Bool → List ℕ → List ℕ → List ℕ
-outcome_object name number line wanted met told below =
+outcome_object name number line wanted met reply below =
     codes "{\"number\":" ++ decimal number ++ codes ",\"file\":" ++ string_text name
-    ++ codes ",\"line\":" ++ string_text line ++ codes ",\"reply\":" ++ string_text told
+    ++ codes ",\"line\":" ++ string_text line ++ codes ",\"reply\":" ++ string_text reply
     ++ codes ",\"below\":" ++ string_text below ++ expected_text wanted met
 
 abbrev pub fault_object : List ℕ → ℕ → Option ℕ → List ℕ → List ℕ
@@ -78,6 +79,6 @@ slip_text form name number slip = spot_fault form name number (Some slip.column)
 
 -- the output for a line and the notes below it, and the expectation, if it differs from the output
 abbrev pub outcome_text : Form → Bool → List ℕ → ℕ → List ℕ → Option (List ℕ) → Bool → List ℕ → List ℕ → List ℕ
-outcome_text form texts name number line wanted met told below =
-    if is_json form then outcome_object name number line wanted met told below
-    else lines_text form texts name number line wanted met told below
+outcome_text form texts name number line wanted met reply below =
+    if is_json form then outcome_object name number line wanted met reply below
+    else lines_text form texts name number line wanted met reply below

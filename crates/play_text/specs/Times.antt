@@ -7,6 +7,6 @@ six_digits n =
     (48 + n / 100000 % 10) ∷ (48 + n / 10000 % 10) ∷ (48 + n / 1000 % 10) ∷ (48 + n / 100 % 10)
     ∷ (48 + n / 10 % 10) ∷ (48 + n % 10) ∷ []
 
--- seconds with six digits behind the point, of nanoseconds
+-- nanoseconds as seconds with six decimals
 unfoldable pub time_text : ℕ → List ℕ
 time_text t = decimal (t / 1_000_000_000) ++ codes "." ++ six_digits (t / 1_000 % 1_000_000)

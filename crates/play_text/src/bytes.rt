@@ -95,7 +95,7 @@ fn put_quoted<const N: usize>(text: &mut Buffer<N>, items: &[u8])
 /// Appends the bytes that these digits encode: as a text, or as the digits.
 fn put_digits<const N: usize>(text: &mut Buffer<N>, texts: bool, digits: &[u8])
     requires few { length digits.now ≤ 128 }
-    requires room { length text.old + (length digits.now + 2) ≤ N }
+    requires space { length text.old + (length digits.now + 2) ≤ N }
     ensures items { text.new ≡ text.old ++ bytes.digits_text texts digits.now }
     ensures len { length text.new ≤ length text.old + (length digits.now + 2) }
 {
@@ -103,8 +103,8 @@ fn put_digits<const N: usize>(text: &mut Buffer<N>, texts: bool, digits: &[u8])
         text.append(digits);
         return;
     }
-    let mut room = [0; MOST_TEXT];
-    let items = &mut room[..digits.len() / 2];
+    let mut text_bytes = [0; MOST_TEXT];
+    let items = &mut text_bytes[..digits.len() / 2];
     match hex::decode_to_slice(digits, &mut *items) {
         Ok(()) if are_readable(items) => put_quoted(text, items),
         _ => text.append(digits),
@@ -143,7 +143,7 @@ fn put_len<const N: usize>(text: &mut Buffer<N>, digits: &[u8])
 /// Appends the first and the last bytes of longer data, and their total number.
 fn put_cut<const N: usize>(text: &mut Buffer<N>, texts: bool, digits: &[u8])
     requires many { 128 < length digits.now }
-    requires room { length text.old + 128 ≤ N }
+    requires space { length text.old + 128 ≤ N }
     ensures items { text.new ≡ text.old ++ bytes.cut_text texts digits.now }
     ensures len { length text.new ≤ length text.old + 128 }
 {
@@ -343,33 +343,33 @@ fn put_first_apart<const N: usize>(text: &mut Buffer<N>, first: &[u8], second: &
     }
 }
 
-/// Appends where the bytes of two replies first differ, if one of them is abbreviated.
-fn put_replies_apart<const N: usize>(text: &mut Buffer<N>, wanted: &[u8], told: &[u8])
+/// Appends the offset at which the bytes of two replies first differ, if one of the two is abbreviated.
+fn put_replies_apart<const N: usize>(text: &mut Buffer<N>, wanted: &[u8], reply: &[u8])
     requires { length text.old + 48 ≤ N }
     ensures items { text.new ≡ text.old
-        ++ bytes.apart_text (bytes.bytes_word wanted.now) (bytes.bytes_word told.now) }
+        ++ bytes.apart_text (bytes.bytes_word wanted.now) (bytes.bytes_word reply.now) }
     ensures len { length text.new ≤ length text.old + 48 }
 {
     let first = bytes_word(wanted);
-    let second = bytes_word(told);
+    let second = bytes_word(reply);
     put_first_apart(text, first, second);
 }
 
-/// Appends where the bytes of two replies first differ, if one of them is abbreviated. There must be space for 48
-/// bytes.
+/// Appends the offset at which the bytes of two replies first differ, if one of the two is abbreviated. There must be
+/// space for 48 bytes.
 pub(crate) fn put_apart<const N: usize>(
     text: &mut Buffer<N>,
     form: ByteForm,
     wanted: &[u8],
-    told: &[u8],
+    reply: &[u8],
 )
     requires { length text.old + 48 ≤ N }
-    ensures items { text.new ≡ text.old ++ bytes.difference form wanted.now told.now }
+    ensures items { text.new ≡ text.old ++ bytes.difference form wanted.now reply.now }
     ensures len { length text.new ≤ length text.old + 48 }
 {
     match form {
         ByteForm::Digits => {}
-        ByteForm::Cut => put_replies_apart(text, wanted, told),
-        ByteForm::Texts => put_replies_apart(text, wanted, told),
+        ByteForm::Cut => put_replies_apart(text, wanted, reply),
+        ByteForm::Texts => put_replies_apart(text, wanted, reply),
     }
 }

@@ -19,20 +19,20 @@ const YELLOW: &[u8] = b"\x1b[33m";
 pub(crate) const ENDED: &[u8] = b"\x1b[0m";
 
 /// Returns whether the text here is a cause of a drop.
-fn tells_drop(text: &[u8]) -> bool
+fn is_drop(text: &[u8]) -> bool
     ensures { result ≡ begins_with text.now (codes "dropped ") }
 {
     begins_with(text, b"dropped ")
 }
 
-/// Returns where the causes of drops begin in the output for a line.
-fn drops_at(told: &[u8]) -> usize
-    ensures is { result ≡ forms.drops_at told.now }
-    ensures most { result ≤ length told.now }
+/// Returns the offset of the causes of drops in the output for a line.
+fn drops_at(reply: &[u8]) -> usize
+    ensures is { result ≡ forms.drops_at reply.now }
+    ensures most { result ≤ length reply.now }
 {
     let mut at = 0;
-    while at < told.len() {
-        if tells_drop(&told[at..]) {
+    while at < reply.len() {
+        if is_drop(&reply[at..]) {
             return at;
         }
         at += 1;
@@ -59,7 +59,7 @@ fn put_part<'a, const N: usize>(
     part: &'a [u8],
 )
     requires short { length colour.now ≡ 5 }
-    requires room { length text.old + (length part.now + 11) ≤ N }
+    requires space { length text.old + (length part.now + 11) ≤ N }
     ensures items { text.new ≡ text.old ++ forms.part_text colour.now form part.now }
     ensures len { length text.new ≤ length text.old + (length part.now + 11) }
 {
@@ -69,21 +69,21 @@ fn put_part<'a, const N: usize>(
 }
 
 /// Appends the output for a line, in its colours if there are colours.
-pub(crate) fn put_told<const N: usize>(
+pub(crate) fn put_coloured_reply<const N: usize>(
     text: &mut Buffer<N>,
     colours: bool,
     form: ByteForm,
-    told: &[u8],
+    reply: &[u8],
 )
-    requires { length text.old + (length told.now + 22) ≤ N }
-    ensures items { text.new ≡ text.old ++ forms.told_reply colours form told.now }
-    ensures len { length text.new ≤ length text.old + (length told.now + 22) }
+    requires { length text.old + (length reply.now + 22) ≤ N }
+    ensures items { text.new ≡ text.old ++ forms.coloured_reply colours form reply.now }
+    ensures len { length text.new ≤ length text.old + (length reply.now + 22) }
 {
     if colours {
-        let at = drops_at(told);
-        put_part(text, reply_colour(told), form, &told[..at]);
-        put_part(text, YELLOW, ByteForm::Digits, &told[at..]);
+        let at = drops_at(reply);
+        put_part(text, reply_colour(reply), form, &reply[..at]);
+        put_part(text, YELLOW, ByteForm::Digits, &reply[at..]);
     } else {
-        put_reply(text, form, told);
+        put_reply(text, form, reply);
     }
 }

@@ -27,7 +27,7 @@ impl Count {
         Count { count: 0, first: 0 }
     }
 
-    /// It comes once more, in the record of this number.
+    /// Counts one more, in the record of this number.
     pub fn once_more(self, number: u64) -> Count
         ensures { result ≡ tables.once_more number self }
     {
@@ -38,8 +38,8 @@ impl Count {
     }
 }
 
-/// Puts a line after the text that so many packets were dropped for a cause, and which record was the first; or nothing
-/// if none was.
+/// Appends a line that says how many packets were dropped for a cause, and in which record first; or nothing if none
+/// was.
 pub fn put_count<const N: usize>(text: &mut Buffer<N>, count: Count, what: &[u8])
     requires { length text.old + (length what.now + COUNT) ≤ N }
     ensures items { text.new ≡ text.old ++ drops_line count what.now }

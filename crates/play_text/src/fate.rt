@@ -16,7 +16,7 @@ pub enum Fate {
     Other,
 }
 
-/// Whether packets were dropped for a cause.
+/// Returns whether packets were dropped for a cause.
 fn is_dropped_for(why: Why, before: &Counters, after: &Counters) -> bool
     ensures { result ≡ fates.is_dropped_for before.now after.now why }
 {
@@ -35,7 +35,7 @@ pub fn drops_between(before: &Counters, after: &Counters) -> [bool; CAUSES]
     drops
 }
 
-/// Whether one of these is true.
+/// Returns whether one of these is true.
 pub fn is_any(all: &[bool]) -> bool
     ensures { result ≡ fates.is_some_true all.now }
 {
@@ -45,7 +45,7 @@ pub fn is_any(all: &[bool]) -> bool
     }
 }
 
-/// Whether a fragment is kept: it passed its test, and neither completed its datagram nor was dropped.
+/// Returns whether a fragment is kept: it passed its test, and neither completed its datagram nor was dropped.
 pub fn is_kept(before: &Counters, after: &Counters) -> bool
     ensures { result ≡ fates.is_kept before.now after.now }
 {
@@ -53,7 +53,7 @@ pub fn is_kept(before: &Counters, after: &Counters) -> bool
         && (!rose(Counter::IpReassembled, before, after) && !is_any(&drops_between(before, after)))
 }
 
-/// What happened to a packet's fragment.
+/// Returns what happened to a packet's fragment.
 pub fn fate_of(before: &Counters, after: &Counters) -> Fate
     ensures { result ≡ fates.fate_of before.now after.now }
 {

@@ -68,9 +68,9 @@ fn arp_of(body: &[u8]) -> Arp
 }
 
 /// Appends the contents of a request or a reply.
-fn put_says<const N: usize>(text: &mut Buffer<N>, arp: Arp)
+fn put_arp_words<const N: usize>(text: &mut Buffer<N>, arp: Arp)
     requires { length text.old + 174 ≤ N }
-    ensures items { text.new ≡ text.old ++ texts.arp_says arp }
+    ensures items { text.new ≡ text.old ++ texts.arp_words arp }
     ensures len { length text.new ≤ length text.old + 174 }
 {
     if arp.op == ARP_REQUEST {
@@ -99,12 +99,12 @@ fn put_says<const N: usize>(text: &mut Buffer<N>, arp: Arp)
 /// Appends the description of an ARP packet.
 fn put_arp<const N: usize>(text: &mut Buffer<N>, body: &[u8])
     requires frame { length body.now ≤ IP_MAX_PACKET }
-    requires room { length text.old + 174 ≤ N }
+    requires space { length text.old + 174 ≤ N }
     ensures items { text.new ≡ text.old ++ texts.arp_text body.now }
     ensures len { length text.new ≤ length text.old + 174 }
 {
     if is_arp(body) {
-        put_says(text, arp_of(body));
+        put_arp_words(text, arp_of(body));
     } else {
         put(
             text,
@@ -139,7 +139,7 @@ fn put_other_type<const N: usize>(text: &mut Buffer<N>, kind: u16, n: u32)
 /// Appends the description of a frame's body, which has this type.
 fn put_body<const N: usize>(text: &mut Buffer<N>, kind: u16, body: &[u8])
     requires frame { length body.now ≤ IP_MAX_PACKET }
-    requires room { length text.old + 174 ≤ N }
+    requires space { length text.old + 174 ≤ N }
     ensures items { text.new ≡ text.old ++ texts.body_text kind body.now }
     ensures len { length text.new ≤ length text.old + 174 }
 {
@@ -182,7 +182,7 @@ fn put_frame_way<const N: usize>(text: &mut Buffer<N>, source: Mac, destination:
 fn put_headed<const N: usize>(text: &mut Buffer<N>, frame: &[u8])
     requires header { ETHER_HEADER ≤ length frame.now }
     requires frame { length frame.now ≤ IP_MAX_PACKET + ETHER_HEADER }
-    requires room { length text.old + 214 ≤ N }
+    requires space { length text.old + 214 ≤ N }
     ensures items { text.new ≡ text.old ++ texts.headed_frame_text frame.now }
     ensures len { length text.new ≤ length text.old + 214 }
 {
@@ -197,7 +197,7 @@ fn put_headed<const N: usize>(text: &mut Buffer<N>, frame: &[u8])
 /// is described by its length. A frame has at most 65,549 bytes. There must be space for 214 bytes.
 pub fn put_frame<const N: usize>(text: &mut Buffer<N>, frame: &[u8])
     requires frame { length frame.now ≤ IP_MAX_PACKET + ETHER_HEADER }
-    requires room { length text.old + 214 ≤ N }
+    requires space { length text.old + 214 ≤ N }
     ensures items { text.new ≡ text.old ++ texts.frame_text frame.now }
     ensures len { length text.new ≤ length text.old + 214 }
 {

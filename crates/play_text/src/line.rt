@@ -2,7 +2,7 @@
 ghost use Rattle.std.specs.Prelude.{◌≡◌, ◌+◌, ◌*◌, ◌≤◌, ◌++◌, length};
 ghost use Rattle.play_text.specs.Texts.{expected_text, if_there, line_text, lines_text, outcome_object, outcome_text};
 
-use crate::colour::{ENDED, RED, put_told};
+use crate::colour::{ENDED, RED, put_coloured_reply};
 use crate::form::Form;
 use crate::piece::Piece::{Apart, Either, Long, Quoted, Reply, Text};
 use crate::piece::put;
@@ -16,7 +16,7 @@ pub struct Outcome<'a> {
     /// The line as it is written.
     pub line: &'a [u8],
     /// Its reply, and why packets were dropped.
-    pub told: &'a [u8],
+    pub reply: &'a [u8],
     /// The notes below it.
     pub below: &'a [u8],
     /// Whether the script has used a text, so that bytes of replies may be printed as texts.
@@ -30,10 +30,11 @@ pub struct Outcome<'a> {
 
 /// Appends a line and its output.
 fn put_line<const N: usize>(text: &mut Buffer<N>, form: Form, outcome: &Outcome<'_>)
-    requires { length text.old + (length outcome.now.line.now + length outcome.now.told.now + 49) ≤ N }
+    requires { length text.old + (length outcome.now.line.now + length outcome.now.reply.now + 49) ≤ N }
     ensures items { text.new ≡ text.old ++ line_text form outcome.now.texts outcome.now.number outcome.now.line.now
-        outcome.now.told.now }
-    ensures len { length text.new ≤ length text.old + (length outcome.now.line.now + length outcome.now.told.now + 49) }
+        outcome.now.reply.now }
+    ensures len { length text.new
+        ≤ length text.old + (length outcome.now.line.now + length outcome.now.reply.now + 49) }
 {
     if !form.is_quiet() {
         put(
@@ -46,11 +47,11 @@ fn put_line<const N: usize>(text: &mut Buffer<N>, form: Form, outcome: &Outcome<
             ],
         );
     }
-    put_told(
+    put_coloured_reply(
         text,
         form.is_coloured(),
         form.byte_form(outcome.texts),
-        outcome.told,
+        outcome.reply,
     );
     text.append(b"\n");
 }
@@ -63,10 +64,10 @@ fn put_lines<'a, const N: usize>(
     outcome: &'a Outcome<'a>,
 )
     requires { length text.old + (length name.now + length outcome.now.line.now + length outcome.now.below.now
-        + length outcome.now.wanted.now + 2 * length outcome.now.told.now + 256) ≤ N }
+        + length outcome.now.wanted.now + 2 * length outcome.now.reply.now + 256) ≤ N }
     ensures { text.new ≡ text.old ++ lines_text form outcome.now.texts name.now outcome.now.number outcome.now.line.now
         (if_there outcome.now.expects outcome.now.wanted.now) outcome.now.met
-        outcome.now.told.now outcome.now.below.now }
+        outcome.now.reply.now outcome.now.below.now }
 {
     put_line(text, form, outcome);
     text.append(outcome.below);
@@ -83,8 +84,8 @@ fn put_lines<'a, const N: usize>(
                 Text(b": expected "),
                 Reply(bytes, outcome.wanted),
                 Text(b", got "),
-                Reply(bytes, outcome.told),
-                Apart(bytes, outcome.wanted, outcome.told),
+                Reply(bytes, outcome.reply),
+                Apart(bytes, outcome.wanted, outcome.reply),
                 Either(colours, ENDED, b""),
                 Text(b"\n"),
             ],
@@ -116,11 +117,11 @@ fn put_expected<const N: usize>(text: &mut Buffer<N>, outcome: &Outcome<'_>)
 
 /// Appends a line and its output as a JSON object.
 fn put_object<'a, const N: usize>(text: &mut Buffer<N>, name: &'a [u8], outcome: &'a Outcome<'a>)
-    requires { length text.old + (6 * (length name.now + length outcome.now.line.now + length outcome.now.told.now
+    requires { length text.old + (6 * (length name.now + length outcome.now.line.now + length outcome.now.reply.now
         + length outcome.now.below.now + length outcome.now.wanted.now) + 128) ≤ N }
     ensures { text.new ≡ text.old ++ outcome_object name.now outcome.now.number outcome.now.line.now
         (if_there outcome.now.expects outcome.now.wanted.now) outcome.now.met
-        outcome.now.told.now outcome.now.below.now }
+        outcome.now.reply.now outcome.now.below.now }
 {
     put(
         text,
@@ -132,7 +133,7 @@ fn put_object<'a, const N: usize>(text: &mut Buffer<N>, name: &'a [u8], outcome:
             Text(b",\"line\":"),
             Quoted(outcome.line),
             Text(b",\"reply\":"),
-            Quoted(outcome.told),
+            Quoted(outcome.reply),
             Text(b",\"below\":"),
             Quoted(outcome.below),
         ],
@@ -150,11 +151,11 @@ pub fn put_outcome<const N: usize>(
     name: &[u8],
     outcome: &Outcome<'_>,
 )
-    requires { length text.old + (6 * (length name.now + length outcome.now.line.now + length outcome.now.told.now
+    requires { length text.old + (6 * (length name.now + length outcome.now.line.now + length outcome.now.reply.now
         + length outcome.now.below.now + length outcome.now.wanted.now) + 256) ≤ N }
     ensures { text.new ≡ text.old ++ outcome_text form outcome.now.texts name.now outcome.now.number
         outcome.now.line.now (if_there outcome.now.expects outcome.now.wanted.now) outcome.now.met
-        outcome.now.told.now outcome.now.below.now }
+        outcome.now.reply.now outcome.now.below.now }
 {
     if form.is_json() {
         put_object(text, name, outcome);

@@ -63,7 +63,7 @@ fn put_fragment<const N: usize>(text: &mut Buffer<N>, head: Head, carried: u32)
 /// Appends the description of a UDP datagram.
 fn put_datagram<const N: usize>(text: &mut Buffer<N>, head: Head, packet: &[u8])
     requires ports { 28 ≤ length packet.now }
-    requires room { length text.old + 174 ≤ N }
+    requires space { length text.old + 174 ≤ N }
     ensures items { text.new ≡ text.old ++ texts.datagram_text (plain_head head) packet.now }
     ensures len { length text.new ≤ length text.old + 174 }
 {
@@ -112,7 +112,7 @@ fn put_other<const N: usize>(text: &mut Buffer<N>, head: Head, carried: u32)
 /// Appends the description of a packet with this header.
 fn put_headed<const N: usize>(text: &mut Buffer<N>, head: Head, packet: &[u8])
     requires header { IP_HEADER ≤ length packet.now }
-    requires room { length text.old + 174 ≤ N }
+    requires space { length text.old + 174 ≤ N }
     ensures items { text.new ≡ text.old ++ texts.headed_text (plain_head head) packet.now }
     ensures len { length text.new ≤ length text.old + 174 }
 {
@@ -132,7 +132,7 @@ fn put_headed<const N: usize>(text: &mut Buffer<N>, head: Head, packet: &[u8])
 /// bytes.
 pub fn put_packet<const N: usize>(text: &mut Buffer<N>, packet: &[u8])
     requires packet { length packet.now ≤ IP_MAX_PACKET }
-    requires room { length text.old + 174 ≤ N }
+    requires space { length text.old + 174 ≤ N }
     ensures items { text.new ≡ text.old ++ texts.packet_text packet.now }
     ensures len { length text.new ≤ length text.old + 174 }
 {

@@ -40,7 +40,7 @@ pub enum Piece<'a> {
     Quoted(&'a [u8]),
     /// A reply, with its bytes in this form.
     Reply(ByteForm, &'a [u8]),
-    /// Where the bytes of two replies first differ, if one of them is abbreviated.
+    /// The offset at which the bytes of two replies first differ, if one of the two is abbreviated.
     Apart(ByteForm, &'a [u8], &'a [u8]),
 }
 
@@ -179,7 +179,7 @@ fn put_piece<const N: usize>(text: &mut Buffer<N>, piece: &Piece<'_>)
         Piece::Range(offset, n) => put_range(text, offset, n),
         Piece::Quoted(bytes) => put_string(text, bytes),
         Piece::Reply(form, reply) => put_reply(text, form, reply),
-        Piece::Apart(form, wanted, told) => put_apart(text, form, wanted, told),
+        Piece::Apart(form, wanted, reply) => put_apart(text, form, wanted, reply),
     }
 }
 

@@ -25,7 +25,7 @@ pub struct Table {
 }
 
 impl Row {
-    /// No packet was dropped for this cause.
+    /// Returns the row of a cause for which no packet was dropped.
     fn never(why: Why) -> Row
         ensures { result ≡ tables.never_for why }
     {
@@ -35,7 +35,8 @@ impl Row {
         }
     }
 
-    /// A packet came in the record of this number: it counts if it was dropped for this cause.
+    /// Returns the row after the packet in the record of this number: it counts one more if the packet was dropped for
+    /// this cause.
     fn after(self, number: u64, before: &Counters, after: &Counters) -> Row
         ensures { result ≡ tables.row_after number before.now after.now self }
     {
@@ -51,7 +52,7 @@ impl Row {
 }
 
 impl Table {
-    /// No packet was dropped.
+    /// Returns the table without any dropped packet.
     #[tactic(auto, unfolding(crate::specs::Tables::no_drops))]
     pub fn new() -> Table
         ensures { result ≡ no_drops }
@@ -64,7 +65,7 @@ impl Table {
         Table { rows }
     }
 
-    /// The packet of a record came: each cause whose counter went up counts once more.
+    /// Adds the packet of a record: each cause whose counter went up counts one more.
     #[tactic(auto, unfolding(crate::specs::Tables::drops_noted))]
     pub fn note(&mut self, number: u64, before: &Counters, after: &Counters)
         ensures { self.new ≡ drops_noted number before.now after.now self.old }
@@ -75,7 +76,7 @@ impl Table {
         }
     }
 
-    /// Puts a line after the text for each cause for which a packet was dropped: how many were, and the first record.
+    /// Appends a line for each cause for which a packet was dropped: how many were, and the first record.
     #[tactic(auto, unfolding(crate::specs::Tables::table_text))]
     pub fn put<const N: usize>(&self, text: &mut Buffer<N>)
         requires { length text.old + TABLE ≤ N }

@@ -9,7 +9,7 @@ use script_loop::Buffer;
 /// How many bytes a time has at most.
 pub const TIME: usize = 30;
 
-/// The six digits of a number below 1,000,000.
+/// Returns the six digits of a number below 1,000,000.
 #[tactic(auto, unfolding(crate::specs::Times::six_digits))]
 fn six_digits(n: u32) -> [u8; 6]
     requires { n < 1000000 }
@@ -25,8 +25,7 @@ fn six_digits(n: u32) -> [u8; 6]
     ]
 }
 
-/// Puts a time of so many nanoseconds after the text, in seconds with six digits behind the point; what is below a
-/// microsecond is cut off.
+/// Appends a time in nanoseconds as seconds with six decimals; the rest is cut off.
 #[tactic(auto, unfolding(crate::specs::Times::time_text))]
 pub fn put_time<const N: usize>(text: &mut Buffer<N>, time: u64)
     requires { length text.old + TIME ≤ N }

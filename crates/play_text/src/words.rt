@@ -34,7 +34,7 @@ pub fn causes() -> [Why; CAUSES]
     ]
 }
 
-/// A cause in words, those of its `Display`.
+/// Returns a cause in words, those of its `Display`.
 pub fn words_for(why: Why) -> &'static str
     ensures is { result.now ≡ cause_words why }
     ensures short { length result.now ≤ 40 }
@@ -61,7 +61,7 @@ pub fn words_for(why: Why) -> &'static str
     }
 }
 
-/// Whether a counter went up between two looks at a machine.
+/// Returns whether a counter went up between two looks at a machine.
 pub fn rose(counter: Counter, before: &Counters, after: &Counters) -> bool
     ensures { result ≡ words.rose counter before.now after.now }
 {

@@ -8,12 +8,12 @@ use Rattle.flat_model.specs.Scripts.Texts.{reply_text}
 use Rattle.flat_model.specs.declared.counters.Counters.{Counters}
 use Rattle.flat_model.proofs.Laws.{in_range}
 use Rattle.net_stack.specs.Stack.{StackView, state_of}
-use Rattle.play_read.specs.Asks.{Call, Writes}
+use Rattle.play_script.specs.Asks.{Call, Writes}
 use Rattle.play_show.specs.declared.snapshot.Snapshot.{Snapshot}
-use Rattle.play_script.specs.Outcomes.{told, drops_text}
+use Rattle.play_script.specs.Outcomes.{reply_line, drops_text}
 use Rattle.segment.specs.Law.{Calls}
 use Rattle.segment.specs.Segment.{SegmentView}
-use Rattle.play_wire.specs.Acts.{Outcome, Told, AreLooks, IsLineAnswered, IsStackLine, call_turn}
+use Rattle.play_wire.specs.Acts.{Outcome, Replied, AreLooks, IsLineExecuted, IsStackLine, call_turn}
 use Rattle.play_wire.specs.Inside.{IsExchanged, IsKept}
 use Rattle.play_wire.proofs.ActLemmas.{put_back}
 
@@ -30,22 +30,22 @@ counted_is a b e = ap (λ r. counts_of r a) e
 pub answered_by_call : (plain : List ℕ) (s t : StackView) (text below : List ℕ) (event : Event)
     (reply : Reply) (before after : Snapshot)
     → Writes plain (Call event) → Step (state_of s) event reply (state_of t) → AreLooks s t before after
-    → text ≡ told (reply_text reply) (drops_text before.counters after.counters)
-    → (turns : List Turn) × IsLineAnswered plain s turns (Told text below) t
+    → text ≡ reply_line (reply_text reply) (drops_text before.counters after.counters)
+    → (turns : List Turn) × IsLineExecuted plain s turns (Replied text below) t
 answered_by_call plain s t text below event reply before after asks step looks is = (
   call_turn event reply ∷ [],
   (
     Some (Call event),
     asks,
     (in_range plain event asks.form, t, step, refl),
-    (reply, before, after, refl, looks, (below, ap (λ (t : List ℕ). Told t below) is)),
+    (reply, before, after, refl, looks, (below, ap (λ (t : List ℕ). Replied t below) is)),
   ),
 )
 
 -- a line of a host, on its stack while that is handed over
 pub host_line : (place : ℕ) (plain : List ℕ) (v mid w : SegmentView) (spare s t other : StackView)
     (came : Outcome) (turns : List Turn) (b : Bool)
-    → IsExchanged place v spare mid s → IsLineAnswered plain s turns came t
+    → IsExchanged place v spare mid s → IsLineExecuted plain s turns came t
     → Choice b (IsExchanged place mid t w other) (IsKept place mid w)
     → IsStackLine place plain v (map (Calls place) turns) came w
 host_line place plain v mid w spare s t other came turns b first answered back =

@@ -21,9 +21,9 @@ use Rattle.net_stack.specs.Stack.{StackView, state_of}
 use Rattle.segment.specs.Frames.{IsErrorQueried, HasReceived}
 use Rattle.segment.specs.Law.{Act, AreActs, AgesLink, QueriesError, Calls, Ether, ReceivesFrame}
 use Rattle.segment.specs.Segment.{SegmentView, is_ether}
-use Rattle.play_wire.specs.Acts.{IsMissing, IsStackLine, Outcome, Told, Refused, call_turn}
+use Rattle.play_wire.specs.Acts.{IsMissing, IsStackLine, Outcome, Replied, Refused, call_turn}
 use Rattle.play_wire.specs.Inside.{HasCounted, HasNotCounted, IsAtHost, IsAtLink, IsAtStack, IsExchanged, IsKept, ReadsOfLink, link_asks}
-use Rattle.play_wire.specs.LinkTexts.{error_text, heard_text, neighbours_text, state_text}
+use Rattle.play_wire.specs.LinkTexts.{error_text, received_text, neighbours_text, state_text}
 use Rattle.play_wire.specs.Links.{DoesLink, IsForStack, IsHostLine, AsksLink, AsksOfLink, LinkAsk, Frame, LastError, Neighbours, Counts, Ticks, Packets, WritesLink, is_for_link, is_of_link, ticks_at}
 use Rattle.play_wire.specs.Verbs.{IsOneNumber, IsTickCount}
 use Rattle.play_forms.specs.Near.{has_name}
@@ -33,7 +33,7 @@ use Rattle.play_forms.specs.declared.command.Command.TheVariants as command
 use Rattle.std.specs.List.{find}
 use Rattle.play_wire.specs.declared.fault.Fault.TheVariants as fault
 use Rattle.play_wire.specs.declared.link_ask.LinkAsk.{LinkAsk as Asked}
-use Rattle.play_wire.specs.declared.tell_link.Counts.{Counts as HostCounts}
+use Rattle.play_wire.specs.declared.report_link.Counts.{Counts as HostCounts}
 use Rattle.play_wire.proofs.ActLemmas.{acts_append, calls_are_acts, get_set, put_back}
 
 -- ---- a line of a host
@@ -210,23 +210,23 @@ some_is f None y e = absurd (never e)
     never g = cc
 some_is f (Some x) y e = (x, refl, cc e)
 
-pub neighbours_shown : (place : ℕ) (v : SegmentView) (ns : List Neighbour) (told below : List ℕ)
+pub neighbours_shown : (place : ℕ) (v : SegmentView) (ns : List Neighbour) (reply_line below : List ℕ)
     → option_map (λ (l : LinkState). l.neighbours) (slice_get v.links place) ≡ Some ns
-    → told ≡ neighbours_text ns → IsAtLink place Neighbours v (Told told below) v
-neighbours_shown place v ns told below e is =
+    → reply_line ≡ neighbours_text ns → IsAtLink place Neighbours v (Replied reply_line below) v
+neighbours_shown place v ns reply_line below e is =
     let there = some_is (λ (l : LinkState). l.neighbours) (slice_get v.links place) ns e in
-    let text : told ≡ neighbours_text there.0.neighbours = is ∙ ap neighbours_text (sym there.2) in (
+    let text : reply_line ≡ neighbours_text there.0.neighbours = is ∙ ap neighbours_text (sym there.2) in (
       [],
-      inl (subst (λ (x : Option LinkState). DoesLink place Neighbours x v [] (Told told below) v) (sym there.1)
-          (refl, (below, ap (λ (t : List ℕ). Told t below) text), refl)),
+      inl (subst (λ (x : Option LinkState). DoesLink place Neighbours x v [] (Replied reply_line below) v) (sym there.1)
+          (refl, (below, ap (λ (t : List ℕ). Replied t below) text), refl)),
     )
 
-pub link_shown : (place : ℕ) (v : SegmentView) (state : AddressState) (told below : List ℕ)
+pub link_shown : (place : ℕ) (v : SegmentView) (state : AddressState) (reply_line below : List ℕ)
     → Some state ≡ option_map (λ (l : LinkState). address_state l.claim) (slice_get v.links place)
-    → told ≡ state_text state → IsAtLink place Counts v (Told told below) v
-link_shown place v state told below f is = by (slice_get v.links place) refl
+    → reply_line ≡ state_text state → IsAtLink place Counts v (Replied reply_line below) v
+link_shown place v state reply_line below f is = by (slice_get v.links place) refl
   where
-    by : (x : Option LinkState) → slice_get v.links place ≡ x → IsAtLink place Counts v (Told told below) v
+    by : (x : Option LinkState) → slice_get v.links place ≡ x → IsAtLink place Counts v (Replied reply_line below) v
     by None n = absurd (never (f ∙ ap (option_map (λ (l : LinkState). address_state l.claim)) n))
       where
         never : Some state ≡ None → ⊥
@@ -235,32 +235,34 @@ link_shown place v state told below f is = by (slice_get v.links place) refl
         let state_is : state ≡ address_state l.claim =
         cc (f ∙ ap (option_map (λ (l : LinkState). address_state l.claim)) n) in (
           [],
-          inl (subst (λ (x : Option LinkState). DoesLink place Counts x v [] (Told told below) v) (sym n)
-              (refl, (below, ap (λ (t : List ℕ). Told t below) (is ∙ ap state_text state_is)), refl)),
+          inl (subst (λ (x : Option LinkState). DoesLink place Counts x v [] (Replied reply_line below) v) (sym n)
+              (refl, (below, ap (λ (t : List ℕ). Replied t below) (is ∙ ap state_text state_is)), refl)),
         )
 
 -- ---- ticks
 
-pub ticked : (place n : ℕ) (v mid w : SegmentView) (told below : List ℕ) → is_some (slice_get v.links place) ≡ true
+pub ticked : (place n : ℕ) (v mid w : SegmentView) (reply_line below : List ℕ) → is_some (slice_get v.links place) ≡
+    true
     → AreActs v (map (Calls place) (replicate n (call_turn Tick Done))) mid
     → AreActs mid (replicate n (Ether (AgesLink place))) w
-    → told ≡ codes "ok" → below ≡ [] → IsAtLink place (Ticks n) v (Told told below) w
-ticked place n v mid w told below there first aged text none = by (slice_get v.links place) refl
+    → reply_line ≡ codes "ok" → below ≡ [] → IsAtLink place (Ticks n) v (Replied reply_line below) w
+ticked place n v mid w reply_line below there first aged text none = by (slice_get v.links place) refl
   where
     acts : AreActs v (ticks_at place n) w
     acts =
         acts_append v mid w (map (Calls place) (replicate n (call_turn Tick Done)))
         (replicate n (Ether (AgesLink place))) first aged
 
-    by : (x : Option LinkState) → slice_get v.links place ≡ x → IsAtLink place (Ticks n) v (Told told below) w
+    by : (x : Option LinkState) → slice_get v.links place ≡ x → IsAtLink place (Ticks n) v (Replied reply_line below) w
     by None e = absurd (never (sym (ap is_some e) ∙ there))
       where
         never : false ≡ true → ⊥
         never h = cc
     by (Some l) e = (
       ticks_at place n,
-      inl (subst (λ (x : Option LinkState). DoesLink place (Ticks n) x v (ticks_at place n) (Told told below) w)
-          (sym e) (acts, refl, ap₂ Told text none)),
+      inl (subst (λ (x : Option LinkState). DoesLink place (Ticks n) x v (ticks_at place n) (Replied reply_line below)
+          w)
+          (sym e) (acts, refl, ap₂ Replied text none)),
     )
 
 pub packets_refused : (place : ℕ) (v : SegmentView) → is_some (slice_get v.links place) ≡ true
@@ -301,19 +303,19 @@ is_there place v counts (s, l, at, stack, link) =
     both_true (nat_lt place (length v.stacks)) (nat_lt place (length v.links)) (there_lt v.stacks place s at.0)
     (there_lt v.links place l at.1)
 
-heard_so : (place : ℕ) (frame : List ℕ) (v w : SegmentView) (before after : HostCounts) (told : List ℕ)
+heard_so : (place : ℕ) (frame : List ℕ) (v w : SegmentView) (before after : HostCounts) (reply_line : List ℕ)
     → HasCounted place v before → HasReceived place frame v w → HasCounted place w after
-    → told ≡ heard_text before.stack before.link after.stack after.link
-    → IsAtLink place (Frame frame) v (Told told []) w
-heard_so place frame v w before after told (s, l, at, stack, link) is (t, m, at', stack', link') text =
-    let said : told ≡ heard_text (state_of s).counters l.tallies (state_of t).counters m.tallies =
-    text ∙ ap₂ (λ a b. heard_text a b after.stack after.link) stack link
-    ∙ ap₂ (λ a b. heard_text (state_of s).counters l.tallies a b) stack' link' in (
+    → reply_line ≡ received_text before.stack before.link after.stack after.link
+    → IsAtLink place (Frame frame) v (Replied reply_line []) w
+heard_so place frame v w before after reply_line (s, l, at, stack, link) is (t, m, at', stack', link') text =
+    let said : reply_line ≡ received_text (state_of s).counters l.tallies (state_of t).counters m.tallies =
+    text ∙ ap₂ (λ a b. received_text a b after.stack after.link) stack link
+    ∙ ap₂ (λ a b. received_text (state_of s).counters l.tallies a b) stack' link' in (
       Ether (ReceivesFrame place frame) ∷ [],
       inl (subst (λ (x : Option LinkState). DoesLink place (Frame frame) x v (Ether (ReceivesFrame place frame) ∷ [])
-          (Told told []) w)
+          (Replied reply_line []) w)
           (sym at.1)
-          (s, t, l, m, at, at', is, refl, ap (λ x. Told x []) said)),
+          (s, t, l, m, at, at', is, refl, ap (λ x. Replied x []) said)),
     )
 
 is_heard : (place : ℕ) (frame : List ℕ) (v w : SegmentView) (before : HostCounts) (b : Bool) → HasCounted place v before
@@ -322,20 +324,21 @@ is_heard : (place : ℕ) (frame : List ℕ) (v w : SegmentView) (before : HostCo
 is_heard place frame v w before b counted is choice = choice.yes (is ∙ is_there place v before counted)
 
 pub frame_heard : (place : ℕ) (frame : List ℕ) (v v' w w' : SegmentView) (before after : HostCounts) (b : Bool)
-    (told below : List ℕ)
+    (reply_line below : List ℕ)
     → v' ≡ v → HasCounted place v before → b ≡ (nat_lt place (length v'.stacks) && nat_lt place (length v'.links))
     → Choice b (HasReceived place frame v' w) (w ≡ v') → w' ≡ w → HasCounted place w after
-    → told ≡ heard_text before.stack before.link after.stack after.link → below ≡ []
-    → IsAtLink place (Frame frame) v (Told told below) w'
-frame_heard place frame v v' w w' before after b told below same counted is choice same' counted' text none =
+    → reply_line ≡ received_text before.stack before.link after.stack after.link → below ≡ []
+    → IsAtLink place (Frame frame) v (Replied reply_line below) w'
+frame_heard place frame v v' w w' before after b reply_line below same counted is choice same' counted' text none =
     let counted_so : HasCounted place v' before =
     subst (λ (x : SegmentView). HasCounted place x before) (sym same) counted in
-    let here : IsAtLink place (Frame frame) v' (Told told []) w =
-    heard_so place frame v' w before after told counted_so (is_heard place frame v' w before b counted_so is choice)
+    let here : IsAtLink place (Frame frame) v' (Replied reply_line []) w =
+    heard_so place frame v' w before after reply_line counted_so (is_heard place frame v' w before b counted_so is
+    choice)
     counted' text in
-    subst (λ (x : SegmentView). IsAtLink place (Frame frame) x (Told told below) w') same
-    (subst (λ (x : SegmentView). IsAtLink place (Frame frame) v' (Told told below) x) (sym same')
-    (subst (λ (xs : List ℕ). IsAtLink place (Frame frame) v' (Told told xs) w) (sym none) here))
+    subst (λ (x : SegmentView). IsAtLink place (Frame frame) x (Replied reply_line below) w') same
+    (subst (λ (x : SegmentView). IsAtLink place (Frame frame) v' (Replied reply_line below) x) (sym same')
+    (subst (λ (xs : List ℕ). IsAtLink place (Frame frame) v' (Replied reply_line xs) w) (sym none) here))
 
 -- a host that heard a frame is still there
 still_there : (place : ℕ) (frame : List ℕ) (v w : SegmentView) → HasReceived place frame v w → HasNotCounted place w → ⊥
@@ -361,17 +364,17 @@ frame_counted place frame v v' w w' before b same counted is choice none =
     (subst (λ (x : SegmentView). HasCounted place x before) (sym same) counted) is choice) none)
 
 pub error_asked : (place fd : ℕ) (v v' w : SegmentView) (before : HostCounts) (error : Result (Option NetFault) Errno)
-    (told below : List ℕ)
+    (reply_line below : List ℕ)
     → v' ≡ v → HasCounted place v before → IsErrorQueried place fd error v' w
-    → told ≡ error_text error → below ≡ [] → IsAtLink place (LastError fd) v (Told told below) w
-error_asked place fd v v' w before error told below same (s, l, at, stack, link) is text none =
+    → reply_line ≡ error_text error → below ≡ [] → IsAtLink place (LastError fd) v (Replied reply_line below) w
+error_asked place fd v v' w before error reply_line below same (s, l, at, stack, link) is text none =
     let is_so : IsErrorQueried place fd error v w =
     subst (λ (x : SegmentView). IsErrorQueried place fd error x w) same is in (
       Ether (QueriesError place fd error) ∷ [],
       inl (subst (λ (x : Option LinkState). DoesLink place (LastError fd) x v (Ether (QueriesError place fd error) ∷ [])
-          (Told told below) w)
+          (Replied reply_line below) w)
           (sym at.1)
-          (error, is_so, refl, ap₂ Told text none)),
+          (error, is_so, refl, ap₂ Replied text none)),
     )
 
 -- a host that is there answers

@@ -8,11 +8,11 @@ use Rattle.play_script.specs.Lines.{Reading}
 use Rattle.flat_model.specs.Amounts.Choice.{Choice}
 use Rattle.segment.specs.Law.{Act, AreActs, IsAct}
 use Rattle.segment.specs.Segment.{SegmentView}
-use Rattle.play_wire.specs.Acts.{Outcome, Told, Refused, AreLedTo, IsMissing}
+use Rattle.play_wire.specs.Acts.{Outcome, Replied, Refused, AreLedTo, IsMissing}
 use Rattle.play_wire.specs.Links.{IsHostLine}
-use Rattle.play_wire.specs.Tells.{WirePlay, DoesLine, IsByHand, IsDone, IsWaited, Tells, TellsPart, TellsTimed, added_by, next_wire_line}
+use Rattle.play_wire.specs.Reports.{WirePlay, DoesLine, IsByHand, IsDone, IsWaited, Reports, ReportsPart, ReportsTimed, added_by, next_wire_line}
 use Rattle.play_wire.specs.Wires.{AsksWire, Host}
-use Rattle.play_wire.specs.Inside.{came_of}
+use Rattle.play_wire.specs.Inside.{outcome_of}
 use Rattle.play_wire.specs.declared.fault.Fault.{Fault}
 use Rattle.play_wire.specs.declared.fault.Fault.TheVariants as fault
 
@@ -34,25 +34,26 @@ done_by_wire play named host words plain came v w old new e f is same (acts, are
     )
 
 -- a host that joined so, or not
-pub host_added : (name : List ℕ) (settings old new : List (List ℕ)) (came : Result Unit Fault) (told below : List ℕ)
+pub host_added : (name : List ℕ) (settings old new : List (List ℕ)) (came : Result Unit Fault) (reply_line below : List
+    ℕ)
     → MatchResult came (λ _. new ≡ old ++ name ∷ []) (λ _. new ≡ old)
-    → new ≡ old ++ added_by (Some (Host name settings)) (came_of came told below)
-host_added name settings old new (Ok done) told below is = is
-host_added name settings old new (Err fault) told below is = is ∙ sym (append-nil old)
+    → new ≡ old ++ added_by (Some (Host name settings)) (outcome_of came reply_line below)
+host_added name settings old new (Ok done) reply_line below is = is
+host_added name settings old new (Err fault) reply_line below is = is ∙ sym (append-nil old)
 
 pub names_kept : (old new : List (List ℕ)) → new ≡ old → new ≡ old ++ []
 names_kept old new is = is ∙ sym (append-nil old)
 
 -- packets under way by hand, which were there or not
 pub by_hand : (v w : SegmentView) (act : Act) (seen there : Bool) (came : Outcome) → IsAct v act w → seen ≡ there
-    → Choice seen (came ≡ Told (codes "ok") []) (came ≡ Refused fault.NoPacket)
+    → Choice seen (came ≡ Replied (codes "ok") []) (came ≡ Refused fault.NoPacket)
     → (acts : List Act) × AreActs v acts w × IsByHand there act acts came
-by_hand v w act seen there came did same told = (
+by_hand v w act seen there came did same reply_line = (
   act ∷ [],
   (w, did, refl),
   (
     refl,
-    subst (λ (b : Bool). Choice b (came ≡ Told (codes "ok") []) (came ≡ Refused fault.NoPacket)) same told,
+    subst (λ (b : Bool). Choice b (came ≡ Replied (codes "ok") []) (came ≡ Refused fault.NoPacket)) same reply_line,
   ),
 )
 
@@ -93,19 +94,21 @@ done_by_nobody play named host plain v old e f is none = (
 )
 
 -- a part of a line that is read so
-pub told_part : (now new : WirePlay) (host : Option (List ℕ)) (ticks before : ℕ) (read is : Reading) (acts : List Act)
-    (text : List ℕ) → read ≡ is → TellsPart now host ticks before is acts text new
-    → TellsPart now host ticks before read acts text new
-told_part now new host ticks before read is acts text same tells =
-    subst (λ (r : Reading). TellsPart now host ticks before r acts text new) (sym same) tells
+pub reported_part : (now new : WirePlay) (host : Option (List ℕ)) (ticks before : ℕ) (read is : Reading) (acts : List
+    Act)
+    (text : List ℕ) → read ≡ is → ReportsPart now host ticks before is acts text new
+    → ReportsPart now host ticks before read acts text new
+reported_part now new host ticks before read is acts text same reports =
+    subst (λ (r : Reading). ReportsPart now host ticks before r acts text new) (sym same) reports
 
 -- a line whose time was read so
-pub told_timed : (old now new : WirePlay) (line : List ℕ) (t : Result TimedView Slip) (acts : List Act) (text : List ℕ)
-    → now ≡ next_wire_line line old → t ≡ timed line → TellsTimed now line t acts text new → Tells old line text new
-told_timed old now new line t acts text counted is tells = (
+pub reported_timed : (old now new : WirePlay) (line : List ℕ) (t : Result TimedView Slip) (acts : List Act) (text : List
+    ℕ)
+    → now ≡ next_wire_line line old → t ≡ timed line → ReportsTimed now line t acts text new → Reports old line text new
+reported_timed old now new line t acts text counted is reports = (
   acts,
-  subst (λ (r : Result TimedView Slip). TellsTimed (next_wire_line line old) line r acts text new) is
-      (subst (λ (p : WirePlay). TellsTimed p line t acts text new) counted tells),
+  subst (λ (r : Result TimedView Slip). ReportsTimed (next_wire_line line old) line r acts text new) is
+      (subst (λ (p : WirePlay). ReportsTimed p line t acts text new) counted reports),
 )
 
 -- ticks that pass before a line

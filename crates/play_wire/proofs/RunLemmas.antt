@@ -10,9 +10,9 @@ use Rattle.segment.specs.Law.{Act, QueriesError, Calls, Ether, ReceivesFrame, Se
 use Rattle.segment.specs.Segment.{SegmentView}
 use Rattle.play_wire.specs.Acts.{Outcome, IsStackLine}
 use Rattle.play_wire.specs.Links.{DoesAtLink, DoesLink, IsHostLine, LinkAsk, Frame, LastError, Neighbours, Counts, Ticks, Packets}
-use Rattle.play_wire.specs.Runs.{AreToldBy, IsLawful, IsPlayed}
+use Rattle.play_wire.specs.Runs.{AreReportedBy, IsLawful, IsPlayed}
 use Rattle.play_text.specs.declared.form.Form.{Form}
-use Rattle.play_wire.specs.Tells.{WirePlay, Tells, TellsPart, TellsTimed, IsDone, IsWaited, next_wire_line, wire_started}
+use Rattle.play_wire.specs.Reports.{WirePlay, Reports, ReportsPart, ReportsTimed, IsDone, IsWaited, next_wire_line, wire_started}
 use Rattle.play_wire.proofs.ActLemmas.{acts_append, calls_are_acts}
 
 none_are : (v w : SegmentView) (acts : List Act) → acts ≡ [] → w ≡ v → AreActs v acts w
@@ -30,13 +30,13 @@ one_is v w acts act one is = subst (λ (xs : List Act). AreActs v xs w) (sym one
 
 at_link_acts : (place : ℕ) (v w : SegmentView) (acts : List Act) (came : Outcome) (ask : LinkAsk) (link : LinkState)
     → DoesAtLink place ask link v acts came w → AreActs v acts w
-at_link_acts place v w acts came (Frame frame) link (s, t, l, m, old, new, is, acts_are, told) =
+at_link_acts place v w acts came (Frame frame) link (s, t, l, m, old, new, is, acts_are, reported) =
     one_is v w acts (Ether (ReceivesFrame place frame)) acts_are is
-at_link_acts place v w acts came (LastError fd) link (error, is, acts_are, told) =
+at_link_acts place v w acts came (LastError fd) link (error, is, acts_are, reported) =
     one_is v w acts (Ether (QueriesError place fd error)) acts_are is
-at_link_acts place v w acts came Neighbours link (none, told, same) = none_are v w acts none same
-at_link_acts place v w acts came Counts link (none, told, same) = none_are v w acts none same
-at_link_acts place v w acts came (Ticks n) link (are, acts_are, told) = are
+at_link_acts place v w acts came Neighbours link (none, reported, same) = none_are v w acts none same
+at_link_acts place v w acts came Counts link (none, reported, same) = none_are v w acts none same
+at_link_acts place v w acts came (Ticks n) link (are, acts_are, reported) = are
 at_link_acts place v w acts came Packets link (none, refused, same) = none_are v w acts none same
 
 link_acts : (place : ℕ) (v w : SegmentView) (acts : List Act) (came : Outcome) (ask : LinkAsk)
@@ -68,7 +68,7 @@ waited_acts (suc n) v w acts are = are
 
 part_acts : (now new : WirePlay) (host : Option (List ℕ)) (ticks before : ℕ) (line : Reading) (acts : List Act)
     (text : List ℕ)
-    → TellsPart now host ticks before line acts text new → AreActs now.segment acts new.segment
+    → ReportsPart now host ticks before line acts text new → AreActs now.segment acts new.segment
 part_acts now new host ticks before Nothing acts text (none, is, same) =
     none_are now.segment new.segment acts none (ap (λ (p : WirePlay). p.segment) same)
 part_acts now new host ticks before TooLong acts text (none, is, same) =
@@ -83,32 +83,33 @@ part_acts now new host ticks before (Asks shown plain wanted) acts text
     (done_acts (record now { segment = mid }) host plain rest came segment names done)))
 
 timed_acts : (now new : WirePlay) (line : List ℕ) (t : Result TimedView Slip) (acts : List Act) (text : List ℕ)
-    → TellsTimed now line t acts text new → AreActs now.segment acts new.segment
+    → ReportsTimed now line t acts text new → AreActs now.segment acts new.segment
 timed_acts now new line (Err slip) acts text (none, is, same) =
     none_are now.segment new.segment acts none (ap (λ (p : WirePlay). p.segment) same)
-timed_acts now new line (Ok t) acts text (host, part, parted, tells) =
-    part_acts now new host t.ticks _ (reading_part line part) acts text tells
+timed_acts now new line (Ok t) acts text (host, part, parted, reports) =
+    part_acts now new host t.ticks _ (reading_part line part) acts text reports
 
 -- what is printed for lines, with the acts that made it
-pub told_by_acts : (old new : WirePlay) (lines : List (List ℕ)) (printed : List ℕ) → Prints Tells old lines printed new
-    → (acts : List Act) × AreToldBy old lines acts printed new × AreActs old.segment acts new.segment
-told_by_acts old new [] printed (same, none) = ([], (refl, none, same), ap (λ (p : WirePlay). p.segment) same)
-told_by_acts old new (line ∷ lines) printed (mid, text, more, (first, tells), later, joined) =
-    let rest = told_by_acts mid new lines more later in (
+pub reported_by_acts : (old new : WirePlay) (lines : List (List ℕ)) (printed : List ℕ) → Prints Reports old lines
+    printed new
+    → (acts : List Act) × AreReportedBy old lines acts printed new × AreActs old.segment acts new.segment
+reported_by_acts old new [] printed (same, none) = ([], (refl, none, same), ap (λ (p : WirePlay). p.segment) same)
+reported_by_acts old new (line ∷ lines) printed (mid, text, more, (first, reports), later, joined) =
+    let rest = reported_by_acts mid new lines more later in (
       first ++ rest.0,
-      (mid, first, rest.0, text, more, tells, rest.1, refl, joined),
+      (mid, first, rest.0, text, more, reports, rest.1, refl, joined),
       acts_append old.segment mid.segment new.segment first rest.0
-          (timed_acts (next_wire_line line old) mid line (timed line) first text tells) rest.2,
+          (timed_acts (next_wire_line line old) mid line (timed line) first text reports) rest.2,
     )
 
 pub played : (seed : ℕ) (form : Form) (name : List ℕ) (new : WirePlay) (lines : List (List ℕ)) (printed : List ℕ)
-    → ((acts : List Act) → IsLawful acts new.segment) → Prints Tells (wire_started seed form name) lines printed new
+    → ((acts : List Act) → IsLawful acts new.segment) → Prints Reports (wire_started seed form name) lines printed new
     → IsPlayed seed form name lines printed new
 played seed form name new lines printed law prints =
-    let made = told_by_acts (wire_started seed form name) new lines printed prints in
+    let made = reported_by_acts (wire_started seed form name) new lines printed prints in
     record {
       acts = made.0;
-      told = made.1;
+      reported = made.1;
       done = ((wire_started seed form name).segment, refl, made.2);
       lawful = law (Seeds seed ∷ made.0);
     }

@@ -8,16 +8,16 @@ use Rattle.net_stack.specs.Runs.{AreCalls}
 use Rattle.net_stack.specs.Stack.{StackView, state_of}
 use Rattle.play_show.specs.Changes.{IsSnapshot}
 use Rattle.play_show.specs.declared.snapshot.Snapshot.{Snapshot}
-use Rattle.play_read.specs.Asks.{Ask, Call, Ticks, Show, Capture, Settings, AsksFor}
-use Rattle.play_script.specs.Outcomes.{told, drops_text}
+use Rattle.play_script.specs.Asks.{Ask, Call, Ticks, Show, Capture, Settings, AsksFor}
+use Rattle.play_script.specs.Outcomes.{reply_line, drops_text}
 use Rattle.segment.specs.Law.{Act, Calls, AreActs}
 use Rattle.segment.specs.Segment.{SegmentView}
 use Rattle.play_wire.specs.declared.fault.Fault.{Fault}
 use Rattle.play_wire.specs.declared.fault.Fault.TheVariants as fault
 
--- What comes of a line: it's told so, with these lines below it; or it does nothing, for this reason.
+-- The outcome of a line: a reply with lines below it; or the reason why the line does nothing.
 pub data Outcome : Type 0 where
-  Told : (told below : List ℕ) → Outcome
+  Replied : (reply_line below : List ℕ) → Outcome
   Refused : (fault : Fault) → Outcome
 
 -- a call, and its reply
@@ -36,20 +36,20 @@ with_stack_at place s v = record v { stacks = slice_set v.stacks place s }
 abbrev pub AreLooks : StackView → StackView → Snapshot → Snapshot → Type 0
 AreLooks s t before after = IsSnapshot Step (state_of s) before × IsSnapshot Step (state_of t) after
 
--- this is told, with some lines below it
-abbrev pub IsTold : List ℕ → Outcome → Type 0
-IsTold text outcome = (below : List ℕ) × (outcome ≡ Told text below)
+-- this reply, with some lines below it
+abbrev pub IsReplied : List ℕ → Outcome → Type 0
+IsReplied text outcome = (below : List ℕ) × (outcome ≡ Replied text below)
 
--- What a line asks for, or nothing, is these calls, which lead a stack from s to t, and comes out so. What stands below
--- a reply isn't said.
+-- The request of a line makes these calls, which lead a stack from s to t, with this outcome; without a request it
+-- makes none. The lines below a reply aren't specified.
 abbrev pub Does : Option Ask → StackView → List Turn → Outcome → StackView → Type 0
--- The reply is told, and the causes for which packets were dropped.
+-- The text is the reply and the causes for which packets were dropped.
 Does (Some (Call event)) s turns outcome t =
     (reply : Reply) × (before after : Snapshot) × (turns ≡ call_turn event reply ∷ []) × AreLooks s t before after
-    × IsTold (told (reply_text reply) (drops_text before.counters after.counters)) outcome
-Does (Some (Ticks n)) s turns outcome t = (turns ≡ replicate n (call_turn Tick Done)) × IsTold (codes "ok") outcome
--- what is told isn't said
-Does (Some (Show topic)) s turns outcome t = (text : List ℕ) × (turns ≡ []) × IsTold text outcome
+    × IsReplied (reply_line (reply_text reply) (drops_text before.counters after.counters)) outcome
+Does (Some (Ticks n)) s turns outcome t = (turns ≡ replicate n (call_turn Tick Done)) × IsReplied (codes "ok") outcome
+-- the text isn't specified
+Does (Some (Show topic)) s turns outcome t = (text : List ℕ) × (turns ≡ []) × IsReplied text outcome
 -- no capture is played in
 Does (Some (Capture name details)) s turns outcome t = (turns ≡ []) × (outcome ≡ Refused fault.NoCapture)
 -- a host has the settings of its line `host`
@@ -57,18 +57,18 @@ Does (Some (Settings named)) s turns outcome t = (turns ≡ []) × (outcome ≡ 
 Does None s turns outcome t = (turns ≡ []) × (outcome ≡ Refused fault.Nothing)
 
 -- a line leads a stack from s to t, and comes out so
-abbrev pub IsLineAnswered : List ℕ → StackView → List Turn → Outcome → StackView → Type 0
-IsLineAnswered plain s turns outcome t =
+abbrev pub IsLineExecuted : List ℕ → StackView → List Turn → Outcome → StackView → Type 0
+IsLineExecuted plain s turns outcome t =
     (ask : Option Ask) × AsksFor plain ask × AreCalls s turns t × Does ask s turns outcome t
 
--- a line that the stack of the host at a place answers leads from v to w by these acts, and comes out so
+-- a line that the stack of the host at a place executes leads from v to w by these acts, with this outcome
 pub record IsStackLine (place : ℕ) (plain : List ℕ) (v : SegmentView) (acts : List Act)
     (outcome : Outcome) (w : SegmentView) : Type 0 where
   pub turns : List Turn
   pub before : StackView
   pub after : StackView
   pub here : slice_get v.stacks place ≡ Some before
-  pub answered : IsLineAnswered plain before turns outcome after
+  pub answered : IsLineExecuted plain before turns outcome after
   pub acts_are : acts ≡ map (Calls place) turns
   pub leads : w ≡ with_stack_at place after v
 

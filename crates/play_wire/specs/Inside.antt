@@ -6,10 +6,10 @@ use Rattle.segment.specs.Law.{Act}
 use Rattle.segment.specs.Segment.{SegmentView}
 use Rattle.play_text.specs.Texts.{if_there}
 use Rattle.play_script.specs.declared.printer.Printer.{Printer}
-use Rattle.play_wire.specs.Acts.{IsMissing, IsStackLine, Outcome, Told, Refused, with_stack_at}
+use Rattle.play_wire.specs.Acts.{IsMissing, IsStackLine, Outcome, Replied, Refused, with_stack_at}
 use Rattle.play_wire.specs.Links as links
 use Rattle.play_wire.specs.Links.{DoesLink, IsHostAt, IsHostLine}
-use Rattle.play_wire.specs.Tells.{WirePlay}
+use Rattle.play_wire.specs.Reports.{WirePlay}
 use Rattle.play_wire.specs.Wires as wires
 use Rattle.play_wire.specs.Wires.{AsksAfter}
 use Rattle.script_loop.specs.Left.{left}
@@ -20,9 +20,9 @@ use Rattle.play_wire.specs.declared.target.Target.{Target}
 use Rattle.play_forms.specs.declared.command.Command.{Command}
 use Rattle.play_wire.specs.declared.wire_ask.WireAsk.{WireAsk}
 use Rattle.play_wire.specs.declared.wire_ask.WireAsk.TheVariants as ask
-use Rattle.play_wire.specs.declared.tell_link.Counts.{Counts as HostCounts}
+use Rattle.play_wire.specs.declared.report_link.Counts.{Counts as HostCounts}
 
--- the stack of the host at a place is handed over, and this one stands there
+-- the stack of the host at a place is exchanged with this one
 abbrev pub IsExchanged : ℕ → SegmentView → StackView → SegmentView → StackView → Type 0
 IsExchanged place v s w t = (slice_get v.stacks place ≡ Some t) × (w ≡ with_stack_at place s v)
 
@@ -30,10 +30,10 @@ IsExchanged place v s w t = (slice_get v.stacks place ≡ Some t) × (w ≡ with
 abbrev pub IsKept : ℕ → SegmentView → SegmentView → Type 0
 IsKept place v w = (slice_get v.stacks place ≡ None) × (w ≡ v)
 
--- what comes of a line whose texts are reported
-abbrev pub came_of : Result Unit Fault → List ℕ → List ℕ → Outcome
-came_of (Ok done) told below = Told told below
-came_of (Err fault) told below = Refused fault
+-- the outcome of a line whose reply and lines below it are in the report
+abbrev pub outcome_of : Result Unit Fault → List ℕ → List ℕ → Outcome
+outcome_of (Ok done) reply_line below = Replied reply_line below
+outcome_of (Err fault) reply_line below = Refused fault
 
 -- the host that a line names
 abbrev pub named_by : Target → Option (List ℕ)
@@ -73,7 +73,7 @@ abbrev pub wire_asks : Option WireAsk → Option wires.WireAsk
 wire_asks (Some ask) = Some (wire_asked ask)
 wire_asks None = None
 
--- the words after this one ask for this, or for nothing
+-- the request of the words after a command, or none
 abbrev pub ReadsAfter : Command → List (List ℕ) → Option WireAsk → Type 0
 ReadsAfter asked args (Some ask) = AsksAfter asked args (wire_asked ask)
 ReadsAfter asked args None = (ask : wires.WireAsk) → AsksAfter asked args ask → ⊥
@@ -90,13 +90,13 @@ link_asked (Ticks n) = links.Ticks n
 link_asked Packets = links.Packets
 
 -- how many bytes of the room it takes
-abbrev pub room_asked : LinkAsk → ℕ
-room_asked (Frame frame) = length frame.now
-room_asked (LastError fd) = 0
-room_asked Neighbours = 0
-room_asked Counts = 0
-room_asked (Ticks n) = 0
-room_asked Packets = 0
+abbrev pub bytes_asked : LinkAsk → ℕ
+bytes_asked (Frame frame) = length frame.now
+bytes_asked (LastError fd) = 0
+bytes_asked Neighbours = 0
+bytes_asked Counts = 0
+bytes_asked (Ticks n) = 0
+bytes_asked Packets = 0
 
 abbrev pub link_asks : Option LinkAsk → Option links.LinkAsk
 link_asks (Some ask) = Some (link_asked ask)

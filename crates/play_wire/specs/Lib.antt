@@ -3,7 +3,7 @@ pub mod LinkTexts
 pub mod Links
 pub mod Verbs
 pub mod Wires
-pub mod Tells
+pub mod Reports
 pub mod Runs
 pub mod Verdicts
 pub mod Inside

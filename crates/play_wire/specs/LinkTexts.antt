@@ -9,7 +9,7 @@ use Rattle.flat_ether.specs.declared.error.NetFault.{NetFault}
 use Rattle.flat_ether.specs.declared.error.NetFault.TheVariants as net
 use Rattle.flat_ether.specs.declared.neighbour.Neighbour.{Neighbour}
 use Rattle.flat_ether.specs.declared.tallies.Tallies.{Tallies}
-use Rattle.play_script.specs.Outcomes.{told, drops_text}
+use Rattle.play_script.specs.Outcomes.{reply_line, drops_text}
 use Rattle.play_wire.specs.declared.link_count.LinkCount.{LinkCount}
 use Rattle.play_wire.specs.declared.link_count.LinkCount.TheVariants.{Ignored, Martians, BadArp, Conflicts, RepliesDropped, NoRoute, HeldDropped, Unresolved, TooLong, Echoes, Unreachable, Limited, IcmpDropped}
 
@@ -51,7 +51,7 @@ link_count Unreachable it = it.unreachable
 link_count Limited it = it.limited
 link_count IcmpDropped it = it.icmp_dropped
 
--- in the order in which they're told
+-- in the order in which they're printed
 abbrev pub all_link_counts : List LinkCount
 all_link_counts =
     Ignored
@@ -89,9 +89,9 @@ state_text state.InUse = codes "uses its address"
 -- ---- a frame, and an error
 
 -- Why the stack dropped what a frame brought, as of a packet that came, and what the link counted.
-abbrev pub heard_text : Counters → Tallies → Counters → Tallies → List ℕ
-heard_text before link_before after link_after =
-    told (codes "ok") (drops_text before after) ++ rises_text link_before link_after
+abbrev pub received_text : Counters → Tallies → Counters → Tallies → List ℕ
+received_text before link_before after link_after =
+    reply_line (codes "ok") (drops_text before after) ++ rises_text link_before link_after
 
 abbrev pub error_text : Result (Option NetFault) Errno → List ℕ
 error_text (Ok None) = codes "none"

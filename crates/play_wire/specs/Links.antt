@@ -1,4 +1,4 @@
--- What a line asks of the link of a host on an Ethernet, and what comes of it (this project's own).
+-- The requests of lines to the link of a host on an Ethernet, and their outcomes (this project's own).
 use Rattle.std.specs.Prelude.{◌≡◌, ◌≢◌, ◌⊎◌, ℕ, Bool, true, false, List, [], ◌∷◌, ◌++◌, codes, map, replicate, slice_get, Option, Some, None, Result}
 use Rattle.std.specs.List.{find}
 use Rattle.flat_ether.specs.Claims.{address_state}
@@ -11,8 +11,8 @@ use Rattle.net_stack.specs.Stack.{StackView, state_of}
 use Rattle.segment.specs.Frames.{IsErrorQueried, HasReceived}
 use Rattle.segment.specs.Law.{Act, AreActs, AgesLink, QueriesError, Calls, Ether, ReceivesFrame}
 use Rattle.segment.specs.Segment.{SegmentView}
-use Rattle.play_wire.specs.Acts.{IsStackLine, Outcome, Told, Refused, call_turn}
-use Rattle.play_wire.specs.LinkTexts.{error_text, heard_text, neighbours_text, state_text}
+use Rattle.play_wire.specs.Acts.{IsStackLine, Outcome, Replied, Refused, call_turn}
+use Rattle.play_wire.specs.LinkTexts.{error_text, received_text, neighbours_text, state_text}
 use Rattle.play_wire.specs.Verbs.{IsOneNumber, IsTickCount}
 use Rattle.play_wire.specs.declared.fault.Fault.{Fault}
 use Rattle.play_wire.specs.declared.fault.Fault.TheVariants as fault
@@ -26,19 +26,19 @@ pub data LinkAsk : Type 0 where
   LastError : (fd : ℕ) → LinkAsk  -- what others reported of a socket's datagrams
   Neighbours : LinkAsk  -- the neighbours are shown
   Counts : LinkAsk  -- the link is shown, with what it has counted
-  Ticks : (n : ℕ) → LinkAsk  -- so many ticks
+  Ticks : (n : ℕ) → LinkAsk  -- this many ticks
   Packets : LinkAsk  -- a packet comes or is taken that has no frame
 
--- ---- what a line asks for
+-- ---- the request of a line
 
--- the words after this one ask for this
+-- the words after a command are this request
 abbrev pub AsksOfLink : Command → List (List ℕ) → LinkAsk → Type 0
 AsksOfLink command.Frame args (Frame frame) = (word : List ℕ) × (args ≡ word ∷ []) × IsHex word frame
 AsksOfLink command.LastError args (LastError fd) = IsOneNumber 4294967295 args fd
 AsksOfLink command.Tick args (Ticks n) = IsTickCount args n
 AsksOfLink command.ShowOfHost args Neighbours = args ≡ codes "neighbours" ∷ []
 AsksOfLink command.ShowOfHost args Counts = args ≡ codes "link" ∷ []
--- whatever else stands behind `rx`
+-- any words after `rx`
 AsksOfLink command.Rx args Packets = args ≢ []
 AsksOfLink command.Tx args Packets = args ≡ []
 AsksOfLink _ _ _ = ⊥
@@ -48,12 +48,12 @@ WritesLink plain ask =
     (asked : Command) × (word : List ℕ) × (args : List (List ℕ)) × (words plain ≡ word ∷ args)
     × (find (has_name word) hosted_commands ≡ Some asked) × AsksOfLink asked args ask
 
--- what it asks for, if it asks for anything
+-- the request of a line, if it has one
 abbrev pub AsksLink : List ℕ → Option LinkAsk → Type 0
 AsksLink plain (Some ask) = WritesLink plain ask
 AsksLink plain None = (ask : LinkAsk) → ¬ WritesLink plain ask
 
--- what only a link is asked for
+-- only a link can execute it
 abbrev pub is_of_link : LinkAsk → Bool
 is_of_link (Frame frame) = true
 is_of_link (LastError fd) = true
@@ -62,12 +62,12 @@ is_of_link Counts = true
 is_of_link (Ticks n) = false
 is_of_link Packets = false
 
--- what a host with this link, or with none, isn't asked for as a bare stack
+-- a host with this link, or with none, doesn't execute it as a bare stack
 abbrev pub is_for_link : Option LinkState → LinkAsk → Bool
 is_for_link None ask = is_of_link ask
 is_for_link (Some link) ask = true
 
--- ---- what comes of it
+-- ---- outcomes
 
 -- the line does nothing, for this reason
 abbrev pub IsRefusal : Fault → SegmentView → List Act → Outcome → SegmentView → Type 0
@@ -75,24 +75,24 @@ IsRefusal reason v acts outcome w = (acts ≡ []) × (outcome ≡ Refused reason
 
 -- something is shown, with some lines below it, and nothing changes
 abbrev pub IsShown : List ℕ → SegmentView → List Act → Outcome → SegmentView → Type 0
-IsShown text v acts outcome w = (acts ≡ []) × ((below : List ℕ) × (outcome ≡ Told text below)) × (w ≡ v)
+IsShown text v acts outcome w = (acts ≡ []) × ((below : List ℕ) × (outcome ≡ Replied text below)) × (w ≡ v)
 
 -- the stack and the link of the host at a place
 abbrev pub IsHostAt : ℕ → SegmentView → StackView → LinkState → Type 0
 IsHostAt place v s l = (slice_get v.stacks place ≡ Some s) × (slice_get v.links place ≡ Some l)
 
--- A frame came, and it's told why what it brought was dropped, and what the link counted.
-abbrev pub IsFrameHeard : ℕ → List ℕ → SegmentView → List Act → Outcome → SegmentView → Type 0
-IsFrameHeard place frame v acts outcome w =
+-- A frame arrived. The text says why its contents were dropped, and what the link counted.
+abbrev pub IsFrameReceived : ℕ → List ℕ → SegmentView → List Act → Outcome → SegmentView → Type 0
+IsFrameReceived place frame v acts outcome w =
     (s t : StackView) × (l m : LinkState) × IsHostAt place v s l × IsHostAt place w t m × HasReceived place frame v w
     × (acts ≡ Ether (ReceivesFrame place frame) ∷ [])
-    × (outcome ≡ Told (heard_text (state_of s).counters l.tallies (state_of t).counters m.tallies) [])
+    × (outcome ≡ Replied (received_text (state_of s).counters l.tallies (state_of t).counters m.tallies) [])
 
--- the error that others reported last is told
-abbrev pub IsErrorTold : ℕ → ℕ → SegmentView → List Act → Outcome → SegmentView → Type 0
-IsErrorTold place fd v acts outcome w =
+-- the text says the last error that others reported
+abbrev pub IsErrorReported : ℕ → ℕ → SegmentView → List Act → Outcome → SegmentView → Type 0
+IsErrorReported place fd v acts outcome w =
     (error : Result (Option NetFault) Errno) × IsErrorQueried place fd error v w
-    × (acts ≡ Ether (QueriesError place fd error) ∷ []) × (outcome ≡ Told (error_text error) [])
+    × (acts ≡ Ether (QueriesError place fd error) ∷ []) × (outcome ≡ Replied (error_text error) [])
 
 -- ticks of the stack and of its link
 abbrev pub ticks_at : ℕ → ℕ → List Act
@@ -100,30 +100,30 @@ ticks_at place n = map (Calls place) (replicate n (call_turn Tick Done)) ++ repl
 
 -- what is asked of this link
 abbrev pub DoesAtLink : ℕ → LinkAsk → LinkState → SegmentView → List Act → Outcome → SegmentView → Type 0
-DoesAtLink place (Frame frame) link v acts outcome w = IsFrameHeard place frame v acts outcome w
-DoesAtLink place (LastError fd) link v acts outcome w = IsErrorTold place fd v acts outcome w
+DoesAtLink place (Frame frame) link v acts outcome w = IsFrameReceived place frame v acts outcome w
+DoesAtLink place (LastError fd) link v acts outcome w = IsErrorReported place fd v acts outcome w
 DoesAtLink place Neighbours link v acts outcome w =
     IsShown (neighbours_text link.neighbours) v acts outcome w
 DoesAtLink place Counts link v acts outcome w =
     IsShown (state_text (address_state link.claim)) v acts outcome w
 DoesAtLink place (Ticks n) link v acts outcome w =
-    AreActs v acts w × (acts ≡ ticks_at place n) × (outcome ≡ Told (codes "ok") [])
+    AreActs v acts w × (acts ≡ ticks_at place n) × (outcome ≡ Replied (codes "ok") [])
 DoesAtLink place Packets link v acts outcome w = IsRefusal fault.OnEthernet v acts outcome w
 
--- the same where there may be no link
+-- the same if there may be no link
 abbrev pub DoesLink : ℕ → LinkAsk → Option LinkState → SegmentView → List Act → Outcome → SegmentView → Type 0
 DoesLink place ask (Some link) v acts outcome w = DoesAtLink place ask link v acts outcome w
 DoesLink place ask None v acts outcome w = IsRefusal fault.NoLink v acts outcome w
 
 -- ---- a line of a host
 
--- a line that a link answers
+-- a line that a link executes
 abbrev pub IsLinkLine : ℕ → List ℕ → SegmentView → List Act → Outcome → SegmentView → Type 0
 IsLinkLine place plain v acts outcome w =
     (ask : LinkAsk) × WritesLink plain ask × (is_for_link (slice_get v.links place) ask ≡ true)
     × DoesLink place ask (slice_get v.links place) v acts outcome w
 
--- a line that no link answers: it asks a link for nothing, or a host without one as a bare stack
+-- a line that no link executes: it is no request to a link, or the host executes it as a bare stack
 abbrev pub IsForStack : ℕ → List ℕ → SegmentView → Type 0
 IsForStack place plain v =
     AsksLink plain None

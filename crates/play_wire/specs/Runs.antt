@@ -10,20 +10,20 @@ use Rattle.net_stack.specs.Stack.{StackView, state_of}
 use Rattle.segment.specs.Law.{Act, Seeds, AreActs, AreOnSegment, turns_of}
 use Rattle.segment.specs.Segment.{SegmentView, no_hosts}
 use Rattle.play_text.specs.declared.form.Form.{Form}
-use Rattle.play_wire.specs.Tells.{WirePlay, TellsBy, wire_started}
+use Rattle.play_wire.specs.Reports.{WirePlay, ReportsBy, wire_started}
 use Rattle.play_wire.specs.declared.hosts.TheConstants.{PACKETS}
 
 -- these lines have this text by these acts, one line after another
-abbrev pub AreToldBy : WirePlay → List (List ℕ) → List Act → List ℕ → WirePlay → Type 0
-AreToldBy old [] acts printed new = (acts ≡ []) × (printed ≡ []) × (new ≡ old)
-AreToldBy old (line ∷ lines) acts printed new =
+abbrev pub AreReportedBy : WirePlay → List (List ℕ) → List Act → List ℕ → WirePlay → Type 0
+AreReportedBy old [] acts printed new = (acts ≡ []) × (printed ≡ []) × (new ≡ old)
+AreReportedBy old (line ∷ lines) acts printed new =
     (mid : WirePlay) × (first rest : List Act) × (text more : List ℕ)
-    × TellsBy old line first text mid × AreToldBy mid lines rest more new
+    × ReportsBy old line first text mid × AreReportedBy mid lines rest more new
     × (acts ≡ first ++ rest) × (printed ≡ text ++ more)
 
--- The law of these acts: for each two hosts, if the first has sent fewer than 65,536 times, and no line `rx` brought
--- the second a packet with the first's address as its source, then what `recvfrom` of the second is told with that
--- address as the sender's was sent so by the first.
+-- The law of these acts: for each two hosts, if the first has sent fewer than 65,536 times, and no line `rx` gave the
+-- second a packet with the first's address as its source, then each datagram that `recvfrom` of the second returns with
+-- that address as the sender's was sent in this form by the first.
 abbrev pub IsLawful : List Act → SegmentView → Type 0
 IsLawful acts last =
     (i j : ℕ) (first second : Config) (s t : StackView) (before after : List Turn) (fd most : ℕ) (sender : Addr)
@@ -33,11 +33,11 @@ IsLawful acts last =
     → sender.ip ≡ first.addr
     → WasSent exact_ledger exact_ledger first second (turns_of i acts) before (state_of s) fd most sender bytes
 
--- What is printed for the lines of a script that begins with this seed is told by acts, line by line. With the start of
--- the generator in front, they lead from a segment without hosts to this one, and of them the law holds.
+-- What is printed for the lines of a script that begins with this seed is printed by acts, line by line. After the
+-- start of the generator, they lead from a segment without hosts to this one, and the law holds for them.
 pub record IsPlayed (seed : ℕ) (form : Form) (name : List ℕ) (lines : List (List ℕ)) (printed : List ℕ)
     (new : WirePlay) : Type 0 where
   pub acts : List Act
-  pub told : AreToldBy (wire_started seed form name) lines acts printed new
+  pub reported : AreReportedBy (wire_started seed form name) lines acts printed new
   pub done : AreActs (no_hosts PACKETS) (Seeds seed ∷ acts) new.segment
   pub lawful : IsLawful (Seeds seed ∷ acts) new.segment

@@ -4,7 +4,7 @@ use Rattle.flat_ether.specs.declared.tallies.Tallies.{Tallies}
 use Rattle.play_text.specs.Fates.{is_some_true}
 use Rattle.play_text.specs.declared.fate.Fate.{Fate}
 use Rattle.play_text.specs.declared.fate.Fate.TheVariants as fate
-use Rattle.play_show.specs.declared.changes.Became.{Became}
+use Rattle.play_show.specs.declared.changes.Effect.{Effect}
 use Rattle.play_wire.specs.LinkTexts.{all_link_counts, link_count}
 use Rattle.play_wire.specs.declared.link_count.LinkCount.{LinkCount}
 
@@ -22,7 +22,7 @@ kept_word fate.Kept = codes "kept"
 kept_word fate.Whole = codes "received"
 kept_word fate.Other = codes "received"
 
-abbrev pub word_of : Became → List ℕ
+abbrev pub word_of : Effect → List ℕ
 word_of x =
     if is_some_true x.delivered then codes "delivered" else
     if is_some_true x.drops then codes "dropped" else kept_word x.fate

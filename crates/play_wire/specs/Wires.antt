@@ -17,23 +17,23 @@ pub data WireAsk : Type 0 where
   Carry : (bound : Bound) → WireAsk  -- what waits for the links passes
   Collect : WireAsk  -- what waits for the links goes on the wire
   Deliver : WireAsk  -- what is due comes
-  Tick : (n : ℕ) → WireAsk  -- so many ticks of each host
+  Tick : (n : ℕ) → WireAsk  -- this many ticks at each host
   Seed : (seed : ℕ) → WireAsk  -- the choices start with this seed
   Drop : (at : ℕ) → WireAsk  -- a packet under way is lost
   Repeat : (at : ℕ) → WireAsk  -- it goes twice
   Swap : (at other : ℕ) → WireAsk  -- two change places
   Impair : (kind : Command) (words : List (List ℕ)) → WireAsk  -- a chance or a delay is set, by these words
   Show : WireAsk  -- what is under way is shown
-  Summary : WireAsk  -- what was counted of each host is told
+  Summary : WireAsk  -- the counters of each host
 
--- once, or so often; until nothing is left, and at most 1,000 or so many times
+-- once, or N times; until nothing is left, and at most 1,000 or N times
 abbrev pub IsBound : List (List ℕ) → Bound → Type 0
 IsBound args (Times n) = ((args ≡ []) × (n ≡ 1)) ⊎ IsOneNumber 1000000 args n
 IsBound args (Quiet n) =
     ((args ≡ codes "all" ∷ []) × (n ≡ 1000))
     ⊎ ((word : List ℕ) × (args ≡ codes "all" ∷ word ∷ []) × IsNumber 1000000 word n)
 
--- decimal digits, behind a plus or not, of a number of 64 bits
+-- decimal digits of a number of 64 bits, with or without a plus before them
 abbrev pub IsSeed : List (List ℕ) → ℕ → Type 0
 IsSeed args seed =
     (word : List ℕ) × (args ≡ word ∷ []) × IsNumeral 10 (without_leading_plus word)
@@ -43,7 +43,7 @@ abbrev pub ArePlaces : List (List ℕ) → ℕ → ℕ → Type 0
 ArePlaces args at other =
     (first second : List ℕ) × (args ≡ first ∷ second ∷ []) × IsNumber 65535 first at × IsNumber 65535 second other
 
--- the words after this one ask for this
+-- the words after a command are this request
 abbrev pub AsksAfter : Command → List (List ℕ) → WireAsk → Type 0
 -- a name that is missing is an empty word
 AsksAfter command.Host args (Host name settings) = (name ≡ get_or args 0 []) × (settings ≡ drop 1 args)
@@ -66,13 +66,13 @@ AsksAfter command.ShowWire args Show = args ≡ codes "wire" ∷ []
 AsksAfter command.Summary args Summary = args ≡ []
 AsksAfter _ _ _ = ⊥
 
--- the line asks for this
+-- the line has this request
 abbrev pub WritesWire : List ℕ → WireAsk → Type 0
 WritesWire plain ask =
     (asked : Command) × (word : List ℕ) × (args : List (List ℕ)) × (words plain ≡ word ∷ args)
     × (find (has_name word) wire_commands ≡ Some asked) × AsksAfter asked args ask
 
--- what it asks for, if it asks for anything
+-- the request of a line, if it has one
 abbrev pub AsksWire : List ℕ → Option WireAsk → Type 0
 AsksWire plain (Some ask) = WritesWire plain ask
 AsksWire plain None = (ask : WireAsk) → ¬ WritesWire plain ask

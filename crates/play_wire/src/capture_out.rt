@@ -1,4 +1,4 @@
-//! The capture of what goes on the wire.
+//! The capture of the packets on the wire.
 ghost use Rattle.segment.specs.Inside.{view};
 ghost use Rattle.play_wire.specs.Acts.{AreLedTo};
 
@@ -10,22 +10,23 @@ use play_pcap::{RECORD, WireTrace};
 use script_loop::{Buffer, Sink};
 use segment::Segment;
 
-/// A capture of the wire, and the number of the script's line by which something goes on it.
+/// A capture of the wire, and the number of the current line of the script.
 pub(crate) struct Capture<T: Sink + Drop> {
     trace: WireTrace<T>,
     pub(crate) line: u64,
 }
 
 impl<T: Sink + Drop> Capture<T> {
-    /// One that is written to this sink, of packets as long as no host is on an Ethernet.
-    pub(crate) fn begin(sink: T, room: Buffer<RECORD>) -> Capture<T> {
+    /// Returns a capture that is written to this sink, of packets until a host is on an Ethernet.
+    pub(crate) fn begin(sink: T, buffer: Buffer<RECORD>) -> Capture<T> {
         Capture {
-            trace: WireTrace::begin(LinkType::Ipv4, sink, room),
+            trace: WireTrace::begin(LinkType::Ipv4, sink, buffer),
             line: 0,
         }
     }
 
-    /// Hosts on an Ethernet give frames, and others packets. A segment has hosts of one kind alone.
+    /// Chooses the link type: frames if the hosts are on an Ethernet, otherwise packets. All hosts of a segment are of
+    /// one kind.
     pub(crate) fn choose(&mut self, segment: &Segment) {
         self.trace.choose(if segment.is_ether() {
             LinkType::Ethernet
@@ -34,21 +35,21 @@ impl<T: Sink + Drop> Capture<T> {
         });
     }
 
-    /// Lets so many ticks pass.
+    /// Lets this many ticks pass.
     pub(crate) fn tick(&mut self, count: u32) {
         for _ in 0..count {
             self.trace.tick();
         }
     }
 
-    /// Keeps a packet or a frame. One of more than 65,535 bytes isn't kept; no host gives one.
+    /// Records a packet or a frame. One of more than 65,535 bytes isn't recorded; no host sends one.
     fn keep(&mut self, bytes: &[u8]) {
         if bytes.len() <= IP_MAX_PACKET as usize {
             self.trace.keep(self.line, bytes);
         }
     }
 
-    /// Keeps the packets or frames that are under way from a place on.
+    /// Records the packets or frames in flight from a place on.
     fn keep_from(&mut self, segment: &Segment, first: usize) {
         for at in first..segment.flight_len() {
             if let Some(it) = segment.under_way(at) {
@@ -58,7 +59,7 @@ impl<T: Sink + Drop> Capture<T> {
     }
 }
 
-/// What waits for the links goes on the wire, is logged, and is kept.
+/// Sends what waits for the links onto the wire, logs it, and records it.
 pub(crate) fn collect<T: Sink + Drop>(
     capture: &mut Capture<T>,
     segment: &mut Segment,
@@ -71,7 +72,7 @@ pub(crate) fn collect<T: Sink + Drop>(
     capture.keep_from(segment, first);
 }
 
-/// Ends it. Whether the whole capture was written.
+/// Ends the capture, and returns whether all of it was written.
 pub(crate) fn end<T: Sink + Drop>(capture: Capture<T>) -> bool {
     let Capture { trace, line: _ } = capture;
     let (_sink, whole) = trace.end();

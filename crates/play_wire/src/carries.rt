@@ -1,4 +1,4 @@
-//! What waits for the links passes.
+//! Carrying what waits for the links.
 ghost use Rattle.segment.specs.Inside.{view};
 ghost use Rattle.play_wire.specs.Acts.{AreLedTo};
 
@@ -9,17 +9,17 @@ use crate::names::NAME;
 use script_loop::{Buffer, Sink};
 use segment::Segment;
 
-/// How many carries a line asks for.
+/// How many carries a line requests.
 #[derive(Clone, Copy)]
 pub(crate) enum Bound {
-    /// So many.
+    /// This many.
     Times(u32),
-    /// Until nothing is left, and at most so many.
+    /// Until nothing is left, and at most this many.
     Quiet(u32),
 }
 
-/// Carries so often. What becomes of each packet is told. Hosts on an Ethernet give what they have before, and
-/// what they answer after each carry, so that it's seen whether anything is left.
+/// Carries this often, and logs what happens to each packet. Hosts on an Ethernet transmit before the first carry and
+/// again after each one, so that it's known whether anything is left.
 pub(crate) fn carry<T: Sink + Drop>(
     segment: &mut Segment,
     bound: Bound,
@@ -33,7 +33,7 @@ pub(crate) fn carry<T: Sink + Drop>(
     carry_on(segment, bound, capture, names, log);
 }
 
-/// Carries so often, once hosts on an Ethernet gave what they have.
+/// Carries this often, once hosts on an Ethernet gave what they have.
 fn carry_on<T: Sink + Drop>(
     segment: &mut Segment,
     bound: Bound,
@@ -49,7 +49,7 @@ fn carry_on<T: Sink + Drop>(
     }
 }
 
-/// What waits for the links goes on the wire, and what is lost or goes twice is told.
+/// Sends what waits for the links onto the wire, and logs what is lost or duplicated.
 pub(crate) fn send<T: Sink + Drop>(
     segment: &mut Segment,
     capture: &mut Capture<T>,
@@ -59,10 +59,10 @@ pub(crate) fn send<T: Sink + Drop>(
     ensures { AreLedTo (view segment.old) (view segment.new) }
 {
     collect(capture, segment, log);
-    log.tell(names, segment.is_ether());
+    log.report_packets(names, segment.is_ether());
 }
 
-/// Hosts on an Ethernet give what they have.
+/// Lets the hosts on an Ethernet transmit.
 fn settle<T: Sink + Drop>(
     segment: &mut Segment,
     capture: &mut Capture<T>,
@@ -76,12 +76,12 @@ fn settle<T: Sink + Drop>(
     }
 }
 
-/// What is due comes, and is told.
+/// Delivers what is due, and logs it.
 pub(crate) fn bring(segment: &mut Segment, names: &[Buffer<NAME>], log: &mut Log)
     ensures { AreLedTo (view segment.old) (view segment.new) }
 {
     deliver(segment, log);
-    log.tell(names, segment.is_ether());
+    log.report_packets(names, segment.is_ether());
 }
 
 /// Carries once.
@@ -98,7 +98,7 @@ fn carry_once<T: Sink + Drop>(
     settle(segment, capture, names, log);
 }
 
-/// Carries so often.
+/// Carries this often.
 fn carry_times<T: Sink + Drop>(
     segment: &mut Segment,
     count: u32,
@@ -113,7 +113,7 @@ fn carry_times<T: Sink + Drop>(
     }
 }
 
-/// Carries until nothing is left, but at most so many times.
+/// Carries until nothing is left, but at most this many times.
 fn carry_all<T: Sink + Drop>(
     segment: &mut Segment,
     most: u32,

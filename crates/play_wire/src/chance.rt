@@ -9,7 +9,7 @@ const PLACES: usize = 6;
 /// The greatest number in a chance, and the longest delay.
 const MOST: u32 = 1_000_000;
 
-/// What of the chances a line sets.
+/// A setting of the wire's chances.
 #[derive(Clone, Copy)]
 pub(crate) enum Part {
     Loss(u64),
@@ -20,7 +20,7 @@ pub(crate) enum Part {
 }
 
 impl Part {
-    /// The chances with this part.
+    /// Returns the chances with this part.
     pub(crate) fn put(self, chances: Chances) -> Chances {
         match self {
             Part::Loss(loss) => Chances { loss, ..chances },
@@ -35,7 +35,7 @@ impl Part {
     }
 }
 
-/// A chance of `part` in `whole`, in parts of 2 to the 32nd, rounded down. `None` if it's none of 0 to 1.
+/// Returns a chance of `part` in `whole`, in parts of 2 to the 32nd, rounded down. `None` if it's none of 0 to 1.
 fn limit_of(part: u32, whole: u32) -> Option<u64> {
     if whole == 0 || part > whole {
         return None;
@@ -43,7 +43,7 @@ fn limit_of(part: u32, whole: u32) -> Option<u64> {
     Some((u64::from(part) << 32) / u64::from(whole))
 }
 
-/// What stands before the first such byte, and after it.
+/// Splits a word at the first such byte.
 fn cut(word: &[u8], byte: u8) -> Option<(&[u8], &[u8])> {
     let at = word.iter().position(|it| *it == byte)?;
     if at < word.len() {
@@ -53,7 +53,7 @@ fn cut(word: &[u8], byte: u8) -> Option<(&[u8], &[u8])> {
     }
 }
 
-/// The number that decimal digits write, at most six of them, with zeros in front or not.
+/// Returns the number that decimal digits write, at most six of them, with zeros in front or not.
 fn digits_in(word: &[u8]) -> Option<u32> {
     if word.is_empty() || word.len() > PLACES {
         return None;
@@ -70,7 +70,7 @@ fn digits_in(word: &[u8]) -> Option<u32> {
     Some(value)
 }
 
-/// 10 to the power of so many, at most six.
+/// Returns 10 to the power of `places`, which is at most 6.
 fn power_of_ten(places: usize) -> u32 {
     match places {
         0 => 1,
@@ -83,7 +83,7 @@ fn power_of_ten(places: usize) -> u32 {
     }
 }
 
-/// A chance that is written as a number, `0.05`, of which `of` are the whole.
+/// Parses a chance written as a number, for example `0.05`; `of` is the number for certainty.
 fn decimal(word: &[u8], of: u32) -> Option<u64> {
     match cut(word, b'.') {
         Some((front, back)) => {
@@ -98,7 +98,7 @@ fn decimal(word: &[u8], of: u32) -> Option<u64> {
     }
 }
 
-/// A chance as it's written: `10%`, `0.05` or `1/20`.
+/// Returns a chance as it's written: `10%`, `0.05` or `1/20`.
 fn chance_in(word: &[u8]) -> Option<u64> {
     if let Some((front, back)) = cut(word, b'%') {
         return if back.is_empty() {
@@ -113,7 +113,7 @@ fn chance_in(word: &[u8]) -> Option<u64> {
     }
 }
 
-/// A delay as it's written, `0-3`: the least and the most carries.
+/// Returns a delay as it's written, `0-3`: the least and the most carries.
 fn delay_in(word: &[u8]) -> Option<Part> {
     let (front, back) = cut(word, b'-')?;
     let least = number(front, MOST)?;
@@ -121,7 +121,7 @@ fn delay_in(word: &[u8]) -> Option<Part> {
     Some(Part::Delay(least, most.checked_sub(least)?))
 }
 
-/// What a line of this kind sets to this value.
+/// Returns the setting of a line of this kind with this value.
 pub(crate) fn part_in(kind: Command, value: &[u8]) -> Option<Part> {
     match kind {
         Command::Loss => Some(Part::Loss(chance_in(value)?)),

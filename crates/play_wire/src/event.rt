@@ -1,37 +1,34 @@
-//! What became of the packets of a line, in words and in objects.
+//! What happened to the packets of a line, as text and as JSON objects.
 use crate::add::{add, add_number};
 use crate::names::NAME;
-use crate::objects::{OBJECTS, Told, add_object};
+use crate::objects::{Fields, OBJECTS, add_object};
 use crate::show::name_at;
 use crate::verdict::Verdict;
 use play_show::SHOWN;
 use play_text::add_frame;
 use script_loop::Buffer;
 
-/// Room for a packet or a fate in a line.
-const LINE: usize = 512;
-
-/// What became of a packet.
+/// What happened to a packet.
 #[derive(Clone, Copy)]
 pub(crate) enum Happened {
     /// It was lost by chance.
     Lost,
-    /// A copy of it found no room on the wire.
-    NoRoom,
-    /// It went twice.
+    /// A copy of it was dropped, because the wire was full.
+    WireFull,
+    /// It was duplicated.
     Twice,
-    /// It came to the host at this place.
+    /// It arrived at the host at this place.
     Came(usize, Verdict),
 }
 
-/// What became of the packet with this number.
+/// What happened to the packet with this number.
 #[derive(Clone, Copy)]
 pub(crate) struct Event {
     pub(crate) number: usize,
     pub(crate) happened: Happened,
 }
 
-/// Puts a packet or a frame after a text, as a line with its sender.
+/// Appends a packet or a frame, as a line with its sender.
 pub(crate) fn add_packet(text: &mut Buffer<SHOWN>, name: &[u8], packet: &[u8], ether: bool) {
     add(text, b"    ");
     add(text, name);
@@ -44,12 +41,12 @@ pub(crate) fn add_packet(text: &mut Buffer<SHOWN>, name: &[u8], packet: &[u8], e
     add(text, b"\n");
 }
 
-/// Puts what became of a packet after a text, as a line.
+/// Appends what happened to a packet, as a line.
 fn add_event(text: &mut Buffer<SHOWN>, names: &[Buffer<NAME>], happened: &Happened) {
     add(text, b"        ");
     match happened {
         Happened::Lost => add(text, b"lost"),
-        Happened::NoRoom => add(text, b"lost: the wire has no room"),
+        Happened::WireFull => add(text, b"lost: the wire has no room"),
         Happened::Twice => add(text, b"sent twice"),
         Happened::Came(place, verdict) => {
             add(text, name_at(names, *place));
@@ -59,7 +56,7 @@ fn add_event(text: &mut Buffer<SHOWN>, names: &[Buffer<NAME>], happened: &Happen
     add(text, b"\n");
 }
 
-/// Puts what became of the packet with this number after a text, each in a line.
+/// Appends what happened to the packet with this number, one event a line.
 pub(crate) fn add_events(
     text: &mut Buffer<SHOWN>,
     names: &[Buffer<NAME>],
@@ -78,13 +75,13 @@ pub(crate) fn add_events(
     }
 }
 
-/// Puts an object for each thing that became of a packet after the others.
+/// Appends an object for each event of a packet.
 pub(crate) fn add_objects(
     objects: &mut Buffer<OBJECTS>,
     names: &[Buffer<NAME>],
     events: &[Event],
     at: usize,
-    told: Told<'_>,
+    fields: Fields<'_>,
 ) {
     let mut any = false;
     for event in events {
@@ -92,19 +89,19 @@ pub(crate) fn add_objects(
             any = true;
             let (to, fate, verdict) = match &event.happened {
                 Happened::Lost => (None, b"lost".as_slice(), None),
-                Happened::NoRoom => (None, b"no room".as_slice(), None),
+                Happened::WireFull => (None, b"no room".as_slice(), None),
                 Happened::Twice => (None, b"sent twice".as_slice(), None),
                 Happened::Came(place, verdict) => (Some(*place), verdict.word(), Some(verdict)),
             };
-            add_object(objects, names, &Told { to, fate, ..told }, verdict);
+            add_object(objects, names, &Fields { to, fate, ..fields }, verdict);
         }
     }
     if !any {
-        add_object(objects, names, &told, None);
+        add_object(objects, names, &fields, None);
     }
 }
 
-/// Puts when a packet is due after a text, as a line.
+/// Appends when a packet is due, as a line.
 pub(crate) fn add_due(text: &mut Buffer<SHOWN>, wait: u64) {
     if wait == 0 {
         add(text, b"        under way, due in the next carry\n");
@@ -120,9 +117,4 @@ pub(crate) fn add_due(text: &mut Buffer<SHOWN>, wait: u64) {
             b" carries\n"
         },
     );
-}
-
-/// Whether there is room for a line more.
-pub(crate) fn has_room(text: &Buffer<SHOWN>) -> bool {
-    text.len() <= SHOWN - LINE
 }

@@ -2,13 +2,13 @@
 ghost use Rattle.std.specs.Prelude.{◌≤◌, length};
 
 use net_stack::BootFault;
-use play_read::SettingFault;
+use play_script::SettingFault;
 use segment::JoinFault;
 
 /// Why a line does nothing (this project's own).
 #[derive(Clone, Copy)]
 pub(crate) enum Fault {
-    /// It asks for nothing. What it could have been is told in its place.
+    /// It has no request. Advice is printed instead.
     Nothing,
     /// No host has this name.
     NoHost,
@@ -20,7 +20,7 @@ pub(crate) enum Fault {
     Setting(SettingFault),
     /// There are 64 hosts.
     TooManyHosts,
-    /// Another host's addresses stand in the way.
+    /// Another host has one of these addresses.
     AddressTaken,
     /// There is no wire yet.
     NoWire,
@@ -50,7 +50,7 @@ pub(crate) enum Fault {
     MacTaken,
     /// Some hosts are on an Ethernet, and this one isn't, or the other way round.
     OtherLink,
-    /// It's asked of a link, and the host has none.
+    /// It's a request to a link, and the host has none.
     NoLink,
     /// It brings or takes a packet without a frame, and the host is on an Ethernet.
     OnEthernet,
@@ -90,14 +90,14 @@ impl Fault {
         }
     }
 
-    /// Why a host doesn't join.
+    /// Returns why a host doesn't join.
     pub(crate) fn of_join(fault: JoinFault) -> Fault {
         match fault {
             JoinFault::TooManyHosts => Fault::TooManyHosts,
             JoinFault::AddressTaken => Fault::AddressTaken,
             JoinFault::OtherLink => Fault::OtherLink,
             JoinFault::MacTaken => Fault::MacTaken,
-            // What else a link may lack is seen before.
+            // All other link faults were excluded before.
             JoinFault::BadLink => Fault::BadGateway,
             JoinFault::Unbooted(BootFault::Memory) => Fault::Setting(SettingFault::Memory),
             JoinFault::Unbooted(BootFault::BadSizes) => Fault::Setting(SettingFault::BadSizes),

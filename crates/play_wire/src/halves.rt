@@ -1,4 +1,4 @@
-//! What hosts with and without a link do alike.
+//! Calls on a segment for hosts with and without a link.
 ghost use Rattle.segment.specs.Inside.{view};
 ghost use Rattle.play_wire.specs.Acts.{AreLedTo};
 
@@ -7,7 +7,7 @@ use flat_model::Config;
 use segment::{JoinFault, Link, Segment};
 use std::alloc::Global;
 
-/// A host joins, on an Ethernet if it has a link.
+/// Returns a host joins, on an Ethernet if it has a link.
 pub(crate) fn join(
     segment: &mut Segment,
     alloc: Global,
@@ -22,7 +22,7 @@ pub(crate) fn join(
     }
 }
 
-/// What waits for the links goes on the wire, and is logged.
+/// Sends what waits for the links onto the wire, and logs it.
 pub(crate) fn collect(segment: &mut Segment, log: &mut Log)
     ensures { AreLedTo (view segment.old) (view segment.new) }
 {
@@ -33,7 +33,7 @@ pub(crate) fn collect(segment: &mut Segment, log: &mut Log)
     }
 }
 
-/// What is due comes, and is logged.
+/// Delivers what is due, and logs it.
 pub(crate) fn deliver(segment: &mut Segment, log: &mut Log)
     ensures { AreLedTo (view segment.old) (view segment.new) }
 {

@@ -14,8 +14,7 @@ use crate::names::{NAME, is_name, place_of};
 use crate::passed::Counted;
 use crate::spare::Spare;
 use flat_model::Config;
-use play_read::{SettingFault, settings_of};
-use play_script::DEFAULTS;
+use play_script::{DEFAULTS, SettingFault, settings_of};
 use script_loop::{Buffer, Sink, first_word};
 use segment::{Link, Segment};
 use std::alloc::{AllocError, Global};
@@ -30,16 +29,16 @@ pub(crate) struct Hosts<T: Sink + Drop> {
     pub(crate) names: Vec<Buffer<NAME>>,
     /// Whether the line `wire` was there.
     pub(crate) wired: bool,
-    /// What goes on the wire is kept here.
+    /// The capture of the wire.
     pub(crate) capture: Capture<T>,
     pub(crate) spare: Spare,
-    /// What each host has counted before a line.
+    /// The counters of each host before a line.
     pub(crate) counts: Vec<Counted>,
-    /// What passes on the wire by a line.
+    /// The log of what passes on the wire during a line.
     pub(crate) log: Log,
 }
 
-/// The configuration that the words after a host's name tell.
+/// Returns the configuration that the words after a host's name give.
 fn config_of(settings: Option<&[u8]>) -> Result<Config, Fault> {
     let Some(words) = settings else {
         return Ok(DEFAULTS);
@@ -50,7 +49,7 @@ fn config_of(settings: Option<&[u8]>) -> Result<Config, Fault> {
     }
 }
 
-/// The link that the words after a host's name tell, if they begin with `ether`, and the settings behind it.
+/// Returns the link that the words after a host's name give, if they begin with `ether`, and the settings after it.
 fn link_in(words: Option<&[u8]>, place: usize) -> Result<(Option<Link>, Option<&[u8]>), Fault> {
     let Some(text) = words else {
         return Ok((None, None));
@@ -63,7 +62,7 @@ fn link_in(words: Option<&[u8]>, place: usize) -> Result<(Option<Link>, Option<&
     Ok((Some(link), settings))
 }
 
-/// The link and the configuration that the words after a host's name tell, by its place.
+/// Returns the link and the configuration that the words after a host's name give, by its place.
 fn settings_in(words: Option<&[u8]>, place: usize) -> Result<(Option<Link>, Config), Fault> {
     let (link, settings) = link_in(words, place)?;
     let config = config_of(settings)?;
@@ -73,7 +72,7 @@ fn settings_in(words: Option<&[u8]>, place: usize) -> Result<(Option<Link>, Conf
     Ok((link, config))
 }
 
-/// Whether a word stands among these.
+/// Returns whether a word is among these.
 fn has_word(words: &[u8], wanted: &[u8]) -> bool {
     let mut rest = Some(words);
     'words: while let Some(text) = rest {
@@ -86,7 +85,7 @@ fn has_word(words: &[u8], wanted: &[u8]) -> bool {
     false
 }
 
-/// How many words there are.
+/// Returns how many words there are.
 fn count_words(words: &[u8]) -> u64 {
     let mut count = 0u64;
     let mut rest = Some(words);
@@ -98,7 +97,7 @@ fn count_words(words: &[u8]) -> u64 {
     count
 }
 
-/// Whether the words are all of these names, each once.
+/// Returns whether the words are all of these names, each once.
 fn are_all(words: &[u8], names: &[Buffer<NAME>]) -> bool {
     if count_words(words) != names.len() as u64 {
         return false;
@@ -112,7 +111,7 @@ fn are_all(words: &[u8], names: &[Buffer<NAME>]) -> bool {
 }
 
 impl<T: Sink + Drop> Hosts<T> {
-    /// No hosts, no wire, and this seed for all choices. `None` if host memory was refused.
+    /// Returns no hosts yet, with a wire of this seed. `None` if host memory is lacking.
     pub(crate) fn new(alloc: Global, seed: u64, capture: Capture<T>) -> Option<Hosts<T>>
         ensures { IfSome result (λ h. (view h.segment ≡ record (no_hosts PACKETS) { random = seeded seed })
             × (h.names.items ≡ [])) }
@@ -145,8 +144,8 @@ impl<T: Sink + Drop> Hosts<T> {
         }
     }
 
-    /// The link and the settings of a host that a line `host NAME ..` tells. Refused in this order: the word isn't a
-    /// name; there is a wire already; a host has the name; and what `link_of`, `config_of` and `check_link` refuse.
+    /// Returns the link and the configuration of a line `host NAME ..`. Errors, in this order: the word isn't a name;
+    /// there is a wire already; another host has the name; those of `link_of`, `config_of` and `check_link`.
     fn host_of(&self, name: &[u8], words: Option<&[u8]>) -> Result<(Option<Link>, Config), Fault>
         ensures { IfOk result (λ _. length name.now ≤ NAME) }
     {

@@ -1,4 +1,4 @@
-//! The lines that set what becomes of packets.
+//! The lines that set how the wire loses, delays, swaps and duplicates packets.
 ghost use Rattle.std.specs.Prelude.{◌≡◌};
 ghost use Rattle.segment.specs.Inside.{view};
 ghost use Rattle.play_wire.specs.Acts.{AreLedTo};
@@ -11,7 +11,7 @@ use play_forms::Command;
 use script_loop::{Sink, first_word, one};
 use segment::Segment;
 
-/// Sets this of what the host at a place sends.
+/// Sets this for the packets that the host at a place sends.
 fn set(segment: &mut Segment, place: usize, part: Part)
     ensures { AreLedTo (view segment.old) (view segment.new) }
 {
@@ -20,7 +20,7 @@ fn set(segment: &mut Segment, place: usize, part: Part)
     }
 }
 
-/// Sets this of what each host sends.
+/// Sets this for the packets that each host sends.
 fn set_all(segment: &mut Segment, part: Part)
     ensures { AreLedTo (view segment.old) (view segment.new) }
 {

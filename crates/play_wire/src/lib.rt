@@ -1,5 +1,5 @@
-//! Scripts of many machines: hosts with names, each of them asked by the lines of `play_script`, and one wire that
-//! joins them. What waits in their output queues passes by lines of its own: packets, or the frames of hosts on an
+//! Scripts of many machines: hosts with names, each of which executes the lines of `play_script`, and one wire that
+//! joins them. Lines of its own carry what waits in their output queues: packets, or the frames of hosts on an
 //! Ethernet.
 #![tactic(auto)]
 
@@ -23,12 +23,12 @@ mod names;
 mod objects;
 mod passed;
 mod player;
+mod report_link;
 mod runs;
 mod show;
 mod spare;
 mod summary;
 mod target;
-mod tell_link;
 mod ticks;
 mod verdict;
 mod wire_ask;

@@ -1,4 +1,4 @@
-//! The words of a line `host` that tell the link of a host on an Ethernet.
+//! The words of a line `host` that give the link of a host on an Ethernet.
 ghost use Rattle.std.specs.Prelude.{◌≡◌, ◌≤◌, [], drop, get_or, length};
 ghost use Rattle.script_loop.specs.Left.{left};
 
@@ -9,8 +9,8 @@ use request::address_of;
 use script_loop::first_word;
 use segment::{Link, Mac};
 
-/// A link before its words are read: the hardware address 02:00:00:00:00:NN, by the host's place from 1 on, and the
-/// mask 255.255.255.0.
+/// Returns a link before its words are read: the hardware address 02:00:00:00:00:NN, by the host's place from 1 on, and
+/// the mask 255.255.255.0.
 fn link_at(place: usize) -> Link {
     Link {
         mac: Mac {
@@ -23,7 +23,7 @@ fn link_at(place: usize) -> Link {
     }
 }
 
-/// The hardware address that a word writes, as 02:00:00:00:00:01, unless it's that of a group.
+/// Returns the hardware address that a word writes, as 02:00:00:00:00:01, unless it's that of a group.
 fn mac_of(word: &[u8]) -> Option<Mac> {
     let [
         a,
@@ -62,7 +62,7 @@ fn mac_of(word: &[u8]) -> Option<Mac> {
     })
 }
 
-/// The mask that a word writes: ones, and then zeros.
+/// Returns the mask that a word writes: ones, and then zeros.
 fn mask_of(word: &[u8]) -> Option<u32> {
     let mask = address_of(word)?;
     let host = !mask;
@@ -73,7 +73,7 @@ fn mask_of(word: &[u8]) -> Option<u32> {
     }
 }
 
-/// The link with what this word sets, by the word after it.
+/// Returns the link with what this word sets, by the word after it.
 fn with_word(link: Link, name: &[u8], value: &[u8]) -> Result<Link, Fault> {
     match name {
         b"mac" => match mac_of(value) {
@@ -95,7 +95,7 @@ fn with_word(link: Link, name: &[u8], value: &[u8]) -> Result<Link, Fault> {
     }
 }
 
-/// The word after a name, which is empty if none is left, and what is left after it.
+/// Returns the word after a name, which is empty if none is left, and what is left after it.
 pub(crate) fn value_in(rest: Option<&[u8]>) -> (&[u8], Option<&[u8]>)
     ensures word { result.0.now ≡ get_or (left rest.entry) 0 [] }
     ensures rest { left result.1 ≡ drop 1 (left rest.entry) }
@@ -107,8 +107,8 @@ pub(crate) fn value_in(rest: Option<&[u8]>) -> (&[u8], Option<&[u8]>)
     }
 }
 
-/// The link of the host at a place by the words after `ether`, and the settings of its stack, which begin with two
-/// dashes. Refused at the first word that is wrong: `NoLinkWord`, `BadMac`, `BadMask`, `BadGateway`.
+/// Returns the link of the host at a place by the words after `ether`, and the settings of its stack, which begin with
+/// two dashes. Refused at the first word that is wrong: `NoLinkWord`, `BadMac`, `BadMask`, `BadGateway`.
 pub(crate) fn link_of(words: Option<&[u8]>, place: usize) -> Result<(Link, Option<&[u8]>), Fault> {
     let mut link = link_at(place);
     let mut rest = words;

@@ -1,10 +1,10 @@
-//! What a line asks of a host's link: it's read once, and what it asks for is a value.
+//! The request of a line to a host's link: a line is parsed once, into a value.
 ghost use Rattle.std.specs.Prelude.{◌≡◌, ◌≤◌, IfSome, MatchOption, length, true, slice_get};
 ghost use Rattle.params.specs.declared.TheConstants.{IP_MAX_PACKET};
 ghost use Rattle.play_script.specs.Views.{plain_line};
 ghost use Rattle.script_loop.specs.Left.{left};
 ghost use Rattle.segment.specs.Inside.{view};
-ghost use Rattle.play_wire.specs.Inside.{ReadsOfLink, link_asked, link_asks, room_asked};
+ghost use Rattle.play_wire.specs.Inside.{ReadsOfLink, link_asked, link_asks, bytes_asked};
 ghost use Rattle.play_wire.specs.Links as links;
 ghost use Rattle.play_wire.specs.Links.{AsksLink, IsForStack, WritesLink, is_for_link};
 ghost use Rattle.play_forms.specs.declared.command.Command.TheVariants as command;
@@ -15,38 +15,38 @@ use play_script::{Line, bytes_of};
 use script_loop::{bytes, first_word, is_end, one};
 use segment::Segment;
 
-/// What a line asks of a link. The bytes of a frame are borrowed from the room that the line was read into.
+/// The request of a line to a link. The bytes of a frame are borrowed from the buffer into which the line was decoded.
 #[derive(Clone, Copy)]
 pub(crate) enum LinkAsk<'r> {
-    /// A frame comes.
+    /// A frame arrives.
     Frame(&'r [u8]),
-    /// What others reported of a socket's datagrams is told.
+    /// Report the last error that others reported for a socket's datagrams.
     LastError(u32),
     /// The neighbours are shown.
     Neighbours,
     /// The link is shown, with what it has counted.
     Counts,
-    /// So many ticks.
+    /// This many ticks.
     Ticks(u32),
-    /// A packet comes or is taken that has no frame.
+    /// A packet without a frame arrives or is taken.
     Packets,
 }
 
 /// `frame BYTES`.
-fn frame_of<'r>(rest: Option<&[u8]>, room: &'r mut [u8]) -> Option<LinkAsk<'r>>
-    requires { length room.old ≡ IP_MAX_PACKET }
+fn frame_of<'r>(rest: Option<&[u8]>, buffer: &'r mut [u8]) -> Option<LinkAsk<'r>>
+    requires { length buffer.old ≡ IP_MAX_PACKET }
     ensures is { ReadsOfLink command.Frame (left rest.entry) result }
-    ensures fits { IfSome result (λ ask. room_asked ask ≤ IP_MAX_PACKET) }
+    ensures fits { IfSome result (λ ask. bytes_asked ask ≤ IP_MAX_PACKET) }
 {
     let word = one(rest)?;
-    let len = bytes(word, room)?;
-    Some(LinkAsk::Frame(&room[..len]))
+    let len = bytes(word, buffer)?;
+    Some(LinkAsk::Frame(&buffer[..len]))
 }
 
 /// `error FD`.
 fn error_of(rest: Option<&[u8]>) -> Option<LinkAsk<'static>>
     ensures is { ReadsOfLink command.LastError (left rest.entry) result }
-    ensures fits { IfSome result (λ ask. room_asked ask ≤ IP_MAX_PACKET) }
+    ensures fits { IfSome result (λ ask. bytes_asked ask ≤ IP_MAX_PACKET) }
 {
     Some(LinkAsk::LastError(one_number(rest, u32::MAX)?))
 }
@@ -54,7 +54,7 @@ fn error_of(rest: Option<&[u8]>) -> Option<LinkAsk<'static>>
 /// `tick` or `tick N`.
 fn link_ticks_of(rest: Option<&[u8]>) -> Option<LinkAsk<'static>>
     ensures is { ReadsOfLink command.Tick (left rest.entry) result }
-    ensures fits { IfSome result (λ ask. room_asked ask ≤ IP_MAX_PACKET) }
+    ensures fits { IfSome result (λ ask. bytes_asked ask ≤ IP_MAX_PACKET) }
 {
     Some(LinkAsk::Ticks(ticks_of(rest)?))
 }
@@ -62,7 +62,7 @@ fn link_ticks_of(rest: Option<&[u8]>) -> Option<LinkAsk<'static>>
 /// `show neighbours` or `show link`.
 fn shown_of(rest: Option<&[u8]>) -> Option<LinkAsk<'static>>
     ensures is { ReadsOfLink command.ShowOfHost (left rest.entry) result }
-    ensures fits { IfSome result (λ ask. room_asked ask ≤ IP_MAX_PACKET) }
+    ensures fits { IfSome result (λ ask. bytes_asked ask ≤ IP_MAX_PACKET) }
 {
     let word = one(rest)?;
     if word == b"neighbours".as_slice() {
@@ -74,10 +74,10 @@ fn shown_of(rest: Option<&[u8]>) -> Option<LinkAsk<'static>>
     None
 }
 
-/// A packet that comes, with its bytes or by name.
+/// Returns the request for a packet that arrives, with its bytes or by name.
 fn coming(rest: Option<&[u8]>) -> Option<LinkAsk<'static>>
     ensures is { ReadsOfLink command.Rx (left rest.entry) result }
-    ensures fits { IfSome result (λ ask. room_asked ask ≤ IP_MAX_PACKET) }
+    ensures fits { IfSome result (λ ask. bytes_asked ask ≤ IP_MAX_PACKET) }
 {
     if is_end(rest) {
         None
@@ -86,10 +86,10 @@ fn coming(rest: Option<&[u8]>) -> Option<LinkAsk<'static>>
     }
 }
 
-/// A packet that is taken.
+/// Returns a packet that is taken.
 fn taken(rest: Option<&[u8]>) -> Option<LinkAsk<'static>>
     ensures is { ReadsOfLink command.Tx (left rest.entry) result }
-    ensures fits { IfSome result (λ ask. room_asked ask ≤ IP_MAX_PACKET) }
+    ensures fits { IfSome result (λ ask. bytes_asked ask ≤ IP_MAX_PACKET) }
 {
     if is_end(rest) {
         Some(LinkAsk::Packets)
@@ -98,14 +98,14 @@ fn taken(rest: Option<&[u8]>) -> Option<LinkAsk<'static>>
     }
 }
 
-/// What a command and the words after it ask of a link. The room has 65,535 bytes.
-fn form_of<'r>(asked: Command, rest: Option<&[u8]>, room: &'r mut [u8]) -> Option<LinkAsk<'r>>
-    requires { length room.old ≡ IP_MAX_PACKET }
+/// Returns the request of a command and the words after it to a link. The buffer has 65,535 bytes.
+fn form_of<'r>(asked: Command, rest: Option<&[u8]>, buffer: &'r mut [u8]) -> Option<LinkAsk<'r>>
+    requires { length buffer.old ≡ IP_MAX_PACKET }
     ensures is { ReadsOfLink asked (left rest.entry) result }
-    ensures fits { IfSome result (λ ask. room_asked ask ≤ IP_MAX_PACKET) }
+    ensures fits { IfSome result (λ ask. bytes_asked ask ≤ IP_MAX_PACKET) }
 {
     match asked {
-        Command::Frame => frame_of(rest, room),
+        Command::Frame => frame_of(rest, buffer),
         Command::LastError => error_of(rest),
         Command::Tick => link_ticks_of(rest),
         Command::ShowOfHost => shown_of(rest),
@@ -142,33 +142,33 @@ fn form_of<'r>(asked: Command, rest: Option<&[u8]>, room: &'r mut [u8]) -> Optio
     }
 }
 
-/// What a plain line asks of a link. The room has 65,535 bytes.
-fn ask_in<'r>(plain: &[u8], room: &'r mut [u8]) -> Option<LinkAsk<'r>>
-    requires { length room.old ≡ IP_MAX_PACKET }
+/// Returns the request of a plain line to a link. The buffer has 65,535 bytes.
+fn ask_in<'r>(plain: &[u8], buffer: &'r mut [u8]) -> Option<LinkAsk<'r>>
+    requires { length buffer.old ≡ IP_MAX_PACKET }
     ensures is { AsksLink plain.now (link_asks result) }
-    ensures fits { IfSome result (λ ask. room_asked ask ≤ IP_MAX_PACKET) }
+    ensures fits { IfSome result (λ ask. bytes_asked ask ≤ IP_MAX_PACKET) }
 {
     let (word, rest) = first_word(plain);
     match command_of(Player::Host, word) {
-        Some(asked) => form_of(asked, rest, room),
+        Some(asked) => form_of(asked, rest, buffer),
         None => None,
     }
 }
 
-/// What a line asks of a link, as `ask_in` has it.
-fn ask_of<'r>(line: &Line, room: &'r mut [u8]) -> Option<LinkAsk<'r>>
-    requires { length room.old ≡ IP_MAX_PACKET }
+/// Returns the request of a line to a link; see `ask_in`.
+fn ask_of<'r>(line: &Line, buffer: &'r mut [u8]) -> Option<LinkAsk<'r>>
+    requires { length buffer.old ≡ IP_MAX_PACKET }
     ensures is { AsksLink (plain_line line.now) (link_asks result) }
-    ensures fits { IfSome result (λ ask. room_asked ask ≤ IP_MAX_PACKET) }
+    ensures fits { IfSome result (λ ask. bytes_asked ask ≤ IP_MAX_PACKET) }
 {
     if line.named {
         Some(LinkAsk::Packets)
     } else {
-        ask_in(bytes_of(&line.words), room)
+        ask_in(bytes_of(&line.words), buffer)
     }
 }
 
-/// Whether only a link is asked for this.
+/// Returns whether only a link can execute this.
 fn is_of_link(ask: &LinkAsk<'_>) -> bool
     ensures { result ≡ links.is_of_link (link_asked ask.now) }
 {
@@ -178,7 +178,7 @@ fn is_of_link(ask: &LinkAsk<'_>) -> bool
     }
 }
 
-/// Whether the host at a place is asked for this as one with a link.
+/// Returns whether the link of the host at a place executes this.
 fn is_asked(segment: &Segment, place: usize, ask: &LinkAsk<'_>) -> bool
     ensures { result ≡ is_for_link (slice_get (view segment.now).links place) (link_asked ask.now) }
 {
@@ -188,22 +188,22 @@ fn is_asked(segment: &Segment, place: usize, ask: &LinkAsk<'_>) -> bool
     }
 }
 
-/// What a line asks of the link of the host at a place. A host without a link is asked for ticks and packets as a bare
-/// stack. The room has 65,535 bytes.
+/// Returns the request of a line to the link of the host at a place. Without a link, ticks and packets go to the stack.
+/// The buffer has 65,535 bytes.
 pub(crate) fn link_ask<'r>(
     segment: &Segment,
     place: usize,
     line: &Line,
-    room: &'r mut [u8],
+    buffer: &'r mut [u8],
 ) -> Option<LinkAsk<'r>>
-    requires { length room.old ≡ IP_MAX_PACKET }
+    requires { length buffer.old ≡ IP_MAX_PACKET }
     ensures none { MatchOption result (IsForStack place (plain_line line.now) (view segment.now))
         (λ ask. WritesLink (plain_line line.now) (link_asked ask)) }
     ensures link { IfSome result (λ ask.
         is_for_link (slice_get (view segment.now).links place) (link_asked ask) ≡ true) }
-    ensures fits { IfSome result (λ ask. room_asked ask ≤ IP_MAX_PACKET) }
+    ensures fits { IfSome result (λ ask. bytes_asked ask ≤ IP_MAX_PACKET) }
 {
-    match ask_of(line, room) {
+    match ask_of(line, buffer) {
         Some(ask) => {
             if is_asked(segment, place, &ask) {
                 Some(ask)

@@ -1,10 +1,10 @@
-//! What a host's link counts.
+//! The counters of a host's link.
 ghost use Rattle.std.specs.Prelude.{◌≡◌, ◌≤◌, length};
 ghost use Rattle.play_wire.specs.LinkTexts.{all_link_counts, link_count, link_count_name};
 
 use segment::Tallies;
 
-/// What is counted, as `Tallies` has it.
+/// A counter of a link, one of `Tallies`.
 #[derive(Clone, Copy)]
 pub(crate) enum LinkCount {
     Ignored,
@@ -22,7 +22,7 @@ pub(crate) enum LinkCount {
     IcmpDropped,
 }
 
-/// All of it, in the order in which it's told.
+/// Returns all of them, in the order in which they're printed.
 pub(crate) fn link_counts() -> [LinkCount; 13]
     ensures { result ≡ all_link_counts }
 {
@@ -66,7 +66,7 @@ impl LinkCount {
         }
     }
 
-    /// How often it was counted.
+    /// Returns the counter's value.
     pub(crate) fn value(self, tallies: &Tallies) -> u64
         ensures { result ≡ link_count self tallies.now }
     {

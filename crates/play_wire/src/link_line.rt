@@ -1,21 +1,22 @@
-//! The lines of one host that its link answers.
+//! The lines of one host that its link executes.
 ghost use Rattle.std.specs.Prelude.{◌≡◌, ◌≤◌, MatchOption, length, is_some, true, slice_get};
 ghost use Rattle.params.specs.declared.TheConstants.{IP_MAX_PACKET};
 ghost use Rattle.segment.specs.Inside.{view};
-ghost use Rattle.play_wire.specs.Inside.{HasCounted, HasNotCounted, IsAtLink, came_of, link_asked, room_asked};
+ghost use Rattle.play_wire.specs.Inside.{HasCounted, HasNotCounted, IsAtLink, outcome_of, link_asked, bytes_asked};
 ghost use Rattle.play_wire.specs.Links as links;
 
 use crate::fault::Fault;
 use crate::link_ask::LinkAsk;
+use crate::report_link::{Counts, report_error, report_frame, report_link, report_neighbours};
 use crate::spare::Counting;
 use crate::summary::counters_at;
-use crate::tell_link::{Counts, tell_error, tell_heard, tell_link, tell_neighbours};
 use crate::ticks::{age_link, exchange, tick_stack};
 use net_stack::Stack;
 use play_script::Report;
 use segment::Segment;
 
-/// What the host at a place has counted. Nothing changes. `None` if there is no such host with a link.
+/// Returns the counters of the host at a place and of its link. Nothing changes. `None` if there is no such host with a
+/// link.
 fn counts_at(segment: &mut Segment, spare: &mut Stack, place: usize) -> Option<Counts>
     ensures same { view segment.new ≡ view segment.old }
     ensures counts { MatchOption result (HasNotCounted place (view segment.old))
@@ -30,7 +31,7 @@ fn counts_at(segment: &mut Segment, spare: &mut Stack, place: usize) -> Option<C
     Some(Counts { stack, link })
 }
 
-/// `frame BYTES`: a frame comes to the host at a place, which has to have a link.
+/// `frame BYTES`: gives a frame to the host at a place, which must have a link.
 fn hear(
     segment: &mut Segment,
     counting: &mut Counting,
@@ -41,7 +42,7 @@ fn hear(
     requires fits { length frame.now ≤ IP_MAX_PACKET }
     requires link { is_some (slice_get (view segment.old).links place) ≡ true }
     ensures { IsAtLink place (links.Frame frame.now) (view segment.old)
-        (came_of result report.new.told report.new.below) (view segment.new) }
+        (outcome_of result report.new.reply_line report.new.below) (view segment.new) }
 {
     let Some(before) = counts_at(segment, &mut counting.stack, place) else {
         return Err(Fault::NoHost);
@@ -50,15 +51,14 @@ fn hear(
     match counts_at(segment, &mut counting.stack, place) {
         Some(after) => {
             report.below.clear();
-            tell_heard(&mut report.told, &mut counting.drops, &before, &after);
+            report_frame(&mut report.reply_line, &mut counting.drops, &before, &after);
             Ok(())
         }
         None => Err(Fault::NoHost),
     }
 }
 
-/// `error FD`: what others reported of the datagrams of a socket of the host at a place is told. The host has to have a
-/// link.
+/// `error FD`: reports the last error that others reported for a socket of the host at a place, which must have a link.
 fn ask_error(
     segment: &mut Segment,
     spare: &mut Stack,
@@ -68,7 +68,7 @@ fn ask_error(
 ) -> Result<(), Fault>
     requires { is_some (slice_get (view segment.old).links place) ≡ true }
     ensures { IsAtLink place (links.LastError fd) (view segment.old)
-        (came_of result report.new.told report.new.below) (view segment.new) }
+        (outcome_of result report.new.reply_line report.new.below) (view segment.new) }
 {
     let Some(_) = counts_at(segment, spare, place) else {
         return Err(Fault::NoHost);
@@ -76,7 +76,7 @@ fn ask_error(
     match segment.last_error(place, fd) {
         Some(error) => {
             report.below.clear();
-            tell_error(&mut report.told, error);
+            report_error(&mut report.reply_line, error);
             Ok(())
         }
         None => Err(Fault::NoHost),
@@ -86,13 +86,13 @@ fn ask_error(
 /// `show neighbours`: those of the host at a place are shown.
 fn show_neighbours(segment: &Segment, place: usize, report: &mut Report) -> Result<(), Fault>
     ensures { IsAtLink place links.Neighbours (view segment.now)
-        (came_of result report.new.told report.new.below) (view segment.now) }
+        (outcome_of result report.new.reply_line report.new.below) (view segment.now) }
 {
     let Some(neighbours) = segment.neighbours(place) else {
         return Err(Fault::NoLink);
     };
-    tell_neighbours(
-        &mut report.told,
+    report_neighbours(
+        &mut report.reply_line,
         &mut report.below,
         segment,
         place,
@@ -104,7 +104,7 @@ fn show_neighbours(segment: &Segment, place: usize, report: &mut Report) -> Resu
 /// `show link`: the link of the host at a place is shown.
 fn show_link(segment: &Segment, place: usize, report: &mut Report) -> Result<(), Fault>
     ensures { IsAtLink place links.Counts (view segment.now)
-        (came_of result report.new.told report.new.below) (view segment.now) }
+        (outcome_of result report.new.reply_line report.new.below) (view segment.now) }
 {
     let Some(link) = segment.link(place) else {
         return Err(Fault::NoLink);
@@ -115,11 +115,17 @@ fn show_link(segment: &Segment, place: usize, report: &mut Report) -> Result<(),
     let Some(tallies) = segment.link_tallies(place) else {
         return Err(Fault::NoLink);
     };
-    tell_link(&mut report.told, &mut report.below, state, &link, &tallies);
+    report_link(
+        &mut report.reply_line,
+        &mut report.below,
+        state,
+        &link,
+        &tallies,
+    );
     Ok(())
 }
 
-/// `tick N`: so many ticks pass at the host at a place, and at its link, which it has to have.
+/// `tick N`: lets N ticks pass at the host at a place and at its link, which it must have.
 fn tick(
     segment: &mut Segment,
     spare: &mut Stack,
@@ -129,13 +135,13 @@ fn tick(
 ) -> Result<(), Fault>
     requires { is_some (slice_get (view segment.old).links place) ≡ true }
     ensures { IsAtLink place (links.Ticks count) (view segment.old)
-        (came_of result report.new.told report.new.below) (view segment.new) }
+        (outcome_of result report.new.reply_line report.new.below) (view segment.new) }
 {
     if exchange(segment, place, spare) {
         tick_stack(spare, count);
         exchange(segment, place, spare);
         age_link(segment, place, count);
-        report.tell_ok();
+        report.set_ok();
         Ok(())
     } else {
         Err(Fault::NoHost)
@@ -143,17 +149,17 @@ fn tick(
 }
 
 /// Does what a line asks of the link of the host at a place, which has one.
-fn answer_there(
+fn execute_there(
     segment: &mut Segment,
     counting: &mut Counting,
     place: usize,
     ask: LinkAsk<'_>,
     report: &mut Report,
 ) -> Result<(), Fault>
-    requires fits { room_asked ask ≤ IP_MAX_PACKET }
+    requires fits { bytes_asked ask ≤ IP_MAX_PACKET }
     requires link { is_some (slice_get (view segment.old).links place) ≡ true }
     ensures { IsAtLink place (link_asked ask.entry) (view segment.old)
-        (came_of result report.new.told report.new.below) (view segment.new) }
+        (outcome_of result report.new.reply_line report.new.below) (view segment.new) }
 {
     match ask {
         LinkAsk::Frame(frame) => hear(segment, counting, place, frame, report),
@@ -165,20 +171,20 @@ fn answer_there(
     }
 }
 
-/// Does what a line asks of the link of the host at a place, and reports what is told of it.
-pub(crate) fn answer_link(
+/// Executes a line on the link of the host at a place, and reports its reply.
+pub(crate) fn execute_link(
     segment: &mut Segment,
     counting: &mut Counting,
     place: usize,
     ask: LinkAsk<'_>,
     report: &mut Report,
 ) -> Result<(), Fault>
-    requires { room_asked ask ≤ IP_MAX_PACKET }
+    requires { bytes_asked ask ≤ IP_MAX_PACKET }
     ensures { IsAtLink place (link_asked ask.entry) (view segment.old)
-        (came_of result report.new.told report.new.below) (view segment.new) }
+        (outcome_of result report.new.reply_line report.new.below) (view segment.new) }
 {
     match segment.link(place) {
-        Some(_) => answer_there(segment, counting, place, ask, report),
+        Some(_) => execute_there(segment, counting, place, ask, report),
         None => Err(Fault::NoLink),
     }
 }

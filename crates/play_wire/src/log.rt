@@ -1,11 +1,11 @@
-//! What passes on the wire by a line, and what is told of it.
+//! The log of what passes on the wire during a line.
 ghost use Rattle.std.specs.Prelude.{◌≤◌};
 ghost use Rattle.params.specs.declared.TheConstants.{MAX_MTU};
 
 use crate::add::{add, add_number};
-use crate::event::{Event, Happened, add_due, add_events, add_objects, add_packet, has_room};
+use crate::event::{Event, Happened, add_due, add_events, add_objects, add_packet};
 use crate::names::NAME;
-use crate::objects::{OBJECTS, Told, add_more, add_object, add_sent, has_room as has_room_for};
+use crate::objects::{Fields, OBJECTS, add_more, add_object, add_sent, has_room};
 use crate::show::name_at;
 use crate::verdict::{Look, Verdict};
 use net_stack::Stack;
@@ -16,72 +16,76 @@ use script_loop::Buffer;
 use segment::{Fate, MAX_HOSTS, Segment, Tallies, UnderWay, Watch};
 use std::alloc::{AllocError, Global};
 
-/// The most packets of each half of a carry that are told in words.
+/// The most packets of each half of a carry that are printed as text.
 const MOST: usize = 64;
 
-/// The most packets of each half of a carry that are kept.
+/// The most packets of each half of a carry that are logged.
 const KEPT: usize = 256;
 
-/// The most fates of these packets that are told.
+/// The most events of these packets that are logged.
 const FATES: usize = 4096;
 
-/// The room for a packet of any link.
-const ROOM: usize = MAX_MTU as usize;
+/// The size of a packet of any link.
+const OUTPUT: usize = MAX_MTU as usize;
 
 /// A packet or a frame that went or came.
 #[derive(Clone, Copy)]
 struct Packet {
     sender: usize,
     len: usize,
-    room: [u8; ROOM],
+    buffer: [u8; OUTPUT],
     ghost within: { len ≤ MAX_MTU },
 }
 
 impl Packet {
     fn of(sender: usize, packet: &[u8]) -> Packet {
-        let mut room = [0; ROOM];
-        let len = packet.len().min(ROOM);
-        room[..len].copy_from_slice(&packet[..len]);
-        Packet { sender, len, room }
+        let mut buffer = [0; OUTPUT];
+        let len = packet.len().min(OUTPUT);
+        buffer[..len].copy_from_slice(&packet[..len]);
+        Packet {
+            sender,
+            len,
+            buffer,
+        }
     }
 
     fn bytes(&self) -> &[u8] {
-        &self.room[..self.len]
+        &self.buffer[..self.len]
     }
 }
 
-/// What passes on the wire by a line, and what is told of it.
+/// The log of what passes on the wire during a line, and its text.
 #[derive(Drop)]
 pub(crate) struct Log {
-    /// Whether nothing is told.
+    /// Whether nothing is logged.
     quiet: bool,
-    /// Whether objects are told too.
+    /// Whether JSON objects are written too.
     json: bool,
     /// The number of the line.
     number: u64,
-    /// The packets of a half of a carry, and what became of them.
+    /// The packets of half a carry, and what happened to them.
     packets: Vec<Packet>,
     events: Vec<Event>,
     /// How many packets of each host went once, by the places of the hosts.
     sent: [u64; MAX_HOSTS],
-    /// How many packets were told in words, and how many more there were.
-    told: usize,
+    /// How many packets were printed as text, and how many more there were.
+    printed: usize,
     more: u64,
     /// Whether an object is missing.
     partial: bool,
     /// The host to which a packet is about to come.
     before: Option<Look>,
-    /// Whether the line moves packets, and whether some of them weren't told in words.
+    /// Whether the line moves packets, and whether some of them weren't printed as text.
     moved: bool,
     pub(crate) missed: bool,
-    /// What is told.
+    /// The text.
     pub(crate) text: Buffer<SHOWN>,
-    /// The same in objects.
+    /// The same as JSON objects.
     pub(crate) objects: Buffer<OBJECTS>,
 }
 
 impl Log {
-    /// Of no line.
+    /// Allocates the memory for a log; it's empty.
     pub(crate) fn new(alloc: Global) -> Result<Log, AllocError> {
         Ok(Log {
             quiet: true,
@@ -90,7 +94,7 @@ impl Log {
             packets: Vec::with_capacity(alloc, KEPT)?,
             events: Vec::with_capacity(alloc, FATES)?,
             sent: [0; MAX_HOSTS],
-            told: 0,
+            printed: 0,
             more: 0,
             partial: false,
             before: None,
@@ -101,7 +105,7 @@ impl Log {
         })
     }
 
-    /// The line with this number begins, and what it moves is told in this form.
+    /// Begins the line with this number, whose packets are printed in this form.
     pub(crate) fn set_line(&mut self, number: u64, form: Form) {
         self.quiet = form.is_quiet();
         self.json = matches!(form, Form::Json);
@@ -118,12 +122,12 @@ impl Log {
         self.packets.clear();
         self.events.clear();
         self.sent = [0; MAX_HOSTS];
-        self.told = 0;
+        self.printed = 0;
         self.more = 0;
         self.partial = false;
     }
 
-    /// Keeps a packet. Whether there is room for it.
+    /// Logs a packet, and returns whether there was space for it.
     fn keep(&mut self, sender: usize, packet: &[u8]) -> bool {
         if self.packets.len() < self.packets.capacity() {
             self.packets.push_reserved(Packet::of(sender, packet));
@@ -133,14 +137,14 @@ impl Log {
         false
     }
 
-    /// Counts a packet that goes once.
+    /// Counts a packet that is sent once.
     fn count_sent(&mut self, sender: usize) {
         if self.json && sender < MAX_HOSTS {
             self.sent[sender] = self.sent[sender].saturating_add(1);
         }
     }
 
-    /// Keeps what became of the packet with this number, if it's kept.
+    /// Logs what happened to the packet with this number, if it's logged.
     fn note(&mut self, number: usize, happened: Happened) {
         if number < self.packets.len() && self.events.len() < self.events.capacity() {
             self.events.push_reserved(Event { number, happened });
@@ -149,31 +153,31 @@ impl Log {
         }
     }
 
-    /// Tells all packets that are kept, and what became of them, and forgets them.
-    pub(crate) fn tell(&mut self, names: &[Buffer<NAME>], ether: bool) {
-        self.tell_sent(names);
+    /// Writes all logged packets and what happened to them, and clears the log.
+    pub(crate) fn report_packets(&mut self, names: &[Buffer<NAME>], ether: bool) {
+        self.report_sent(names);
         for number in 0..self.packets.len() {
-            self.tell_packet(names, ether, number);
+            self.report_packet(names, ether, number);
         }
-        self.tell_more();
+        self.report_more();
         self.clear();
         self.moved = true;
     }
 
-    /// Tells how many packets went, in objects.
-    fn tell_sent(&mut self, names: &[Buffer<NAME>]) {
+    /// Writes how many packets were sent, as objects.
+    fn report_sent(&mut self, names: &[Buffer<NAME>]) {
         for place in 0..MAX_HOSTS {
             let count = self.sent[place];
-            if count != 0 && has_room_for(&self.objects) {
+            if count != 0 && has_room(&self.objects) {
                 add_sent(&mut self.objects, self.number, name_at(names, place), count);
             }
         }
     }
 
-    /// Tells the packet with this number, and what became of it.
-    fn tell_packet(&mut self, names: &[Buffer<NAME>], ether: bool, number: usize) {
+    /// Writes the packet with this number, and what happened to it.
+    fn report_packet(&mut self, names: &[Buffer<NAME>], ether: bool, number: usize) {
         if let Some(packet) = self.packets.get(number) {
-            let told = Told {
+            let fields = Fields {
                 number: self.number,
                 from: packet.sender,
                 to: None,
@@ -182,11 +186,11 @@ impl Log {
                 wait: 0,
             };
             let events = self.events.as_slice();
-            if self.json && has_room_for(&self.objects) {
-                add_objects(&mut self.objects, names, events, number, told);
+            if self.json && has_room(&self.objects) {
+                add_objects(&mut self.objects, names, events, number, fields);
             }
-            if self.told < MOST && has_room(&self.text) {
-                self.told += 1;
+            if self.printed < MOST {
+                self.printed += 1;
                 let name = name_at(names, packet.sender);
                 add_packet(&mut self.text, name, packet.bytes(), ether);
                 add_events(&mut self.text, names, events, number);
@@ -196,23 +200,23 @@ impl Log {
         }
     }
 
-    /// Tells that there were more packets.
-    fn tell_more(&mut self) {
+    /// Writes that there were more packets.
+    fn report_more(&mut self) {
         if self.more != 0 {
             self.missed = true;
             add(&mut self.text, b"    and ");
             add_number(&mut self.text, self.more);
             add(&mut self.text, b" more\n");
         }
-        if self.json && (self.partial || !has_room_for(&self.objects)) {
+        if self.json && (self.partial || !has_room(&self.objects)) {
             add_more(&mut self.objects, self.number);
         }
     }
 
-    /// Tells a packet that is under way.
-    fn tell_under_way(&mut self, names: &[Buffer<NAME>], ether: bool, it: &UnderWay<'_>) {
-        if self.json && has_room_for(&self.objects) {
-            let told = Told {
+    /// Writes a packet that is in flight.
+    fn report_in_flight(&mut self, names: &[Buffer<NAME>], ether: bool, it: &UnderWay<'_>) {
+        if self.json && has_room(&self.objects) {
+            let fields = Fields {
                 number: self.number,
                 from: it.sender,
                 to: None,
@@ -220,10 +224,10 @@ impl Log {
                 fate: b"under way",
                 wait: it.wait,
             };
-            add_object(&mut self.objects, names, &told, None);
+            add_object(&mut self.objects, names, &fields, None);
         }
-        if self.told < MOST && has_room(&self.text) {
-            self.told += 1;
+        if self.printed < MOST {
+            self.printed += 1;
             add_packet(&mut self.text, name_at(names, it.sender), it.packet, ether);
             add_due(&mut self.text, it.wait);
         } else {
@@ -231,17 +235,17 @@ impl Log {
         }
     }
 
-    /// Tells what is still under way, if the line moves packets.
-    pub(crate) fn tell_left(&mut self, segment: &Segment, names: &[Buffer<NAME>]) {
+    /// Writes what is still in flight, if the line moves packets.
+    pub(crate) fn report_left(&mut self, segment: &Segment, names: &[Buffer<NAME>]) {
         if self.quiet || !self.moved {
             return;
         }
         for at in 0..segment.flight_len() {
             if let Some(it) = segment.under_way(at) {
-                self.tell_under_way(names, segment.is_ether(), &it);
+                self.report_in_flight(names, segment.is_ether(), &it);
             }
         }
-        self.tell_more();
+        self.report_more();
         self.clear();
     }
 }
@@ -258,7 +262,7 @@ impl Watch for Log {
                 self.count_sent(sender);
                 return;
             }
-            _ => Happened::NoRoom,
+            _ => Happened::WireFull,
         };
         let number = self.packets.len();
         if self.keep(sender, packet) {

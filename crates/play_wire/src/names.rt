@@ -6,7 +6,7 @@ use script_loop::Buffer;
 /// The most bytes of a name.
 pub(crate) const NAME: usize = 32;
 
-/// Whether a word is a name: a letter, then letters, digits and `_`.
+/// Returns whether a word is a name: a letter, then letters, digits and `_`.
 pub(crate) fn is_name(word: &[u8]) -> bool
     ensures { IsTrue result → length word.now ≤ NAME }
 {
@@ -17,8 +17,7 @@ pub(crate) fn is_name(word: &[u8]) -> bool
         .all(|byte| byte.is_ascii_alphanumeric() || *byte == b'_')
 }
 
-/// The host that a line names in front of a colon, and what stands after the colon. `None` if the line begins
-/// otherwise.
+/// Returns the host that a line names before a colon, and the text after the colon; `None` for other lines.
 pub(crate) fn named(line: &[u8]) -> Option<(&[u8], &[u8])>
     ensures parts { IfSome result (λ r. line.now ≡ r.0.now ++ 58 ∷ r.1.now) }
     ensures short { IfSome result (λ r. length r.0.now ≤ NAME) }
@@ -31,7 +30,7 @@ pub(crate) fn named(line: &[u8]) -> Option<(&[u8], &[u8])>
     }
 }
 
-/// Whether the host at a place has this name.
+/// Returns whether the host at a place has this name.
 fn is_at(names: &[Buffer<NAME>], place: usize, name: &[u8]) -> bool
     ensures { result ≡ true → slice_get names.now place ≡ Some name.now }
 {
@@ -41,7 +40,7 @@ fn is_at(names: &[Buffer<NAME>], place: usize, name: &[u8]) -> bool
     }
 }
 
-/// The place of the host with this name.
+/// Returns the place of the host with this name.
 pub(crate) fn place_of(names: &[Buffer<NAME>], name: &[u8]) -> Option<usize>
     ensures { IfSome result (λ place. slice_get names.now place ≡ Some name.now) }
 {

@@ -1,19 +1,20 @@
-//! What became of packets, as objects of JSON.
+//! What happened to packets, as JSON objects. An object that doesn't fit is left out whole, since a part of it would be
+//! no JSON.
 use crate::add::{add, add_number};
 use crate::names::NAME;
 use crate::show::name_at;
 use crate::verdict::Verdict;
 use script_loop::Buffer;
 
-/// Room for the objects of a line.
+/// The size of a buffer for the objects of a line.
 pub(crate) const OBJECTS: usize = 1_048_576;
 
-/// Room for an object with a packet of the longest link.
+/// The size of a buffer for an object with a packet of the longest link.
 const OBJECT: usize = 10_240;
 
-/// What is told of a packet in an object.
+/// The fields of an object for a packet.
 #[derive(Clone, Copy)]
-pub(crate) struct Told<'a> {
+pub(crate) struct Fields<'a> {
     /// The number of the line.
     pub(crate) number: u64,
     /// The place of the host that has sent it, and of the one to which it came.
@@ -25,14 +26,14 @@ pub(crate) struct Told<'a> {
     pub(crate) wait: u64,
 }
 
-/// Puts a text in quotes, in which nothing has to be escaped, after the objects.
+/// Appends a text in quotes; nothing in it needs an escape.
 fn add_text(objects: &mut Buffer<OBJECTS>, text: &[u8]) {
     add(objects, b"\"");
     add(objects, text);
     add(objects, b"\"");
 }
 
-/// Puts bytes as digits in quotes after the objects.
+/// Appends bytes as digits in quotes.
 fn add_bytes(objects: &mut Buffer<OBJECTS>, bytes: &[u8]) {
     add(objects, b"\"");
     for byte in bytes {
@@ -45,7 +46,7 @@ fn add_bytes(objects: &mut Buffer<OBJECTS>, bytes: &[u8]) {
     add(objects, b"\"");
 }
 
-/// Puts the name of the host at a place after the objects, or `null`.
+/// Appends the name of the host at a place, or `null`.
 fn add_name(objects: &mut Buffer<OBJECTS>, names: &[Buffer<NAME>], place: Option<usize>) {
     match place {
         Some(place) => add_text(objects, name_at(names, place)),
@@ -53,7 +54,7 @@ fn add_name(objects: &mut Buffer<OBJECTS>, names: &[Buffer<NAME>], place: Option
     }
 }
 
-/// Puts why the packet was dropped after the objects, or `null`.
+/// Appends why the packet was dropped, or `null`.
 fn add_cause(objects: &mut Buffer<OBJECTS>, verdict: Option<&Verdict>) {
     match verdict {
         Some(verdict) if verdict.is_dropped() => {
@@ -65,36 +66,36 @@ fn add_cause(objects: &mut Buffer<OBJECTS>, verdict: Option<&Verdict>) {
     }
 }
 
-/// Whether there is room for an object more.
+/// Returns whether one more object fits.
 pub(crate) fn has_room(objects: &Buffer<OBJECTS>) -> bool {
     objects.len() <= OBJECTS - OBJECT
 }
 
-/// Puts an object after the others.
+/// Appends an object.
 pub(crate) fn add_object(
     objects: &mut Buffer<OBJECTS>,
     names: &[Buffer<NAME>],
-    told: &Told<'_>,
+    fields: &Fields<'_>,
     verdict: Option<&Verdict>,
 ) {
     add(objects, b"{\"number\":");
-    add_number(objects, told.number);
+    add_number(objects, fields.number);
     add(objects, b",\"from\":");
-    add_name(objects, names, Some(told.from));
+    add_name(objects, names, Some(fields.from));
     add(objects, b",\"to\":");
-    add_name(objects, names, told.to);
+    add_name(objects, names, fields.to);
     add(objects, b",\"packet\":");
-    add_bytes(objects, told.packet);
+    add_bytes(objects, fields.packet);
     add(objects, b",\"fate\":");
-    add_text(objects, told.fate);
+    add_text(objects, fields.fate);
     add(objects, b",\"wait\":");
-    add_number(objects, told.wait);
+    add_number(objects, fields.wait);
     add(objects, b",\"cause\":");
     add_cause(objects, verdict);
     add(objects, b"}\n");
 }
 
-/// Puts an object after the others that says how many packets of a host went once.
+/// Appends an object that says how many packets of a host were sent once.
 pub(crate) fn add_sent(objects: &mut Buffer<OBJECTS>, number: u64, name: &[u8], count: u64) {
     add(objects, b"{\"number\":");
     add_number(objects, number);
@@ -105,7 +106,7 @@ pub(crate) fn add_sent(objects: &mut Buffer<OBJECTS>, number: u64, name: &[u8], 
     add(objects, b"}\n");
 }
 
-/// Puts an object after the others that says that there were more packets than these.
+/// Appends an object that says that there were more packets.
 pub(crate) fn add_more(objects: &mut Buffer<OBJECTS>, number: u64) {
     add(objects, b"{\"number\":");
     add_number(objects, number);

@@ -1,4 +1,4 @@
-//! What hosts counted by a line `carry`, in words.
+//! What hosts counted during a line `carry`, as text.
 ghost use Rattle.segment.specs.Inside.{view};
 ghost use Rattle.play_wire.specs.Acts.{AreLedTo};
 
@@ -15,7 +15,7 @@ use play_show::SHOWN;
 use script_loop::Buffer;
 use segment::{Segment, Tally};
 
-/// What was counted of a host.
+/// The counters of a host.
 #[derive(Clone, Copy)]
 pub(crate) struct Counted {
     tally: Tally,
@@ -32,7 +32,7 @@ impl Counted {
     }
 }
 
-/// What the host at a place has counted. Nothing changes.
+/// Returns the counters of the host at a place. Nothing changes.
 fn counted_at(segment: &mut Segment, spare: &mut Stack, place: usize) -> Counted
     ensures { AreLedTo (view segment.old) (view segment.new) }
 {
@@ -60,7 +60,7 @@ struct Counter<'a> {
     unit: &'a [u8],
 }
 
-/// Puts how many packets or frames of a host had some fate after a text, as a line, if there are any.
+/// Appends how many packets or frames of a host had some fate, as a line, if there are any.
 fn add_fate(text: &mut Buffer<SHOWN>, by: Counter<'_>, fate: &[u8], count: u64) {
     if count == 0 {
         return;
@@ -76,7 +76,7 @@ fn add_fate(text: &mut Buffer<SHOWN>, by: Counter<'_>, fate: &[u8], count: u64) 
     add(text, if count == 1 { b"\n".as_slice() } else { b"s\n" });
 }
 
-/// Puts what a host did with packets after a text: how many it lost, repeated and received, and why some were dropped.
+/// Appends what a host did with packets: how many it lost, repeated and received, and why some were dropped.
 fn add_counts(
     text: &mut Buffer<SHOWN>,
     drops: &mut Buffer<DROPS>,
@@ -108,7 +108,7 @@ fn add_counts(
     }
 }
 
-/// Tells what each host did with packets since its counts were taken down, if not all of them were told one by one.
+/// Writes what each host did with packets since its counts were taken, if some of them weren't printed one by one.
 pub(crate) fn add_all(
     log: &mut Log,
     segment: &mut Segment,

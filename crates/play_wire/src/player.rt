@@ -1,15 +1,15 @@
-//! What plays a script of many machines line by line.
+//! The player of a script of many machines, line by line.
 ghost use Rattle.std.specs.Prelude.{◌≡◌, ◌-◌, ◌≤◌, ◌++◌, [], IfSome, List, Option, Some, false, length, slice_get, ℕ};
 ghost use Rattle.segment.specs.Inside.{view};
 ghost use Rattle.segment.specs.Law.{Act};
 ghost use Rattle.play_text.specs.Forms.{is_json};
 ghost use Rattle.play_script.specs.Views.{expected_on, plain_line};
 ghost use Rattle.play_script.specs.Lines.{reading_part};
-ghost use Rattle.play_wire.specs.Inside.{came_of, named_by, play_with};
-ghost use Rattle.play_wire.specs.Tells.{WirePlay, has_objects, moves_packets, IsDone, IsParted, Tells, TellsAsked, TellsPart};
+ghost use Rattle.play_wire.specs.Inside.{outcome_of, named_by, play_with};
+ghost use Rattle.play_wire.specs.Reports.{WirePlay, has_objects, moves_packets, IsDone, IsParted, Reports, ReportsAsked, ReportsPart};
 
 use crate::fault::Fault;
-use crate::host_line::answer_host;
+use crate::host_line::execute_host;
 use crate::hosts::Hosts;
 use crate::log::Log;
 use crate::names::place_of;
@@ -17,10 +17,10 @@ use crate::target::Target;
 use play_forms::Player as Advised;
 use play_line::{Timed, read_time};
 use play_packet::LineReader;
-use play_script::{Form, Kind, Line, Printer, ROOM, Report, bytes_of, read_part, shift};
+use play_script::{Form, Kind, Line, OUTPUT, Printer, Report, bytes_of, read_part, shift};
 use script_loop::{Answers, Buffer, HELD, Sink};
 
-/// What plays a script.
+/// The player of a script.
 pub(crate) struct Player<T: Sink + Drop> {
     pub(crate) hosts: Hosts<T>,
     pub(crate) reader: LineReader,
@@ -30,15 +30,15 @@ pub(crate) struct Player<T: Sink + Drop> {
     pub(crate) printer: Printer,
 }
 
-/// The place of the host that a line names.
+/// Returns the place of the host that a line names.
 fn place_for<T: Sink + Drop>(hosts: &Hosts<T>, target: &Target) -> Option<usize>
     ensures { IfSome result (λ place. slice_get hosts.now.names.items place ≡ Some target.now.host) }
 {
     place_of(hosts.names.as_slice(), target.host.as_slice())
 }
 
-/// Does what a line asks, and reports what is told of it.
-fn answer_words<T: Sink + Drop>(
+/// Executes a line, and reports its reply.
+fn execute_words<T: Sink + Drop>(
     hosts: &mut Hosts<T>,
     target: &Target,
     line: &Line,
@@ -46,29 +46,29 @@ fn answer_words<T: Sink + Drop>(
 ) -> Result<(), Fault>
     ensures { (play : WirePlay) → play.segment ≡ view hosts.old.segment → play.names ≡ hosts.old.names.items
         → (acts : List Act) × IsDone play (named_by target.now) (plain_line line.now) acts
-        (came_of result report.new.told report.new.below) (view hosts.new.segment) hosts.new.names.items }
+        (outcome_of result report.new.reply_line report.new.below) (view hosts.new.segment) hosts.new.names.items }
 {
     if target.named {
         match place_for(hosts, target) {
-            Some(place) => answer_host(&mut hosts.segment, &mut hosts.spare, place, line, report),
+            Some(place) => execute_host(&mut hosts.segment, &mut hosts.spare, place, line, report),
             None => Err(Fault::NoHost),
         }
     } else if line.named {
         Err(Fault::Nothing)
     } else {
-        hosts.answer_wire(bytes_of(&line.words), report)
+        hosts.execute_wire(bytes_of(&line.words), report)
     }
 }
 
-/// Reports why a line did nothing: what it could have been, if it asks for nothing.
-fn tell_reason(report: &mut Report, target: &Target, line: &mut Line, fault: Fault) {
+/// Reports why a line did nothing; for a line without a request, what its author probably meant.
+fn report_reason(report: &mut Report, target: &Target, line: &mut Line, fault: Fault) {
     let player = if target.named {
         Advised::Host
     } else {
         Advised::Wire
     };
     match fault {
-        Fault::Nothing => report.tell_advice(player, line),
+        Fault::Nothing => report.set_advice(player, line),
         _ => {
             report.advice.clear();
             report.advice.append(fault.words().as_bytes());
@@ -76,21 +76,21 @@ fn tell_reason(report: &mut Report, target: &Target, line: &mut Line, fault: Fau
     }
 }
 
-/// Whether it's a form for programs.
+/// Returns whether it's a form for programs.
 fn is_json(form: Form) -> bool
     ensures { result ≡ is_json form }
 {
     matches!(form, Form::Json)
 }
 
-/// Whether a line moves packets.
+/// Returns whether a line moves packets.
 fn moves_packets(plain: &[u8]) -> bool
     ensures { result ≡ moves_packets plain.now }
 {
     plain.starts_with(b"carry") || plain == b"collect".as_slice() || plain == b"deliver".as_slice()
 }
 
-/// Whether objects are printed behind that of a line.
+/// Returns whether JSON objects are printed after that of a line.
 fn has_objects(form: Form, target: &Target, line: &Line) -> bool
     ensures { result ≡ has_objects form (named_by target.now) (plain_line line.now) }
 {
@@ -104,7 +104,7 @@ fn has_objects(form: Form, target: &Target, line: &Line) -> bool
     json && moves
 }
 
-/// The objects that are printed behind that of a line.
+/// Returns the objects that are printed after that of a line.
 fn objects_of<'a>(form: Form, target: &Target, line: &Line, log: &'a Log) -> &'a [u8]
     ensures { has_objects form (named_by target.now) (plain_line line.now) ≡ false → result.now ≡ [] }
 {
@@ -115,49 +115,49 @@ fn objects_of<'a>(form: Form, target: &Target, line: &Line, log: &'a Log) -> &'a
     }
 }
 
-/// Puts bytes after a text, if there is room for them.
-fn put_fitting(text: &mut Buffer<ROOM>, bytes: &[u8])
+/// Appends bytes, if there is room for them.
+fn put_fitting(text: &mut Buffer<OUTPUT>, bytes: &[u8])
     ensures { (added : List ℕ) × (bytes.now ≡ [] → added ≡ []) × (text.new ≡ text.old ++ added) }
 {
-    let fits = bytes.len() <= ROOM - text.len();
+    let fits = bytes.len() <= OUTPUT - text.len();
     if fits {
         text.append(bytes);
     }
 }
 
 impl<T: Sink + Drop> Player<T> {
-    /// Does what the line asks, and prints what is told of it.
-    fn ask(&mut self, text: &mut Buffer<ROOM>)
+    /// Executes the line, and prints its reply.
+    fn ask(&mut self, text: &mut Buffer<OUTPUT>)
         requires { length text.old ≤ HELD }
         ensures { (acts : List Act) × (added : List ℕ)
-            × TellsAsked (play_with (view self.old.hosts.segment) self.old.hosts.names.items self.old.printer)
+            × ReportsAsked (play_with (view self.old.hosts.segment) self.old.hosts.names.items self.old.printer)
             (named_by self.old.target) self.old.line.shown (plain_line self.old.line) (expected_on self.old.line) acts
             added
             (play_with (view self.new.hosts.segment) self.new.hosts.names.items self.new.printer)
             × (text.new ≡ text.old ++ added) }
     {
         self.report.quiet = self.printer.form.is_quiet();
-        match answer_words(&mut self.hosts, &self.target, &self.line, &mut self.report) {
+        match execute_words(&mut self.hosts, &self.target, &self.line, &mut self.report) {
             Ok(()) => {
                 let log = &self.hosts.log;
                 let objects = objects_of(self.printer.form, &self.target, &self.line, log);
-                self.printer.put_told(text, &self.line, &self.report);
+                self.printer.put_reply_line(text, &self.line, &self.report);
                 put_fitting(text, objects);
             }
             Err(fault) => {
-                tell_reason(&mut self.report, &self.target, &mut self.line, fault);
+                report_reason(&mut self.report, &self.target, &mut self.line, fault);
                 self.printer.put_fault(text, bytes_of(&self.report.advice));
             }
         }
     }
 
-    /// Answers a line with its time.
-    fn answer_timed(&mut self, line: &[u8], timed: Timed<'_>, text: &mut Buffer<ROOM>)
+    /// Executes a line with its time.
+    fn execute_timed(&mut self, line: &[u8], timed: Timed<'_>, text: &mut Buffer<OUTPUT>)
         requires held { length text.old ≤ HELD }
         requires part { length timed.part.now ≤ length line.now }
         ensures { (acts : List Act) × (added : List ℕ) × (host : Option (List ℕ)) × (part : List ℕ)
             × IsParted timed.entry.part.now host part
-            × TellsPart (play_with (view self.old.hosts.segment) self.old.hosts.names.items self.old.printer) host
+            × ReportsPart (play_with (view self.old.hosts.segment) self.old.hosts.names.items self.old.printer) host
             timed.entry.ticks (length line.now - length part) (reading_part line.now part) acts added
             (play_with (view self.new.hosts.segment) self.new.hosts.names.items self.new.printer)
             × (text.new ≡ text.old ++ added) }
@@ -191,20 +191,20 @@ impl<T: Sink + Drop> Player<T> {
     }
 }
 
-impl<T: Sink + Drop> Answers<ROOM> for Player<T> {
+impl<T: Sink + Drop> Answers<OUTPUT> for Player<T> {
     ghost State = { WirePlay };
 
     ghost state = { λ p. play_with (view p.hosts.segment) p.hosts.names.items p.printer };
 
-    ghost may_answer = { Tells };
+    ghost may_answer = { Reports };
 
-    fn answer(&mut self, line: &[u8], text: &mut Buffer<ROOM>) {
+    fn answer(&mut self, line: &[u8], text: &mut Buffer<OUTPUT>) {
         self.printer.next_line(line);
         self.hosts.capture.line = self.printer.number;
         let (number, form) = (self.printer.number, self.printer.form);
         self.hosts.log.set_line(number, form);
         match read_time(line) {
-            Ok(timed) => self.answer_timed(line, timed, text),
+            Ok(timed) => self.execute_timed(line, timed, text),
             Err(slip) => self.printer.put_slip(text, slip),
         }
     }

@@ -10,7 +10,7 @@ ghost use Rattle.segment.specs.Inside.{view};
 ghost use Rattle.segment.specs.Segment.{no_hosts};
 ghost use Rattle.play_wire.specs.Inside.{play_with};
 ghost use Rattle.play_wire.specs.Runs.{IsPlayed};
-ghost use Rattle.play_wire.specs.Tells.{WirePlay, Tells, wire_started};
+ghost use Rattle.play_wire.specs.Reports.{WirePlay, Reports, wire_started};
 
 use crate::capture_out::Capture;
 use crate::hosts::Hosts;
@@ -22,7 +22,7 @@ use script_loop::{Buffer, RunFault, Sink, Source, serve_script};
 use segment::hosts_on_a_segment;
 use std::alloc::{AllocError, Global};
 
-/// What a player has beside its hosts.
+/// The parts of a player apart from its hosts.
 #[derive(Drop)]
 struct Parts {
     reader: LineReader,
@@ -32,8 +32,8 @@ struct Parts {
     printer: Printer,
 }
 
-/// Takes memory for what a player has beside its hosts. What is let go if memory is refused stands first, and what has
-/// most pieces last.
+/// Allocates the parts of a player apart from its hosts. Those that are dropped if memory is lacking come first, and
+/// the one with the most pieces last.
 fn parts_for(alloc: Global, style: Style<'_>) -> Result<Parts, AllocError>
     ensures { IfOk result (λ p. (p.printer.form ≡ style.entry.form) × (p.printer.number ≡ 0)
         × (p.printer.name ≡ take NAME style.entry.name.now) × (p.printer.sound ≡ true)
@@ -57,11 +57,11 @@ fn parts_for(alloc: Global, style: Style<'_>) -> Result<Parts, AllocError>
 pub struct Start<T: Sink + Drop> {
     /// The seed of the wire, until a line `seed` says another one.
     pub seed: u64,
-    /// Where the capture of the wire is written; `play_pcap::Nowhere` if none is wanted.
+    /// The writer for the capture of the wire; `play_pcap::Nowhere` for none.
     pub capture: T,
 }
 
-/// What came of a script.
+/// The result of playing a script.
 #[derive(Drop)]
 pub struct PlayedHosts {
     pub played: Played,
@@ -69,15 +69,16 @@ pub struct PlayedHosts {
     pub kept: bool,
 }
 
-/// A capture that is written to this sink. `None` if host memory was refused.
+/// Returns a capture that is written to this sink. `None` if host memory is lacking.
 fn capture_for<T: Sink + Drop>(alloc: Global, sink: T) -> Option<Capture<T>> {
-    let Ok(room) = Buffer::new(alloc) else {
+    let Ok(buffer) = Buffer::new(alloc) else {
         return None;
     };
-    Some(Capture::begin(sink, room))
+    Some(Capture::begin(sink, buffer))
 }
 
-/// No hosts, a wire with this seed, and a capture that is written to this sink. `None` if host memory was refused.
+/// Returns a player's hosts before the first one, with a wire of this seed, and a capture that is written to this sink.
+/// `None` if host memory is lacking.
 fn hosts_for<T: Sink + Drop>(alloc: Global, seed: u64, sink: T) -> Option<Hosts<T>>
     ensures { IfSome result (λ h. (view h.segment ≡ record (no_hosts PACKETS) { random = seeded seed })
         × (h.names.items ≡ [])) }
@@ -86,7 +87,7 @@ fn hosts_for<T: Sink + Drop>(alloc: Global, seed: u64, sink: T) -> Option<Hosts<
     Hosts::new(alloc, seed, capture)
 }
 
-/// A player whose script has this style, before its first line. `None` if host memory was refused.
+/// Returns a player whose script has this style, before its first line. `None` if host memory is lacking.
 fn player_for<T: Sink + Drop>(
     alloc: Global,
     style: Style<'_>,
@@ -119,20 +120,21 @@ fn player_for<T: Sink + Drop>(
 }
 
 /// Plays a script of many machines. It begins without hosts; each line `host` adds one. A line that names a host is
-/// played on it as `play_script` plays it on its one machine. The other lines carry what waits for the links, and let
-/// time pass. `start.seed` starts the choices of the wire, until a line `seed` starts them anew. All hosts are spent
-/// then.
+/// executed on it as `play_script` executes it on its one machine. The other lines carry what waits for the links, and
+/// let time pass. `start.seed` seeds the random choices of the wire, until a line `seed` seeds them again. All hosts
+/// are freed at the end.
 ///
-/// Each packet is written to `start.capture` as it goes on the wire, at a time that `play_pcap::Trace` tells by the
-/// ticks and the line's number; of hosts on an Ethernet each frame, ARP's too, in a capture of that link type. One that
-/// is lost by chance isn't, and one that goes twice is there twice. No clause speaks of the capture.
+/// Each packet is written to `start.capture` when it is sent onto the wire, at the time that `play_pcap::Trace` gives
+/// for the ticks and the line's number. For hosts on an Ethernet each frame is written, also those of ARP, in a capture
+/// of that link type. A packet that is lost by chance isn't written, and one that is duplicated is written twice. No
+/// clause specifies the capture.
 ///
-/// `sound` tells whether all lines that were read did something, and all that was expected came.
+/// `sound` is true if all lines that were read did something, and all their expectations were met.
 ///
 /// # Errors
 ///
-/// `Memory` if host memory is lacking: nothing was read or written then. `Read`, `Write` and `TooManyLines` as
-/// `play_script::play` answers them.
+/// `Memory` if host memory is lacking: nothing was read or written then. `Read`, `Write` and `TooManyLines` as in
+/// `play_script::play`.
 pub fn play_hosts<R: Source, W: Sink, T: Sink + Drop>(
     alloc: Global,
     style: Style<'_>,
@@ -140,18 +142,18 @@ pub fn play_hosts<R: Source, W: Sink, T: Sink + Drop>(
     reader: &mut R,
     writer: &mut W,
 ) -> PlayedHosts
-    // The reader failed once if the fault is `Read`, and the writer if it is `Write`; else they didn't.
+    // The reader failed once if the fault is `Read`, the writer once if it is `Write`; otherwise neither did.
     ensures read { MoreBy (reader_failures result.played.outcome) (R.failures reader.old) (R.failures reader.new) }
     ensures wrote { MoreBy (writer_failures result.played.outcome) (W.failures writer.old) (W.failures writer.new) }
-    // What is written is told of the lines of what is read, one after another.
+    // What is written is printed for the lines of what is read, one after another.
     ensures served { (new : WirePlay)
-        × Serves Tells (wire_started start.seed style.entry.form (take NAME style.entry.name.now)) new
+        × Serves Reports (wire_started start.seed style.entry.form (take NAME style.entry.name.now)) new
         (R.remaining reader.old) (R.remaining reader.new)
         (W.contents writer.old) (W.contents writer.new) result.played.outcome
         × (result.played.sound ≡ new.sound) }
-    // Whatever is told of lines so is told by acts of which the law of a wire holds.
+    // What is printed for lines is printed by acts for which the law of a wire holds.
     ensures lawful { (new : WirePlay) (lines : List (List ℕ)) (printed : List ℕ)
-        → Prints Tells (wire_started start.seed style.entry.form (take NAME style.entry.name.now)) lines printed new
+        → Prints Reports (wire_started start.seed style.entry.form (take NAME style.entry.name.now)) lines printed new
         → IsPlayed start.seed style.entry.form (take NAME style.entry.name.now) lines printed new }
     ensures begun { IsServed result.played.outcome }
 {

@@ -1,21 +1,21 @@
-//! What is under way, in words.
+//! What is in flight, as text.
 use crate::add::{add, add_number};
 use crate::names::NAME;
 use byteorder::{BigEndian, ByteOrder};
 use params::IP_HEADER;
-use play_script::TOLD;
+use play_script::REPLY_LINE;
 use play_show::SHOWN;
 use play_text::add_frame;
 use script_loop::Buffer;
 use segment::{Segment, UnderWay};
 
-/// The most packets that are told.
+/// The most packets that are printed.
 const MOST: usize = 200;
 
 /// An IP header without options.
 type Header = [u8; IP_HEADER as usize];
 
-/// The first 20 bytes of a packet. A byte that isn't there is 0.
+/// Returns the first 20 bytes of a packet. A byte that isn't there is 0.
 fn header_of(packet: &[u8]) -> Header {
     let mut header = [0; IP_HEADER as usize];
     let len = packet.len().min(header.len());
@@ -23,7 +23,7 @@ fn header_of(packet: &[u8]) -> Header {
     header
 }
 
-/// Puts the four numbers of an address after a text.
+/// Appends the four numbers of an address.
 fn add_address(text: &mut Buffer<SHOWN>, octets: &[u8]) {
     for (place, octet) in octets.iter().enumerate() {
         if place != 0 {
@@ -33,7 +33,7 @@ fn add_address(text: &mut Buffer<SHOWN>, octets: &[u8]) {
     }
 }
 
-/// Puts what part of a datagram a packet has after a text, if it isn't all of it.
+/// Appends what part of a datagram a packet has, if it isn't all of it.
 fn add_part(text: &mut Buffer<SHOWN>, header: &Header) {
     let word = BigEndian::read_u16(&header[6..]);
     let more = word & 0x2000 != 0;
@@ -48,7 +48,7 @@ fn add_part(text: &mut Buffer<SHOWN>, header: &Header) {
     }
 }
 
-/// Puts a packet after a text.
+/// Appends a packet.
 fn add_packet(text: &mut Buffer<SHOWN>, packet: &[u8]) {
     let header = header_of(packet);
     add_address(text, &header[12..16]);
@@ -61,7 +61,7 @@ fn add_packet(text: &mut Buffer<SHOWN>, packet: &[u8]) {
     add_part(text, &header);
 }
 
-/// Puts a packet or a frame that is under way after a text, as a line.
+/// Appends a packet or a frame that is under way, as a line.
 fn add_under_way(text: &mut Buffer<SHOWN>, at: usize, name: &[u8], it: UnderWay<'_>, ether: bool) {
     add(text, b"    ");
     add_number(text, at as u64);
@@ -80,7 +80,7 @@ fn add_under_way(text: &mut Buffer<SHOWN>, at: usize, name: &[u8], it: UnderWay<
     add(text, b"\n");
 }
 
-/// The name of the host at a place.
+/// Returns the name of the host at a place.
 pub(crate) fn name_at(names: &[Buffer<NAME>], place: usize) -> &[u8] {
     match names.get(place) {
         Some(name) => name.as_slice(),
@@ -88,17 +88,17 @@ pub(crate) fn name_at(names: &[Buffer<NAME>], place: usize) -> &[u8] {
     }
 }
 
-/// Tells how many packets or frames are under way, and below it a line for each of the first 200.
-pub(crate) fn tell_wire(
+/// Reports how many packets or frames are in flight, and below that a line for each of the first 200.
+pub(crate) fn report_wire(
     segment: &Segment,
     names: &[Buffer<NAME>],
-    told: &mut Buffer<TOLD>,
+    reply_line: &mut Buffer<REPLY_LINE>,
     below: &mut Buffer<SHOWN>,
 ) {
     let count = segment.flight_len();
-    add_number(told, count as u64);
+    add_number(reply_line, count as u64);
     add(
-        told,
+        reply_line,
         match (segment.is_ether(), count) {
             (false, 1) => b" packet under way".as_slice(),
             (false, _) => b" packets under way",

@@ -1,11 +1,11 @@
-//! A spare stack, and room for what the lines of hosts name and are answered.
+//! A spare stack, and buffers for the requests of hosts' lines and their replies.
 ghost use Rattle.std.specs.Prelude.{◌≡◌, vec_len};
 ghost use Rattle.params.specs.declared.TheConstants.{IP_MAX_PACKET};
 
 use flat_model::Config;
 use net_stack::Stack;
 use play_packet::PACKET;
-use play_script::{DEFAULTS, DROPS, room_for};
+use play_script::{DEFAULTS, DROPS, zero_bytes};
 use script_loop::Buffer;
 use std::alloc::Global;
 
@@ -16,16 +16,16 @@ const SPARE: Config = Config {
     ..DEFAULTS
 };
 
-/// What it takes to find out why a host dropped packets.
+/// The stack and the buffer for finding out why a host dropped packets.
 pub(crate) struct Counting {
-    /// A stack that stands in the place of the host's while its counters are read, or a line of it is played.
+    /// A stack that the host has instead of its own while its counters are read, or a line of it is executed.
     pub(crate) stack: Stack,
-    /// Room for why packets were dropped.
+    /// A buffer for why packets were dropped.
     pub(crate) drops: Buffer<DROPS>,
 }
 
 impl Counting {
-    /// Boots the stack. `None` if host memory was refused.
+    /// Boots the stack. `None` if host memory is lacking.
     fn new(alloc: Global) -> Option<Counting> {
         let Ok(drops) = Buffer::new(alloc) else {
             return None;
@@ -36,7 +36,7 @@ impl Counting {
         }
     }
 
-    /// Spends it.
+    /// Frees it.
     fn end(self) {
         let Counting {
             stack,
@@ -46,40 +46,40 @@ impl Counting {
     }
 }
 
-/// What a line of a host is played with.
+/// The stack and the buffers for executing a line of a host.
 pub(crate) struct Spare {
     pub(crate) counting: Counting,
-    /// Room for the bytes that a line names.
+    /// A buffer for the bytes that a line names.
     pub(crate) bytes: Vec<u8>,
-    /// Room for the bytes of a reply.
-    pub(crate) room: Vec<u8>,
+    /// A buffer for the bytes of a reply.
+    pub(crate) buffer: Vec<u8>,
     ghost bytes_len: { vec_len bytes ≡ IP_MAX_PACKET },
-    ghost room_len: { vec_len room ≡ IP_MAX_PACKET },
+    ghost buffer_len: { vec_len buffer ≡ IP_MAX_PACKET },
 }
 
 impl Spare {
-    /// Boots it. `None` if host memory was refused.
+    /// Boots it. `None` if host memory is lacking.
     pub(crate) fn new(alloc: Global) -> Option<Spare> {
-        let Ok(bytes) = room_for(alloc, PACKET) else {
+        let Ok(bytes) = zero_bytes(alloc, PACKET) else {
             return None;
         };
-        let Ok(room) = room_for(alloc, PACKET) else {
+        let Ok(buffer) = zero_bytes(alloc, PACKET) else {
             return None;
         };
         let counting = Counting::new(alloc)?;
         Some(Spare {
             counting,
             bytes,
-            room,
+            buffer,
         })
     }
 
-    /// Spends it.
+    /// Frees it.
     pub(crate) fn end(self) {
         let Spare {
             counting,
             bytes: _bytes,
-            room: _room,
+            buffer: _buffer,
         } = self;
         counting.end();
     }

@@ -1,4 +1,4 @@
-//! What was counted of each host.
+//! The counters of each host.
 ghost use Rattle.std.specs.Prelude.{◌≡◌, option_map, slice_get};
 ghost use Rattle.net_stack.specs.Stack.{state_of};
 ghost use Rattle.segment.specs.Inside.{view};
@@ -15,13 +15,13 @@ use play_text::causes;
 use script_loop::Buffer;
 use segment::{Segment, Tally};
 
-/// Puts a count after a text.
+/// Appends a count.
 fn add_count(text: &mut Buffer<SHOWN>, what: &[u8], count: u64) {
     add(text, what);
     add_number(text, count);
 }
 
-/// Puts after a text how many packets were dropped, by the counters that count them.
+/// Appends how many packets were dropped, by the counters that count them.
 fn add_drops(text: &mut Buffer<SHOWN>, counters: &Counters) {
     for why in causes() {
         let count = counters.value(why.counter());
@@ -33,7 +33,7 @@ fn add_drops(text: &mut Buffer<SHOWN>, counters: &Counters) {
     }
 }
 
-/// Puts what was counted of a host after a text, as a line.
+/// Appends what was counted of a host, as a line.
 fn add_host(text: &mut Buffer<SHOWN>, name: &[u8], tally: Tally, counters: &Counters) {
     add(text, b"    ");
     add(text, name);
@@ -50,7 +50,7 @@ fn add_host(text: &mut Buffer<SHOWN>, name: &[u8], tally: Tally, counters: &Coun
     add(text, b"\n");
 }
 
-/// What the host at a place has counted. Nothing changes.
+/// Returns the counters of the host at a place. Nothing changes.
 pub(crate) fn counters_at(
     segment: &mut Segment,
     spare: &mut Stack,
@@ -68,8 +68,8 @@ pub(crate) fn counters_at(
     }
 }
 
-/// Tells what was counted of the host at a place, if there is one.
-fn tell_host(
+/// Reports the counters of the host at a place, if there is one.
+fn report_host(
     segment: &mut Segment,
     spare: &mut Stack,
     names: &[Buffer<NAME>],
@@ -84,8 +84,8 @@ fn tell_host(
     }
 }
 
-/// Tells what was counted of each host, a line for each.
-pub(crate) fn tell_summary(
+/// Reports the counters of each host, a line for each.
+pub(crate) fn report_summary(
     segment: &mut Segment,
     spare: &mut Stack,
     names: &[Buffer<NAME>],
@@ -94,6 +94,6 @@ pub(crate) fn tell_summary(
     ensures { AreLedTo (view segment.old) (view segment.new) }
 {
     for place in 0..segment.hosts() {
-        tell_host(segment, spare, names, place, below);
+        report_host(segment, spare, names, place, below);
     }
 }

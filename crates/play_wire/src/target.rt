@@ -2,7 +2,7 @@
 ghost use Rattle.std.specs.Prelude.{◌≡◌, ◌≤◌, length};
 ghost use Rattle.play_text.specs.Texts.{if_there};
 ghost use Rattle.play_wire.specs.Inside.{named_by};
-ghost use Rattle.play_wire.specs.Tells.{IsParted};
+ghost use Rattle.play_wire.specs.Reports.{IsParted};
 
 use crate::names::{NAME, named};
 use script_loop::Buffer;
@@ -17,7 +17,7 @@ pub(crate) struct Target {
 }
 
 impl Target {
-    /// No host.
+    /// Allocates the memory for a target; no host is named yet.
     pub(crate) fn new(alloc: Global) -> Result<Target, AllocError> {
         Ok(Target {
             named: false,
@@ -25,8 +25,8 @@ impl Target {
         })
     }
 
-    /// Takes the host that a line names, and answers the part of the line after it, which is all of it if it names
-    /// none.
+    /// Sets the target to the host that a line names, and returns the rest of the line; the whole line if it names no
+    /// host.
     pub(crate) fn take<'a>(&mut self, line: &'a [u8]) -> &'a [u8]
         ensures parted { IsParted line.now (named_by self.new) result.now }
         ensures shorter { length result.now ≤ length line.now }

@@ -13,7 +13,7 @@ use net_stack::Stack;
 use segment::Segment;
 use std::mem;
 
-/// Puts a stack in the place of that of a host, which is handed over. Whether there is such a host.
+/// Exchanges a stack with that of a host. Returns whether there is such a host.
 pub(crate) fn exchange(segment: &mut Segment, place: usize, stack: &mut Stack) -> bool
     ensures { Choice result (IsExchanged place (view segment.old) stack.old (view segment.new) stack.new)
         (IsKept place (view segment.old) (view segment.new)) }
@@ -27,7 +27,7 @@ pub(crate) fn exchange(segment: &mut Segment, place: usize, stack: &mut Stack) -
     }
 }
 
-/// Lets so many ticks pass at a stack.
+/// Lets this many ticks pass at a stack.
 pub(crate) fn tick_stack(stack: &mut Stack, count: u32)
     ensures { AreCalls stack.old (replicate count (call_turn Tick Done)) stack.new }
 {
@@ -38,7 +38,7 @@ pub(crate) fn tick_stack(stack: &mut Stack, count: u32)
     }
 }
 
-/// The link of the host at a place is so many ticks older.
+/// Lets this many ticks pass at the link of the host at a place.
 pub(crate) fn age_link(segment: &mut Segment, place: usize, count: u32)
     requires { is_ether (view segment.old) ≡ true }
     ensures { AreActs (view segment.old) (replicate count (Ether (AgesLink place))) (view segment.new) }
@@ -50,8 +50,8 @@ pub(crate) fn age_link(segment: &mut Segment, place: usize, count: u32)
     }
 }
 
-/// Lets so many ticks pass at the stack of the host at a place, if there is such a host. The spare stack stands in its
-/// place meanwhile.
+/// Lets this many ticks pass at the stack of the host at a place, if there is such a host. Meanwhile the host has the
+/// spare stack.
 fn tick_bare(segment: &mut Segment, spare: &mut Stack, place: usize, count: u32)
     ensures { AreLedTo (view segment.old) (view segment.new) }
 {
@@ -61,7 +61,8 @@ fn tick_bare(segment: &mut Segment, spare: &mut Stack, place: usize, count: u32)
     }
 }
 
-/// Lets so many ticks pass at the host at a place, if there is such a host, and at its link, if it has one.
+/// Lets this many ticks pass at the host at a place and at its link, if it has one; if there is no such host, does
+/// nothing.
 fn tick_host(segment: &mut Segment, spare: &mut Stack, place: usize, count: u32)
     ensures { AreLedTo (view segment.old) (view segment.new) }
 {
@@ -71,7 +72,7 @@ fn tick_host(segment: &mut Segment, spare: &mut Stack, place: usize, count: u32)
     }
 }
 
-/// Lets so many ticks pass at each host.
+/// Lets this many ticks pass at each host.
 pub(crate) fn tick_all(segment: &mut Segment, spare: &mut Stack, count: u32)
     ensures { AreLedTo (view segment.old) (view segment.new) }
 {

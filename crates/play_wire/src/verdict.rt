@@ -1,7 +1,7 @@
-//! What a packet did to a host, by looks at the host before and after it.
+//! What a packet did to a host, by snapshots of the host before and after it.
 ghost use Rattle.std.specs.Prelude.{◌≡◌};
 ghost use Rattle.net_stack.specs.Stack.{state_of};
-ghost use Rattle.play_show.specs.Changes.{HasBecome, IsSnapshot};
+ghost use Rattle.play_show.specs.Changes.{IsEffect, IsSnapshot};
 ghost use Rattle.play_wire.specs.Verdicts as verdicts;
 ghost use Rattle.play_text.specs.Fates.{is_some_true};
 ghost use Rattle.stack_call.specs.Moves.{StackSteps};
@@ -10,7 +10,7 @@ use crate::add::{add, add_number};
 use crate::link_count::{LinkCount, link_counts};
 use net_stack::Stack;
 use params::{FIRST_DESCRIPTOR, MAX_SOCKETS};
-use play_show::{Became, SHOWN, Snapshot, became_of, snapshot_of};
+use play_show::{Effect, SHOWN, Snapshot, effect_of, snapshot_of};
 use play_text::{CAUSES, Fate, causes, is_any, words_for};
 use script_loop::Buffer;
 use segment::Tallies;
@@ -21,7 +21,7 @@ const SOCKETS: usize = MAX_SOCKETS as usize;
 /// How many counts a link has.
 const COUNTS: usize = 13;
 
-/// A look at a host: at its stack, and at what its link counted.
+/// A snapshot of a host: of its stack, and of its link's counters.
 #[derive(Clone, Copy)]
 pub(crate) struct Look {
     stack: Snapshot,
@@ -29,7 +29,7 @@ pub(crate) struct Look {
 }
 
 impl Look {
-    /// Looks at a host.
+    /// Takes a snapshot of a host.
     pub(crate) fn at(stack: &Stack, link: Tallies) -> Look
         ensures stack { IsSnapshot StackSteps (state_of stack.now) result.stack }
         ensures link { result.link ≡ link }
@@ -44,19 +44,19 @@ impl Look {
 /// What a packet did to a host.
 #[derive(Clone, Copy)]
 pub(crate) struct Verdict {
-    became: Became,
+    effect: Effect,
     /// Which of the link's counts went up, in the order of [`link_counts`].
     counted: [bool; COUNTS],
 }
 
-/// Whether a count of the link went up.
+/// Returns whether a count of the link went up.
 fn is_counted(which: LinkCount, before: &Tallies, after: &Tallies) -> bool
     ensures { result ≡ verdicts.is_counted before.now after.now which }
 {
     which.value(before) < which.value(after)
 }
 
-/// Which of the link's counts went up.
+/// Returns which of the link's counts went up.
 fn counts_between(before: &Tallies, after: &Tallies) -> [bool; COUNTS]
     ensures { result ≡ verdicts.counted_between before.now after.now }
 {
@@ -68,7 +68,7 @@ fn counts_between(before: &Tallies, after: &Tallies) -> [bool; COUNTS]
     counted
 }
 
-/// Puts the numbers of the sockets after a text to which a datagram was delivered.
+/// Appends the numbers of the sockets to which a datagram was delivered.
 fn add_sockets(text: &mut Buffer<SHOWN>, sockets: &[bool; SOCKETS]) {
     let mut comma = b" to socket ".as_slice();
     for place in 0..SOCKETS {
@@ -80,7 +80,7 @@ fn add_sockets(text: &mut Buffer<SHOWN>, sockets: &[bool; SOCKETS]) {
     }
 }
 
-/// Puts why a packet was dropped after a text, `first` in front of the first cause.
+/// Appends why a packet was dropped, with `first` before the first cause.
 fn add_causes<const N: usize>(text: &mut Buffer<N>, first: &'static [u8], drops: &[bool; CAUSES]) {
     let whys = causes();
     let mut comma = first;
@@ -93,7 +93,7 @@ fn add_causes<const N: usize>(text: &mut Buffer<N>, first: &'static [u8], drops:
     }
 }
 
-/// Puts what the link counted after a text.
+/// Appends what the link counted.
 fn add_counted(text: &mut Buffer<SHOWN>, counted: &[bool; COUNTS]) {
     let which = link_counts();
     for place in 0..COUNTS {
@@ -105,49 +105,49 @@ fn add_counted(text: &mut Buffer<SHOWN>, counted: &[bool; COUNTS]) {
 }
 
 impl Verdict {
-    /// By looks at the host before the packet and after it.
+    /// Compares snapshots of the host before the packet and after it.
     pub(crate) fn of(before: &Look, after: &Look) -> Verdict
-        ensures became { HasBecome before.now.stack after.now.stack result.became }
+        ensures effect { IsEffect before.now.stack after.now.stack result.effect }
         ensures counted { result.counted ≡ verdicts.counted_between before.now.link after.now.link }
     {
         Verdict {
-            became: became_of(&before.stack, &after.stack),
+            effect: effect_of(&before.stack, &after.stack),
             counted: counts_between(&before.link, &after.link),
         }
     }
 
-    /// Whether the packet was dropped, or a copy of it.
+    /// Returns whether the packet was dropped, or a copy of it.
     pub(crate) fn is_dropped(&self) -> bool
-        ensures { result ≡ is_some_true self.now.became.drops }
+        ensures { result ≡ is_some_true self.now.effect.drops }
     {
-        is_any(&self.became.drops)
+        is_any(&self.effect.drops)
     }
 
-    /// Puts why it was dropped after a text, `first` in front of the first cause.
+    /// Appends why it was dropped, with `first` before the first cause.
     pub(crate) fn put_causes<const N: usize>(&self, text: &mut Buffer<N>, first: &'static [u8]) {
-        add_causes(text, first, &self.became.drops);
+        add_causes(text, first, &self.effect.drops);
     }
 
-    /// What came of the packet, in a word.
+    /// Returns what happened to the packet, in a word.
     pub(crate) fn word(&self) -> &'static [u8]
-        ensures { result.now ≡ verdicts.word_of self.now.became }
+        ensures { result.now ≡ verdicts.word_of self.now.effect }
     {
-        if is_any(&self.became.delivered) {
+        if is_any(&self.effect.delivered) {
             b"delivered"
         } else if self.is_dropped() {
             b"dropped"
         } else {
-            match self.became.fate {
+            match self.effect.fate {
                 Fate::Kept => b"kept",
                 Fate::Whole | Fate::Other => b"received",
             }
         }
     }
 
-    /// Puts what the host did after a text that ends with its name.
+    /// Appends what the host did, after its name.
     pub(crate) fn put(&self, text: &mut Buffer<SHOWN>) {
-        let (delivered, dropped) = (is_any(&self.became.delivered), self.is_dropped());
-        let what = if matches!(self.became.fate, Fate::Whole) {
+        let (delivered, dropped) = (is_any(&self.effect.delivered), self.is_dropped());
+        let what = if matches!(self.effect.fate, Fate::Whole) {
             b" the whole datagram".as_slice()
         } else {
             b" it"
@@ -155,7 +155,7 @@ impl Verdict {
         if delivered {
             add(text, b" delivered");
             add(text, what);
-            add_sockets(text, &self.became.delivered);
+            add_sockets(text, &self.effect.delivered);
         }
         if dropped {
             add(
@@ -174,12 +174,12 @@ impl Verdict {
                     what
                 },
             );
-            add_causes(text, b": ", &self.became.drops);
+            add_causes(text, b": ", &self.effect.drops);
         }
         if !delivered && !dropped {
             add(
                 text,
-                if matches!(self.became.fate, Fate::Kept) {
+                if matches!(self.effect.fate, Fate::Kept) {
                     b" kept it until its datagram is whole".as_slice()
                 } else {
                     b" received it"

@@ -1,4 +1,4 @@
-//! What a line asks of the wire: it's read once, and what it asks for is a value.
+//! The request of a line to the wire: a line is parsed once, into a value.
 ghost use Rattle.std.specs.Prelude.{◌≡◌, ℕ, [], MatchOption};
 ghost use Rattle.script_loop.specs.Left.{left};
 ghost use Rattle.play_wire.specs.Inside.{ReadsAfter, wire_asked, wire_asks};
@@ -12,7 +12,7 @@ use play_forms::{Command, Player, command_of};
 use script_loop::{first_word, is_end, number, one, two};
 use std::str;
 
-/// The most carries that a line asks for.
+/// The most carries that a line can request.
 const MOST_CARRIES: u32 = 1_000_000;
 
 /// The most carries of `carry all` if it doesn't say another number.
@@ -21,38 +21,38 @@ const ALL: u32 = 1000;
 /// The last place of a packet, and the most ticks.
 const MOST: u32 = 65_535;
 
-/// What a line asks of the wire. Names and settings are borrowed from the line.
+/// The request of a line to the wire. Names and settings are borrowed from the line.
 #[derive(Clone, Copy)]
 pub(crate) enum WireAsk<'l> {
-    /// A host of this name joins, by what stands behind the name. The name is empty if it's missing.
+    /// A host of this name joins, with the settings after the name. The name is empty if it's missing.
     Host(&'l [u8], Option<&'l [u8]>),
     /// The hosts of these names are joined.
     Wire(Option<&'l [u8]>),
-    /// What waits for the links passes.
+    /// What waits for the links is carried.
     Carry(Bound),
-    /// What waits for the links goes on the wire.
+    /// What waits for the links is sent onto the wire.
     Collect,
-    /// What is due comes.
+    /// What is due is delivered.
     Deliver,
-    /// So many ticks pass at each host.
+    /// This many ticks pass at each host.
     Tick(u32),
     /// The choices of the wire start with this seed.
     Seed(u64),
     /// The packet under way at this place, from 0 on, is lost.
     Drop(usize),
-    /// It goes twice.
+    /// It's duplicated.
     Repeat(usize),
     /// Two of them change places.
     Swap(usize, usize),
     /// A chance or a delay is set, by these words.
     Impair(Command, Option<&'l [u8]>),
-    /// What is under way is shown.
+    /// What is in flight is reported.
     Show,
-    /// What was counted of each host is told.
+    /// The counters of each host are reported.
     Summary,
 }
 
-/// The one number that is left.
+/// Returns the one number that is left.
 pub(crate) fn one_number(rest: Option<&[u8]>, most: u32) -> Option<u32>
     ensures { MatchOption result ((n : ℕ) → IsOneNumber most (left rest.entry) n → ⊥)
         (IsOneNumber most (left rest.entry)) }
@@ -60,14 +60,14 @@ pub(crate) fn one_number(rest: Option<&[u8]>, most: u32) -> Option<u32>
     number(one(rest)?, most)
 }
 
-/// What is asked, where no word is left.
-fn alone<'l>(rest: Option<&[u8]>, ask: WireAsk<'l>) -> Option<WireAsk<'l>>
+/// Returns the request if no word is left.
+fn if_last<'l>(rest: Option<&[u8]>, ask: WireAsk<'l>) -> Option<WireAsk<'l>>
     ensures { MatchOption result (left rest.entry ≡ [] → ⊥) (λ r. (r ≡ ask.entry) × (left rest.entry ≡ [])) }
 {
     if is_end(rest) { Some(ask) } else { None }
 }
 
-/// How many carries the words after `carry` ask for.
+/// Returns how many carries the words after `carry` request.
 fn bound_of(rest: Option<&[u8]>) -> Option<Bound>
     ensures { MatchOption result ((bound : Bound) → IsBound (left rest.entry) bound → ⊥)
         (IsBound (left rest.entry)) }
@@ -91,7 +91,7 @@ fn carry_of(rest: Option<&[u8]>) -> Option<WireAsk<'static>>
     Some(WireAsk::Carry(bound_of(rest)?))
 }
 
-/// How many ticks the words after `tick` ask for.
+/// Returns how many ticks the words after `tick` request.
 pub(crate) fn ticks_of(rest: Option<&[u8]>) -> Option<u32>
     ensures { MatchOption result ((n : ℕ) → IsTickCount (left rest.entry) n → ⊥) (IsTickCount (left rest.entry)) }
 {
@@ -108,7 +108,7 @@ fn tick_of(rest: Option<&[u8]>) -> Option<WireAsk<'static>>
     Some(WireAsk::Tick(ticks_of(rest)?))
 }
 
-/// The seed that the word after `seed` writes.
+/// Returns the seed that the word after `seed` writes.
 fn seed_in(rest: Option<&[u8]>) -> Option<u64>
     ensures { MatchOption result ((seed : ℕ) → IsSeed (left rest.entry) seed → ⊥) (IsSeed (left rest.entry)) }
 {
@@ -171,7 +171,7 @@ fn host_of(rest: Option<&[u8]>) -> WireAsk<'_>
     WireAsk::Host(name, settings)
 }
 
-/// What a command and the words after it ask for.
+/// Returns the request of a command and the words after it.
 fn form_of<'l>(asked: Command, rest: Option<&'l [u8]>) -> Option<WireAsk<'l>>
     ensures { ReadsAfter asked (left rest.entry) result }
 {
@@ -179,8 +179,8 @@ fn form_of<'l>(asked: Command, rest: Option<&'l [u8]>) -> Option<WireAsk<'l>>
         Command::Host => Some(host_of(rest)),
         Command::Wire => Some(WireAsk::Wire(rest)),
         Command::Carry => carry_of(rest),
-        Command::Collect => alone(rest, WireAsk::Collect),
-        Command::Deliver => alone(rest, WireAsk::Deliver),
+        Command::Collect => if_last(rest, WireAsk::Collect),
+        Command::Deliver => if_last(rest, WireAsk::Deliver),
         Command::Tick => tick_of(rest),
         Command::Seed => seed_of(rest),
         Command::Drop => drop_of(rest),
@@ -188,7 +188,7 @@ fn form_of<'l>(asked: Command, rest: Option<&'l [u8]>) -> Option<WireAsk<'l>>
         Command::Swap => swap_of(rest),
         Command::Loss | Command::Reorder | Command::Delay => Some(WireAsk::Impair(asked, rest)),
         Command::ShowWire => show_of(rest),
-        Command::Summary => alone(rest, WireAsk::Summary),
+        Command::Summary => if_last(rest, WireAsk::Summary),
         Command::Socket
         | Command::Bind
         | Command::Connect
@@ -211,8 +211,8 @@ fn form_of<'l>(asked: Command, rest: Option<&'l [u8]>) -> Option<WireAsk<'l>>
     }
 }
 
-/// What a plain line asks of the wire, or `None` if it asks for nothing. A plain line has one space between each two
-/// words.
+/// Returns the request of a plain line to the wire, or `None` if it has none. A plain line has one space between each
+/// two words.
 pub(crate) fn wire_ask_of(plain: &[u8]) -> Option<WireAsk<'_>>
     ensures { AsksWire plain.now (wire_asks result) }
 {

@@ -3,9 +3,9 @@ ghost use Rattle.std.specs.Prelude.{◌≡◌, ◌++◌, List, [], Some, codes};
 ghost use Rattle.flat_model.specs.Amounts.Choice.{Choice};
 ghost use Rattle.segment.specs.Inside.{view};
 ghost use Rattle.segment.specs.Law.{Act, AreActs};
-ghost use Rattle.play_wire.specs.Acts.{AreLedTo, Told, Refused};
-ghost use Rattle.play_wire.specs.Inside.{came_of, wire_asked};
-ghost use Rattle.play_wire.specs.Tells.{DoesLine, DoesWire, IsWaited, TellsHalf, TellsLeft, added_by, left_text};
+ghost use Rattle.play_wire.specs.Acts.{AreLedTo, Replied, Refused};
+ghost use Rattle.play_wire.specs.Inside.{outcome_of, wire_asked};
+ghost use Rattle.play_wire.specs.Reports.{DoesLine, DoesWire, IsWaited, ReportsHalf, ReportsLeft, added_by, left_text};
 ghost use Rattle.play_wire.specs.declared.fault.Fault.TheVariants as fault;
 
 use crate::add::add;
@@ -13,43 +13,43 @@ use crate::carries::{Bound, bring, carry, send};
 use crate::fault::Fault;
 use crate::hosts::Hosts;
 use crate::passed::{add_all, take_counts};
-use crate::show::tell_wire;
-use crate::summary::tell_summary;
+use crate::show::report_wire;
+use crate::summary::report_summary;
 use crate::ticks::tick_all;
 use crate::wire_ask::{WireAsk, wire_ask_of};
-use play_script::{Report, TOLD, bytes_of};
+use play_script::{REPLY_LINE, Report, bytes_of};
 use script_loop::{Buffer, Sink};
 use segment::Segment;
 
-/// Puts into a text what is left on the wire.
-fn tell_left(told: &mut Buffer<TOLD>, segment: &Segment)
-    ensures { told.new ≡ left_text (view segment.now) }
+/// Writes what is left on the wire into a buffer.
+fn report_left(reply_line: &mut Buffer<REPLY_LINE>, segment: &Segment)
+    ensures { reply_line.new ≡ left_text (view segment.now) }
 {
-    told.clear();
+    reply_line.clear();
     if segment.is_quiet() {
-        told.append(b"quiet");
+        reply_line.append(b"quiet");
         return;
     }
     let mut digits = itoa::Buffer::new();
-    told.append(b"left ");
-    told.append(digits.format(segment.flight_len() as u64).as_bytes());
-    told.append(b" under way");
+    reply_line.append(b"left ");
+    reply_line.append(digits.format(segment.flight_len() as u64).as_bytes());
+    reply_line.append(b" under way");
 }
 
 /// Reports `ok` if all packets were there, and there was room for a copy.
-fn tell_there(there: bool, report: &mut Report) -> Result<(), Fault>
-    ensures { Choice there (came_of result report.new.told report.new.below ≡ Told (codes "ok") [])
-        (came_of result report.new.told report.new.below ≡ Refused fault.NoPacket) }
+fn report_there(there: bool, report: &mut Report) -> Result<(), Fault>
+    ensures { Choice there (outcome_of result report.new.reply_line report.new.below ≡ Replied (codes "ok") [])
+        (outcome_of result report.new.reply_line report.new.below ≡ Refused fault.NoPacket) }
 {
     if !there {
         return Err(Fault::NoPacket);
     }
-    report.tell_ok();
+    report.set_ok();
     Ok(())
 }
 
 impl<T: Sink + Drop> Hosts<T> {
-    /// Lets so many ticks pass at each host.
+    /// Lets this many ticks pass at each host.
     fn tick(&mut self, count: u32)
         ensures moves { AreLedTo (view self.old.segment) (view self.new.segment) }
         ensures names { self.new.names ≡ self.old.names }
@@ -58,7 +58,7 @@ impl<T: Sink + Drop> Hosts<T> {
         self.capture.tick(count);
     }
 
-    /// Lets so many ticks pass at each host before a line.
+    /// Lets this many ticks pass at each host before a line.
     pub(crate) fn wait(&mut self, ticks: u32)
         ensures waited { (acts : List Act) × IsWaited ticks (view self.old.segment) acts (view self.new.segment) }
         ensures names { self.new.names ≡ self.old.names }
@@ -69,7 +69,7 @@ impl<T: Sink + Drop> Hosts<T> {
         self.tick(ticks);
     }
 
-    /// Carries so often, and reports what became of each packet. Nothing of it is reported if the report is quiet.
+    /// Carries this often, and reports what happened to each packet, unless the report is quiet.
     fn pass(&mut self, bound: Bound, report: &mut Report)
         ensures moves { AreLedTo (view self.old.segment) (view self.new.segment) }
         ensures names { self.new.names ≡ self.old.names }
@@ -87,7 +87,7 @@ impl<T: Sink + Drop> Hosts<T> {
             names,
             &mut self.log,
         );
-        self.log.tell_left(&self.segment, names);
+        self.log.report_left(&self.segment, names);
         add_all(
             &mut self.log,
             &mut self.segment,
@@ -98,10 +98,10 @@ impl<T: Sink + Drop> Hosts<T> {
         add(&mut report.below, bytes_of(&self.log.text));
     }
 
-    /// `carry ..`: what waits for the links passes, and what is left is told.
+    /// `carry ..`: carries what waits for the links, and reports what is left.
     fn carry(&mut self, bound: Bound, report: &mut Report) -> Result<(), Fault>
         ensures carries { (acts : List Act) × AreActs (view self.old.segment) acts (view self.new.segment)
-            × TellsLeft acts (came_of result report.new.told report.new.below) (view self.new.segment) }
+            × ReportsLeft acts (outcome_of result report.new.reply_line report.new.below) (view self.new.segment) }
         ensures names { self.new.names ≡ self.old.names }
     {
         if !self.wired {
@@ -109,14 +109,14 @@ impl<T: Sink + Drop> Hosts<T> {
         }
         report.below.clear();
         self.pass(bound, report);
-        tell_left(&mut report.told, &self.segment);
+        report_left(&mut report.reply_line, &self.segment);
         Ok(())
     }
 
-    /// `collect`: what waits for the links goes on the wire.
+    /// `collect`: sends what waits for the links onto the wire.
     fn collect(&mut self, report: &mut Report) -> Result<(), Fault>
         ensures collects { (acts : List Act) × AreActs (view self.old.segment) acts (view self.new.segment)
-            × TellsHalf acts (came_of result report.new.told report.new.below) }
+            × ReportsHalf acts (outcome_of result report.new.reply_line report.new.below) }
         ensures names { self.new.names ≡ self.old.names }
     {
         if !self.wired {
@@ -124,15 +124,15 @@ impl<T: Sink + Drop> Hosts<T> {
         }
         let names = self.names.as_slice();
         send(&mut self.segment, &mut self.capture, names, &mut self.log);
-        self.log.tell_left(&self.segment, names);
-        report.tell_ok();
+        self.log.report_left(&self.segment, names);
+        report.set_ok();
         Ok(())
     }
 
-    /// `deliver`: what is due comes.
+    /// `deliver`: delivers what is due.
     fn deliver(&mut self, report: &mut Report) -> Result<(), Fault>
         ensures delivers { (acts : List Act) × AreActs (view self.old.segment) acts (view self.new.segment)
-            × TellsHalf acts (came_of result report.new.told report.new.below) }
+            × ReportsHalf acts (outcome_of result report.new.reply_line report.new.below) }
         ensures names { self.new.names ≡ self.old.names }
     {
         if !self.wired {
@@ -140,30 +140,30 @@ impl<T: Sink + Drop> Hosts<T> {
         }
         let names = self.names.as_slice();
         bring(&mut self.segment, names, &mut self.log);
-        self.log.tell_left(&self.segment, names);
-        report.tell_ok();
+        self.log.report_left(&self.segment, names);
+        report.set_ok();
         Ok(())
     }
 
-    /// `show wire`: what is under way is told.
+    /// `show wire`: reports what is in flight.
     fn show_wire(&self, report: &mut Report) {
-        report.told.clear();
+        report.reply_line.clear();
         report.below.clear();
-        tell_wire(
+        report_wire(
             &self.segment,
             self.names.as_slice(),
-            &mut report.told,
+            &mut report.reply_line,
             &mut report.below,
         );
     }
 
-    /// `summary`: what was counted of each host is told.
+    /// `summary`: reports the counters of each host.
     fn summary(&mut self, report: &mut Report)
         ensures moves { AreLedTo (view self.old.segment) (view self.new.segment) }
         ensures names { self.new.names ≡ self.old.names }
     {
-        report.tell_ok();
-        tell_summary(
+        report.set_ok();
+        report_summary(
             &mut self.segment,
             &mut self.spare.counting.stack,
             self.names.as_slice(),
@@ -171,21 +171,21 @@ impl<T: Sink + Drop> Hosts<T> {
         );
     }
 
-    /// Does what a line asks that names no host, and reports what is told of it.
-    fn answer_ask(&mut self, ask: WireAsk<'_>, report: &mut Report) -> Result<(), Fault>
+    /// Executes a request to the wire, and reports its reply.
+    fn execute_ask(&mut self, ask: WireAsk<'_>, report: &mut Report) -> Result<(), Fault>
         ensures does { (acts : List Act) × AreActs (view self.old.segment) acts (view self.new.segment)
             × DoesWire (wire_asked ask.entry) (view self.old.segment) acts
-            (came_of result report.new.told report.new.below) (view self.new.segment) }
+            (outcome_of result report.new.reply_line report.new.below) (view self.new.segment) }
         ensures names { self.new.names.items ≡ self.old.names.items ++ added_by (Some (wire_asked ask.entry))
-            (came_of result report.new.told report.new.below) }
+            (outcome_of result report.new.reply_line report.new.below) }
     {
         match ask {
             WireAsk::Host(name, words) => {
-                report.tell_ok();
+                report.set_ok();
                 self.add(name, words)
             }
             WireAsk::Wire(names) => {
-                report.tell_ok();
+                report.set_ok();
                 self.wire(names)
             }
             WireAsk::Carry(bound) => self.carry(bound, report),
@@ -193,19 +193,19 @@ impl<T: Sink + Drop> Hosts<T> {
             WireAsk::Deliver => self.deliver(report),
             WireAsk::Tick(count) => {
                 self.tick(count);
-                report.tell_ok();
+                report.set_ok();
                 Ok(())
             }
             WireAsk::Seed(seed) => {
                 self.segment.seed(seed);
-                report.tell_ok();
+                report.set_ok();
                 Ok(())
             }
-            WireAsk::Drop(at) => tell_there(self.segment.lose(at), report),
-            WireAsk::Repeat(at) => tell_there(self.segment.repeat(at), report),
-            WireAsk::Swap(at, other) => tell_there(self.segment.swap(at, other), report),
+            WireAsk::Drop(at) => report_there(self.segment.lose(at), report),
+            WireAsk::Repeat(at) => report_there(self.segment.repeat(at), report),
+            WireAsk::Swap(at, other) => report_there(self.segment.swap(at, other), report),
             WireAsk::Impair(kind, words) => {
-                report.tell_ok();
+                report.set_ok();
                 self.impair(kind, words)
             }
             WireAsk::Show => {
@@ -219,14 +219,14 @@ impl<T: Sink + Drop> Hosts<T> {
         }
     }
 
-    /// Does what a plain line asks that names no host, and reports what is told of it.
-    pub(crate) fn answer_wire(&mut self, plain: &[u8], report: &mut Report) -> Result<(), Fault>
+    /// Executes a plain line that names no host, and reports its reply.
+    pub(crate) fn execute_wire(&mut self, plain: &[u8], report: &mut Report) -> Result<(), Fault>
         ensures { (acts : List Act) × AreActs (view self.old.segment) acts (view self.new.segment)
-            × DoesLine plain.now (view self.old.segment) acts (came_of result report.new.told report.new.below)
+            × DoesLine plain.now (view self.old.segment) acts (outcome_of result report.new.reply_line report.new.below)
             (view self.new.segment) self.old.names.items self.new.names.items }
     {
         match wire_ask_of(plain) {
-            Some(ask) => self.answer_ask(ask, report),
+            Some(ask) => self.execute_ask(ask, report),
             None => Err(Fault::Nothing),
         }
     }

@@ -4,7 +4,7 @@
 use super::captures::COOKED;
 use super::pcapng_blocks::{BIG, MERGED};
 use capture::pcap::LinkType;
-use capture::{Fault, ROOM, Records, Why};
+use capture::{Fault, LONGEST_RECORD, Records, Why};
 use script_loop::Buffer;
 use std::alloc::{AllocError, Global};
 
@@ -24,7 +24,7 @@ type Row = (Option<u64>, u32, usize, LinkType);
 
 const FIRST: Row = (Some(1_700_000_000_123_456_000), 44, 44, LinkType::Ethernet);
 
-/// A file in two parts, one behind the other, and its records.
+/// A file in two consecutive parts, and its records.
 type File = (&'static [u8], &'static [u8], &'static [Row]);
 
 static FILES: [File; 4] = [
@@ -62,7 +62,7 @@ const MERGED_SECOND: Row = (
     LinkType::LinuxCooked,
 );
 
-/// Two parts, one behind the other.
+/// Two parts, joined.
 fn joined(alloc: Global, front: &[u8], back: &[u8]) -> Result<Vec<u8>, AllocError> {
     let mut file = Vec::new(alloc);
     file.extend_from_slice(front)?;
@@ -106,13 +106,13 @@ fn reads_either_format(rt: HostRuntime) {
     }
 }
 
-/// A file in two parts, how many records it has, and what is wrong behind them, and where.
+/// A file in two parts, the number of its records, and what is wrong after them, with its offset.
 type Faulty<'a> = (&'a [u8], &'a [u8], u64, Why, u64);
 
 /// A block that says it has 2 MiB.
 const LONG: [u8; 12] = [0, 0, 0, 6, 0, 32, 0, 0, 0, 0, 0, 0];
 
-/// The reader answers so many records, and then what is wrong, twice.
+/// Returns whether the reader returns this many records, and then twice this fault.
 fn has_fault(records: &mut Records<&[u8]>, count: u64, wanted: Fault) -> bool {
     for _ in 0..count {
         if !matches!(records.next_record(), Ok(Some(_))) {

@@ -8,7 +8,7 @@ use capture::pcap::{
 use std::alloc::{AllocError, Global};
 use std::test::Fail;
 
-/// Little endian, microseconds, Ethernet: a packet padded to 60 bytes, and one behind a VLAN tag.
+/// Little endian, microseconds, Ethernet: a packet padded to 60 bytes, and one with a VLAN tag.
 const TAGGED: [u8; 164] = [
     212, 195, 178, 161, 2, 0, 4, 0, 0, 0, 0, 0, 0, 0, 0, 0, 255, 255, 0, 0, 1, 0, 0, 0, 0, 241, 83,
     101, 64, 226, 1, 0, 60, 0, 0, 0, 60, 0, 0, 0, 2, 0, 0, 0, 0, 1, 2, 0, 0, 0, 0, 2, 8, 0, 69, 0,
@@ -55,12 +55,12 @@ const COOKED_HEADER: [u8; 16] = [0, 0, 0, 1, 0, 6, 2, 0, 0, 0, 0, 2, 0, 0, 0x08,
 /// The header of the first packet in `COOKED`.
 const COOKED_2_HEADER: [u8; 20] = [8, 0, 0, 0, 0, 0, 0, 2, 0, 1, 0, 6, 2, 0, 0, 0, 0, 2, 0, 0];
 
-/// The packet in all of them: from 10.0.0.2 port 5000 to 10.0.0.1 port 7, "hi".
+/// Returns the packet in all of them: from 10.0.0.2 port 5000 to 10.0.0.1 port 7, "hi".
 fn packet() -> &'static [u8] {
     &RAW_IPV4[40..70]
 }
 
-/// What a file's header says: its order, its resolution, its snapshot length and its link type.
+/// Returns what a file's header says: its order, its resolution, its snapshot length and its link type.
 fn says(header: &Header, order: Order, resolution: Resolution, link: LinkType) -> bool {
     header.order == order
         && header.resolution == resolution
@@ -68,12 +68,12 @@ fn says(header: &Header, order: Order, resolution: Resolution, link: LinkType) -
         && header.link == link
 }
 
-/// A record of this time and of a packet of so many bytes.
+/// Returns whether a record has this time and a packet of this length.
 fn is_of(header: &Header, record: &Record<'_>, nanoseconds: u64, original_len: u32) -> bool {
     header.nanoseconds(record) == nanoseconds && record.original_len == original_len
 }
 
-/// So many bytes of the packet are found in a frame, from its first one on.
+/// Returns whether the first `len` bytes of the packet are found in a frame.
 fn shows(link: LinkType, frame: &[u8], len: usize) -> bool {
     match ipv4_packet(link, frame) {
         Ok(found) => found.len() == len && packet().starts_with(found),
@@ -144,7 +144,7 @@ fn writes_as_scapy_and_tcpdump_do(rt: HostRuntime) -> Result<(), Fail> {
     Ok(())
 }
 
-/// A link, the header of a frame on it, and how long the packet behind it is.
+/// A link type, the header of a frame of this type, and the length of the packet that follows it.
 static HEADERS: [(LinkType, &[u8], Result<usize, NoPacket>); 15] = [
     (LinkType::Ethernet, &ETHERNET, Ok(30)),
     (LinkType::Ethernet, &TWO_TAGS, Ok(30)),
@@ -188,7 +188,7 @@ fn found_len(link: LinkType, frame: &[u8]) -> Result<usize, NoPacket> {
     Ok(ipv4_packet(link, frame)?.len())
 }
 
-/// The packet behind a header, and six bytes after it.
+/// Returns the packet after a header, and six bytes after it.
 fn framed(alloc: Global, header: &[u8]) -> Result<Vec<u8>, AllocError> {
     let mut frame = header.to_vec(alloc)?;
     frame.extend_from_slice(packet())?;

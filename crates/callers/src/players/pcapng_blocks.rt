@@ -1,6 +1,6 @@
-//! Bytes from outside. mergecap 4.0.17 wrote `MERGED` of two classic files, and scapy 2.5.0 wrote `BIG`
+//! Bytes from outside. mergecap 4.0.17 wrote `MERGED` from two classic files, and scapy 2.5.0 wrote `BIG`
 //! (`PcapNgWriter` with the attributes `endian` and `endian_magic` of a big-endian host). tshark 4.0.17 reads both,
-//! with the times, lengths and interfaces that stand below.
+//! with the times, lengths and interfaces below.
 use capture::pcapng::{Block, Fault, LinkType, Order, Reader, SECTION_HEADER, Why, first_block};
 use std::test::Fail;
 
@@ -37,7 +37,7 @@ const INTERFACE: u32 = 1;
 
 const ENHANCED_PACKET: u32 = 6;
 
-/// The types of the file's blocks, and whether each ends where the next begins.
+/// Returns whether the file's blocks have these types, and each ends at the offset at which the next begins.
 fn has_blocks(file: &[u8], kinds: &[u32]) -> bool {
     let mut reader = Reader::new(file);
     for kind in kinds {
@@ -49,7 +49,7 @@ fn has_blocks(file: &[u8], kinds: &[u32]) -> bool {
     reader.offset() == file.len() && matches!(reader.next_block(), Ok(None))
 }
 
-/// The block that begins at a byte of a little-endian file.
+/// Returns the block that begins at a byte of a little-endian file.
 fn block_at(file: &[u8], at: usize) -> Option<Block<'_>> {
     match first_block(Some(Order::Little), file.get(at..)?) {
         Ok((block, _rest)) => Some(block),
@@ -72,7 +72,7 @@ fn describes(block: Option<Block<'_>>, link: LinkType, ticks_per_second: u64) ->
     }
 }
 
-/// A block has a packet of this interface and time, of so many bytes, and these of them were captured.
+/// Returns whether a block has a packet of this interface, time and length, of which these bytes were captured.
 fn has_packet(
     block: Option<Block<'_>>,
     interface: u32,
@@ -127,7 +127,7 @@ fn reads_interfaces_and_packets(rt: HostRuntime) -> Result<(), Fail> {
     Ok(())
 }
 
-/// What is wrong with the front of `BIG` of so many bytes, and where.
+/// What is wrong with the first bytes of `BIG`, and at which offset.
 static CUTS: [(usize, Why, usize); 6] = [
     (1, Why::BlockCut, 0),
     (11, Why::BlockCut, 0),
@@ -137,7 +137,7 @@ static CUTS: [(usize, Why, usize); 6] = [
     (123, Why::BlockCut, 52),
 ];
 
-/// What the reader says of a front of `BIG`, once it says something is wrong.
+/// Returns what the reader says of a front of `BIG`, once it says something is wrong.
 fn fault_in(file: &[u8]) -> Option<Fault> {
     let mut reader = Reader::new(file);
     for _ in 0..4 {

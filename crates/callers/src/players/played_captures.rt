@@ -1,5 +1,5 @@
-//! Lines that ask for a capture, and captures that are written, by the public calls alone. tshark 4.0 reads `WRITTEN`
-//! without a fault; its bytes are those of pcap-savefile(5), put together by hand.
+//! Lines that request a capture, and captures that are written, by public calls only. tshark 4.0 reads `WRITTEN`
+//! without an error; its bytes were written by hand from pcap-savefile(5).
 use capture::pcap::{Fault, LinkType, Why};
 use play_pcap::{CaptureFault, OUTCOME, Range, Tally, Trace, WireTrace, ask_of, put_outcome};
 use script_loop::{Buffer, Sink};
@@ -22,7 +22,7 @@ static WRITTEN: [u8; 116] = [
     136, 0, 7, 0, 10, 111, 223, 104, 105,
 ];
 
-/// A line, the name of its file, the first and the last record that it asks for (0 and 0: all), and whether ticks pass.
+/// A line, the name of its file, the first and the last record that it requests (0 and 0: all), and whether ticks pass.
 type Asked = (&'static str, &'static str, u32, u32, bool);
 
 static ASKED: [Asked; 5] = [
@@ -39,7 +39,7 @@ static ASKED: [Asked; 5] = [
     ),
 ];
 
-/// Lines that ask for no capture.
+/// Lines that request no capture.
 static OTHERS: [&str; 13] = [
     "rx pcap",
     "rx 00",
@@ -63,7 +63,7 @@ fn is_range(range: Option<Range>, first: u32, last: u32) -> bool {
     }
 }
 
-/// Whether a row's line asks for what the row says.
+/// Returns whether a row's line requests what the row says.
 fn is_asked(row: &Asked) -> bool {
     let (line, name, first, last, ticks) = row;
     match ask_of(line.as_bytes()) {
@@ -86,7 +86,7 @@ fn reads_what_lines_ask_for(rt: HostRuntime) {
     }
 }
 
-/// A writer that takes so many bytes, and then answers errors.
+/// A writer that accepts this many bytes, and then returns errors.
 #[derive(Drop)]
 struct Short {
     left: usize,
@@ -115,7 +115,7 @@ impl Sink for Short {
     }
 }
 
-/// Writes both packets of `WRITTEN` with their times, and answers whether all was written, and the writer.
+/// Writes both packets of `WRITTEN` with their times. Returns whether all was written, and the writer.
 fn write_both<W: Sink>(rt: &impl Abort, alloc: Global, sink: W) -> (bool, W) {
     let mut trace = Trace::begin(sink, Buffer::new(alloc).expect(rt, "memory"));
     trace.tick();
@@ -162,8 +162,8 @@ static FRAMED: [u8; 82] = [
     0, 1, 8, 0, 6, 4, 0, 1, 2, 0, 0, 0, 0, 1, 10, 0, 0, 1, 0, 0, 0, 0, 0, 0, 10, 0, 0, 2,
 ];
 
-/// Writes so many frames of a wire on which link types were chosen: one after the other before the first frame, and one
-/// behind each. Answers whether all was written, and the writer.
+/// Writes this many frames of a wire. Link types are chosen twice before the first frame, and once after each frame.
+/// Returns whether all was written, and the writer.
 fn write_wire<W: Sink>(rt: &impl Abort, alloc: Global, sink: W, frames: u32) -> (bool, W) {
     let room = Buffer::new(alloc).expect(rt, "memory");
     let mut trace = WireTrace::begin(LinkType::Ipv4, sink, room);
@@ -196,7 +196,7 @@ fn writes_frames_behind_a_header_of_their_link_type(rt: HostRuntime) {
     }
 }
 
-/// What came of a capture, and what is told.
+/// Results of playing a capture, and what is printed for them.
 static TOLD: [(Result<Tally, CaptureFault>, &str); 3] = [
     (
         Ok(Tally {

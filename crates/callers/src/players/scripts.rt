@@ -105,7 +105,7 @@ fn what_a_run_writes(rt: HostRuntime) {
     }
 }
 
-/// The words of a command line, or why there are none.
+/// The words of a command line, or why it has no words.
 enum Words {
     Line(&'static str),
     Lack(io::ErrorKind),

@@ -21,7 +21,7 @@ pub enum Why {
     /// Its link type isn't one of [`crate::pcap::LinkType`].
     #[error("unknown link type")]
     BadLinkType,
-    /// Behind the last whole record stand 1 to 15 bytes, and a record's header has 16.
+    /// The last whole record is followed by 1 to 15 bytes; a record's header has 16.
     #[error("record header cut short")]
     RecordCut,
     /// A record's captured length is more than what is left of the file.
@@ -41,7 +41,7 @@ pub struct Fault {
 }
 
 impl Why {
-    /// This is wrong, and it stands so many bytes into the file.
+    /// Returns this fault, at this offset in the file.
     pub(crate) fn at(self, offset: usize) -> Fault
         ensures { result ≡ fault self offset }
     {

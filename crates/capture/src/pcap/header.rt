@@ -18,7 +18,7 @@ pub enum Order {
     Big,
 }
 
-/// What a time in the file counts beside seconds.
+/// The unit of the fraction in a record's time.
 #[derive(Clone, Copy, Debug, PartialEq, Eq)]
 pub enum Resolution {
     /// Millionths of a second: magic number 0xa1b2c3d4.
@@ -27,7 +27,7 @@ pub enum Resolution {
     Nanoseconds,
 }
 
-/// What the header of a file says.
+/// The header of a file.
 #[derive(Clone, Copy, Debug, PartialEq, Eq)]
 pub struct Header {
     pub order: Order,
@@ -45,7 +45,7 @@ pub struct Header {
     pub link: LinkType,
 }
 
-/// What the magic number says of the file, read with the low byte first.
+/// Returns the byte order and the resolution that a magic number gives, read with the low byte first.
 fn mark(magic: u32) -> Option<(Order, Resolution)>
     ensures { result ≡ mark_of magic }
 {
@@ -58,7 +58,7 @@ fn mark(magic: u32) -> Option<(Order, Resolution)>
     }
 }
 
-/// What the first 24 bytes of a file say, or the first fault in them.
+/// Parses the first 24 bytes of a file. Fails with the first fault in them.
 #[tactic(auto, unfolding(crate::specs::File::header_of))]
 pub(crate) fn read_header(file: &[u8]) -> Result<Header, Fault>
     ensures exact { result ≡ header_of file.now }

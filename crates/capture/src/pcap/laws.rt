@@ -28,8 +28,8 @@ pub fn one_reading()
     ensures { (file : List ℕ) (a b : Result Whole Fault) → Reads file a → Reads file b → a ≡ b }
 {}
 
-/// A frame that carries a packet with a right version and total length gives just this packet, whatever padding stands
-/// behind it.
+/// A frame that carries a packet with a right version and total length gives exactly this packet, whatever padding
+/// follows.
 #[tactic(auto, using(crate::proofs::Framed::carried))]
 pub fn frames_hold_packets()
     ensures { (link : LinkType) (frame packet padding : List ℕ) → IsPacket packet

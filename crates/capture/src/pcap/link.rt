@@ -1,7 +1,7 @@
 //! The IPv4 packet in a frame.
 ghost use Rattle.std.specs.Prelude.{◌≡◌, ◌+◌, ◌≤◌, length};
 ghost use Rattle.std.specs.Int.{w32};
-ghost use Rattle.capture.specs.File.{AnswersBy, number_of};
+ghost use Rattle.capture.specs.File.{ReturnsBy, number_of};
 ghost use Rattle.capture.specs.declared.pcap.header.Order.TheVariants.{Big};
 ghost use Rattle.capture.specs.Frames.{behind, by_family, by_protocol, by_version, host_family, packet_in_frame, unpadded, untagged};
 
@@ -15,7 +15,7 @@ pub enum NoPacket {
     /// The frame ends within its link-layer header, or within a VLAN tag. A raw packet has no byte.
     #[error("frame cut short")]
     FrameCut,
-    /// The protocol (the "ethertype") isn't that of IPv4, 0x0800. It's told as it stands behind at most two VLAN tags.
+    /// The protocol (the "ethertype"), after at most two VLAN tags, isn't that of IPv4, 0x0800.
     #[error("protocol {0:#06x}")]
     OtherProtocol(u16),
     /// The protocol family isn't that of IPv4, 2.
@@ -40,7 +40,7 @@ const FAMILY_IPV4: u32 = 2;
 /// Bytes of the least IPv4 header.
 const IP_HEADER: usize = 20;
 
-/// A packet without what stands behind its total length.
+/// Returns a packet without the bytes after its total length.
 fn without_padding(bytes: &[u8]) -> &[u8]
     ensures { result.now ≡ unpadded bytes.now }
 {
@@ -55,9 +55,9 @@ fn without_padding(bytes: &[u8]) -> &[u8]
     }
 }
 
-/// A protocol and the bytes behind it, with one VLAN tag taken off if there is one.
+/// Returns a protocol and the bytes after it, without a VLAN tag if there is one.
 fn without_tag(protocol: u16, rest: &[u8]) -> Result<(u16, &[u8]), NoPacket>
-    ensures { AnswersBy (λ x. (x.0, x.1.now)) result (untagged protocol rest.now) }
+    ensures { ReturnsBy (λ x. (x.0, x.1.now)) result (untagged protocol rest.now) }
 {
     if protocol != VLAN && protocol != OUTER_VLAN {
         return Ok((protocol, rest));
@@ -68,10 +68,10 @@ fn without_tag(protocol: u16, rest: &[u8]) -> Result<(u16, &[u8]), NoPacket>
     Ok((BigEndian::read_u16(&rest[2..]), &rest[4..]))
 }
 
-/// The packet behind a protocol and at most two tags.
+/// Returns the packet after a protocol and at most two tags.
 #[tactic(auto, unfolding(crate::specs::Frames::behind))]
 fn behind_protocol(protocol: u16, rest: &[u8]) -> Result<&[u8], NoPacket>
-    ensures { AnswersBy (λ p. p.now) result (behind protocol rest.now) }
+    ensures { ReturnsBy (λ p. p.now) result (behind protocol rest.now) }
 {
     let (protocol, rest) = without_tag(protocol, rest)?;
     let (protocol, rest) = without_tag(protocol, rest)?;
@@ -81,10 +81,10 @@ fn behind_protocol(protocol: u16, rest: &[u8]) -> Result<&[u8], NoPacket>
     Ok(without_padding(rest))
 }
 
-/// The packet of a frame whose protocol stands at `at`, in a header of so many bytes.
+/// Returns the packet of a frame with the protocol at offset `at`, in a header of `header` bytes.
 fn in_frame(frame: &[u8], at: usize, header: usize) -> Result<&[u8], NoPacket>
     requires { at + 2 ≤ header }
-    ensures { AnswersBy (λ p. p.now) result (by_protocol at header frame.now) }
+    ensures { ReturnsBy (λ p. p.now) result (by_protocol at header frame.now) }
 {
     if frame.len() < header {
         return Err(NoPacket::FrameCut);
@@ -92,9 +92,9 @@ fn in_frame(frame: &[u8], at: usize, header: usize) -> Result<&[u8], NoPacket>
     behind_protocol(BigEndian::read_u16(&frame[at..]), &frame[header..])
 }
 
-/// The packet behind a family that some host wrote.
+/// Returns the packet after a protocol family in the byte order of some host.
 fn behind_host_family(frame: &[u8]) -> Result<&[u8], NoPacket>
-    ensures { AnswersBy (λ p. p.now) result (by_family host_family frame.now) }
+    ensures { ReturnsBy (λ p. p.now) result (by_family host_family frame.now) }
 {
     if frame.len() < 4 {
         return Err(NoPacket::FrameCut);
@@ -109,9 +109,9 @@ fn behind_host_family(frame: &[u8]) -> Result<&[u8], NoPacket>
     Ok(without_padding(&frame[4..]))
 }
 
-/// The packet behind a family with its high byte first.
+/// Returns the packet after a protocol family with its high byte first.
 fn behind_family(frame: &[u8]) -> Result<&[u8], NoPacket>
-    ensures { AnswersBy (λ p. p.now) result (by_family (number_of Big w32) frame.now) }
+    ensures { ReturnsBy (λ p. p.now) result (by_family (number_of Big w32) frame.now) }
 {
     if frame.len() < 4 {
         return Err(NoPacket::FrameCut);
@@ -123,9 +123,9 @@ fn behind_family(frame: &[u8]) -> Result<&[u8], NoPacket>
     Ok(without_padding(&frame[4..]))
 }
 
-/// A packet that is told by its version.
+/// Returns a packet, if its version is that of IPv4.
 fn of_version(frame: &[u8]) -> Result<&[u8], NoPacket>
-    ensures { AnswersBy (λ p. p.now) result (by_version frame.now) }
+    ensures { ReturnsBy (λ p. p.now) result (by_version frame.now) }
 {
     match frame {
         [] => Err(NoPacket::FrameCut),
@@ -134,13 +134,13 @@ fn of_version(frame: &[u8]) -> Result<&[u8], NoPacket>
     }
 }
 
-/// The IPv4 packet in a frame of a link type, without the link layer's header in front of it and without padding behind
-/// its total length. A packet that is cut short, or whose header is nonsense, is answered as it stands: what takes it
-/// in tests it. Refused with `FrameCut` if the frame ends within the link layer's header, or else with what stands
-/// there in the place of IPv4: `OtherProtocol` (Ethernet and Linux cooked), `OtherFamily` (Null and Loop) or
-/// `OtherVersion` (Raw).
+/// Returns the IPv4 packet in a frame of a link type, without the link layer's header before it and without padding
+/// after its total length. A packet that is cut short, or whose header is malformed, is returned as it is: the receiver
+/// tests it. Fails with `FrameCut` if the frame ends within the link layer's header; otherwise, if the frame has no
+/// IPv4 packet, with `OtherProtocol` (Ethernet and Linux cooked), `OtherFamily` (Null and Loop) or `OtherVersion`
+/// (Raw).
 pub fn ipv4_packet(link: LinkType, frame: &[u8]) -> Result<&[u8], NoPacket>
-    ensures { AnswersBy (λ p. p.now) result (packet_in_frame link frame.now) }
+    ensures { ReturnsBy (λ p. p.now) result (packet_in_frame link frame.now) }
 {
     match link {
         LinkType::Ethernet => in_frame(frame, 12, 14),

@@ -2,14 +2,14 @@
 ghost use Rattle.std.specs.Prelude.{◌≡◌};
 ghost use Rattle.capture.specs.Types.{link_number, link_type_of};
 
-/// What the bytes of a record are (tcpdump.org/linktypes.html).
+/// What the bytes of a record contain (tcpdump.org/linktypes.html).
 #[derive(Clone, Copy, Debug, PartialEq, Eq)]
 pub enum LinkType {
     /// 0: four bytes of protocol family in the byte order of some host, then the packet.
     Null,
     /// 1: an Ethernet frame, without preamble.
     Ethernet,
-    /// 12, 14 and 101: an IPv4 or IPv6 packet, told by its version.
+    /// 12, 14 and 101: an IPv4 or IPv6 packet, by its version.
     Raw,
     /// 108: four bytes of protocol family, the high byte first, then the packet.
     Loop,
@@ -22,7 +22,7 @@ pub enum LinkType {
 }
 
 impl LinkType {
-    /// The link type of a number, or `None` for one that isn't taken.
+    /// Returns the link type of a number, or `None` for one that isn't taken.
     pub fn of(number: u16) -> Option<LinkType>
         ensures { result ≡ link_type_of number }
     {
@@ -38,7 +38,7 @@ impl LinkType {
         }
     }
 
-    /// The number that it's written as: of `Raw` 101.
+    /// Returns the number of the link type; 101 for `Raw`.
     pub fn number(self) -> u16
         ensures { result ≡ link_number self }
     {

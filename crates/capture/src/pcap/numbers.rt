@@ -6,7 +6,7 @@ ghost use Rattle.capture.specs.File.{number, number_of};
 use crate::pcap::header::Order;
 use byteorder::{BigEndian, ByteOrder, LittleEndian};
 
-/// The number of 16 bits at a place, of which two bytes are there.
+/// Returns the 16-bit number at an offset, at which two bytes must exist.
 pub fn u16_at(order: Order, bytes: &[u8], at: usize) -> u16
     requires { at + 2 ≤ length bytes.now }
     ensures { result ≡ number_of order w16 (drop at bytes.now) }
@@ -17,7 +17,7 @@ pub fn u16_at(order: Order, bytes: &[u8], at: usize) -> u16
     }
 }
 
-/// The number of 32 bits at a place, of which four bytes are there.
+/// Returns the 32-bit number at an offset, at which four bytes must exist.
 pub fn u32_at(order: Order, bytes: &[u8], at: usize) -> u32
     requires { at + 4 ≤ length bytes.now }
     ensures { result ≡ number_of order w32 (drop at bytes.now) }
@@ -28,7 +28,7 @@ pub fn u32_at(order: Order, bytes: &[u8], at: usize) -> u32
     }
 }
 
-/// The number of 32 bits in front, of which four bytes are there, and the bytes behind it.
+/// Returns the number in the first four bytes, which must exist, and the bytes after it.
 pub fn first_u32(order: Order, bytes: &[u8]) -> (u32, &[u8])
     requires { 4 ≤ length bytes.now }
     ensures front { bytes.now ≡ number order w32 result.0 ++ result.1.now }

@@ -1,9 +1,9 @@
 //! Files read, record by record or whole.
 ghost use Rattle.std.specs.Prelude.{◌≡◌, ◌+◌, ◌*◌, ◌^◌, ◌<◌, ◌≤◌, ◌++◌, ℕ, drop, length, IfOk, IfErr, OnErr, Result};
 ghost use Rattle.std.specs.Int.{w32};
-ghost use Rattle.capture.specs.File.{AnswersBy, header_of, number_of};
+ghost use Rattle.capture.specs.File.{ReturnsBy, header_of, number_of};
 ghost use Rattle.capture.specs.Records.{Captured, FitsFields, IsCut, Reads, Steps, Whole, RecordReading, nanoseconds, record_bytes};
-ghost use Rattle.capture.specs.Seen.{AnswersUnlessMemory, captured, stepped};
+ghost use Rattle.capture.specs.Seen.{ReturnsUnlessMemory, captured, stepped};
 ghost use Rattle.capture.specs.declared.pcap.fault.Fault.{Fault};
 
 use crate::pcap::fault::{Fault, ReadError, Why};
@@ -55,7 +55,8 @@ pub struct Capture<'a> {
     pub records: Vec<Record<'a>>,
 }
 
-/// How many bytes were captured in the record that begins these bytes, as its header says. There are 16 at least.
+/// Returns how many bytes were captured in the record that begins these bytes, as its header says. There are 16 at
+/// least.
 pub fn captured_len(order: Order, bytes: &[u8]) -> usize
     requires { 16 ≤ length bytes.now }
     ensures is { result ≡ number_of order w32 (drop 8 bytes.now) }
@@ -64,8 +65,9 @@ pub fn captured_len(order: Order, bytes: &[u8]) -> usize
     u32_at(order, bytes, 8) as usize
 }
 
-/// The record that begins these bytes, and what stands behind it. Refused with `RecordCut` if there are fewer than its
-/// header's 16 bytes, and with `BytesCut` if there are fewer than the header says, by the offset in these bytes.
+/// Returns the record at the beginning of these bytes, and the bytes after it. Fails with `RecordCut` if there are
+/// fewer than its header's 16 bytes, and with `BytesCut` if there are fewer than the header says, with the offset in
+/// these bytes.
 pub fn first_record(order: Order, bytes: &[u8]) -> Result<(Record<'_>, &[u8]), Fault>
     requires { 0 < length bytes.now }
     ensures fits { IfOk result (λ r. FitsFields (captured r.0)) }
@@ -99,10 +101,10 @@ pub fn first_record(order: Order, bytes: &[u8]) -> Result<(Record<'_>, &[u8]), F
 }
 
 impl<'a> Reader<'a> {
-    /// Opens a file, of which all bytes are given. Refused with the first fault of its header: `HeaderCut`, `BadMagic`,
+    /// Opens a file, of which all bytes are given. Fails with the first fault of its header: `HeaderCut`, `BadMagic`,
     /// `BadVersion`, `BadLinkType`.
     pub fn open(file: &'a [u8]) -> Result<Reader<'a>, Fault>
-        ensures header { AnswersBy (λ r. r.header) result (header_of file.now) }
+        ensures header { ReturnsBy (λ r. r.header) result (header_of file.now) }
         ensures start { IfOk result (λ r. (r.offset ≡ 24) × (r.rest ≡ drop 24 file.now)) }
     {
         let header = read_header(file)?;
@@ -114,22 +116,22 @@ impl<'a> Reader<'a> {
         })
     }
 
-    /// What the file's header says.
+    /// Returns the file's header.
     pub fn header(&self) -> Header
         ensures { result ≡ self.now.header }
     {
         self.header
     }
 
-    /// How many bytes of the file have been read.
+    /// Returns how many bytes of the file have been read.
     pub fn offset(&self) -> usize
         ensures { result ≡ self.now.offset }
     {
         self.file_len - self.rest.len()
     }
 
-    /// The next record, or `None` if the file has ended. Refused with `RecordCut` or `BytesCut`; the reader is then as
-    /// before, and answers the same again.
+    /// Returns the next record, or `None` at the end of the file. Fails with `RecordCut` or `BytesCut`; the reader is
+    /// then unchanged, and returns the same again.
     pub fn next_record(&mut self) -> Result<Option<Record<'a>>, Fault>
         ensures { Steps self.old self.new (stepped result) }
     {
@@ -147,7 +149,7 @@ impl<'a> Reader<'a> {
 }
 
 impl Header {
-    /// A record's time in nanoseconds since 1970-01-01, 00:00 UTC.
+    /// Returns a record's time in nanoseconds since 1970-01-01, 00:00 UTC.
     pub fn nanoseconds(&self, of: &Record<'_>) -> u64
         ensures { result ≡ nanoseconds self.now.resolution of.now.seconds of.now.fraction }
     {
@@ -159,9 +161,9 @@ impl Header {
     }
 }
 
-/// What is read of a whole file.
+/// Reads a whole file.
 fn read_all<'a>(alloc: Global, file: &'a [u8]) -> Result<Capture<'a>, ReadError>
-    ensures { AnswersUnlessMemory result (Reads file.now) }
+    ensures { ReturnsUnlessMemory result (Reads file.now) }
 {
     let mut reader = Reader::open(file)?;
     let mut records = Vec::new(alloc);
@@ -174,12 +176,12 @@ fn read_all<'a>(alloc: Global, file: &'a [u8]) -> Result<Capture<'a>, ReadError>
     })
 }
 
-/// Reads a whole file. Refused with its first fault, or `Memory`.
+/// Reads a whole file. Fails with its first fault, or `Memory`.
 #[tactic(auto, using(crate::proofs::Answered::only_one))]
 pub fn read<'a>(alloc: Global, file: &'a [u8]) -> Result<Capture<'a>, ReadError>
-    ensures found { AnswersUnlessMemory result (Reads file.now) }
+    ensures found { ReturnsUnlessMemory result (Reads file.now) }
     ensures only { (outcome : Result Whole Fault) → Reads file.now outcome
-        → AnswersUnlessMemory result (λ answer. answer ≡ outcome) }
+        → ReturnsUnlessMemory result (λ answer. answer ≡ outcome) }
 {
     read_all(alloc, file)
 }

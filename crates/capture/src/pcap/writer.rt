@@ -16,8 +16,8 @@ const MAGIC: u32 = 0xa1b2_c3d4;
 /// The version, 2.4.
 const VERSION: [u16; 2] = [2, 4];
 
-/// The header of a file that is written with this link type: little endian, version 2.4, microseconds, time zone and
-/// accuracy 0, snapshot length 65,535.
+/// Returns the header of a file that is written with this link type: little endian, version 2.4, microseconds, time
+/// zone and accuracy 0, snapshot length 65,535.
 pub fn file_header(link: LinkType) -> [u8; 24]
     ensures { result ≡ file_header_bytes (header_for link) }
 {
@@ -29,7 +29,7 @@ pub fn file_header(link: LinkType) -> [u8; 24]
     header
 }
 
-/// The 16 bytes in front of a packet of `len` bytes, all of them captured, in a file with the header of
+/// Returns the 16 bytes before a packet of `len` bytes, all of them captured, in a file with the header of
 /// [`file_header`]: seconds since 1970-01-01, 00:00 UTC, and microseconds since that second, 0 to 999,999. A larger
 /// number is written as it is.
 pub fn record_header(seconds: u32, microseconds: u32, len: u32) -> [u8; 16]

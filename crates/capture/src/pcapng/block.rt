@@ -1,6 +1,6 @@
 //! Blocks, one after the other.
 ghost use Rattle.std.specs.Prelude.{◌≡◌, ◌+◌, ◌<◌, ◌≤◌, ◌^◌, ◌++◌, None, Ok, IfOk, IfErr, length};
-ghost use Rattle.capture.specs.File.{AnswersBy};
+ghost use Rattle.capture.specs.File.{ReturnsBy};
 ghost use Rattle.capture.specs.Blocks.{Reading, Steps, block_bytes, head_of, next_of, order_at, size};
 ghost use Rattle.capture.specs.SeenBlocks.{part, stepped};
 
@@ -11,7 +11,7 @@ use std::marker::Model;
 /// The type of a section's header (section 4.1). It's the same in both orders of bytes.
 pub const SECTION_HEADER: u32 = 0x0a0d_0d0a;
 
-/// What stands behind the first length of a section's header, in the order of the section's numbers.
+/// The number after the first length of a section's header, in the byte order of the section.
 pub const BYTE_ORDER_MAGIC: u32 = 0x1a2b_3c4d;
 
 /// The same, turned round.
@@ -49,7 +49,7 @@ impl<'a> Model for Reader<'a> {
     ghost invariant = { λ r. length r.rest.now ≤ r.file_len };
 }
 
-/// The order of the block that begins these bytes, in a section of this one.
+/// Returns the order of the block that begins these bytes, in a section of this one.
 fn order_of(current: Option<Order>, bytes: &[u8]) -> Result<Order, Fault>
     requires { 12 ≤ length bytes.now }
     ensures order { result ≡ order_at current bytes.now }
@@ -74,8 +74,8 @@ fn order_of(current: Option<Order>, bytes: &[u8]) -> Result<Order, Fault>
     }
 }
 
-/// The order of the numbers and the total length of the block that begins these bytes, 12 at least, in a section of
-/// this order; `None` is in front of the first section. A length is 12 or more, and a multiple of 4. Refused with
+/// Returns the order of the numbers and the total length of the block that begins these bytes, 12 at least, in a
+/// section of this order; `None` is before the first section. A length is 12 or more, and a multiple of 4. Fails with
 /// `NoSection`, `BadMagic` or `BadLength`, by the offset in these bytes.
 #[tactic(auto, unfolding(crate::specs::Blocks::head_of))]
 pub fn block_head(current: Option<Order>, bytes: &[u8]) -> Result<(Order, usize), Fault>
@@ -96,11 +96,11 @@ pub fn block_head(current: Option<Order>, bytes: &[u8]) -> Result<(Order, usize)
     Ok((order, len))
 }
 
-/// The block that begins these bytes, in a section of this order, and what stands behind it. Refused with a fault of
-/// the block, by the offset in these bytes.
+/// Returns the block at the beginning of these bytes, in a section of this order, and the bytes after it. Fails with a
+/// fault of the block, with the offset in these bytes.
 #[tactic(auto, unfolding(crate::specs::Blocks::next_of, crate::specs::Blocks::head_of))]
 pub fn first_block(current: Option<Order>, bytes: &[u8]) -> Result<(Block<'_>, &[u8]), Fault>
-    ensures found { AnswersBy (λ r. part r.0) result (next_of current bytes.now) }
+    ensures found { ReturnsBy (λ r. part r.0) result (next_of current bytes.now) }
     ensures spelled { IfOk result (λ r. bytes.now ≡ block_bytes (part r.0) ++ r.1.now) }
     ensures sized { IfOk result (λ r. length bytes.now ≡ size (part r.0) + length r.1.now) }
     ensures headed { IfOk result (λ r. head_of current bytes.now ≡ Ok (r.0.order, size (part r.0))) }
@@ -140,7 +140,7 @@ pub fn first_block(current: Option<Order>, bytes: &[u8]) -> Result<(Block<'_>, &
 }
 
 impl<'a> Reader<'a> {
-    /// A reader at the start of a file, of which all bytes are given.
+    /// Returns a reader at the start of a file, given all its bytes.
     pub fn new(file: &'a [u8]) -> Reader<'a>
         ensures { result ≡ record { order = None; offset = 0; rest = file.now } }
     {
@@ -151,15 +151,15 @@ impl<'a> Reader<'a> {
         }
     }
 
-    /// How many bytes of the file have been read.
+    /// Returns how many bytes of the file have been read.
     pub fn offset(&self) -> usize
         ensures { result ≡ self.now.offset }
     {
         self.file_len - self.rest.len()
     }
 
-    /// The next block, or `None` if the file has ended. Refused with a fault of the block; the reader is then as
-    /// before, and answers the same again.
+    /// Returns the next block, or `None` at the end of the file. Fails with a fault of the block; the reader is then
+    /// unchanged, and returns the same again.
     pub fn next_block(&mut self) -> Result<Option<Block<'a>>, Fault>
         ensures { Steps self.old self.new (stepped result) }
     {

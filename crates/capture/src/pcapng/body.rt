@@ -1,7 +1,7 @@
-//! What the bodies of blocks say.
+//! Parsing the bodies of blocks.
 ghost use Rattle.std.specs.Prelude.{◌≡◌, ◌+◌, ◌≤◌, IfOk, drop, length, take};
-ghost use Rattle.capture.specs.File.{AnswersBy};
-ghost use Rattle.capture.specs.Bodies.{enhanced_in, interface_in, plain_in, passed, section_in, ticks_by, ticks_said};
+ghost use Rattle.capture.specs.File.{ReturnsBy};
+ghost use Rattle.capture.specs.Bodies.{enhanced_in, interface_in, plain_in, passed, section_in, ticks_by, ticks_given};
 ghost use Rattle.capture.specs.SeenBlocks.{enhanced, plain};
 
 use crate::pcap::{LinkType, Order, u16_at, u32_at};
@@ -11,7 +11,7 @@ use crate::pcapng::fault::BodyFault;
 /// The code of the option if_tsresol.
 const IF_TSRESOL: u16 = 9;
 
-/// What the header of a section says (section 4.1).
+/// The header of a section (section 4.1).
 #[derive(Clone, Copy, Debug, PartialEq, Eq)]
 pub struct Section {
     /// 1.
@@ -20,7 +20,7 @@ pub struct Section {
     pub minor: u16,
 }
 
-/// What the description of an interface says (section 4.2).
+/// The description of an interface (section 4.2).
 #[derive(Clone, Copy, Debug, Default, PartialEq, Eq)]
 pub struct Interface {
     /// The link type's number.
@@ -55,10 +55,10 @@ pub struct SimplePacket<'a> {
     pub bytes: &'a [u8],
 }
 
-/// The ticks of a second, by a byte of the option if_tsresol.
+/// Returns the ticks of a second, by a byte of the option if_tsresol.
 #[tactic(auto, using(crate::proofs::Options::tens_fit, crate::proofs::Options::twos_fit))]
 fn ticks_of(byte: u8) -> Result<u64, BodyFault>
-    ensures { result ≡ ticks_said byte }
+    ensures { result ≡ ticks_given byte }
 {
     if byte < 20 {
         Ok(10u64.pow(u32::from(byte)))
@@ -72,9 +72,10 @@ fn ticks_of(byte: u8) -> Result<u64, BodyFault>
 /// The ticks of a second if an interface doesn't say: microseconds.
 const MICROSECONDS: u64 = 1_000_000;
 
-/// What stands behind the first option, if another may say the ticks of a second; else what the options say.
+/// Returns the bytes after the first option, if a later one may give the ticks of a second; otherwise the result of the
+/// options.
 fn pass_option(order: Order, options: &[u8]) -> Result<&[u8], Result<u64, BodyFault>>
-    ensures { AnswersBy (λ r. r.now) result (passed order options.now) }
+    ensures { ReturnsBy (λ r. r.now) result (passed order options.now) }
 {
     if options.len() < 4 {
         return Err(Ok(MICROSECONDS));
@@ -97,7 +98,7 @@ fn pass_option(order: Order, options: &[u8]) -> Result<&[u8], Result<u64, BodyFa
     Err(ticks_of(options[4]))
 }
 
-/// The ticks of a second that the first `most` options of an interface say.
+/// Returns the ticks of a second that the first `most` options of an interface say.
 #[tactic(auto, using(crate::proofs::Options::ticks_more))]
 fn ticks_in(order: Order, options: &[u8], most: usize) -> Result<u64, BodyFault>
     ensures { result ≡ ticks_by most order options.now }
@@ -115,7 +116,7 @@ fn ticks_in(order: Order, options: &[u8], most: usize) -> Result<u64, BodyFault>
 }
 
 impl<'a> Block<'a> {
-    /// What the body says as a section's header. Refused with `BodyCut` or `BadVersion`.
+    /// Parses the body as a section's header. Fails with `BodyCut` or `BadVersion`.
     pub fn section(&self) -> Result<Section, BodyFault>
         ensures { result ≡ section_in self.now.order self.now.body.now }
     {
@@ -133,7 +134,7 @@ impl<'a> Block<'a> {
         }
     }
 
-    /// What the body says as the description of an interface. Refused with `BodyCut`, `OptionCut` or `BadResolution`.
+    /// Parses the body as the description of an interface. Fails with `BodyCut`, `OptionCut` or `BadResolution`.
     pub fn interface(&self) -> Result<Interface, BodyFault>
         ensures { result ≡ interface_in self.now.order self.now.body.now }
     {
@@ -150,9 +151,9 @@ impl<'a> Block<'a> {
         })
     }
 
-    /// What the body says as an enhanced packet. Refused with `BodyCut`.
+    /// Parses the body as an enhanced packet. Fails with `BodyCut`.
     pub fn enhanced_packet(&self) -> Result<EnhancedPacket<'a>, BodyFault>
-        ensures found { AnswersBy enhanced result (enhanced_in self.now.order self.now.body.now) }
+        ensures found { ReturnsBy enhanced result (enhanced_in self.now.order self.now.body.now) }
         ensures place { IfOk result (λ p. p.bytes.now ≡ take (length p.bytes.now) (drop 20 self.now.body.now)) }
         ensures inside { IfOk result (λ p. 20 + length p.bytes.now ≤ length self.now.body.now) }
     {
@@ -173,10 +174,10 @@ impl<'a> Block<'a> {
         })
     }
 
-    /// What the body says as a simple packet, if the section's first interface keeps so many bytes. Refused with
+    /// Parses the body as a simple packet, in a section whose first interface keeps `snap_len` bytes. Fails with
     /// `BodyCut`.
     pub fn simple_packet(&self, snap_len: u32) -> Result<SimplePacket<'a>, BodyFault>
-        ensures found { AnswersBy plain result (plain_in snap_len self.now.order self.now.body.now) }
+        ensures found { ReturnsBy plain result (plain_in snap_len self.now.order self.now.body.now) }
         ensures place { IfOk result (λ p. p.bytes.now ≡ take (length p.bytes.now) (drop 4 self.now.body.now)) }
         ensures inside { IfOk result (λ p. 4 + length p.bytes.now ≤ length self.now.body.now) }
     {

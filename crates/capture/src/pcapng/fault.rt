@@ -16,7 +16,7 @@ pub enum Why {
     /// A block's total length is below 12, or no multiple of 4.
     #[error("bad block length")]
     BadLength,
-    /// A block's total length behind its body is another than in front of it.
+    /// The total lengths before and after a block's body differ.
     #[error("block lengths differ")]
     LengthsDiffer,
 }

@@ -12,7 +12,7 @@ returns-in-Ok-Some-clause-reads g c =
     let takes = subst (λ (f : Option Found). Takes k bytes (Ok f) new) c.in-Ok-Some.field-0-is
     c.in-Ok-Some.ensures.takes in
     let loaded = c.in_default.ensures in
-    block_read k new _ _ c.args.feed.now.room c.load_block.new.feed.room bytes (Some c.in-Ok-Some.found)
+    block_read k new _ _ c.args.feed.now.buffer c.load_block.new.feed.buffer bytes (Some c.in-Ok-Some.found)
     c.as_slice.ensures loaded.0 loaded.1 takes
 
 pub returns-in-Ok-Some-clause-inside : goal.returns-in-Ok-Some-clause-inside
@@ -23,5 +23,6 @@ returns-in-Ok-Some-clause-inside g c =
 pub returns-in-Err-take-clause-reads : goal.returns-in-Err-take-clause-reads
 returns-in-Err-take-clause-reads g c =
     let loaded = c.in_default.ensures in
-    block_refused (known c.args.blocks.now) (known c.take.new.self) _ _ c.args.feed.now.room c.load_block.new.feed.room
+    block_refused (known c.args.blocks.now) (known c.take.new.self) _ _ c.args.feed.now.buffer
+    c.load_block.new.feed.buffer
     c.as_slice.result.now c.in-Err-take.slip c.as_slice.ensures loaded.0 loaded.1 c.in-Err-take.ensures.takes

@@ -5,7 +5,7 @@ use Rattle.play_script.proofs.fits.fits.Given as goal
 
 abbrev pub invariant-words : goal.invariant-words
 invariant-words l =
-    outcomes.fits_words (words l.wanted) (words l.told) ≡ outcomes.fits_words (words l.left) (words l.got_left)
+    outcomes.fits_words (words l.wanted) (words l.reply_line) ≡ outcomes.fits_words (words l.left) (words l.got_left)
 
 abbrev pub decreases-words : goal.decreases-words
 decreases-words l = length (words l.left)

@@ -13,11 +13,11 @@ returns-in-Some-None c =
     c.first_word.ensures ∙ ap (λ r. word ∷ left r) c.in-Some-None.is-0 in
     let rest : words c.in-Some.rest.now ≡ number ∷ [] =
     c.first_word-3.ensures ∙ ap (λ r. number ∷ left r) c.in-Some-None.is-1 in
-    let told : words c.args.told.now ≡ got ∷ number ∷ [] =
+    let reply_line : words c.args.reply_line.now ≡ got ∷ number ∷ [] =
     c.first_word-2.ensures ∙ ap (λ r. got ∷ left r) c.in-Some.is ∙ ap (λ (t : List (List ℕ)). got ∷ t) rest in
     c.if_errors.ensures
     ∙ ap (λ (so : Bool). bytes_eq word (codes "error") && (bytes_eq got (codes "error") && so)) c.is_rest.ensures
-    ∙ sym (unnumbered-longer _ _ _ word got number wanted told (words-some c.in-Some-None.more.now))
+    ∙ sym (unnumbered-longer _ _ _ word got number wanted reply_line (words-some c.in-Some-None.more.now))
 
 pub returns-in-None-Some : goal.returns-in-None-Some
 returns-in-None-Some c =
@@ -28,6 +28,6 @@ returns-in-None-Some c =
     c.first_word.ensures ∙ ap (λ r. word ∷ left r) c.in-None-Some.is-0 in
     let rest : words c.in-Some.rest.now ≡ number ∷ words c.in-None-Some.field-0-1.now =
     c.first_word-3.ensures ∙ ap (λ r. number ∷ left r) c.in-None-Some.is-1 in
-    let told : words c.args.told.now ≡ got ∷ number ∷ words c.in-None-Some.field-0-1.now =
+    let reply_line : words c.args.reply_line.now ≡ got ∷ number ∷ words c.in-None-Some.field-0-1.now =
     c.first_word-2.ensures ∙ ap (λ r. got ∷ left r) c.in-Some.is ∙ ap (λ (t : List (List ℕ)). got ∷ t) rest in
-    sym (unnumbered-shorter _ _ _ word got number wanted told (words-some c.in-None-Some.field-0-1.now))
+    sym (unnumbered-shorter _ _ _ word got number wanted reply_line (words-some c.in-None-Some.field-0-1.now))

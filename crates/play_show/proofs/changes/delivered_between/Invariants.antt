@@ -6,6 +6,6 @@ use Rattle.play_show.proofs.changes.delivered_between.Given as goal
 abbrev pub invariant-places : goal.invariant-places
 invariant-places l = record {
   len : length l.delivered ≡ MAX_SOCKETS;
-  told : (k : ℕ) → k < l.place
+  compared : (k : ℕ) → k < l.place
       → get_or l.delivered k false ≡ nat_lt (get_or l.before.waiting k 0) (get_or l.after.waiting k 0);
 }

@@ -13,8 +13,9 @@ returns-in_default c =
 pub returns-in-Some-last_error : goal.returns-in-Some-last_error
 returns-in-Some-last_error c =
     error_asked c.args.place c.args.fd (view c.args.segment.now) (view c.counts_at.new.segment)
-    (view c.last_error.new.self) c.in-Some.field-0 c.in-Some-last_error.error c.tell_error.new.told c.clear.new.self
-    c.counts_at.ensures.same c.in-Some.ensures.counts c.in-Some-last_error.ensures.asked c.tell_error.ensures
+    (view c.last_error.new.self) c.in-Some.field-0 c.in-Some-last_error.error c.report_error.new.reply_line
+    c.clear.new.self
+    c.counts_at.ensures.same c.in-Some.ensures.counts c.in-Some-last_error.ensures.asked c.report_error.ensures
     c.clear.ensures
 
 pub returns-in-None : goal.returns-in-None

@@ -23,5 +23,5 @@ returns-in_default-link_tallies c =
 
 pub returns : goal.returns
 returns c =
-    link_shown c.args.place (view c.args.segment.now) c.in-Some-address.state c.tell_link.new.told
-    c.tell_link.new.below (sym c.in-Some-address.is ∙ c.address.ensures) c.tell_link.ensures
+    link_shown c.args.place (view c.args.segment.now) c.in-Some-address.state c.report_link.new.reply_line
+    c.report_link.new.below (sym c.in-Some-address.is ∙ c.address.ensures) c.report_link.ensures

@@ -8,5 +8,5 @@ returns-in_default c = no_link c.args.place Neighbours (view c.args.segment.now)
 
 pub returns : goal.returns
 returns c =
-    neighbours_shown c.args.place (view c.args.segment.now) c.in-Some.neighbours.now c.tell_neighbours.new.told
-    c.tell_neighbours.new.below c.in-Some.ensures c.tell_neighbours.ensures
+    neighbours_shown c.args.place (view c.args.segment.now) c.in-Some.neighbours.now c.report_neighbours.new.reply_line
+    c.report_neighbours.new.below c.in-Some.ensures c.report_neighbours.ensures

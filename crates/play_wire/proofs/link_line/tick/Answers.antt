@@ -19,12 +19,12 @@ age_link-requires c =
 pub returns-then-exchange : goal.returns-then-exchange
 returns-then-exchange c =
     ticked c.args.place c.args.count (view c.args.segment.now) (view c.exchange-then-exchange.new.segment)
-    (view c.age_link.new.segment) c.tell_ok.new.self.told c.tell_ok.new.self.below c.requires
+    (view c.age_link.new.segment) c.set_ok.new.self.reply_line c.set_ok.new.self.below c.requires
     (stack_ticked c.args.place c.args.count (view c.args.segment.now) (view c.exchange.new.segment)
     (view c.exchange-then-exchange.new.segment) c.args.spare.now c.exchange.new.stack c.tick_stack.new.stack
     c.exchange-then-exchange.new.stack c.exchange-then-exchange.result (c.exchange.ensures.yes c.if-exchange.true)
     c.tick_stack.ensures c.exchange-then-exchange.ensures).0
-    c.age_link.ensures c.tell_ok.ensures.told c.tell_ok.ensures.below
+    c.age_link.ensures c.set_ok.ensures.reply_line c.set_ok.ensures.below
 
 pub returns-else-exchange : goal.returns-else-exchange
 returns-else-exchange c =

@@ -2,7 +2,7 @@ use Rattle.std.proofs.Common.{refl, subst}
 use Rattle.script_loop.specs.Serves.{Serves}
 use Rattle.segment.specs.Inside.{view}
 use Rattle.play_wire.specs.Inside.{play_with}
-use Rattle.play_wire.specs.Tells.{WirePlay, Tells}
+use Rattle.play_wire.specs.Reports.{WirePlay, Reports}
 use Rattle.play_wire.specs.declared.hosts.TheConstants.{PACKETS}
 use Rattle.play_wire.proofs.RunLemmas.{played}
 use Rattle.play_wire.proofs.runs.play_hosts.Goals as goal
@@ -18,7 +18,7 @@ returns-in_default-clause-lawful g c new lines printed prints =
 pub returns-clause-served : goal.returns-clause-served
 returns-clause-served g c = (
   (let m = c.serve_script-outcome.new.machine in play_with (view m.hosts.segment) m.hosts.names.items m.printer),
-  subst (λ (p : WirePlay). Serves Tells p
+  subst (λ (p : WirePlay). Serves Reports p
       ((let m = c.serve_script-outcome.new.machine in play_with (view m.hosts.segment) m.hosts.names.items m.printer))
       (g.R.Read.remaining c.args.reader.now) (g.R.Read.remaining c.serve_script-outcome.new.reader)
       (g.W.Write.contents c.args.writer.now) (g.W.Write.contents c.serve_script-outcome.new.writer)

@@ -1,6 +1,6 @@
 use Rattle.std.proofs.Common.{ℕ, List, length, Option, Some, Ok, ap, sym, subst, ◌∙◌}
 use Rattle.capture.specs.SeenBlocks.{part}
-use Rattle.capture.specs.Packets.{IsInside, Says, known}
+use Rattle.capture.specs.Packets.{IsInside, BlockGives, known}
 use Rattle.capture.specs.declared.blocks.Found.{Found}
 use Rattle.capture.proofs.Placed.{placed}
 use Rattle.capture.proofs.blocks.Blocks.take.Goals as goal
@@ -12,7 +12,7 @@ returns-in-Ok-Some-clause-takes c =
     let found = c.in-Ok-Some.found in
     let new = known c.take_block.new.self in
     let inside = subst (IsInside (length block.body)) c.in-Ok-Some.field-0-is c.in-Ok-Some.ensures.inside in
-    let says = subst (λ (f : Option Found). Says (known c.args.self.now) block (Ok f) new) c.in-Ok-Some.field-0-is
+    let says = subst (λ (f : Option Found). BlockGives (known c.args.self.now) block (Ok f) new) c.in-Ok-Some.field-0-is
     c.in-Ok-Some.ensures.says in
     let at = placed block c.args.bytes.now c.in_ok-block._rest.now found.from found.len first.spelled inside in (
       block,

@@ -13,9 +13,10 @@ returns-in-Ok-None g c =
     let place = place_of old.format old.blocks old.number old.offset (g.S.Read.remaining old.feed.source) in
     let mid = place_of new.format new.blocks new.number new.offset (g.S.Read.remaining new.feed.source) in
     let none = none_of c.self.inside.fault c.in_default.not-Some in
-    let finds = subst (λ (o : Option Found). FindsIn old.format place mid new.feed.room (Ok o)) c.in-Ok-None.field-0-is
+    let finds = subst (λ (o : Option Found). FindsIn old.format place mid new.feed.buffer (Ok o))
+    c.in-Ok-None.field-0-is
     c.in-Ok-None.ensures.finds in
-    stepped c.args.self.now place c.self.inside.fault _ _ _ mid new.feed.room (Ok None) c.self.view_is none finds
+    stepped c.args.self.now place c.self.inside.fault _ _ _ mid new.feed.buffer (Ok None) c.self.view_is none finds
     c.in-Ok-None.ensures.number (refl, refl, none, refl)
 
 pub returns-in-Ok-Some : goal.returns-in-Ok-Some
@@ -26,7 +27,8 @@ returns-in-Ok-Some g c =
     let place = place_of old.format old.blocks old.number old.offset (g.S.Read.remaining old.feed.source) in
     let mid = place_of new.format new.blocks new.number new.offset (g.S.Read.remaining new.feed.source) in
     let none = none_of c.self.inside.fault c.in_default.not-Some in
-    let finds = subst (λ (o : Option Found). FindsIn old.format place mid new.feed.room (Ok o)) c.in-Ok-Some.field-0-is
+    let finds = subst (λ (o : Option Found). FindsIn old.format place mid new.feed.buffer (Ok o))
+    c.in-Ok-Some.field-0-is
     c.in-Ok-Some.ensures.finds in
     let shown : Record = record {
       number = c.saturating_add-self-inside.result;
@@ -34,9 +36,10 @@ returns-in-Ok-Some g c =
       original_len = found.original_len;
       link = found.link;
     } in
-    let at = moved mid new.feed.room c.saturating_add-self-inside.result c.saturating_add-self-inside-in-Ok-Some.result
+    let at = moved mid new.feed.buffer c.saturating_add-self-inside.result
+    c.saturating_add-self-inside-in-Ok-Some.result
     (omega arith) (omega arith) in
-    stepped c.args.self.now place c.self.inside.fault _ _ _ mid new.feed.room (Ok (Some found)) c.self.view_is none
+    stepped c.args.self.now place c.self.inside.fault _ _ _ mid new.feed.buffer (Ok (Some found)) c.self.view_is none
     finds c.in-Ok-Some.ensures.number (shown, refl, refl, refl, at, none)
 
 pub returns-in-Err : goal.returns-in-Err
@@ -47,5 +50,5 @@ returns-in-Err g c =
     let mid = place_of new.format new.blocks new.number new.offset (g.S.Read.remaining new.feed.source) in
     let none = none_of c.self.inside.fault c.in_default.not-Some in
     let fault : Fault = record { why = c.in-Err.slip.why; offset = c.saturating_add.result } in
-    stepped c.args.self.now place c.self.inside.fault _ _ _ mid new.feed.room (Err c.in-Err.slip) c.self.view_is none
+    stepped c.args.self.now place c.self.inside.fault _ _ _ mid new.feed.buffer (Err c.in-Err.slip) c.self.view_is none
     c.in-Err.ensures.finds c.in-Err.ensures.number (fault, refl, refl, omega arith, refl, refl, refl)

@@ -1,11 +1,11 @@
 use Rattle.std.proofs.Common.{None, refl, sym}
 use Rattle.flat_model.specs.Machine.Event.{Done}
-use Rattle.play_script.specs.declared.deed.Deed.TheVariants.{Ticks}
-use Rattle.play_script.proofs.CaptureLemmas.{Captures-deed}
-use Rattle.play_script.proofs.DeedLemmas.{ticks_move}
+use Rattle.play_script.specs.declared.action.Action.TheVariants.{Ticks}
+use Rattle.play_script.proofs.CaptureLemmas.{Captures-action}
+use Rattle.play_script.proofs.ActionLemmas.{ticks_move}
 use Rattle.play_script.proofs.captured.CapturedStack.wait.Goals as goal
 
 pub returns-clause-captured : goal.returns-clause-captured
 returns-clause-captured g c =
-    Captures-deed c.args.line c.args.self.now.capture.trace c.note.new.self.trace (Ticks c.args.ticks) Done None
+    Captures-action c.args.line c.args.self.now.capture.trace c.note.new.self.trace (Ticks c.args.ticks) Done None
     c.args.ticks (sym (ticks_move c.args.ticks Done)) refl c.note.ensures.notes

@@ -1,7 +1,7 @@
 use Rattle.std.proofs.Common.{◌++◌, List, codes, subst, ℕ}
 use Rattle.flat_model.specs.Scripts.Texts.{hex_text}
-use Rattle.play_read.specs.Asks.{Writes}
-use Rattle.play_read.specs.Views.{ask_of}
+use Rattle.play_script.specs.Asks.{Writes}
+use Rattle.play_script.specs.Views.{ask_of}
 use Rattle.play_script.proofs.line.Line.ask.Goals as goal
 
 pub returns-then-self-clause-asks : goal.returns-then-self-clause-asks

@@ -1,11 +1,11 @@
 use Rattle.std.proofs.Common.{◌++◌, ◌∙◌, Bool, ap, refl}
 use Rattle.std.proofs.lemmas.List.{append_assoc}
 use Rattle.play_text.specs.Texts.{fault_text}
-use Rattle.play_script.specs.Tells.{told_text}
+use Rattle.play_script.specs.Reports.{reply_line_text}
 use Rattle.play_script.specs.Views.{expected_on}
 use Rattle.play_script.specs.declared.printer.Printer.{Printer}
 use Rattle.segment.specs.Inside.{view}
-use Rattle.play_wire.specs.Acts.{Told, Refused}
+use Rattle.play_wire.specs.Acts.{Replied, Refused}
 use Rattle.play_wire.specs.Inside.{play_with}
 use Rattle.play_wire.proofs.PlayLemmas.{and_false}
 use Rattle.play_wire.proofs.player.Player.ask.Goals as goal
@@ -15,23 +15,23 @@ returns-in-Ok g c =
     let now = c.args.self.now in
     let p = play_with (view now.hosts.segment) now.hosts.names.items now.printer in
     let did = c.in-Ok.ensures p refl refl in
-    let segment = view c.answer_words.new.hosts.segment in
-    let names = c.answer_words.new.hosts.names.items in
-    let told = c.answer_words.new.report.told in
-    let below = c.answer_words.new.report.below in
+    let segment = view c.execute_words.new.hosts.segment in
+    let names = c.execute_words.new.hosts.names.items in
+    let reply_line = c.execute_words.new.report.reply_line in
+    let below = c.execute_words.new.report.below in
     let wanted = expected_on now.line in
-    let all = told_text p.form p.texts p.name p.number now.line.shown wanted told below in (
+    let all = reply_line_text p.form p.texts p.name p.number now.line.shown wanted reply_line below in (
       did.0,
       all ++ c.put_fitting.ensures.0,
       (
-        Told told below,
+        Replied reply_line below,
         segment,
         names,
         did.1,
         (c.put_fitting.ensures.0, λ none. c.put_fitting.ensures.1 (c.objects_of-objects.ensures none), refl),
-        ap (λ (q : Printer). play_with segment names q) c.put_told.ensures.printer,
+        ap (λ (q : Printer). play_with segment names q) c.put_reply_line.ensures.printer,
       ),
-      c.put_fitting.ensures.2 ∙ ap (λ t. t ++ c.put_fitting.ensures.0) c.put_told.ensures.text
+      c.put_fitting.ensures.2 ∙ ap (λ t. t ++ c.put_fitting.ensures.0) c.put_reply_line.ensures.text
           ∙ append_assoc c.args.text.now all c.put_fitting.ensures.0,
     )
 
@@ -40,8 +40,8 @@ returns-in-Err g c =
     let now = c.args.self.now in
     let p = play_with (view now.hosts.segment) now.hosts.names.items now.printer in
     let did = c.in-Err.ensures p refl refl in
-    let segment = view c.answer_words.new.hosts.segment in
-    let names = c.answer_words.new.hosts.names.items in (
+    let segment = view c.execute_words.new.hosts.segment in
+    let names = c.execute_words.new.hosts.names.items in (
       did.0,
       fault_text p.form p.name p.number c.bytes_of.result.now,
       (

@@ -1,4 +1,0 @@
-mod DashLemmas
-mod DetailLemmas
-mod LineLemmas
-pub mod Laws

@@ -1,3 +1,0 @@
-pub mod Settings
-pub mod Asks
-pub mod Views

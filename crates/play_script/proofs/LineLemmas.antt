@@ -1,0 +1,216 @@
+-- A line asks for one thing at most.
+use Rattle.std.proofs.Common.{◌≡◌, ℕ, suc, ◌+◌, ◌*◌, true, false, List, [], ◌∷◌, length, get_or, codes, Some, None, sym, ap, ap₂, ◌∙◌, arith}
+use Rattle.std.proofs.lemmas.Bool.{false≢true}
+use Rattle.std.proofs.lemmas.Fmt.{decimal_injective}
+use Rattle.flat_model.specs.Machine.Event.{Event, Open, Bind, Connect, Send, Receive, Close, Set_option, Comes, Transmit, Tick, Ask_counters, Ask_usage}
+use Rattle.flat_model.specs.Scripts.Grammar.{HasArguments, IsLine, keyword, words}
+use Rattle.flat_model.specs.Scripts.Script as script
+use Rattle.flat_model.specs.Scripts.Script.{all_events}
+use Rattle.play_pcap.specs.Asks.{IsAsked}
+use Rattle.play_pcap.specs.declared.ask.Details.{Details}
+use Rattle.play_script.specs.Settings.{has_dashes}
+use Rattle.play_script.proofs.DashLemmas.{first_dash}
+use Rattle.play_show.specs.Topics.{topic_asked}
+use Rattle.play_show.specs.declared.topic.Topic.{Topic}
+use Rattle.play_show.proofs.Laws.{begins_with_show}
+use Rattle.play_script.specs.Asks.{Ask, Call, Ticks, Show, Capture, Settings, AsksFor, IsTicks, Writes}
+use Rattle.play_script.proofs.DetailLemmas.{name-same, capture-same}
+
+-- the first two bytes of a word, and of the first word
+abbrev front_of : List ℕ → ℕ
+front_of word = get_or word 0 0 * 256 + get_or word 1 0
+
+abbrev first_of : List (List ℕ) → ℕ
+first_of [] = 0
+first_of (word ∷ more) = front_of word
+
+-- ---- the first word
+
+-- no keyword begins with `sh`, and none with a dash
+not-show : (event : Event) → front_of (keyword event) ≡ 29544 → ⊥
+not-show Open h = omega (arith, h)
+not-show (Bind fd address) h = omega (arith, h)
+not-show (Connect fd address) h = omega (arith, h)
+not-show (Send fd (Some to) bytes) h = omega (arith, h)
+not-show (Send fd None bytes) h = omega (arith, h)
+not-show (Receive fd most) h = omega (arith, h)
+not-show (Close fd) h = omega (arith, h)
+not-show (Set_option fd option on) h = omega (arith, h)
+not-show (Comes packet) h = omega (arith, h)
+not-show Transmit h = omega (arith, h)
+not-show Tick h = omega (arith, h)
+not-show Ask_counters h = omega (arith, h)
+not-show Ask_usage h = omega (arith, h)
+
+no-dash : (event : Event) → get_or (keyword event) 0 0 ≡ 45 → ⊥
+no-dash Open h = omega (arith, h)
+no-dash (Bind fd address) h = omega (arith, h)
+no-dash (Connect fd address) h = omega (arith, h)
+no-dash (Send fd (Some to) bytes) h = omega (arith, h)
+no-dash (Send fd None bytes) h = omega (arith, h)
+no-dash (Receive fd most) h = omega (arith, h)
+no-dash (Close fd) h = omega (arith, h)
+no-dash (Set_option fd option on) h = omega (arith, h)
+no-dash (Comes packet) h = omega (arith, h)
+no-dash Transmit h = omega (arith, h)
+no-dash Tick h = omega (arith, h)
+no-dash Ask_counters h = omega (arith, h)
+no-dash Ask_usage h = omega (arith, h)
+
+-- one word stands after `rx`, and none after `tick`
+after-rx : (event : Event) (args : List (List ℕ)) → front_of (keyword event) ≡ 29304 → HasArguments event args
+    → length args ≡ 1
+after-rx Open args h has = absurd (omega (arith, h))
+after-rx (Bind fd address) args h has = absurd (omega (arith, h))
+after-rx (Connect fd address) args h has = absurd (omega (arith, h))
+after-rx (Send fd (Some to) bytes) args h has = absurd (omega (arith, h))
+after-rx (Send fd None bytes) args h has = absurd (omega (arith, h))
+after-rx (Receive fd most) args h has = absurd (omega (arith, h))
+after-rx (Close fd) args h has = absurd (omega (arith, h))
+after-rx (Set_option fd option on) args h has = absurd (omega (arith, h))
+after-rx (Comes packet) args h has = ap length has.1
+after-rx Transmit args h has = absurd (omega (arith, h))
+after-rx Tick args h has = absurd (omega (arith, h))
+after-rx Ask_counters args h has = absurd (omega (arith, h))
+after-rx Ask_usage args h has = absurd (omega (arith, h))
+
+after-tick : (event : Event) (args : List (List ℕ)) → front_of (keyword event) ≡ 29801 → HasArguments event args
+    → length args ≡ 0
+after-tick Open args h has = absurd (omega (arith, h))
+after-tick (Bind fd address) args h has = absurd (omega (arith, h))
+after-tick (Connect fd address) args h has = absurd (omega (arith, h))
+after-tick (Send fd (Some to) bytes) args h has = absurd (omega (arith, h))
+after-tick (Send fd None bytes) args h has = absurd (omega (arith, h))
+after-tick (Receive fd most) args h has = absurd (omega (arith, h))
+after-tick (Close fd) args h has = absurd (omega (arith, h))
+after-tick (Set_option fd option on) args h has = absurd (omega (arith, h))
+after-tick (Comes packet) args h has = absurd (omega (arith, h))
+after-tick Transmit args h has = absurd (omega (arith, h))
+after-tick Tick args h has = ap length has
+after-tick Ask_counters args h has = absurd (omega (arith, h))
+after-tick Ask_usage args h has = absurd (omega (arith, h))
+
+-- ---- two things that a line can't ask for at once
+
+call-ticks : (plain : List ℕ) (event : Event) (n : ℕ) → script.Asks all_events plain event → IsTicks plain n → ⊥
+call-ticks plain event n asks ticks =
+    let all : keyword event ∷ asks.form.args ≡ codes "tick" ∷ ticks.0 ∷ [] = sym asks.form.words_are ∙ ticks.1 in
+    let name : keyword event ≡ codes "tick" = cc all in
+    let args : asks.form.args ≡ ticks.0 ∷ [] = cc all in
+    let none : length asks.form.args ≡ 0 = after-tick event asks.form.args (ap front_of name) asks.form.arguments in
+    let one : length asks.form.args ≡ 1 = ap length args in
+    omega (arith, none, one)
+
+pub call-show : (plain : List ℕ) (event : Event) (topic : Topic) → script.Asks all_events plain event
+    → topic_asked plain ≡ Some topic → ⊥
+call-show plain event topic asks is =
+    let shows = begins_with_show plain topic is in
+    not-show event (sym (ap first_of asks.form.words_are) ∙ ap first_of shows.1)
+
+pub call-capture : (plain : List ℕ) (event : Event) (name : List ℕ) (d : Details) → script.Asks all_events plain event
+    → IsAsked plain name d → ⊥
+call-capture plain event name d asks asked =
+    let all : keyword event ∷ asks.form.args ≡ codes "rx" ∷ codes "pcap" ∷ name ∷ asked.0 =
+    sym asks.form.words_are ∙ asked.1 in
+    let first : keyword event ≡ codes "rx" = cc all in
+    let args : asks.form.args ≡ codes "pcap" ∷ name ∷ asked.0 = cc all in
+    let one : length asks.form.args ≡ 1 = after-rx event asks.form.args (ap front_of first) asks.form.arguments in
+    let two : length asks.form.args ≡ suc (suc (length asked.0)) = ap length args in
+    omega (arith, one, two)
+
+pub ticks-show : (plain : List ℕ) (n : ℕ) (topic : Topic) → IsTicks plain n → topic_asked plain ≡ Some topic → ⊥
+ticks-show plain n topic ticks is =
+    let shows = begins_with_show plain topic is in
+    let apart : 29801 ≡ 29544 = sym (ap first_of ticks.1) ∙ ap first_of shows.1 in omega (arith, apart)
+
+pub ticks-capture : (plain : List ℕ) (n : ℕ) (name : List ℕ) (d : Details) → IsTicks plain n → IsAsked plain name d → ⊥
+ticks-capture plain n name d ticks asked =
+    let apart : 29801 ≡ 29304 = sym (ap first_of ticks.1) ∙ ap first_of asked.1 in omega (arith, apart)
+
+show-capture : (plain : List ℕ) (topic : Topic) (name : List ℕ) (d : Details) → topic_asked plain ≡ Some topic
+    → IsAsked plain name d → ⊥
+show-capture plain topic name d is asked =
+    let shows = begins_with_show plain topic is in
+    let apart : 29304 ≡ 29544 = sym (ap first_of asked.1) ∙ ap first_of shows.1 in omega (arith, apart)
+
+-- ---- settings
+
+pub call-settings : (plain : List ℕ) (event : Event) → has_dashes plain ≡ true → script.Asks all_events plain event → ⊥
+call-settings plain event is h = no-dash event (first_dash plain (keyword event) h.form.args is h.form.words_are)
+
+pub ticks-settings : (plain : List ℕ) (n : ℕ) → has_dashes plain ≡ true → IsTicks plain n → ⊥
+ticks-settings plain n is h =
+    let same : get_or (codes "tick") 0 0 ≡ 45 = first_dash plain (codes "tick") (h.0 ∷ []) is h.1 in
+    omega (arith, same)
+
+show-settings : (plain : List ℕ) (topic : Topic) → has_dashes plain ≡ true → topic_asked plain ≡ Some topic → ⊥
+show-settings plain topic is h =
+    let shows = begins_with_show plain topic h in
+    let same : get_or (codes "show") 0 0 ≡ 45 = first_dash plain (codes "show") shows.0 is shows.1 in
+    omega (arith, same)
+
+capture-settings : (plain name : List ℕ) (d : Details) → has_dashes plain ≡ true → IsAsked plain name d → ⊥
+capture-settings plain name d is h =
+    let same : get_or (codes "rx") 0 0 ≡ 45 = first_dash plain (codes "rx") (codes "pcap" ∷ name ∷ h.0) is h.1 in
+    omega (arith, same)
+
+-- what a line of settings asks for
+settings_alone : (plain : List ℕ) (ask : Ask) → has_dashes plain ≡ true → Writes plain ask
+    → ask ≡ Settings (words plain)
+settings_alone plain (Call event) is h = absurd (call-settings plain event is h)
+settings_alone plain (Ticks n) is h = absurd (ticks-settings plain n is h)
+settings_alone plain (Show topic) is h = absurd (show-settings plain topic is h)
+settings_alone plain (Capture name d) is h = absurd (capture-settings plain name d is h)
+settings_alone plain (Settings named) is h = ap Settings h.1
+
+-- ---- one thing
+
+one_count : (plain : List ℕ) (m n : ℕ) → IsTicks plain m → IsTicks plain n → m ≡ n
+one_count plain m n h k =
+    let all : codes "tick" ∷ h.0 ∷ [] ≡ codes "tick" ∷ k.0 ∷ [] = sym h.1 ∙ k.1 in
+    let word : h.0 ≡ k.0 = cc all in
+    decimal_injective m n (omega (arith, h.2.0)) (omega (arith, k.2.0)) (sym h.2.1 ∙ word ∙ k.2.1)
+
+topic-same : (topic other : Topic) → Some topic ≡ Some other → topic ≡ other
+topic-same topic other e = cc e
+
+-- what crate `request` says of events
+abbrev pub OneEvent : Type 0
+OneEvent = (line : List ℕ) (a b : Event) → IsLine line a → IsLine line b → a ≡ b
+
+pub one_ask : OneEvent → (plain : List ℕ) (a b : Ask) → Writes plain a → Writes plain b → a ≡ b
+one_ask one plain (Call e) (Call f) h k = ap Call (one plain e f h.form k.form)
+one_ask one plain (Call e) (Ticks n) h k = absurd (call-ticks plain e n h k)
+one_ask one plain (Call e) (Show topic) h k = absurd (call-show plain e topic h k)
+one_ask one plain (Call e) (Capture name d) h k = absurd (call-capture plain e name d h k)
+one_ask one plain (Call e) (Settings named) h k = settings_alone plain (Call e) k.0 h ∙ ap Settings (sym k.1)
+one_ask one plain (Ticks n) (Call e) h k = absurd (call-ticks plain e n k h)
+one_ask one plain (Ticks m) (Ticks n) h k = ap Ticks (one_count plain m n h k)
+one_ask one plain (Ticks n) (Show topic) h k = absurd (ticks-show plain n topic h k)
+one_ask one plain (Ticks n) (Capture name d) h k = absurd (ticks-capture plain n name d h k)
+one_ask one plain (Ticks n) (Settings named) h k = settings_alone plain (Ticks n) k.0 h ∙ ap Settings (sym k.1)
+one_ask one plain (Show topic) (Call e) h k = absurd (call-show plain e topic k h)
+one_ask one plain (Show topic) (Ticks n) h k = absurd (ticks-show plain n topic k h)
+one_ask one plain (Show topic) (Show other) h k = ap Show (topic-same topic other (sym h ∙ k))
+one_ask one plain (Show topic) (Capture name d) h k = absurd (show-capture plain topic name d h k)
+one_ask one plain (Show topic) (Settings named) h k = settings_alone plain (Show topic) k.0 h ∙ ap Settings (sym k.1)
+one_ask one plain (Capture name d) (Call e) h k = absurd (call-capture plain e name d k h)
+one_ask one plain (Capture name d) (Ticks n) h k = absurd (ticks-capture plain n name d k h)
+one_ask one plain (Capture name d) (Show topic) h k = absurd (show-capture plain topic name d k h)
+one_ask one plain (Capture name d) (Capture name' e) h k =
+    ap₂ Capture (name-same plain name name' d e h k) (capture-same plain name name' d e h k)
+one_ask one plain (Capture name d) (Settings named) h k =
+    settings_alone plain (Capture name d) k.0 h ∙ ap Settings (sym k.1)
+one_ask one plain (Settings named) b h k = ap Settings h.1 ∙ sym (settings_alone plain b h.0 k)
+
+-- a line that asks for none of them
+pub asks_nothing : (plain : List ℕ) → ((event : Event) → ¬ script.Asks all_events plain event)
+    → ((n : ℕ) → ¬ IsTicks plain n)
+    → None ≡ topic_asked plain → ((name : List ℕ) (d : Details) → ¬ IsAsked plain name d) → has_dashes plain ≡ false
+    → AsksFor plain None
+asks_nothing plain no_call no_ticks no_topic no_capture no_dashes (Call event) h = no_call event h
+asks_nothing plain no_call no_ticks no_topic no_capture no_dashes (Ticks n) h = no_ticks n h
+asks_nothing plain no_call no_ticks no_topic no_capture no_dashes (Show topic) h = cc
+asks_nothing plain no_call no_ticks no_topic no_capture no_dashes (Capture name d) h = no_capture name d h
+asks_nothing plain no_call no_ticks no_topic no_capture no_dashes (Settings named) h =
+    absurd (false≢true (sym no_dashes ∙ h.0))

@@ -1,0 +1,100 @@
+use Rattle.std.proofs.Common.{[], ◌-◌, ◌++◌, ◌∙◌, List, ap, codes, length, refl, subst, ℕ}
+use Rattle.play_line.specs.declared.fault.Slip.{Slip}
+use Rattle.play_text.specs.Texts.{fault_text, slip_text}
+use Rattle.play_script.specs.Lines.{Asks, Faulty, Nothing, TooLong, reading_part, shifted}
+use Rattle.play_script.specs.Views.{expected_on, plain_line}
+use Rattle.play_script.specs.declared.printer.Printer.{Printer}
+use Rattle.segment.specs.Inside.{view}
+use Rattle.play_wire.specs.Inside.{named_by, play_with}
+use Rattle.play_wire.specs.Reports.{ReportsAsked}
+use Rattle.play_wire.proofs.PlayLemmas.{nothing_more, reported_part}
+use Rattle.play_wire.proofs.player.Player.execute_timed.Goals as goal
+
+pub returns-in-Nothing : goal.returns-in-Nothing
+returns-in-Nothing g c =
+    let now = c.args.self.now in
+    let part = c.take-part.result.now in
+    let host = named_by c.take-part.new.self in
+    let playing = λ (q : Printer). play_with (view now.hosts.segment) now.hosts.names.items q in (
+      [],
+      [],
+      host,
+      part,
+      c.take-part.ensures.parted,
+      reported_part (playing now.printer) (playing now.printer) host c.args.timed.ticks
+          (length c.args.line.now - length part) (reading_part c.args.line.now part) Nothing [] []
+          c.in-Nothing.ensures (refl, refl, refl),
+      nothing_more c.args.text.now,
+    )
+
+pub returns-in-TooLong : goal.returns-in-TooLong
+returns-in-TooLong g c =
+    let now = c.args.self.now in
+    let part = c.take-part.result.now in
+    let host = named_by c.take-part.new.self in
+    let q = now.printer in
+    let text = fault_text q.form q.name q.number (codes "the line is too long") in
+    let playing = λ (q : Printer). play_with (view now.hosts.segment) now.hosts.names.items q in (
+      [],
+      text,
+      host,
+      part,
+      c.take-part.ensures.parted,
+      reported_part (playing q) (playing c.put_too_long.new.self) host c.args.timed.ticks
+          (length c.args.line.now - length part) (reading_part c.args.line.now part) TooLong [] text
+          c.in-TooLong.ensures (refl, refl, ap playing c.put_too_long.ensures.printer),
+      c.put_too_long.ensures.text,
+    )
+
+pub returns-in-Faulty : goal.returns-in-Faulty
+returns-in-Faulty g c =
+    let now = c.args.self.now in
+    let part = c.take-part.result.now in
+    let host = named_by c.take-part.new.self in
+    let q = now.printer in
+    let before = length c.args.line.now - length part in
+    let text = slip_text q.form q.name q.number (shifted before c.in-Faulty.slip) in
+    let playing = λ (q : Printer). play_with (view now.hosts.segment) now.hosts.names.items q in (
+      [],
+      text,
+      host,
+      part,
+      c.take-part.ensures.parted,
+      reported_part (playing q) (playing c.put_slip.new.self) host c.args.timed.ticks before
+          (reading_part c.args.line.now part) (Faulty c.in-Faulty.slip) [] text
+          c.in-Faulty.ensures (refl, refl, ap playing c.put_slip.ensures.printer),
+      c.put_slip.ensures.text
+          ∙ ap (λ (s : Slip). c.args.text.now ++ slip_text q.form q.name q.number s) c.shift.ensures,
+    )
+
+pub returns-in-Asks : goal.returns-in-Asks
+returns-in-Asks g c =
+    let now = c.args.self.now in
+    let part = c.take-part.result.now in
+    let host = named_by c.take-part.new.self in
+    let line = c.read_part.new.line in
+    let waited = c.wait.ensures.waited in
+    let mid = view c.wait.new.self.segment in
+    let did = c.ask.ensures in
+    let after = c.ask.new.self in
+    let new = play_with (view after.hosts.segment) after.hosts.names.items after.printer in (
+      waited.0 ++ did.0,
+      did.1,
+      host,
+      part,
+      c.take-part.ensures.parted,
+      reported_part (play_with (view now.hosts.segment) now.hosts.names.items now.printer) new host c.args.timed.ticks
+          (length c.args.line.now - length part) (reading_part c.args.line.now part)
+          (Asks line.shown (plain_line line) (expected_on line)) (waited.0 ++ did.0) did.1
+          c.in-Asks.ensures (
+            waited.0,
+            did.0,
+            mid,
+            refl,
+            waited.1,
+            subst (λ (xs : List (List ℕ)). ReportsAsked (play_with mid xs now.printer) host line.shown (plain_line line)
+                (expected_on line) did.0 did.1 new)
+                (ap (λ xs. xs.items) c.wait.ensures.names) did.2,
+          ),
+      did.3,
+    )
