@@ -17,19 +17,23 @@ goes_tick go (suc n) m a b c some is h k =
     let same : m ≡ n = omega arith in (b, h, subst (λ (i : ℕ). Goes go (replicate i Passes) b c) same k)
 
 -- the acts of one move, and those behind it
-pub goes_move : {S : Type 0} (go : S → Act → S → Type 0) (n : ℕ) (place : RecordPlace) (packet : List ℕ) (es all : List Act) (a b c d : S)
-    → all ≡ replicate n Passes ++ Arrives place packet ∷ es → Goes go (replicate n Passes) a b → go b (Arrives place packet) c
+pub goes_move : {S : Type 0} (go : S → Act → S → Type 0) (n : ℕ) (place : RecordPlace) (packet : List ℕ)
+    (es all : List Act) (a b c d : S)
+    → all ≡ replicate n Passes ++ Arrives place packet ∷ es → Goes go (replicate n Passes) a b
+    → go b (Arrives place packet) c
     → Goes go es c d
     → Goes go all a d
 goes_move go n place packet es all a b c d is ticks comes rest =
     subst (λ (v : List Act). Goes go v a d) (sym is)
     (goes_append go (replicate n Passes) (Arrives place packet ∷ es) a b d ticks (c, comes, rest))
 
-came_after : (n : ℕ) (place : RecordPlace) (packet : List ℕ) (es : List Act) → came (replicate n Passes ++ Arrives place packet ∷ es) ≡ came es + 1
+came_after : (n : ℕ) (place : RecordPlace) (packet : List ℕ) (es : List Act)
+    → came (replicate n Passes ++ Arrives place packet ∷ es) ≡ came es + 1
 came_after zero place packet es = omega arith
 came_after (suc n) place packet es = came_after n place packet es
 
-pub came_move : (n : ℕ) (place : RecordPlace) (packet : List ℕ) (es all : List Act) → all ≡ replicate n Passes ++ Arrives place packet ∷ es
+pub came_move : (n : ℕ) (place : RecordPlace) (packet : List ℕ) (es all : List Act)
+    → all ≡ replicate n Passes ++ Arrives place packet ∷ es
     → came all ≡ came es + 1
 came_move n place packet es all is = ap came is ∙ came_after n place packet es
 
@@ -38,6 +42,7 @@ ticked_after : (n : ℕ) (place : RecordPlace) (packet : List ℕ) (es : List Ac
 ticked_after zero place packet es = omega arith
 ticked_after (suc n) place packet es = ap suc (ticked_after n place packet es) ∙ omega arith
 
-pub ticked_move : (n : ℕ) (place : RecordPlace) (packet : List ℕ) (es all : List Act) → all ≡ replicate n Passes ++ Arrives place packet ∷ es
+pub ticked_move : (n : ℕ) (place : RecordPlace) (packet : List ℕ) (es all : List Act)
+    → all ≡ replicate n Passes ++ Arrives place packet ∷ es
     → ticks_in all ≡ n + ticks_in es
 ticked_move n place packet es all is = ap ticks_in is ∙ ticked_after n place packet es

@@ -43,13 +43,15 @@ pub played_file : {S : Type 0} (go : S → Act → S → Type 0) (d : Details) (
     → origin ≡ begin_of h (map captured slice) → begin ≡ begin_of h (map captured part) → number ≡ first_of d.range
     → Goes go (acts_of d h origin begin number part) a b
     → t ≡ tally_of (length part) (acts_of d h origin begin number part) → PlaysFile go d file (Ok t) a b
-played_file go d file h items slice part origin begin number t a b reads same range chosen from starts first goes tally =
+played_file go d file h items slice part origin begin number t a b reads same range chosen from starts first goes
+    tally =
     let all : map captured slice ≡ map captured items = ap (map captured) same in
     let is : map captured part ≡ selected d.range (map captured items) =
     ap (map captured) (chosen ∙ ap (selected d.range) same) ∙ selected_seen d.range items in
     let len : length part ≡ length (selected d.range (map captured items)) =
     sym (length-map part captured) ∙ ap length is in
-    let acts : acts_of d h origin begin number part ≡ capture_acts d (record { header = h; records = map captured items }) =
+    let acts : acts_of d h origin begin number part
+    ≡ capture_acts d (record { header = h; records = map captured items }) =
     rw (first, from, starts, all, is) refl in (
       record { header = h; records = map captured items },
       reads,

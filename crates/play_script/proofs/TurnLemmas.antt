@@ -132,7 +132,8 @@ Executed-turns join has (Show topic) old new shown plain wanted text failed is (
 Executed-turns join has (Capture name d) old new shown plain wanted text failed asked
     (causes, (outcome, before, after, plays, was, now, reports, fails)) =
     let made =
-    Named-turns join has shown plain name wanted d outcome (replay_of old no_drops) (replay_of new causes) asked plays in
+    Named-turns join has shown plain name wanted d outcome (replay_of old no_drops) (replay_of new causes) asked plays
+    in
     (made.0, made.1, made.2, made.3, λ stays. absurd (false≢true stays))
 Executed-turns join has (Settings named) old new shown plain wanted text failed asks reported = absurd reported
 
@@ -213,7 +214,8 @@ Asked-line join has now new shown plain text wanted (
   ),
 ) =
     let made =
-    Executed-turns join has ask (captured_of now.machine now.traced now.number) after shown plain wanted said failed asks
+    Executed-turns join has ask (captured_of now.machine now.traced now.number) after shown plain wanted said failed
+    asks
     answered in
     let stayed : new.head ≡ (now.head && stays_head ask) = ap (λ (p : Play). p.head) same in
     inl (record {
@@ -292,13 +294,16 @@ Reports-line : Joins → (has : List ℕ → List ℕ → Type 0) (now new : Pla
     (text : List ℕ) → ReportsReading Step has now n before line text new
     → Asked (ArePlayedTurns has n line) now new ⊎ Settled (ArePlayedTurns has n line) (MaySet line) now new
 Reports-line join has now new n before Nothing text (is, same) =
-    inl (Idle (ArePlayedTurns has n Nothing) now new refl (ap (λ (p : Play). p.machine) same) (ap (λ (p : Play). p.traced) same)
+    inl (Idle (ArePlayedTurns has n Nothing) now new refl (ap (λ (p : Play). p.machine) same)
+    (ap (λ (p : Play). p.traced) same)
     (ap (λ (p : Play). p.number) same) (ap (λ (p : Play). p.config) same) (ap (λ (p : Play). p.head) same))
 Reports-line join has now new n before TooLong text (is, same) =
-    inl (Idle (ArePlayedTurns has n TooLong) now new refl (ap (λ (p : Play). p.machine) same) (ap (λ (p : Play). p.traced) same)
+    inl (Idle (ArePlayedTurns has n TooLong) now new refl (ap (λ (p : Play). p.machine) same)
+    (ap (λ (p : Play). p.traced) same)
     (ap (λ (p : Play). p.number) same) (ap (λ (p : Play). p.config) same) (ap (λ (p : Play). p.head) same))
 Reports-line join has now new n before (Faulty slip) text (is, same) =
-    inl (Idle (ArePlayedTurns has n (Faulty slip)) now new refl (ap (λ (p : Play). p.machine) same) (ap (λ (p : Play). p.traced) same)
+    inl (Idle (ArePlayedTurns has n (Faulty slip)) now new refl (ap (λ (p : Play). p.machine) same)
+    (ap (λ (p : Play). p.traced) same)
     (ap (λ (p : Play). p.number) same) (ap (λ (p : Play). p.config) same) (ap (λ (p : Play). p.head) same))
 Reports-line join has now new n before (Asks shown plain wanted) text (mid, waited, reported) =
     Waited-line join has n now mid new shown plain wanted waited
@@ -346,7 +351,8 @@ Kept-before join has now old mid new lines first rest t n m captured =
 Asked-before : Joins → (has : List ℕ → List ℕ → Type 0) (now old mid new : Play) (line : List ℕ) (lines : List (List ℕ))
     → now.machine ≡ old.machine → now.traced ≡ old.traced
     → now.number ≡ more_by 1 old.number → now.config ≡ old.config → now.head ≡ old.head
-    → Asked (AreTimedTurns has line (timed line)) now mid → IsRunOf has mid lines new → IsRunOf has old (line ∷ lines) new
+    → Asked (AreTimedTurns has line (timed line)) now mid → IsRunOf has mid lines new
+    → IsRunOf has old (line ∷ lines) new
 Asked-before join has now old mid new line lines m t n c h first rest =
     elim rest.begins [
       | inl same ↦ record {
@@ -374,8 +380,10 @@ Asked-before join has now old mid new line lines m t n c h first rest =
           ),
         );
         turns = [] ∷ rest.turns;
-        are =
-            (subst (λ (ts : List Turn). AreTimedTurns has line (timed line) ts) (first.head stays).1 first.are, rest.are);
+        are = (
+          subst (λ (ts : List Turn). AreTimedTurns has line (timed line) ts) (first.head stays).1 first.are,
+          rest.are,
+        );
         leads = rest.leads;
         kept = Kept-before join has now old mid new lines [] rest t n first.number
             (subst (λ (ts : List Turn). Captures now.number now.traced ts mid.traced) (first.head stays).1
@@ -386,7 +394,8 @@ Asked-before join has now old mid new line lines m t n c h first rest =
 Settled-before : Joins → (has : List ℕ → List ℕ → Type 0) (now old mid new : Play) (line : List ℕ)
     (lines : List (List ℕ)) → now.traced ≡ old.traced
     → now.number ≡ more_by 1 old.number → now.config ≡ old.config → now.head ≡ old.head
-    → Settled (AreTimedTurns has line (timed line)) (MayTimedSet line (timed line)) now mid → IsRunOf has mid lines new → IsRunOf has old (line ∷ lines) new
+    → Settled (AreTimedTurns has line (timed line)) (MayTimedSet line (timed line)) now mid → IsRunOf has mid lines new
+    → IsRunOf has old (line ∷ lines) new
 Settled-before join has now old mid new line lines t n c h first rest =
     let set : MayTimedSet line (timed line) old.config mid.config =
     subst (λ (e : Config). MayTimedSet line (timed line) e mid.config) c first.set in
@@ -432,6 +441,8 @@ Prints-run join has old new [] printed (same, none) = record {
 Prints-run join has old new (line ∷ lines) printed (mid, text, rest, reports, later, joined) =
     let after = Prints-run join has mid new lines rest later in
     elim (Timed-line join has (next_line line old) mid line text (timed line) reports) [
-      | inl asked ↦ Asked-before join has (next_line line old) old mid new line lines refl refl refl refl refl asked after
-      | inr settled ↦ Settled-before join has (next_line line old) old mid new line lines refl refl refl refl settled after
+      | inl asked ↦ Asked-before join has (next_line line old) old mid new line lines refl refl refl refl refl asked
+          after
+      | inr settled ↦ Settled-before join has (next_line line old) old mid new line lines refl refl refl refl settled
+          after
     ]

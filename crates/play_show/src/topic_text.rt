@@ -10,7 +10,7 @@ use play_text::Piece::Amount;
 use play_text::add;
 use script_loop::Buffer;
 
-/// Writes the text of a query: the reply, of a few words, into `reply`, and the lines under it, each with its line feed,
+/// Writes the text of a query: the reply, of a few words, into `reply`, and the lines below it, each with its newline,
 /// into `below`. These are one line for each open socket, ordered by descriptor; one for each of the first 32
 /// unfinished datagrams, oldest first, with the first 16 ranges of its bytes; one for each counter, in the order of
 /// [`Counter::all`](flat_model::Counter::all); none for the output queue and the pool. The old contents of the buffers

@@ -11,8 +11,10 @@ returns-in_default c =
 pub returns-in-Some-counts_at : goal.returns-in-Some-counts_at
 returns-in-Some-counts_at c =
     frame_heard c.args.place c.args.frame.now (view c.args.segment.now) (view c.counts_at.new.segment)
-    (view c.receive.new.self) (view c.counts_at-2.new.segment) c.in-Some.before c.in-Some-counts_at.after c.receive.result
-    c.report_frame.new.reply_line c.clear.new.self c.counts_at.ensures.same c.in-Some.ensures.counts c.receive.ensures.is
+    (view c.receive.new.self) (view c.counts_at-2.new.segment) c.in-Some.before c.in-Some-counts_at.after
+    c.receive.result
+    c.report_frame.new.reply_line c.clear.new.self c.counts_at.ensures.same c.in-Some.ensures.counts
+    c.receive.ensures.is
     c.receive.ensures.heard c.counts_at-2.ensures.same c.in-Some-counts_at.ensures.counts c.report_frame.ensures
     c.clear.ensures
 
@@ -20,4 +22,5 @@ pub returns-in-None : goal.returns-in-None
 returns-in-None c =
     frame_counted c.args.place c.args.frame.now (view c.args.segment.now) (view c.counts_at.new.segment)
     (view c.receive.new.self) (view c.counts_at-2.new.segment) c.in-Some.before c.receive.result
-    c.counts_at.ensures.same c.in-Some.ensures.counts c.receive.ensures.is c.receive.ensures.heard c.in-None.ensures.counts
+    c.counts_at.ensures.same c.in-Some.ensures.counts c.receive.ensures.is c.receive.ensures.heard
+    c.in-None.ensures.counts

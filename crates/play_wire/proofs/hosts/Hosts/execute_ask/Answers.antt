@@ -80,7 +80,8 @@ returns-in-Drop-clause-names g c = rw c.in-Drop.is
 
 pub returns-in-Repeat-clause-does : goal.returns-in-Repeat-clause-does
 returns-in-Repeat-clause-does g c = rw c.in-Repeat.is
-    (by_hand (view c.args.self.now.segment) (view c.repeat.new.self) (Repeats c.in-Repeat.at) _ _ _ c.repeat.ensures.repeated
+    (by_hand (view c.args.self.now.segment) (view c.repeat.new.self) (Repeats c.in-Repeat.at) _ _ _
+    c.repeat.ensures.repeated
     c.repeat.ensures.is c.report_there-in-Repeat.ensures)
 
 pub returns-in-Repeat-clause-names : goal.returns-in-Repeat-clause-names
@@ -89,7 +90,8 @@ returns-in-Repeat-clause-names g c = rw c.in-Repeat.is
 
 pub returns-in-Swap-clause-does : goal.returns-in-Swap-clause-does
 returns-in-Swap-clause-does g c = rw c.in-Swap.is
-    (by_hand (view c.args.self.now.segment) (view c.swap.new.self) (Swaps c.in-Swap.at c.in-Swap.other) _ _ _ c.swap.ensures.swapped
+    (by_hand (view c.args.self.now.segment) (view c.swap.new.self) (Swaps c.in-Swap.at c.in-Swap.other) _ _ _
+    c.swap.ensures.swapped
     c.swap.ensures.is c.report_there-in-Swap.ensures)
 
 pub returns-in-Swap-clause-names : goal.returns-in-Swap-clause-names
