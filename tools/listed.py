@@ -195,9 +195,8 @@ def errors() -> list[Error]:
 
 def codes() -> dict[str, int]:
     """The number of each error in C, by how a reply names it: the output queue's has one of its own."""
-    numbers = pieces(CODES, r"Errno::(\w+)(?:\(Lack::(\w+)\))? => -(\d+),")
-    code = {(variant, lack.lower()): int(number) for variant, lack, number in numbers}
-    return {it.text: code[it.variant, it.lack] for it in errors()}
+    own = {lack.lower(): int(it) for lack, it in pieces(CODES, r"const (\w+)_FULL: i32 = -(\d+);")}
+    return {it.text: own.get(it.lack, it.number) for it in errors()}
 
 
 def errors_of(name: str, known: dict[str, str]) -> list[str]:

@@ -1,10 +1,11 @@
 -- The result codes for C (4.4BSD's `errno.h`; that an error is the negative of its number, and that a full output queue
 -- has a number of its own, is this project's own).
-use Rattle.std.specs.Prelude.{ℕ, ℤ, pos, negsuc, min, Option, Some, None, Result, Ok, Err}
+use Rattle.std.specs.Prelude.{ℕ, ℤ, pos, negsuc, neg_ℤ, Bool, true, false, if◌then◌else◌, min, Option, Some, None, Result, Ok, Err}
+use Rattle.flat_model.specs.Scripts.Errnos.{errno_number}
 use Rattle.flat_model.specs.declared.address.Addr.{Addr}
 use Rattle.flat_model.specs.declared.errno.Errno.{Errno}
-use Rattle.flat_model.specs.declared.errno.Errno.TheVariants.{BadDescriptor, Access, Invalid, TooManyFiles, WouldBlock, DestinationRequired, MessageSize, AddressInUse, AddressNotAvailable, NoBufs, IsConnected, HostUnreachable}
-use Rattle.flat_model.specs.declared.errno.Lack.TheVariants.{Pool, Queue}
+use Rattle.flat_model.specs.declared.errno.Errno.TheVariants.{NoBufs}
+use Rattle.flat_model.specs.declared.errno.Lack.TheVariants.{Queue}
 
 -- ENXIO, 6
 abbrev pub no_stack : ℤ
@@ -22,20 +23,13 @@ invalid = negsuc 21
 abbrev pub count_code : ℕ → ℤ
 count_code n = pos (min n 2147483647)
 
+-- whether an error has a number of its own: the output queue is full
+abbrev pub is_queue_full : Errno → Bool
+is_queue_full (NoBufs Queue) = true
+is_queue_full _ = false
+
 abbrev pub refusal_code : Errno → ℤ
-refusal_code BadDescriptor = negsuc 8
-refusal_code Access = negsuc 12
-refusal_code Invalid = negsuc 21
-refusal_code TooManyFiles = negsuc 23
-refusal_code WouldBlock = negsuc 34
-refusal_code DestinationRequired = negsuc 38
-refusal_code MessageSize = negsuc 39
-refusal_code AddressInUse = negsuc 47
-refusal_code AddressNotAvailable = negsuc 48
-refusal_code (NoBufs Pool) = negsuc 54
-refusal_code (NoBufs Queue) = negsuc 154
-refusal_code IsConnected = negsuc 55
-refusal_code HostUnreachable = negsuc 64
+refusal_code errno = if is_queue_full errno then negsuc 154 else neg_ℤ (pos (errno_number errno))
 
 -- for a call that only succeeds or fails
 abbrev pub done_code : Result (Unit {0}) Errno → ℤ

@@ -1,6 +1,6 @@
 //! The error codes for C: the negative of 4.4BSD's error number.
 ghost use Rattle.std.specs.Prelude.{◌≡◌, ◌≤◌, pos};
-ghost use Rattle.libbsdudp.specs.Answers.{count_code, done_code, refusal_code};
+ghost use Rattle.libbsdudp.specs.Answers.{count_code, done_code, is_queue_full, refusal_code};
 
 use flat_model::{Errno, Lack};
 
@@ -31,25 +31,25 @@ pub(crate) const HOST_UNREACHABLE: i32 = 65;
 /// EMSGSIZE: a packet above the maximum length, or a buffer shorter than the longest packet.
 pub(crate) const BAD_LENGTH: i32 = -40;
 
+/// ENOBUFS of the output queue.
+const QUEUE_FULL: i32 = -155;
+
+/// Whether the output queue was full.
+fn is_queue_full(errno: Errno) -> bool
+    ensures { result ≡ is_queue_full errno }
+{
+    matches!(errno, Errno::NoBufs(Lack::Queue))
+}
+
 /// Returns the error code of a failed call. ENOBUFS of the pool is -55, and ENOBUFS of the output queue -155, because
 /// they leave different states.
 pub(crate) fn refused(errno: Errno) -> i32
     ensures { result ≡ refusal_code errno }
 {
-    match errno {
-        Errno::BadDescriptor => -9,
-        Errno::Access => -13,
-        Errno::Invalid => -22,
-        Errno::TooManyFiles => -24,
-        Errno::WouldBlock => -35,
-        Errno::DestinationRequired => -39,
-        Errno::MessageSize => -40,
-        Errno::AddressInUse => -48,
-        Errno::AddressNotAvailable => -49,
-        Errno::NoBufs(Lack::Pool) => -55,
-        Errno::NoBufs(Lack::Queue) => -155,
-        Errno::IsConnected => -56,
-        Errno::HostUnreachable => -65,
+    if is_queue_full(errno) {
+        QUEUE_FULL
+    } else {
+        -i32::from(errno.number())
     }
 }
 

@@ -13,7 +13,7 @@ use Rattle.flat_model.specs.declared.address.Addr.{Addr}
 use Rattle.flat_model.specs.declared.counter.Counter.TheVariants.{IpReclaimed}
 use Rattle.flat_model.specs.declared.counters.Counters.{Counters}
 use Rattle.flat_model.specs.declared.errno.Errno.{Errno}
-use Rattle.flat_model.specs.declared.errno.Errno.TheVariants.{NoBufs, Access, DestinationRequired, MessageSize, IsConnected, AddressNotAvailable, HostUnreachable, AddressInUse, BadDescriptor, Invalid, TooManyFiles, WouldBlock}
+use Rattle.flat_model.specs.declared.errno.Errno.TheVariants.{NoBufs}
 use Rattle.flat_model.specs.declared.errno.Lack.TheVariants.{Pool, Queue}
 use Rattle.flat_model.proofs.Laws.{times-both}
 use Rattle.mbuf_chain.specs.Chain.{PoolView}
@@ -104,18 +104,7 @@ no_lack (Err errno) h e = true≢false (sym (ap lack_reply e) ∙ h)
 
 lack_is : (errno : Errno) → is_pool_lack errno ≡ true → errno ≡ NoBufs Pool
 lack_is (NoBufs Pool) h = refl
-lack_is (NoBufs Queue) h = absurd (true≢false (sym h))
-lack_is BadDescriptor h = absurd (true≢false (sym h))
-lack_is Access h = absurd (true≢false (sym h))
-lack_is Invalid h = absurd (true≢false (sym h))
-lack_is TooManyFiles h = absurd (true≢false (sym h))
-lack_is WouldBlock h = absurd (true≢false (sym h))
-lack_is DestinationRequired h = absurd (true≢false (sym h))
-lack_is MessageSize h = absurd (true≢false (sym h))
-lack_is AddressInUse h = absurd (true≢false (sym h))
-lack_is AddressNotAvailable h = absurd (true≢false (sym h))
-lack_is IsConnected h = absurd (true≢false (sym h))
-lack_is HostUnreachable h = absurd (true≢false (sym h))
+lack_is _ h = absurd (true≢false (sym h))
 
 pub record WasLack (v : SendView) (result : Result ℕ Errno) (u : SendView) : Type 0 where
   pub reply : sent_reply result ≡ Refused (NoBufs Pool)

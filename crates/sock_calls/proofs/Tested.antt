@@ -18,7 +18,7 @@ use Rattle.flat_model.specs.Machine.Send.{Sends, Goes, send_faults, target, need
 use Rattle.flat_model.specs.Machine.Puts.{Puts}
 use Rattle.flat_model.specs.declared.address.Addr.{Addr}
 use Rattle.flat_model.specs.declared.errno.Errno.{Errno}
-use Rattle.flat_model.specs.declared.errno.Errno.TheVariants.{NoBufs, Access, DestinationRequired, MessageSize, IsConnected, AddressNotAvailable, HostUnreachable, AddressInUse, BadDescriptor, Invalid, TooManyFiles, WouldBlock}
+use Rattle.flat_model.specs.declared.errno.Errno.TheVariants.{NoBufs, BadDescriptor}
 use Rattle.flat_model.specs.declared.errno.Lack.TheVariants.{Pool, Queue}
 use Rattle.flat_model.proofs.Laws.{put_goes}
 use Rattle.sock_calls.specs.Sends.{RefusesAll, SendsBy, SendsOnce}
@@ -75,18 +75,7 @@ module _ (fd : ℕ) (to : Option Addr) (bytes : List ℕ) where
 -- ---- no fault of a send is a lack of buffers
 abbrev is_lack : Errno → Bool
 is_lack (NoBufs Pool) = true
-is_lack (NoBufs Queue) = false
-is_lack BadDescriptor = false
-is_lack Access = false
-is_lack Invalid = false
-is_lack TooManyFiles = false
-is_lack WouldBlock = false
-is_lack DestinationRequired = false
-is_lack MessageSize = false
-is_lack AddressInUse = false
-is_lack AddressNotAvailable = false
-is_lack IsConnected = false
-is_lack HostUnreachable = false
+is_lack _ = false
 
 abbrev lacks : Reply → Bool
 lacks (Refused errno) = is_lack errno

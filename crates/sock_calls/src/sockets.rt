@@ -167,9 +167,7 @@ impl Socks {
     ///
     /// # Errors
     ///
-    /// Tested in this order, and nothing changes: `BadDescriptor`; `Invalid` if the socket has a port or a local
-    /// address; `AddressNotAvailable` if the address is neither 0.0.0.0 nor one of the machine's; `AddressInUse` if the
-    /// port isn't 0 and another socket prevents the bind.
+    /// Those of [`Pcbs::bind`](pcb_table::Pcbs::bind), in its order. On an error, nothing changes.
     pub fn bind(&mut self, fd: u32, local: Addr) -> Result<(), Errno>
         ensures { (p : PoolView) → IsSocks p self.old
             → IsCalled p self.old (Bind fd local) (done_reply result) self.new }
@@ -183,8 +181,7 @@ impl Socks {
     ///
     /// # Errors
     ///
-    /// Tested in this order: `BadDescriptor`; `AddressNotAvailable` if the port is 0; `HostUnreachable`; `AddressInUse`
-    /// if another socket has the same four values.
+    /// Those of [`Pcbs::connect`](pcb_table::Pcbs::connect), in its order.
     pub fn connect(&mut self, fd: u32, to: Addr) -> Result<(), Errno>
         ensures { (p : PoolView) → IsSocks p self.old
             → IsCalled p self.old (Connect fd to) (done_reply result) self.new }
