@@ -6,7 +6,7 @@ use Rattle.mbuf_chain.specs.Chain.{ChainView, PoolView, alone, chain_of, string,
 use Rattle.chain_ops.specs.Makes.{Makes}
 use Rattle.chain_ops.specs.Prepends.{has_front, prepended, prepended_front}
 use Rattle.chain_ops.specs.Stored.{AreFree, stored_first}
-use Rattle.chain_ops.specs.Weights.{laid_entries}
+use Rattle.chain_ops.specs.Weights.{layout_entries}
 use Rattle.ip_out.specs.Packets.{IsDatagramChain}
 use Rattle.ip_out.proofs.Laws.{datagram_sent}
 
@@ -17,7 +17,7 @@ Stores p bytes q d =
 
 abbrev pub SentLayout : Type 0
 SentLayout = (cs xs hs : List ℕ) → length cs ≡ count_by is_cluster (user (length xs)) → length hs ≡ 28
-    → laid_entries (prepended (record {
+    → layout_entries (prepended (record {
       front = alone true;
       entries = stored_first 56 true cs (user (length xs)) xs;
       cells = [];
@@ -43,7 +43,7 @@ pub datagram_made : {p q r : PoolView} {d d' : ℕ} (bytes hs : List ℕ) → Se
 datagram_made {p} {q} {r} {d} {d'} bytes hs law s is len most m string_is =
     datagram_sent (chain_of r d') s.0 (length bytes)
     (ap (λ f. f.header) m.front ∙ headed_front (chain_of q d) (length hs) s.3.front)
-    (ap laid_entries m.entries ∙ ap laid_entries
+    (ap layout_entries m.entries ∙ ap layout_entries
     (λ i. prepended (record { front = s.3.front i; entries = s.3.entries i; cells = [] })
     hs) ∙ law s.0 bytes hs s.2 len)
     (omega (

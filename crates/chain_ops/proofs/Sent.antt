@@ -8,7 +8,7 @@ use Rattle.flat_model.specs.Amounts.Layout as flat
 use Rattle.flat_model.specs.Amounts.Layout.{Room, Plain, Cluster, is_cluster, next_room, size_of, laid_on, user, sent}
 use Rattle.chain_ops.specs.Prepends.{prepended}
 use Rattle.chain_ops.specs.Stored.{stored_first, first_start}
-use Rattle.chain_ops.specs.Weights.{laid_entries}
+use Rattle.chain_ops.specs.Weights.{layout_entries}
 use Rattle.chain_ops.proofs.Laws.Rooms.{rest_rooms, rest_none}
 use Rattle.chain_ops.proofs.Stored.{rooms_begin, user_laid}
 
@@ -18,22 +18,22 @@ view es = record { front = alone true; entries = es; cells = [] }
 
 -- more than 72 bytes: an mbuf of their own
 apart : (hs : List ℕ) (es : List Entry) → length hs ≡ 28 → leading_space (view es) 0 < 28
-    → laid_entries (prepended (view es) hs) ≡ record { size = 28; cluster = None } ∷ laid_entries es
+    → layout_entries (prepended (view es) hs) ≡ record { size = 28; cluster = None } ∷ layout_entries es
 apart hs es len small =
     let test : nat_le (length hs) (leading_space (view es) 0) ≡ false =
     lt-leb (length hs) (leading_space (view es) 0) (omega (arith, len, small)) in
-    ap laid_entries (cond-false {A = List Entry} _ _ _ test)
-    ∙ ap (λ (n : ℕ). let x : flat.LayoutEntry = record { size = n; cluster = None } in x ∷ laid_entries es) len
+    ap layout_entries (cond-false {A = List Entry} _ _ _ test)
+    ∙ ap (λ (n : ℕ). let x : flat.LayoutEntry = record { size = n; cluster = None } in x ∷ layout_entries es) len
 
 within : (hs : List ℕ) (e : Entry) (es : List Entry) → length hs ≡ 28 → 28 ≤ leading_space (view (e ∷ es)) 0
-    → laid_entries (prepended (view (e ∷ es)) hs)
-    ≡ record { size = 28 + length e.bytes; cluster = e.cluster } ∷ laid_entries es
+    → layout_entries (prepended (view (e ∷ es)) hs)
+    ≡ record { size = 28 + length e.bytes; cluster = e.cluster } ∷ layout_entries es
 within hs e es len large =
     let test : nat_le (length hs) (leading_space (view (e ∷ es)) 0) ≡ true =
     le-leb (length hs) (leading_space (view (e ∷ es)) 0) (omega (arith, len, large)) in
     let size : length (hs ++ e.bytes) ≡ 28 + length e.bytes = omega (arith, len, length-append hs e.bytes) in
-    ap laid_entries (cond-true {A = List Entry} _ _ _ test)
-    ∙ ap (λ (n : ℕ). let x : flat.LayoutEntry = record { size = n; cluster = e.cluster } in x ∷ laid_entries es) size
+    ap layout_entries (cond-true {A = List Entry} _ _ _ test)
+    ∙ ap (λ (n : ℕ). let x : flat.LayoutEntry = record { size = n; cluster = e.cluster } in x ∷ layout_entries es) size
 
 -- the room in front of the first bytes
 room_small : (cs : List ℕ) (n : ℕ) (rooms : List Room) (xs : List ℕ) → 72 < n → n ≤ 100
@@ -73,12 +73,12 @@ user_front cs xs n h =
 
 -- the headers in front of bytes to send lie as the flat machine says
 pub sent_laid : (cs xs hs : List ℕ) → length cs ≡ count_by is_cluster (user (length xs)) → length hs ≡ 28
-    → laid_entries (prepended (view (stored_first 56 true cs (user (length xs)) xs)) hs) ≡ laid_on cs (sent (length xs))
+    → layout_entries (prepended (view (stored_first 56 true cs (user (length xs)) xs)) hs) ≡ laid_on cs (sent (length xs))
 unfolding laid_on
 sent_laid cs xs hs e len = go (cases_lt 72 (length xs))
   where
     go : (72 < length xs) ⊎ (length xs ≤ 72)
-        → laid_entries (prepended (view (stored_first 56 true cs (user (length xs)) xs)) hs)
+        → layout_entries (prepended (view (stored_first 56 true cs (user (length xs)) xs)) hs)
         ≡ laid_on cs (sent (length xs))
     go (inl h) =
         let sent' : sent (length xs) ≡ Plain 28 ∷ user (length xs) =
@@ -93,7 +93,7 @@ sent_laid cs xs hs e len = go (cases_lt 72 (length xs))
         let rooms : user n ≡ Plain n ∷ [] = user_small n h in
         let size : 28 + length (take n xs) ≡ 28 + n =
         ap (λ (ys : List ℕ). 28 + length ys) (take_all n xs (omega arith)) in
-        ap (λ (rs : List Room). laid_entries (prepended (view (stored_first 56 true cs rs xs)) hs)) rooms
+        ap (λ (rs : List Room). layout_entries (prepended (view (stored_first 56 true cs rs xs)) hs)) rooms
         ∙ within hs (record { bytes = take n xs; start = first_start true n; cluster = None }) [] len
         (room_large cs n [] xs h)
         ∙ ap (λ (k : ℕ). let x : flat.LayoutEntry = record { size = k; cluster = None } in x ∷ []) size

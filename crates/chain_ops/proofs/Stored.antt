@@ -12,7 +12,7 @@ use Rattle.mbuf_chain.proofs.Laws.Owners.{times-append}
 use Rattle.mbuf_chain.proofs.Laws.Accounts.{references-with, free-same, free-taken}
 use Rattle.flat_model.specs.Amounts.Layout as flat
 use Rattle.flat_model.specs.Amounts.Layout.{Room, Plain, Cluster, filled, or_empty, is_cluster, next_room, size_of, laid_on, user, wire}
-use Rattle.chain_ops.specs.Weights.{laid_entries}
+use Rattle.chain_ops.specs.Weights.{layout_entries}
 use Rattle.chain_ops.proofs.Laws.Rooms.{next_some, next_most, rest_rooms, rest_none, rooms_step}
 use Rattle.chain_ops.specs.Stored.{AreFree, IsClusterTaken, stored, stored_first, first_start, rooms_for}
 
@@ -389,7 +389,7 @@ sized : (n : ℕ) (rooms : List Room) (xs : List ℕ) → n + room_sum rooms ≡
 sized n rooms xs z = omega (arith, z, length-take n xs)
 
 stored_laid : (cs : List ℕ) (rooms : List Room) (xs : List ℕ) → length cs ≡ count_by is_cluster rooms
-    → room_sum rooms ≡ length xs → laid_entries (stored cs rooms xs) ≡ laid_on cs rooms
+    → room_sum rooms ≡ length xs → layout_entries (stored cs rooms xs) ≡ laid_on cs rooms
 unfolding laid_on
 stored_laid cs [] xs e z = refl
 stored_laid cs (Plain n ∷ rooms) xs e z =
@@ -409,7 +409,7 @@ stored_laid (c ∷ cs) (Cluster n ∷ rooms) xs e z =
 
 pub first_laid : (large : ℕ) (ends : Bool) (cs : List ℕ) (rooms : List Room) (xs : List ℕ)
     → length cs ≡ count_by is_cluster rooms → room_sum rooms ≡ length xs
-    → laid_entries (stored_first large ends cs rooms xs) ≡ laid_on cs rooms
+    → layout_entries (stored_first large ends cs rooms xs) ≡ laid_on cs rooms
 unfolding laid_on
 first_laid large ends cs [] xs e z = refl
 first_laid large ends cs (Plain n ∷ rooms) xs e z =
@@ -428,9 +428,9 @@ first_laid large ends (c ∷ cs) (Cluster n ∷ rooms) xs e z =
     λ j. let x : flat.LayoutEntry = record { size = sized n rooms xs z j; cluster = Some c } in x ∷ rest j
 
 pub user_laid : (cs : List ℕ) (xs : List ℕ) → length cs ≡ count_by is_cluster (user (length xs))
-    → laid_entries (stored_first 56 true cs (user (length xs)) xs) ≡ laid_on cs (user (length xs))
+    → layout_entries (stored_first 56 true cs (user (length xs)) xs) ≡ laid_on cs (user (length xs))
 user_laid cs xs e = first_laid 56 true cs (user (length xs)) xs e (rooms_sum 56 (length xs) (omega arith))
 
 pub wire_laid : (cs : List ℕ) (xs : List ℕ) → length cs ≡ count_by is_cluster (wire (length xs))
-    → laid_entries (stored_first 0 false cs (wire (length xs)) xs) ≡ laid_on cs (wire (length xs))
+    → layout_entries (stored_first 0 false cs (wire (length xs)) xs) ≡ laid_on cs (wire (length xs))
 wire_laid cs xs e = first_laid 0 false cs (wire (length xs)) xs e (rooms_sum 0 (length xs) (omega arith))

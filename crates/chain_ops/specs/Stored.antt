@@ -45,10 +45,10 @@ abbrev pub rooms_for : ℕ → ℕ → List Room
 rooms_for large n = or_empty (filled n (MCLBYTES - large) MHLEN n)
 
 -- where n bytes are stored, if bytes in a first cluster begin at `large`
-abbrev pub IsLaidIn : ℕ → ℕ → Space → Type 0
-IsLaidIn large n InMbuf = (n ≤ MHLEN) × (rooms_for large n ≡ Plain n ∷ [])
-IsLaidIn large n InCluster = (MINCLSIZE ≤ n) × (n ≤ MCLBYTES - large) × (rooms_for large n ≡ Cluster n ∷ [])
-IsLaidIn large n InMore = MHLEN < n
+abbrev pub IsStoredIn : ℕ → ℕ → Space → Type 0
+IsStoredIn large n InMbuf = (n ≤ MHLEN) × (rooms_for large n ≡ Plain n ∷ [])
+IsStoredIn large n InCluster = (MINCLSIZE ≤ n) × (n ≤ MCLBYTES - large) × (rooms_for large n ≡ Cluster n ∷ [])
+IsStoredIn large n InMore = MHLEN < n
 
 -- more buffers are needed than are free, or not
 abbrev pub Lacks : PoolView → List Room → Type 0

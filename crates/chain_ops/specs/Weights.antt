@@ -6,8 +6,8 @@ use Rattle.mbuf_chain.specs.Chain.{Entry, room_end}
 use Rattle.flat_model.specs.Amounts.Layout as flat
 
 -- the bytes and the cluster of each entry
-abbrev pub laid_entries : List Entry → List flat.LayoutEntry
-laid_entries es = map (λ (e : Entry). record { size = length e.bytes; cluster = e.cluster }) es
+abbrev pub layout_entries : List Entry → List flat.LayoutEntry
+layout_entries es = map (λ (e : Entry). record { size = length e.bytes; cluster = e.cluster }) es
 
 -- none of the entries is empty
 abbrev pub HaveBytes : List Entry → Type 0

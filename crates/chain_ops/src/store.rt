@@ -5,7 +5,7 @@ ghost use Rattle.mbuf_chain.specs.Steps.{one_mbuf};
 ghost use Rattle.flat_model.specs.Amounts.Layout.{user, wire, is_cluster, need_of, next_room, size_of};
 ghost use Rattle.chain_ops.specs.Makes.{Makes};
 ghost use Rattle.chain_ops.specs.Rooms.{room_low};
-ghost use Rattle.chain_ops.specs.Stored.{AreFree, IsClusterTaken, IsLaidIn, Lacks, Has, rooms_for, stored_first, first_start};
+ghost use Rattle.chain_ops.specs.Stored.{AreFree, IsClusterTaken, IsStoredIn, Lacks, Has, rooms_for, stored_first, first_start};
 
 use crate::prepend::at_end;
 use crate::step::room_low;
@@ -32,7 +32,7 @@ pub enum Space {
 #[inline(always)]
 pub fn space_for(large: u32, n: u32) -> Space
     requires { large ≤ CLUSTER_LEADING_SPACE }
-    ensures { IsLaidIn large n result }
+    ensures { IsStoredIn large n result }
 {
     if n <= MHLEN {
         return Space::InMbuf;

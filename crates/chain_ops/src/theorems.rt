@@ -10,43 +10,43 @@ ghost use Rattle.chain_ops.specs.Rooms.{room_low};
 ghost use Rattle.chain_ops.specs.Joins.{cat};
 ghost use Rattle.chain_ops.specs.Prepends.{prepended};
 ghost use Rattle.chain_ops.specs.Stored.{stored_first};
-ghost use Rattle.chain_ops.specs.Weights.{laid_entries, HaveBytes, AreFit};
+ghost use Rattle.chain_ops.specs.Weights.{layout_entries, HaveBytes, AreFit};
 
 use params::{CLUSTER_LEADING_SPACE, IP_UDP_HEADERS};
 
 /// The copy of a range weighs as much as the entries that share a byte with it, if none is empty.
 pub fn copy_weight()
     ensures { (header : Bool) (es : List Entry) (off len : ℕ) → HaveBytes es → 0 < len →
-        weight_of (laid_entries (copied header es off len))
-        ≡ weight_of (entries_met (laid_entries es) off (off + len)) }
+        weight_of (layout_entries (copied header es off len))
+        ≡ weight_of (entries_met (layout_entries es) off (off + len)) }
 {}
 
 /// A copy of a whole chain has the layout and the bytes of the original.
 pub fn copy_all()
     ensures layout { (header : Bool) (es : List Entry) →
-        laid_entries (copied_all (room_low header) es) ≡ laid_entries es }
+        layout_entries (copied_all (room_low header) es) ≡ layout_entries es }
     ensures bytes { (header : Bool) (es : List Entry) →
         flat_bytes (copied_all (room_low header) es) ≡ flat_bytes es }
 {}
 
 /// A join takes no more mbufs than the two chains have, refers to no other cluster, and has space for its bytes.
 pub fn join_weight()
-    ensures mbufs { (es fs : List Entry) → (weight_of (laid_entries (cat es fs))).mbufs
-        ≤ (weight_of (laid_entries es) ⊕ weight_of (laid_entries fs)).mbufs }
-    ensures bag { (es fs : List Entry) → IsSubBag (weight_of (laid_entries (cat es fs))).bag
-        (weight_of (laid_entries es) ⊕ weight_of (laid_entries fs)).bag }
+    ensures mbufs { (es fs : List Entry) → (weight_of (layout_entries (cat es fs))).mbufs
+        ≤ (weight_of (layout_entries es) ⊕ weight_of (layout_entries fs)).mbufs }
+    ensures bag { (es fs : List Entry) → IsSubBag (weight_of (layout_entries (cat es fs))).bag
+        (weight_of (layout_entries es) ⊕ weight_of (layout_entries fs)).bag }
     ensures fit { (es fs : List Entry) → AreFit es → AreFit fs → AreFit (cat es fs) }
     ensures covers { (es : List Entry) → 0 < length es → AreFit es →
-        Covers (weight_of (laid_entries es)) (length (flat_bytes es)) }
+        Covers (weight_of (layout_entries es)) (length (flat_bytes es)) }
 {}
 
 /// Stored bytes have the layout of the flat machine.
 pub fn stored_layout()
     ensures user { (cs xs : List ℕ) → length cs ≡ count_by is_cluster (user (length xs)) →
-        laid_entries (stored_first CLUSTER_LEADING_SPACE true cs (user (length xs)) xs) ≡ laid_on cs (user
+        layout_entries (stored_first CLUSTER_LEADING_SPACE true cs (user (length xs)) xs) ≡ laid_on cs (user
         (length xs)) }
     ensures wire { (cs xs : List ℕ) → length cs ≡ count_by is_cluster (wire (length xs)) →
-        laid_entries (stored_first 0 false cs (wire (length xs)) xs) ≡ laid_on cs (wire (length xs)) }
+        layout_entries (stored_first 0 false cs (wire (length xs)) xs) ≡ laid_on cs (wire (length xs)) }
 {}
 
 /// Who owns what after an operation: a new chain, a changed chain, perhaps under another number, and two joined chains.
@@ -64,7 +64,7 @@ pub fn frame()
 /// leading space of the first mbuf for at most 72 bytes, otherwise in an mbuf of their own.
 pub fn sent_layout()
     ensures { (cs xs hs : List ℕ) → length cs ≡ count_by is_cluster (user (length xs)) → length hs ≡ IP_UDP_HEADERS →
-        laid_entries (prepended (record {
+        layout_entries (prepended (record {
           front = alone true;
           entries = stored_first CLUSTER_LEADING_SPACE true cs (user (length xs)) xs;
           cells = [];

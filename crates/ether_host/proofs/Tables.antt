@@ -64,7 +64,7 @@ pub kept_on : (ns : List Neighbour) (ps : List PacketBuffer) (i : ℕ) (p : Pack
 kept_on ns [] i p h e t = absurd (omega arith)
 kept_on ns (q ∷ ps) zero p h e t =
     ap (λ b. cond b (q ∷ filter (is_resolvable_in ns) ps) (filter (is_resolvable_in ns) ps))
-      (ap (is_resolvable_in ns) (sym e) ∙ t)
+    (ap (is_resolvable_in ns) (sym e) ∙ t)
 kept_on ns (q ∷ ps) (suc i) p h e t =
     let m : suc (i + 1) ≡ suc i + 1 = omega arith in
     ap (λ xs. q ∷ xs) (kept_on ns ps i p (omega arith) e t) ∙ ap (kept_from ns (q ∷ ps)) m
@@ -74,7 +74,7 @@ pub kept_off : (ns : List Neighbour) (ps : List PacketBuffer) (i : ℕ) (p : Pac
 kept_off ns [] i p h e t = absurd (omega arith)
 kept_off ns (q ∷ ps) zero p h e t =
     ap (λ b. cond b (q ∷ filter (is_resolvable_in ns) ps) (filter (is_resolvable_in ns) ps))
-      (ap (is_resolvable_in ns) (sym e) ∙ t)
+    (ap (is_resolvable_in ns) (sym e) ∙ t)
 kept_off ns (q ∷ ps) (suc i) p h e t = ap (λ xs. q ∷ xs) (kept_off ns ps i p (omega arith) e t)
 
 pub kept_all : (ns : List Neighbour) (ps : List PacketBuffer) (i : ℕ) → length ps ≤ i → kept_from ns ps i ≡ ps

@@ -75,7 +75,7 @@ type_of : (d : Config) (mac : Mac) (f : List ℕ) → kind_of d mac f ≡ Packet
 type_of d mac f e =
     eqb-true (u16_at 12 f) ETHER_TYPE_IP
     (is_ip (is_addressed mac f) (u16_at 12 f == ETHER_TYPE_IP) (u16_at 12 f == ETHER_TYPE_ARP)
-      (packet_kind d (body_of f)) e)
+    (packet_kind d (body_of f)) e)
 
 module _ (c d : Config) (mac : Mac) (sent : List HostAct) (is : IsConfig c) where
   abbrev Carried : List ℕ → Type 0

@@ -476,7 +476,7 @@ module _ (c : Config) (l : Link) (F G : List (List ℕ)) where
         good.neighbours);
     distinct = distinct_stays s.neighbours good.distinct;
     held =
-      each-filter IsWaiting (is_resolvable (filter neighbour_stays (map neighbour_aged s.neighbours))) s.held good.held;
+        each-filter IsWaiting (is_resolvable (filter neighbour_stays (map neighbour_aged s.neighbours))) s.held good.held;
     answer = good.answer;
   }
 

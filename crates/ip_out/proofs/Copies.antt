@@ -16,7 +16,7 @@ use Rattle.mbuf_chain.proofs.Laws.Steps.{adds_in_place, live_beside}
 use Rattle.mbuf_chain.proofs.Laws.Trains.{Beside, beside_moves, length-queued_packets}
 use Rattle.chain_ops.specs.Makes.{Makes}
 use Rattle.chain_ops.specs.Copies.{copied_all}
-use Rattle.chain_ops.specs.Weights.{laid_entries, HaveBytes}
+use Rattle.chain_ops.specs.Weights.{layout_entries, HaveBytes}
 use Rattle.chain_ops.proofs.Laws.Makes.{makes_kept, makes_held, apart_made}
 use Rattle.chain_ops.proofs.Laws.Strings.{copied_all_bytes}
 use Rattle.chain_ops.proofs.Laws.Weights.{copied_all-laid}
@@ -62,7 +62,7 @@ pub copied : {p q : PoolView} (c d room : ℕ) (header : Bool) (h : IpHead) (mtu
 copied {p} {q} c d room header h mtu m headed live dg =
     let es : List Entry = (chain_of p c).entries in
     let w : ChainView = chain_of q d in
-    let laid_is : laid_entries w.entries ≡ laid_entries es = ap laid_entries m.entries ∙ copied_all-laid room es in
+    let laid_is : layout_entries w.entries ≡ layout_entries es = ap layout_entries m.entries ∙ copied_all-laid room es in
     let bytes : string w ≡ flat_bytes es = ap flat_bytes m.entries ∙ copied_all_bytes room es in
     let first = first_copied room es in
     record {
@@ -178,5 +178,5 @@ is_cut p t v h mtu held is =
     sym (length-queued_packets p t held)
     ∙ sym (length-map (queued_packets p t) (λ (queued_packet : QueuedPacket). item_of queued_packet.entries))
     ∙ ap (λ (xs : List Item). length xs) is
-    ∙ items_length (laid_entries v.entries) (part_bytes h (drop 20 (string v))) (chain_parts v mtu) in
+    ∙ items_length (layout_entries v.entries) (part_bytes h (drop 20 (string v))) (chain_parts v mtu) in
     ap (nat_lt 1) n

@@ -6,7 +6,7 @@ use Rattle.std.proofs.lemmas.Bool.{cases_lt}
 use Rattle.flat_model.specs.Amounts.Layout as flat
 use Rattle.flat_model.specs.Amounts.Layout.{Room, Plain, Cluster, size_of, filled, next_room, laid_on, sent}
 use Rattle.mbuf_chain.specs.Chain.{Entry, ChainView, no_entry, string}
-use Rattle.chain_ops.specs.Weights.{laid_entries, HaveBytes}
+use Rattle.chain_ops.specs.Weights.{layout_entries, HaveBytes}
 use Rattle.chain_ops.proofs.Laws.Rooms.{next_some}
 use Rattle.ip_out.specs.Packets.{IsDatagramChain}
 use Rattle.ip_out.proofs.Counting.{sent_short, sent_long}
@@ -35,7 +35,7 @@ laid_on_some (c ∷ cs) (Plain n ∷ rooms) h = (h.0, laid_on_some (c ∷ cs) ro
 laid_on_some [] (Cluster n ∷ rooms) h = (h.0, laid_on_some [] rooms h.1)
 laid_on_some (c ∷ cs) (Cluster n ∷ rooms) h = (h.0, laid_on_some cs rooms h.1)
 
-entries_some : (es : List Entry) → HaveSize (laid_entries es) → HaveBytes es
+entries_some : (es : List Entry) → HaveSize (layout_entries es) → HaveBytes es
 entries_some [] h = tt
 entries_some (e ∷ es) h = (h.0, entries_some es h.1)
 
@@ -48,7 +48,7 @@ plain_first (c ∷ cs) n rooms = refl
 no_flat : flat.LayoutEntry
 no_flat = record { size = 0; cluster = None }
 
-first_of : (es : List Entry) (x : flat.LayoutEntry) (xs : List flat.LayoutEntry) → laid_entries es ≡ x ∷ xs
+first_of : (es : List Entry) (x : flat.LayoutEntry) (xs : List flat.LayoutEntry) → layout_entries es ≡ x ∷ xs
     → ((slice_index_or es 0 no_entry).cluster ≡ x.cluster) × (length (slice_index_or es 0 no_entry).bytes ≡ x.size)
 first_of [] x xs h = absurd (omega (arith, ap (λ (ys : List flat.LayoutEntry). length ys) h))
 first_of (e ∷ es) x xs h = (
@@ -57,10 +57,10 @@ first_of (e ∷ es) x xs h = (
 )
 
 of_rooms : (v : ChainView) (cs : List ℕ) (n m : ℕ) (rooms : List Room) → v.front.header ≡ true
-    → laid_entries v.entries ≡ laid_on cs (sent n) → sent n ≡ Plain m ∷ rooms → HaveRoom (Plain m ∷ rooms) → 20 ≤ m
+    → layout_entries v.entries ≡ laid_on cs (sent n) → sent n ≡ Plain m ∷ rooms → HaveRoom (Plain m ∷ rooms) → 20 ≤ m
     → length (string v) ≤ 65535 → IsDatagramChain v
 of_rooms v cs n m rooms headed is e some room most =
-    let whole : laid_entries v.entries ≡ laid_on cs (Plain m ∷ rooms) = is ∙ ap (laid_on cs) e in
+    let whole : layout_entries v.entries ≡ laid_on cs (Plain m ∷ rooms) = is ∙ ap (laid_on cs) e in
     let first =
     first_of v.entries (record { size = m; cluster = None }) (laid_on cs rooms) (whole ∙ plain_first cs m rooms) in
     record {
@@ -72,7 +72,7 @@ of_rooms v cs n m rooms headed is e some room most =
     }
 
 pub datagram_sent : (v : ChainView) (cs : List ℕ) (n : ℕ) → v.front.header ≡ true
-    → laid_entries v.entries ≡ laid_on cs (sent n)
+    → layout_entries v.entries ≡ laid_on cs (sent n)
     → length (string v) ≤ 65535 → IsDatagramChain v
 datagram_sent v cs n headed is most = go (cases_lt 72 n)
   where

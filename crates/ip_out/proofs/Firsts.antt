@@ -19,7 +19,7 @@ use Rattle.mbuf_chain.proofs.Laws.Owners.{owned_more, moves_trans, moves_beside,
 use Rattle.mbuf_chain.proofs.Laws.Steps.{live_shown}
 use Rattle.mbuf_chain.proofs.Laws.Accounts.{held_moves}
 use Rattle.mbuf_chain.proofs.Laws.Trains.{Beside, beside_with, length-queued_packets}
-use Rattle.chain_ops.specs.Weights.{laid_entries}
+use Rattle.chain_ops.specs.Weights.{layout_entries}
 use Rattle.chain_ops.specs.Trims.{only_first}
 use Rattle.chain_ops.proofs.Laws.Strings.{keep_enough, only_first_bytes}
 use Rattle.ledger.specs.Accounts as ledger
@@ -57,7 +57,7 @@ drop_front (suc n) (x ∷ xs) ys h = drop_front n xs ys (omega arith)
 pub first_is : (es : List Entry) (k s : ℕ) (hdr : List ℕ) → 20 ≤ length (slice_index_or es 0 no_entry).bytes
     → k ≡ 20 + s → length hdr ≡ 20
     → item_of (slice_set (only_first k es) 0 (overwritten (slice_index_or (only_first k es) 0 no_entry) 0 hdr))
-    ≡ record { bytes = hdr ++ take s (drop 20 (flat_bytes es)); weight = weight_of (laid_entries es) }
+    ≡ record { bytes = hdr ++ take s (drop 20 (flat_bytes es)); weight = weight_of (layout_entries es) }
 first_is [] k s hdr room e len = absurd (omega arith)
 first_is (f ∷ es) k s hdr room e len =
     let g : Entry = narrowed f 0 (min k (length f.bytes)) in
@@ -185,19 +185,19 @@ packets_from p s c n size k count mtu h h0 hdr d len is_cut ek eh eb el shown =
     let v : ChainView = chain_of p c in
     let fits : min size n ≡ (part n size 0).size = omega arith in
     let first : item_of (chain_of s c).entries
-    ≡ record { bytes = hdr ++ take (min size n) (drop 20 (string v)); weight = weight_of (laid_entries v.entries) } =
+    ≡ record { bytes = hdr ++ take (min size n) (drop 20 (string v)); weight = weight_of (layout_entries v.entries) } =
     ap (λ (y : ChainView). item_of y.entries) shown ∙ first_is v.entries k (min size n) hdr d.room ek el in
     let off : 0 ≡ (part n size 0).offset = omega arith in
     let bytes : hdr ++ take (min size n) (drop 20 (string v)) ≡ part_bytes h (drop 20 (string v)) (part n size 0) =
     (λ i. (eb ∙ ap head_bytes eh) i ++ take (fits i) (drop (off i) (drop 20 (string v)))) in
-    let whole : items (laid_entries v.entries) (part_bytes h (drop 20 (string v)))
+    let whole : items (layout_entries v.entries) (part_bytes h (drop 20 (string v)))
     (part n size 0 ∷ parts_to n size count)
     ≡ packets_of v h mtu =
-    ap (items (laid_entries v.entries) (part_bytes h (drop 20 (string v)))) (sym is_cut.parts)
+    ap (items (layout_entries v.entries) (part_bytes h (drop 20 (string v)))) (sym is_cut.parts)
     ∙ (let e : n ≡ length (string v) - 20 = omega (arith, len) in
-    ap (λ (m : ℕ). items (laid_entries v.entries) (part_bytes h (drop 20 (string v))) (cuts m mtu)) e) in
+    ap (λ (m : ℕ). items (layout_entries v.entries) (part_bytes h (drop 20 (string v))) (cuts m mtu)) e) in
     (λ i. first i ∷ map (later_item v h) (parts_to n size count))
-    ∙ ap (λ (xs : List ℕ). record { bytes = xs; weight = weight_of (laid_entries v.entries) }
+    ∙ ap (λ (xs : List ℕ). record { bytes = xs; weight = weight_of (layout_entries v.entries) }
     ∷ map (later_item v h) (parts_to n size count)) bytes ∙ whole
 
 pub packets_are : {p q s : PoolView} {t : TrainView} (z : PoolView) (u : TrainView) (c n size k count mtu : ℕ)
@@ -291,9 +291,9 @@ held_packets {p} {z} t c n size k mtu h m live is_cut len is =
     let e : length (string v) - 20 ≡ n = omega (arith, len) in
     let parts : chain_parts v mtu ≡ part n size 0 ∷ parts_to n size k = ap (λ (j : ℕ). cuts j mtu) e ∙ is_cut.parts in
     let all : train_packets z t ≡ record
-    { bytes = part_bytes h (drop 20 (string v)) (part n size 0); weight = weight_of (laid_entries v.entries) }
+    { bytes = part_bytes h (drop 20 (string v)) (part n size 0); weight = weight_of (layout_entries v.entries) }
     ∷ map (later_item v h) (parts_to n size k) =
-    is ∙ ap (items (laid_entries v.entries) (part_bytes h (drop 20 (string v)))) parts in
+    is ∙ ap (items (layout_entries v.entries) (part_bytes h (drop 20 (string v)))) parts in
     let one : IsOwned p (c ∷ []) = owned_more p c [] (λ j. omega arith) live refl in
     omega (
       arith,
@@ -304,7 +304,7 @@ held_packets {p} {z} t c n size k mtu h m live is_cut len is =
       sum_by-cons (λ (it : Item). it.weight.mbufs)
           (record {
             bytes = part_bytes h (drop 20 (string v)) (part n size 0);
-            weight = weight_of (laid_entries v.entries);
+            weight = weight_of (layout_entries v.entries);
           })
           (map (later_item v h) (parts_to n size k)),
       weigh_parts v h (parts_to n size k),

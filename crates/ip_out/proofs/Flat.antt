@@ -12,7 +12,7 @@ use Rattle.flat_model.specs.Machine.Sending as sending
 use Rattle.flat_model.specs.Machine.Sending.{Sending, items, datagram, mtu_to, later_weight}
 use Rattle.flat_model.specs.declared.config.Config.{Config}
 use Rattle.mbuf_chain.specs.Chain.{ChainView, string}
-use Rattle.chain_ops.specs.Weights.{laid_entries}
+use Rattle.chain_ops.specs.Weights.{layout_entries}
 use Rattle.ip_out.specs.declared.head.IpHead.{IpHead}
 use Rattle.ip_out.specs.Headings.{head_bytes}
 use Rattle.ip_out.specs.Packets.{packets_of, part_bytes}
@@ -114,7 +114,7 @@ all_same x (p ∷ ps) all = (part_same x p all.0, all_same x ps all.1)
 
 -- the packets of a chain with the layout and the bytes of a send are the packets of the send
 pub packets_sent : (c : Config) (clusters : List ℕ) (x : Sending) (v : ChainView)
-    → laid_entries v.entries ≡ laid_on clusters (sent (length x.bytes)) → 20 ≤ length (string v)
+    → layout_entries v.entries ≡ laid_on clusters (sent (length x.bytes)) → 20 ≤ length (string v)
     → drop 20 (string v) ≡ datagram x
     → packets_of v (sending_head x) (mtu_to c x.to.ip) ≡ sending.packets c clusters x
 packets_sent c clusters x v laid_is room bytes =

@@ -23,7 +23,7 @@ use Rattle.ledger.specs.Accounts as ledger
 use Rattle.ledger.specs.Accounts.{item_of}
 use Rattle.chain_ops.specs.Makes.{Makes}
 use Rattle.chain_ops.specs.Copies.{copied}
-use Rattle.chain_ops.specs.Weights.{laid_entries, HaveBytes}
+use Rattle.chain_ops.specs.Weights.{layout_entries, HaveBytes}
 use Rattle.chain_ops.proofs.Laws.Strings.{copied_bytes}
 use Rattle.ip_out.specs.declared.head.IpHead.{IpHead}
 use Rattle.ip_out.specs.Headings.{head_bytes}
@@ -98,24 +98,24 @@ drop_both (suc a) b [] = drop_nil (suc a + b) ∙ sym (drop_nil b)
 drop_both (suc a) b (x ∷ xs) = let e : suc a + b ≡ suc (a + b) = omega arith in
     ap (λ (k : ℕ). drop k (x ∷ xs)) e ∙ drop_both a b xs
 
-pub length-laid : (es : List Entry) → length (laid_entries es) ≡ length es
+pub length-laid : (es : List Entry) → length (layout_entries es) ≡ length es
 length-laid [] = refl
 length-laid (e ∷ es) = ap suc (length-laid es)
 
-bag-laid : (es : List Entry) → filter_map (λ (x : flat.LayoutEntry). x.cluster) (laid_entries es)
+bag-laid : (es : List Entry) → filter_map (λ (x : flat.LayoutEntry). x.cluster) (layout_entries es)
     ≡ filter_map (λ (e : Entry). e.cluster) es
 bag-laid [] = refl
 bag-laid (e ∷ es) = ap (cons_option e.cluster) (bag-laid es)
 
 -- what entries weigh, in either word
-pub weight-laid : (es : List Entry) → weight_of (laid_entries es) ≡ ledger.entries_weight es
+pub weight-laid : (es : List Entry) → weight_of (layout_entries es) ≡ ledger.entries_weight es
 weight-laid es = λ i. record { mbufs = length-laid es i; bag = bag-laid es i }
 
 -- the copy of a range weighs what the entries weigh that share a byte with it: the law of chain_ops
 abbrev pub CopyWeighs : Type 0
 CopyWeighs =
     (header : Bool) (es : List Entry) (off len : ℕ) → HaveBytes es → 0 < len
-    → weight_of (laid_entries (copied header es off len)) ≡ weight_of (entries_met (laid_entries es) off (off + len))
+    → weight_of (layout_entries (copied header es off len)) ≡ weight_of (entries_met (layout_entries es) off (off + len))
 
 pub later_is : CopyWeighs → (v : ChainView) (h : IpHead) (p : Part) → HaveBytes v.entries → 0 < p.size
     → item_of (head_entry (part_head h p) ∷ copied false v.entries (20 + p.offset) p.size) ≡ later_item v h p
@@ -124,7 +124,7 @@ later_is law v h p some pos =
     let bytes : flat_bytes es ≡ take p.size (drop p.offset (drop 20 (string v))) =
     copied_bytes false v.entries (20 + p.offset) p.size ∙ ap (take p.size) (drop_both 20 p.offset (string v)) in
     let w : ledger.entries_weight es
-    ≡ weight_of (entries_met (laid_entries v.entries) (20 + p.offset) (20 + p.offset + p.size)) =
+    ≡ weight_of (entries_met (layout_entries v.entries) (20 + p.offset) (20 + p.offset + p.size)) =
     sym (weight-laid es) ∙ law false v.entries (20 + p.offset) p.size some pos in
     let one : ledger.entries_weight (head_entry (part_head h p) ∷ es) ≡ mbuf ⊕ ledger.entries_weight es =
     (let m : suc (length es) ≡ 1 + length es = omega arith in

@@ -11,7 +11,7 @@ use Rattle.mbuf_chain.specs.Owners.{Moves, IsOwned, times_among}
 use Rattle.mbuf_chain.specs.Train.{TrainView, QueuedPacket, queued_packets, numbers, IsHeld}
 use Rattle.mbuf_chain.proofs.Laws.Owners.{times-append, moves_beside, moves_trans, moves_without, owned_more, owned_beside}
 use Rattle.mbuf_chain.proofs.Laws.Trains.{Beside, beside_moves}
-use Rattle.chain_ops.specs.Weights.{laid_entries}
+use Rattle.chain_ops.specs.Weights.{layout_entries}
 use Rattle.ledger.specs.Accounts.{item_of}
 use Rattle.ip_out.specs.declared.head.IpHead.{IpHead}
 use Rattle.ip_out.specs.Packets.{IsDatagramChain, train_packets, packets_of, part_bytes, chain_parts}
@@ -76,7 +76,7 @@ one_part v k mtu d is fits =
 pub one_packet : (v : ChainView) (h : IpHead) (k mtu : ℕ) → IsDatagramChain v → k ≡ length (string v) → k ≤ mtu
     → length (packets_of v h mtu) ≡ 1
 one_packet v h k mtu d is fits =
-    items_length (laid_entries v.entries) (part_bytes h (drop 20 (string v))) (chain_parts v mtu)
+    items_length (layout_entries v.entries) (part_bytes h (drop 20 (string v))) (chain_parts v mtu)
     ∙ ap (λ (ps : List Part). length ps) (one_part v k mtu d is fits)
 
 -- a queue takes that packet, or is full

@@ -8,7 +8,7 @@ use Rattle.flat_model.specs.Machine.Sending.{later_weight}
 use Rattle.mbuf_chain.specs.Chain.{Entry, PoolView, ChainView, string}
 use Rattle.mbuf_chain.specs.Train.{TrainView, numbers, IsHeld}
 use Rattle.mbuf_chain.specs.Owners.{Moves, IsOwned}
-use Rattle.chain_ops.specs.Weights.{laid_entries}
+use Rattle.chain_ops.specs.Weights.{layout_entries}
 use Rattle.ip_out.specs.declared.head.IpHead.{IpHead}
 use Rattle.ip_out.specs.Headings.{head_bytes}
 use Rattle.ip_out.specs.Packets.{train_packets, part_bytes, BeginPlain}
@@ -38,7 +38,7 @@ head_entry h = record { bytes = head_bytes h; start = PACKET_START; cluster = No
 -- the packet of a later part
 abbrev pub later_item : ChainView → IpHead → Part → Item
 later_item v h p =
-    record { bytes = part_bytes h (drop IP_HEADER (string v)) p; weight = later_weight (laid_entries v.entries) p }
+    record { bytes = part_bytes h (drop IP_HEADER (string v)) p; weight = later_weight (layout_entries v.entries) p }
 
 -- the parts after the first, up to part i
 abbrev pub parts_to : ℕ → ℕ → ℕ → List Part

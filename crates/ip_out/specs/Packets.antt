@@ -9,7 +9,7 @@ use Rattle.flat_model.specs.Amounts.Layout.{entries_met}
 use Rattle.flat_model.specs.Machine.Sending.{items}
 use Rattle.mbuf_chain.specs.Chain.{PoolView, ChainView, string, entry_of, no_entry}
 use Rattle.mbuf_chain.specs.Train.{TrainView, QueuedPacket, queued_packets}
-use Rattle.chain_ops.specs.Weights.{laid_entries, HaveBytes}
+use Rattle.chain_ops.specs.Weights.{layout_entries, HaveBytes}
 use Rattle.ledger.specs.Accounts.{item_of}
 use Rattle.ip_out.specs.declared.head.IpHead.{IpHead}
 use Rattle.ip_out.specs.Headings.{head_bytes}
@@ -32,11 +32,12 @@ chain_parts v mtu = cuts (length (string v) - IP_HEADER) mtu
 
 -- its packets: the first weighs what the chain weighs, each later one an mbuf and those in which its bytes lie
 abbrev pub packets_of : ChainView → IpHead → ℕ → List Item
-packets_of v h mtu = items (laid_entries v.entries) (part_bytes h (drop IP_HEADER (string v))) (chain_parts v mtu)
+packets_of v h mtu = items (layout_entries v.entries) (part_bytes h (drop IP_HEADER (string v))) (chain_parts v mtu)
 
 -- how many mbufs a later packet takes: one for its header, and one for each mbuf in which its bytes lie
 abbrev pub part_need : ChainView → Part → ℕ
-part_need v p = 1 + length (entries_met (laid_entries v.entries) (IP_HEADER + p.offset) (IP_HEADER + p.offset + p.size))
+part_need v p =
+    1 + length (entries_met (layout_entries v.entries) (IP_HEADER + p.offset) (IP_HEADER + p.offset + p.size))
 
 -- how many all later packets take
 abbrev pub later_need : ChainView → ℕ → ℕ

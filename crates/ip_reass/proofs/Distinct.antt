@@ -44,7 +44,7 @@ module _ (k : Key) (f : QueuedFragment) where
       → (count_by (has_queue_key j) (inserted_under k f qs) ≡ count_by (has_queue_key j) qs)
       ⊎ ((count_by (has_queue_key k) qs ≡ 0)
       × (count_by (has_queue_key j) (inserted_under k f qs)
-        ≡ count_by (has_queue_key j) qs + cond {A = ℕ} (has_queue_key j begins) 1 0))
+      ≡ count_by (has_queue_key j) qs + cond {A = ℕ} (has_queue_key j begins) 1 0))
   laid_count j [] = inr (refl, omega (arith, count_cons (has_queue_key j) begins []))
   laid_count j (q ∷ qs) = elim (cases_Bool (has_queue_key k q)) [
     | inl is ↦ inl (omega (
@@ -56,7 +56,7 @@ module _ (k : Key) (f : QueuedFragment) where
     ))
     | inr is ↦
         let other =
-          ap (count_by (has_queue_key j)) (cond-false _ (with_inserted f q ∷ qs) (q ∷ inserted_under k f qs) is) in
+        ap (count_by (has_queue_key j)) (cond-false _ (with_inserted f q ∷ qs) (q ∷ inserted_under k f qs) is) in
         let here : cond {A = ℕ} (has_queue_key k q) 1 0 ≡ 0 = ap {B = ℕ} (λ b. cond b 1 0) is in
         elim (laid_count j qs) [
           | inl e ↦ inl (omega (
@@ -68,8 +68,13 @@ module _ (k : Key) (f : QueuedFragment) where
           ))
           | inr e ↦ inr (
             omega (arith, e.0, here, count_cons (has_queue_key k) q qs),
-            omega (arith, other, e.1, count_cons (has_queue_key j) q (inserted_under k f qs),
-              count_cons (has_queue_key j) q qs),
+            omega (
+              arith,
+              other,
+              e.1,
+              count_cons (has_queue_key j) q (inserted_under k f qs),
+              count_cons (has_queue_key j) q qs,
+            ),
           )
         ]
   ]
@@ -80,8 +85,13 @@ module _ (k : Key) (f : QueuedFragment) where
     | inr e ↦ elim (cases_Bool (has_queue_key j begins)) [
       | inl is ↦
           let same : k ≡ j = (whole_key j (begun k)).0 is in
-          omega (arith, e.0, e.1, ap (λ (i : Key). count_by (has_queue_key i) qs) same,
-            one_of (has_queue_key j begins) is)
+          omega (
+            arith,
+            e.0,
+            e.1,
+            ap (λ (i : Key). count_by (has_queue_key i) qs) same,
+            one_of (has_queue_key j begins) is,
+          )
       | inr is ↦
           let here : cond {A = ℕ} (has_queue_key j begins) 1 0 ≡ 0 = ap {B = ℕ} (λ b. cond b 1 0) is in
           omega (arith, e.1, here, once j)

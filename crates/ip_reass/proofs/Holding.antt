@@ -45,7 +45,7 @@ module _ (k : Key) (f : QueuedFragment) where
   laid_hold [] h = (laid_some f [], tt)
   laid_hold (q ∷ qs) h =
       either_hold (has_queue_key k q) (with_inserted f q ∷ qs) (q ∷ inserted_under k f qs)
-        (laid_some f q.fragments, h.1)
+      (laid_some f q.fragments, h.1)
       (h.0, laid_hold qs h.1)
 
   without_hold : (qs : List KeyedQueue) → HoldSome qs → HoldSome (without_key k qs)

@@ -20,7 +20,7 @@ use Rattle.mbuf_chain.proofs.Laws.Steps.{live_without}
 use Rattle.mbuf_chain.proofs.Laws.Trains.{Beside, beside}
 use Rattle.chain_ops.specs.Makes.{Makes}
 use Rattle.chain_ops.specs.Joins.{cat, filled_up}
-use Rattle.chain_ops.specs.Weights.{laid_entries, AreFit}
+use Rattle.chain_ops.specs.Weights.{layout_entries, AreFit}
 use Rattle.chain_ops.proofs.Laws.Strings.{cat_bytes}
 use Rattle.chain_ops.proofs.Laws.Joins.{cat_length, cat_bag, cat_fit, covers_fit}
 use Rattle.ledger.specs.Accounts.{entries_weight}
@@ -118,11 +118,11 @@ queue_bytes (q ∷ cs) = all_bytes q.entries cs
 abbrev pub queue_weight : List QueuedFragment → Weight
 queue_weight cs = all_of (λ (q : QueuedFragment). entries_weight q.entries) cs
 
-laid_bag : (es : List Entry) → (flat.weight_of (laid_entries es)).bag ≡ (entries_weight es).bag
+laid_bag : (es : List Entry) → (flat.weight_of (layout_entries es)).bag ≡ (entries_weight es).bag
 laid_bag [] = refl
 laid_bag (e ∷ es) = ap (cons_option e.cluster) (laid_bag es)
 
-laid_mbufs : (es : List Entry) → (flat.weight_of (laid_entries es)).mbufs ≡ (entries_weight es).mbufs
+laid_mbufs : (es : List Entry) → (flat.weight_of (layout_entries es)).mbufs ≡ (entries_weight es).mbufs
 laid_mbufs es = length-map es _
 
 all_mbufs : (es : List Entry) (cs : List QueuedFragment)
@@ -139,7 +139,7 @@ cat_times c es fs =
       ap (times c) (laid_bag (cat es fs)),
       ap (times c) (laid_bag es),
       ap (times c) (laid_bag fs),
-      times-both c (flat.weight_of (laid_entries es)) (flat.weight_of (laid_entries fs)),
+      times-both c (flat.weight_of (layout_entries es)) (flat.weight_of (layout_entries fs)),
     )
 
 all_times : (c : ℕ) (es : List Entry) (cs : List QueuedFragment)
@@ -183,8 +183,8 @@ map_weight (q ∷ cs) = ap (λ (w : Weight). entries_weight q.entries ⊕ w) (ma
 covers_of : (es : List Entry) → 0 < length es → AreFit es → Covers (entries_weight es) (length (flat_bytes es))
 covers_of es l f =
     let c = covers_fit es l f in
-    let m : (flat.weight_of (laid_entries es)).mbufs ≡ (entries_weight es).mbufs = laid_mbufs es in
-    let b : length (flat.weight_of (laid_entries es)).bag ≡ length (entries_weight es).bag =
+    let m : (flat.weight_of (layout_entries es)).mbufs ≡ (entries_weight es).mbufs = laid_mbufs es in
+    let b : length (flat.weight_of (layout_entries es)).bag ≡ length (entries_weight es).bag =
     ap (λ (xs : List ℕ). length xs) (laid_bag es) in
     subst (λ (w : Weight). Covers w (length (flat_bytes es))) (λ i. record { mbufs = m i; bag = laid_bag es i }) c
 

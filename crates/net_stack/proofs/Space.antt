@@ -3,14 +3,14 @@ use Rattle.std.proofs.Common.{◌≡◌, ℕ, ◌<◌, false, true, sym, subst, 
 use Rattle.flat_model.specs.Amounts.Layout.{wire}
 use Rattle.mbuf_chain.specs.Chain.{PoolView}
 use Rattle.chain_ops.specs.declared.store.Space.TheVariants.{InCluster, InMbuf, InMore}
-use Rattle.chain_ops.specs.Stored.{Has, IsLaidIn}
+use Rattle.chain_ops.specs.Stored.{Has, IsStoredIn}
 use Rattle.ledger.specs.Reserve.{are_free}
 use Rattle.ledger.proofs.Laws.{enough_clusters, enough_mbufs}
 use Rattle.sock_calls.specs.Whole.{HasOne}
 use Rattle.net_stack.proofs.AtOnce.{two_plain}
 use Rattle.net_stack.proofs.Whole.{has_one}
 
-pub free_mbuf : (p : PoolView) (n : ℕ) → IsLaidIn 0 n InMbuf → are_free p 2 0 ≡ true → Has p (wire n)
+pub free_mbuf : (p : PoolView) (n : ℕ) → IsStoredIn 0 n InMbuf → are_free p 2 0 ≡ true → Has p (wire n)
 free_mbuf p n laid free =
     let one : HasOne p n false = record {
       room = laid.1;
@@ -21,7 +21,7 @@ free_mbuf p n laid free =
     } in
     has_one false one
 
-pub free_cluster : (p : PoolView) (n : ℕ) → IsLaidIn 0 n InCluster → are_free p 2 1 ≡ true → Has p (wire n)
+pub free_cluster : (p : PoolView) (n : ℕ) → IsStoredIn 0 n InCluster → are_free p 2 1 ≡ true → Has p (wire n)
 free_cluster p n laid free =
     let one : HasOne p n true = record {
       room = laid.2;
@@ -33,6 +33,6 @@ free_cluster p n laid free =
     has_one true one
 
 -- two mbufs, for a packet that needs no cluster
-pub free_two : (p : PoolView) (n : ℕ) → IsLaidIn 0 n InMore → n < 208 → are_free p 2 0 ≡ true → Has p (wire n)
+pub free_two : (p : PoolView) (n : ℕ) → IsStoredIn 0 n InMore → n < 208 → are_free p 2 0 ≡ true → Has p (wire n)
 free_two p n laid few free =
     subst (Has p) (sym (two_plain n (omega (arith, laid)) few)) (enough_mbufs p 2 0 free (omega arith), omega arith)

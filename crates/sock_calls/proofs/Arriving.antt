@@ -19,7 +19,7 @@ use Rattle.mbuf_chain.specs.Chain.{ChainView, Entry, PoolView, chain_of, string}
 use Rattle.mbuf_chain.specs.Owners.{IsOwned, Moves}
 use Rattle.mbuf_chain.specs.Frames.{SameAt}
 use Rattle.mbuf_chain.proofs.Laws.Owners.{times-append, live_at_most, moves_trans, moves_beside, owned_after, same_beside, shown_with}
-use Rattle.chain_ops.specs.Weights.{laid_entries}
+use Rattle.chain_ops.specs.Weights.{layout_entries}
 use Rattle.ip_out.specs.declared.head.IpHead.{IpHead}
 use Rattle.pcb_table.specs.declared.block.Block.{Block}
 use Rattle.pcb_table.specs.Table.{Table, Queues, IsOpen, block_at, socket_with}
@@ -35,12 +35,12 @@ use Rattle.sock_calls.proofs.Delivered.{freed, freed_accounts, ends_here, shows_
 use Rattle.sock_calls.proofs.Copies.{named_is}
 
 -- ---- weights
-pub laid_weight : (es : List Entry) → flat.weight_of (laid_entries es) ≡ entries_weight es
+pub laid_weight : (es : List Entry) → flat.weight_of (layout_entries es) ≡ entries_weight es
 laid_weight [] = refl
 laid_weight (e ∷ es) = go e.cluster (laid_weight es)
   where
-    go : (o : Option ℕ) → flat.weight_of (laid_entries es) ≡ entries_weight es
-        → flat.weight_of (laid_entries (record { bytes = e.bytes; start = e.start; cluster = o } ∷ es))
+    go : (o : Option ℕ) → flat.weight_of (layout_entries es) ≡ entries_weight es
+        → flat.weight_of (layout_entries (record { bytes = e.bytes; start = e.start; cluster = o } ∷ es))
         ≡ entries_weight (record { bytes = e.bytes; start = e.start; cluster = o } ∷ es)
     go None later = λ i. record { mbufs = suc (later i).mbufs; bag = (later i).bag }
     go (Some k) later = λ i. record { mbufs = suc (later i).mbufs; bag = k ∷ (later i).bag }

@@ -11,7 +11,7 @@ use Rattle.mbuf_chain.proofs.Laws.Steps.{adds_undone}
 use Rattle.chain_ops.specs.Makes.{Makes, LacksMbufs}
 use Rattle.chain_ops.specs.Prepends.{has_front, prepended, prepended_front, prepend_need}
 use Rattle.chain_ops.specs.Stored.{AreFree, Has, Lacks, stored_first}
-use Rattle.chain_ops.specs.Weights.{laid_entries}
+use Rattle.chain_ops.specs.Weights.{layout_entries}
 use Rattle.chain_ops.proofs.Laws.Makes.{makes_held, makes_mbufs, makes_as}
 use Rattle.ip_out.specs.Packets.{IsDatagramChain}
 use Rattle.ip_out.proofs.Laws.{datagram_sent}
@@ -27,7 +27,7 @@ Stores p bytes q d =
 -- the headers in front of them give the layout of a send
 abbrev pub SentLayout : Type 0
 SentLayout = (cs xs hs : List ℕ) → length cs ≡ count_by is_cluster (user (length xs)) → length hs ≡ 28
-    → laid_entries (prepended (record {
+    → layout_entries (prepended (record {
       front = alone true;
       entries = stored_first 56 true cs (user (length xs)) xs;
       cells = [];
@@ -38,8 +38,8 @@ no_lack p n has (inl few) = omega (arith, has.0, few, (beside n).mbufs)
 no_lack p n has (inr few) = omega (arith, has.1, few, (beside n).clusters)
 
 laid_there : {p q : PoolView} {d : ℕ} (bytes hs : List ℕ) → SentLayout → (s : Stores p bytes q d) → length hs ≡ 28
-    → laid_entries (prepended (chain_of q d) hs) ≡ laid_on s.0 (sent (length bytes))
-laid_there {p} {q} {d} bytes hs law s len = ap laid_entries
+    → layout_entries (prepended (chain_of q d) hs) ≡ laid_on s.0 (sent (length bytes))
+laid_there {p} {q} {d} bytes hs law s len = ap layout_entries
     (λ i. prepended (record { front = s.3.front i; entries = s.3.entries i; cells = [] }) hs) ∙ law s.0 bytes hs s.2 len
 
 count_there : {p q : PoolView} {d : ℕ} (bytes hs : List ℕ) → SentLayout → Stores p bytes q d → length hs ≡ 28
@@ -95,7 +95,7 @@ stored_is {p} {q} {r} {d} {d'} bytes hs law s is len m string_is =
         free = s.1;
         made = made.adds;
         headed = ap (λ f. f.header) made.front ∙ headed_front (chain_of q d) (length hs) s.3.front;
-        laid = ap laid_entries made.entries ∙ laid_there bytes hs law s len;
+        laid = ap layout_entries made.entries ∙ laid_there bytes hs law s len;
         size = omega (arith, ap (λ (xs : List ℕ). length xs) whole, length-append hs bytes, len);
         held = omega (
           arith,
@@ -115,7 +115,7 @@ ready {p} {q} {cs} {n} {c} l most = datagram_sent (chain_of q c) cs n l.headed l
 no_flat : flat.LayoutEntry
 no_flat = record { size = 0; cluster = None }
 
-first_size : (es : List Entry) (x : flat.LayoutEntry) (xs : List flat.LayoutEntry) → laid_entries es ≡ x ∷ xs
+first_size : (es : List Entry) (x : flat.LayoutEntry) (xs : List flat.LayoutEntry) → layout_entries es ≡ x ∷ xs
     → length (slice_index_or es 0 no_entry).bytes ≡ x.size
 first_size [] x xs h = absurd (omega (arith, ap (λ (ys : List flat.LayoutEntry). length ys) h))
 first_size (e ∷ es) x xs h = ap (λ (ys : List flat.LayoutEntry). (slice_index_or ys 0 no_flat).size) h
@@ -131,18 +131,18 @@ pub has_headers : {p q : PoolView} {cs : List ℕ} {n c : ℕ} → IsSendLaidOut
     → 28 ≤ length (entry_of (chain_of q c) 0).bytes
 has_headers {p} {q} {cs} {n} {c} l = go (nat_le n 72) l.laid
   where
-    go : (t : Bool) → laid_entries (chain_of q c).entries
+    go : (t : Bool) → layout_entries (chain_of q c).entries
         ≡ laid_on cs (cond {A = List flat.Room} t (flat.Plain (28 + n) ∷ []) (flat.Plain 28 ∷ user n))
         → 28 ≤ length (entry_of (chain_of q c) 0).bytes
     go true is = omega (arith, first_size (chain_of q c).entries _ _ (is ∙ plain_first cs (28 + n) []))
     go false is = omega (arith, first_size (chain_of q c).entries _ _ (is ∙ plain_first cs 28 (user n)))
 
-string_size : (es : List Entry) → length (flat_bytes es) ≡ sum_by (λ (x : flat.LayoutEntry). x.size) (laid_entries es)
+string_size : (es : List Entry) → length (flat_bytes es) ≡ sum_by (λ (x : flat.LayoutEntry). x.size) (layout_entries es)
 string_size [] = refl
 string_size (e ∷ es) = omega (
   arith,
   length-append e.bytes (flat_bytes es),
   sum_by-cons (λ (x : flat.LayoutEntry). x.size) (record { size = length e.bytes; cluster = e.cluster })
-      (laid_entries es),
+      (layout_entries es),
   string_size es,
 )

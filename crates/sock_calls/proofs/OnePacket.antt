@@ -17,7 +17,7 @@ use Rattle.mbuf_chain.proofs.Laws.Accounts.{held-adds}
 use Rattle.mbuf_chain.proofs.Laws.Owners.{live_adds, shown_adds}
 use Rattle.mbuf_chain.proofs.Laws.Steps.{adds_undone, linked_front}
 use Rattle.chain_ops.specs.Stored.{AreFree, Has}
-use Rattle.chain_ops.specs.Weights.{laid_entries}
+use Rattle.chain_ops.specs.Weights.{layout_entries}
 use Rattle.chain_ops.proofs.Laws.Rooms.{one_cluster}
 use Rattle.ip_out.specs.declared.ways.Way.{Way}
 use Rattle.sock_calls.specs.Inside.Putting.{IsBuilt, IsSendLaidOut, IsStored, way_of}
@@ -88,7 +88,7 @@ entry xs start o = record { bytes = xs; start = start; cluster = o }
 
 lies : {p q : PoolView} {c : ℕ} (v : ChainView) (cs : List ℕ) (n : ℕ) → Adds p q c v → v.front.header ≡ true
     → length cs ≡ count_by is_cluster (sent n) → AreFree p cs
-    → laid_entries v.entries ≡ laid_on cs (sent n) → length (string v) ≡ n + 28 → IsSendLaidOut p n cs q c
+    → layout_entries v.entries ≡ laid_on cs (sent n) → length (string v) ≡ n + 28 → IsSendLaidOut p n cs q c
 lies {p} {q} {c} v cs n adds headed number free is size =
     let shown : chain_of q c ≡ v = shown_adds adds in
     record {
@@ -96,7 +96,7 @@ lies {p} {q} {c} v cs n adds headed number free is size =
       free = free;
       made = subst (λ (w : ChainView). Adds p q c w) (sym shown) adds;
       headed = ap (λ (w : ChainView). w.front.header) shown ∙ headed;
-      laid = ap (λ (w : ChainView). laid_entries w.entries) shown ∙ is;
+      laid = ap (λ (w : ChainView). layout_entries w.entries) shown ∙ is;
       size = ap (λ (w : ChainView). length (string w)) shown ∙ size;
       held = omega (
         arith,

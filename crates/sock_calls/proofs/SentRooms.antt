@@ -11,7 +11,7 @@ use Rattle.flat_model.specs.Machine.Send.{need_to}
 use Rattle.flat_model.specs.Machine.Sending.{is_looped, mtu_to}
 use Rattle.flat_model.specs.declared.config.Config.{Config}
 use Rattle.mbuf_chain.specs.Chain.{ChainView, PoolView, held_mbufs, string}
-use Rattle.chain_ops.specs.Weights.{laid_entries}
+use Rattle.chain_ops.specs.Weights.{layout_entries}
 use Rattle.chain_ops.proofs.Laws.Rooms.{rest_rooms, rooms_step, rest_none}
 use Rattle.ip_out.specs.declared.ways.Way.{Way}
 use Rattle.ip_out.specs.Packets.{part_need, later_need}
@@ -75,12 +75,12 @@ met_laid (c ∷ cs) (Cluster n ∷ rooms) a b at = met_one at a b n (record { si
     (laid_on cs rooms) (Cluster n) rooms refl (met_laid cs rooms a b)
 
 -- ---- what the later fragments take
-parts_need : (v : ChainView) (cs : List ℕ) (rooms : List Room) → laid_entries v.entries ≡ laid_on cs rooms
+parts_need : (v : ChainView) (cs : List ℕ) (rooms : List Room) → layout_entries v.entries ≡ laid_on cs rooms
     → (ps : List Part)
     → sum_by (part_need v) ps ≡ sum_by (need_of_part rooms) ps
 parts_need v cs rooms is [] = refl
 parts_need v cs rooms is (p ∷ ps) =
-    let here : length (entries_met (laid_entries v.entries) (20 + p.offset) (20 + p.offset + p.size))
+    let here : length (entries_met (layout_entries v.entries) (20 + p.offset) (20 + p.offset + p.size))
     ≡ length (meets rooms (20 + p.offset) (20 + p.offset + p.size)) =
     ap (λ (es : List flat.LayoutEntry). length (entries_met es (20 + p.offset) (20 + p.offset + p.size))) is
     ∙ met_laid cs rooms (20 + p.offset) (20 + p.offset + p.size) 0 in
@@ -92,7 +92,7 @@ parts_need v cs rooms is (p ∷ ps) =
       sum_by-cons (need_of_part rooms) p ps,
     )
 
-pub later_is : (v : ChainView) (cs : List ℕ) (n mtu : ℕ) → laid_entries v.entries ≡ laid_on cs (sent n)
+pub later_is : (v : ChainView) (cs : List ℕ) (n mtu : ℕ) → layout_entries v.entries ≡ laid_on cs (sent n)
     → length (string v) ≡ n + 28 → later_need v mtu ≡ sum_by (need_of_part (sent n)) (drop 1 (cuts (n + 8) mtu))
 later_is v cs n mtu is size =
     let carried : length (string v) - 20 ≡ n + 8 = omega (arith, size) in
@@ -170,7 +170,7 @@ has_mbufs p c ip n h = enough_mbufs p (need_to c ip n).mbufs (need_to c ip n).cl
 
 -- ---- the packets beyond the datagram take the rest
 pub need_is_way : (c : Config) (ip n : ℕ) (v : ChainView) (cs : List ℕ) → IsRouted c → (ip ≡ c.bcast → n + 28 ≤ c.mtu)
-    → laid_entries v.entries ≡ laid_on cs (sent n) → length (string v) ≡ n + 28
+    → layout_entries v.entries ≡ laid_on cs (sent n) → length (string v) ≡ n + 28
     → (need_to c ip n).mbufs ≡ length (sent n) + way_need (way_of c ip) v (mtu_to c ip)
 need_is_way c ip n v cs routed fits is size = go (ip == c.bcast) refl (is_looped c ip) refl
   where

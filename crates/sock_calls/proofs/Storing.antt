@@ -21,7 +21,7 @@ use Rattle.mbuf_chain.proofs.Laws.Owners.{times-append, moves_adds, moves_beside
 use Rattle.chain_ops.specs.Makes.{Makes}
 use Rattle.chain_ops.specs.Stored.{AreFree, Has, stored_first}
 use Rattle.chain_ops.specs.Trims.{only_first, without_first}
-use Rattle.chain_ops.specs.Weights.{laid_entries}
+use Rattle.chain_ops.specs.Weights.{layout_entries}
 use Rattle.chain_ops.proofs.Laws.Strings.{only_first_bytes, without_first_bytes}
 use Rattle.ledger.specs.Accounts.{entries_weight, weight_at, IsAccounted}
 use Rattle.ledger.proofs.Laws.{some_free}
@@ -63,7 +63,7 @@ without_weighs n (e ∷ es) =
 pub data_stored : {p q r s : PoolView} {c : ℕ} {packet clusters : List ℕ} (end : ℕ) → AreFree p clusters
     → length clusters ≡ count_by is_cluster (wire (length packet))
     → Makes p q c (alone true) (stored_first 0 false clusters (wire (length packet)) packet)
-    → laid_entries (stored_first 0 false clusters (wire (length packet)) packet) ≡ laid_on clusters (wire (length packet))
+    → layout_entries (stored_first 0 false clusters (wire (length packet)) packet) ≡ laid_on clusters (wire (length packet))
     → string (chain_of q c) ≡ packet
     → r ≡ with_chain q c (record (chain_of q c) { entries = only_first end (chain_of q c).entries })
     → s ≡ with_chain r c (record (chain_of r c) { entries = without_first 28 (chain_of r c).entries })

@@ -17,7 +17,7 @@ use Rattle.mbuf_chain.specs.Chain.{ChainView, Entry, PoolView, chain_of, entry_o
 use Rattle.mbuf_chain.specs.Steps.{overwritten}
 use Rattle.std.specs.Prelude.{slice_index_or, slice_set}
 use Rattle.chain_ops.specs.Trims.{only_first, without_first}
-use Rattle.chain_ops.specs.Weights.{laid_entries}
+use Rattle.chain_ops.specs.Weights.{layout_entries}
 use Rattle.ip_out.specs.declared.head.IpHead.{IpHead}
 use Rattle.pcb_table.specs.declared.block.Block.{Block}
 use Rattle.pcb_table.specs.Table.{Queues, Table, machine, socket_with}
@@ -122,7 +122,7 @@ module _ (L : Ledger) (held : Weight) where
 -- ---- weights
 
 abbrev bag_of : List Entry → List ℕ
-bag_of es = filter_map (λ (x : flat.LayoutEntry). x.cluster) (laid_entries es)
+bag_of es = filter_map (λ (x : flat.LayoutEntry). x.cluster) (layout_entries es)
 
 without_first_bag : (n : ℕ) (es : List Entry) → bag_of (without_first n es) ≡ bag_of es
 without_first_bag n [] = refl
@@ -154,16 +154,16 @@ only_first_count n (e ∷ es) = let later = only_first_count (n - length e.bytes
 
 -- a delivered chain keeps its mbufs and clusters
 pub data_weight : (n : ℕ) (v : ChainView)
-    → flat.weight_of (laid_entries (without_header n v).entries) ≡ flat.weight_of (laid_entries v.entries)
+    → flat.weight_of (layout_entries (without_header n v).entries) ≡ flat.weight_of (layout_entries v.entries)
 data_weight n v = λ j. record { mbufs = mbufs j; bag = bag j }
   where
     cut : List Entry
     cut = only_first n v.entries
 
-    laid_count : (es : List Entry) → length (laid_entries es) ≡ length es
+    laid_count : (es : List Entry) → length (layout_entries es) ≡ length es
     laid_count es = length-map es (λ (e : Entry). record { size = length e.bytes; cluster = e.cluster })
 
-    mbufs : length (laid_entries (without_first 8 cut)) ≡ length (laid_entries v.entries)
+    mbufs : length (layout_entries (without_first 8 cut)) ≡ length (layout_entries v.entries)
     mbufs =
         omega (
           arith,
@@ -178,7 +178,7 @@ data_weight n v = λ j. record { mbufs = mbufs j; bag = bag j }
 
 -- a packet whose UDP header was written has the layout that it had
 pub built_laid : (src dst sport dport : ℕ) (v : ChainView) → 28 ≤ length (entry_of v 0).bytes
-    → laid_entries (with_udp_header src dst sport dport v).entries ≡ laid_entries v.entries
+    → layout_entries (with_udp_header src dst sport dport v).entries ≡ layout_entries v.entries
 built_laid src dst sport dport v long = go v.entries long (header_length src dst sport dport (drop 28 (string v)))
   where
     head : List ℕ
@@ -195,7 +195,7 @@ built_laid src dst sport dport v long = go v.entries long (header_length src dst
     )
 
     go : (es : List Entry) → 28 ≤ length (slice_index_or es 0 no_entry).bytes → length head ≡ 8
-        → laid_entries (slice_set es 0 (overwritten (slice_index_or es 0 no_entry) 20 head)) ≡ laid_entries es
+        → layout_entries (slice_set es 0 (overwritten (slice_index_or es 0 no_entry) 20 head)) ≡ layout_entries es
     go [] long eight = refl
     go (e ∷ es) long eight =
-        λ j. record { size = same_size e.bytes long eight j; cluster = e.cluster } ∷ laid_entries es
+        λ j. record { size = same_size e.bytes long eight j; cluster = e.cluster } ∷ layout_entries es

@@ -11,7 +11,7 @@ use Rattle.flat_model.specs.Amounts.Weight.{Covers, times}
 use Rattle.flat_model.specs.Amounts.Layout as flat
 use Rattle.flat_model.specs.Amounts.Layout.{weight_of}
 use Rattle.chain_ops.specs.Joins.{filled_up, cat}
-use Rattle.chain_ops.specs.Weights.{laid_entries, IsEntryFit, AreFit}
+use Rattle.chain_ops.specs.Weights.{layout_entries, IsEntryFit, AreFit}
 use Rattle.chain_ops.proofs.Joins.{plain_with_room, fill-goes, fill-stops}
 
 -- ---- how many mbufs
@@ -46,10 +46,10 @@ unfolding one_at
 times_cons c None bag = omega arith
 times_cons c (Some k) bag = sum_by-cons (λ (j : ℕ). cond {A = ℕ} (nat_eq j c) 1 0) k bag
 
-times_laid : (c : ℕ) (es : List Entry) → times c (weight_of (laid_entries es)).bag ≡ refs c es
+times_laid : (c : ℕ) (es : List Entry) → times c (weight_of (layout_entries es)).bag ≡ refs c es
 unfolding refs
 times_laid c [] = refl
-times_laid c (e ∷ es) = omega (arith, times_cons c e.cluster (weight_of (laid_entries es)).bag, times_laid c es)
+times_laid c (e ∷ es) = omega (arith, times_cons c e.cluster (weight_of (layout_entries es)).bag, times_laid c es)
 
 filled_refs : (c : ℕ) (e : Entry) (fs : List Entry) → refs c (filled_up e fs) ≤ one_at c e.cluster + refs c fs
 unfolding refs
@@ -79,8 +79,8 @@ times-append c (x ∷ xs) ys =
     )
 
 pub cat_bag : (es fs : List Entry) (c : ℕ)
-    → times c (weight_of (laid_entries (cat es fs))).bag
-    ≤ times c ((weight_of (laid_entries es)).bag ++ (weight_of (laid_entries fs)).bag)
+    → times c (weight_of (layout_entries (cat es fs))).bag
+    ≤ times c ((weight_of (layout_entries es)).bag ++ (weight_of (layout_entries fs)).bag)
 cat_bag es fs c =
     omega (
       arith,
@@ -88,7 +88,7 @@ cat_bag es fs c =
       times_laid c es,
       times_laid c fs,
       cat_refs c es fs,
-      times-append c (weight_of (laid_entries es)).bag (weight_of (laid_entries fs)).bag,
+      times-append c (weight_of (layout_entries es)).bag (weight_of (layout_entries fs)).bag,
     )
 
 -- ---- room
@@ -119,9 +119,9 @@ cat_fit (e ∷ []) fs h hs = filled_fit e fs h.0 hs
 cat_fit (e ∷ f ∷ es) fs h hs = (h.0, cat_fit (f ∷ es) fs h.1 hs)
 
 record Held (es : List Entry) : Type 0 where
-  bag : length (weight_of (laid_entries es)).bag ≤ length (laid_entries es)
-  room : length (flat_bytes es) ≤ 108 * (length (laid_entries es) - length (weight_of (laid_entries es)).bag)
-      + 2048 * length (weight_of (laid_entries es)).bag
+  bag : length (weight_of (layout_entries es)).bag ≤ length (layout_entries es)
+  room : length (flat_bytes es) ≤ 108 * (length (layout_entries es) - length (weight_of (layout_entries es)).bag)
+      + 2048 * length (weight_of (layout_entries es)).bag
 
 held : (es : List Entry) → AreFit es → Held es
 held [] h = record { bag = omega arith; room = omega arith }
@@ -142,7 +142,7 @@ held (e ∷ es) h = go e.cluster h.0.low h.0.high (held es h.1)
         }
 
 pub covers_fit : (es : List Entry) → 0 < length es → AreFit es
-    → Covers (weight_of (laid_entries es)) (length (flat_bytes es))
+    → Covers (weight_of (layout_entries es)) (length (flat_bytes es))
 covers_fit es some h =
     let t : Held es = held es h in
     record {

@@ -14,7 +14,7 @@ use Rattle.flat_model.specs.Machine.Step.{ComesIn}
 use Rattle.mbuf_chain.specs.Chain.{PoolView, alone, chain_of, string}
 use Rattle.chain_ops.specs.Makes.{Makes}
 use Rattle.chain_ops.specs.Stored.{AreFree, stored_first}
-use Rattle.chain_ops.specs.Weights.{laid_entries}
+use Rattle.chain_ops.specs.Weights.{layout_entries}
 use Rattle.mbuf_chain.specs.Owners.{Moves}
 use Rattle.mbuf_chain.specs.Train.{TrainView, numbers}
 use Rattle.ledger.specs.Accounts.{IsAccounted, item_at, weight_at, weight_owned}
@@ -65,7 +65,7 @@ pub record IsPacketStored (p : PoolView) (bytes : List ℕ) (q : PoolView) (c : 
   pub free : AreFree p clusters
   pub number : length clusters ≡ count_by is_cluster (wire (length bytes))
   pub made : Makes p q c (alone true) (stored_first 0 false clusters (wire (length bytes)) bytes)
-  pub layout : laid_entries (stored_first 0 false clusters (wire (length bytes)) bytes)
+  pub layout : layout_entries (stored_first 0 false clusters (wire (length bytes)) bytes)
       ≡ laid_on clusters (wire (length bytes))
   pub bytes_are : string (chain_of q c) ≡ bytes
 

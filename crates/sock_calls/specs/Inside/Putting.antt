@@ -13,7 +13,7 @@ use Rattle.mbuf_chain.specs.Chain.{PoolView, Adds, chain_of, held_mbufs, string}
 use Rattle.mbuf_chain.specs.Owners.{Moves}
 use Rattle.mbuf_chain.specs.Train.{TrainView, IsHeld, numbers}
 use Rattle.chain_ops.specs.Stored.{AreFree}
-use Rattle.chain_ops.specs.Weights.{laid_entries}
+use Rattle.chain_ops.specs.Weights.{layout_entries}
 use Rattle.ip_out.specs.Packets.{train_packets, BeginPlain}
 use Rattle.ip_out.specs.Queues.{IsOutputQueue}
 use Rattle.ip_out.specs.declared.head.IpHead.{IpHead}
@@ -70,7 +70,7 @@ pub record IsSendLaidOut (p : PoolView) (n : ℕ) (clusters : List ℕ) (q : Poo
   pub free : AreFree p clusters
   pub made : Adds p q c (chain_of q c)
   pub headed : (chain_of q c).front.header ≡ true
-  pub laid : laid_entries (chain_of q c).entries ≡ laid_on clusters (sent n)
+  pub laid : layout_entries (chain_of q c).entries ≡ laid_on clusters (sent n)
   pub size : length (string (chain_of q c)) ≡ n + IP_UDP_HEADERS
   pub held : held_mbufs q ≡ held_mbufs p + length (sent n)
 

@@ -2,11 +2,11 @@ use Rattle.std.proofs.Common.{◌≡◌, List, length, arith}
 use Rattle.std.proofs.lemmas.List.{length-map}
 use Rattle.mbuf_chain.specs.Chain.{Entry}
 use Rattle.chain_ops.specs.Joins.{cat}
-use Rattle.chain_ops.specs.Weights.{laid_entries}
+use Rattle.chain_ops.specs.Weights.{layout_entries}
 use Rattle.chain_ops.proofs.Laws.Joins.{cat_length, cat_bag, cat_fit, covers_fit}
 use Rattle.chain_ops.proofs.theorems.join_weight.Goals as goal
 
-laid_length : (es : List Entry) → length (laid_entries es) ≡ length es
+laid_length : (es : List Entry) → length (layout_entries es) ≡ length es
 laid_length es = length-map es _
 
 pub returns-clause-mbufs : goal.returns-clause-mbufs

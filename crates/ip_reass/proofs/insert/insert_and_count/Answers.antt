@@ -13,7 +13,7 @@ kept : (c : goal.In-Waits) → Lent c.args.pool.now c.args.table.now.items c.arg
     (take c.args.table.now.len (c.insert_in.new.table ++ drop (length c.insert_in.new.table) c.args.table.now.items))
 kept c =
     lent_table c.args.pool.now c.insert_in.new.pool c.args.table.now.items c.as_mut_slice.result.now
-      c.insert_in.new.table
+    c.insert_in.new.table
     c.args.i c.args.fragment.chain c.args.table.now.len
     (arrived c.args.pool.now c.args.fragment.chain c.args.fragment.head.offset c.args.fragment.head.more)
     (is_left c.insert_in.result) _
@@ -31,7 +31,7 @@ whole : (c : goal.After-count)
     (take c.args.table.now.len (c.insert_in.new.table ++ drop (length c.insert_in.new.table) c.args.table.now.items))
 whole c =
     lent_table c.args.pool.now c.insert_in.new.pool c.args.table.now.items c.as_mut_slice.result.now
-      c.insert_in.new.table
+    c.insert_in.new.table
     c.args.i c.args.fragment.chain c.args.table.now.len
     (arrived c.args.pool.now c.args.fragment.chain c.args.fragment.head.offset c.args.fragment.head.more)
     (is_left c.insert_in.result) _
@@ -95,7 +95,7 @@ returns-clause-whole c =
 pub returns-in-Covered-clause-layout : goal.returns-in-Covered-clause-layout
 returns-in-Covered-clause-layout c =
     covered_layout c.args.pool.now c.insert_in.new.pool c.args.table.now.items c.as_mut_slice.result.now
-      c.insert_in.new.table
+    c.insert_in.new.table
     _ c.args.i c.args.fragment.chain c.args.table.now.len
     (arrived c.args.pool.now c.args.fragment.chain c.args.fragment.head.offset c.args.fragment.head.more)
     (is_left c.insert_in.result)

@@ -12,7 +12,7 @@ loop-at-preserved c =
         counted =
             heard_counted c.args.place c.args.mac c.loop-at.at c.args.due.now c.index-due-at.result n
             c.if-is_addressed.frames c.is_addressed.result (omega arith) c.index-due-at.is inv.counted
-              c.is_addressed.ensures
+            c.is_addressed.ensures
             (w.frames-is ∙ ap (λ b. cond b (n + 1) n) (sym w.if-is_addressed.true));
         few = omega (arith, w.frames-is, inv.few);
       }
@@ -20,7 +20,7 @@ loop-at-preserved c =
         counted =
             heard_counted c.args.place c.args.mac c.loop-at.at c.args.due.now c.index-due-at.result n
             c.if-is_addressed.frames c.is_addressed.result (omega arith) c.index-due-at.is inv.counted
-              c.is_addressed.ensures
+            c.is_addressed.ensures
             (w.frames-is ∙ ap (λ b. cond b (n + 1) n) (sym w.if-is_addressed.false));
         few = omega (arith, w.frames-is, inv.few);
       }

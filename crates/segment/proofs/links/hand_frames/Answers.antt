@@ -16,7 +16,7 @@ loop-at-preserved g c =
     let mac = (link_seen c.args.link.now).link.mac in
     let is : frame_goes_to c.args.place mac (flying frame) ≡ c.is_addressed.result =
     ap (λ (l : Link). frame_goes_to c.args.place l.mac (flying frame)) (sym c.link.ensures)
-      ∙ sym c.is_addressed.ensures in
+    ∙ sym c.is_addressed.ensures in
     let now = halves c.loop-at.stack (link_seen c.loop-at.link) in
     more_heard c.args.place mac c.loop-at.at c.args.due.now frame (halves c.args.stack.now (link_seen c.args.link.now))
     now
