@@ -117,15 +117,15 @@ impl Block {
     pub(crate) fn agrees(&self, key: &LookupKey) -> bool
         ensures { result ≡ does_agree key.now self.now }
     {
-        let is_local_same = match (self.local, key.local) {
-            (Some(own), Some(wanted)) => own == wanted,
-            _ => true,
-        };
-        let is_peer_same = match (self.peer, key.peer) {
+        if let (Some(own), Some(wanted)) = (self.local, key.local) {
+            if own != wanted {
+                return false;
+            }
+        }
+        match (self.peer, key.peer) {
             (Some(own), Some(wanted)) => own.ip == wanted.ip && own.port == wanted.port,
             _ => true,
-        };
-        is_local_same && is_peer_same
+        }
     }
 
     /// Whether the block has the key's port and agrees with the key.
