@@ -5,8 +5,8 @@
 const fs = require("fs");
 const { load } = require("./sources.js");
 
-const [module, ...files] = process.argv.slice(2);
-const page = load(["Engine", "captureScript", "tracePlay"], module);
+const [wasm, ...files] = process.argv.slice(2);
+const page = load(["Engine", "captureScript", "tracePlay"], wasm);
 
 function played(engine, file) {
   const { records, fault: end } = engine.records(new Uint8Array(fs.readFileSync(file)));
@@ -20,7 +20,7 @@ function played(engine, file) {
 }
 
 async function main() {
-  const engine = await page.Engine.load(fs.readFileSync(module));
+  const engine = await page.Engine.load(fs.readFileSync(wasm));
   for (const file of files) console.log(JSON.stringify(played(engine, file)));
 }
 
