@@ -10,8 +10,11 @@ from bsdudp_conform._judge import judge
 
 pytestmark = pytest.mark.needs("scapy")
 
+# An answer is one write, even if PYTHONUNBUFFERED is set: the judge stops reading at an `end`, so it may miss what a
+# later write has.
 HEAD = """
 import os, sys, time
+sys.stdout = open(1, "w", closefd=False)
 for line in sys.stdin:
     line = line.strip()
     if line == "hello 1":
