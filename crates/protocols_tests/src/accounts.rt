@@ -1,4 +1,4 @@
-//! The test of the pool and what is shown of it, on pools of a few buffers.
+//! The ledger's test of the pool and its usage, on pools of a few buffers.
 
 mod nobody;
 
@@ -13,14 +13,14 @@ use nobody::Nobody;
 use std::alloc::Global;
 use std::process::Abort;
 
-/// A pool of which all is free.
+/// Returns a pool whose buffers are all free.
 fn booted(rt: &impl Abort, alloc: Global, mbufs: u32, clusters: u32) -> Pool
     ensures { (result.mbufs ≡ mbufs) × (result.clusters ≡ clusters) }
 {
     Pool::over(Store::boot(alloc, Sizes { mbufs, clusters }).expect(rt, "a pool"))
 }
 
-/// A chain of one mbuf on a cluster of its own.
+/// Returns a chain of one mbuf with its own cluster.
 #[tactic(auto, using(mbuf_chain::proofs::Laws::Maps::map_steps))]
 fn on_cluster(rt: &impl Abort, pool: &mut Pool) -> Chain
     ensures made { IsLive pool.new result }
@@ -32,7 +32,7 @@ fn on_cluster(rt: &impl Abort, pool: &mut Pool) -> Chain
     pool.new_cluster(true, 0).expect(rt, "a cluster is free")
 }
 
-/// A chain of one mbuf that shares the cluster of a chain's first mbuf.
+/// Returns a chain of one mbuf that shares the cluster of a chain's first mbuf.
 fn shared(rt: &impl Abort, pool: &mut Pool, chain: &Chain) -> Chain
     requires { IsLive pool.old chain.now }
     ensures made { IsLive pool.new result }

@@ -1,4 +1,4 @@
-//! Checksums beside values from outside, and beside flat_model's slow `fold`.
+//! Checksums, compared with values from outside and with flat_model's slow `fold`.
 
 mod chains;
 
@@ -66,7 +66,7 @@ fn no_bytes_have_a_sum_of_0(rt: HostRuntime) {
     assert!(rt; sum_slice(&[]) == 0 && Sum::default().finish() == 0xffff);
 }
 
-/// The sum and the checksum of two pieces, at each cut up to 64, are those of the plain program.
+/// Returns whether the sum, and the checksum of two pieces for each cut up to 64, equal those of the plain program.
 fn agrees_with_the_plain_program(bytes: &[u8]) -> bool {
     let folded = fold(bytes);
     let cuts_agree = (0..=64).all(|cut| match bytes.split_at_checked(cut) {

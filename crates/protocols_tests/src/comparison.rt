@@ -1,4 +1,4 @@
-//! The control blocks beside the slow programs of the definitions.
+//! The control blocks, compared with the slow programs of the definitions.
 use flat_model::{Addr, LookupKey, Opt};
 use flat_plain::Pcb;
 use pcb_table::{Block, Pcbs};
@@ -23,7 +23,7 @@ fn pcb_of(block: Block) -> Pcb {
     }
 }
 
-/// The blocks of these descriptors, which are given in the order of opening, the youngest first.
+/// Returns the blocks of these descriptors. The descriptors are in the order of opening, the youngest first.
 fn blocks(rt: &impl Abort, alloc: Global, table: &Pcbs, fds: &[u32]) -> Vec<Pcb> {
     let mut pcbs = Vec::new(alloc);
     for fd in fds {
@@ -54,7 +54,7 @@ fn fd_of(found: Option<Pcb>) -> Option<u32> {
     Some(found?.fd)
 }
 
-/// Whether both find the same socket; the second time the cache may answer.
+/// Returns whether both find the same socket. The second lookup may take it from the cache.
 fn finds_alike(table: &mut Pcbs, pcbs: &[Pcb], packet: Packet) -> bool {
     let key = key_of(packet);
     let best = fd_of(flat_plain::best(key, pcbs));
@@ -63,8 +63,8 @@ fn finds_alike(table: &mut Pcbs, pcbs: &[Pcb], packet: Packet) -> bool {
         && table.exact(key) == fd_of(flat_plain::exact(key, pcbs))
 }
 
-/// Whether the same sockets hear a broadcast.
-fn is_heard_alike(
+/// Returns whether the same sockets receive a broadcast.
+fn has_same_receivers(
     rt: &impl Abort,
     alloc: Global,
     table: &Pcbs,
@@ -72,11 +72,11 @@ fn is_heard_alike(
     packet: Packet,
 ) -> bool {
     let plain = flat_plain::receivers(alloc, key_of(packet), pcbs).expect(rt, "memory");
-    let heard = table.receivers(packet.destination, packet.port, packet.source);
-    if heard.len() != plain.len() {
+    let receivers = table.receivers(packet.destination, packet.port, packet.source);
+    if receivers.len() != plain.len() {
         return false;
     }
-    for (fd, pcb) in heard.iter().zip(plain.iter()) {
+    for (fd, pcb) in receivers.iter().zip(plain.iter()) {
         if *fd != pcb.fd {
             return false;
         }
@@ -97,7 +97,7 @@ static SOURCES: [Addr; 3] = [
     Addr { ip: 0, port: 0 },
 ];
 
-/// Whether both answer alike about packets of many kinds.
+/// Returns whether both find the same sockets for packets of many kinds.
 fn agrees(rt: &impl Abort, alloc: Global, table: &mut Pcbs, fds: &[u32]) -> bool {
     let pcbs = blocks(rt, alloc, table, fds);
     for destination in DESTINATIONS.iter() {
@@ -109,7 +109,7 @@ fn agrees(rt: &impl Abort, alloc: Global, table: &mut Pcbs, fds: &[u32]) -> bool
                     source: *source,
                 };
                 if !finds_alike(table, &pcbs, packet)
-                    || !is_heard_alike(rt, alloc, table, &pcbs, packet)
+                    || !has_same_receivers(rt, alloc, table, &pcbs, packet)
                 {
                     return false;
                 }
@@ -119,7 +119,7 @@ fn agrees(rt: &impl Abort, alloc: Global, table: &mut Pcbs, fds: &[u32]) -> bool
     true
 }
 
-/// A call that is answered well, or the answers of both, where these sockets are open, the youngest first.
+/// A call that succeeds, or a comparison of both results while these sockets are open, the youngest first.
 enum Step {
     Opens(u32),
     Binds(u32, u32, u16),

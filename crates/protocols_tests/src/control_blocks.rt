@@ -1,5 +1,5 @@
-//! Calls in a row, with answers that were worked out by hand. A step of a script that fails is told by its number, from
-//! 0 on.
+//! Sequences of calls, with results that were worked out by hand. A step that fails is reported by its number, counted
+//! from 0.
 ghost use Rattle.pcb_table.specs.Table.{IsOpen};
 
 use flat_model::{Addr, Errno, LookupKey, Opt};
@@ -45,7 +45,7 @@ enum Call {
 
 use Call::{Bind, Check, Close, Connect, Open, Packet, Share};
 
-/// A call and its answer: the descriptor of an opened or found socket, and 0 for any other success.
+/// A call and its result: the descriptor of an opened or found socket, and 0 for any other success.
 type Step = (Call, Result<u32, Errno>);
 
 fn answer(table: &mut Pcbs, call: Call) -> Result<u32, Errno> {
@@ -75,7 +75,7 @@ fn played(rt: &impl Abort, steps: &[Step]) -> Pcbs {
     table
 }
 
-/// A table with one socket.
+/// Returns a table with one socket.
 fn opened(rt: &impl Abort) -> (Pcbs, u32)
     ensures { IsOpen result.1 result.0 }
 {
@@ -85,7 +85,7 @@ fn opened(rt: &impl Abort) -> (Pcbs, u32)
     (table, fd)
 }
 
-/// The block of an open socket.
+/// Returns the block of an open socket.
 fn block_of(rt: &impl Abort, table: &Pcbs, fd: u32) -> Block
     ensures { IsOpen fd table.now }
 {
@@ -149,7 +149,7 @@ fn a_refused_connect_disconnects(rt: HostRuntime) {
     assert!(rt; local == None && port == Some(1024) && peer == None);
 }
 
-/// The cached connection goes with a new connect and with a close.
+/// A new connect and a close remove the cached connection.
 static CACHE: [Step; 13] = [
     (Open, Ok(3)),
     (Bind(3, (0, 7)), Ok(0)),
@@ -182,7 +182,7 @@ static MATCHES: [Step; 18] = [
     // 3 is younger than 4, and has the same score
     (Bind(3, (0, 7)), Ok(0)),
     (Packet(7, FROM), Ok(3)),
-    // 5 has one wildcard less than the others
+    // 5 has one wildcard fewer than the others
     (Open, Ok(5)),
     (Bind(5, (OUR, 7)), Err(Errno::AddressInUse)),
     (Share(5, true), Ok(0)),
@@ -229,7 +229,7 @@ static SHARED: [Step; 8] = [
     (Packet(7, FROM), Ok(4)),
 ];
 
-/// Those who get a packet to the broadcast address are these.
+/// Returns whether these sockets receive a packet to the broadcast address.
 fn are_receivers(table: &Pcbs, port: u16, wanted: &[u32]) -> bool {
     table.receivers(BROADCAST, port, addr(FROM)).as_slice() == wanted
 }
@@ -242,7 +242,7 @@ fn shares_a_port(rt: HostRuntime) {
     assert!(rt; are_receivers(&table, 7, &[4]) && are_receivers(&table, 8, &[]));
 }
 
-/// Opens a socket, binds it to the next ephemeral port, which is this one, and closes it.
+/// Opens a socket, binds it to the next ephemeral port, asserts that this is the wanted one, and closes it.
 fn takes_port(rt: &impl Abort, table: &mut Pcbs, wanted: u16) {
     assert!(rt; table.next_port() == wanted);
     let fd = table.open().expect(rt, "a socket");
@@ -252,7 +252,7 @@ fn takes_port(rt: &impl Abort, table: &mut Pcbs, wanted: u16) {
     table.close(fd).expect(rt, "it was open");
 }
 
-/// Once round the circle, and past the ports that are taken.
+/// All ephemeral ports once, without those that are in use, and then the first again.
 #[test]
 fn ports_go_in_a_circle(rt: HostRuntime) {
     let (mut table, taken) = opened(&rt);
@@ -303,7 +303,7 @@ fn where_a_send_comes_from(rt: HostRuntime) {
     }
 }
 
-/// A send gets a port once. Whoever has it and is connected isn't found by it alone.
+/// A send gets a port once. A connected socket isn't found by its port without its addresses.
 #[test]
 fn the_port_of_a_send(rt: HostRuntime) {
     let (mut table, fd) = opened(&rt);

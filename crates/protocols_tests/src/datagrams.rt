@@ -1,5 +1,5 @@
-//! Datagrams whose bytes are known from elsewhere, in chains cut at every byte. Every pool has just the mbufs of one
-//! chain, since no call takes any.
+//! Datagrams whose bytes come from outside, in chains cut at every byte. Each pool has only the mbufs of one chain,
+//! because no call allocates any.
 
 mod chains;
 mod departure;
@@ -19,7 +19,7 @@ const PEER: u32 = 0x0a00_0002;
 
 const BROADCAST: u32 = 0x0a00_00ff;
 
-/// The sender of each datagram that comes.
+/// The sender of each datagram that arrives.
 const FROM: Addr = Addr {
     ip: PEER,
     port: 5000,
@@ -31,41 +31,41 @@ const HI: [u8; 10] = [0x13, 0x88, 0, 7, 0, 10, 0x6f, 0xdf, 0x68, 0x69];
 /// The same without a checksum.
 const UNSUMMED: [u8; 10] = [0x13, 0x88, 0, 7, 0, 10, 0, 0, 0x68, 0x69];
 
-/// To port 8, where nobody listens, without a checksum.
-const UNHEARD: [u8; 10] = [0x13, 0x88, 0, 8, 0, 10, 0, 0, 0x68, 0x69];
+/// To port 8, to which no socket is bound, without a checksum.
+const TO_CLOSED_PORT: [u8; 10] = [0x13, 0x88, 0, 8, 0, 10, 0, 0, 0x68, 0x69];
 
-/// What became of a datagram, without its chain.
+/// What happened to a datagram, without its chain.
 enum Fate {
-    /// The first socket that got it, and how many got it.
-    Heard(u32, usize),
+    /// The first socket that received it, and how many did.
+    Delivered(u32, usize),
     Dropped(Why),
 }
 
-/// A datagram from `PEER`, its protocol and destination, what becomes of it, and its data where it's delivered.
+/// A datagram from `PEER`, its protocol and destination, what happens to it, and its data if it's delivered.
 type Row = (&'static [u8], u8, u32, Fate, &'static [u8]);
 
 static ROWS: [Row; 16] = [
-    (&HI, 17, OUR, Fate::Heard(3, 1), b"hi"),
-    // the checksum says nothing of what stands after the length
+    (&HI, 17, OUR, Fate::Delivered(3, 1), b"hi"),
+    // the checksum doesn't cover the bytes after the UDP length
     (
         &[0x13, 0x88, 0, 7, 0, 10, 0x6f, 0xdf, 0x68, 0x69, 1, 2],
         17,
         OUR,
-        Fate::Heard(3, 1),
+        Fate::Delivered(3, 1),
         b"hi",
     ),
     (
         &[0x13, 0x88, 0, 7, 0, 8, 0xd8, 0x4c],
         17,
         OUR,
-        Fate::Heard(3, 1),
+        Fate::Delivered(3, 1),
         b"",
     ),
     (
         &[0x13, 0x88, 0, 7, 0, 9, 0x77, 0x4a, 0x61],
         17,
         OUR,
-        Fate::Heard(3, 1),
+        Fate::Delivered(3, 1),
         b"a",
     ),
     (
@@ -74,13 +74,13 @@ static ROWS: [Row; 16] = [
         ],
         17,
         OUR,
-        Fate::Heard(3, 1),
+        Fate::Delivered(3, 1),
         b"hello",
     ),
-    (&UNSUMMED, 17, OUR, Fate::Heard(3, 1), b"hi"),
-    (&UNSUMMED, 17, BROADCAST, Fate::Heard(3, 1), b"hi"),
-    (&UNSUMMED, 17, u32::MAX, Fate::Heard(3, 1), b"hi"),
-    // one more than the right checksum less 2
+    (&UNSUMMED, 17, OUR, Fate::Delivered(3, 1), b"hi"),
+    (&UNSUMMED, 17, BROADCAST, Fate::Delivered(3, 1), b"hi"),
+    (&UNSUMMED, 17, u32::MAX, Fate::Delivered(3, 1), b"hi"),
+    // the right checksum minus 1
     (
         &[0x13, 0x88, 0, 7, 0, 10, 0x6f, 0xde, 0x68, 0x69],
         17,
@@ -88,7 +88,7 @@ static ROWS: [Row; 16] = [
         Fate::Dropped(Why::UdpBadSum),
         b"",
     ),
-    // to another address the pseudo header isn't that of the checksum
+    // another destination changes the pseudo header, so the checksum is wrong
     (&HI, 17, PEER, Fate::Dropped(Why::UdpBadSum), b""),
     (
         &[0x13, 0x88, 0, 7, 0, 10, 0],
@@ -111,9 +111,9 @@ static ROWS: [Row; 16] = [
         Fate::Dropped(Why::UdpBadLength),
         b"",
     ),
-    (&UNHEARD, 17, OUR, Fate::Dropped(Why::UdpNoPort), b""),
+    (&TO_CLOSED_PORT, 17, OUR, Fate::Dropped(Why::UdpNoPort), b""),
     (
-        &UNHEARD,
+        &TO_CLOSED_PORT,
         17,
         BROADCAST,
         Fate::Dropped(Why::UdpNoPortBroadcast),
@@ -122,7 +122,7 @@ static ROWS: [Row; 16] = [
     (&UNSUMMED, 0, OUR, Fate::Dropped(Why::NoProtocol), b""),
 ];
 
-/// What an IP header said, with what `input` doesn't read left at 0.
+/// Returns an IP header whose fields are 0 unless `input` reads them.
 fn head(proto: u8, dst: u32) -> IpHead {
     IpHead {
         tos: 0,
@@ -141,20 +141,20 @@ fn head(proto: u8, dst: u32) -> IpHead {
 fn is_dropped(want: &Fate, why: Why) -> bool {
     match want {
         Fate::Dropped(cause) => *cause == why,
-        Fate::Heard(_, _) => false,
+        Fate::Delivered(_, _) => false,
     }
 }
 
-fn is_heard(want: &Fate, hearers: &ArrayVec<u32, SOCKETS>) -> bool {
+fn is_delivered(want: &Fate, receivers: &ArrayVec<u32, SOCKETS>) -> bool {
     match want {
-        Fate::Heard(first, count) => {
-            hearers.len() == *count && hearers.first().copied().unwrap_or(0) == *first
+        Fate::Delivered(first, count) => {
+            receivers.len() == *count && receivers.first().copied().unwrap_or(0) == *first
         }
         Fate::Dropped(_) => false,
     }
 }
 
-/// Whether a row's datagram, in these pieces, comes out as the row says. Data that are delivered are freed.
+/// Returns whether a row's datagram, in these pieces, has the row's result. Delivered data are freed.
 fn comes_out(
     rt: &impl Abort,
     pool: &mut Pool,
@@ -165,18 +165,18 @@ fn comes_out(
     let (_, proto, dst, want, data) = row;
     let chain = chain_of(rt, pool, pieces.0, pieces.1);
     assert!(rt; pool.len(&chain) <= 65_535);
-    let mut hearers = ArrayVec::new();
-    match input(pool, chain, head(*proto, *dst), pcbs, &mut hearers) {
+    let mut receivers = ArrayVec::new();
+    match input(pool, chain, head(*proto, *dst), pcbs, &mut receivers) {
         Outcome::Drop(why) => is_dropped(want, why),
         Outcome::Deliver { from, chain } => {
             let is_right = has_bytes(rt, pool, &chain, data);
             pool.free_chain(chain);
-            is_right && from == FROM && is_heard(want, &hearers)
+            is_right && from == FROM && is_delivered(want, &receivers)
         }
     }
 }
 
-/// Two sockets: 3 is bound to port 7 of any address, and 4 isn't bound.
+/// Opens two sockets: 3 is bound to port 7 of any address, and 4 isn't bound.
 fn sockets(rt: &impl Abort) -> Pcbs {
     let mut pcbs = Pcbs::new(OUR, BROADCAST);
     assert!(rt; pcbs.open() == Ok(3));
@@ -205,15 +205,15 @@ fn each_datagram_cut_at_every_byte(rt: HostRuntime) {
 
 /// To both broadcast addresses, and to ours, if two sockets share the port.
 static SHARED: [Row; 3] = [
-    (&UNSUMMED, 17, BROADCAST, Fate::Heard(4, 2), b"hi"),
-    (&UNSUMMED, 17, u32::MAX, Fate::Heard(4, 2), b"hi"),
-    (&UNSUMMED, 17, OUR, Fate::Heard(4, 1), b"hi"),
+    (&UNSUMMED, 17, BROADCAST, Fate::Delivered(4, 2), b"hi"),
+    (&UNSUMMED, 17, u32::MAX, Fate::Delivered(4, 2), b"hi"),
+    (&UNSUMMED, 17, OUR, Fate::Delivered(4, 1), b"hi"),
 ];
 
-/// A broadcast once the younger of them no longer shares it.
-static UNSHARED: Row = (&UNSUMMED, 17, BROADCAST, Fate::Heard(4, 1), b"hi");
+/// A broadcast after the younger socket stopped sharing the port.
+static UNSHARED: Row = (&UNSUMMED, 17, BROADCAST, Fate::Delivered(4, 1), b"hi");
 
-/// Sockets 3 and 4, which share port 7.
+/// Opens sockets 3 and 4, which share port 7.
 fn sharing(rt: &impl Abort) -> Pcbs {
     let mut pcbs = Pcbs::new(OUR, BROADCAST);
     for fd in 3..5 {

@@ -1,4 +1,4 @@
-//! Worked headers, needs and packets.
+//! Headers, buffers that sends take, and packets, worked out by hand.
 ghost use Rattle.std.specs.Prelude.{◌≤◌};
 ghost use Rattle.mbuf_chain.specs.Chain.{IsLive, chain_of};
 ghost use Rattle.ip_out.specs.Packets.{IsDatagramChain};
@@ -18,7 +18,7 @@ const PACKET: [u8; 30] = [
     0x0a, 0x00, 0x00, 0x01, 0x13, 0x88, 0x00, 0x07, 0x00, 0x0a, 0x6f, 0xdf, 0x68, 0x69,
 ];
 
-/// What its header says.
+/// Its header.
 const HEAD: IpHead = IpHead {
     tos: 0,
     total: 30,
@@ -32,12 +32,12 @@ const HEAD: IpHead = IpHead {
     dst: 0x0a00_0001,
 };
 
-/// A pool of which all is free.
+/// Returns a pool whose buffers are all free.
 fn booted(rt: &impl Abort, alloc: Global, mbufs: u32, clusters: u32) -> Pool {
     Pool::over(Store::boot(alloc, Sizes { mbufs, clusters }).expect(rt, "a pool"))
 }
 
-/// What the header of a packet says that arrived.
+/// Reads the header of a packet that arrived.
 fn head_of(rt: &impl Abort, pool: &mut Pool, bytes: &[u8]) -> Result<IpHead, Why> {
     assert!(rt; bytes.len() <= 65_535);
     let chain = from_wire(pool, bytes).expect(rt, "the buffers are free");
@@ -79,7 +79,7 @@ static WRITTEN: [(&str, IpHead, &[u8; 20]); 2] = [
     ),
 ];
 
-/// Whether a header is written so.
+/// Returns whether a header is written as these bytes.
 fn is_written(head: &IpHead, wanted: &[u8; 20]) -> bool {
     if head.offset > MAX_OFFSET || head.offset % 8 != 0 {
         return false;
@@ -96,7 +96,7 @@ fn headers_written(rt: HostRuntime) {
     }
 }
 
-/// How many bytes are sent, the MTU, and how many mbufs and clusters that takes.
+/// The bytes sent, the MTU, and the mbufs and clusters that the send takes.
 static NEEDS: [(u32, u16, u32, u32); 4] = [
     (0, 1500, 1, 0),
     (3000, 1536, 6, 2),
@@ -108,7 +108,7 @@ fn is_of(need: Need, mbufs: u32, clusters: u32) -> bool {
     need.mbufs == mbufs && need.clusters == clusters
 }
 
-/// Whether a send takes so many mbufs and clusters.
+/// Returns whether a send takes this number of mbufs and of clusters.
 fn is_needed(n: u32, mtu: u16, mbufs: u32, clusters: u32) -> bool {
     n <= 65_507 && mtu >= 68 && is_of(need(n, mtu), mbufs, clusters)
 }
@@ -128,10 +128,10 @@ fn needs_of_a_broadcast(rt: HostRuntime) {
     assert!(rt; is_of(need_bcast(300), 4, 1));
 }
 
-/// The bytes of a send: as many as a socket takes at most.
+/// The bytes of the largest send that a socket accepts.
 static BYTES: [u8; 9216] = [0x61; 9216];
 
-/// Stops where a chain can't be output.
+/// Asserts that a chain can be output.
 fn must_be_datagram(rt: &impl Abort, pool: &Pool, chain: &Chain)
     requires { IsLive pool.now chain.now }
     ensures { IsDatagramChain (chain_of pool.now chain.now) }
@@ -144,7 +144,7 @@ fn must_be_datagram(rt: &impl Abort, pool: &Pool, chain: &Chain)
     }
 }
 
-/// A chain of the bytes, and room for both headers in front of them.
+/// Returns a chain of the bytes, with 28 bytes before them for both headers.
 fn datagram(rt: &impl Abort, pool: &mut Pool) -> Chain
     ensures live { IsLive pool.new result }
     ensures datagram { IsDatagramChain (chain_of pool.new result) }
@@ -155,7 +155,7 @@ fn datagram(rt: &impl Abort, pool: &mut Pool) -> Chain
     chain
 }
 
-/// Puts the packets of the bytes into an empty queue.
+/// Sends the bytes into an empty queue.
 fn sent(rt: &impl Abort, pool: &mut Pool, mtu: u16) -> (Queue, Result<(), Lack>)
     requires { 68 ≤ mtu }
     ensures { IsOutputQueue pool.new result.0 }
@@ -167,7 +167,7 @@ fn sent(rt: &impl Abort, pool: &mut Pool, mtu: u16) -> (Queue, Result<(), Lack>)
     (queue, answer)
 }
 
-/// The free mbufs and clusters, how many mbufs refer to clusters, and how many to the one that has the most references.
+/// Returns the free mbufs and clusters, how many mbufs refer to clusters, and the most references to one cluster.
 fn buffers(pool: &Pool) -> [u32; 4] {
     let usage = pool.usage();
     [
@@ -178,7 +178,7 @@ fn buffers(pool: &Pool) -> [u32; 4] {
     ]
 }
 
-/// A pool's mbufs and clusters, the MTU, the answer, how many packets wait then, and the buffers.
+/// A pool's mbufs and clusters, the MTU, the result, how many packets are queued then, and the buffers.
 type Sending = (u32, u32, u16, Result<(), Lack>, u32, [u32; 4]);
 
 static SENDINGS: [(&str, Sending); 3] = [
@@ -196,7 +196,7 @@ static SENDINGS: [(&str, Sending); 3] = [
     ),
 ];
 
-/// Whether the packets of the bytes come out so, and all buffers are free at the end.
+/// Returns whether a send of the bytes has these results, and all buffers are free at the end.
 fn comes_out(rt: &impl Abort, alloc: Global, sending: &Sending) -> bool {
     let (mbufs, clusters, mtu, wanted, packets, held) = *sending;
     assert!(rt; mtu >= 68);
@@ -225,7 +225,7 @@ static CUT: [(u32, u32, u32); 7] = [
     (8880, 364, 2),
 ];
 
-/// Takes the oldest packet and frees it: what its header says, its length, and how many mbufs it had.
+/// Removes the oldest packet and frees it. Returns its header, its length, and how many mbufs it had.
 fn popped(rt: &impl Abort, pool: &mut Pool, queue: &mut Queue) -> Option<(IpHead, u32, u32)>
     requires { IsOutputQueue pool.old queue.old }
     ensures { IsOutputQueue pool.new queue.new }
@@ -237,7 +237,7 @@ fn popped(rt: &impl Abort, pool: &mut Pool, queue: &mut Queue) -> Option<(IpHead
     Some((head, counts.0, counts.1))
 }
 
-/// Takes the seven packets, and no other.
+/// Removes seven packets, and asserts that the queue is empty then.
 fn pops_seven(rt: &impl Abort, pool: &mut Pool, queue: &mut Queue)
     requires { IsOutputQueue pool.old queue.old }
     ensures { IsOutputQueue pool.new queue.new }

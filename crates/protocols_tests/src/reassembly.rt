@@ -1,4 +1,4 @@
-//! What the table answers when it's asked, and why fragments are dropped, worked out by hand.
+//! What the table reports about its datagrams, and why fragments are dropped, worked out by hand.
 
 mod arrivals;
 mod steps;
@@ -33,7 +33,7 @@ static SECOND: UnfinishedDatagram = UnfinishedDatagram {
     ranges: 1,
 };
 
-/// What is held of the first datagram after two fragments of it, and after three.
+/// The ranges of the first datagram after two of its fragments, and after three.
 static TWO: [HeldRange; 2] = [
     HeldRange {
         offset: 8,
@@ -65,14 +65,14 @@ static THREE: [HeldRange; 3] = [
     },
 ];
 
-/// What is held of the second one.
+/// The ranges of the second datagram.
 static LAST: [HeldRange; 1] = [HeldRange {
     offset: 64,
     len: 5,
     more: false,
 }];
 
-/// Whether just these ranges are held of a datagram.
+/// Returns whether the table has exactly these ranges of a datagram.
 fn has_ranges(host: &Host, datagram: u32, wanted: &[HeldRange]) -> bool
     requires { IsReady host.now.pool host.now.table }
 {
@@ -86,14 +86,14 @@ fn has_ranges(host: &Host, datagram: u32, wanted: &[HeldRange]) -> bool
     host.table.range(&host.pool, datagram, k).is_none()
 }
 
-/// Whether this is told of a datagram.
-fn is_told(host: &Host, datagram: u32, wanted: &UnfinishedDatagram) -> bool
+/// Returns whether the table reports this about a datagram.
+fn is_reported(host: &Host, datagram: u32, wanted: &UnfinishedDatagram) -> bool
     requires { IsReady host.now.pool host.now.table }
 {
     host.table.unfinished(&host.pool, datagram) == Some(*wanted)
 }
 
-/// Whether there is no such datagram.
+/// Returns whether there is no such datagram.
 fn is_none(host: &Host, datagram: u32) -> bool
     requires { IsReady host.now.pool host.now.table }
 {
@@ -101,7 +101,7 @@ fn is_none(host: &Host, datagram: u32) -> bool
 }
 
 #[test]
-fn tells_what_is_held(rt: HostRuntime) {
+fn reports_ranges(rt: HostRuntime) {
     let mut host = booted(&rt, rt.alloc(), 16, 0);
     assert!(rt; host.table.is_empty() && is_none(&host, 0));
     assert!(rt; host.waits(&rt, HEAD, (16, true, b'c', 16)));
@@ -114,14 +114,14 @@ fn tells_what_is_held(rt: HostRuntime) {
     assert!(rt; has_ranges(&host, 0, &TWO));
     assert!(rt; host.waits(&rt, HEAD, (0, true, b'e', 16)));
     assert!(rt; has_ranges(&host, 0, &THREE));
-    assert!(rt; is_told(&host, 0, &FIRST));
-    assert!(rt; is_told(&host, 1, &SECOND));
+    assert!(rt; is_reported(&host, 0, &FIRST));
+    assert!(rt; is_reported(&host, 1, &SECOND));
     assert!(rt; has_ranges(&host, 1, &LAST));
     assert!(rt; is_none(&host, 2));
     assert!(rt; host.ended());
 }
 
-/// The mbufs of a pool with one cluster, a fragment that comes where nothing waits, and why it's dropped.
+/// The number of mbufs in a pool with one cluster, a fragment that arrives at an empty table, and why it's dropped.
 static DROPPED: [(&str, u32, Piece, Why); 6] = [
     ("no byte", 4, (0, true, b'x', 0), Why::BadFragment),
     (
@@ -156,20 +156,20 @@ static DROPPED: [(&str, u32, Piece, Why); 6] = [
     ),
 ];
 
-/// Whether a fragment is dropped for this cause, and nothing is left of it.
+/// Returns whether a fragment is dropped for this cause, and its buffers are free again.
 fn is_dropped(rt: &impl Abort, alloc: Global, mbufs: u32, piece: Piece, why: Why) -> bool {
     let mut host = booted(rt, alloc, mbufs, 1);
     let refusal = host.refusal(rt, HEAD, piece);
     host.ended() && refusal == Some(why)
 }
 
-/// Fragments that wait, and others all of whose bytes these hold.
+/// Fragments that wait, and for each a second one whose bytes it contains.
 static COVERED: [(Piece, Piece); 2] = [
     ((0, true, b'a', 16), (8, true, b'c', 8)),
     ((0, true, b'a', 32), (24, false, b'b', 4)),
 ];
 
-/// Whether the second of two fragments is dropped since the first has all of it.
+/// Returns whether the second of two fragments is dropped because the first contains all of its bytes.
 fn is_covered(rt: &impl Abort, alloc: Global, first: Piece, second: Piece) -> bool {
     let mut host = booted(rt, alloc, 8, 0);
     let waits = host.waits(rt, HEAD, first);
@@ -178,7 +178,7 @@ fn is_covered(rt: &impl Abort, alloc: Global, first: Piece, second: Piece) -> bo
 }
 
 #[test]
-fn tells_why_it_drops(rt: HostRuntime) {
+fn reports_why_it_drops(rt: HostRuntime) {
     for (case, mbufs, piece, why) in DROPPED.iter() {
         let is_right = is_dropped(&rt, rt.alloc(), *mbufs, *piece, *why);
         assert!(rt; is_right, "{case}");

@@ -1,4 +1,4 @@
-//! Queues over pools of a few buffers, and their limits.
+//! Queues in pools of a few buffers, and their limits.
 
 mod steps;
 
@@ -24,17 +24,17 @@ const FAR: Addr = Addr {
 /// Bytes of datagrams.
 const BYTES: [u8; 1992] = [7; 1992];
 
-/// A pool of which all is free.
+/// Returns a pool whose buffers are all free.
 fn booted(rt: &impl Abort, alloc: Global, mbufs: u32, clusters: u32) -> Pool {
     Pool::over(Store::boot(alloc, Sizes { mbufs, clusters }).expect(rt, "memory for a pool"))
 }
 
-/// Whether so many mbufs and clusters are free.
+/// Returns whether this number of mbufs and of clusters are free.
 fn is_free(pool: &Pool, mbufs: u32, clusters: u32) -> bool {
     pool.free_mbufs() == mbufs && pool.free_clusters() == clusters
 }
 
-/// Whether a queue has so many datagrams, bytes with their addresses, and bytes of memory.
+/// Returns whether a queue has `len` datagrams, `cc` bytes with their addresses, and `mbcnt` bytes of memory.
 fn holds(queue: &SockBuf, len: u32, cc: u32, mbcnt: u32) -> bool {
     queue.len() == len && queue.cc() == cc && queue.mbcnt() == mbcnt
 }
@@ -74,8 +74,8 @@ fn takes_325_datagrams_of_one_byte(rt: HostRuntime) {
     assert!(rt; pool.free_mbufs() == 700);
 }
 
-/// How many datagrams of `len` bytes, each on a cluster, a new queue takes, and whether it takes `more` bytes then, and
-/// one byte more than these.
+/// Returns how many datagrams of `len` bytes, each in a cluster, a new queue accepts, and whether `more` bytes fit
+/// then, and `more + 1` bytes.
 fn filled(rt: &impl Abort, alloc: Global, len: usize, more: u32) -> (u32, bool, bool) {
     let mut pool = booted(rt, alloc, 200, 60);
     let mut queue = SockBuf::new();

@@ -1,9 +1,9 @@
-//! An owner of nothing.
+//! An owner of no chains.
 
 use ledger::Waiting;
 use mbuf_chain::{Pool, Reclaim};
 
-/// Nobody waits for a fragment.
+/// It has no unfinished datagrams.
 #[derive(Drop)]
 pub(super) struct Nobody;
 

@@ -1,4 +1,4 @@
-//! Checksums of chains, at each cut.
+//! Checksums of chains, cut at each byte.
 ghost use Rattle.mbuf_chain.specs.Chain.{Entry, IsLive, Adds};
 ghost use Rattle.mbuf_chain.specs.Steps.{one_mbuf};
 
@@ -9,7 +9,7 @@ use mbuf_pool::{Sizes, Store};
 use std::alloc::Global;
 use std::process::Abort;
 
-/// A plain mbuf with these bytes.
+/// Returns a plain mbuf with these bytes.
 #[tactic(auto, using(mbuf_chain::proofs::Laws::Maps::map_steps))]
 fn filled(rt: &impl Abort, pool: &mut Pool, header: bool, bytes: &[u8]) -> Chain
     ensures { (e : Entry) × Adds pool.old pool.new result (one_mbuf header e result) }
@@ -21,7 +21,7 @@ fn filled(rt: &impl Abort, pool: &mut Pool, header: bool, bytes: &[u8]) -> Chain
     chain
 }
 
-/// A chain of an empty mbuf, and after it one for each piece.
+/// Returns a chain of an empty mbuf, and one more for each piece.
 #[tactic(auto, using(mbuf_chain::proofs::Laws::Maps::map_steps))]
 fn chain_of(rt: &impl Abort, pool: &mut Pool, pieces: &[&[u8]]) -> Chain
     ensures { IsLive pool.new result }
@@ -35,7 +35,7 @@ fn chain_of(rt: &impl Abort, pool: &mut Pool, pieces: &[&[u8]]) -> Chain
     chain
 }
 
-/// The checksum of `before` and of a range of the chain with these pieces.
+/// Returns the checksum of `before` and of a range of the chain with these pieces.
 fn checksum_of(
     rt: &impl Abort,
     pool: &mut Pool,
@@ -53,7 +53,7 @@ fn checksum_of(
     checksum
 }
 
-/// A pool of 16 mbufs.
+/// Returns a pool of 16 mbufs.
 fn booted(rt: &impl Abort, alloc: Global) -> Pool {
     let sizes = Sizes {
         mbufs: 16,
@@ -62,7 +62,7 @@ fn booted(rt: &impl Abort, alloc: Global) -> Pool {
     Pool::over(Store::boot(alloc, sizes).expect(rt, "a pool"))
 }
 
-/// The checksum of the example is that of these pieces.
+/// Returns whether the checksum of these pieces is that of the example.
 fn is_example(rt: &impl Abort, pool: &mut Pool, pieces: &[&[u8]]) -> bool {
     checksum_of(rt, pool, &[], pieces, 0, 8) == EXAMPLE_SUM
 }
@@ -103,7 +103,7 @@ fn the_standards_example_in_three_mbufs(rt: HostRuntime) {
     assert!(rt; pool.free_mbufs() == 16);
 }
 
-/// A part of the bytes was added before, and the chain has other bytes in front of the rest and after it.
+/// A part of the bytes was added earlier, and the chain has other bytes before and after the rest.
 #[test]
 fn a_range_after_a_sum(rt: HostRuntime) {
     let mut pool = booted(&rt, rt.alloc());

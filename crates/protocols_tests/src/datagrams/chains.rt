@@ -1,4 +1,4 @@
-//! Chains of a few mbufs, and what is asked of them.
+//! Chains of a few mbufs, and checks of their bytes.
 ghost use Rattle.std.specs.Prelude.{◌≡◌, ℕ, List, ◌≤◌, length, take};
 ghost use Rattle.flat_model.specs.Packets.Header.{u16_at};
 ghost use Rattle.mbuf_chain.specs.Chain.{Entry, IsLive, Adds, chain_of, string};
@@ -12,7 +12,7 @@ use std::alloc::Global;
 use std::process::Abort;
 use udp::check;
 
-/// A pool of three mbufs.
+/// Returns a pool of three mbufs.
 pub(super) fn booted(rt: &impl Abort, alloc: Global) -> Pool {
     let sizes = Sizes {
         mbufs: 3,
@@ -21,7 +21,7 @@ pub(super) fn booted(rt: &impl Abort, alloc: Global) -> Pool {
     Pool::over(Store::boot(alloc, sizes).expect(rt, "a pool"))
 }
 
-/// A plain mbuf with these bytes.
+/// Returns a plain mbuf with these bytes.
 #[tactic(auto, using(mbuf_chain::proofs::Laws::Maps::map_steps))]
 fn filled(rt: &impl Abort, pool: &mut Pool, header: bool, bytes: &[u8]) -> Chain
     ensures { (e : Entry) × Adds pool.old pool.new result (one_mbuf header e result) }
@@ -33,7 +33,7 @@ fn filled(rt: &impl Abort, pool: &mut Pool, header: bool, bytes: &[u8]) -> Chain
     chain
 }
 
-/// A chain with packet header: an mbuf for each piece, of which there is one at least.
+/// Returns a chain with a packet header, and one mbuf for each piece.
 #[tactic(auto, using(mbuf_chain::proofs::Laws::Maps::map_steps))]
 pub(super) fn chain_of(rt: &impl Abort, pool: &mut Pool, first: &[u8], others: &[&[u8]]) -> Chain
     ensures { IsLive pool.new result }
@@ -47,7 +47,7 @@ pub(super) fn chain_of(rt: &impl Abort, pool: &mut Pool, first: &[u8], others: &
     chain
 }
 
-/// Whether the chain has just these bytes.
+/// Returns whether the chain has exactly these bytes.
 pub(super) fn has_bytes(rt: &impl Abort, pool: &Pool, chain: &Chain, bytes: &[u8]) -> bool
     requires { IsLive pool.now chain.now }
 {
@@ -58,14 +58,14 @@ pub(super) fn has_bytes(rt: &impl Abort, pool: &Pool, chain: &Chain, bytes: &[u8
     &room[..len] == bytes
 }
 
-/// The length in a header.
+/// Returns the length in a header.
 fn length_in(header: &[u8; 8]) -> u16
     ensures { (s : List ℕ) → header.now ≡ take 8 s → result ≡ u16_at 4 s }
 {
     BigEndian::read_u16(&header[4..])
 }
 
-/// The UDP length of a datagram without its IP header.
+/// Returns the UDP length of a datagram without its IP header.
 fn udp_length(pool: &Pool, chain: &Chain) -> u16
     requires live { IsLive pool.now chain.now }
     requires header { 8 ≤ length (string (chain_of pool.now chain.now)) }
@@ -76,7 +76,7 @@ fn udp_length(pool: &Pool, chain: &Chain) -> u16
     length_in(&header)
 }
 
-/// `check`, where its conditions hold.
+/// Asserts the conditions of `check`, and returns its result.
 pub(super) fn checked(rt: &impl Abort, pool: &Pool, chain: &Chain, src: u32, dst: u32) -> bool
     requires { IsLive pool.now chain.now }
 {

@@ -9,7 +9,7 @@ use mbuf_chain::{Chain, Pool};
 use std::process::Abort;
 use udp::build;
 
-/// A packet with 28 bytes for its headers, and this data, in three mbufs.
+/// Returns a packet with 28 bytes for its headers, and this data, in three mbufs.
 fn packet(rt: &impl Abort, pool: &mut Pool, data: &[u8], cut: usize) -> Chain
     ensures { IsLive pool.new result }
 {
@@ -39,7 +39,7 @@ fn write_header(rt: &impl Abort, pool: &mut Pool, chain: &Chain)
     build(pool, chain, from, to);
 }
 
-/// Takes off the 20 bytes of the IP header, and answers whether they are as they were.
+/// Removes the 20 bytes of the IP header, and returns whether they are unchanged.
 fn cut_ip_header(rt: &impl Abort, pool: &mut Pool, chain: &Chain) -> bool
     requires { IsLive pool.old chain.now }
     ensures { IsLive pool.new chain.now }
@@ -51,7 +51,7 @@ fn cut_ip_header(rt: &impl Abort, pool: &mut Pool, chain: &Chain) -> bool
     ip == [0xee; 20]
 }
 
-/// Whether the datagram of this data has these bytes, and a checksum that is right, and wrong from elsewhere.
+/// Returns whether the datagram of this data has these bytes, and a checksum that is wrong for another receiver.
 fn builds(rt: &impl Abort, pool: &mut Pool, data: &[u8], cut: usize, want: &[u8]) -> bool {
     let chain = packet(rt, pool, data, cut);
     write_header(rt, pool, &chain);
@@ -63,7 +63,7 @@ fn builds(rt: &impl Abort, pool: &mut Pool, data: &[u8], cut: usize, want: &[u8]
     is_front_kept && is_right && has_right_sum && !is_from_elsewhere
 }
 
-/// Data, and the datagram.
+/// The data, and the datagram's bytes.
 static KNOWN: [(&[u8], &[u8]); 3] = [
     (b"", &[4, 0, 0, 7, 0, 8, 0xe7, 0xd4]),
     (b"hi", &[4, 0, 0, 7, 0, 10, 0x7f, 0x67, 0x68, 0x69]),

@@ -1,4 +1,4 @@
-//! Packets that arrive, and ticks: what becomes of each fragment, by 4.4BSD's rules and worked out by hand.
+//! Packets that arrive, and ticks: what happens to each fragment, by 4.4BSD's rules and worked out by hand.
 
 ghost use Rattle.std.specs.Prelude.{◌≡◌, ◌∷◌, ◌≤◌, length, true};
 ghost use Rattle.mbuf_chain.specs.Chain.{chain_of, string};
@@ -15,33 +15,33 @@ use params::{IP_HEADER, IP_MAX_PACKET};
 use std::alloc::Global;
 use std::process::Abort;
 
-/// What becomes of a fragment; of a whole datagram the bytes behind its IP header.
+/// What happens to a fragment. `Whole` has the bytes of the datagram after its IP header.
 #[derive(Clone, Copy, PartialEq, Eq)]
-enum Became {
+enum Fate {
     Kept,
     Dropped(Why),
     Whole(&'static [u8]),
 }
 
-/// What happens, and what is to be seen of it.
+/// An event and its expected result, or an observation.
 enum Event {
     /// A packet arrives.
-    Arrives(&'static [u8], Became),
-    /// So many ticks, and how many datagrams they end.
+    Arrives(&'static [u8], Fate),
+    /// A number of ticks, and how many datagrams they end.
     Ticks(u32, u32),
     /// How many of 512 mbufs are free.
     Free(u32),
-    /// What a counter says.
+    /// The value of a counter.
     Counted(Counter, u64),
 }
 
-use Became::{Dropped, Kept, Whole};
 use Event::{Arrives, Counted, Free, Ticks};
+use Fate::{Dropped, Kept, Whole};
 
-/// The IP header of each packet stands in a line of its own. They're of 10.0.0.2, for 10.0.0.1; the bytes after the
-/// header are a UDP header where they aren't letters.
+/// The IP header of each packet is on a line of its own. The packets are from 10.0.0.2 to 10.0.0.1. The bytes after
+/// the header are letters, or a UDP header and letters.
 static CASES: [(&str, &[Event]); 5] = [
-    // Each overlaps the one before and begins earlier, so those of the queue lose their front.
+    // Each overlaps the one before and begins earlier, so those in the queue lose their front.
     (
         "later ones lose their front",
         &[
@@ -88,7 +88,7 @@ static CASES: [(&str, &[Event]); 5] = [
             Counted(Counter::IpFragdropped, 0),
         ],
     ),
-    // The first fragment has all of the second.
+    // The first fragment contains all bytes of the second.
     (
         "held by a predecessor",
         &[
@@ -134,7 +134,7 @@ static CASES: [(&str, &[Event]); 5] = [
             Ticks(60, 0),
         ],
     ),
-    // A fragment with others after it lies behind the last one: the datagram is never whole.
+    // A fragment that isn't the last one follows the last one: the datagram is never whole.
     (
         "more behind the last",
         &[
@@ -160,7 +160,7 @@ static CASES: [(&str, &[Event]); 5] = [
     ),
 ];
 
-/// A packet received into the pool, beside a table, and what its header says.
+/// Receives a packet into the pool that the table uses. Returns its chain and its header.
 fn fragment_in(rt: &impl Abort, pool: &mut Pool, table: &Reass, packet: &[u8]) -> (Chain, IpHead)
     requires { IsReady pool.old table.now }
     ensures ready { IsReady pool.new table.now }
@@ -180,7 +180,7 @@ fn fragment_in(rt: &impl Abort, pool: &mut Pool, table: &Reass, packet: &[u8]) -
     (chain, head)
 }
 
-/// Whether a whole datagram has these bytes. It's freed.
+/// Returns whether a whole datagram has these bytes, and frees it.
 fn has_bytes(rt: &impl Abort, pool: &mut Pool, table: &Reass, chain: Chain, bytes: &[u8]) -> bool
     requires owned { IsOwned pool.old (chain ∷ held_all pool.old table.now.datagrams) }
     requires ready { IsReady pool.old table.now }
@@ -194,8 +194,8 @@ fn has_bytes(rt: &impl Abort, pool: &mut Pool, table: &Reass, chain: Chain, byte
     room.get(..len) == Some(bytes)
 }
 
-/// Whether this becomes of a packet that arrives.
-fn becomes(rt: &impl Abort, host: &mut Host, packet: &[u8], want: Became) -> bool
+/// Returns whether this happens to a packet that arrives.
+fn has_fate(rt: &impl Abort, host: &mut Host, packet: &[u8], want: Fate) -> bool
     requires { IsReady host.old.pool host.old.table }
     ensures { IsReady host.new.pool host.new.table }
 {
@@ -215,20 +215,20 @@ fn becomes(rt: &impl Abort, host: &mut Host, packet: &[u8], want: Became) -> boo
     }
 }
 
-/// Whether an event comes out as it should.
+/// Returns whether an event has the expected result.
 fn comes_out(rt: &impl Abort, host: &mut Host, event: &Event) -> bool
     requires { IsReady host.old.pool host.old.table }
     ensures { IsReady host.new.pool host.new.table }
 {
     match event {
-        Arrives(packet, want) => becomes(rt, host, packet, *want),
+        Arrives(packet, want) => has_fate(rt, host, packet, *want),
         Ticks(n, ended) => host.ticks(*n) == *ended,
         Free(mbufs) => host.pool.free_mbufs() == *mbufs,
         Counted(counter, value) => host.counters.value(*counter) == *value,
     }
 }
 
-/// Whether all comes out as it should at a table of its own, and nothing is left in the pool when that ends.
+/// Returns whether all events have their expected results on a new table, and all buffers are free at the end.
 fn all_comes_out(rt: &impl Abort, alloc: Global, case: &str, events: &[Event]) -> bool {
     let mut host = booted(rt, alloc, 512, 64);
     'events: for (row, event) in events.iter().enumerate() {
@@ -238,7 +238,7 @@ fn all_comes_out(rt: &impl Abort, alloc: Global, case: &str, events: &[Event]) -
 }
 
 #[test]
-fn what_becomes_of_fragments(rt: HostRuntime) {
+fn fates_of_fragments(rt: HostRuntime) {
     for (case, events) in CASES.iter() {
         assert!(rt; all_comes_out(&rt, rt.alloc(), case, events), "{case}");
     }

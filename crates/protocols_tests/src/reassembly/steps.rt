@@ -15,14 +15,14 @@ use params::{IP_HEADER, IP_MAX_PACKET};
 use std::alloc::Global;
 use std::process::Abort;
 
-/// A pool, the table of the unfinished datagrams in it, and what was counted.
+/// A pool, the table of the unfinished datagrams in it, and the counters.
 pub(super) struct Host {
     pub(super) pool: Pool,
     pub(super) table: Reass,
     pub(super) counters: Counters,
 }
 
-/// A pool of which all is free, and an empty table.
+/// Returns a pool whose buffers are all free, and an empty table.
 pub(super) fn booted(rt: &impl Abort, alloc: Global, mbufs: u32, clusters: u32) -> Host
     ensures { IsReady result.pool result.table }
 {
@@ -35,7 +35,7 @@ pub(super) fn booted(rt: &impl Abort, alloc: Global, mbufs: u32, clusters: u32) 
     }
 }
 
-/// The header of a fragment from 10.0.0.2 to 10.0.0.1. Its lengths and its place are set for each.
+/// The header of a fragment from 10.0.0.2 to 10.0.0.1. Its length and its offset are set for each fragment.
 pub(super) const HEAD: IpHead = IpHead {
     tos: 0,
     total: 0,
@@ -49,10 +49,10 @@ pub(super) const HEAD: IpHead = IpHead {
     dst: 0x0a00_0001,
 };
 
-/// A fragment: where it begins, whether more come after it, a byte, and how often.
+/// A fragment: its offset, whether more fragments follow, a byte, and how often the byte is repeated.
 pub(super) type Piece = (u32, bool, u8, u32);
 
-/// A packet received into the pool, beside a table.
+/// Receives a packet into the pool that the table uses.
 pub(super) fn received(rt: &impl Abort, pool: &mut Pool, table: &Reass, bytes: &[u8]) -> Chain
     requires ready { IsReady pool.old table.now }
     requires short { length bytes.now < 65536 }
@@ -67,7 +67,7 @@ pub(super) fn received(rt: &impl Abort, pool: &mut Pool, table: &Reass, bytes: &
     }
 }
 
-/// A fragment received, in an mbuf or in a cluster, and its header.
+/// Receives a fragment into an mbuf or a cluster. Returns its chain and its header.
 fn fragment(
     rt: &impl Abort,
     pool: &mut Pool,
@@ -98,7 +98,7 @@ fn fragment(
 }
 
 impl Host {
-    /// Lets a fragment of a datagram arrive. Answers why it's dropped, or `None` if it has to wait.
+    /// Lets a fragment of a datagram arrive. Returns why it's dropped, or `None` if it has to wait.
     pub(super) fn refusal(&mut self, rt: &impl Abort, head: IpHead, piece: Piece) -> Option<Why>
         requires { IsReady self.old.pool self.old.table }
         ensures { IsReady self.new.pool self.new.table }
@@ -114,7 +114,7 @@ impl Host {
         }
     }
 
-    /// Lets a fragment of a datagram arrive. Answers whether it has to wait.
+    /// Lets a fragment of a datagram arrive. Returns whether it has to wait.
     pub(super) fn waits(&mut self, rt: &impl Abort, head: IpHead, piece: Piece) -> bool
         requires { IsReady self.old.pool self.old.table }
         ensures { IsReady self.new.pool self.new.table }
@@ -122,7 +122,7 @@ impl Host {
         self.refusal(rt, head, piece).is_none()
     }
 
-    /// So many ticks: how many datagrams they drop.
+    /// Returns how many datagrams are dropped in `n` ticks.
     pub(super) fn ticks(&mut self, n: u32) -> u32
         requires { IsReady self.old.pool self.old.table }
         ensures { IsReady self.new.pool self.new.table }
@@ -134,7 +134,7 @@ impl Host {
         dropped
     }
 
-    /// Frees what is unfinished, and answers whether all of the pool is free then.
+    /// Frees the unfinished datagrams, and returns whether all buffers of the pool are free then.
     pub(super) fn ended(self) -> bool
         requires { IsReady self.pool self.table }
     {

@@ -11,7 +11,7 @@ use mbuf_pool::NoBufs;
 use sockbuf::{Refusal, SockBuf};
 use std::process::Abort;
 
-/// A chain of one empty mbuf, on a cluster or not.
+/// Returns a chain of one empty mbuf, with or without a cluster.
 fn empty(rt: &impl Abort, pool: &mut Pool, on_cluster: bool) -> Chain
     ensures { Moves pool.old [] pool.new (result ∷ []) }
 {
@@ -28,7 +28,7 @@ fn empty(rt: &impl Abort, pool: &mut Pool, on_cluster: bool) -> Chain
     }
 }
 
-/// Whether no other mbuf shows the bytes of the one at a place.
+/// Asserts that no other mbuf shares the bytes of the one at a place.
 fn must_be_unshared(rt: &impl Abort, pool: &Pool, chain: &Chain, at: Place)
     requires live { IsLive pool.now chain.now }
     requires place { IsPlace (chain_of pool.now chain.now) at }
@@ -39,7 +39,7 @@ fn must_be_unshared(rt: &impl Abort, pool: &Pool, chain: &Chain, at: Place)
     }
 }
 
-/// Puts bytes after those of a chain's first mbuf.
+/// Appends bytes to those of a chain's first mbuf.
 fn fill(rt: &impl Abort, pool: &mut Pool, chain: &Chain, bytes: &[u8])
     requires { IsLive pool.old chain.now }
     ensures { Moves pool.old (chain.now ∷ []) pool.new (chain.now ∷ []) }
@@ -53,7 +53,7 @@ fn fill(rt: &impl Abort, pool: &mut Pool, chain: &Chain, bytes: &[u8])
     pool.put_back(chain, at, bytes);
 }
 
-/// A datagram of one mbuf, on a cluster or not.
+/// Returns a datagram in one mbuf, with or without a cluster.
 pub(super) fn datagram(rt: &impl Abort, pool: &mut Pool, on_cluster: bool, bytes: &[u8]) -> Chain
     ensures { Moves pool.old [] pool.new (result ∷ []) }
 {
@@ -62,7 +62,7 @@ pub(super) fn datagram(rt: &impl Abort, pool: &mut Pool, on_cluster: bool, bytes
     chain
 }
 
-/// Queues a new datagram. One that is refused is freed.
+/// Queues a new datagram. If it's refused, it's freed.
 pub(super) fn append(
     rt: &impl Abort,
     pool: &mut Pool,
@@ -84,7 +84,7 @@ pub(super) fn append(
     }
 }
 
-/// Takes the oldest datagram, and answers who sent it, how many bytes it has, and the first of them, or 0.
+/// Removes the oldest datagram. Returns its sender, its length, and its first byte, or 0 if it has none.
 pub(super) fn take(pool: &mut Pool, queue: &mut SockBuf) -> Option<(Addr, u32, u8)>
     requires { IsSockBuf pool.old queue.old }
     ensures { IsSockBuf pool.new queue.new }
