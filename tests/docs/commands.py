@@ -250,6 +250,7 @@ UNTRIED = {
     "tcpdump -s 60": "it takes a network card",
     "bench/run.sh stack": "measurements are made by hand",
     "grep -rnw IsUnshared crates/*/specs": "it looks for a word",
+    "grep -rnw head_fault crates docs tests": "it looks for a word",
     ".ci/wrong-bodies --all *": "it takes hours, before a version",
     ".ci/wrong-bodies --all": "it takes hours, before a version",
     ".ci/wrong-bodies [CRATE ..]": "it takes hours, before a version",
