@@ -87,11 +87,6 @@ bucket_at n [] k d lt = absurd (omega arith)
 bucket_at n (x ∷ ds) zero d lt = refl
 bucket_at n (x ∷ ds) (suc k) d lt = bucket_at n ds k d (omega arith)
 
-pub taken_buckets : (n i : ℕ) (ds : List Datagram) → take i (buckets_of n ds) ≡ buckets_of n (take i ds)
-taken_buckets n zero ds = refl
-taken_buckets n (suc i) [] = refl
-taken_buckets n (suc i) (d ∷ ds) = ap (λ bs. bucket_of n d.key ∷ bs) (taken_buckets n i ds)
-
 -- ---- the walk along a bucket
 
 -- the rows from there on have other keys, and the one before is in the bucket

@@ -233,12 +233,6 @@ pub closed_none : (rows : List Row) (place n : ℕ) → place ≤ n
     → buckets_in rows place ≡ take place (remove (buckets_in rows n) place)
 closed_none rows place n le = taken_in rows place n le ∙ sym (take_before (buckets_in rows n) place)
 
-pub closed_all : (bs : List ℕ) (rows : List Row) (n k place : ℕ) → n ≤ length rows → place < n → k + 1 ≡ n
-    → bs ≡ take k (remove (buckets_in rows n) place) → bs ≡ remove (buckets_in rows n) place
-closed_all bs rows n k place le lt is e =
-    e ∙ take_rest (buckets_in rows n) place k (omega (arith, length-buckets_in rows n le))
-    (omega (arith, length-buckets_in rows n le))
-
 -- one row more is in its new place
 pub closed_more : (lasts : List ℕ) (old rows : List Row) (place k n : ℕ) (d r : Row) → AreLinked lasts rows k
     → buckets_in rows k ≡ take k (remove (buckets_in old n) place)

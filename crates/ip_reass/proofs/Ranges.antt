@@ -148,13 +148,6 @@ module _ (p : PoolView) (ds : List Datagram) (i : ℕ) where
       ap (option_map summary_of) (slice_get-map (unfinished_of p) ds i ∙ ap (option_map (unfinished_of p)) is)
       ∙ ap Some (told_is p d (is_unfinished d each is))
 
-  pub unfinished_none : slice_get ds i ≡ None → nth_unfinished i (unfinished p ds) ≡ None
-  unfinished_none is =
-      ap (option_map summary_of) (slice_get-map (unfinished_of p) ds i ∙ ap (option_map (unfinished_of p)) is)
-
   pub range_here : (k : ℕ) (d : Datagram) → slice_get ds i ≡ Some d
       → nth_range i k (unfinished p ds) ≡ nth_of (map_of (fragments p d.fragments)) k
   range_here k d is = ap (range_in k) (slice_get-map (unfinished_of p) ds i ∙ ap (option_map (unfinished_of p)) is)
-
-  pub range_none : (k : ℕ) → slice_get ds i ≡ None → nth_range i k (unfinished p ds) ≡ None
-  range_none k is = ap (range_in k) (slice_get-map (unfinished_of p) ds i ∙ ap (option_map (unfinished_of p)) is)

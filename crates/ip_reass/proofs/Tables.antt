@@ -1,5 +1,5 @@
 -- Steps over the table of unfinished datagrams.
-use Rattle.std.proofs.Common.{◌≡◌, ℕ, zero, suc, ◌+◌, ◌<◌, Bool, true, false, List, [], ◌∷◌, ◌++◌, length, map, get_or, take, drop, refl, sym, ap, ◌∙◌, subst, inl, inr, arith}
+use Rattle.std.proofs.Common.{◌≡◌, ℕ, ◌+◌, true, List, [], ◌∷◌, ◌++◌, map, refl, sym, ap, ◌∙◌, subst, arith}
 use Rattle.std.proofs.lemmas.List.{map-append}
 use Rattle.flat_model.specs.Machine.State.{Unfinished, begun}
 use Rattle.mbuf_chain.specs.Chain.{PoolView, without}
@@ -13,10 +13,7 @@ use Rattle.ip_reass.specs.Table.{held, held_all, new_datagram, IsUnfinished, All
 use Rattle.ip_reass.specs.Fragments.{queued, queued_of}
 use Rattle.ip_reass.specs.declared.datagram.Datagram.{Datagram}
 use Rattle.flat_model.specs.Machine.State.{Key}
-use Rattle.std.specs.Prelude.{find, slice_get}
 use Rattle.std.proofs.Common.{None}
-use Rattle.std.proofs.lemmas.Bool.{cond-true, cond-false, cases_Bool}
-use Rattle.std.proofs.lemmas.Option.{none-some}
 use Rattle.mbuf_chain.specs.Chain.{Adds}
 use Rattle.mbuf_chain.specs.Steps.{one_mbuf, empty_entry}
 use Rattle.mbuf_chain.proofs.Laws.Owners.{same_adds, moves_adds, shown_adds}
@@ -121,38 +118,6 @@ same_more p q r xs ys d e s n =
 
 pub same_none : (p : PoolView) (xs : List ℕ) → SameAt p p xs
 same_none p xs = record { mbufs = refl; same = λ k h. refl }
-
--- ---- a look-up
-pub find_at : (test : Datagram → Bool) (xs : List Datagram) (i : ℕ) (d : Datagram) → i < length xs
-    → test (get_or xs i d) ≡ true → find test (drop i xs) ≡ slice_get xs i
-find_at test [] i d l e = absurd (omega arith)
-find_at test (x ∷ xs) zero d l e = cond-true _ _ _ e
-find_at test (x ∷ xs) (suc i) d l e = find_at test xs i d (omega arith) e
-
-pub find_past : (test : Datagram → Bool) (xs : List Datagram) (i : ℕ) (d : Datagram) → i < length xs
-    → test (get_or xs i d) ≡ false → find test (drop (i + 1) xs) ≡ find test (drop i xs)
-find_past test xs i d l e =
-    (let e' : i + 1 ≡ suc i = omega arith in ap (λ (n : ℕ). find test (drop n xs)) e') ∙ go xs i l e
-  where
-    go : (ys : List Datagram) (j : ℕ) → j < length ys → test (get_or ys j d) ≡ false
-        → find test (drop (suc j) ys) ≡ find test (drop j ys)
-    go [] j m f = absurd (omega arith)
-    go (y ∷ ys) zero m f = sym (cond-false _ _ _ f)
-    go (y ∷ ys) (suc j) m f = go ys j (omega arith) f
-
-pub find_none_more : (test : Datagram → Bool) (xs : List Datagram) (i : ℕ) (d : Datagram) → i < length xs
-    → find test (take i xs) ≡ None → test (get_or xs i d) ≡ false → find test (take (i + 1) xs) ≡ None
-find_none_more test xs i d l none e =
-    (let e' : i + 1 ≡ suc i = omega arith in ap (λ (n : ℕ). find test (take n xs)) e') ∙ go xs i l none e
-  where
-    go : (ys : List Datagram) (j : ℕ) → j < length ys → find test (take j ys) ≡ None → test (get_or ys j d) ≡ false
-        → find test (take (suc j) ys) ≡ None
-    go [] j m n f = refl
-    go (y ∷ ys) zero m n f = cond-false _ _ _ f
-    go (y ∷ ys) (suc j) m n f = elim (cases_Bool (test y)) [
-      | inl is ↦ absurd (none-some y (sym n ∙ cond-true _ _ _ is))
-      | inr is ↦ cond-false _ _ _ is ∙ go ys j (omega arith) (sym (cond-false _ _ _ is) ∙ n) f
-    ]
 
 -- ---- a new datagram
 pub record Begins (p : PoolView) (ds : List Datagram) (q : PoolView) (es : List Datagram) : Type 0 where

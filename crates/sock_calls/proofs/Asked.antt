@@ -72,16 +72,6 @@ memory_refused f t fd rest is =
 
 -- ---- all sockets
 
--- so many bits make a number below that power of two
-pub set_small : (test : ℕ → Bool) (n : ℕ) → set_below test n < 2 ^ n
-unfolding set_below
-set_small test zero = omega arith
-set_small test (suc n) = go (test n) (set_small test n)
-  where
-    go : (t : Bool) → set_below test n < 2 ^ n → set_below test n + cond {A = ℕ} t (2 ^ n) 0 < 2 ^ suc n
-    go true small = omega (arith, small)
-    go false small = omega (arith, small)
-
 pub power_most : (n : ℕ) → n < 64 → 2 ^ n + 2 ^ n ≤ 2 ^ 64
 power_most n lt = omega (arith, pow-le-pow_right {n = 2} (omega arith) {i = suc n} {j = 64} (omega (arith, lt)))
 

@@ -1,12 +1,10 @@
 -- The datagram of a send: its bytes, and room for both headers in front.
-use Rattle.std.proofs.Common.{◌≡◌, ℕ, suc, ◌+◌, ◌≤◌, Bool, true, false, cond, List, [], ◌∷◌, ◌++◌, length, drop, count_by, None, refl, sym, ap, ◌∙◌, arith, inl, inr}
-use Rattle.std.specs.Prelude.{nat_le, slice_index_or, sum_by}
+use Rattle.std.proofs.Common.{◌≡◌, ℕ, suc, ◌+◌, ◌≤◌, Bool, true, false, cond, List, [], ◌∷◌, ◌++◌, length, drop, count_by, refl, sym, ap, ◌∙◌, arith, inl, inr}
 use Rattle.std.proofs.lemmas.List.{length-map, length-append, length-drop}
-use Rattle.std.proofs.lemmas.List.Sums.{sum_by-cons}
 use Rattle.std.proofs.Math.Seq.{drop-append_seam}
 use Rattle.flat_model.specs.Amounts.Layout as flat
 use Rattle.flat_model.specs.Amounts.Layout.{is_cluster, user, sent, laid_on}
-use Rattle.mbuf_chain.specs.Chain.{Entry, ChainView, PoolView, alone, chain_of, entry_of, no_entry, flat_bytes, string, without}
+use Rattle.mbuf_chain.specs.Chain.{Entry, ChainView, PoolView, alone, chain_of, string, without}
 use Rattle.mbuf_chain.proofs.Laws.Steps.{adds_undone}
 use Rattle.chain_ops.specs.Makes.{Makes, LacksMbufs}
 use Rattle.chain_ops.specs.Prepends.{has_front, prepended, prepended_front, prepend_need}
@@ -111,38 +109,3 @@ stored_is {p} {q} {r} {d} {d'} bytes hs law s is len m string_is =
 pub ready : {p q : PoolView} {cs : List ℕ} {n c : ℕ} → IsSendLaidOut p n cs q c → n ≤ 9216
     → IsDatagramChain (chain_of q c)
 ready {p} {q} {cs} {n} {c} l most = datagram_sent (chain_of q c) cs n l.headed l.laid (omega (arith, l.size, most))
-
-no_flat : flat.LayoutEntry
-no_flat = record { size = 0; cluster = None }
-
-first_size : (es : List Entry) (x : flat.LayoutEntry) (xs : List flat.LayoutEntry) → layout_entries es ≡ x ∷ xs
-    → length (slice_index_or es 0 no_entry).bytes ≡ x.size
-first_size [] x xs h = absurd (omega (arith, ap (λ (ys : List flat.LayoutEntry). length ys) h))
-first_size (e ∷ es) x xs h = ap (λ (ys : List flat.LayoutEntry). (slice_index_or ys 0 no_flat).size) h
-
-plain_first : (cs : List ℕ) (n : ℕ) (rooms : List flat.Room)
-    → laid_on cs (flat.Plain n ∷ rooms) ≡ record { size = n; cluster = None } ∷ laid_on cs rooms
-unfolding laid_on
-plain_first [] n rooms = refl
-plain_first (c ∷ cs) n rooms = refl
-
--- the headers stand in the first mbuf
-pub has_headers : {p q : PoolView} {cs : List ℕ} {n c : ℕ} → IsSendLaidOut p n cs q c
-    → 28 ≤ length (entry_of (chain_of q c) 0).bytes
-has_headers {p} {q} {cs} {n} {c} l = go (nat_le n 72) l.laid
-  where
-    go : (t : Bool) → layout_entries (chain_of q c).entries
-        ≡ laid_on cs (cond {A = List flat.Room} t (flat.Plain (28 + n) ∷ []) (flat.Plain 28 ∷ user n))
-        → 28 ≤ length (entry_of (chain_of q c) 0).bytes
-    go true is = omega (arith, first_size (chain_of q c).entries _ _ (is ∙ plain_first cs (28 + n) []))
-    go false is = omega (arith, first_size (chain_of q c).entries _ _ (is ∙ plain_first cs 28 (user n)))
-
-string_size : (es : List Entry) → length (flat_bytes es) ≡ sum_by (λ (x : flat.LayoutEntry). x.size) (layout_entries es)
-string_size [] = refl
-string_size (e ∷ es) = omega (
-  arith,
-  length-append e.bytes (flat_bytes es),
-  sum_by-cons (λ (x : flat.LayoutEntry). x.size) (record { size = length e.bytes; cluster = e.cluster })
-      (layout_entries es),
-  string_size es,
-)
