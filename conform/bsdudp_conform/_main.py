@@ -21,8 +21,8 @@ OK, DEVIATES, USAGE, NO_ADAPTER = 0, 1, 2, 3
 TEMPLATES = pathlib.Path(__file__).resolve().parent / "templates"
 DESCRIPTION = """Judges a UDP/IPv4 stack: sends packets through it, and compares what comes with two laws and with all
 machines that the RFCs permit. docs/judge.md says what an adapter is, and leads to a first verdict in five minutes."""
-STATUS = """Status: 0 if there is no deviation that the baseline lacks, 1 if there is one, 2 if the command line is wrong,
-3 if a stack or a device can't be reached."""
+STATUS = """Status: 0 if there is no deviation that the baseline lacks, 1 if there is one, 2 if the command line is
+wrong, 3 if a stack or a device can't be reached."""
 
 
 def parser() -> argparse.ArgumentParser:
@@ -42,7 +42,7 @@ def parser() -> argparse.ArgumentParser:
     reduce.add_argument("--pcap", metavar="FILE", help="write its packets to a capture")
     reduce.add_argument("adapter", nargs="+", metavar="ADAPTER", help="the adapter and its words, after --")
     for it in (run, wire, reduce):
-        it.add_argument("--seed", type=int, default=1, metavar="N", help="seed of the random bytes and mixes (default: 1)")
+        it.add_argument("--seed", type=int, default=1, metavar="N", help="seed of random bytes and mixes (default: 1)")
         it.add_argument("--mixes", type=int, default=400, metavar="N", help="number of random mixes (default: 400)")
         it.add_argument("--timeout", type=float, default=30.0, metavar="S", help="seconds to wait (default: 30)")
     template = commands.add_parser("template", help="write kit.h and adapters to fill in, in C and in Python")
