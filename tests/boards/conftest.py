@@ -1,4 +1,4 @@
-"""How programs in C over the C library of a processor are compiled and run."""
+"""Fixtures that compile and run C programs with the C library for a processor."""
 from __future__ import annotations
 
 import os
@@ -17,13 +17,14 @@ CC = os.environ.get("CC", "cc")
 C99 = ["-std=c99", "-Wall", "-Wextra", "-Werror", "-pedantic", "-Wno-unused-parameter", f"-I{TOP / 'portable/tests'}"]
 STRICT = [*C99, f"-I{TOP / 'capi/include'}"]
 SANITIZED = ["-fsanitize=address,undefined", "-fno-sanitize-recover=all"]
-# Plays the scripts that it's given over the library.
+# A program that plays scripts with the library.
 DRIVER = [TOP / "portable/tests/run.c", TOP / "portable/tests/host.c"]
 
 
 @pytest.fixture(scope="session")
 def answered(once) -> Callable[[int, pathlib.Path], tuple]:
-    """answered(COUNT, PROGRAM): all scripts of examples/ and so many random ones, with the replies, made once."""
+    """answered(COUNT, PROGRAM) returns all scripts in examples/ and COUNT random ones, with their replies. They are
+    computed once for all processes."""
 
     def of(count: int, program: pathlib.Path) -> tuple:
         def make(folder: pathlib.Path) -> None:
@@ -36,8 +37,8 @@ def answered(once) -> Callable[[int, pathlib.Path], tuple]:
 
 @pytest.fixture
 def plays(answered, bsdudp) -> Callable[[Sequence[object], int], None]:
-    """plays(DRIVER'S WORDS, COUNT) plays all examples and so many random scripts by a driver. Its replies have to be
-    those beside the examples, and those of the built bsdudp."""
+    """plays(COMMAND, COUNT) plays all examples and COUNT random scripts with a driver. The replies must equal the
+    examples' golden files, and those of the built bsdudp."""
 
     def play(driver: Sequence[object], count: int) -> None:
         scripts, wanted = answered(count, bsdudp)

@@ -1,8 +1,7 @@
-"""The C library for other processors, built by portable/core, which rewrites the LLVM module and compiles it. On x86
-with 32 bits, there also with the sanitizer for addresses in the core itself, on 32-bit ARM and aarch64 by qemu, and on
-x86-64 each call, the memory of a stack, and two stacks over a wire are tried; on all but aarch64, and on RISC-V, all
-examples and random scripts, whose replies have to be those of the built program. Faults that are planted in the
-rewriting have to be seen."""
+"""The C library for other processors. portable/core rewrites the LLVM module and compiles it. Each call, the memory of
+a stack, and two stacks on a wire are tested on 32-bit x86 (also with the address sanitizer in the core), on 32-bit ARM
+and aarch64 in qemu, and on x86-64. All examples and random scripts are played on these except aarch64, and on RISC-V:
+their replies must equal those of the built program. Faults planted in the rewriting must be detected."""
 import pathlib
 import shutil
 import subprocess
@@ -22,7 +21,7 @@ MOST_OF_LEAST = 41_000  # bytes of the core for the least size, where pointers h
 
 
 class Host(NamedTuple):
-    """How a program of C is built and run for a target, with which options of portable/core; and what that needs."""
+    """How a C program is built and run for a target: the options of portable/core, and the tools that this needs."""
 
     target: str
     compiler: list
@@ -49,7 +48,7 @@ PROGRAMS = {"tests/calls": [], "tests/ether": [], "tests/memory": WRAPPED, "exam
 
 
 def hosts(*left_out):
-    """Each host, by its name, with what it needs."""
+    """Parametrizes a test by the hosts, with the tools that each needs."""
     return pytest.mark.parametrize(
         "host", [pytest.param(it, id=name, marks=pytest.mark.needs(*it.needs)) for name, it in HOSTS.items()
                  if name not in left_out]
@@ -58,7 +57,8 @@ def hosts(*left_out):
 
 @pytest.fixture
 def builds(core_for, compiled):
-    """builds(HOST, NAME, compiler's words ..) is how a program over the library of a host is run."""
+    """builds(HOST, NAME, COMPILER'S ARGUMENTS ..) compiles a program with a host's library, and returns the command
+    that runs it."""
 
     def build(host, name, *words):
         library = core_for(host.target, *host.options) / "libbsdudp.a"
@@ -86,7 +86,7 @@ def test_calls(name, host, builds, runs):
 
 @hosts()
 def test_random_calls(host, builds, runs, bsdudp):
-    """Random calls, and the same as lines of the built program."""
+    """Random calls return what the built program replies to the same lines."""
     runs(*builds(host, "random", "-O1", "tests/random.c"), bsdudp, "1")
 
 
@@ -102,7 +102,7 @@ def test_driver_builds(host, builds):
 
 @pytest.mark.needs("qemu-user")
 def test_scripts_on_riscv(core_for, plays, tmp_path):
-    """By the toolchain's compiler and linker."""
+    """Built with the toolchain's compiler and linker."""
     tools = llvm.toolchain_of("libbsdudp") / "toolchain/bin"
     library = core_for("rv32imac") / "libbsdudp.a"
     headers = llvm.run(CC, "-print-file-name=include").strip()
@@ -131,7 +131,7 @@ def test_least_size(name, more, core_for, builds, runs):
     runs(*builds(host, "calls", *more, "tests/calls.c"))
 
 
-# ---- faults that are planted in tools/retarget.py: what is replaced, and by what -------------------------------------
+# ---- faults planted in tools/retarget.py: the text that is replaced, and its replacement -----------------------------
 
 PLANTED = [
     ("place = -(-SIZES[first] // SIZES[second]) * SIZES[second]", "place = SIZES[first]"),
@@ -141,7 +141,7 @@ PLANTED = [
 
 
 def passes(*words):
-    """Whether a program ends well, in a tenth of a minute of the processor."""
+    """Returns whether a program ends with status 0 within 6 seconds of processor time."""
     limited = ["bash", "-c", 'ulimit -t 6; ulimit -c 0; timeout 300 "$@"', "bash", *map(str, words)]
     return not subprocess.run(limited, capture_output=True, check=False).returncode
 
@@ -195,14 +195,14 @@ on_board = pytest.mark.needs("arm-none-eabi", "qemu-arm")
 
 @pytest.fixture(scope="session")
 def board(core_for, once):
-    """The board's programs. The linker sees that 64 KB of memory do."""
+    """Builds the board's programs. Linking fails unless 64 KB of memory are enough."""
     library = core_for("cortex-m3")
     return once("board", lambda folder: llvm.run(BOARD / "build", library, folder))
 
 
 @on_board
 def test_call_stacks(board):
-    """All examples are played, in which no call goes deeper than its bound."""
+    """Plays all examples. No call uses more stack than its bound."""
     llvm.run(BOARD / "stacks", board / "painted.elf", *MACHINE, "-kernel")
 
 
@@ -222,7 +222,8 @@ def test_linux_on_an_ethernet(board):
 
 @pytest.fixture(scope="session")
 def costs(core_for, once):
-    """What an echo costs on the board, as bench/run.sh prints it. lwIP is beside it where its sources are at hand."""
+    """Limits the cost of an echo on the board, as bench/run.sh prints it. With lwIP's sources, lwIP's cost is printed
+    too."""
 
     def make(folder):
         for level in COSTS:

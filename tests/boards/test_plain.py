@@ -1,5 +1,5 @@
-"""What stands in for functions of the core on processors without vectors: portable/c/plain.c beside plain
-definitions."""
+"""portable/c/plain.c, which replaces functions of the core on processors without vector instructions, compared with
+plain definitions."""
 import pytest
 
 from tests.boards.conftest import CC, SANITIZED

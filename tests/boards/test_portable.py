@@ -1,6 +1,6 @@
-"""bsdudp_portable.c, the library as one file of C99. Two builds are the same; it compiles in an empty folder, asks for
-four functions of a C library and has no variable. Every call, its tests of accesses, the examples and random scripts
-are tried under the sanitizers, by another compiler, on hosts of 32 bits and with the other order of bytes."""
+"""bsdudp_portable.c, the library as one C99 file. Two builds are identical. It compiles in an empty folder, calls four
+functions of the C library, and has no variable. Every call, its checks of accesses, the examples and random scripts
+are tested with sanitizers, with another compiler, on 32-bit hosts, and on a big-endian host."""
 import re
 import shutil
 import subprocess
@@ -18,7 +18,7 @@ PROGRAMS = {"calls": "tests/calls.c", "ether": "tests/ether.c", "wire": "example
 
 
 class Build(NamedTuple):
-    """How the file and a program over it are compiled, what runs it, and how many random scripts are played."""
+    """How the file and a program that uses it are compiled and run, and how many random scripts are played."""
 
     compiler: list
     of_file: list = []
@@ -40,8 +40,8 @@ BUILDS = {
 
 @pytest.fixture
 def builds(portable_c, compiled, once):
-    """builds(NAME OF A BUILD, NAME, compiler's words ..) is how a program over the file is run. A compiler takes half a
-    minute for the file, so each build has one object of it."""
+    """builds(BUILD, NAME, COMPILER'S ARGUMENTS ..) compiles a program with the file, and returns the command that runs
+    it. Compiling the file takes half a minute, so each build compiles it once."""
 
     def build(of, name, *sources):
         how, _ = BUILDS[of]
@@ -69,7 +69,7 @@ def test_compiles_in_an_empty_folder(portable_c, tmp_path):
 
 @pytest.fixture
 def symbols(portable_c, compiled):
-    """The rows of nm for the file as it's compiled for a board: a letter, and a name."""
+    """The symbols of the file compiled for a board, as nm prints them: a letter and a name."""
     how = ["-std=c99", "-O2", "-ffreestanding", "-fno-stack-protector", "-DBSDUDP_MALLOC=0"]
     unit = compiled("portable.o", CC, *how, "-c", portable_c)
     said = subprocess.run(["nm", unit], capture_output=True, text=True, check=True).stdout
@@ -104,7 +104,7 @@ def test_calls(of, name, builds, runs):
 
 @pytest.mark.needs("asan")
 def test_accesses(portable_c, compiled, runs):
-    """The tests of accesses themselves."""
+    """Tests the checks of accesses."""
     words = [*C99, f"-I{portable_c.parent}", *SANITIZED, "-O0", TOP / "portable/tests/access.c"]
     runs(compiled("access", CC, *words))
 

@@ -1,9 +1,9 @@
-"""What tools/retarget.py makes of each form of a line that it knows, and which forms it refuses."""
+"""How tools/retarget.py rewrites each form of a line, and which forms it refuses."""
 import pytest
 
 from tools import retarget
 
-# A line of a function, and the lines that stand for it. %1 is the first name that's made, %2 the second.
+# A line of a function, and the lines that replace it. %1 is the first new name, %2 the second.
 KNOWN = [
     ("%p = load ptr, ptr %a, align 8, !noundef !1", ["%1 = load i64, ptr %a, align 8", "%p = inttoptr i64 %1 to ptr"]),
     ("store ptr %p, ptr %a, align 8", ["%1 = ptrtoint ptr %p to i64", "store i64 %1, ptr %a, align 8"]),
@@ -42,7 +42,7 @@ KNOWN = [
         ],
     ),
 ]
-# Lines of a function that stay as they are.
+# Lines of a function that stay unchanged.
 SAME = [
     "%n = load i64, ptr %a, align 8",
     "store <8 x i32> %v, ptr %a, align 4",
@@ -85,7 +85,7 @@ REFUSED = [
     "%n = va_arg ptr %a, i64",
     "%narrow.1 = add i64 %n, 1",
 ]
-# Lines outside of functions, each with what stands for it.
+# Lines outside functions, and their replacements.
 OUTSIDE = [
     (
         '@t = private unnamed_addr constant <{ ptr, [2 x i8] }> <{ ptr @s, [2 x i8] c"\\05\\00" }>, align 8',
@@ -142,6 +142,6 @@ def test_outside_of_functions(line, wanted):
 
 @pytest.mark.parametrize("text", [*map(function, REFUSED), *(f"\n{it}\n" for it in REFUSED_OUTSIDE)])
 def test_refused(text):
-    """By the number of its line."""
+    """The error names the line by its number."""
     with pytest.raises(retarget.Stop, match="^line 2: "):
         rewritten(text)

@@ -1,4 +1,4 @@
-"""Runs of bsdplay over a script that it reads from standard input."""
+"""Runs bsdplay with a script on standard input."""
 from __future__ import annotations
 
 import json
@@ -12,7 +12,7 @@ import pytest
 def run(
     program: pathlib.Path, *words: object, script: str | bytes = b"", **more: Any
 ) -> subprocess.CompletedProcess[bytes]:
-    """Runs the program with these words, and gives it the script by a pipe."""
+    """Runs the program with these arguments, and the script on standard input."""
     given = script.encode() if isinstance(script, str) else script
     return subprocess.run(
         [program, *map(str, words)], input=given, capture_output=True, check=False, timeout=300, **more
@@ -20,17 +20,17 @@ def run(
 
 
 def of_lines(lines: Sequence[str]) -> str:
-    """A script of these lines."""
+    """Returns a script of these lines."""
     return "".join(f"{it}\n" for it in lines)
 
 
 def printed(program: pathlib.Path, lines: Sequence[str], *words: str) -> list[str]:
-    """The lines that the program prints for a script of these lines."""
+    """Returns the lines that the program prints for a script of these lines."""
     return run(program, *words, script=of_lines(lines)).stdout.decode().splitlines()
 
 
 def objects(program: pathlib.Path, lines: Sequence[str], *words: object) -> list[dict[str, Any]]:
-    """The objects that the program prints with --json for a script of these lines."""
+    """Returns the objects that the program prints with --json for a script of these lines."""
     ended = run(program, "--json", *words, "-", script=of_lines(lines))
     if ended.returncode not in (0, 1) or ended.stderr:
         pytest.fail(f"bsdplay: status {ended.returncode}: {ended.stderr.decode(errors='replace')}", pytrace=False)
@@ -38,6 +38,6 @@ def objects(program: pathlib.Path, lines: Sequence[str], *words: object) -> list
 
 
 def same(asked: object, came: object, wanted: object) -> None:
-    """Fails the test if the result differs from the wanted one."""
+    """Fails the test if the result differs from the expected one."""
     if came != wanted:
         pytest.fail(f"{asked}\n    wanted: {wanted}\n    came:   {came}", pytrace=False)

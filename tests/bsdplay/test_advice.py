@@ -1,7 +1,7 @@
-"""What bsdplay prints for lines that request nothing: for each it prints what is wrong with it, and does nothing else.
-Then a line of each form that `bsdplay --help` prints, none of which may be called wrong; scripts that begin with a byte
-order mark; lines with a time in front; hosts on an Ethernet; and scripts of two hosts, where the lines below `carry`
-say what happened to each packet, and those below a host's line what the host did."""
+"""What bsdplay prints for lines that can't be read: for each it prints the error, and changes nothing. Then a line of
+each form that `bsdplay --help` lists, none of which is an error; scripts that begin with a byte order mark; lines that
+begin with a time; hosts on an Ethernet; and scripts of two hosts, in which the lines below `carry` say what happened
+to each packet, and those below a host's line what the host did."""
 import json
 import re
 
@@ -13,13 +13,13 @@ HOSTS = ["host a --addr 10.0.0.1", "host b --addr 10.0.0.2", "wire a b"]
 
 
 def rows(table):
-    """Has a test tried with each row of a table, by its name."""
+    """Parametrizes a test by the rows of a table, which have names."""
     return pytest.mark.parametrize("name", table)
 
 
-# ---- lines that request nothing ------------------------------------------------------------------------------------
+# ---- lines that can't be read --------------------------------------------------------------------------------------
 
-# Lines of a script of one machine, and what is wrong with each.
+# Lines of a script for one host, and the error for each.
 MACHINE = {
     "sokcet": "`sokcet` is no command (`socket`?)",
     "Socket": "`Socket` is no command (`socket`?)",
@@ -51,7 +51,7 @@ MACHINE = {
     "rx pcap a.pcap 0-3": "it's written otherwise: `rx pcap FILE [N-M] [ticks]`",
     "=> ok": "no command stands in front of `=>`",
 }
-# Lines of a script of two hosts, and what is wrong with each.
+# Lines of a script for two hosts, and the error for each.
 WIRE = {
     "socket": "`socket` is asked of a host: `NAME: socket`",
     "bind 3 0.0.0.0 7": "`bind` is asked of a host: `NAME: bind FD ADDR PORT`",
@@ -75,7 +75,7 @@ WIRE = {
 
 
 def advice(program, before, line):
-    """What is printed of a line behind those of `before`."""
+    """Returns what is printed for a line after the lines in `before`."""
     return printed(program, [*before, line])[len(before) :]
 
 
@@ -91,14 +91,14 @@ def test_a_wrong_line_of_two_hosts_is_explained(line, bsdplay):
 
 @pytest.mark.parametrize("before, table", [([], MACHINE), (HOSTS, WIRE)], ids=["one machine", "two hosts"])
 def test_wrong_lines_do_nothing(before, table, bsdplay):
-    """All of them in one script: each has its line, and nothing else is printed."""
+    """All of them in one script: only one line is printed for each."""
     wanted = [f"-:{number}: {it}" for number, it in enumerate(table.values(), len(before) + 1)]
     same(list(table), printed(bsdplay, [*before, *table])[len(before) :], wanted)
 
 
 # ---- forms ---------------------------------------------------------------------------------------------------------
 
-# What stands for the words of a form.
+# Values for the words of a form.
 WORDS = {
     "FD": "9", "ADDR": "10.0.0.2", "PORT": "7", "BYTES": "00", "LEN": "1", "OPT": "broadcast", "ON": "1",
     "WHAT": "pool", "N": "2", "FILE": "none.pcap", "N-M": "1-2", "NAME": "a", "CHANCE": "10%", "A-B": "0-1",
@@ -112,7 +112,7 @@ ANSWERED = re.compile(
 
 
 def instances(form):
-    """Lines of a form: with what may be left out, and without it."""
+    """Returns lines of a form: with its optional words, and without them."""
     for one in form.split(" or "):
         for text in {re.sub(r" \[[^]]*\]", "", one), re.sub(r"\[([^]]*)\]", r"\1", one)}:
             yield " ".join(WORDS.get(word, word) for word in text.split())
@@ -120,7 +120,7 @@ def instances(form):
 
 @pytest.fixture
 def forms(bsdplay):
-    """The forms of one machine's lines and those of many machines, by the program's help."""
+    """Returns the forms of lines for one host, and of those for several hosts, from the program's help."""
     found, into = ([], []), None
     for line in run(bsdplay, "--help").stdout.decode().splitlines():
         if line.startswith("Lines behind"):
@@ -158,7 +158,7 @@ def test_a_byte_order_mark_in_the_second_line_is_part_of_a_word(bsdplay):
 # ---- hosts on an Ethernet ------------------------------------------------------------------------------------------
 
 LINK = "host a ether --addr 10.0.0.1"
-# The lines of one script, and what is wrong with each, or its reply.
+# The lines of one script, and the error or the reply for each.
 ETHER = {
     LINK: "ok",
     "host b ether mac 02:00:00:00:00:01 --addr 10.0.0.2": "another host has this hardware address",
@@ -185,7 +185,7 @@ ETHER = {
     "a: error 3": "error 9 EBADF",
 }
 ETHER_LINES = list(ETHER)
-# The next hops, which no host has, that a host sends packets to, and the lines below `show neighbours` then. It keeps
+# Next hops that no host has, to which a host sends packets, and the lines below `show neighbours` then. The host keeps
 # eight packets.
 ASKED = "is asked for, 1 of 5 requests sent"
 HELD = {
@@ -216,7 +216,7 @@ def test_show_neighbours_counts_the_packets_that_wait(name, bsdplay):
     same(f"below show neighbours, after packets to {hops}", [it[4:] for it in said[at + 1 :]], wanted)
 
 
-# ---- what stands below a line of two hosts -------------------------------------------------------------------------
+# ---- the indented lines in scripts of two hosts --------------------------------------------------------------------
 
 SENT = "a: udp 10.0.0.1:1024 > 10.0.0.2:7, 2 bytes, id 1"
 SEND = ["a: socket", 'a: sendto 3 10.0.0.2 7 "hi"']
@@ -228,12 +228,13 @@ KEPT = "    b kept it until its datagram is whole"
 
 
 def sent(numbers, *fates):
-    """Datagrams without bytes, by their identifications, each with these lines below it; the first is that of SEND."""
+    """Returns the lines for empty datagrams with these identifications, each with the lines below it. Identification 1
+    is that of SEND."""
     head = "a: udp 10.0.0.1:1024 > 10.0.0.2:7, 0 bytes, id"
     return [line for it in numbers for line in (SENT if it == 1 else f"{head} {it}", *fates)]
 
 
-# Scripts, and the lines below their lines `carry`.
+# Scripts, and the indented lines below their `carry` lines.
 CARRIED = {
     "dropped": ([*SEND, "carry", "carry"], [SENT, DROPPED]),
     "delivered": ([*BOUND, *SEND, "carry"], [SENT, DELIVERED]),
@@ -269,7 +270,7 @@ CARRIED = {
          "a: repeated 40 packets", "b: received 80 packets", "b: dropped no socket has the port"],
     ),
 }  # fmt: skip
-# Scripts, and the lines below any of their lines.
+# Scripts, and the indented lines below any of their lines.
 BELOW = {
     "a send": ([*BOUND, *SEND], ["sent as 1 packet", SENT[3:], "1 mbuf taken"]),
     "a packet that is taken from the host": (
@@ -290,7 +291,7 @@ BELOW = {
 
 
 def below(lines, of=""):
-    """The indented lines of what is printed, below lines that have this in them."""
+    """Returns the indented lines of the output below lines that contain this text."""
     chosen, found = False, []
     for line in lines:
         if line[:1] != " ":
@@ -321,8 +322,8 @@ def test_with_quiet_nothing_stands_below_a_line(name, bsdplay):
 
 # ---- packets as objects --------------------------------------------------------------------------------------------
 
-# Scripts, and the objects that --json prints of their packets: the number of the line, from, to, fate, the carries that
-# pass before it is due, and the cause.
+# Scripts, and the objects that --json prints for their packets: the line's number, from, to, fate, the carries before
+# it is due, and the cause.
 SENDS, NO_PORT = (6, "a", None, "sent", None, None), "no socket has the port"
 OBJECTS = {
     "dropped": ([*SEND, "carry", "carry"], [SENDS, (6, "a", "b", "dropped", 0, NO_PORT)]),
@@ -342,7 +343,7 @@ MEMBERS = ("number", "from", "to", "fate", "wait", "cause")
 
 
 def packets(program, script):
-    """The objects of a script's packets."""
+    """Returns the objects for a script's packets."""
     told = map(json.loads, printed(program, [*HOSTS, *script], "--json"))
     return [it for it in told if "fate" in it]
 
@@ -357,7 +358,7 @@ def test_an_object_has_the_fate_of_a_packet(name, bsdplay):
 
 @rows([name for name, (script, _) in OBJECTS.items() if SEND[1] in script])
 def test_an_object_has_the_bytes_of_a_packet(name, bsdplay):
-    """They are those that `a: tx` replies."""
+    """They are the bytes in the reply to `a: tx`."""
     given = json.loads(printed(bsdplay, [*HOSTS, *SEND, "a: tx"], "--json")[-1])["reply"].split()[1]
     script, _ = OBJECTS[name]
     same(f"bytes of {script}", {it["packet"] for it in packets(bsdplay, script) if "packet" in it}, {given})
@@ -367,13 +368,13 @@ def test_with_quiet_packets_have_no_objects(bsdplay):
     same("--quiet", [it for it in printed(bsdplay, [*HOSTS, *SEND, "carry"], "-q") if "fate" in it], [])
 
 
-# ---- lines with a time in front ------------------------------------------------------------------------------------
+# ---- lines that begin with a time ----------------------------------------------------------------------------------
 
 NO_TIME = "a time is +0.5s or +2s, and a line follows it"
 NO_DIGIT = 'not a hex digit (a text stands in quotes: "hi")'
 PART = 'rx udp 10.0.0.2:9 > 10.0.0.1:7 "x"*16 at 0 more'
 GONE = ["+29.5s show unfinished => 1 ..", "+0.5s show unfinished => 0 .."]
-# Scripts, and what is printed of them. A datagram waits 30 seconds for its fragments.
+# Scripts, and what is printed for them. A datagram waits 30 seconds for its fragments.
 TIMED = {
     "halves of a second": (
         ["+0.5s tx", "  +1.5s \t tx # c", "+0s tx"],
@@ -415,7 +416,7 @@ TIMED_HOSTS = {
 
 
 def timed(program, before, script, wanted):
-    """Plays a script with times behind the lines of `before`."""
+    """Plays a script with times after the lines in `before`, and compares what is printed."""
     lines = printed(program, [*before, *script])[len(before) :]
     same(f"{script}, {lines}", [it for it in lines if it.startswith("-:") or (it[:1] != " " and it in wanted)], wanted)
 

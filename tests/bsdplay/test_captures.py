@@ -1,6 +1,6 @@
-"""Captures that a line `rx pcap` of a script plays in. The files are built here, in each byte order, resolution and
-link type. Some are cut at each byte, and some have a length at its borders. The wanted reply to each file is computed
-from pcap-savefile(5) alone. tshark has to agree on wrong checksums, and on the numbers and times of records."""
+"""Captures that a script plays with `rx pcap`. The tests build the files, in each byte order, resolution and link
+type. Some are cut at each byte, and some have lengths at their limits. The expected reply to each file is computed
+from pcap-savefile(5) only. tshark must agree on wrong checksums, and on the numbers and times of records."""
 import json
 import random
 import re
@@ -36,7 +36,7 @@ SOCKET = ["socket", "bind 3 0.0.0.0 7"]
 
 
 def is_ipv4(link, frame):
-    """Whether the frame holds an IPv4 packet, for the link types of LINKS, without VLAN tags."""
+    """Returns whether the frame contains an IPv4 packet, for the link types in LINKS, without VLAN tags."""
     if link in (12, 101):
         return frame[:1] != b"" and frame[0] >> 4 == 4
     if link == 228:
@@ -48,7 +48,7 @@ def is_ipv4(link, frame):
 
 
 def reply_to(data, first=1, last=None, ticks=False):
-    """The reply to a capture, without the causes for which packets are dropped, and the number of its packets."""
+    """Returns the reply to a capture, without the causes of drops, and the number of its packets."""
     if len(data) < 24:
         return "error file header cut short at byte 0", 0
     found = [(order, it) for order in ORDERS for it in MAGICS if data[:4] == struct.pack(f"{order}I", it)]
@@ -69,7 +69,7 @@ def reply_to(data, first=1, last=None, ticks=False):
 
 
 def records_of(data, order, units):
-    """The error for a capture's records, or None, and the records with their times in nanoseconds."""
+    """Returns the error for a capture's records, or None, and the records with their times in nanoseconds."""
     at, read = 24, []
     while at < len(data):
         if len(data) - at < 16:
@@ -83,7 +83,7 @@ def records_of(data, order, units):
 
 
 def played(chosen, link, ticks):
-    """The reply to records that are played in, and the number of their packets."""
+    """Returns the reply to records that are played, and the number of their packets."""
     passed, packets = 0, 0
     for time, frame in chosen:
         if is_ipv4(link, frame):
@@ -94,12 +94,12 @@ def played(chosen, link, ticks):
 
 
 def each(order, *frames, link=228, **fields):
-    """A file with a record for each frame, all at time 0."""
+    """Returns a file with a record for each frame, all at time 0."""
     return header(order, link=link, **fields) + b"".join(record(order, 0, 0, it) for it in frames)
 
 
 def resolutions(order, name):
-    """Each magic number, and records chosen by their numbers, with ticks and without."""
+    """Yields files with each magic number, of which all or some records are played, with ticks and without."""
     for magic in (*MAGICS, 0xA1B2C3D5, 0x0A0D0D0B):
         half = MAGICS.get(magic, 10**6) // 2
         data = header(order, magic) + b"".join(record(order, t, half * (t % 2), PACKET) for t in (9, 7, 10, 13))
@@ -108,7 +108,7 @@ def resolutions(order, name):
 
 
 def fields(order, name):
-    """Each link type and version, and lengths and times at their borders."""
+    """Yields files with each link type and version, and with lengths and times at their limits."""
     for link, frames in LINKS.items():
         yield f"{name}, link type {link}", each(order, *frames, link=link), "ticks"
     for link in (2, 108 << 16, 147, 229, 1 << 16 | 228, 0xFFFFFFFF):
@@ -124,7 +124,7 @@ def fields(order, name):
 
 
 def files():
-    """Files by their names, each with the words behind its name in the line."""
+    """Yields names, files, and the words after the file's name in the line."""
     for order, name in ORDERS.items():
         yield from resolutions(order, name)
         yield from fields(order, name)
@@ -137,19 +137,19 @@ FILES = list(files())
 
 
 def wanted_of(data, words):
-    """The reply to a file and the number of its packets, by the words behind its name."""
+    """Returns the reply to a file, and the number of its packets, given the words after its name."""
     span = next((it.split("-") for it in words.split() if "-" in it), None)
     first, last = map(int, span) if span else (1, None)
     return reply_to(data, first, last, "ticks" in words)
 
 
 def without_causes(told):
-    """A reply, or the error for a line, without the causes for which packets are dropped."""
+    """Returns a reply, or the error for a line, without the causes of drops."""
     return told.get("reply", told.get("fault")).split(" dropped ")[0]
 
 
 def received(stat):
-    """How many packets were received, by the counters: one that is 0 isn't printed."""
+    """Returns how many packets the counters say were received. A counter of 0 isn't printed."""
     return int(dict(it.split("=") for it in stat["reply"].split() if "=" in it).get("ip.total", 0))
 
 
@@ -164,7 +164,7 @@ def test_the_reply_counts_packets_others_and_ticks(data, words, bsdplay, tmp_pat
 
 
 def test_the_replies_are_the_same_in_one_script(bsdplay, tmp_path):
-    """All these files, one after another: nothing of one is left for the next."""
+    """Plays all these files in one script: no file affects the next one."""
     lines = []
     for number, (_, data, words) in enumerate(FILES):
         path = tmp_path / f"{number} a.pcap"
@@ -185,13 +185,13 @@ SEVERAL = [(PACKET, 0), (damaged(PACKET, 11, 0), 0), (PACKET, 3), (PACKET[:29], 
 
 
 def compared(told):
-    """What both ways have to have in common."""
+    """Returns what must be equal for both ways."""
     return [(it["reply"], it["below"]) for it in told]
 
 
 @pytest.fixture
 def several(tmp_path):
-    """A capture of good and bad packets."""
+    """Writes a capture of good and bad packets, and returns its path."""
     path = tmp_path / "several.pcap"
     path.write_bytes(header() + b"".join(record("<", seconds, 0, frame) for frame, seconds in SEVERAL))
     return path
@@ -199,7 +199,7 @@ def several(tmp_path):
 
 @pytest.fixture
 def by_lines(bsdplay, several, tmp_path):
-    """The replies to the lines that --from-pcap prints for that capture, and the capture that --pcap writes of them."""
+    """Returns the replies to the lines that --from-pcap prints for that capture, and the capture that --pcap writes."""
     lines = run(bsdplay, "--from-pcap", several, "--ticks").stdout.decode().splitlines()
     capture = tmp_path / "by_lines.pcap"
     return objects(bsdplay, [*SOCKET, *lines, *AFTER], "--pcap", capture), capture
@@ -224,7 +224,7 @@ def test_pcap_writes_the_packets_that_the_lines_give(bsdplay, several, by_lines,
 
 @pytest.fixture
 def blocks(several, tmp_path):
-    """That capture as editcap's pcapng file."""
+    """The capture as a pcapng file, written by editcap."""
     path = tmp_path / "blocks.pcapng"
     subprocess.run(["editcap", "-F", "pcapng", several, path], check=True)
     return path
@@ -247,7 +247,8 @@ def test_a_pcapng_file_that_is_cut_is_an_error(bsdplay, blocks):
 # ---- causes --------------------------------------------------------------------------------------------------------
 
 HI = udp(b"hi")
-# A packet for each cause that one packet can have, in the order of docs/behaviour.md; and one that is delivered.
+# A packet for each cause for which a single packet is dropped, in the order of docs/behaviour.md, and one that is
+# delivered.
 BY_CAUSE = {
     "packet shorter than a header": PACKET[:19],
     "wrong version": ip(HI, ident=7, first=0x65),
@@ -267,7 +268,8 @@ BY_CAUSE = {
 
 
 def random_causes(seed):
-    """60 records, each by its packet's cause or "other" if it holds no IPv4 packet, and the records that are played."""
+    """Returns 60 records and the range that is played. A record is the cause of its packet, or "other" if it has no
+    IPv4 packet."""
     chance = random.Random(seed)
     causes = [chance.choice([*BY_CAUSE, "other"] if seed % 2 else list(BY_CAUSE)[seed % 5 :: 5]) for _ in range(60)]
     return causes, chance.choice([(1, 60), (1, 60), (17, 41), (60, 60)])
@@ -275,7 +277,7 @@ def random_causes(seed):
 
 @pytest.fixture(params=range(12), ids="seed {}".format)
 def random_capture(request, tmp_path):
-    """A script that plays in random packets, and the lines with causes that it has to print."""
+    """Returns a script that plays random packets, and the lines with causes that it must print."""
     causes, (first, last) = random_causes(request.param)
     path, wanted = tmp_path / "causes.pcap", []
     frames = [ARP if it == "other" else IPV4 + BY_CAUSE[it] for it in causes]
@@ -298,7 +300,7 @@ def test_quiet_prints_no_causes(bsdplay, random_capture):
     assert b"record" not in printed, printed
 
 
-# ---- the status, and where files are looked for --------------------------------------------------------------------
+# ---- the status, and where files are searched ----------------------------------------------------------------------
 
 STATUS = {
     "whole.pcap": 0,
@@ -321,7 +323,7 @@ STATUS = {
 @pytest.mark.parametrize("words", [[], ["--quiet"], ["--json"]], ids=["plain", "quiet", "json"])
 @pytest.mark.parametrize("line", STATUS)
 def test_status(line, words, bsdplay, tmp_path):
-    """A capture that can't be played in makes status 1, unless an error is expected of its line."""
+    """The status is 1 if a capture can't be played, unless its line expects an error."""
     (tmp_path / "whole.pcap").write_bytes(each("<", PACKET))
     (tmp_path / "cut.pcap").write_bytes(each("<", PACKET)[:-1])
     ended = run(bsdplay, *words, "-", script=f"rx pcap {line}\n", cwd=tmp_path)
@@ -335,7 +337,7 @@ PLACES = [('rx pcap "cafe"', ONE), ("rx pcap cafe", LOST), ("rx pcap ./cafe", ON
 
 @pytest.mark.parametrize("line, reply", PLACES, ids=[it[0] for it in PLACES])
 def test_a_file_is_looked_for_beside_the_script(line, reply, bsdplay, tmp_path):
-    """A name of hex digits is one in quotes, or with a folder in front."""
+    """A name of hex digits needs quotes or a folder before it."""
     (tmp_path / "cafe").write_bytes(each("<", PACKET))
     script = tmp_path / "script.txt"
     script.write_text(of_lines(it[0] for it in PLACES), encoding="ascii")
@@ -352,7 +354,8 @@ BAD = "0"
 
 @pytest.fixture
 def asked(tmp_path):
-    """A capture of packets with right and wrong checksums, and the fields that tshark prints for each record."""
+    """Returns a capture of packets with right and wrong checksums, and the fields that tshark prints for each
+    record."""
     chance, path = random.Random(7), tmp_path / "asked.pcap"
     kinds = ["wrong header checksum", "wrong datagram checksum", None]
     times = sorted(chance.randrange(4 * 10**6) for _ in range(40))

@@ -1,5 +1,5 @@
-"""Packets by name, `rx udp` and `rx raw`, with random fields by a seed. scapy builds the same packets: each byte has to
-be the same. A right checksum is scapy's, too."""
+"""Packets by name, `rx udp` and `rx raw`, with random fields from a seed. scapy builds the same packets, and each byte
+must be equal. A right checksum must be scapy's, too."""
 import random
 import struct
 
@@ -11,7 +11,7 @@ from tests.pcaps import records
 
 PORTS = (5000, 7)
 SEED, PACKETS = 1, 400
-# The word for a field, scapy's name of it, and the greatest number that fits there.
+# The word for a field, scapy's name for it, and the largest value that fits.
 IP_FIELDS = {
     "version": ("version", 15),
     "ihl": ("ihl", 15),
@@ -24,24 +24,24 @@ IP_FIELDS = {
 }
 FLAGS = {"rf": 4, "df": 2, "mf": 1}
 
-# One process builds them all, once.
+# One process builds all of them, once.
 pytestmark = [pytest.mark.needs("scapy"), pytest.mark.xdist_group("fields")]
 
 
 def wrong(right):
-    """The checksum of `badsum` and `badudp`."""
+    """Returns the checksum of `badsum` and `badudp`."""
     return right % 65535 + 1
 
 
 def by_scapy(fields, flags, carried):
-    """A packet as scapy builds it."""
+    """Returns a packet that scapy builds."""
     from scapy.all import IP, Raw  # noqa: PLC0415
 
     return bytes(IP(src=PEER, dst=HERE, flags=flags, **fields) / Raw(carried))
 
 
 def datagram(chance, sent, words):
-    """The bytes of a UDP datagram with some fields. The words for these are appended to `words`."""
+    """Returns the bytes of a UDP datagram with some fields, and appends the words for these to `words`."""
     from scapy.all import IP, UDP, Raw  # noqa: PLC0415
 
     length = 8 + len(sent)
@@ -57,7 +57,7 @@ def datagram(chance, sent, words):
 
 
 def header(chance, words, whole):
-    """The fields and the flags of a random header, and what the packet carries of `whole`."""
+    """Returns the fields and the flags of a random header, and the part of `whole` that the packet carries."""
     fields, flags = {"id": 1, "proto": 17}, 0
     for word, (name, most) in IP_FIELDS.items():
         if chance.random() < 0.2:
@@ -80,7 +80,7 @@ def header(chance, words, whole):
 
 
 def packet(chance):
-    """A line that names a packet, and the packet as scapy builds it."""
+    """Returns a line that names a packet, and the packet that scapy builds."""
     sent, words = chance.randbytes(chance.choice((0, 1, 2, 9, 40))), []
     is_udp = chance.random() < 0.5
     fields, flags, carried = header(chance, words, datagram(chance, sent, words) if is_udp else sent)
@@ -97,14 +97,14 @@ def packet(chance):
 
 
 def random_packets():
-    """The lines that name packets, each with the packet."""
+    """Returns the lines that name packets, each with scapy's packet."""
     chance = random.Random(SEED)
     return [packet(chance) for _ in range(PACKETS)]
 
 
 @pytest.fixture(scope="module")
 def built(bsdplay, tmp_path_factory):
-    """Each line with scapy's packet, and the packets that --pcap writes."""
+    """Returns each line with scapy's packet, and the packets that --pcap writes."""
     capture, packets = tmp_path_factory.mktemp("fields") / "built.pcap", random_packets()
     ended = run(bsdplay, "--quiet", "--pcap", capture, script=of_lines(line for line, _ in packets))
     came = [frame for _, _, frame in records(capture.read_bytes())]

@@ -1,6 +1,6 @@
-"""The forms in which bsdplay prints a script's replies. In colours it's the plain text without them. The objects of
---json stand for the plain text if a reader shows their bytes as people read them, and for the text of --quiet if it
-shows all digits. Then how bytes are printed, when there are colours, and which options exclude each other."""
+"""The forms in which bsdplay prints a script's replies. Without its escape sequences, coloured output is the plain
+text. The objects of --json contain the plain text if their bytes are printed as text, and the output of --quiet if all
+digits are printed. Then how bytes are printed, when colours are used, and which options exclude each other."""
 import json
 import os
 import pty
@@ -21,7 +21,7 @@ FAULT = ["number", "file", "column", "fault"]
 
 
 def same_text(asked, came, wanted):
-    """Fails the test if a line of a text differs from the wanted one."""
+    """Fails the test if a line of a text differs from the expected one."""
     if came != wanted:
         at, both = other_line(wanted, came)
         pytest.fail(f"{asked}: line {at + 1}{both}", pytrace=False)
@@ -32,7 +32,7 @@ def same_text(asked, came, wanted):
 
 @pytest.fixture
 def prints(bsdplay):
-    """What the program prints of a script of examples/play."""
+    """prints(SCRIPT, OPTIONS ..) returns what the program prints for a script in examples/play."""
     return lambda script, *words: run(bsdplay, *words, PLAY / script).stdout
 
 
@@ -58,8 +58,8 @@ def test_objects_stand_for_the_plain_and_the_quiet_text(script, prints):
 
 
 def text_of(told, name, texts):
-    """The plain text that an object stands for, and the quiet one. `texts` has for each line of the script whether a
-    text in quotes stands in it or before it."""
+    """Returns the plain text for an object, and its text with --quiet. `texts` has, for each line of the script,
+    whether a text in quotes occurs in it or before it."""
     same("the script of an object", told["file"], name)
     same("the members of an object", list(told), FAULT if "fault" in told else OBJECT)
     if "fault" in told:
@@ -76,7 +76,8 @@ def text_of(told, name, texts):
 
 
 def bytes_text(digits, texts):
-    """What is printed for the digits of bytes: a text, if the script has one and these bytes can be one."""
+    """Returns what is printed for the digits of bytes: a text, if the script has texts and these bytes are
+    printable."""
     raw = bytes.fromhex(digits)
     is_text = any(32 <= it <= 126 for it in raw) and all(32 <= it <= 126 or it in b"\n\r\t\0" for it in raw)
     if not texts or not is_text:
@@ -86,13 +87,13 @@ def bytes_text(digits, texts):
 
 
 def digits_of(reply):
-    """The digits of the bytes in a reply, or None if it has none."""
+    """Returns the digits of the bytes in a reply, or None if it has no bytes."""
     match = re.match(r"(?:packet|from \S+ \S+) ((?:[0-9a-f]{2})+)(?: |$)", reply)
     return match and match[1]
 
 
 def seen(reply, texts):
-    """A reply with its bytes as people read them."""
+    """Returns a reply with its bytes as they are printed in plain output."""
     digits = digits_of(reply)
     if digits is None:
         return reply
@@ -105,7 +106,7 @@ def seen(reply, texts):
 
 
 def apart(wanted, reply):
-    """Where the bytes of two replies differ first, if either is cut."""
+    """Returns the text that names the first byte in which two replies differ, if either is cut."""
     first, second = digits_of(wanted) or "", digits_of(reply) or ""
     at = next((at for at, (one, other) in enumerate(zip(first, second)) if one != other), None)
     return "" if at is None or max(len(first), len(second)) <= 128 else f", which differ from byte {at // 2} on"
@@ -116,7 +117,7 @@ def apart(wanted, reply):
 GET, GOT = "recvfrom 3 9999", "from 10.0.0.1 7 "
 AA, COUNT, LONG = "a" * 32, bytes(range(32)).hex(), f"{'00' * 32}..0000000000000000 (199 bytes)"
 SHORTER = LONG.replace("199", "198")
-# Bytes that are sent, a line that receives them, and what is printed of them, and of the difference.
+# Bytes that are sent, a line that receives them, and what is printed for them and for the difference.
 BYTES = [
     ("6869", GET, ["6869"]),
     ("6869", GET + ' # => "hi"', ["6869"]),
@@ -152,7 +153,7 @@ def test_bytes_are_printed_as_the_script_writes_them(sent, line, got, bsdplay):
 
 
 def on_a_terminal(program, **more):
-    """What the program prints for a line if its standard output is a terminal."""
+    """Returns what the program prints for a line if its standard output is a terminal."""
     front, back = pty.openpty()
     subprocess.run([program], input=b"socket\n", stdout=back, check=False, **more)
     os.close(back)

@@ -1,6 +1,6 @@
-"""Frames of hosts on an Ethernet, beside scapy's. In the scripts of examples/play/ether a line `NAME: frame BYTES` has
-a comment `# scapy: ..` above it, which builds the same bytes, and comments `# goes: ..` build the frames of the
-script's capture in their order."""
+"""Frames of hosts on an Ethernet, compared with scapy's. In the scripts in examples/play/ether, each line `NAME: frame
+BYTES` follows a comment `# scapy: ..` that builds the same bytes, and comments `# goes: ..` build the frames of the
+script's capture, in order."""
 import contextlib
 import re
 
@@ -24,7 +24,7 @@ pytestmark = pytest.mark.needs("scapy")
 
 
 def by_scapy(words):
-    """The frame that a comment builds."""
+    """Returns the frame that a comment builds."""
     from scapy import all as scapy  # noqa: PLC0415
 
     names = {name: getattr(scapy, name) for name in ("Ether", "ARP", "IP", "ICMP", "UDP")}

@@ -1,6 +1,6 @@
-"""A class's hand-ins, as bsdplay grades them. They're made here of the exercise about drops: right ones in each form in
-which editors save them, wrong, empty and unfinished ones, files that are too long, and files that can't be read. The
-verdict on each follows from what was changed. Then keys that are missing or wrong themselves, hand-ins without a key,
+"""How bsdplay grades the hand-ins of a class. The tests make them from the exercise about drops: right ones in each
+form in which editors save them, wrong, empty and unfinished ones, files that are too long, and files that can't be
+read. The expected verdict follows from what was changed. Then keys that are missing or wrong, hand-ins without a key,
 `--strict`, and the exercises with their keys."""
 import csv
 import io
@@ -20,12 +20,12 @@ KEYS, EXERCISES = TOP / "examples/play", TOP / "examples/exercises"
 EACH_KEY = sorted(it.name for it in KEYS.glob("exercise_*.txt"))
 FIELDS = ["file", "verdict", "right", "wrong", "missing", "first", "note"]
 NOBODY = 65534
-ONE_PROCESS = pytest.mark.xdist_group("grade")  # it has all hand-ins graded, once
+ONE_PROCESS = pytest.mark.xdist_group("grade")  # one process grades all hand-ins, once
 MARK = b"\xef\xbb\xbf"
 
 
 def asked(key):
-    """The places of the key's lines that have an answer."""
+    """Returns the indexes of the key's lines that have an answer."""
     return [at for at, line in enumerate(key) if "=>" in line and not line.startswith("##")]
 
 
@@ -42,17 +42,17 @@ ONE_WRONG, ONE_MISSING = ("failed", ALL - 1, 1, 0), ("failed", ALL - 1, 0, 1)
 
 
 def answered(at, answer):
-    """A line of the key with another answer."""
+    """Returns a line of the key with another answer."""
     return KEY[at].split("=>")[0] + "=> " + answer
 
 
 def changed(lines):
-    """The key with other lines at some places; None takes a line away."""
+    """Returns the key with some lines replaced. None removes a line."""
     return of_lines([it for at, line in enumerate(KEY) if (it := lines.get(at, line)) is not None])
 
 
 def right():
-    """Right hand-ins, in each form."""
+    """Yields right hand-ins, in each form."""
     yield "right.txt", TEXT, WHOLE
     yield 'right, by Ann "A".txt', TEXT, WHOLE
     yield "right\nnamed in two lines.txt", TEXT, WHOLE
@@ -69,7 +69,7 @@ def right():
 
 
 def failed():
-    """Hand-ins with a fault."""
+    """Yields hand-ins with a fault."""
     another = KEY[FIRST].split("=>")[0]
     yield "more_lines.txt", TEXT + "socket => ok 9\n", ("failed", ALL, 0, 0)
     yield "wrong_reply.txt", changed({FIRST: answered(FIRST, "dropped wrong version")}), ONE_WRONG
@@ -88,7 +88,7 @@ def failed():
 
 
 def empty():
-    """Hand-ins without an answer."""
+    """Yields hand-ins without an answer."""
     words = {at: len(KEY[at].split("=>")[1].split()) for at in PLACES}
     yield "expectations_deleted.txt", changed({at: KEY[at].split("=>")[0] for at in PLACES}), EMPTY
     yield "unsolved.txt", changed({at: answered(at, "?") for at in PLACES}), EMPTY
@@ -101,7 +101,7 @@ def empty():
 
 
 def unread():
-    """Hand-ins that are too long or no text, and those that can't be read."""
+    """Yields hand-ins that are too long or aren't text, and those that can't be read."""
     yield "endless.txt", "tick\n" * 4_000_000, UNREAD
     yield "too_long.txt", TEXT + "#" * 65536, UNREAD
     yield "utf16.txt", TEXT.encode("utf-16"), UNREAD
@@ -111,7 +111,7 @@ def unread():
 
 
 def hand_ins():
-    """Each hand-in by its name, with its text, and the verdict with the numbers of right, wrong and missing answers."""
+    """Yields each hand-in: its name, its text, and its verdict with the numbers of right, wrong and missing answers."""
     for kind in (right, failed, empty, unread):
         yield from kind()
 
@@ -120,13 +120,14 @@ VERDICTS = {name: verdict for name, _, verdict in hand_ins()}
 
 
 def lowered():
-    """How a program is run that may not read all files: root may, so it's run as nobody."""
+    """Returns the arguments that run a program without the right to read all files: root runs it as user `nobody`."""
     return {"user": NOBODY, "group": NOBODY, "extra_groups": []} if os.geteuid() == 0 else {}
 
 
 @pytest.fixture(scope="module")
 def room(bsdplay):
-    """A folder with the program, the key and the hand-ins, which nobody may read. pytest's own are closed to nobody."""
+    """A folder with the program, the key and the hand-ins, which the user `nobody` can read. pytest's own can't be
+    read."""
     with tempfile.TemporaryDirectory() as name:
         folder = pathlib.Path(name)
         folder.chmod(0o755)
@@ -142,13 +143,13 @@ def room(bsdplay):
 
 
 def graded(room, *words):
-    """A run over all hand-ins."""
+    """Grades all hand-ins."""
     return run(room / "bsdplay", "--grade", "--key", "key.txt", *words, *VERDICTS, cwd=room, **lowered())
 
 
 @pytest.fixture(scope="module")
 def table(room):
-    """The run that prints a table of all hand-ins, and the table's rows by Python's csv."""
+    """The run that prints a table of all hand-ins, and the table's rows, read by Python's csv."""
     ended = graded(room, "--csv")
     rows = list(csv.reader(io.StringIO(ended.stdout.decode("latin-1"), newline="")))
     same(f"{ended.stderr!r}: rows", len(rows), 1 + len(VERDICTS))
@@ -157,7 +158,7 @@ def table(room):
 
 @pytest.fixture(scope="module")
 def lines(room):
-    """What is printed for people of all hand-ins."""
+    """The plain output for all hand-ins."""
     return graded(room).stdout.decode("latin-1")
 
 
@@ -187,7 +188,7 @@ def test_a_hand_in_has_its_verdict_in_a_line(name, lines):
     assert f"{name}: {verdict}{counts}" in lines, f"no line says {name}: {verdict}{counts}"
 
 
-# ---- keys that are no keys, and hand-ins without one ---------------------------------------------------------------
+# ---- files that aren't keys, and hand-ins without a key ------------------------------------------------------------
 
 BAD_KEYS = {
     "gone.txt": (None, 4),
@@ -202,7 +203,7 @@ BAD_KEYS = {
 
 @pytest.fixture
 def graded_by(bsdplay, tmp_path):
-    """Grades a right hand-in by a key."""
+    """Grades a right hand-in with a key."""
     (tmp_path / "right.txt").write_text(TEXT, encoding="utf-8")
     (tmp_path / "key.txt").write_text(TEXT, encoding="utf-8")
     (tmp_path / "folder.txt").mkdir()
@@ -306,7 +307,7 @@ SOCKET = "socket => ok 3\nbind 3 0.0.0.0 7 => ok\n"
 SHARED = "socket => ok 3\nsetsockopt 3 reuseport 1 => ok\nbind 3 0.0.0.0 7 => ok\n"
 RX = "rx udp 10.0.0.2:5000 > 10.0.0.1:7"
 OVERLAPS = [("e", "0 more size 16"), ("d", "8 more size 16"), ("c", "16 last")]
-# Scripts whose replies show that the answers to a key's questions are right, by the numbers of the exercises.
+# For each exercise, by its number: scripts whose replies show that the key's answers to questions are right.
 PROOFS = {
     "1": SHARED + "socket => ok 4\nsetsockopt 4 reuseport 1 => ok\nbind 4 10.0.0.9 7 => error EADDRNOTAVAIL\n"
     + f'bind 4 10.0.0.1 7 => ok\n{RX} "a" => ok\nrecvfrom 4 9 => from 10.0.0.2 5000 "a"\n',

@@ -1,6 +1,6 @@
-"""What `bsdplay why` says of datagrams whose fragments overlap with other bytes: the checksum that would be right is
-that of the bytes which the stack puts together. The proof is the stack itself: it delivers the same fragments once
-they have this checksum."""
+"""What `bsdplay why` reports about datagrams whose fragments overlap with different bytes: the right checksum is that
+of the bytes that the stack reassembles. The stack itself is the reference: it delivers the same fragments if they
+have this checksum."""
 import json
 import random
 import struct
@@ -17,7 +17,7 @@ CASES = 300
 
 
 def rows(program, packets):
-    """What is printed by `--json` of a capture of these packets, by their records' numbers."""
+    """Returns the output of `--json` for a capture of these packets, by record number."""
     file = header() + b"".join(record("<", 0, 0, it) for it in packets)
     ended = run(program, "why", "-", "--addr", HERE, "--json", script=file)
     assert (ended.returncode, ended.stderr) == (0, b"")
@@ -26,7 +26,7 @@ def rows(program, packets):
 
 
 def pieces(seed, ident, found):
-    """Fragments of a datagram with this checksum: each has its own bytes, but for the UDP header."""
+    """Yields fragments of a datagram with this checksum. Except for the UDP header, each has its own random bytes."""
     rng = random.Random(seed)
     units = rng.randrange(3, 13)
     head = struct.pack("!HHHH", 5000, 7, units * 8, found)
@@ -41,14 +41,14 @@ def pieces(seed, ident, found):
 
 
 def capture(sums):
-    """All datagrams, with these checksums, and a wrong one for the others."""
+    """Returns the fragments of all datagrams, with these checksums, or a wrong one if there is none."""
     return [it for seed in range(CASES) for it in pieces(seed, seed + 1, sums.get(seed, 0x1234))]
 
 
 def test_the_stack_delivers_with_the_sum_that_is_right(bsdplay):
     owners = [seed for seed in range(CASES) for _ in pieces(seed, seed + 1, 0)]
     wrong = {number: it["values"] for number, it in rows(bsdplay, capture({})).items() if "0x1234" in it["values"]}
-    # the last record that completes it, since some fragments come twice
+    # The last record that completes it, because some fragments are sent twice.
     last = {owners[number - 1]: number for number in wrong}
     assert len(last) > CASES * 0.9, "too few datagrams are complete"
     right = {seed: int(wrong[number].split("right would be ")[1], 16) for seed, number in last.items()}
@@ -57,11 +57,11 @@ def test_the_stack_delivers_with_the_sum_that_is_right(bsdplay):
 
 
 def test_a_fragment_wins_over_one_that_begins_after_it(bsdplay):
-    """The sum of the bytes that are right by hand."""
+    """The checksum is that of the bytes worked out by hand."""
     late, early = why_causes.overlapping(0x1234, 50)
     covered = ends(PEER, HERE) + struct.pack("!HHHHHH", UDP, 32, 5000, 7, 32, 0) + why_causes.OVERLAPPED
     assert rows(bsdplay, [late, early])[2]["values"] == f"0x1234, right would be 0x{checksum(covered):04x}"
-    # what came first stays where it begins first
+    # In the other order the result is the same: the fragment that begins earlier keeps its bytes.
     assert rows(bsdplay, [early, late])[2]["values"] == f"0x1234, right would be 0x{checksum(covered):04x}"
 
 
@@ -75,5 +75,5 @@ def test_tshark_agrees_on_the_overlap(bsdplay, tmp_path):
 
 
 def test_the_capture_of_the_golden_file():
-    """It's the one that why_causes.py makes."""
+    """It's the capture that why_causes.py writes."""
     assert why_causes.FILE.read_bytes() == why_causes.capture()

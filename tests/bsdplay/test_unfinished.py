@@ -1,6 +1,7 @@
-"""What `bsdplay why` says of datagrams that don't become whole: they expire, are dropped for their buffers, or are
-unfinished at the end of the capture. The records of the fragments are those that the test put into the capture. By
-`--json`, nothing vanishes: each packet is delivered, dropped with a cause, or has a datagram whose fate is told."""
+"""What `bsdplay why` reports about datagrams that are never complete: they expire, are dropped for their buffers, or
+are unfinished at the end of the capture. The records of the fragments are those that the test wrote to the capture.
+With `--json` no packet is missing: each is delivered, dropped with a cause, or part of a datagram whose fate is
+reported."""
 import json
 import random
 import re
@@ -11,22 +12,22 @@ import pytest
 from tests.packets import HERE, MORE, PEER, datagram, fragment, ip
 from tests.pcaps import header, record
 
-# A datagram that isn't whole is dropped after 60 ticks of half a second.
+# An incomplete datagram is dropped after 60 ticks of half a second.
 LIFE = 30
 
 
 def capture(packets):
-    """A classic file of packets, each with its time in seconds."""
+    """Returns a classic pcap file of packets, each with its time in seconds."""
     return header() + b"".join(record("<", int(time), round(time % 1 * 1e6), packet) for time, packet in packets)
 
 
 def piece(ident, first, last, *, more):
-    """A fragment with zeros in these bytes of its datagram."""
+    """Returns a fragment with zeros, from byte `first` to byte `last` of its datagram."""
     return ip(bytes(last + 1 - first), ident=ident, place=first // 8 | (MORE if more else 0))
 
 
 def why(bsdplay, packets, *words):
-    """What is printed of a capture."""
+    """Returns the output for a capture."""
     ended = subprocess.run([bsdplay, "why", "-", "--addr", HERE, *words], input=capture(packets), capture_output=True,
                            timeout=120, check=False)  # fmt: skip
     assert (ended.returncode, ended.stderr) == (0, b"")
@@ -34,7 +35,7 @@ def why(bsdplay, packets, *words):
 
 
 def objects(bsdplay, packets):
-    """What is printed by `--json`: of packets by their records' numbers, and of datagrams that didn't become whole."""
+    """Returns the objects of `--json`: for packets, by record number, and for datagrams that were never complete."""
     rows = [json.loads(it) for it in why(bsdplay, packets, "--json").splitlines()]
     return {it["number"]: it for it in rows if "number" in it}, [it for it in rows if "datagram" in it]
 
@@ -53,7 +54,7 @@ LATE_LINES = [
 def test_a_datagram_expires(bsdplay):
     lines = why(bsdplay, LATE).splitlines()
     assert [it for it in lines if it in LATE_LINES] == LATE_LINES
-    # it expires before the record comes that is later
+    # It expires before the later record is printed.
     assert lines.index(LATE_LINES[1]) < next(at for at, it in enumerate(lines) if it.startswith("3  40.500000"))
     assert objects(bsdplay, LATE)[1] == [
         {"datagram": f"{WAY}, id 7", "fate": "expired", "records": [1]},
@@ -64,13 +65,13 @@ def test_a_datagram_expires(bsdplay):
 
 @pytest.mark.parametrize("seconds, expires", [(LIFE - 0.5, False), (LIFE, True)])
 def test_after_thirty_seconds(seconds, expires, bsdplay):
-    """The one that began in the first half second is dropped by the sixtieth tick."""
+    """A datagram that began in the first half second is dropped by the sixtieth tick."""
     told = objects(bsdplay, [(0, piece(7, 0, 7, more=True)), (seconds, datagram(b"hi"))])[1]
     assert [it["fate"] for it in told] == ["expired" if expires else "unfinished"]
 
 
 def test_records_of_an_unfinished_datagram(bsdplay):
-    """Those of another datagram with the same identification aren't among them."""
+    """The records of another datagram with the same identification aren't listed."""
     other = ip(bytes(8), ("10.0.0.3", HERE), ident=7, place=MORE)
     parts = [piece(7, 0, 7, more=True), other, piece(7, 16, 23, more=True), piece(7, 32, 39, more=True)]
     lines = why(bsdplay, [(0, it) for it in parts]).splitlines()
@@ -79,7 +80,7 @@ def test_records_of_an_unfinished_datagram(bsdplay):
 
 
 def test_a_flood_of_first_fragments(bsdplay):
-    """5,000 of them within 5 seconds: more than the pool has clusters for."""
+    """5,000 first fragments in 5 seconds: more than there are clusters."""
     flood = [(number / 1000, piece(number, 0, 1471, more=True)) for number in range(1, 5001)]
     rows, told = objects(bsdplay, flood)
     assert {it["became"].split(": ")[0] for it in rows.values()} == {"kept"}
@@ -106,7 +107,7 @@ def test_an_empty_fragment(bsdplay):
 
 @pytest.mark.parametrize("size, fits", [(41_584, True), (41_585, False)])
 def test_a_datagram_longer_than_a_receive_queue(size, fits, bsdplay):
-    """An empty queue takes 41,600 bytes, and the sender's address is 16 of them."""
+    """An empty queue accepts 41,600 bytes, including 16 for the sender's address."""
     whole = datagram(bytes(size))
     units = range(0, (len(whole) - 20 + 7) // 8, 180)
     told = why(bsdplay, [(0, fragment(whole, first, 179)) for first in units])
@@ -114,7 +115,7 @@ def test_a_datagram_longer_than_a_receive_queue(size, fits, bsdplay):
 
 
 def random_capture(seed):
-    """Whole datagrams, fragments with holes and overlaps, and pauses in which some expire."""
+    """Returns complete datagrams, fragments with holes and overlaps, and pauses in which some datagrams expire."""
     rng, time, packets = random.Random(seed), 0.0, []
     for _ in range(150):
         time += rng.choice((0, 0.001, 0.5, 3, 31 if rng.randrange(20) == 0 else 0))
@@ -129,7 +130,7 @@ def random_capture(seed):
 
 @pytest.mark.parametrize("seed", range(20))
 def test_no_packet_vanishes(seed, bsdplay):
-    """A packet that is kept is one of a datagram that is whole later, or of one whose fate is told, and of one alone."""
+    """A packet that is kept belongs to exactly one datagram, which is completed later or whose fate is reported."""
     packets = random_capture(seed)
     rows, told = objects(bsdplay, packets)
     assert sorted(rows) == list(range(1, len(packets) + 1))

@@ -1,8 +1,8 @@
-"""`bsdplay why` beside tshark: for each packet both have to agree on the header checksum and the UDP checksum, on the
-values that would be right, on the records that make a datagram whole, and on how many packets were for the machine.
-The captures are scapy's, with faults by a seed, whole and cut at 60 bytes; tcpdump's, of Linux's datagrams on a veth
-pair; and those by which tcpdump itself is tested, for the two hosts that receive most of their datagrams. A capture in
-another format, from a pipe, or behind 20 MiB of other records has to be judged in the same way."""
+"""`bsdplay why` compared with tshark: both must agree, for each packet, on the header checksum and the UDP checksum, on
+the right values, on the records that complete a datagram, and on the number of packets for the host. The captures are
+made by scapy, with faults from a seed, whole and cut at 60 bytes; by tcpdump, from Linux's datagrams on a veth pair;
+and those of tcpdump's own tests, for the two hosts that receive most of their datagrams. A capture in another format,
+from a pipe, or after 20 MiB of other records must be judged in the same way."""
 import collections
 import functools
 import gzip
@@ -26,7 +26,7 @@ SEEDS, PACKETS = range(1, 7), 200
 FIELDS = ("frame.number", "ip.checksum.status", "ip.checksum", "ip.checksum_calculated", "udp.checksum.status",
           "udp.checksum", "udp.checksum_calculated", "ip.fragment", "ip.reassembled_in", "frame.len", "frame.cap_len",
           "frame.protocols", "ip.proto", "ip.flags.mf", "ip.frag_offset")  # fmt: skip
-# IPv4 right behind a link's header that bsdplay knows, as tshark names the protocols of a record.
+# tshark's protocols of a record in which IPv4 directly follows a link header that bsdplay knows.
 DIRECT = re.compile(r"(eth:ethertype(:vlan:ethertype)*|raw|null|loop|sll(:ethertype)?):ip(:|$)")
 BAD, GOOD, NONE = "0", "1", "3"
 SENT = (0, 1, 2, 100, 1472, 1473, 3000, 9000, 40_000)
@@ -35,7 +35,7 @@ SENT = (0, 1, 2, 100, 1472, 1473, 3000, 9000, 40_000)
 
 
 def datagram(chance, number, size=None, to=HERE):
-    """A random datagram."""
+    """Returns a random datagram."""
     from scapy.all import IP, UDP, Raw  # noqa: PLC0415
 
     size = chance.choice((0, 1, 2, 9, 100, 1472)) if size is None else size
@@ -45,7 +45,7 @@ def datagram(chance, number, size=None, to=HERE):
 
 
 def pseudo_sum(packet):
-    """The checksum that a network card is left to complete."""
+    """Gives a packet the partial checksum that a network card completes."""
     from scapy.all import UDP  # noqa: PLC0415
 
     covered = struct.pack("!BBH", 0, 17, packet[UDP].len)
@@ -54,7 +54,7 @@ def pseudo_sum(packet):
 
 
 def with_fault(chance, packet, kind):
-    """A datagram with the fault of that number, or another packet."""
+    """Returns a datagram with the fault of this number, or another packet."""
     from scapy.all import ICMP, IP, UDP  # noqa: PLC0415
 
     if kind == 0:
@@ -75,7 +75,7 @@ def with_fault(chance, packet, kind):
 
 
 def fragments(chance, number):
-    """The fragments of a datagram in any order. Some datagrams are damaged, and some lack a fragment."""
+    """Returns the fragments of a datagram in any order. Some datagrams are damaged, and some lack a fragment."""
     from scapy.all import UDP, fragment  # noqa: PLC0415
 
     whole = datagram(chance, number, chance.choice((1473, 3000, 9000)))
@@ -89,7 +89,7 @@ def fragments(chance, number):
 
 
 def by_scapy(seed, path, _):
-    """Datagrams with faults, fragments in any order, and other protocols."""
+    """Writes a capture of datagrams with faults, fragments in any order, and other protocols."""
     from scapy.all import Ether, wrpcap  # noqa: PLC0415
 
     chance, packets, waiting = random.Random(seed), [], []
@@ -131,7 +131,7 @@ tcpdump.wait(20)
 
 
 def by_linux(snapshot, path, _):
-    """What tcpdump captures of Linux's own datagrams, in a network namespace."""
+    """Writes a capture of Linux's own datagrams by tcpdump, in a network namespace."""
     words = [sys.executable, TOP / "conform/tests/veth.py", sys.executable, "-c", LINUX, str(snapshot), path]
     ended = subprocess.run(words, capture_output=True, timeout=120, check=False)
     if ended.returncode:
@@ -139,7 +139,7 @@ def by_linux(snapshot, path, _):
 
 
 def big_endian(path, made):
-    """A pcapng file of a host with the other byte order."""
+    """Writes a pcapng file in the other byte order."""
     from scapy.all import PcapNgWriter, rdpcap  # noqa: PLC0415
 
     with PcapNgWriter(str(path)) as writer:
@@ -149,7 +149,7 @@ def big_endian(path, made):
 
 
 def behind_others(path, made):
-    """A capture behind 320 records of 64 KiB."""
+    """Writes a capture after 320 records of 64 KiB."""
     from scapy.all import Ether, Raw, wrpcap  # noqa: PLC0415
 
     filler = path.with_name("filler.pcap")
@@ -161,21 +161,21 @@ def behind_others(path, made):
 
 
 def edited(source, words, path, made):
-    """Another capture, as editcap writes it."""
+    """Writes another capture with editcap."""
     subprocess.run(["editcap", *words, made(source), path], check=True)
 
 
 def two_interfaces(path, made):
-    """A capture of an Ethernet and of an interface without a link's header."""
+    """Writes a capture of an Ethernet, and of an interface without a link header."""
     subprocess.run(["mergecap", "-w", path, made("seed-1.pcap"), made("raw.pcap")], check=True)
 
 
 def two_sections(path, made):
-    """A pcapng file with sections in both byte orders."""
+    """Writes a pcapng file with sections in both byte orders."""
     path.write_bytes(made("big_endian.pcapng").read_bytes() + made("interfaces.pcapng").read_bytes())
 
 
-# How each capture is made. A maker is given its path, and a function that makes the captures that it's made of.
+# How each capture is made. A maker gets its path, and a function that makes the captures it needs.
 MAKERS = {
     **{f"seed-{it}.pcap": functools.partial(by_scapy, it) for it in SEEDS},
     "cut.pcap": functools.partial(edited, "seed-1.pcap", ["-F", "pcap", "-s", "60"]),
@@ -193,7 +193,7 @@ MAKERS = {
 
 @pytest.fixture
 def made(once):
-    """Gives the path of a capture of MAKERS. Each is made once, for all processes."""
+    """made(NAME) returns the path of a capture in MAKERS. Each is made once, for all processes."""
 
     def path_of(name):
         return once(f"why-{name}", lambda folder: MAKERS[name](folder / name, path_of)) / name
@@ -201,18 +201,18 @@ def made(once):
     return path_of
 
 
-# ---- what both say -------------------------------------------------------------------------------------------------
+# ---- comparison ----------------------------------------------------------------------------------------------------
 
 
 def judged(program, path, *words, piped=b""):
-    """What `bsdplay why` says of each record, by its number, and the status."""
+    """Returns what `bsdplay why` reports for each record, by its number, and the status."""
     ended = run(program, "why", path, "--json", *words, script=piped)
     rows = map(json.loads, ended.stdout.splitlines())
     return {it["number"]: it for it in rows if "number" in it}, ended.returncode
 
 
 def by_tshark(path):
-    """The first value of each field that tshark prints for each record with IPv4, by the record's number."""
+    """Returns the first value of each field that tshark prints for each record with IPv4, by the record's number."""
     words = ["tshark", "-2", "-n", "-r", path, "-o", "ip.check_checksum:TRUE", "-o", "udp.check_checksum:TRUE",
              "-Y", "ip", "-T", "json", *(word for it in FIELDS for word in ("-e", it)), "-e", "ip.dst"]  # fmt: skip
     ended = subprocess.run(words, capture_output=True, timeout=300, check=True)
@@ -222,7 +222,7 @@ def by_tshark(path):
 
 
 def records_in(became):
-    """The records that are named as those of a datagram."""
+    """Returns the records that are listed as those of a datagram."""
     if "is whole with records " not in became:
         return None
     words = became.split("is whole with records ")[1].split(" => ")[0]
@@ -230,7 +230,7 @@ def records_in(became):
 
 
 def other_checksum(it, row, layer, cause):
-    """How a checksum is judged otherwise than by tshark, and whether it's the cause for which the packet is dropped."""
+    """Yields how the verdict on a checksum differs from tshark's, including whether it's the cause of the drop."""
     status, is_cause = row.get(f"{layer}.checksum.status"), it["cause"] == cause
     if is_cause != (status == BAD):
         yield f"{it['became']}, and tshark's status of the checksum is {status}"
@@ -240,7 +240,7 @@ def other_checksum(it, row, layer, cause):
 
 
 def differences(it, row, parts):
-    """How a record is judged otherwise than by tshark, which has `parts` as the records of its datagram."""
+    """Yields how the verdict on a record differs from tshark's, for which `parts` are the records of its datagram."""
     cause, became, status = it["cause"], it["became"], row.get("udp.checksum.status")
     if it["values"] not in became:
         yield f"{became}, and by themselves the values are {it['values']}"
@@ -260,7 +260,7 @@ def differences(it, row, parts):
 
 
 def fragments_of(rows):
-    """The records of each datagram of several fragments, by the record that makes it whole."""
+    """Returns the records of each datagram in several fragments, by the record that completes it."""
     others = collections.defaultdict(list)
     for number, row in rows.items():
         if "ip.reassembled_in" in row:
@@ -269,7 +269,7 @@ def fragments_of(rows):
 
 
 def compare(program, path, *words, address=HERE, rows=None):
-    """The differences between what bsdplay says of a capture and what tshark does, for the host with this address."""
+    """Yields the differences between bsdplay's and tshark's verdicts on a capture, for the host with this address."""
     judgements, status = judged(program, path, *words)
     rows = by_tshark(path) if rows is None else rows
     same(f"bsdplay why {path.name} {words}: status", status, 0)
@@ -283,7 +283,7 @@ def compare(program, path, *words, address=HERE, rows=None):
 
 
 def agree(found):
-    """Fails the test by its first differences."""
+    """Fails the test with the first differences, if there are any."""
     if found:
         pytest.fail("\n".join(found[:20]), pytrace=False)
 
@@ -295,7 +295,7 @@ OF_LINUX = ["linux.pcap", "linux-60.pcap"]
 
 
 def test_the_page_shows_what_is_printed(bsdplay):
-    """Each line of the example in docs/captures.md."""
+    """The output has each line of the example in docs/captures.md."""
     printed = run(bsdplay, "why", TOP / "examples/play/faults.pcap").stdout.decode().splitlines()
     page = (TOP / "docs/captures.md").read_text(encoding="utf-8")
     block = page.split("examples/play`:\n\n")[1].split("\n\nRecord numbers")[0]
@@ -305,7 +305,7 @@ def test_the_page_shows_what_is_printed(bsdplay):
 @pytest.mark.needs("tshark", "editcap", "mergecap", "scapy")
 @pytest.mark.parametrize("name", OF_SCAPY)
 def test_tshark_agrees_on_each_packet_of_scapy(name, bsdplay, made):
-    """For the cut capture bsdplay finds the host's address by itself."""
+    """bsdplay finds the host's address in the cut capture."""
     words = [] if name == "cut.pcap" else ["--addr", HERE]
     agree(list(compare(bsdplay, made(name), *words)))
 
@@ -318,7 +318,7 @@ def test_tshark_agrees_on_each_packet_of_linux(name, bsdplay, made):
 
 @pytest.fixture
 def of_tcpdump(once):
-    """The captures in tcpdump's sources that may have a packet of IPv4."""
+    """The captures in tcpdump's sources that may contain an IPv4 packet."""
 
     def fetch(folder):
         words = [TOP / "tools/debian-source", folder, "tcpdump"]
@@ -332,14 +332,14 @@ def of_tcpdump(once):
 
 
 def may_have_datagrams(path: pathlib.Path):
-    """Whether a capture has a link type that bsdplay knows, and on an Ethernet the number that stands for IPv4."""
+    """Returns whether a capture has a link type that bsdplay knows and, on an Ethernet, the bytes of an IPv4 type."""
     data = path.read_bytes()
     (link,) = struct.unpack(">H" if data[:1] == b"\xa1" else "<H", data[22:24] if data[:1] == b"\xa1" else data[20:22])
     return link in (0, 12, 14, 101, 108, 113, 228, 276) or (link == 1 and b"\x08\x00\x45" in data)
 
 
 def busiest(rows):
-    """The two hosts that most datagrams and fragments go to."""
+    """Returns the two hosts that receive the most datagrams and fragments."""
     to = collections.Counter(
         row["ip.dst"] for row in rows.values() if row.get("ip.proto") == "17" or row.get("ip.flags.mf") in ("1", "True")
     )
@@ -354,7 +354,7 @@ PARTS = 16
 @pytest.mark.needs("tshark", "dpkg-source")
 @pytest.mark.parametrize("part", range(PARTS))
 def test_tshark_agrees_on_the_captures_of_tcpdump(part, bsdplay, of_tcpdump):
-    """Each sixteenth one."""
+    """Every sixteenth capture."""
     assert len(of_tcpdump) > 100, f"only {len(of_tcpdump)} captures"
     found = []
     for path in of_tcpdump[part::PARTS]:

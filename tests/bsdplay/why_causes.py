@@ -1,5 +1,5 @@
-"""The capture of a golden file of `bsdplay why`: a packet for each cause, a datagram in overlapping fragments, and one
-in more fragments than a line lists. `python3 -m tests.bsdplay.why_causes` writes it anew."""
+"""The capture for a golden file of `bsdplay why`: a packet for each cause, a datagram in overlapping fragments, and one
+in more fragments than a line lists. `python3 -m tests.bsdplay.why_causes` writes it again."""
 from __future__ import annotations
 
 import pathlib
@@ -12,33 +12,33 @@ FILE = pathlib.Path(__file__).resolve().parent / "goldens/why_causes.pcap"
 
 
 def resummed(packet: bytes) -> bytes:
-    """The packet with the right header checksum."""
+    """Returns the packet with the right header checksum."""
     head = packet[:10] + bytes(2) + packet[12:20]
     return packet[:10] + struct.pack("!H", checksum(head)) + packet[12:]
 
 
 def overlapping(found: int, ident: int) -> list[bytes]:
-    """Two fragments of a datagram with this checksum. The second one begins before the first one and reaches into it,
-    with other bytes: those of the second one stay, since it begins before the first one."""
+    """Returns two fragments of a datagram with this checksum. The second one begins before the first one and overlaps
+    it with other bytes: its bytes are kept, because it begins earlier."""
     head = struct.pack("!HHHH", 5000, 7, 32, found)
     late = ip(b"B" * 8 + b"C" * 16, ident=ident, place=1)
     early = ip(head + b"A" * 8, ident=ident, place=MORE)
     return [late, early]
 
 
-# What the stack puts together of them, without the header.
+# The bytes that the stack reassembles from them, without the header.
 OVERLAPPED = b"A" * 8 + b"C" * 16
 
 
 def many(ident: int) -> list[bytes]:
-    """A datagram with a wrong checksum in 66 fragments."""
+    """Returns a datagram with a wrong checksum in 66 fragments."""
     whole = bytearray(datagram(bytes(range(256)) * 2 + bytes(8), ident=ident))
     whole[26] ^= 1
     return [fragment(bytes(whole), first, 0) for first in range(66)]
 
 
 def packets() -> list[tuple[bytes, int | None]]:
-    """The packets, each with the number of bytes that the capture kept of it if that isn't all."""
+    """Returns the packets, each with the captured number of bytes if that isn't all of it."""
     plain = datagram(b"hello", ident=1)
     wrong = bytearray(plain)
     wrong[26] ^= 1
@@ -68,7 +68,7 @@ def packets() -> list[tuple[bytes, int | None]]:
 
 
 def capture() -> bytes:
-    """The file: a packet each millisecond."""
+    """Returns the file, with one packet each millisecond."""
     records = (
         record("<", 0, at * 1000, packet[:kept], original=len(packet)) for at, (packet, kept) in enumerate(packets())
     )
