@@ -1,5 +1,5 @@
-"""Cases: what a program is given, and what it answers. One that has nothing but words, a script and replies can also be
-tried by `rt try --cases`, without a proof and without a built program."""
+"""Cases: the input of a program, and its expected output. A case with only arguments, a script and replies can also be
+played by `rt try --cases`, without a proof and without a built program."""
 from __future__ import annotations
 
 import itertools
@@ -19,8 +19,8 @@ Row = "tuple[str, str]"
 
 
 class Case(NamedTuple):
-    """A run of bsdudp. `place` is a file or a table that the replies stand in. `rt try` plays a case only if `by_rt` is
-    set: it takes half a second for each."""
+    """A run of bsdudp. `place` is the file or table with the replies. `rt try` plays a case only if `by_rt` is set,
+    because it takes half a second for each."""
 
     name: str
     words: Sequence[str]
@@ -33,19 +33,20 @@ class Case(NamedTuple):
 
 
 def each(cases: Iterable[Case | Golden]) -> pytest.MarkDecorator:
-    """Has a test tried with each of these cases, by their names."""
+    """Parametrizes a test by these cases, which have names."""
     made = list(cases)
     return pytest.mark.parametrize("case", made, ids=[it.name for it in made])
 
 
 def dialog(name: str, words: Sequence[str], rows: Sequence[tuple[str, str]]) -> Case:
-    """A case of lines, each with its reply."""
+    """Returns a case of lines, each with its reply."""
     script, replies = ("".join(f"{it}\n" for it in column).encode() for column in zip(*rows))
     return Case(name, words, script, replies, by_rt=False)
 
 
 def of_folder(folder: str, command: str) -> Iterator[Case]:
-    """The scripts NAME.txt of a folder, with their words in NAME.txt.args and their replies in NAME.txt.stdout."""
+    """Yields the scripts NAME.txt in a folder, with their options in NAME.txt.args and their replies in
+    NAME.txt.stdout."""
     for path in sorted((TOP / folder).glob("*.txt")):
         args = path.with_name(f"{path.name}.args")
         words = args.read_text(encoding="utf-8").splitlines() if args.exists() else []
@@ -56,13 +57,13 @@ def of_folder(folder: str, command: str) -> Iterator[Case]:
 
 
 def short(text: bytes) -> str:
-    """A text for a message."""
+    """Returns a text, shortened for a message."""
     shown = text.decode(errors="backslashreplace")
     return shown if len(shown) <= SHOWN else f"{shown[:SHOWN]}.. ({len(shown)} characters)"
 
 
 def other_line(wanted: bytes, came: bytes) -> tuple[int, str]:
-    """The number of the first line that came otherwise, from 0 on, and both of it for a message."""
+    """Returns the number of the first line that differs, from 0 on, and both versions of it for a message."""
     rows = itertools.zip_longest(wanted.split(b"\n"), came.split(b"\n"), fillvalue=None)
     at, both = next((n, it) for n, it in enumerate(rows) if it[0] != it[1])
     one, other = ("(nothing)" if it is None else short(it) for it in both)
@@ -70,7 +71,7 @@ def other_line(wanted: bytes, came: bytes) -> tuple[int, str]:
 
 
 def difference(case: Case, status: int, replies: bytes, said: bytes | None) -> str | None:
-    """What came out otherwise than the case has it, or None. The first other line is shown with what asked for it."""
+    """Returns how the output differs from the case, or None. The first different line is printed with its request."""
     where = f"bsdudp {' '.join(case.words)}" + (f" < {case.place}" if case.place.endswith(".txt") else "")
     if replies != case.replies:
         asked = case.script.split(b"\n")
@@ -85,14 +86,14 @@ def difference(case: Case, status: int, replies: bytes, said: bytes | None) -> s
 
 
 def run(program: pathlib.Path, case: Case) -> str | None:
-    """Plays a case by a built program."""
+    """Plays a case with a built program."""
     done = subprocess.run([program, *case.words], input=case.script, capture_output=True, check=False)
     return difference(case, done.returncode, done.stdout, done.stderr)
 
 
 def tried(cases: Sequence[Case]) -> dict[str, str]:
-    """Plays cases by bsdudp, in one `rt try`. Returns the differences, by the cases' names. rt doesn't compare standard
-    error."""
+    """Plays cases with bsdudp in one `rt try`. Returns the differences, by the cases' names. rt doesn't compare
+    standard error."""
     with tempfile.TemporaryDirectory() as room:
         known = written(pathlib.Path(room), cases)
         done = rt_try("bsdudp", room)
@@ -110,7 +111,7 @@ def tried(cases: Sequence[Case]) -> dict[str, str]:
 
 
 def written(folder: pathlib.Path, cases: Iterable[Case]) -> dict[str, Case]:
-    """Writes cases as the files that `rt try --cases` reads. Returns them by the names of their files."""
+    """Writes cases as the files that `rt try --cases` reads. Returns the cases by the names of their files."""
     known = {}
     for number, case in enumerate(cases):
         name = f"{number}_" + re.sub(r"\W+", "_", case.name)

@@ -1,4 +1,4 @@
-"""Golden files: everything that bsdplay prints for a script. The test compares it, tools/goldens writes it."""
+"""Golden files: everything that bsdplay prints for a script. The test compares them, tools/goldens writes them."""
 from __future__ import annotations
 
 import difflib
@@ -11,14 +11,14 @@ from typing import Iterable, Iterator, NamedTuple
 
 TOP = pathlib.Path(__file__).resolve().parent.parent
 PLAY = TOP / "examples/play"
-# Command lines that have a golden file: NAME.args has a word a line, NAME.status the status if it isn't 0.
+# Command lines with a golden file: NAME.args has one argument on each line, NAME.status the status if it isn't 0.
 LINES = TOP / "tests/bsdplay/goldens"
-# A failure shows so many differences, and so many characters of a line.
+# The differences that a failure shows, and the characters of a line.
 SHOWN, WIDEST = 6, 160
 
 
 class Golden(NamedTuple):
-    """A command line of bsdplay and the file with its output. A word that is the path of a file is relative to the
+    """A command line of bsdplay and the file with its output. An argument that is the path of a file is relative to the
     top."""
 
     name: str
@@ -29,23 +29,23 @@ class Golden(NamedTuple):
 
 
 class Stop(Exception):
-    """Why nothing could be played."""
+    """The reason why nothing could be played."""
 
 
 class Output(NamedTuple):
-    """What a run printed, and its status."""
+    """The output of a run, and its status."""
 
     text: bytes
     status: int
 
 
 def scripts() -> list[pathlib.Path]:
-    """The scripts for people."""
+    """Returns the play scripts."""
     return [it for folder in ("", "wire", "ether") for it in sorted((PLAY / folder).glob("*.txt"))]
 
 
 def each() -> Iterator[Golden]:
-    """The plain output of each script for people, and then the command lines of `LINES`."""
+    """Yields the plain output of each play script, and then the command lines in `LINES`."""
     for script in scripts():
         path = str(script.relative_to(TOP))
         yield Golden(str(script.relative_to(PLAY)), [path], script.with_name(f"{script.name}.stdout"), 0)
@@ -60,7 +60,7 @@ def each() -> Iterator[Golden]:
 
 
 def left_over() -> list[str]:
-    """The golden files that no command line has."""
+    """Returns the golden files without a command line."""
     known = {it.file for it in each()}
     found = [*PLAY.rglob("*.stdout"), *LINES.glob("*.stdout"), *LINES.glob("*.status")]
     return [str(it.relative_to(TOP)) for it in found if it.with_suffix(".stdout") not in known]
@@ -74,7 +74,7 @@ def played(program: pathlib.Path, golden: Golden) -> Output:
 
 
 def rt_try(crate: str, room: str) -> subprocess.CompletedProcess[bytes]:
-    """Plays the cases of a folder by `rt try`, which compiles the program once and proves nothing."""
+    """Plays the cases in a folder by `rt try`, which compiles the program once and proves nothing."""
     words = ["rt", "try", "--cases", room]
     return subprocess.run(
         words, cwd=TOP / "crates" / crate, stdin=subprocess.DEVNULL, capture_output=True, check=False
@@ -82,7 +82,8 @@ def rt_try(crate: str, room: str) -> subprocess.CompletedProcess[bytes]:
 
 
 def tried(goldens: Iterable[Golden]) -> dict[str, Output]:
-    """Runs the bsdplay that `rt try` compiles and doesn't prove: one build for all. A run that stops has no output."""
+    """Runs the bsdplay that `rt try` compiles without a proof, in one build for all. A run that aborts has no
+    output."""
     known = {re.sub(r"\W+", "_", it.name): it for it in goldens}
     with tempfile.TemporaryDirectory() as room:
         for name, golden in known.items():
@@ -90,7 +91,7 @@ def tried(goldens: Iterable[Golden]) -> dict[str, Output]:
             words = (str(TOP / it) if (TOP / it).is_file() else it for it in golden.words)
             (pathlib.Path(room) / f"{name}.args").write_text("".join(f"{it}\n" for it in words), encoding="utf-8")
         done = rt_try("bsdplay", room)
-    # rt gives the program another name
+    # rt runs the program under another name.
     text = done.stdout.replace(f"{TOP}/".encode(), b"").replace(b"Usage: program ", b"Usage: bsdplay ")
     blocks = re.split(rb"(?m)^== (\w+)\n", text)
     said = done.stderr.decode(errors="replace")
@@ -106,12 +107,12 @@ def tried(goldens: Iterable[Golden]) -> dict[str, Output]:
 
 
 def text_lines(text: bytes) -> list[str]:
-    """The lines of an output, for a message."""
+    """Returns the lines of an output, for a message."""
     return text.decode("utf-8", "backslashreplace").splitlines()
 
 
 def asked(lines: list[str], at: int) -> str:
-    """Which line of the script an output's line is about."""
+    """Returns the script's line that a line of the output is about."""
     for line in reversed(lines[: at + 1]):
         if line.startswith('{"number":'):
             return f"line {json.loads(line)['number']} of the script"
@@ -123,14 +124,14 @@ def asked(lines: list[str], at: int) -> str:
 
 
 def shown(lines: list[str]) -> list[str]:
-    """Lines for a message, each cut to what can be read."""
+    """Returns lines for a message, each shortened."""
     cut = [it if len(it) <= WIDEST else f"{it[:WIDEST]}.. ({len(it)} characters)" for it in lines[:SHOWN]]
     more = len(lines) - SHOWN
     return (cut or ["(nothing)"]) + [f"and {more} more lines"] * (more > 0)
 
 
 def differences(wanted: bytes, came: bytes) -> Iterator[str]:
-    """Each place where an output differs: the script's line, what was wanted and what came."""
+    """Yields each difference of an output: the script's line, the expected lines and the printed ones."""
     old, new = text_lines(wanted), text_lines(came)
     for what, at, to, begin, end in difflib.SequenceMatcher(None, old, new, autojunk=False).get_opcodes():
         if what != "equal":
@@ -141,7 +142,7 @@ def differences(wanted: bytes, came: bytes) -> Iterator[str]:
 
 
 def fault(golden: Golden, output: Output | None) -> str | None:
-    """What came otherwise than the golden file has it, or None."""
+    """Returns how the output differs from the golden file, or None."""
     called = f"bsdplay {' '.join(golden.words)}"
     if output is None:
         return f"{called}: it stopped before its end"
@@ -159,12 +160,12 @@ def fault(golden: Golden, output: Output | None) -> str | None:
 
 
 def run(program: pathlib.Path, golden: Golden) -> str | None:
-    """Plays a golden file's command line by a built bsdplay."""
+    """Plays a golden file's command line with a built bsdplay."""
     return fault(golden, played(program, golden))
 
 
 def faults(goldens: Iterable[Golden]) -> dict[str, str]:
-    """What comes otherwise by `rt try`, by the names of the golden files."""
+    """Returns the differences that `rt try` finds, by the names of the golden files."""
     known = {it.name: it for it in goldens}
     try:
         outputs = tried(known.values())

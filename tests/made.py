@@ -1,6 +1,6 @@
-"""What is made of both proved static libraries once, for all tests and for dist/build, and stays in page/out and
+"""What is made from both proved static libraries once, for all tests and for dist/build, and kept in page/out and
 portable/out: the LLVM modules, the page, the portable C, and the C library for each processor. These are fixtures: the
-conftest.py of a folder imports those that its tests take."""
+conftest.py of a folder imports those that its tests use."""
 from __future__ import annotations
 
 import os
@@ -15,25 +15,25 @@ from tests.conftest import left_out
 from tools.built import is_new
 
 OUT = TOP / "portable/out"
-# Where the module of a crate is kept.
+# The files of the crates' modules.
 KEPT = {"libbsdudp": OUT, "page": TOP / "page/out"}
 
 
 def made(*words: object) -> None:
-    """Runs a script that makes something. What it says fails the test if it ends otherwise than with 0."""
+    """Runs a script that makes something. A status other than 0 fails the test with the script's output."""
     done = subprocess.run([*map(str, words)], cwd=TOP, capture_output=True, text=True, check=False)
     if done.returncode:
         pytest.fail(f"{words[0]}: {(done.stdout + done.stderr).strip()[-2000:]}", pytrace=False)
 
 
 def is_proved(crate: str) -> bool:
-    """Whether a static library is proved of these sources. `rt ci` keeps no file of it."""
+    """Returns whether a static library is proved from these sources. `rt ci` keeps no file of it."""
     return bool(os.environ.get("BSDUDP_BUILT")) or is_new(TOP / f"crates/{crate}/out/lib{crate}.a", crate)
 
 
 @pytest.fixture(scope="session")
 def module(once, request) -> Callable[[str], pathlib.Path]:
-    """module(CRATE) is the LLVM module of a static library, of which its WebAssembly module lies beside it."""
+    """module(CRATE) returns the LLVM module of a static library. The WebAssembly module is in the same folder."""
 
     def of(crate: str) -> pathlib.Path:
         if crate == "libbsdudp":  # capi/build takes what stands in portable/out; they aren't made side by side
@@ -48,7 +48,7 @@ def module(once, request) -> Callable[[str], pathlib.Path]:
 
 @pytest.fixture(scope="session")
 def page(once, module) -> pathlib.Path:
-    """The page, with page.wasm beside it."""
+    """The page, with page.wasm in the same folder."""
     module("page")
     once("page", lambda _: made("page/build"))
     return TOP / "page/out/bsdudp.html"
@@ -56,7 +56,7 @@ def page(once, module) -> pathlib.Path:
 
 @pytest.fixture(scope="session")
 def portable_c(once, module) -> pathlib.Path:
-    """The portable C, with its header beside it."""
+    """The portable C, with its header in the same folder."""
     module("libbsdudp")
     once("portable-c", lambda _: made("portable/build", OUT))
     return OUT / "bsdudp_portable.c"
@@ -64,8 +64,8 @@ def portable_c(once, module) -> pathlib.Path:
 
 @pytest.fixture(scope="session")
 def core_for(once, module) -> Callable[..., pathlib.Path]:
-    """core_for(TARGET, options of portable/core ..) is a folder with the C library for a processor. Without options it
-    stays in portable/out/core for dist/build."""
+    """core_for(TARGET, OPTIONS OF portable/core ..) returns a folder with the C library for a processor. Without
+    options it's kept in portable/out/core for dist/build."""
 
     def of(target: str, *options: str) -> pathlib.Path:
         module("libbsdudp")

@@ -1,4 +1,4 @@
-"""What tests need beside Python and pytest: how each tool is found, and which package of Debian has it."""
+"""What tests need besides Python and pytest: how each tool is found, and which Debian package has it."""
 from __future__ import annotations
 
 import functools
@@ -10,8 +10,8 @@ from typing import Callable, NamedTuple
 
 
 class Tool(NamedTuple):
-    """Whether it's there, the packages of Debian that have it (none: the machine has it or not), and another word for
-    what's lacking then."""
+    """Whether the tool is there, the Debian packages that have it (none: the computer has it or not), and another name
+    for what is missing."""
 
     is_there: Callable[[], bool]
     package: str = ""
@@ -27,7 +27,7 @@ def module(name: str) -> Callable[[], bool]:
 
 
 def includes(header: str) -> Callable[[], bool]:
-    """Whether the C compiler knows a header."""
+    """Returns whether the C compiler finds a header."""
 
     def known() -> bool:
         words = [os.environ.get("CC", "cc"), "-E", "-"]
@@ -40,7 +40,7 @@ def includes(header: str) -> Callable[[], bool]:
 
 
 def links(*words: str) -> Callable[[], bool]:
-    """Whether the C compiler makes a program by these words that can be run."""
+    """Returns whether the C compiler builds a program with these arguments that can be run."""
 
     def known() -> bool:
         script = 'd=$(mktemp -d) && trap "rm -rf $d" EXIT && echo "int main(void){return 0;}" > $d/a.c &&'
@@ -51,7 +51,7 @@ def links(*words: str) -> Callable[[], bool]:
 
 
 def runs(*words: str) -> Callable[[], bool]:
-    """Whether a command ends with status 0."""
+    """Returns whether a command ends with status 0."""
 
     def known() -> bool:
         return command(words[0])() and not subprocess.run(words, capture_output=True, check=False).returncode
@@ -126,6 +126,6 @@ TOOLS = {
 
 @functools.lru_cache(maxsize=None)
 def lacks(name: str) -> str:
-    """Why a test that needs this is skipped, or nothing. A name that isn't known is an error of the test."""
+    """Returns why a test that needs this tool is skipped, or an empty text. An unknown name is an error in the test."""
     tool = TOOLS[name]
     return "" if tool.is_there() else tool.what or f"no {name}: apt-get install {tool.package}"

@@ -1,5 +1,5 @@
-"""Linux's own UDP as the peer: datagrams go by a TUN device to the built program and back (examples/bridge/echo.py),
-for each MTU in a network namespace of its own."""
+"""Linux's UDP as the peer: datagrams pass through a TUN device to the built program and back (examples/bridge/echo.py).
+Each MTU is tested in its own network namespace."""
 import subprocess
 import sys
 
@@ -7,7 +7,7 @@ import pytest
 
 from tests.cases import TOP
 
-# The lengths of datagrams for each MTU: those where a layout or the number of fragments changes, and the longest.
+# The lengths of datagrams for each MTU: those at which a layout or the number of fragments changes, and the longest.
 LENGTHS = {
     1500: [0, 1, 27, 28, 29, 72, 73, 207, 208, 1472, 1473, 2048, 4096, 9216],
     576: [0, 548, 549, 4096, 9216],

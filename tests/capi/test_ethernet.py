@@ -1,7 +1,7 @@
-"""A host on an Ethernet. Scapy's own ARP and ICMP packets judge each frame that it gives, by the Python package; Linux
-is the peer of capi/examples/tap_host.c on a TAP device, in a network namespace of its own, over a wire that loses
-frames, and two hosts stand on one bridge with it. In the captures of both tshark finds no malformed frame and no wrong
-checksum of the hosts' own."""
+"""A host on an Ethernet. Each frame that it sends is compared with scapy's ARP and ICMP packets, with the Python
+package. Linux is the peer of capi/examples/tap_host.c on a TAP device in its own network namespace, with a wire that
+loses frames, and with two hosts on one bridge. In both captures, tshark finds no malformed frame and no wrong checksum
+from the hosts."""
 import os
 import subprocess
 import sys
@@ -13,7 +13,7 @@ from tests.conftest import in_part
 
 pytestmark = [pytest.mark.slow, pytest.mark.needs("cc")]
 ON_LINUX = pytest.mark.needs("netns", "tun", "ip")
-# Frames that tshark can't read to their end, and wrong checksums in those that don't come from Linux or a neighbour.
+# Frames that tshark can't read to their end, and wrong checksums in frames that don't come from Linux or a neighbour.
 WRONG = """_ws.malformed || (eth.src[0:3] == 02:00:00 && eth.src != 02:00:00:00:00:02 && eth.src != 02:00:00:00:00:99 &&
 (ip.checksum.status == "Bad" || icmp.checksum.status == "Bad"))"""
 FLAGS = ["-std=gnu99", "-Wall", "-Wextra", "-Werror", "-Iinclude"]
@@ -21,7 +21,7 @@ FLAGS = ["-std=gnu99", "-Wall", "-Wextra", "-Werror", "-Iinclude"]
 
 @pytest.fixture(scope="session")
 def ended(once, library):
-    """Runs a script of capi/tests once: its folder has its status, what it said, and the capture frames.pcap."""
+    """Runs a script in capi/tests once. Its folder has its status, its output, and the capture frames.pcap."""
 
     def run(name, *words):
         def make(folder):
@@ -55,7 +55,7 @@ def peer(ended, once, library):
 
 
 def passed(folder):
-    """What a script said, if it passed."""
+    """Returns the output of a script that passed."""
     said = (folder / "said").read_text(encoding="utf-8")
     if (folder / "status").read_text(encoding="utf-8") != "0":
         pytest.fail(said[-1500:], pytrace=False)

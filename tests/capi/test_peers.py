@@ -1,5 +1,5 @@
-"""Linux as the peer of capi/examples/tun_echo.c, plainly and over a wire that loses, repeats and reorders, each in a
-network namespace of its own; and the stored captures, by pcap.c and by tun_echo's device."""
+"""Linux as the peer of capi/examples/tun_echo.c, directly and over a wire that loses, repeats and reorders packets,
+each in its own network namespace; and the stored captures, by pcap.c and by tun_echo's device."""
 import subprocess
 
 import pytest

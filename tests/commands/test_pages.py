@@ -1,6 +1,6 @@
-"""Runs commands of pages as a reader types them: those of SESSIONS in tests/docs/commands.py, in an empty folder, with
-the built programs on the path. What the page shows as their output has to be printed. Commands of `rt` take a proof or
-minutes, so of these only the words are tried."""
+"""Runs commands from pages as a reader types them: those of SESSIONS in tests/docs/commands.py, in an empty folder,
+with the built programs on the path. They must print the output that the page shows. Commands of `rt` need a proof or
+minutes, so only their words are checked."""
 import itertools
 import pathlib
 import re
@@ -16,7 +16,7 @@ SECONDS = 600
 
 
 def played(session, room, programs):
-    """The statuses of the commands in an empty folder of a reader's home, and what they print."""
+    """Runs the commands in an empty folder of a reader's home. Returns their statuses and their output."""
     home, path = room / "home", room / "path"
     for folder in (home, path):
         folder.mkdir()
@@ -43,7 +43,7 @@ def played(session, room, programs):
 
 
 def shown(session):
-    """What the page shows as the output: the block after a text, or the comments after a line of a block."""
+    """Returns the output that the page shows: the block after a text, or the comments after a line of a block."""
     rest = read(session.page).partition(session.shown)[2]
     assert session.shown and rest, f"{session.page}:1: it has no text '{session.shown}'"
     if session.shown.startswith("#"):
@@ -54,12 +54,12 @@ def shown(session):
 
 
 def plain(line):
-    """A line without what pages and programs lay out otherwise."""
+    """Returns a line without the spacing in which pages and programs differ."""
     return " ".join(line.replace("=>", " ").split())
 
 
 def missing(wanted, printed):
-    """The first of these lines that wasn't printed after the one before it."""
+    """Returns the first of these lines that wasn't printed after the one before it."""
     rest = iter([plain(it) for it in printed])
     return next((it for it in wanted if not any(line.endswith(plain(it)) for line in rest)), None)
 
@@ -81,7 +81,7 @@ def test_session(name, tmp_path, bsdudp, bsdplay):
 
 @pytest.mark.needs("rt")
 def test_rt_knows_its_words():
-    """Each command of `rt` and each of its options that a page names is one that `rt --help` names, too."""
+    """`rt --help` names each command and each option of `rt` that a page names."""
     about = ""
     rattle = pathlib.Path(shutil.which("rt")).resolve().with_name("rattle")
     for words in (["rt"], [rattle, "check"]):  # rt gives rattle its flags
@@ -104,7 +104,7 @@ def test_rt_knows_its_words():
 
 
 def age(kit):
-    """A number and letters, so that older kits are less: 13b, 13f, 14."""
+    """Returns the number and the letters, in the order of kits: 13b, 13f, 14."""
     number, letters = re.fullmatch(r"rattle-kit-(\d+)([a-z]*)", kit).groups()
     return int(number), len(letters), letters
 
@@ -112,7 +112,7 @@ def age(kit):
 @pytest.mark.needs("rt")
 @pytest.mark.parametrize("page", ["README.md", "docs/proved.md"])
 def test_page_names_the_kit(page):
-    """The logic that a page names is that of the kit on the path, and no kit that it names is newer than that one."""
+    """The logic that a page names is that of the kit on the path, and no kit that it names is newer."""
     version = subprocess.run(["rt", "version"], capture_output=True, text=True, check=True).stdout.strip()
     kit, logic = version.split(" ", 1)
     named = set(re.findall(r"rattle-kit-\w+", read(page)))

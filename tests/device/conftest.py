@@ -1,6 +1,6 @@
-"""capi/examples/device.c as a program of Linux on a TAP device, and on a Cortex-M3 by QEMU, with Linux's own
-programs as its peers. Each is in a network namespace, which a test enters while it runs; frames pass by a relay that
-can lose them."""
+"""capi/examples/device.c as a Linux program on a TAP device, and on a Cortex-M3 in QEMU, with Linux programs as its
+peers. Each is in a network namespace, which a test enters while it runs. Frames pass through a relay that can lose
+them."""
 from __future__ import annotations
 
 import contextlib
@@ -27,7 +27,7 @@ MACHINE = ["qemu-system-arm", "-M", "mps2-an385", "-display", "none", "-monitor"
 
 
 class Namespace:
-    """A network namespace, in which this thread and what it starts is inside a block of `inside`."""
+    """A network namespace. In a `with` block of `inside`, this thread and the programs that it starts are in it."""
 
     def __init__(self) -> None:
         self.libc = ctypes.CDLL(None, use_errno=True)
@@ -46,8 +46,8 @@ class Namespace:
 
 
 class Device:
-    """The device while it runs: how it's started, the bytes of its file "flash", how many the file "ram" can have, and
-    how many seconds a tick takes."""
+    """The running device: how it's started, the bytes of its file "flash", the size limit of its file "ram", and the
+    seconds of a tick."""
 
     def __init__(self, name: str, words: list, folder: pathlib.Path, flash: bytes, most: int, tick: float) -> None:
         self.name, self.flash, self.most, self.tick = name, flash, most, tick
@@ -60,7 +60,7 @@ class Device:
             self.relay.plug("h0")
 
     def ended(self) -> str:
-        """What it printed, when it has ended."""
+        """Waits for its end, and returns its output."""
         self.process.terminate()
         self.process.wait(60)
         self.relay.is_over = True
@@ -73,7 +73,7 @@ class Device:
 
     @contextlib.contextmanager
     def lossy(self, seed: int, share: float = 0.05) -> Iterator[None]:
-        """This share of the frames is lost, in either direction."""
+        """Loses this share of the frames in each direction."""
         rng = random.Random(seed)
         self.relay.loses = lambda frame: rng.random() < share
         try:
@@ -84,12 +84,12 @@ class Device:
 
 @pytest.fixture(scope="session")
 def flash() -> bytes:
-    """Bytes of which no two blocks are the same, and a last block that isn't whole for any size but one."""
+    """The bytes of the file "flash": random, so that no two blocks are equal."""
     return random.Random(79).randbytes(MEBIBYTE)
 
 
 def tap(folder: pathlib.Path, flash: bytes, request: pytest.FixtureRequest, tick: float = 0.5) -> Device:
-    """As a program of Linux."""
+    """The device as a Linux program."""
     archive = request.getfixturevalue("library").archive
     sources = [TOP / f"capi/examples/{it}.c" for it in ("device_tap", "device", "coap", "tftp")]
     words = ["-std=gnu99", "-Wall", "-Wextra", "-Werror", "-pedantic", "-Wsign-conversion", f"-I{TOP}/capi/include"]
@@ -100,12 +100,12 @@ def tap(folder: pathlib.Path, flash: bytes, request: pytest.FixtureRequest, tick
 
 
 def hasty(folder: pathlib.Path, flash: bytes, request: pytest.FixtureRequest) -> Device:
-    """The same with a tick of 20 ms: what was lost is sent again soon."""
+    """The same with a tick of 20 ms, so that lost messages are soon sent again."""
     return tap(folder, flash, request, 0.02)
 
 
 def board(folder: pathlib.Path, flash: bytes, request: pytest.FixtureRequest) -> Device:
-    """On a Cortex-M3 with 64 KB of memory."""
+    """The device on a Cortex-M3 with 64 KB of memory."""
     library_of_board = request.getfixturevalue("core_for")("cortex-m3")
     made(TOP / "portable/board/build", library_of_board, folder / "built", folder / "flash")
     card = ["-kernel", folder / "built/device.elf", "-nic", "tap,ifname=h0,script=no,downscript=no"]
@@ -133,7 +133,7 @@ def running(request, flash, tmp_path_factory) -> Iterator[Device]:
 
 @pytest.fixture
 def device(running) -> Iterator[Device]:
-    """The device. The test is in its namespace, and finds the device still there at its end."""
+    """The device. The test runs in its namespace. At the end, the device must still be running."""
     with running.namespace.inside():
         yield running
         assert running.process.poll() is None, "the device ended"
@@ -141,7 +141,7 @@ def device(running) -> Iterator[Device]:
 
 @pytest.fixture
 def client() -> Callable[..., socket.socket]:
-    """client() is a UDP socket; a wait of 5 seconds for what comes fails the test."""
+    """client() returns a UDP socket. If nothing arrives in 5 seconds, the test fails."""
     opened = []
 
     def opens(port: int | None = None) -> socket.socket:
@@ -158,7 +158,7 @@ def client() -> Callable[..., socket.socket]:
 
 
 def run(*words: object, status: int = 0) -> str:
-    """What a program of Linux printed. It has a minute, and ends with this status."""
+    """Returns the output of a Linux program, which must end with this status within a minute."""
     done = subprocess.run([*map(str, words)], capture_output=True, text=True, check=False, timeout=60)
     assert done.returncode == status, f"{words} ends with {done.returncode}: {done.stdout[-500:]}{done.stderr[-500:]}"
     return done.stdout + done.stderr

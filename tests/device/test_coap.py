@@ -1,4 +1,4 @@
-"""CoAP (RFC 7252, RFC 7959): Debian's coap-client as the peer, and messages that scapy builds and reads."""
+"""CoAP (RFC 7252, RFC 7959), with Debian's coap-client as the peer, and with messages that scapy builds and reads."""
 import re
 import socket
 import time
@@ -25,7 +25,7 @@ ids = iter(range(1000, 60000))
 
 
 def message(kind, code, *path, token=b"", options=(), payload=b"", number=None):
-    """A message as scapy builds it, with an id of its own."""
+    """Returns a message that scapy builds, with a new id."""
     every = [*((PATH, it.encode()) for it in path), *options]
     head = scapy.CoAP(
         type=kind, code=code, msg_id=next(ids) if number is None else number, token=token, options=every,
@@ -35,7 +35,7 @@ def message(kind, code, *path, token=b"", options=(), payload=b"", number=None):
 
 
 def answers(it, *messages):
-    """All that comes for messages, up to the reset of a ping that follows them."""
+    """Returns all that arrives for messages, up to the reset of a ping that follows them."""
     for one in messages:
         it.send(one)
     it.send(PING)
@@ -46,7 +46,7 @@ def answers(it, *messages):
 
 
 def answer(it, one):
-    """The only response to a message, read by scapy: its code, its options, and its payload."""
+    """Returns the only response to a message, read by scapy: its code, its options, and its payload."""
     came = answers(it, one)
     assert len(came) == 1, f"{one.hex()} is answered by {[it.hex() for it in came]}"
     read = scapy.CoAP(came[0])
@@ -105,13 +105,13 @@ def test_text_by_small_blocks(device, size):
 
 
 def test_file_by_blocks(device, tmp_path):
-    """All 4,096 blocks of it."""
+    """Its 4,096 blocks."""
     coap("get", "flash", "-o", tmp_path / "came")
     assert (tmp_path / "came").read_bytes() == device.flash
 
 
 def test_over_a_wire_that_loses(device):
-    """Only time is lost: each request is done once, and gets its response."""
+    """Each request is carried out once, and gets its response."""
     with device.lossy(1):
         for value in "10":
             assert coap("put", "led", "-e", value) == ""
@@ -131,7 +131,8 @@ def test_token_comes_back(device, client, kind, length):
 
 @pytest.mark.parametrize("exponent", range(7))
 def test_block(device, client, exponent):
-    """Each size at its borders: what is longer than the server's blocks comes by those, from the same byte on."""
+    """Each block size at its limits. If it's larger than the server's, the server uses its own, from the same byte
+    on."""
     it, asked = client(COAP), 16 << exponent
     for number in (0, 1, 2, 15, 16, len(device.flash) // asked - 1):
         option = (BLOCK2, (number << 4 | exponent).to_bytes(3, "big").lstrip(b"\0"))
@@ -175,7 +176,7 @@ def test_block_behind_the_end(device, client):
     ],
 )
 def test_option(device, client, options, code):
-    """A critical option that isn't known refuses a confirmable request, and silences another one (5.4.1)."""
+    """With an unknown critical option, a confirmable request gets an error, and another one is ignored (5.4.1)."""
     it = client(COAP)
     if max(number for number, _ in options) < 269:  # scapy 2.5 writes longer steps the wrong way round
         assert answer(it, message(CON, GET, "led", options=options))[0] == code
@@ -200,7 +201,7 @@ def test_request_that_comes_again_gets_the_same_answer(device, client):
 
 
 def test_last_answers_are_kept(device, client):
-    """Six of them, also if all were given within one tick."""
+    """The limit is six, also for requests within one tick."""
     it = client(COAP)
     requests = [message(CON, GET, "stats") for _ in range(15)]
     first = [answers(it, one) for one in requests]
@@ -264,7 +265,7 @@ def test_same_id_from_another_client_is_another_request(device, client):
     ],
 )
 def test_malformed(device, client, sent, is_reset):
-    """Section 4: a confirmable one is reset if it has an id, and others are ignored, also if not confirmable."""
+    """Section 4: a confirmable message is reset if it has an id. Others are ignored."""
     it, data = client(COAP), bytes.fromhex(sent)
     assert answers(it, data) == ([b"\x70\x00" + data[2:4]] if is_reset else [])
     if is_reset:

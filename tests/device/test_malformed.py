@@ -1,4 +1,5 @@
-"""Malformed packets by scapy and a seed: what the RFCs say of each is all that comes back, and both servers go on."""
+"""Malformed packets that scapy builds from a seed: the only responses are those in the RFCs, and both servers keep
+running."""
 import random
 import re
 import select
@@ -24,7 +25,7 @@ COUNT = 1000
 
 
 def damaged(rng, data):
-    """The same packet, or with some bits, bytes or a part of it changed."""
+    """Returns the same packet, or one with changed bits or bytes, or with a part removed or repeated."""
     data = bytearray(data)
     for _ in range(rng.randrange(4)):
         at = rng.randrange(len(data) + 1)
@@ -53,7 +54,7 @@ def coap_packet(rng):
 
 
 def option_ends(data, at):
-    """The end of the options that begin at a place, or None if they're malformed (RFC 7252, 3 and 3.1)."""
+    """Returns the end of the options that begin at an offset, or None if they're malformed (RFC 7252, 3 and 3.1)."""
     number = 0
     while at < len(data) and data[at] != 0xFF:
         steps, at = [data[at] >> 4, data[at] & 15], at + 1
@@ -71,7 +72,8 @@ def option_ends(data, at):
 
 
 def what_is_due(data):
-    """What a server does with a message: nothing, a reset, or a response to a request (RFC 7252, 4.2 and 4.3)."""
+    """Returns what a server sends for a message: nothing, a reset, or a response to a request (RFC 7252, 4.2 and
+    4.3)."""
     if len(data) < 4 or data[0] >> 6 != 1 or data[0] >> 4 & 3 > 1:
         return "nothing"
     is_confirmable, token = data[0] >> 4 & 3 == 0, data[0] & 15
@@ -114,7 +116,7 @@ def tftp_packet(rng):
 
 
 def heard(it, sentinel):
-    """All that has come to a client, with the port that it came from, when what it sent has been done: a later request
+    """Returns all that arrived at a client, with the source ports, after its messages were processed: a later request
     of another client is refused."""
     assert sentinel.ask(RRQ, "nothing")[:2] == (ERROR, NO_FILE)
     came = []
@@ -124,7 +126,7 @@ def heard(it, sentinel):
 
 
 def test_tftp(device, client, tmp_path):
-    """To the server's port, and as a stranger to the port of a transfer, which gets on."""
+    """Sends to the server's port, and from another port to the port of a transfer, which continues."""
     scapy.random.seed(79)
     rng, stranger, reader, sentinel = random.Random(79), Client(client), Client(client), Client(client)
     reader.ask(RRQ, "flash")
@@ -145,7 +147,7 @@ def test_tftp(device, client, tmp_path):
 
 
 def test_all_buffers_are_free_at_the_end(device):
-    """When the last transfers have ended."""
+    """After the last transfers have ended."""
     end = time.monotonic() + 60 * device.tick
     while True:
         said = coap("get", "stats")

@@ -1,4 +1,4 @@
-"""The commands of docs/device.md, as its reader types them, and the memory of its table."""
+"""The commands in docs/device.md, as a reader types them, and the memory in its table."""
 import re
 import shutil
 import subprocess
@@ -13,7 +13,7 @@ PAGE = (TOP / "docs/device.md").read_text(encoding="utf-8")
 
 
 def block(first):
-    """The commands of the page from this one on, to the end of its block."""
+    """Returns the commands of the page from this one to the end of its block."""
     return textwrap.dedent(re.search(rf"(?ms)^    {re.escape(first)}.*?\n(?=\n)", PAGE)[0])
 
 
@@ -27,7 +27,7 @@ def shell(commands, folder, *program):
 
 @pytest.fixture
 def folder(tmp_path):
-    """As the top of the repository, but that what is built there isn't kept."""
+    """A copy of the top of the repository, so that what is built there isn't kept."""
     for it in ("portable", "tools", "LICENSE"):
         (tmp_path / it).symlink_to(TOP / it)
     for it in ("capi/examples", "capi/include"):

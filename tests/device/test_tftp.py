@@ -1,4 +1,5 @@
-"""TFTP (RFC 1350, 2347 to 2349): curl and Debian's tftp as peers, and a client of this file that makes mistakes."""
+"""TFTP (RFC 1350, 2347 to 2349), with curl and Debian's tftp as peers, and with a client in this file that makes
+mistakes."""
 import contextlib
 import select
 import socket
@@ -24,7 +25,7 @@ def curl(*words):
 
 
 def stored(device, folder, length, *words):
-    """Writes this number of bytes to "ram" by curl, and reads them back: both have to be the same."""
+    """Writes this number of bytes to "ram" with curl, reads them back, and compares them."""
     data = device.flash[:length]
     (folder / "data").write_bytes(data)
     run(*curl(*words, "-T", folder / "data", url("ram")))
@@ -32,17 +33,17 @@ def stored(device, folder, length, *words):
 
 
 def read_back(folder, data):
-    """By Debian's tftp: curl 7.88 refuses a file of no bytes."""
+    """With Debian's tftp, because curl 7.88 refuses an empty file."""
     run("tftp", "-m", "binary", DEVICE, "-c", "get", "ram", folder / "back")
     assert (folder / "back").read_bytes() == data
 
 
-# ---- Linux's programs
+# ---- Linux programs
 
 
 @pytest.mark.parametrize("size", [512, 1428, 8192])
 def test_file_by_curl(device, tmp_path, size):
-    """1 MB; 8,196 bytes are six fragments."""
+    """1 MB. A packet of 8,196 bytes has six fragments."""
     run(*curl("--tftp-blksize", size, "-o", tmp_path / "came", url("flash")))
     assert (tmp_path / "came").read_bytes() == device.flash
 
@@ -54,14 +55,14 @@ def test_file_by_tftp(device, tmp_path):
 
 @pytest.mark.parametrize("size", [512, 1428, 8192])
 def test_write_and_read(device, tmp_path, size):
-    """As much as it takes, which is a whole number of some blocks, and nothing."""
+    """The largest file, which is a multiple of some block sizes, and an empty one."""
     most = min(device.most, len(device.flash))
     for length in (most, most - 1, 0):
         stored(device, tmp_path, length, "--tftp-blksize", size)
 
 
 def test_more_than_it_takes(device, tmp_path):
-    """With tsize, curl is refused at once; without, as soon as there is no room."""
+    """With tsize, curl gets an error at once; without it, when the memory is full."""
     (tmp_path / "data").write_bytes(bytes(device.most + 1))
     run(*curl("-T", tmp_path / "data", url("ram")), status=70)
     run(*curl("--tftp-no-options", "-T", tmp_path / "data", url("ram")), status=70)
@@ -70,7 +71,7 @@ def test_more_than_it_takes(device, tmp_path):
 
 @pytest.mark.parametrize("size", [1428, 8192])
 def test_clients_at_once(device, tmp_path, size):
-    """Two read while a third writes."""
+    """Two clients read while a third one writes."""
     data = device.flash[: min(device.most, len(device.flash))]
     (tmp_path / "data").write_bytes(data)
     words = [["-o", tmp_path / it, url("flash")] for it in "01"] + [["-T", tmp_path / "data", url("ram")]]
@@ -80,7 +81,7 @@ def test_clients_at_once(device, tmp_path, size):
     read_back(tmp_path, data)
 
 
-# ---- a client of this file
+# ---- a client in this file
 
 
 def word(number):
@@ -93,7 +94,7 @@ def request(opcode, name, mode="octet", **options):
 
 
 class Client:
-    """A client with a socket of its own. `port` is that of the server's transfer, once something came from there."""
+    """A client with its own socket. `port` is the port of the server's transfer, after its first message."""
 
     def __init__(self, opened):
         self.socket, self.port = opened(), TFTP
@@ -107,7 +108,7 @@ class Client:
         return self.came()
 
     def came(self):
-        """The next message, as its opcode, its number, and the rest; that of options has no number."""
+        """Returns the next message: its opcode, its number, and the rest. An option acknowledgement has no number."""
         data, place = self.socket.recvfrom(65536)
         assert place[0] == DEVICE
         self.port = place[1]
@@ -119,7 +120,7 @@ class Client:
         return opcode, int.from_bytes(data[2:4], "big"), data[4:]
 
     def block(self, number):
-        """The bytes of this block; on a busy machine the one before it may come again first."""
+        """Returns the bytes of this block. On a busy computer the one before it may be repeated first."""
         opcode, told, data = self.came()
         while (opcode, told) == (DATA, number - 1):
             opcode, told, data = self.came()
@@ -127,7 +128,7 @@ class Client:
         return data
 
     def drained(self):
-        """All that came already."""
+        """Returns all that has arrived."""
         came = []
         while select.select([self.socket], [], [], 0)[0]:
             came.append(self.came())
@@ -137,7 +138,7 @@ class Client:
         self.send(word(ACK) + word(number))
 
     def give_up(self):
-        """Ends the transfer. The device has taken note when it refuses a later message."""
+        """Ends the transfer, and waits until the device refuses a later message."""
         self.send(word(ERROR) + word(0) + b"over\0")
         self.port = TFTP
         self.send(word(9) + word(0))
@@ -147,7 +148,7 @@ class Client:
 
 @pytest.fixture
 def peer(device, client):
-    """peer() is a Client; what it began is given up at the end of the test."""
+    """peer() returns a Client. Its transfers are aborted at the end of the test."""
     peers = []
 
     def make():
@@ -161,7 +162,7 @@ def peer(device, client):
 
 
 def written(it, data, size):
-    """Writes bytes to "ram", and repeats what isn't acknowledged within 30 ms."""
+    """Writes bytes to "ram", and repeats a block that isn't acknowledged within 30 ms."""
     it.socket.settimeout(0.03)
     sent, wanted = request(WRQ, "ram", blksize=size), (OACK, {b"blksize": str(size).encode()})
     for number in range(1, len(data) // size + 3):
@@ -179,8 +180,8 @@ def written(it, data, size):
 @pytest.mark.parametrize("size, length, share", [(1428, 1 << 20, 0.05), (8192, 1 << 18, 0.02)])
 @pytest.mark.parametrize("running", [HASTY], indirect=True)
 def test_over_a_wire_that_loses(device, peer, tmp_path, size, length, share):
-    """1 MB is read by curl. It's written by the client of this file: curl waits for 5 seconds, in which a server whose
-    ticks are so short gives up."""
+    """curl reads 1 MB. The client in this file writes it: curl repeats after 5 seconds, when a server with such short
+    ticks has given up."""
     with device.lossy(size, share):
         run(*curl("--tftp-blksize", size, "-o", tmp_path / "came", url("flash")))
         written(peer(), device.flash[:length], size)
@@ -191,7 +192,7 @@ def test_over_a_wire_that_loses(device, peer, tmp_path, size, length, share):
 @pytest.mark.parametrize("size", [512, 1428])
 @pytest.mark.parametrize("running", [BOARD], indirect=True)
 def test_board_over_a_wire_that_loses(device, tmp_path, size):
-    """By curl, as much as the board takes, and back."""
+    """curl writes the largest file that the board accepts, and reads it back."""
     (tmp_path / "data").write_bytes(device.flash[: device.most])
     with device.lossy(size):
         run(*curl("--tftp-blksize", size, "-T", tmp_path / "data", url("ram")))
@@ -199,7 +200,8 @@ def test_board_over_a_wire_that_loses(device, tmp_path, size):
 
 
 def stranger(peer, port):
-    """Another client sends to a transfer's port. Returns what it gets, when all that was sent before has been done."""
+    """Sends from another client to a transfer's port. Returns the response, after all earlier messages were
+    processed."""
     it = peer()
     it.port = port
     it.ack(1)
@@ -333,7 +335,7 @@ def test_stranger_is_refused_and_ends_nothing(device, peer, opcode):
 
 @pytest.mark.parametrize("opcode, options", [(RRQ, {}), (RRQ, {"blksize": 512}), (WRQ, {})])
 def test_sends_again_what_is_not_answered(device, peer, opcode, options):
-    """After one to two ticks, and then after four, as it was, until it's acknowledged."""
+    """The same message is repeated after one to two ticks, and again four ticks later, until it's acknowledged."""
     it = peer()
     first = it.ask(opcode, "flash" if opcode == RRQ else "ram", **options)
     start = time.monotonic()
@@ -352,8 +354,8 @@ def test_sends_again_what_is_not_answered(device, peer, opcode, options):
 
 @pytest.mark.parametrize("running", [HASTY], indirect=True)
 def test_options_of_a_writer_are_not_sent_again_by_the_tick(device, peer):
-    """But if the request comes again. curl 7.88 takes options that come again for an acknowledgement, and sends its
-    second block as its first."""
+    """Unless the request is repeated. curl 7.88 takes repeated options for an acknowledgement, and sends its second
+    block as its first."""
     it = peer()
     first = it.ask(WRQ, "ram", blksize=1024)
     port = it.port
@@ -367,7 +369,7 @@ def test_options_of_a_writer_are_not_sent_again_by_the_tick(device, peer):
 
 @pytest.mark.parametrize("running", [HASTY], indirect=True)
 def test_gives_up(device, peer):
-    """After six times, 38 ticks in all."""
+    """It gives up after six tries, in 38 ticks."""
     it = peer()
     first = it.ask(RRQ, "flash")
     it.socket.settimeout(20 * device.tick)
@@ -395,7 +397,7 @@ def test_last_block_that_comes_again_is_acknowledged_again(device, peer):
 
 
 def test_finished_transfers_keep_no_place(device, peer):
-    """More clients than places write a file, and each finds a place at once."""
+    """More clients write a file than there are transfers, and each gets a transfer at once."""
     for number in range(6):
         it = peer()
         assert it.ask(WRQ, "ram") == (ACK, 0, b"")
