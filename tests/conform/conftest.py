@@ -1,4 +1,4 @@
-"""The judge of other stacks, as a command."""
+"""Runs the judge of other stacks as a command."""
 import os
 import subprocess
 import sys
@@ -13,7 +13,7 @@ PATHS = f"{TOP / 'conform'}:{TOP / 'python'}"
 
 @pytest.fixture
 def conform():
-    """Runs a command from the top, where the packages are found; gives its status and all that it says."""
+    """Runs a command at the top, where the packages are found. Returns its status and its output."""
 
     def run(*words, **environment):
         environment = {**os.environ, "PYTHONPATH": PATHS, "PYTHONDONTWRITEBYTECODE": "1", **environment}
@@ -27,7 +27,7 @@ def conform():
 
 @pytest.fixture
 def judged(conform):
-    """Judges a stack: judged(word of bsdudp-conform run ..)."""
+    """judged(ARGUMENT OF bsdudp-conform run ..) judges a stack."""
     return lambda *words, **environment: conform(
         sys.executable, "-m", "bsdudp_conform", "run", "--quiet", "--no-policy", *words, **environment
     )

@@ -1,5 +1,5 @@
-"""A small UDP/IPv4 stack as an adapter of the judge: test_faults.py plants faults in its text. It keeps the fragments
-of a datagram in a list by offset, as 4.4BSD does, and shares no code with the judge but the adapter's lines."""
+"""A small UDP/IPv4 stack as an adapter of the judge. test_faults.py plants faults in its text. It keeps the fragments
+of a datagram in a list by offset, as 4.4BSD does, and shares only the adapter's lines with the judge."""
 from __future__ import annotations
 
 import struct
@@ -11,7 +11,7 @@ UDP, LIFE_MS = 17, 60_000
 
 
 def folded(data: bytes) -> int:
-    """The sum in ones' complement (RFC 1071)."""
+    """Returns the ones' complement sum (RFC 1071)."""
     data += bytes(len(data) % 2)
     total = sum(struct.unpack(f">{len(data) // 2}H", data))
     while total >> 16:
@@ -20,7 +20,7 @@ def folded(data: bytes) -> int:
 
 
 def is_sender(address: int) -> bool:
-    """Whether a host may have this address (RFC 1122 3.2.1.3)."""
+    """Returns whether a host may have this address (RFC 1122 3.2.1.3)."""
     return 0 < address >> 24 < 224 and address >> 24 != 127 and address != BROADCAST
 
 
@@ -47,7 +47,7 @@ class Unfinished:
         self.pieces: list[Piece] = []
 
     def insert(self, new: Piece) -> None:
-        """Keeps a fragment; where it overlaps, the piece that begins first keeps its bytes."""
+        """Keeps a fragment. If fragments overlap, the one that begins first keeps its bytes."""
         place = sum(it.begin <= new.begin for it in self.pieces)
         if place:
             over = self.pieces[place - 1].end - new.begin
@@ -65,7 +65,7 @@ class Unfinished:
         self.pieces.insert(place, new)
 
     def joined(self) -> bytes | None:
-        """The datagram, if no fragment is missing."""
+        """Returns the datagram, or None if a fragment is missing."""
         at = 0
         for it in self.pieces:
             if it.begin != at:
@@ -141,7 +141,7 @@ class SmallStack(Adapter):
             self.got(address, sport, data[8:length], it.number)
 
     def receivers(self, sender: tuple[int, int], destination: int, port: int, cut: bool) -> list[Socket]:
-        """Each socket for a broadcast, else the one that is connected to the sender, or the youngest."""
+        """Returns all sockets for a broadcast, otherwise the one that is connected to the sender, or the youngest."""
         found = [it for it in self.sockets if it.port == port and it.peer in (None, sender)]
         if destination != HOST:
             return found

@@ -1,4 +1,5 @@
-"""Adapters that answer nonsense, die, hang or flood: each costs the cases it was in, is named, and the run goes on."""
+"""Adapters that print nonsense, die, hang or flood: the run reports each, loses only the cases it was in, and
+continues."""
 import functools
 import sys
 import tempfile
@@ -43,7 +44,7 @@ BAD = {
 NONSENSE = "import time; print('nonsense', flush=True); print('end', flush=True); time.sleep(600)"
 REFUSED = [(["/nonexistent"], "can't be run"), (["true"], "it ended with status 0")]
 REFUSED += [([sys.executable, "-c", NONSENSE], "it answers")]
-# How long an adapter may take, in seconds: on a busy machine one that is well takes 2 to begin.
+# The time limit of an adapter in seconds. On a busy computer a good one takes 2 to start.
 LIMIT, OF_ONE_THAT_HANGS = 60, 8
 
 
@@ -53,7 +54,7 @@ def chosen():
 
 
 def told(body):
-    """What is said of the case in which an adapter is bad, and how many others have a fault."""
+    """Returns the fault of the case in which an adapter is bad, the faults of others, and the number of cases."""
     with tempfile.NamedTemporaryFile("w", suffix=".py") as file:
         file.write(HEAD % body)
         file.flush()

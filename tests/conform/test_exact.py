@@ -1,5 +1,5 @@
-"""The reference machine at 4.4BSD's settings answers every case as the program does, byte for byte: each delivery with
-its step, sender and socket, each packet that leaves, each refusal."""
+"""The reference machine with 4.4BSD's settings and the program have the same results in every case, byte for byte: each
+delivery with its step, sender and socket, each packet sent, each refusal."""
 import sys
 from collections import Counter
 
@@ -15,7 +15,7 @@ ADAPTER = [sys.executable, "-m", "bsdudp_conform.adapters.bsdudp"]
 
 
 def others(wanted, there):
-    """Whether two lists of lines differ. Where a line `refused` stands among the others is free."""
+    """Returns whether two lists of lines differ. The position of a line `refused` isn't compared."""
     orders = ([it for it in lines if it[0] != "r"] for lines in (wanted, there))
     return sorted(wanted) != sorted(there) or len({tuple(it) for it in orders}) > 1
 
@@ -25,7 +25,7 @@ def others(wanted, there):
 def test_exact(bsdudp, monkeypatch):
     monkeypatch.setenv("PYTHONPATH", PATHS)
     faults = []
-    spent = Counter()  # the program serves all cases of an MTU, so its identification goes on
+    spent = Counter()  # the program serves all cases of an MTU, so its identification continues
     with Adapter([*ADAPTER, str(bsdudp), "run"], 60) as program:
         for case in cases.make(1, 1000):
             machine = play(case, Path(BSD), 1 + spent[case.mtu])

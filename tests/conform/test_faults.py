@@ -1,5 +1,5 @@
-"""Faults of reassembly and of sockets, each planted in small_stack.py: the judge has to name it by its own rule, and in
-nothing says of the stack without a fault."""
+"""Faults of reassembly and of sockets, each planted in small_stack.py: the judge must report it under its own rule, and
+must report nothing about the stack without a fault."""
 import functools
 import pathlib
 import sys
@@ -37,7 +37,7 @@ KNOWN = """        it = self.unfinished.setdefault(key, Unfinished(self.now))
         self.known = it.known = getattr(it, "known", None) or [(one, one.peer) for one in self.sockets]
 """
 
-# A fault, pairs of old and new text of small_stack.py, and the rule that has to name it.
+# A fault, pairs of old and new text in small_stack.py, and the rule that must report it.
 FAULTS = [
     (
         "a fragment's front is cut, and its bytes aren't advanced",
@@ -161,7 +161,7 @@ def chosen():
 
 
 def broken(edits, room):
-    """The rules that the stack breaks with these edits, and by how many deviations."""
+    """Returns the rules that the stack breaks with these edits, and the number of deviations."""
     text = STACK.read_text(encoding="utf-8")
     for old, new in edits:
         assert text.count(old) == 1, f"{old!r} stands in small_stack.py {text.count(old)} times"

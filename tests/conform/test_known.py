@@ -1,5 +1,5 @@
-"""The program, the host on an Ethernet, lwIP and libslirp deviate as conform/known says, and in nothing else; and so
-does Linux, over a TUN device and on a wire."""
+"""The program, the host on an Ethernet, lwIP, libslirp, and Linux over a TUN device and on a wire have exactly the
+deviations in conform/known."""
 import os
 import re
 import subprocess
@@ -18,7 +18,7 @@ ON_LINUX = pytest.mark.needs("netns", "tun", "ip")
 
 @pytest.fixture
 def deviates(judged, tmp_path, pytestconfig):
-    """Compares what deviates of a stack with conform/known/NAME.txt, whose first line names the version."""
+    """Compares the deviations of a stack with conform/known/NAME.txt, whose first line names the version."""
 
     def compare(name, *adapter, **environment):
         new = tmp_path / f"{name}.txt"
@@ -45,7 +45,7 @@ def test_host_on_an_ethernet(deviates, library):
 
 @pytest.fixture(scope="session")
 def peers(once):
-    """The folder with the adapters of lwIP and libslirp, built over Debian's sources, and what isn't there."""
+    """The folder with the adapters of lwIP and libslirp, built from Debian's sources, and what is missing."""
 
     def make(folder):
         words = [TOP / "conform/adapters/build", folder]
@@ -67,7 +67,7 @@ def test_peer(name, deviates, peers):
 
 @ON_LINUX
 def test_linux(judged):
-    """A kernel of another version than in conform/known may deviate otherwise."""
+    """A kernel whose version isn't that in conform/known may have other deviations."""
     known = KNOWN / "linux.txt"
     words = ["--no-waits", "--timeout", 120, "--baseline", known, "--", *ADAPTER, "bsdudp_conform.adapters.linux"]
     status, said = judged(*words)
@@ -80,7 +80,7 @@ def test_linux(judged):
 
 @ON_LINUX
 def test_linux_on_a_wire(conform):
-    """By the command, as it stands in a checkout."""
+    """Runs the command of a checkout."""
     words = ["--quiet", "--no-waits", "--no-policy", "--timeout", 120, "--mixes", 50]
     words += ["--baseline", KNOWN / "linux-wire.txt"]
     command = [sys.executable, "conform/tests/veth.py", "conform/bsdudp-conform", "wire", "w0", *words]

@@ -1,5 +1,6 @@
-"""Is the judge fair, and does it see? Each machine that the RFCs permit, one setting changed at a time, has to pass
-every case without an alarm; each fault of plants.txt, planted in the reference machine, has to be seen in some case."""
+"""Is the judge fair, and does it find faults? Each machine that the RFCs permit, with one setting changed at a time,
+must pass every case without an alarm. Each fault in plants.txt, planted in the reference machine, must be found in some
+case."""
 import functools
 import pathlib
 import sys
@@ -20,15 +21,15 @@ pytestmark = [pytest.mark.slow, pytest.mark.needs("scapy")]
 
 @functools.lru_cache(maxsize=None)
 def chosen():
-    """The cases that are tried, from the shortest on."""
+    """Returns the cases that are tried, the shortest first."""
     made = (it for it in cases.make(1) if it.size[1] < 300_000 and len(it.steps) < 2_000)
     return sorted(made, key=lambda case: case.size)
 
 
 @functools.lru_cache(maxsize=None)
 def asked():
-    """The settings for which the machine asks in each case, with all at their defaults. Another value of one changes
-    nothing before it's asked for, so whatever isn't asked for here leaves the case as it is."""
+    """Returns the settings that the machine reads in each case, if all have their defaults. Another value has no effect
+    until it's read, so a setting that isn't in the list doesn't change the case."""
     paths = {case.name: Noting({}) for case in chosen()}
     for case in chosen():
         _machine.play(case, paths[case.name])
@@ -36,7 +37,7 @@ def asked():
 
 
 class Noting(Path):
-    """A path that notes what is asked for."""
+    """A path that records the settings that are read."""
 
     def __init__(self, given):
         super().__init__(given)
@@ -48,20 +49,20 @@ class Noting(Path):
 
 
 def breaches(case, events):
-    """What a machine breaks. It sends no ICMP, so that isn't asked of it."""
+    """Returns the rules that a machine breaks. It sends no ICMP, so rules on ICMP don't apply."""
     found = verdict(case, Answer(tuple(events)), ABILITIES)
     return [it for it in found if not it.rule.startswith("icmp.")]
 
 
 def alarm(name):
-    """The first alarm at a machine with another value of a setting, as a line; None if there's none."""
+    """Returns the first alarm for a machine with another value of a setting, as a line, or None."""
     setting = SETTINGS[name]
     for value in setting.permitted:
         if value == setting.default and name != next(iter(SETTINGS)):
-            continue  # the machine with all defaults is tried once
+            continue  # the machine with all defaults is tested once
         for case in chosen():
             if name not in asked()[case.name] and value != setting.default:
-                continue  # it answers as the machine with all defaults does
+                continue  # it does the same as the machine with all defaults
             events = _machine.play(case, Path({name: value})).events
             for it in breaches(case, events):
                 if it.level in GRAVE or value in setting.keeps:
@@ -70,7 +71,7 @@ def alarm(name):
 
 
 def edits():
-    """Each plant: its name, its module, and pairs of old and new text."""
+    """Yields each plant: its name, its module, and pairs of old and new text."""
     for block in pathlib.Path(__file__).with_name("plants.txt").read_text(encoding="utf-8").split("\n\n"):
         lines = [line for line in block.strip("\n").splitlines() if not line.startswith("#")]
         if lines:
@@ -78,7 +79,7 @@ def edits():
 
 
 def planted(where, texts):
-    """The modules with an edit."""
+    """Returns the modules with an edit."""
     made = {}
     for name, module in MODULES.items():
         source = pathlib.Path(module.__file__).read_text(encoding="utf-8")
@@ -100,7 +101,7 @@ def planted(where, texts):
 
 
 def reread(case, read):
-    """The case's packets as a planted reader sees them."""
+    """Returns the case's packets as a planted reader reads them."""
     steps = []
     for step in case.steps:
         if isinstance(step, Receive):
@@ -111,7 +112,7 @@ def reread(case, read):
 
 
 def is_seen(where, texts):
-    """Whether a case tells a plant."""
+    """Returns whether some case finds a plant."""
     made = planted(where, texts)
     for case in chosen():
         machine = made["machine"].Machine(Path({}), case.mtu)

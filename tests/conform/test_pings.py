@@ -1,5 +1,5 @@
-"""The law of pings: a stack that answers as scapy makes a reply raises no alarm, also if it answers what may be
-answered; each fault of FAULTS, in its replies or in whom it answers, has to be seen."""
+"""The law of pings: a stack whose replies scapy makes raises no alarm, also if it sends optional replies. Each fault in
+FAULTS, in its replies or in the choice of requests, must be found."""
 import functools
 
 import pytest
@@ -7,7 +7,7 @@ import pytest
 try:
     from scapy.layers.inet import ICMP, IP
     from scapy.packet import Raw
-except ImportError:  # then all is skipped
+except ImportError:  # all tests are skipped then
     pass
 
 from bsdudp_conform import cases
@@ -29,7 +29,7 @@ def is_request(header, data):
 
 
 def reply(header, data, **fields):
-    """A reply as scapy makes it."""
+    """Returns a reply that scapy makes."""
     ip = IP(src=text_of(HOST), dst=text_of(header.source))
     icmp = ICMP(type=0, code=0, id=int.from_bytes(data[4:6], "big"), seq=int.from_bytes(data[6:8], "big"))
     for name, value in fields.items():
@@ -42,19 +42,19 @@ def right(header, data):
 
 
 def free(header, data):
-    """It answers what may be answered too."""
+    """It also replies to requests that need no reply."""
     asked = data[:1] == b"\x08" and len(data) >= 8 and is_host(header.source)
     ours = header.destination in (HOST, HOST | 0xFF, 0xFFFFFFFF)
     return [reply(header, data)] if asked and ours else []
 
 
 def instead(**fields):
-    """Right, but for fields of the reply."""
+    """Right, except for fields of the reply."""
     return lambda header, data: [reply(header, data, **fields)] if right(header, data) else []
 
 
 def beside(kinds, made):
-    """Right, and messages of these types are answered too."""
+    """Right, but it also replies to messages of these types."""
     return lambda header, data: [made(header, data)] if data[:1] and data[0] in kinds else right(header, data)
 
 
@@ -100,7 +100,7 @@ FAULTS = {
 
 
 def answer(case, replies):
-    """What a stack answers whose replies to ICMP are these."""
+    """Returns the packets of a stack with these replies to ICMP."""
     machine = Machine(Path({}), case.mtu)
     machine.play(case)
     out, cut = [], {}

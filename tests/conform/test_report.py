@@ -1,4 +1,4 @@
-"""What the judge says of a deviation: how many cases have it, and who it says sent a datagram."""
+"""What the judge reports about a deviation: the number of cases that have it, and the sender of a datagram."""
 import functools
 import re
 
@@ -21,13 +21,13 @@ def whole():
 
 
 def breaches(steps, *got):
-    """The level, rule and words of all that an answer breaks."""
+    """Returns the level, the rule and the text of each deviation."""
     found = verdict(Case("udp.data", 1, "a case", tuple(steps)), Answer(got), frozenset())
     return [(it.level, it.rule, it.what) for it in found]
 
 
 def told(*senders):
-    """What is broken if the user is told these senders of the datagram of whole(), one for each time that it came."""
+    """Returns the deviations if the stack reports these senders for the datagram of whole(), one for each arrival."""
     return breaches([whole()] * len(senders), *(Got(at, *it, b"0123456789") for at, it in enumerate(senders)))
 
 

@@ -1,4 +1,4 @@
-"""The adapters to fill in: they compile without a warning, and whoever fills in nothing is told what doesn't come."""
+"""The adapter templates compile without a warning. If nothing is filled in, the judge reports what is missing."""
 import re
 import subprocess
 import sys

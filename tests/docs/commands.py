@@ -1,4 +1,4 @@
-"""What tries each command that pages ask their readers to type.
+"""The tests of each command that pages ask their readers to type.
 
 These have no row: a script by itself (test_help.py runs each), `make ..`, `pytest ..` and Debian's packages
 (test_commands.py), and `rt ..` (tests/commands/test_pages.py)."""
@@ -10,14 +10,14 @@ from typing import Iterator, Mapping, NamedTuple, Sequence
 
 from tests.docs.pages import OF_THE_PAST, TOP, Command, commands, documents, is_script, read
 
-# Pages, and how many lines of each the gate has tried: all, or the first screen.
+# Pages of which all commands need a test. Of other pages, those in the first SCREEN lines do.
 WHOLE = ("README.md", "CONTRIBUTING.md")
 SCREEN = 40
 
 
 class Row(NamedTuple):
-    """A subject of the tests and what its files have of the command. It's a folder of tests/, NAME of a test_NAME.py, a
-    script of .ci/, or a folder that has a folder tests/."""
+    """A subject of the tests, and the part of the command that its files contain. A subject is a folder of tests/, NAME
+    of a test_NAME.py, a script in .ci/, or a folder that contains a folder tests/."""
 
     subject: str
     part: str
@@ -25,7 +25,7 @@ class Row(NamedTuple):
 
 # A `*` in a command matches any text.
 ROWS = {
-    # README's block, on an empty machine
+    # README's block, on an empty system
     'git clone -q "$REPOSITORY" bsdudp': Row("fresh", 'blocks("commands")'),
     "cd bsdudp": Row("fresh", 'blocks("commands")'),
     # what is installed
@@ -74,20 +74,20 @@ ROWS = {
     ".ci/wrong-bodies --gate *": Row("run", ".ci/wrong-bodies --gate"),
 }
 class Session(NamedTuple):
-    """Commands of a page that tests/commands/test_pages.py runs, one after another in an empty folder, with the built
-    programs on the path."""
+    """Commands of a page that tests/commands/test_pages.py runs in order in an empty folder, with the built programs on
+    the path."""
 
     page: str
     commands: Sequence[str]
-    # Files and folders in the empty one, each with what of this repository it is, or its text.
+    # Files and folders in it, each with its path in this repository, or with its text.
     given: Mapping[str, str] = {}
-    # What a reader writes instead of a text.
+    # Texts that a reader replaces, and their replacements.
     instead: Mapping[str, str] = {}
     # The page's text before the block that shows the output, in this order.
     shown: str = ""
-    # What else is printed, in this order.
+    # Other lines that are printed, in this order.
     prints: Sequence[str] = ()
-    # The commands that don't end with status 0, with theirs.
+    # The commands that don't end with status 0, and their statuses.
     statuses: Mapping[str, int] = {}
     needs: Sequence[str] = ()
 
@@ -228,7 +228,7 @@ SESSIONS = {
             "cc -Imine mine/template.c YOUR_STACK.. -o adapter",
             "bsdudp-conform run --report out -- ./adapter",
         ],
-        # All cases take most of a minute.
+        # All cases take almost a minute.
         instead={
             "bsdudp-conform": f"{TOP}/conform/bsdudp-conform",
             "YOUR_STACK..": "",
@@ -240,7 +240,7 @@ SESSIONS = {
     ),
 }
 ROWS |= {command: Row("commands", "SESSIONS") for it in SESSIONS.values() for command in it.commands}
-# No test runs these, for this reason.
+# The commands that no test runs, and why.
 UNTRIED = {
     "pip install scapy": "it takes the network; Debian's package is tried",
     "nc -u 10.0.0.1 7": "a test of tap_host sends the same datagrams by a socket",
@@ -254,12 +254,13 @@ UNTRIED = {
     ".ci/wrong-bodies --all": "it takes hours, before a version",
     ".ci/wrong-bodies [CRATE ..]": "it takes hours, before a version",
 }
-# What names a program with an option, and isn't to be typed.
+# A program with an option that pages name, but that readers don't type.
 NAMES = {"bsdudp run", "bsdudp chain", "bsdplay --grade", "bsdplay why"}
 
 
 def of_pages() -> Iterator[Command]:
-    """The commands that need a test: those of README.md, CONTRIBUTING.md and the first screen of each page of docs/."""
+    """Yields the commands that need a test: those in README.md, CONTRIBUTING.md and the first lines of each page in
+    docs/."""
     for path in WHOLE:
         yield from commands(path)
     for page in sorted((TOP / "docs").rglob("*.md")):
@@ -267,19 +268,19 @@ def of_pages() -> Iterator[Command]:
 
 
 def of_documents() -> Iterator[Command]:
-    """The commands of all pages, apart from those that say what was so in the past."""
+    """Yields the commands of all pages, except those about the past."""
     for path in documents():
         if path not in OF_THE_PAST:
             yield from commands(path)
 
 
 def is_of(text: str, pattern: str) -> bool:
-    """Whether a row's text matches a command."""
+    """Returns whether a row's text matches a command."""
     return text == pattern or ("*" in pattern and fnmatch.fnmatchcase(text, pattern.replace("[", "[[]")))
 
 
 def row_of(text: str) -> str | None:
-    """The row, the reason or the name that a command has, by its text."""
+    """Returns the row, the reason or the name for a command, or None."""
     return next((it for it in [*ROWS, *UNTRIED, *NAMES] if is_of(text, it)), None)
 
 
@@ -296,12 +297,12 @@ def is_of_pytest(text: str) -> bool:
 
 
 def packages_of(text: str) -> list[str]:
-    """The packages that a command installs by name."""
+    """Returns the packages that a command installs by name."""
     found = re.fullmatch(r"apt-get install((?: [a-z0-9+.-]+)+)", text)
     return found[1].split() if found else []
 
 
 def has_way(text: str) -> bool:
-    """Whether something tries a command, or it says why nothing does."""
+    """Returns whether a test runs a command, or a reason is given why none does."""
     known = (is_script, is_of_make, is_of_rt, is_of_pytest, packages_of, row_of)
     return any(is_known(text) for is_known in known)

@@ -1,4 +1,4 @@
-"""The pages of this repository as tests read them: their lines, code, tables and commands, and faults in them."""
+"""Reads the pages of this repository for tests: their lines, code, tables and commands, and reports faults in them."""
 from __future__ import annotations
 
 import functools
@@ -14,7 +14,7 @@ SHOWN = 30
 
 
 class Fault(NamedTuple):
-    """The place of a fault, what is wrong, and what is wanted and came, if that says more."""
+    """The place of a fault, what is wrong, and optionally the expected text and the present one."""
 
     place: str
     about: str
@@ -41,19 +41,19 @@ def read(path: str) -> str:
 
 
 def lines(path: str) -> Iterator[tuple[str, str]]:
-    """Each line of a file, with its place."""
+    """Yields each line of a file, with its place."""
     for number, line in enumerate(read(path).split("\n"), 1):
         yield f"{path}:{number}", line
 
 
 def in_code(text: str) -> list[str]:
-    """The code in a text, between backticks."""
+    """Returns the code in a text, between backticks."""
     return re.findall(r"`([^`]+)`", text)
 
 
 # ---- commands ------------------------------------------------------------------------------------------------------
 
-# The programs by which a command is known. Scripts of this repository and ./NAME are commands, too.
+# Code that begins with one of these programs is a command. So are scripts of this repository and ./NAME.
 PROGRAMS = set(
     "bsdudp bsdplay bsdudp-conform rt make git python3 /usr/bin/python3 pytest pip mypy node cc c++ gcc g++ cmake "
     "arm-none-eabi-gcc qemu-system-arm pkg-config apt apt-get dpkg dpkg-deb install cd cp mkdir cat echo printf paste "
@@ -63,19 +63,19 @@ LINE = re.compile(r"\s{2,}\S.*$|\s+#\s.*$")
 
 
 class Command(NamedTuple):
-    """A command that a page has, and where."""
+    """A command on a page, and its place."""
 
     place: str
     text: str
 
 
 def is_script(word: str) -> bool:
-    """Whether a word is the path of a script of this repository."""
+    """Returns whether a word is the path of a script in this repository."""
     return "/" in word and (TOP / word).is_file() and os.access(TOP / word, os.X_OK)
 
 
 def is_command(text: str) -> bool:
-    """Whether code is a command: of programs beside this repository's scripts only if words follow the name."""
+    """Returns whether code is a command. Programs other than this repository's scripts need arguments."""
     words = re.sub(r"^([A-Z_]+=\S*\s+)+", "", text).split()
     if not words:
         return False
@@ -87,8 +87,8 @@ def is_command(text: str) -> bool:
 
 
 def commands(path: str, most: int | None = None) -> Iterator[Command]:
-    """The commands in blocks of code and in the text of a page, or of so many lines of it, in their order, without
-    comments and second columns. A command in several lines is one."""
+    """Yields the commands in blocks of code and in the text of a page, or of its first `most` lines, in order, without
+    comments and second columns. Joins a command in several lines."""
     fence, paragraph, begin, more = None, "", 0, ""
     text = read(path).split("\n")
     for number, line in enumerate([*text[:most], ""], 1):
@@ -113,21 +113,21 @@ def commands(path: str, most: int | None = None) -> Iterator[Command]:
 
 
 class Row(NamedTuple):
-    """A row of a table, with its place."""
+    """A row of a table, and its place."""
 
     place: str
     cells: list[str]
 
 
 class Entry(NamedTuple):
-    """What a row is about, and its place."""
+    """The key of a row, and its place."""
 
     place: str
     key: str
 
 
 def unread(place: str, about: str) -> NoReturn:
-    """Fails a test because a table or a piece of code isn't where the test looks for it."""
+    """Fails a test because a table or a piece of code isn't found at the expected place."""
     pytest.fail(f"{place}: {about}. If it has moved, change the test, too", pytrace=False)
 
 
@@ -136,7 +136,8 @@ def cells_of(line: str) -> list[str]:
 
 
 def table(path: str, section: str, *heads: str) -> tuple[str, list[Row]]:
-    """The place of the table with these heads in the section whose heading begins so, and its rows."""
+    """Returns the place of the table with these heads in the section whose heading begins with `section`, and its
+    rows."""
     heading, top, rows, place = "", 0, [], ""
     for number, line in enumerate(read(path).split("\n"), 1):
         if line.startswith("## "):
@@ -157,7 +158,7 @@ def table(path: str, section: str, *heads: str) -> tuple[str, list[Row]]:
 
 
 def cell_of(path: str, section: str, heads: Iterable[str], first: str, column: int) -> int:
-    """A number of the row whose first cell is this one."""
+    """Returns the number in a column of the row with this first cell."""
     for row in table(path, section, *heads)[1]:
         if row.cells[0] == first:
             return number(row.cells[column])
@@ -169,13 +170,13 @@ def number(text: str) -> int:
 
 
 def pieces(path: str, pattern: str, text: str | None = None) -> list:
-    """What the pattern finds in a file of code, or in a part of it: at least one piece."""
+    """Returns all that the pattern finds in a file of code, or in a part of it. Fails if it finds nothing."""
     found = re.findall(pattern, read(path) if text is None else text)
     return found or unread(f"{path}:1", f"nothing there fits {pattern}")
 
 
 def part(path: str, begin: str, end: str) -> str:
-    """The part of a file between two texts."""
+    """Returns the part of a file between two texts."""
     _, there, rest = read(path).partition(begin)
     if not there or end not in rest:
         unread(f"{path}:1", f"there is no text between '{begin}' and '{end}'")
@@ -183,7 +184,7 @@ def part(path: str, begin: str, end: str) -> str:
 
 
 def in_order(place: str, what: str, entries: Sequence[Entry], wanted: Sequence[str], source: str) -> list[Fault]:
-    """The differences between a table's entries and those of the code, which it should have in their order."""
+    """Returns the differences between a table's entries and those of the code, in this order."""
     keys = [entry.key for entry in entries]
     faults = [Fault(place, f"{what} of {source} is missing", it) for it in wanted if it not in keys]
     faults += [
@@ -200,7 +201,7 @@ def in_order(place: str, what: str, entries: Sequence[Entry], wanted: Sequence[s
 
 # ---- the pages -----------------------------------------------------------------------------------------------------
 
-# They say what was so in the past.
+# Pages about the past.
 OF_THE_PAST = ("CHANGELOG.md", "docs/maintain/gate-times.md")
 FOLDERS = ("", "bench/", "capi/", "conform/", "crates/", "crates/*/", "docs/", "docs/maintain/", "examples/", "page/", "portable/")
 FOLDERS += ("python/", "simulators/", "simulators/*/", "tests/", "tools/*/")
@@ -208,10 +209,10 @@ FOLDERS += ("python/", "simulators/", "simulators/*/", "tests/", "tools/*/")
 
 @functools.lru_cache(maxsize=None)
 def documents() -> tuple[str, ...]:
-    """The pages of this repository, by their paths."""
+    """Returns the paths of this repository's pages."""
     return tuple(str(path.relative_to(TOP)) for folder in FOLDERS for path in sorted(TOP.glob(f"{folder}*.md")))
 
 
 def sources_of(crate: str) -> list[str]:
-    """The files of a crate's code, by their paths."""
+    """Returns the paths of a crate's sources."""
     return [str(path.relative_to(TOP)) for path in sorted(TOP.glob(f"crates/{crate}/src/**/*.rt"))]

@@ -1,5 +1,5 @@
-"""The C header: what each call returns and each of its errors, with its sign and name; its parameters. And the sections of
-its manual page."""
+"""The C header documents what each call returns, each of its errors with sign and name, and its parameters. And the
+sections of its manual page."""
 import re
 import subprocess
 import sys
@@ -23,7 +23,7 @@ def test_each_call_has_a_comment():
 
 @pytest.mark.parametrize("name", CALLS)
 def test_call(name):
-    """It says what it returns, its errors by full names and signs, and has names for its parameters."""
+    """A call documents what it returns, its errors by full names and signs, and has names for its parameters."""
     comment, call = CALLS[name]
     assert "Returns" in comment
     arguments = re.search(r"\((.*)\)", call, re.S)[1]

@@ -1,5 +1,5 @@
-"""The commands that README.md, CONTRIBUTING.md and the first screen of each page of docs/ ask their readers to type:
-each has something that tries it (commands.py), or a reason why nothing does. Those that need a built program are run in
+"""The commands that README.md, CONTRIBUTING.md and the first lines of each page in docs/ ask their readers to type:
+each has a test (commands.py), or a reason why it has none. Commands that need a built program are run in
 tests/commands."""
 import re
 import subprocess
@@ -14,7 +14,7 @@ HOW = (
     "no test tries this command. Add it to SESSIONS of tests/docs/commands.py, which tests/commands runs, or to ROWS "
     "with the test that does"
 )
-# pytest --help hasn't these: an option of xdist, and another spelling.
+# Not in pytest --help: an option of xdist, and another spelling.
 NOT_IN_HELP = {"-n", "--junitxml"}
 
 
@@ -23,7 +23,7 @@ def test_each_command_is_tried():
 
 
 def test_each_row_is_of_a_page():
-    """A row that no page needs any more is deleted; those of SESSIONS are of the page that they name."""
+    """Each row has a command on a page. The commands of SESSIONS are on the page that they name."""
     texts = {it.text for path in documents() for it in pages.commands(path)}
     faults = [
         Fault("tests/docs/commands.py:1", f"{session.page} has no command like this of '{name}'", it)
@@ -43,14 +43,14 @@ def test_each_row_is_of_a_page():
 
 
 def files_of(subject):
-    """The files of a subject of the tests."""
+    """Returns the files of a subject of the tests."""
     paths = [TOP / ".ci" / subject, *(TOP / "tests").rglob(f"test_{subject}.py")]
     paths += [*(TOP / "tests" / subject).rglob("*"), *(TOP / subject / "tests").rglob("*")]
     return [it for it in paths if it.is_file() and it.suffix != ".pyc"]
 
 
 def test_each_row_names_its_test():
-    """What is said to try a command has it, or the part that the row names."""
+    """The test of a command contains it, or the part that its row names."""
     faults = []
     for command, (subject, part) in commands.ROWS.items():
         files = files_of(subject)
@@ -64,7 +64,7 @@ def test_each_row_names_its_test():
 
 
 def test_packages_are_those_of_the_gate():
-    """Each package of Debian that a page installs is one that .ci/setup installs, or part of each Debian."""
+    """Each Debian package that a page installs is one that .ci/setup installs, or part of each Debian system."""
     known = set(re.findall(r"[a-z0-9+.-]+", read(".ci/setup"))) | {"python3"}
     none_of(
         Fault(it.place, f"`{it.text}`: .ci/setup doesn't install {package}")
@@ -75,7 +75,7 @@ def test_packages_are_those_of_the_gate():
 
 
 def test_pytest_finds_its_tests():
-    """Each file and folder of tests that a page gives to pytest is there, and each option is one of pytest or ours."""
+    """Each file and folder of tests that a page passes to pytest exists, and each option is one of pytest's or ours."""
     faults = []
     words = [sys.executable, "-m", "pytest", "--help"]
     about = subprocess.run(words, cwd=TOP, capture_output=True, text=True, check=True)
@@ -94,7 +94,7 @@ def test_pytest_finds_its_tests():
 
 @pytest.mark.needs("make")
 def test_make_knows():
-    """Each target and variable that a page names stands in the Makefile, and what the target calls is there."""
+    """Each target and variable that a page names is in the Makefile, and what the target calls exists."""
     makefile, faults = read("Makefile"), []
     for it in commands.of_documents():
         if not commands.is_of_make(it.text):
@@ -112,7 +112,7 @@ def test_make_knows():
 
 
 def test_scripts_know_their_options():
-    """Each option that a page gives to a script of this repository is one that its --help names."""
+    """Each option that a page passes to a script of this repository is in its --help."""
     faults, helps = [], {}
     for it in commands.of_documents():
         script, *words = it.text.split()

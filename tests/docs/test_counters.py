@@ -6,12 +6,12 @@ from tests.docs.pages import Entry, Fault, documents, in_code, in_order, lines, 
 from tools import listed
 
 BEHAVIOUR = "docs/behaviour.md"
-# The definitions whose text has the causes that end a packet in the order of the checks.
+# The definitions whose text has the causes that drop a packet, in the order of the checks.
 CHECKS = ["ComesIn", "head_fault", "Passes", "FragmentArrives", "WholeArrives"]
 
 
 def test_table_of_checks():
-    """The table of what ends a packet has the order of the definitions."""
+    """The table of causes has the order of the definitions."""
     place, rows = table(BEHAVIOUR, "A packet that arrives", "Check", "Counter")
     known: dict[str, str] = {}
     for path in ("Packets/Header.antt", "Machine/Arrival.antt", "Machine/Step.antt"):

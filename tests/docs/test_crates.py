@@ -1,5 +1,5 @@
-"""What pages say of the crates: which there are and which each uses, libraries of the toolchain, files with raw
-pointers, calls that other crates make, wrong bodies that the prover refuses; callers in READMEs."""
+"""What pages say about the crates: their names and the crates that each uses, the toolchain's libraries, files with raw
+pointers, calls that other crates make, mutants that the prover rejects, and callers in READMEs."""
 import functools
 import re
 import subprocess
@@ -13,11 +13,11 @@ from tools import crates, edits, joined
 ARCHITECTURE = "docs/maintain/architecture.md"
 
 
-# ---- which there are -----------------------------------------------------------------------------------------------
+# ---- names ---------------------------------------------------------------------------------------------------------
 
 
 def lists() -> dict[str, list[str]]:
-    """The crates, in the order of each file that lists them all."""
+    """Returns the crates, in the order of each file that lists all of them."""
     return {
         "crates.txt": list(crates.uses()),
         "crates/README.md": re.findall(r"\[(\w+)\]\(\1/README\.md\)", read("crates/README.md")),
@@ -31,7 +31,7 @@ def layers() -> list:
 
 @pytest.mark.parametrize("path", ["crates.txt", "crates/README.md", ARCHITECTURE])
 def test_each_crate_has_a_line(path):
-    """Each crate is listed once; in the first two files, after the crates that it uses."""
+    """Each crate is listed once. In the first two files it's after the crates that it uses."""
     used, names = crates.uses(), lists()[path]
     there = sorted(it.parent.name for it in TOP.glob("crates/*/src"))
     faults = [Fault(f"{path}:1", "this crate is missing", it) for it in there if it not in names]
@@ -56,7 +56,7 @@ def test_layers_name_what_they_use():
 
 
 def test_libraries_that_are_trusted():
-    """docs/proved.md names each library of the toolchain that a crate uses, and no other."""
+    """docs/proved.md names exactly the toolchain's libraries that a crate uses."""
     path, used = "docs/proved.md", crates.uses()
     wanted = {it for uses in used.values() for it in uses if it not in used}
     _, rows = table(path, "Trusted", "What", "Who relies on it")
@@ -65,7 +65,7 @@ def test_libraries_that_are_trusted():
     none_of(faults + [Fault(f"{path}:1", f"under 'Trusted': no crate uses {it}") for it in sorted(told - wanted)])
 
 
-# ---- what their code has -------------------------------------------------------------------------------------------
+# ---- their code ----------------------------------------------------------------------------------------------------
 
 
 def test_raw_pointers():
@@ -80,7 +80,7 @@ def test_raw_pointers():
 
 @functools.lru_cache(maxsize=None)
 def sources() -> dict[str, str]:
-    """The code of each crate."""
+    """Returns the code of each crate."""
     return {name: "\n".join(map(read, sources_of(name))) for name in crates.uses()}
 
 
@@ -105,7 +105,7 @@ def test_calls_on_the_way_of_a_packet():
 
 
 def test_bodies_that_are_refused():
-    """Each mutant that docs/security.md calls refused is in must-fail/."""
+    """Each mutant that docs/security.md names is in must-fail/."""
     none_of(
         Fault(place, f"no must-fail/ has {name}.edit")
         for place, line in lines("docs/security.md")
@@ -116,12 +116,12 @@ def test_bodies_that_are_refused():
 
 @pytest.mark.parametrize("crate", sorted(it.name for it in TOP.glob("crates/*")))
 def test_wrong_bodies_apply(crate):
-    """Each mutant of a crate still applies: its file has each text that it replaces exactly once."""
+    """Each mutant of a crate still applies: its file contains each text that it replaces exactly once."""
     none_of(Fault(f"{path.relative_to(TOP)}:1", why) for path, why in edits.faults(TOP / "crates" / crate))
 
 
 def test_wrong_definitions_apply_to_the_joined_crate(tmp_path):
-    """`.ci/wrong-bodies` can make one crate of flat_model and flat_wire, and each wrong definition applies there."""
+    """`.ci/wrong-bodies` can join flat_model and flat_wire in one crate, and each wrong definition applies there."""
     joined.make(TOP / "crates", tmp_path)
     there = sorted((TOP / "crates" / joined.NAME / joined.EDITS).iterdir())
     assert there

@@ -1,4 +1,4 @@
-"""What pages say of examples/: a row for each script, and the output that docs/tour.md shows."""
+"""What pages say about examples/: a row for each script, and the output that docs/tour.md shows."""
 import re
 
 import pytest
@@ -17,7 +17,7 @@ def test_each_example_has_a_line():
 
 
 def quoted():
-    """Each script that the tour plays, with the lines that it shows as the output until it plays another one."""
+    """Yields each script that the tour plays, with the lines of output that it shows before it plays another one."""
     script, rows = "", []
     for place, line in lines(TOUR):
         command = re.match(r"    (?:bsdplay|bsdudp chain <) (examples/\S+)", line)
@@ -32,13 +32,13 @@ def quoted():
 
 
 def printed(script):
-    """What a script prints: the golden file of one for bsdplay; lines and replies side by side of one of chains."""
+    """Returns what a script prints: the golden file of a play script, or the lines and replies of a chain script."""
     replies = read(f"{script}.stdout").splitlines()
     return map(" => ".join, zip(read(script).splitlines(), replies)) if "/chain/" in script else replies
 
 
 def pattern(text):
-    """A line as the tour has it. Of a script of chains `..` stands for any text, and what follows two spaces is the
+    """Returns a pattern for a line in the tour. In a chain script, `..` matches any text. After two spaces comes the
     reply, and then a remark."""
     asked, reply, *_ = [*re.split(r"\s{2,}", text), ""]
     return re.compile(".*".join(re.escape(it) for it in f"{asked} => {reply}".split("..")))
@@ -56,5 +56,5 @@ def test_tour(script, rows):
 
 
 def test_tour_is_tried():
-    """The tour's quotes are found: fourteen scripts or so."""
+    """The tour's quotes are found: about fourteen scripts."""
     assert len(list(quoted())) >= 12

@@ -1,14 +1,14 @@
-"""No value is let go without what it holds: `forget` and its like stand only where a line below says why.
+"""No value is leaked: `forget` and similar calls are only where a line below gives the reason.
 
-Rattle's ownership doesn't see to it that memory is given back. `std::mem::forget` takes any value, and no contract
-speaks of host memory. What is refused at run time is counted by tests/bsdudp/test_memory.py."""
+Rattle's ownership doesn't guarantee that memory is freed. `std::mem::forget` takes any value, and no contract mentions
+host memory. tests/bsdudp/test_memory.py counts the blocks after failed allocations."""
 import re
 
 import pytest
 
 from tests.cases import TOP
 
-# Ways to let go of a value, or of the block that it owns, without its `drop`.
+# Ways to discard a value, or the block that it owns, without its `drop`.
 WAYS = re.compile(r"\b(forget|ManuallyDrop|MaybeUninit|leak|into_raw\w*|into_non_null\w*|transmute\w*)\b")
 
 WHY = {
@@ -21,7 +21,7 @@ WHY = {
 
 
 def ways(text):
-    """The ways that a source takes, its comments left out."""
+    """Returns the ways that a source uses, without its comments."""
     return set(WAYS.findall(re.sub(r"//.*", "", text)))
 
 

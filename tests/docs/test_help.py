@@ -1,9 +1,9 @@
-"""Each script of the repository answers `--help` with its usage and more, and refuses a wrong word by its usage and
-status 2; and it does nothing else then.
+"""For `--help`, each script in the repository prints its usage and a description. For a wrong argument, it prints its
+usage and ends with status 2. In both cases it does no more than that.
 
-A script is a file that can be run and begins with #!. It runs in an empty folder, which has to stay empty, for 20
-seconds at most, and without the toolchain on the path, so that one that begins to work doesn't get far. It has to do so
-on a machine without any package that it uses beyond Python: MASKED can't be imported here, even if it's installed."""
+A script is an executable file that begins with #!. It runs in an empty folder, which must stay empty, for at most 20
+seconds, and without the toolchain on the path, so that a script that begins to work doesn't get far. It must work
+without any package that it uses besides Python: MASKED can't be imported here, even if it's installed."""
 import os
 import pathlib
 import re
@@ -21,7 +21,7 @@ SKIPPED = {"out", "__pycache__", ".git", "node_modules"}
 
 
 def scripts():
-    """Each script of the repository, by its path there: git's list isn't asked, since there may be no git."""
+    """Returns the path of each script in the repository. It doesn't use git, which may be missing."""
     for folder, folders, files in os.walk(TOP):
         folders[:] = sorted(set(folders) - SKIPPED)
         for name in sorted(files):
@@ -34,7 +34,7 @@ def scripts():
 
 @pytest.fixture(scope="session")
 def masks(once):
-    """A folder of modules that can't be imported."""
+    """A folder of modules whose import fails."""
 
     def make(folder):
         for it in MASKED:
@@ -44,7 +44,7 @@ def masks(once):
 
 
 def ended(script, word, room, masks):
-    """How a script ends that's given a word: its status, and what it says on standard output and on standard error."""
+    """Runs a script with an argument. Returns its status, its standard output and its standard error."""
     environment = {"PATH": "/usr/bin:/bin", "HOME": str(room), "PYTHONPATH": ":".join([str(masks), *PACKAGES])}
     environment["PYTHONDONTWRITEBYTECODE"] = "1"
     pipes = {"stdin": subprocess.DEVNULL, "stdout": subprocess.PIPE, "stderr": subprocess.PIPE, "text": True}

@@ -1,5 +1,5 @@
-"""The links of all pages: each leads to a file that is there, and to a heading of it; and each path of this repository
-that a page names is there."""
+"""Each link on a page leads to a file that exists, and to a heading in it. Each path in this repository that a page
+names exists."""
 import functools
 import os
 import re
@@ -11,13 +11,13 @@ from tests.docs.pages import OF_THE_PAST, TOP, Fault, documents, in_code, lines,
 LINK = re.compile(r"\]\(([^)#:\s]*)(?:#([^)\s]*))?\)")
 FOLDERS = "bench|capi|conform|crates|dist|docs|examples|page|portable|python|simulators|tests|tools|.ci"
 PATH = re.compile(rf"(?:^| )((?:{FOLDERS})/[\w./-]+)(?= |$)")
-# A word in capitals is a placeholder, and what is built is in a folder out/.
+# A word in capitals is a placeholder, and built files are in a folder out/.
 NO_PATH = re.compile(r"[A-Z]{4}|/out/")
 
 
 @functools.lru_cache(maxsize=None)
 def anchors(path: str) -> frozenset[str]:
-    """The anchors of a page's headings, as readers of Markdown make them: of two that are alike the second has -1."""
+    """Returns the anchors of a page's headings in Markdown. The second of two equal ones ends with -1."""
     found, fenced = [], False
     for line in read(path).split("\n"):
         fenced ^= line.startswith("```")
@@ -44,7 +44,7 @@ def test_links(path):
 
 @pytest.mark.parametrize("path", [it for it in documents() if it not in OF_THE_PAST])
 def test_paths(path):
-    """Each path of this repository that a page names is there."""
+    """Each path in this repository that a page names exists."""
     none_of(
         Fault(place, f"there is no {name}")
         for place, line in lines(path)

@@ -1,5 +1,5 @@
-"""The lists of counters, causes, errors, commands and settings are those that tools/lists writes, and it sees each that
-isn't."""
+"""The lists of counters, causes, errors, commands and settings are those that tools/lists writes. It finds each list
+that isn't."""
 import importlib.machinery
 import importlib.util
 import subprocess
@@ -22,7 +22,7 @@ def test_each_list_is_fresh():
 
 @pytest.mark.parametrize("block", BLOCKS, ids=[f"{at} {block.path}" for at, block in enumerate(BLOCKS)])
 def test_a_stale_list_is_seen(block):
-    """One that lacks its last line, or has another number, is written anew."""
+    """A list that lacks its last line, or has another number, is written again."""
     text = (TOP / block.path).read_text(encoding="utf-8")
     begin, end = lists.place_of(block, text)
     lines = text[begin:end].splitlines(keepends=True)

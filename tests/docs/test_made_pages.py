@@ -1,4 +1,4 @@
-"""The pages that programs make: manual pages, which groff reads without a warning, and the contract of `sendto` with
+"""The pages that programs write: manual pages, which groff formats without a warning, and the contract of `sendto` with
 all its definitions."""
 import subprocess
 import sys
@@ -24,7 +24,7 @@ def manual(once):
 
 @pytest.mark.parametrize("page", PAGES)
 def test_manual_page(page, manual):
-    """It can be made, and has what each manual page has."""
+    """It can be made, and has the sections of a manual page."""
     text = (manual / page).read_text(encoding="utf-8")
     assert text.startswith(".TH") and ".SH NAME" in text, f"{page}: {text[:200]}"
 
@@ -39,7 +39,7 @@ def test_groff(page, manual):
 
 
 def test_contract_of_sendto(tmp_path):
-    """`tools/sendto FILE` can write its page: each word of the contract leads to a definition."""
+    """`tools/sendto FILE` can write its page: each word of the contract links to a definition."""
     page = tmp_path / "sendto.md"
     words = [sys.executable, TOP / "tools/sendto", page]
     done = subprocess.run(words, capture_output=True, text=True, check=False)

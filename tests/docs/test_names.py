@@ -1,4 +1,4 @@
-"""The names in pages: each name of code is one, each item of a crate or a type is defined there, and so is each
+"""The names on pages: each name of code exists, each item of a crate or a type is defined there, and so is each
 definition that a page names. How many definitions share a name, and how wide lines of code are."""
 import functools
 import re
@@ -11,18 +11,18 @@ from tools import crates
 
 FOLDERS = [".ci", "bench", "capi", "conform", "crates", "dist", "examples", "page", "portable", "python", "simulators"]
 FOLDERS += ["tests", "tools"]
-# Of these the text has no names of code: pages name what they name themselves.
+# Files whose text isn't searched for names of code. Pages would find their own names.
 NO_CODE = (".md", ".png", ".edit", ".pcap", ".pyc")
-# What pages name of others: Linux, an RTOS, Python's sockets.
+# Names that pages take from elsewhere: Linux, an RTOS, Python's sockets.
 NAMES_OF_OTHERS = {
     "rp_filter",
     *(f"k_{it}" for it in ("msgq_put", "msgq_get", "mutex_lock", "event_post", "event_wait", "event_clear")),
     *("get_inheritable", "set_inheritable", "recvmsg_into", "sendmsg_afalg"),
 }
-# What looks like items of a crate: what find_package(bsdudp) defines, and calls of ns-3.
+# Names in the form of a crate's items: targets of find_package(bsdudp), and calls of ns-3.
 ITEMS_OF_OTHERS = {f"bsdudp::{it}" for it in ("bsdudp", "static", "shared")}
 ITEMS_OF_OTHERS |= {"Config::Connect", "Config::SetDefault", "Packet::Print"}
-# These also name functions of volume 2, or what was decided against.
+# These pages also name functions of volume 2, or rejected designs.
 OF_OTHERS = {*OF_THE_PAST, *(f"docs/{it}.md" for it in ("maintain/decisions", "behaviour", "book"))}
 IMPORT = re.compile(r"\s*(?:ghost |pub )?(?:use|open) ")
 DEFINED = re.compile(r"(?:(?:abbrev|unfoldable) pub|pub (?:record|data)|pub)\s+([^\s:(){}]+)\s")
@@ -35,7 +35,7 @@ WIDEST = 120
 
 @functools.lru_cache(maxsize=None)
 def words_of_code() -> frozenset[bytes]:
-    """Each word of the code, of the scripts, and of the names of files."""
+    """Returns each word in the code, in the scripts, and in the names of files."""
     letters = b"_0123456789abcdefghijklmnopqrstuvwxyzABCDEFGHIJKLMNOPQRSTUVWXYZ"
     between = bytes(it if it in letters else ord(" ") for it in range(256))
     words: set[bytes] = set()
@@ -51,7 +51,7 @@ def words_of_code() -> frozenset[bytes]:
 
 @pytest.mark.parametrize("path", [it for it in documents() if it not in OF_OTHERS])
 def test_names_of_code(path):
-    """Every name with an underscore, and what stands before its `::`, is one of the code."""
+    """Every name with an underscore, and each name before its `::`, is in the code."""
     known, faults = words_of_code(), []
     for place, line in lines(path):
         for code in in_code(line):
@@ -63,7 +63,7 @@ def test_names_of_code(path):
 
 @functools.lru_cache(maxsize=None)
 def homes() -> dict[str, list[str]]:
-    """The crate of each crate's name, and the crates that define each type."""
+    """Returns the crate for each crate's name, and the crates that define each type."""
     found = {name: [name] for name in crates.uses()}
     for name in crates.uses():
         for it in re.findall(r"\b(?:struct|enum|trait) (\w+)", source(name)):
@@ -78,7 +78,7 @@ def source(crate: str) -> str:
 
 @functools.lru_cache(maxsize=None)
 def is_defined(crate: str, item: str) -> bool:
-    """Whether a crate defines an item, a variant, a field or a module with this name, or passes it on."""
+    """Returns whether a crate defines or exports an item, a variant, a field or a module with this name."""
     one = rf"\b(?:fn|struct|enum|trait|const|type|mod|static) {item}\b|\bpub use [^;]*\b{item}\b"
     one += rf"|(?m:^ +{item}\b)" if item[0].isupper() else rf"|(?m:^ +(?:pub(?:\(\w+\))? )?{item}:)"
     return re.search(one, source(crate)) is not None
@@ -86,7 +86,7 @@ def is_defined(crate: str, item: str) -> bool:
 
 @pytest.mark.parametrize("path", documents())
 def test_items_of_crates(path):
-    """What a page names as `CRATE::ITEM` or `TYPE::ITEM`, of a crate here or a type of one, is defined there."""
+    """Each `CRATE::ITEM` or `TYPE::ITEM` on a page, for a crate here or a type of one, is defined there."""
     faults = []
     for place, line in lines(path):
         for found in re.finditer(r"`&?(\w+)(?:::\w+)*::(\w+)(?:\([^`]*)?`", line):
@@ -102,13 +102,14 @@ def test_items_of_crates(path):
 
 
 def has_definition(crate: str, module: str, name: str) -> bool:
-    """Whether a file MODULE.antt of a crate's specs/ defines a name."""
+    """Returns whether a file MODULE.antt in a crate's specs/ defines a name."""
     pattern = re.compile(rf"(?m)^ *(?:(?:abbrev|unfoldable) pub|pub (?:record|data)|pub) {re.escape(name)}(?![\w-])")
     return any(pattern.search(it.read_text("utf-8")) for it in TOP.glob(f"crates/{crate}/specs/**/{module}.antt"))
 
 
 def named_definitions(text: str, crate: str = "") -> list[tuple[str, str, str]]:
-    """What a text names as `MODULE.NAME`, or as a further `NAME` after it, with the crate: the one before, as `CRATE:`."""
+    """Returns each `MODULE.NAME` in a text, and each further `NAME` after it, with the crate, named before as
+    `CRATE:`."""
     found, module = [], ""
     for code, other in re.findall(r"`([^`]+)`|(\w+): ", text):
         crate = other or crate
@@ -120,7 +121,7 @@ def named_definitions(text: str, crate: str = "") -> list[tuple[str, str, str]]:
 
 
 def definitions_of_pages() -> Iterator[tuple[str, tuple[str, str, str]]]:
-    """The definitions that pages for readers of the book name, each with its place."""
+    """Yields the definitions that pages for readers of the book name, each with its place."""
     for place, line in lines("docs/book.md"):
         if line.startswith("| ") and line.count("|") == 4:
             yield from ((place, it) for it in named_definitions(line.split("|")[3]))
@@ -141,7 +142,7 @@ def test_definitions_of_pages():
 
 
 def test_calls_of_the_book():
-    """Each name of a call in the second column of docs/book.md is one of a function, a type or a variant of the code."""
+    """Each name of a call in the second column of docs/book.md is a function, a type or a variant in the code."""
     code = "\n".join(map(read, sources_of("*")))
     none_of(
         Fault(place, f"the code has no {name}")
@@ -157,7 +158,7 @@ def test_calls_of_the_book():
 
 
 def test_definitions_share_few_names():
-    """At most so many names are those of definitions in two or more modules of specs/."""
+    """At most NAMES_TWICE names are defined in two or more modules of specs/."""
     where: dict[str, list[str]] = {}
     for path in sorted((TOP / "crates").glob("*/specs/**/*.antt")):
         if "declared" not in path.parts:
@@ -173,7 +174,7 @@ def test_definitions_share_few_names():
 
 
 def wide_lines(folder: str, kind: str) -> list[Fault]:
-    """Lines that are too wide, apart from imports, which rt fmt doesn't break."""
+    """Returns lines that are too wide, except imports, which rt fmt doesn't break."""
     return [
         Fault(f"{path.relative_to(TOP)}:{number}", f"the line has {len(line)} characters, and {WIDEST} is the most")
         for path in sorted((TOP / "crates").glob(f"*/{folder}/**/{kind}"))
@@ -187,7 +188,7 @@ def test_widths_of_code():
 
 
 def test_widths_of_proofs():
-    """In proofs rt fmt joins some lines that were broken: fewer than one in a thousand may be wide."""
+    """In proofs, rt fmt joins some broken lines: fewer than one in a thousand may be too wide."""
     wide = wide_lines("proofs", "*.antt")
     paths = (TOP / "crates").glob("*/proofs/**/*.antt")
     if len(wide) * 1000 > sum(len(path.read_text(encoding="utf-8").splitlines()) for path in paths):

@@ -1,4 +1,4 @@
-"""The numbers in pages that a program can count or that two tables share, and the chart that is drawn of one."""
+"""The numbers on pages that a program can count or that two tables share, and the chart that is drawn from one."""
 import functools
 import re
 import subprocess
@@ -16,11 +16,11 @@ ALONE = ("A datagram from one stack to another", ["Datagram", *LENGTHS])
 BESIDE = ("Compared with lwIP", ["", *LENGTHS, "seven fragments"])
 
 
-# ---- what is counted -----------------------------------------------------------------------------------------------
+# ---- counted numbers -----------------------------------------------------------------------------------------------
 
 
 def functions() -> int:
-    """The functions that are written out with a body: not those that a derive writes, and not those of tests."""
+    """Returns the number of functions with a body in the sources, without derived ones and those of tests."""
     head = re.compile(r'(?m)^( *)(?:pub(?:\(\w+\))? )?(?:const )?(?:unsafe )?(?:extern "C" )?fn \w+')
     count = 0
     for path in sources_of("*"):
@@ -31,7 +31,7 @@ def functions() -> int:
             continue
         text = read(path)
         for it in head.finditer(text):
-            # A function of a trait may have no body, and ends with a semicolon.
+            # A function of a trait without a body ends with a semicolon.
             end = re.compile(rf"(?m)(;|\{{\}}| \{{|^{it[1]}\{{)$").search(text, it.end())
             count += end is not None and end[1] != ";"
     return count
@@ -42,14 +42,15 @@ def wrong_bodies(*folders: str) -> int:
 
 
 def exports() -> int:
-    """The exports of the C library's core apart from boot, end, and the two that docs/proved.md names."""
+    """Returns the number of exports of the C library's core, except boot, end, and the two that docs/proved.md
+    names."""
     code = "".join(map(read, sources_of("libbsdudp")))
     named = set(re.findall(r'extern "C" fn bsdudp_core_(\w+)', code))
     return len(named - {"boot", "end", "rx", "sendto"})
 
 
 def deepest() -> int:
-    """The most bytes of the call stack that a call of the C library takes, apart from boot and end."""
+    """Returns the largest number of bytes on the call stack in a call of the C library, except boot and end."""
     rows = table("docs/memory.md", "Call stack", "Call", "x86-64", "Cortex-M3, painted", "Cortex-M3, bound")[1]
     return max(number(row.cells[1]) for row in rows if not re.search(r"_(boot|boot_in|end)\b|other", row.cells[0]))
 
@@ -60,12 +61,12 @@ def lines_of_definitions() -> int:
 
 @functools.lru_cache(maxsize=None)
 def walk() -> list[int]:
-    """The functions, files and crates of a packet's walk from `rx` to the queue of a socket."""
+    """Returns the numbers of functions, files and crates on a packet's path from `rx` to the queue of a socket."""
     said = subprocess.run([TOP / "tools/walk"], check=True, capture_output=True, text=True).stdout
     return [number(it) for it in re.findall(r"\d+", said)]
 
 
-# What a page says, and the number that is right. After `about` it may be rounded to a hundredth.
+# The text of a page, and the right number. After `about` it may be rounded to a hundredth.
 COUNTED = [
     ("README.md", "functions in N crates are proved", lambda: len(crates.uses())),
     ("README.md", "about N functions", functions),
@@ -101,7 +102,7 @@ def test_number(path, words, count):
 
 
 def test_lengths_of_files():
-    """Each 'one file of N lines, `PATH`' in a page of docs/ is right."""
+    """Each 'one file of N lines, `PATH`' on a page in docs/ is right."""
     faults = []
     for path in documents():
         for place, line in lines(path) if path.startswith("docs/") else ():
@@ -129,7 +130,7 @@ def test_costs_that_stand_twice():
 
 
 def test_chart():
-    """docs/cost.svg is what bench/chart draws of docs/performance.md."""
+    """docs/cost.svg is what bench/chart draws from docs/performance.md."""
     words = [sys.executable, TOP / "bench/chart", "--check"]
     done = subprocess.run(words, check=False, capture_output=True, text=True)
     assert done.returncode == 0 and not done.stderr, f"docs/cost.svg:1: {done.stderr or 'bench/chart --check failed'}"

@@ -12,7 +12,7 @@ COMMAND_LINE = listed.COMMAND_LINE
 
 @pytest.mark.parametrize("command", ["run", "chain"])
 def test_usage(command):
-    """The line that shows how the command is called names its options."""
+    """The usage line of the command names its options."""
     text, wanted = read(SCRIPTS).split("\n"), listed.options()[command]
     line = next((n for n, it in enumerate(text, 1) if it.startswith(f"    bsdudp {command} [")), 0)
     told = re.findall(r"\[--(\w+)", text[line - 1]) if line else []
@@ -22,7 +22,7 @@ def test_usage(command):
 
 
 def test_table_of_statuses():
-    """Each exit status with each text on standard error that comes with it. No order of them is wrong."""
+    """Each exit status with each error text that belongs to it, in any order."""
     place, rows = table(SCRIPTS, "The command line of bsdudp", "Status", "Text on standard error", "When")
     prefix = pieces(COMMAND_LINE, r'writeln!\(errors, "(.*?)\{failure\}"\)')[0]
     texts = pieces("crates/script_loop/src/fault.rt", r'#\[error\("([^"]+)"\)\]\s*(\w+)')

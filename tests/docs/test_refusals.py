@@ -1,4 +1,4 @@
-"""The errors of the socket calls: docs/behaviour.md has those of each call in their order."""
+"""The errors of the socket calls: docs/behaviour.md has those of each call, in order."""
 import re
 
 from tests.docs.pages import Entry, Fault, in_code, in_order, none_of, table

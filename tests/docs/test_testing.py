@@ -1,4 +1,4 @@
-"""docs/maintain/testing.md: each word by which a row's tests are selected selects some, and each file of tests has a word."""
+"""docs/maintain/testing.md: each word in the tables selects some tests, and each file of tests has a word."""
 import re
 
 from tests.docs.pages import TOP, Fault, in_code, none_of, read, table
@@ -7,7 +7,7 @@ PAGE = "docs/maintain/testing.md"
 
 
 def words():
-    """The words of the tables, each with the place of its row."""
+    """Returns the words in the tables, each with the place of its row."""
     sections = read(PAGE).split("\n## ")[1:]
     names = [it.partition("\n")[0] for it in sections if "\n| What is tested | Word |" in it]
     rows = [row for it in names for row in table(PAGE, it, "What is tested", "Word", "Needs")[1]]
@@ -15,7 +15,7 @@ def words():
 
 
 def test_words_select_tests():
-    """As `pytest -k` does: by the names of folders, files and functions, and of scripts."""
+    """Selects as `pytest -k` does: by the names of folders, files and functions, and of scripts."""
     names = [str(it.relative_to(TOP)) for it in (TOP / "tests").rglob("test_*.py")]
     text = "".join((TOP / it).read_text(encoding="utf-8") for it in names)
     functions = re.findall(r"(?m)^def (test_\w+)", text)
@@ -28,7 +28,7 @@ def test_words_select_tests():
 
 
 def test_each_file_has_a_word():
-    """A file of tests that no word selects isn't listed on the page."""
+    """Each file of tests is selected by a word on the page."""
     known = words()
     none_of(
         Fault(f"{path}:1", f"{PAGE} has no row whose word selects this file")

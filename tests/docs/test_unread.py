@@ -1,4 +1,4 @@
-"""A program in Python whose output nobody reads any more, as in `PROGRAM | head -1`, ends without a message."""
+"""A Python program whose reader has ended, as in `PROGRAM | head -1`, ends without a message."""
 import os
 import subprocess
 import sys
@@ -13,15 +13,15 @@ sys.path.insert(0, {str(TOP)!r})
 from tools import command_line
 command_line.none('A list.')
 """
-# a list that a buffer holds, so that it's written at the end, and one that it doesn't hold
+# A list that fits in the buffer, so that it's written at the end, and one that doesn't fit.
 SHORT, LONG = (f"{HEAD}for it in range({count}):\n    print(it)\n" for count in (3, 100_000))
 OTHER = f"{HEAD}out, into = os.pipe()\nos.close(out)\nos.write(into, b'for a program that ended')\n"
-# These stand alone, and print no list.
+# These use no other module, and print no list.
 EXAMPLES = ("examples/", "simulators/ns3/examples/")
 
 
 def in_python():
-    """The scripts in Python, but for examples."""
+    """Yields the Python scripts, except examples."""
     for name in scripts():
         with (TOP / name).open("rb") as opened:
             if b"python" in opened.readline() and not name.startswith(EXAMPLES):
@@ -29,7 +29,7 @@ def in_python():
 
 
 def unread(*words):
-    """What a program says on standard error whose standard output is a pipe that nobody reads."""
+    """Returns the standard error of a program whose standard output is a pipe without a reader."""
     out, into = os.pipe()
     os.close(out)
     environment = {**os.environ, "PYTHONPATH": ":".join(PACKAGES), "PYTHONDONTWRITEBYTECODE": "1"}

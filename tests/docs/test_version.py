@@ -1,5 +1,5 @@
-"""The version: each place that names it names the newest one of CHANGELOG.md; CITATION.cff has the day of its release,
-and README.md that day or that it isn't released."""
+"""The version: each place that names it has the newest one in CHANGELOG.md. CITATION.cff has its release date, and
+README.md that date or that it isn't released."""
 import re
 
 import pytest

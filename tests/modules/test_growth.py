@@ -1,11 +1,11 @@
-"""Nothing asks for host memory after boot. This reads the LLVM modules of both static libraries, in which nothing is
-inlined yet and each function stands under its own name, and follows what functions name.
+"""Nothing allocates host memory after boot. This test reads the LLVM modules of both static libraries, in which nothing
+is inlined yet and each function has its own name, and follows the names in functions.
 
-What a function names it may reach, whether it calls it, takes its address or reads it: another function, or a constant
-and what stands in that, such as a table of functions. In libbsdudp each export but the two that boot may reach no
-function outside the module but LLVM's own and the one that gives memory back, and nothing that calls by an address or
-an assembler's text: who is called there can't be seen. In the page's library the same holds of what serves a script
-when memory was taken, and of what ends it."""
+A function may reach each name in it, whether it calls it, takes its address or reads it: another function, or a
+constant and the names in that, such as a table of functions. In libbsdudp, the exports other than the two that boot may
+reach no function outside the module except LLVM's own and the one that frees memory. They may also reach no call
+through an address and no assembler text, because the function called there is unknown. In the page's library, the same
+holds for the functions that serve a script after memory was allocated, and for those that end it."""
 import pathlib
 import re
 import tempfile
@@ -17,7 +17,8 @@ from tools import llvm
 pytestmark = [pytest.mark.slow, pytest.mark.needs("rt", "wasm-opt"), pytest.mark.xdist_group("modules")]
 BOOTS = ("bsdudp_core_boot", "bsdudp_core_ether_boot")
 HARMLESS = re.compile(r"llvm\.(?!coro\.)|rattle_dealloc$")
-# What is called in the page's library after memory was taken, and by that the answer to a line. Each has to be there.
+# The function of the page's library that is called after memory was allocated, and the functions that it calls for a
+# line. Each must exist.
 SERVE = "script_loop::serve::serve_within"
 SERVED = [
     "link_script::caller::CallerAnswersTEXT::answer",
@@ -26,17 +27,17 @@ SERVED = [
     "play_wire::player::PlayerAnswersOUTPUT::answer",
 ]
 ENDS = ["net_stack::stack::Stack::end", "chain_script::caller::Caller::end"]
-# Calls that aren't followed, and why.
+# Calls that aren't followed, and the reasons.
 LEFT_OUT = {
-    # Their contracts ask that there is room for the bytes, and all of its memory was taken when it was made.
+    # Their contracts require that the bytes fit, and the buffer's memory was allocated when it was made.
     ("script_loop::buffer::Buffer::append", "std_alloc::vec::Vec::extend_from_slice"),
     ("script_loop::buffer::Buffer::push", "std_alloc::vec::Vec::push"),
-    # A line of settings boots the machine, and each line `host` one more.
+    # A line with settings boots the host, and each line `host` boots another one.
     ("play_script::player::Player::set_up", "play_script::settle::settled"),
     ("play_wire::hosts::Hosts::execute_ask", "play_wire::hosts::Hosts::add"),
-    # A line `rx pcap` reads a whole capture, and gives back the memory for its records.
+    # A line `rx pcap` reads a whole capture, and frees the memory for its records.
     ("play_script::replay::play_in", "play_pcap::play::play_file"),
-    # It's the writer that the page gives, and takes memory for the replies.
+    # The page passes this writer, which allocates memory for the replies.
     ("script_loop::streams::VecU8Sink::write_some", "std::io::impls::VecU8Write::write"),
 }
 # A name of the module, or another quoted text.
@@ -46,12 +47,13 @@ CALLEE = re.compile(r'([@%])(?:"[^"]*"|[\w.$-]+)\(')
 
 
 def plain(name):
-    """A function's name without the types that it's made for."""
+    """Returns a function's name without its type arguments."""
     return name.partition("::<")[0]
 
 
 class Module:
-    """What each function and constant names, which are exports, which aren't in it, and who calls by an address."""
+    """The names in each function and constant, the exports, the names outside the module, and the functions that call
+    through an address."""
 
     def __init__(self, path):
         with tempfile.TemporaryDirectory() as room:
@@ -76,13 +78,13 @@ class Module:
                 self.blind.add(inside)
 
     def called(self, name):
-        """The functions of this name, for whatever types."""
+        """Returns the functions with this name, for all type arguments."""
         found = [it for it in self.names if plain(it) == name]
         assert found, f"{self.crate} has no {name}"
         return found
 
     def reached(self, root):
-        """Each name that is reached from one, with the name by which it's reached first."""
+        """Returns each name that is reached from one, with the name through which it's reached first."""
         by, left = {root: None}, [root]
         for name in left:
             new = sorted(self.names.get(name, set()) - by.keys())
@@ -113,7 +115,7 @@ def of_page(module):
 
 @pytest.mark.parametrize("boot", BOOTS)
 def test_boot_is_seen_to_ask(boot, of_library):
-    """Else nothing would be seen of what an export does."""
+    """Otherwise the test doesn't see what an export does."""
     assert any(of_library.faults(of_library.called(boot)))
 
 
@@ -125,7 +127,7 @@ def test_no_export_asks_but_boot(of_library):
 
 @pytest.mark.parametrize("answer", SERVED)
 def test_page_serves_by(answer, of_page):
-    """What is looked at of the page leads to each answer to a line."""
+    """The function that is followed in the page's library reaches each function that replies to a line."""
     assert any(plain(it) == answer for root in of_page.called(SERVE) for it in of_page.reached(root))
 
 

@@ -1,6 +1,6 @@
-"""libns3-bsdudp, ns-3's UDP sockets over the C library, built without a warning: its tests, plain and under the
-sanitizers, in which ns-3's own stack is the judge; each refusal that ends a program; the examples; what cmake --install
-makes, by the program of docs/ns3.md."""
+"""libns3-bsdudp, ns-3's UDP sockets with the C library, built without a warning: its tests, plain and with the
+sanitizers, which compare it with ns-3's own stack; each error that ends a program; the examples; and what cmake
+--install installs, with the program in docs/ns3.md."""
 import csv
 import os
 import re
@@ -16,7 +16,7 @@ pytestmark = [pytest.mark.slow, pytest.mark.needs("cc", "c++", "cmake", "pkg-con
 HOME = TOP / "simulators/ns3"
 SANITIZED = ["-DBSDUDP_EXAMPLES=OFF", "-DCMAKE_BUILD_TYPE=None"]
 SANITIZED += ["-DCMAKE_CXX_FLAGS=-O1 -g1 -fsanitize=address,undefined -fno-sanitize-recover=all"]
-# What is refused, and what is said of it.
+# Refused configurations, and their error texts.
 REFUSED = {
     "csma": "needs ARP",
     "mtu": "its MTU is 9000",
@@ -27,13 +27,13 @@ REFUSED = {
     "count": "there are 1 nodes and 2 devices",
     "bulk": "has no TCP",
 }
-NEAR = 0.06  # two shares so near may differ by another loss alone
+NEAR = 0.06  # shares within this distance may differ only by the packets that were lost
 WRONG = "ip.checksum.status != 1 || (udp && udp.checksum.status != 1) || _ws.malformed"
 IN_10_MINUTES = {"capture_output": True, "text": True, "check": False, "timeout": 600}
 
 
 def passed(*words, **how):
-    """What a command prints; if it fails, the first of what it says is wrong fails the test."""
+    """Returns a command's output. If it fails, the test fails with its first error."""
     done = subprocess.run([*map(str, words)], **IN_10_MINUTES, **how)
     said = done.stdout + done.stderr
     if done.returncode:
@@ -44,7 +44,7 @@ def passed(*words, **how):
 
 @pytest.fixture(scope="session")
 def prefix(core, once):
-    """Where the C library and libns3-bsdudp are installed."""
+    """The folder in which the C library and libns3-bsdudp are installed."""
 
     def make(folder):
         subprocess.run([TOP / "capi/install", folder], check=True)
@@ -54,7 +54,7 @@ def prefix(core, once):
 
 @pytest.fixture(scope="session")
 def built(prefix, once):
-    """built(NAME, words of cmake ..) is a folder with the library, its tests and its examples."""
+    """built(NAME, ARGUMENTS OF cmake ..) returns a folder with the library, its tests and its examples."""
 
     def of(name, *words):
         def make(folder):
@@ -88,7 +88,7 @@ def test_cases(name, words, built):
 
 @pytest.mark.parametrize("name", REFUSED)
 def test_refused(name, plain, tmp_path):
-    """What ends a program says why, and who says it."""
+    """An error that ends a program names bsdudp and the reason."""
     words = ["bash", "-c", 'ulimit -c 0; exec "$@"', "bash", plain / "bsdudp-cases", f"--refuse={name}"]
     done = subprocess.run(words, cwd=tmp_path, **{**IN_10_MINUTES, "timeout": 100})
     assert done.returncode, "it isn't refused"
@@ -107,7 +107,7 @@ def test_first(plain):
 @pytest.mark.parametrize("node", [0, 1])
 @pytest.mark.needs("tshark")
 def test_captures(node, plain, tmp_path):
-    """Of what the devices write, fragments among it, tshark finds each checksum right."""
+    """tshark finds each checksum in the devices' captures right, including those of fragments."""
     passed(plain / "bsdudp-first", "--pcap", "--size=9000", cwd=tmp_path)
     capture = tmp_path / f"bsdudp-first-{node}-0.pcap"
     assert capture.stat().st_size > 0
@@ -162,7 +162,7 @@ def test_plot_of_the_study(study, tmp_path, monkeypatch):
 
 @pytest.fixture(scope="session")
 def pools(built, once):
-    """How many runs of each pool come out as by ns-3's own stack: rows by loss, each with its counts by pool."""
+    """How many runs with each pool have the result of ns-3's own stack: rows by loss, each with its counts by pool."""
 
     def make(folder):
         said = passed(built("plain") / "bsdudp-pools", "--seeds=1")
@@ -179,12 +179,12 @@ def test_the_default_pool_changes_nobodys_datagrams(loss, pools):
 
 
 def test_a_small_pool_does(pools):
-    """Else the scenario of bsdudp-pools wouldn't show whether a pool is large enough."""
+    """Otherwise the scenario of bsdudp-pools doesn't show whether a pool is large enough."""
     assert pools["0.1"]["512"] == 0
 
 
 def test_program_of_the_page(plain, prefix, tmp_path):
-    """By the commands that stand there, over what is installed."""
+    """The page's commands build and run it with what is installed."""
     passed("cmake", "--install", plain)
     page = (TOP / "docs/ns3.md").read_text(encoding="utf-8")
     program = re.search(r'(?m)(?:^    #include "ns3.*\n)(?:^    .*\n|^\n)*', page)[0]

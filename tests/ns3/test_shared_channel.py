@@ -1,4 +1,4 @@
-"""What docs/ns3.md says to set on a channel that several nodes share, tried with ns-3's own stack."""
+"""The settings in docs/ns3.md for a channel that several nodes share, tested with ns-3's own stack."""
 import pathlib
 import re
 import shutil
@@ -16,14 +16,14 @@ pytestmark = pytest.mark.slow
 
 
 def setting():
-    """The lines of the page that set whether ns-3's nodes forward."""
+    """The page's lines that set whether ns-3's nodes forward packets."""
     page = (TOP / "docs/ns3.md").read_text(encoding="utf-8")
     return re.findall(r"^    (Config::SetDefault\(.*IpForward.*\);)$", page, re.MULTILINE)
 
 
 @pytest.fixture
 def packets(tmp_path, pytestconfig):
-    """How many packets one datagram makes on a channel of four nodes, with these settings."""
+    """Returns how many packets one datagram causes on a channel of four nodes, with these settings."""
     if not shutil.which("g++") or not pathlib.Path("/usr/include/ns3/internet-module.h").exists():
         left_out(pytestconfig, "no ns-3: apt-get install g++ libns3-dev")
 
