@@ -1,5 +1,5 @@
-"""README's commands on a machine that has nothing: an empty Debian 12 with the toolchain, what README's table names,
-and no network (tests/fresh/machine). Each optional tool is missing there, so nothing may fail for want of one."""
+"""README's commands on a new system: an empty Debian 12 with the toolchain and the packages that README names, without
+a network (tests/fresh/machine). All optional tools are missing, and nothing may fail because of that."""
 import functools
 import re
 import shlex
@@ -19,7 +19,7 @@ SECONDS = 1800
 
 
 def machine(*words):
-    """How a command ends there, and what it prints."""
+    """Runs a command there. Returns its status and its output."""
     words = [TOP / "tests/fresh/machine", *words]
     done = subprocess.run(words, stdin=subprocess.DEVNULL, capture_output=True, text=True, check=False, timeout=SECONDS)
     if done.returncode == 77:
@@ -28,12 +28,12 @@ def machine(*words):
 
 
 def packages():
-    """What README says is to be installed."""
+    """Returns the packages that README says to install."""
     return ",".join(re.search(r"`apt-get install ([^`]+)`", README)[1].split())
 
 
 def blocks(kind):
-    """README's blocks of that kind below "Try it": the commands, or what they print."""
+    """Returns README's blocks of this kind below "Try it": the commands, or their output."""
     text = README.partition("## Try it\n")[2].partition("\n## ")[0]
     if kind == "commands":
         return re.findall(r"(?ms)^```sh\n(.*?)^```$", text)
@@ -42,7 +42,7 @@ def blocks(kind):
 
 @pytest.mark.parametrize("user", [[], ["--root"]], ids=["new", "root"])
 def test_readme(user):
-    """Its block, word for word, passes at the first try, and prints what README shows."""
+    """README's block, word for word, passes at the first try, and prints what README shows."""
     (commands,) = blocks("commands")
     played, summary = blocks("prints")
     status, printed, said = machine(*user, "--with", packages(), f"set -e\n{commands}")
@@ -56,10 +56,10 @@ def test_readme(user):
     assert "Traceback" not in printed + said, tail
 
 
-# ---- what is missing -----------------------------------------------------------------------------------------------
+# ---- missing tools -------------------------------------------------------------------------------------------------
 
 WITHOUT_PYTEST = packages().replace(",python3-pytest", "")
-# For each set of packages, commands and what their one line has to name.
+# For each set of packages, commands and the text that their error line must contain.
 MISSING = {
     WITHOUT_PYTEST.replace("python3,", ""): {
         "make run": "apt-get install python3",
@@ -89,7 +89,7 @@ done
 
 @functools.lru_cache(maxsize=None)
 def outcomes(installed):
-    """How each of these commands ends on one machine: its status, what it prints, and what it says of faults."""
+    """Runs these commands on one system. Returns each command's status, output and errors."""
     commands = [*MISSING[installed], "make", "make help"]
     words = " ".join(map(shlex.quote, commands))
     status, printed, said = machine("--with", installed, f"commands=({words})\n{EACH}")
@@ -100,7 +100,7 @@ def outcomes(installed):
 
 @pytest.mark.parametrize("installed, command, lacks", ROWS, ids=[f"{it[1]} with {it[0]}" for it in ROWS])
 def test_a_missing_tool_is_named_at_once(installed, command, lacks):
-    """In one line, which says how to install it, and before anything takes long."""
+    """The error is one line that says how to install the tool, printed before anything that takes long."""
     status, printed, said = outcomes(installed)[command]
     said = re.sub(r"(?m)^make: \*\*\* .*\n?", "", said)
     in_one_line = lacks in said and len(said.splitlines()) == 1
@@ -119,7 +119,7 @@ STUB = '#!/bin/sh\necho "0 passed, 1 failed"\nexit 1\n'
 
 
 def test_the_gate_reaches_its_proofs():
-    """Without CI set and without a tool beyond README's, .ci/run passes tests/docs and comes to `rt ci`, which is a stub
+    """With only README's packages, and with CI unset, .ci/run passes tests/docs and reaches `rt ci`, which is a stub
     here."""
     stub = f"mkdir ~/stub && printf %s {shlex.quote(STUB)} > ~/stub/rt && chmod +x ~/stub/rt && PATH=~/stub:$PATH"
     status, printed, said = machine("--with", packages(), f'git clone -q "$REPOSITORY" it && cd it && {stub} .ci/run')

@@ -1,7 +1,6 @@
-"""The Debian packages, if pytest is given --packages: the same if they're made twice, with no error and no warning of
-lintian's. On an empty Debian 12 without a network (tests/fresh/machine) they're installed, each thing that a user does
-first is done, and they're purged, after which nothing is left. The packages for ns-3 are made and looked at by lintian
-alone."""
+"""The Debian packages, with pytest's option --packages. Two builds are identical, and lintian reports no error and no
+warning. On an empty Debian 12 without a network (tests/fresh/machine) they're installed, a user's first steps are
+run, and they're purged, after which no file is left. The packages for ns-3 are only built and checked by lintian."""
 import functools
 import re
 import shlex
@@ -31,12 +30,12 @@ STATIC = "$(pkg-config --cflags bsdudp) -Wl,-Bstatic -lbsdudp -Wl,-Bdynamic"
 
 
 def program_of(first):
-    """README's program that begins with a line."""
+    """Returns README's program that begins with this line."""
     return textwrap.dedent(re.search(rf"(?m)^    {re.escape(first)}\n(?:(?:    .*)?\n)*", README)[0])
 
 
 def checks():
-    """Each thing that a user does first, as a line in an empty folder, and what it has to print, if that is known."""
+    """Yields each of a user's first steps, as a line run in an empty folder, and its output if that is known."""
     examples = f"{DOCUMENTS}/bsdudp/examples"
     replies = (TOP / "examples/first_datagram.txt.stdout").read_text(encoding="utf-8")
     yield f"bsdudp run < {examples}/first_datagram.txt", replies.strip()
@@ -49,7 +48,7 @@ def checks():
     yield f"{WIRE} gcc -std=c99 wire.c {STATIC} -o wire && ./wire", None
     portable = "/usr/share/bsdudp/bsdudp_portable.c"
     yield f"[ ! -e {portable} ] || gcc -std=c99 -c {portable}", None
-    # README's first steps: each command that names what a package installs
+    # README's first steps: each command that names something that a package installs
     for line in re.findall(r"(?m)^\| [^|]* \| `([^`]*)` \|", README.partition("| You are |")[2].partition("\n\n")[0]):
         if line.startswith("python3"):
             yield f"{line} | cut -d' ' -f1-3", HI
@@ -60,7 +59,7 @@ def checks():
 
 
 CHECKS = list(checks())
-# What stands in the tree, but for what dpkg, the linker and man-db keep for themselves.
+# Paths that aren't compared: those that dpkg, the linker and man-db use internally.
 KEPT = "proc var/lib/dpkg var/cache var/log tmp etc/ld.so.cache"
 IN_TREE = """
 listed() {
@@ -81,7 +80,7 @@ listed | diff /tmp/before - | sed -n 's/^> //p'
 
 @pytest.fixture(scope="session")
 def debs(all_made, once):
-    """The folder of the packages."""
+    """The folder with the packages."""
 
     def make(folder):
         subprocess.run([TOP / "dist/deb", folder], check=True)
@@ -107,7 +106,8 @@ def test_lintian(debs):
 
 @functools.lru_cache(maxsize=None)
 def outcomes(debs):
-    """How each check ends on one machine: its status, what it prints and says of faults; and what a purge leaves."""
+    """Runs the checks on one system. Returns each check's status, output and errors, and the files that a purge
+    leaves."""
     files = debs / "files"
     files.mkdir(exist_ok=True)
     for pattern in ("bsdudp*.deb", "libbsdudp*.deb", "python3-*.deb"):

@@ -1,5 +1,5 @@
-"""The archive for those without the toolchain: the same if it's made twice; each file as SHA256SUMS has it; no dead
-link. It's installed into an empty folder, and tried there without the toolchain on the path."""
+"""The archive for users without the toolchain. Two builds are identical, each file matches SHA256SUMS, and no link is
+dead. It's installed into an empty folder, and tested there without the toolchain on the path."""
 import hashlib
 import pathlib
 import re
@@ -15,7 +15,7 @@ OF_RT = re.compile(r"(?m)`(cd [^`]* && )?rt \w|^    .*\brt (try|run|ci|check)\b"
 
 
 def passed(*words, **how):
-    """What a command prints without the toolchain on the path; if it fails, what it says fails the test."""
+    """Returns a command's output without the toolchain on the path. If it fails, the test fails with its errors."""
     how = {"env": BARE, "cwd": TOP, **how}
     done = subprocess.run([*map(str, words)], capture_output=True, text=True, check=False, **how)
     if done.returncode:
@@ -42,7 +42,7 @@ def unpacked(archive, once):
 
 @pytest.fixture(scope="session")
 def prefix(unpacked, once):
-    """Where it's installed."""
+    """The folder in which it's installed."""
 
     def make(folder):
         environment = {**BARE, "HOME": str(folder)}
@@ -66,7 +66,7 @@ def test_sums(unpacked):
 
 
 def test_pages(unpacked):
-    """No link of a page is dead, and none speaks of the toolchain's command."""
+    """No link on a page is dead, and no page names the toolchain's command."""
     faults = []
     for page in sorted((unpacked / "share/doc/bsdudp").rglob("*.md")):
         text = page.read_text(encoding="utf-8")
@@ -88,7 +88,7 @@ def test_first_script_for_people(prefix):
 
 @pytest.mark.needs("rt", "wasm-opt", "wasm2c", "cc")
 def test_portable_c(unpacked, tmp_path):
-    """It compiles in its folder with its header alone."""
+    """It compiles in its folder with only its header."""
     words = ["cc", "-std=c99", "-Wall", "-Werror", "-c", "bsdudp_portable.c", "-o", tmp_path / "portable.o"]
     passed(*words, cwd=unpacked / "share/bsdudp")
 
@@ -100,7 +100,7 @@ def test_program_of_a_board(unpacked, tmp_path):
 
 @pytest.mark.needs("cc", "pkg-config")
 def test_c_library(prefix, tmp_path):
-    """libbsdudp.so is a link there, and a program is built by pkg-config and run."""
+    """libbsdudp.so is a link, and a program is built with pkg-config and run."""
     environment = {**BARE, "PKG_CONFIG_PATH": f"{prefix}/lib/pkgconfig", "LD_RUN_PATH": f"{prefix}/lib"}
     flags = passed("pkg-config", "--cflags", "--libs", "bsdudp", env=environment).split()
     passed("cc", "-std=c99", "capi/examples/wire.c", *flags, "-o", tmp_path / "wire", env=environment)
@@ -109,13 +109,13 @@ def test_c_library(prefix, tmp_path):
 
 @pytest.mark.needs("scapy")
 def test_judge(prefix):
-    """From the installed folder it makes its cases."""
+    """The installed judge makes its cases."""
     assert len(passed(prefix / "bin/bsdudp-conform", "run", "--list", "--only", "ip.version").splitlines()) == 15
 
 
 @pytest.mark.needs("venv")
 def test_wheel(unpacked, tmp_path):
-    """In an empty environment pip takes it from the file, with no index to ask, and the page's first program runs."""
+    """pip installs it in an empty environment from the file, without an index, and the page's first program runs."""
     page = (unpacked / "share/doc/bsdudp/docs/python.md").read_text(encoding="utf-8")
     (tmp_path / "first.py").write_text(re.search(r"(?s)```python\n(.*?)```", page)[1], encoding="utf-8")
     (wheel,) = (unpacked / "share/bsdudp").glob("*.whl")

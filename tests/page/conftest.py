@@ -1,4 +1,4 @@
-"""What the page makes of captures, and Chromium with the page open."""
+"""Fixtures that open captures on the page, and Chromium with the page."""
 from __future__ import annotations
 
 import json
@@ -15,7 +15,7 @@ from tests.made import module, page  # noqa: F401 (fixtures)
 
 @pytest.fixture(scope="session")
 def plays_captures(page: pathlib.Path) -> Callable[..., list[dict[str, Any]]]:  # noqa: F811
-    """What the page makes of capture files, as page/test/captured.js prints it."""
+    """plays_captures(FILE ..) returns the page's scripts for capture files, as page/test/captured.js prints them."""
 
     def play(*files: pathlib.Path) -> list[dict[str, Any]]:
         words = ["node", TOP / "page/test/captured.js", page.with_name("page.wasm"), *files]
@@ -29,7 +29,7 @@ def plays_captures(page: pathlib.Path) -> Callable[..., list[dict[str, Any]]]:  
 
 @pytest.fixture(scope="module")
 def chromium(page: pathlib.Path, tmp_path_factory: pytest.TempPathFactory) -> Iterator[Browser]:  # noqa: F811
-    """Headless Chromium with the page open, and the functions of page/test/in_page.js in it."""
+    """Headless Chromium with the page open, and with the functions of page/test/in_page.js."""
     browser = Browser(tmp_path_factory.mktemp("chromium"))
     browser.ask("Page.navigate", url=page.as_uri())
     browser.run(UNTIL_READY)

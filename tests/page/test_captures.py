@@ -1,6 +1,6 @@
-"""Captures that are dropped on the page. The page and `bsdplay why` tell the same story: they choose the same host, let
-the clock tick by the capture's times, and say the same of each packet. The captures are put together here; how long a
-fragment is kept (30 seconds) and which addresses a host can have is known from RFC 1122 and RFC 791."""
+"""Captures that are opened on the page. The page and `bsdplay why` agree: they choose the same host, tick at the
+capture's times, and report the same for each packet. The tests build the captures. How long a fragment is kept (30
+seconds) and which addresses a host can have follow from RFC 1122 and RFC 791."""
 import json
 import random
 import re
@@ -17,13 +17,13 @@ ALL = "255.255.255.255"
 
 
 def capture(*packets, tail=b""):
-    """A file of raw IPv4 packets, each with its time in seconds."""
+    """Returns a file of raw IPv4 packets, each with its time in seconds."""
     records = (record("<", int(at), round(at % 1 * 1_000_000_000), packet) for at, packet in packets)
     return header(magic=NANOSECONDS) + b"".join(records) + tail
 
 
 def halves(size=200, ident=9, between=("10.0.0.2", "10.0.0.1")):
-    """Both fragments of a datagram."""
+    """Returns both fragments of a datagram."""
     whole = datagram(bytes(size), between=between, ident=ident)
     return fragment(whole, 0, 12), fragment(whole, 13, 99)
 
@@ -34,7 +34,7 @@ def to(address, port=7, data=b"hi", source="10.0.0.2", **header_fields):
 
 @pytest.fixture(name="opened")
 def of_bytes(plays_captures, tmp_path):
-    """Opens the bytes of a capture on the page."""
+    """opened(BYTES) opens a capture on the page, and returns its script."""
 
     def play(data):
         path = tmp_path / "a.pcap"
@@ -72,7 +72,7 @@ def test_an_expired_datagram_has_a_line_of_its_own(opened):
 
 
 def test_times_begin_at_the_first_record_of_the_file(opened):
-    """Also at one that isn't for the host."""
+    """The first record need not be for the host."""
     first, last = halves()
     other = to("10.0.0.9")
     script = opened(capture((100, other), (105, first), (106, last)))
@@ -81,7 +81,7 @@ def test_times_begin_at_the_first_record_of_the_file(opened):
 
 
 def test_ticks_are_counted_from_the_first_record(opened):
-    """As `why` counts them: a packet at 0.4 s and one at 0.6 s have a tick between them."""
+    """They are counted as in `why`: between a packet at 0.4 s and one at 0.6 s is a tick."""
     script = opened(capture((7, to("10.0.0.1")), (7.4, to("10.0.0.1")), (7.6, to("10.0.0.1")), (7.9, to("10.0.0.1"))))
     assert [step["line"].startswith("+0.5s ") for step in lines(script, "rx")] == [False, False, True, False]
 
@@ -156,11 +156,11 @@ def test_a_long_capture_says_how_many_packets_are_shown(opened):
     assert script["counts"] == {"all": 320, "ip": 320, "ours": 320, "taken": 300}
 
 
-# ---- the same story as `bsdplay why`
+# ---- comparison with `bsdplay why`
 
 
 def random_packets(rng):
-    """Datagrams, fragments and damaged packets for several hosts, with pauses of up to a minute."""
+    """Returns datagrams, fragments and damaged packets for several hosts, with pauses of up to a minute."""
     hosts = rng.choice([["10.0.0.1", "10.0.0.3"], ["127.0.0.1"], ["10.0.0.1", "10.0.0.255", ALL, "224.0.0.1"]])
     at, packets = 100.0, []
     for n in range(rng.randint(2, 60)):
@@ -177,13 +177,13 @@ def random_packets(rng):
 
 
 def told_by_why(objects):
-    """Of each record the cause of a drop, or nothing, and whether it was delivered."""
+    """Returns, for each record, the cause of a drop or an empty text, and whether it was delivered."""
     return {it["number"]: (it["cause"], "delivered" in it["became"]) for it in objects if "became" in it}
 
 
 def told_by_page(script):
-    """The same by the page's steps: a record's number is in the note above its packet, and the datagrams that it
-    delivers are read behind it."""
+    """Returns the same from the page's steps: the note before a packet has the record's number, and the datagrams that
+    it delivers are read after it."""
     numbers, told = [int(it) for it in re.findall(r"(?m)^# Record (\d+), ", script["text"])], {}
     for step in script["steps"]:
         if step["isPacket"]:
@@ -199,7 +199,7 @@ SEEDS = range(30)
 
 @pytest.fixture(scope="module")
 def stories(plays_captures, tmp_path_factory):
-    """Random captures by their seeds, each with what the page makes of it. One process plays all of them."""
+    """Random captures by seed, each with the page's script. One process plays all of them."""
     files = [tmp_path_factory.mktemp("stories") / f"{seed}.pcap" for seed in SEEDS]
     for seed, file in zip(SEEDS, files):
         file.write_bytes(capture(*random_packets(random.Random(seed))))

@@ -1,5 +1,5 @@
-"""The page in Chromium, as wide as a phone, a tablet and a small laptop: what is hidden until a question is answered,
-and where options and buttons stand."""
+"""The page in Chromium, at the width of a phone, a tablet and a small laptop: what is hidden until a question is
+answered, and the positions of options and buttons."""
 import json
 import re
 
@@ -15,7 +15,7 @@ LESSONS = sorted((it.parent.name, it.stem) for it in (TOP / "page/lessons").glob
 
 @pytest.fixture(name="at_width")
 def page_at_width(chromium):
-    """Opens the page at a width: at_width(WIDTH)."""
+    """at_width(WIDTH) opens the page at a width."""
 
     def resize(width):
         size = {"width": width, "height": HEIGHTS[width], "deviceScaleFactor": 1, "mobile": False}
@@ -62,7 +62,7 @@ def test_a_hidden_line_leads_to_the_question_and_can_be_shown(at_width):
 
 
 def fragment(ident):
-    """A line with the first 72 bytes of a datagram, which take two mbufs."""
+    """Returns a line with the first 72 bytes of a datagram, which take two mbufs."""
     return f"rx udp 10.0.0.2:5000 > 10.0.0.1:7 @240 id {ident} at 0 more size 72"
 
 
@@ -145,7 +145,7 @@ def test_nothing_overlaps_or_is_cut_off(view, width, theme, at_width):
     assert browser.run("faultsOfLayout()") == []
 
 
-# ---- what docs/page.md says
+# ---- statements in docs/page.md
 
 
 def test_the_page_is_as_large_as_its_document_says(page):

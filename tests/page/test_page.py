@@ -1,5 +1,5 @@
-"""Each example and each lesson, by the page: through its module in node, where random scripts are played too and
-compared with the programs, and in headless Chromium, which also looks at the page's layout, colours and keys."""
+"""The page plays each example and each lesson: its module in node, which also plays random scripts and compares them
+with the programs, and the whole page in headless Chromium, with tests of its layout, colours and keys."""
 import subprocess
 
 import pytest

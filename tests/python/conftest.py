@@ -1,5 +1,5 @@
-"""The Python package over the library that capi/build makes. The package loads it as it's imported, so tests take the
-package from tests.python.package, which imports it when a test asks for something of it."""
+"""The Python package with the library that capi/build makes. The package loads the library when it's imported, so tests
+import it from tests.python.package, which delays that until a test uses it."""
 import pytest
 
 from tests.capi.conftest import library  # noqa: F401 (a fixture)
@@ -8,7 +8,7 @@ from tests.cases import TOP
 
 @pytest.fixture(autouse=True)
 def package(library, monkeypatch):  # noqa: F811
-    """Where this process, and those that it starts, find the package, its library and these tests."""
+    """Sets the paths by which this process, and those that it starts, find the package, its library and these tests."""
     monkeypatch.setenv("BSDUDP_LIBRARY", str(library.folder / "libbsdudp.so.0"))
     monkeypatch.setenv("PYTHONPATH", f"{TOP}:{TOP / 'python'}")
     monkeypatch.setenv("PYTHONDONTWRITEBYTECODE", "1")

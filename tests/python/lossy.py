@@ -1,9 +1,9 @@
-"""A scenario over a wire that loses packets. It has a module of its own, since other processes import it by its name."""
+"""A scenario with a wire that loses packets. It's a module, because other processes import it by its name."""
 from tests.python.package import bsdudp
 
 
 def lossy_run(seed):
-    """How many of ten datagrams of three fragments come through."""
+    """Returns how many of ten datagrams in three fragments arrive."""
     with bsdudp.Stack("10.0.0.1") as one, bsdudp.Stack("10.0.0.2") as other:
         to = other.socket()
         to.bind(("", 7))

@@ -1,4 +1,4 @@
-"""Random calls on a stack, and the same as a script of the program."""
+"""Random calls on a stack, and the same calls as a script for the program."""
 from hypothesis import HealthCheck, settings
 from hypothesis import strategies as st
 from hypothesis.stateful import RuleBasedStateMachine, initialize, rule
@@ -19,7 +19,7 @@ data = st.one_of(
 
 
 class Calls(RuleBasedStateMachine):
-    """The calls of a script, drawn at random. `program` is the path of bsdudp."""
+    """Makes random calls, and plays them as a script. `program` is the path of bsdudp."""
 
     program = None
 

@@ -1,4 +1,5 @@
-"""Random wires: what was received was sent, whole, to that address and port; every pool is full again at the end."""
+"""Random wires: each datagram received was sent, complete, to this address and port. At the end, all buffers of every
+pool are free."""
 from hypothesis import given, settings
 from hypothesis import strategies as st
 

@@ -1,11 +1,11 @@
-"""A stack whose calls are written down as lines of `bsdudp run`, with the replies that its answers stand for."""
+"""A stack that records its calls as lines of `bsdudp run`, and their results as replies."""
 import errno
 import socket as host
 import subprocess
 
 from tests.python.package import bsdudp
 
-# 4.4BSD's numbers of errors, which are those of the library below 128.
+# 4.4BSD's error numbers, which the library uses below 128.
 NUMBERS = {bsdudp._library.LIBRARY.error_name(-number): number for number in range(128)}
 
 
@@ -14,14 +14,14 @@ def hex_of(data):
 
 
 def refusal(fault):
-    """The reply that an exception stands for."""
+    """Returns the reply for an exception."""
     name = "EWOULDBLOCK" if isinstance(fault, BlockingIOError) else errno.errorcode[fault.errno]
     lack = f" {fault.lack}" if isinstance(fault, bsdudp.NoBuffersError) else ""
     return f"error {NUMBERS[name]} {name}{lack}"
 
 
 class Scripted:
-    """Makes calls, and keeps the script with its replies."""
+    """Makes calls, and records the script and its replies."""
 
     def __init__(self, **config):
         self.stack = bsdudp.Stack(**config)
@@ -47,7 +47,7 @@ class Scripted:
         self._say("socket", call)
 
     def _of(self, fd):
-        """The socket of a descriptor, also of one that isn't open."""
+        """Returns the socket with a descriptor, which may be closed."""
         return self.sockets.get(fd) or bsdudp.Socket(self.stack, fd)
 
     def bind(self, fd, addr, port):
@@ -115,7 +115,7 @@ class Scripted:
         self._say("mbstat", call)
 
     def check(self, program):
-        """Plays the script by the program, and compares its replies."""
+        """Plays the script with the program, and compares its replies."""
         script = "".join(f"{line}\n" for line in self.lines)
         words = [program, "run", *self.options]
         played = subprocess.run(words, input=script, capture_output=True, text=True, check=True)

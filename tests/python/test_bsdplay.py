@@ -1,4 +1,5 @@
-"""The wire of `bsdplay` makes the same choices as this package's, by the same seed, and its capture has what went."""
+"""With the same seed, the wires of `bsdplay` and of this package make the same choices, and bsdplay's capture has the
+packets that were delivered."""
 import re
 import struct
 import subprocess
@@ -14,7 +15,7 @@ UNDER_WAY = re.compile(
 
 
 def sends():
-    """Who sends how many bytes to whom, in each round."""
+    """Returns the sender, the receiver and the length of the send in each round."""
     return [(at % 3, (at + 1 + at // 3 % 2) % 3, LENGTHS[at % len(LENGTHS)]) for at in range(ROUNDS)]
 
 
@@ -30,7 +31,7 @@ def script():
 
 
 def flights_of_program(program, tmp_path):
-    """What is under way after each round, and what was counted of each host, as the program tells it."""
+    """Returns the packets on the wire after each round, and the counts of each host, as the program prints them."""
     path = tmp_path / "choices.txt"
     path.write_text(script())
     command = [program, "--quiet", "--pcap", tmp_path / "wire.pcap", path]
@@ -48,7 +49,7 @@ def flights_of_program(program, tmp_path):
 
 
 def packets_of(path):
-    """The packets of a capture, which is of little-endian order, in microseconds, of link type IPV4."""
+    """Returns the packets in a capture, which is little endian, in microseconds, with link type IPV4."""
     data = path.read_bytes()
     assert struct.unpack_from("<IHHiIII", data) == (0xA1B2C3D4, 2, 4, 0, 0, 65_535, 228)
     packets, at = [], 24
@@ -82,6 +83,6 @@ def test_the_same_choices(tmp_path, bsdplay):
     totals = [sum(column) for column in zip(*counts)]
     carried = wire.carried
     assert totals == [carried.sent, carried.lost, carried.repeated, carried.delivered]
-    # each packet that went came once, since none was for all hosts
+    # Each delivered packet arrived once, because no packet was for all hosts.
     came = [bytes(packet) for _, packet in wire._record]
     assert sorted(packets_of(tmp_path / "wire.pcap")) == sorted(came)

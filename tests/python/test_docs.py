@@ -1,5 +1,5 @@
-"""The code of docs/python.md, run as a reader would: each piece goes on from those above it. What a comment says that a
-line prints is what it prints."""
+"""The code in docs/python.md, run as a reader does: each piece continues those above it. A line must print what its
+comment shows."""
 import ast
 import contextlib
 import doctest
@@ -18,7 +18,7 @@ from tests.python.package import bsdudp
 PAGE = (TOP / "docs/python.md").read_text(encoding="utf-8")
 PIECES = re.findall(r"```python\n(.*?)```", PAGE, re.S)
 PRINTED = re.compile(r"print\(.*\)\s+# ([<(\[{'0-9A-Z].*)")
-# What the package exports, read without loading it: its library may not be built yet.
+# The names that the package exports, read without loading it, because its library may not be built yet.
 (EXPORTED,) = (
     ast.literal_eval(it.value)
     for it in ast.parse((TOP / "python/bsdudp/__init__.py").read_text(encoding="utf-8")).body
@@ -27,7 +27,7 @@ PRINTED = re.compile(r"print\(.*\)\s+# ([<(\[{'0-9A-Z].*)")
 
 
 def run(piece, names):
-    """Runs a piece, statement by statement. Where all that a statement prints is told, it has to be that."""
+    """Runs a piece, statement by statement. A statement with an output in its comment must print exactly that."""
     lines = piece.splitlines()
     for statement in ast.parse(piece).body:
         text = "\n".join(lines[statement.lineno - 1 : statement.end_lineno])
@@ -40,14 +40,14 @@ def run(piece, names):
 
 
 def test_counters():
-    """The table of counters that the page leads to names them all, in their order."""
+    """The table of counters to which the page links names all of them, in order."""
     assert "behaviour.md#counters" in PAGE
     section = (TOP / "docs/behaviour.md").read_text(encoding="utf-8").split("## Counters")[1].split("\n## ")[0]
     assert re.findall(r"^\| `([a-z.]+)` \|", section, re.M) == list(bsdudp.Stack().counters)
 
 
 def test_socket_methods():
-    """What the page lists as there, and as not there, is all of a socket of Python."""
+    """The page's lists of present and missing methods together have all methods of a Python socket."""
     section = PAGE.split("## A socket")[1].split("##")[0]
     there, table = section.split("A socket of this package differs")
     lacking = re.search(r"^\| What isn't there \| (.*) \|$", table, re.M)[1]
@@ -67,7 +67,7 @@ def test_pieces(tmp_path, monkeypatch):
 
 
 def test_readme(capsys):
-    """README's lines, up to the paragraph behind them."""
+    """README's lines, up to the next paragraph."""
     text = (TOP / "README.md").read_text(encoding="utf-8")
     piece = re.search(r"^    import bsdudp\n(?:    .*\n)+", text, re.M)[0]
     exec(compile(textwrap.dedent(piece), "README.md", "exec"), {})
@@ -83,7 +83,7 @@ def test_sweep(tmp_path):
 
 @pytest.mark.parametrize("name", EXPORTED)
 def test_docstring(name):
-    """Each class, and `sweep`, has an example, which prints what it says."""
+    """Each class, and `sweep`, has an example, which prints the output shown."""
     finder = doctest.DocTestFinder(recurse=False)
     (found,) = finder.find(getattr(bsdudp, name), name, globs={"bsdudp": bsdudp})
     assert found.examples

@@ -1,4 +1,4 @@
-"""The examples of python/examples and of the package's docstrings, and the service on a TUN device with Linux as the
+"""The examples in python/examples and in the package's docstrings, and the service on a TUN device with Linux as the
 client."""
 import doctest
 import importlib
@@ -9,7 +9,7 @@ import pytest
 
 from tests.cases import TOP
 
-# The service runs beside this client, which sets the device up.
+# This client sets up the device, and runs at the same time as the service.
 SERVICE = """
 "$0" python/examples/service.py 10.0.0.1 3 &
 for _ in {1..600}; do ip link show bsdudp0 > /dev/null 2>&1 && break; sleep 0.1; done

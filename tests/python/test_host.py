@@ -1,5 +1,5 @@
-"""`bsdudp.Host`: what it takes as arguments and frames, and what it tells. What its frames say is tried by
-tests/capi/test_ethernet.py."""
+"""`bsdudp.Host`: the arguments and frames that it accepts, and its queries. tests/capi/test_ethernet.py tests the
+contents of its frames."""
 import errno
 import importlib
 import ipaddress
@@ -66,14 +66,15 @@ def test_a_host_asks_first_for_its_address():
 
 
 def unreachable(code, port, peer_port):
-    """An ICMP message "destination unreachable" of 10.0.0.2, about a datagram from 10.0.0.1 to it, in its frame."""
+    """Returns a frame with the ICMP error "destination unreachable" from 10.0.0.2, for a datagram from 10.0.0.1 to
+    it."""
     sent = bytes.fromhex(f"4500001c 00010000 40110000 0a000001 0a000002 {port:04x}{peer_port:04x} 00080000")
     packet = with_sum(bytes.fromhex("45000038 00090000 40010000 0a000002 0a000001"), 10)
     return bytes.fromhex("020000000001 020000000002 0800") + packet + with_sum(bytes([3, code, *bytes(6)]) + sent, 2)
 
 
 def with_sum(data, at):
-    """Bytes with their checksum at a place (RFC 1071)."""
+    """Returns bytes with their checksum at an offset (RFC 1071)."""
     total = sum(int.from_bytes(data[k : k + 2], "big") for k in range(0, len(data), 2))
     return data[:at] + (~(total + (total >> 16)) & 0xFFFF).to_bytes(2, "big") + data[at + 2 :]
 

@@ -1,4 +1,4 @@
-"""Random calls on a stack answer what the program replies to the same script."""
+"""Random calls on a stack have the results that the program replies to the same script."""
 import importlib
 
 import pytest

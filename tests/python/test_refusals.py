@@ -1,4 +1,4 @@
-"""Each refusal by its number of the host, and each wrong argument before the library is called."""
+"""Each error with the computer's errno, and each wrong argument before the library is called."""
 import array
 import copy
 import errno
@@ -178,7 +178,7 @@ def test_a_frame_of_scapy(stack):
 
 
 def test_after_close_and_end(stack):
-    """A closed socket is EBADF, as one of Python's own is, and so is a socket of a stack that has ended."""
+    """A closed socket raises EBADF, as Python's sockets do, and so does a socket of a stack that has ended."""
     it, other = stack.socket(), stack.socket()
     it.close()
     it.close()
@@ -213,7 +213,7 @@ def test_after_close_and_end(stack):
 
 
 def test_closed_descriptor_is_reused(stack):
-    """A socket that is closed stays so once another one has its descriptor."""
+    """A closed socket stays closed when another one has its descriptor."""
     first = stack.socket()
     first.close()
     second = stack.socket()
@@ -225,7 +225,7 @@ def test_closed_descriptor_is_reused(stack):
 
 @pytest.mark.parametrize("make", [copy.copy, copy.deepcopy, pickle.dumps], ids=["copy", "deepcopy", "pickle"])
 def test_no_copies(stack, make):
-    """What holds memory of the library is there once: the reason names the Stack."""
+    """An object with memory of the library can't be copied: the error names the Stack."""
     for it in (stack, stack.socket(), bsdudp.Wire([stack])):
         with pytest.raises(TypeError, match=f"a {type(it).__name__} can't be (copied|pickled): .* Stack"):
             make(it)
@@ -244,7 +244,7 @@ def test_what_is_told_can_be_pickled(stack):
 
 
 class Seven:
-    """A number that isn't an int, as numpy's are."""
+    """A number that isn't an int, such as numpy's."""
 
     def __index__(self):
         return 7
@@ -348,7 +348,8 @@ def test_pictures(stack):
 
 
 def test_unfinished(stack):
-    """The last and the first of three fragments of 3,008 bytes, by hand: what is held, and until when."""
+    """The last and the first of three fragments of 3,008 bytes, worked out by hand: the ranges kept, and for how
+    long."""
     with bsdudp.Stack("10.0.0.2", first_id=9) as other:
         other.socket().sendto(bytes(3_000), (stack.addr, 7))
         first, second, last = other.packets()

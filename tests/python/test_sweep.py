@@ -1,4 +1,4 @@
-"""The same results in the same order, in this process, on all cores and on a cluster of which a worker ends."""
+"""The same results in the same order, in this process, on all cores, and on a cluster in which a worker ends."""
 import importlib
 import os
 import pathlib
@@ -16,13 +16,13 @@ def squared(seed):
 
 
 def slow(seed):
-    """A scenario that takes long enough for a worker to be ended in it."""
+    """A scenario that takes long enough for a worker to be ended during it."""
     time.sleep(0.05)
     return squared(seed)
 
 
 def ends_its_worker(seed):
-    """Ends the process that it runs in, the first time that seed 5 is asked."""
+    """Ends its process the first time that seed 5 is run."""
     mark = pathlib.Path(os.environ["BSDUDP_TEST_MARK"])
     if seed == 5 and not mark.exists():
         mark.touch()

@@ -1,5 +1,5 @@
-"""Several threads on one stack: each method is refused to a second one, or is as if it were alone. What a method makes
-of several calls of the library is one thing."""
+"""Several threads on one stack: a method fails in a second thread, or runs as if there were no other thread. A method
+that makes several calls of the library is atomic."""
 import contextlib
 import ctypes
 import sys
@@ -21,8 +21,8 @@ PR_SET_TIMERSLACK, PR_GET_TIMERSLACK = 29, 30
 
 @contextlib.contextmanager
 def switching():
-    """Threads change after a microsecond in place of five milliseconds. Linux lets a timer be 50 microseconds late, and
-    here one nanosecond."""
+    """Switches threads after a microsecond instead of five milliseconds. By default, a timer of Linux may be 50
+    microseconds late; here the limit is one nanosecond."""
     interval = sys.getswitchinterval()
     control = getattr(ctypes.CDLL(None), "prctl", lambda *words: 0)
     slack = control(PR_GET_TIMERSLACK, 0, 0, 0, 0)
@@ -36,8 +36,8 @@ def switching():
 
 
 def at_each_line(call, other):
-    """What a call answers, while at each line of the package that it runs another thread tries another call once. The
-    second answer is what came of those that weren't refused. A thread runs to its end before the next line."""
+    """Makes a call. At each line of the package that it runs, another thread tries another call once, and runs to its
+    end before the next line. Returns the call's result, and those of the other calls that weren't refused."""
     came, faults = [], []
 
     def try_it():
@@ -45,7 +45,7 @@ def at_each_line(call, other):
             came.append(other())
         except (RuntimeError, BlockingIOError):
             pass
-        except Exception as fault:  # it's the test's
+        except Exception as fault:  # the test raises it
             faults.append(fault)
 
     def trace(frame, event, _):
@@ -69,7 +69,7 @@ def at_each_line(call, other):
 
 
 def again(call):
-    """What a call answers, once no other thread is in the stack."""
+    """Returns a call's result, when no other thread uses the stack."""
     while True:
         try:
             return call()
@@ -78,7 +78,7 @@ def again(call):
 
 
 def all_of(*runs):
-    """Runs functions in threads of their own. What one raises is raised here."""
+    """Runs each function in its own thread. An exception in one is raised here."""
     faults = []
 
     def guarded(run):
@@ -98,7 +98,7 @@ def all_of(*runs):
 
 
 def taken(it, into):
-    """The oldest datagram, by `recvmsg` or `recv_into`. Nothing of it is cut."""
+    """Returns the oldest datagram, with `recvmsg` or `recv_into`. It isn't truncated."""
     if not into:
         data, _, flag, _ = it.recvmsg(200)
         assert flag == 0
@@ -109,7 +109,7 @@ def taken(it, into):
 
 @pytest.mark.parametrize("into", [False, True])
 def test_whole_datagrams(into):
-    """Datagrams of 1 and 90 bytes in turn: two threads take each of them once, and whole."""
+    """Datagrams of 1 and 90 bytes in turn: two threads receive each of them once, and complete."""
     with bsdudp.Stack() as stack:
         it = stack.socket()
         it.bind(("", 7))
@@ -124,7 +124,7 @@ def test_whole_datagrams(into):
 
 
 def test_counters_of_one_moment():
-    """A packet that is too short counts twice: nobody sees one of the two without the other."""
+    """A packet that is too short increases two counters: no thread sees only one of the changes."""
     with bsdudp.Stack() as stack:
         seen, came = at_each_line(lambda: stack.counters, lambda: stack.rx(b"short"))
         assert came and seen["ip.total"] == seen["ip.toosmall"]
@@ -133,7 +133,7 @@ def test_counters_of_one_moment():
 
 @pytest.mark.parametrize("begun", range(1, 5))
 def test_unfinished_of_one_moment(begun):
-    """What is unfinished is told as a whole, while it ends and begins again."""
+    """The unfinished datagrams are reported consistently, while they end and others begin."""
     with bsdudp.Stack("10.0.0.1") as stack, bsdudp.Stack("10.0.0.2") as other:
         sender = other.socket()
         pieces = []
@@ -146,7 +146,7 @@ def test_unfinished_of_one_moment(begun):
 
         def come():
             stack.rx(coming[-1])
-            coming.pop()  # one that is refused comes later
+            coming.pop()  # a refused packet is tried again later
 
         held, came = at_each_line(lambda: stack.unfinished, come)
         assert came
@@ -157,7 +157,7 @@ def test_unfinished_of_one_moment(begun):
 
 
 def test_packets_of_one_room():
-    """Each packet for the link is given once, with its own bytes."""
+    """Each packet for the link is returned once, with its own bytes."""
     with bsdudp.Stack() as stack:
         it = stack.socket()
         for _ in range(50):
@@ -168,7 +168,7 @@ def test_packets_of_one_room():
 
 
 def test_descriptors():
-    """A socket that another thread opens while one closes is that thread's, also if it has the same descriptor."""
+    """A socket that another thread opens during a close belongs to that thread, also if it has the same descriptor."""
     with bsdudp.Stack() as stack:
         it = stack.socket()
 
@@ -191,7 +191,7 @@ def test_descriptors():
 
 
 def test_closed_while_it_is_used():
-    """A method of a socket that another thread closes is done, or finds it closed: it does nothing to a new one."""
+    """A method of a socket that another thread closes succeeds, or finds it closed. It doesn't affect a new socket."""
     with bsdudp.Stack() as stack:
         it = stack.socket()
         new = []
@@ -208,7 +208,7 @@ def test_closed_while_it_is_used():
 
 
 def test_many_threads():
-    """Three threads send and take datagrams of 1 and 90 bytes at once: each comes once, and whole."""
+    """Three threads send and receive datagrams of 1 and 90 bytes at the same time: each arrives once, and complete."""
     sent, came = Counter(), Counter()
     counted = threading.Lock()
     with bsdudp.Stack() as stack:
@@ -235,7 +235,7 @@ def test_many_threads():
 
 
 def test_lives():
-    """Stacks of several threads begin and end at once. A large pool takes a while to begin."""
+    """Several threads boot and end stacks at the same time. A large pool takes a while to boot."""
     packet = datagram(b"hello", between=("10.0.0.9", HERE), ident=77)
 
     def run():
@@ -251,7 +251,7 @@ def test_lives():
 
 
 def test_second_thread():
-    """A thread that finds another in the stack is refused, and disturbs nothing; a picture of the stack says it."""
+    """If another thread is in the stack, calls fail without an effect, and `repr` says so."""
     with bsdudp.Stack() as stack:
         it = stack.socket()
         calls = [stack.tick, stack.tx, stack.end, it.recv, it.close, lambda: stack.counters, lambda: stack.unfinished]

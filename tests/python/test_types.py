@@ -1,5 +1,4 @@
-"""What a type checker says of the package and of the judge, and of calls of the package that are right and wrong
-(typed.py)."""
+"""A type checker's result for the package and the judge, and for right and wrong calls of the package (typed.py)."""
 import subprocess
 
 import pytest
@@ -9,7 +8,7 @@ from tests.cases import TOP
 
 @pytest.fixture
 def package():
-    """Nothing is loaded here, so no library is made."""
+    """This test doesn't load the package, so it needs no library."""
 
 
 @pytest.mark.slow

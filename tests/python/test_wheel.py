@@ -1,4 +1,4 @@
-"""The wheel: made twice the same, and used in an empty environment, which has no network."""
+"""The wheel: two builds are identical, and it works in an empty environment without a network."""
 import subprocess
 import sys
 
@@ -10,7 +10,7 @@ FIRST = "import bsdudp; bsdudp.Stack().socket().bind(('', 7))"
 
 
 def wheel(library, folder):
-    """The wheel that dist/wheel makes in a folder."""
+    """Returns the wheel that dist/wheel makes in a folder."""
     subprocess.run([TOP / "dist/wheel", library.folder / "libbsdudp.so.0", folder], capture_output=True, check=True)
     (made,) = folder.glob("*.whl")
     return made

@@ -1,4 +1,4 @@
-"""Wires: the numbers that their choices are made of, what comes through, captures and refusals."""
+"""Wires: the random numbers of their choices, what arrives, captures and errors."""
 import importlib
 import socket as host
 
@@ -9,7 +9,7 @@ from tests.python.package import bsdudp
 
 
 def test_numbers():
-    """The numbers of PCG's own demonstration program, for the state 42 and the stream 54."""
+    """The numbers of PCG's demonstration program, for state 42 and stream 54."""
     random = bsdudp._pcg.Pcg32(42, 54)
     wanted = [0xA15C02B7, 0x7B47F409, 0xBA1D3330, 0x83D2F293, 0xBFA4784B, 0xCBED606E]
     assert [random.next_u32() for _ in range(6)] == wanted
@@ -68,7 +68,7 @@ def test_arguments():
 
 
 def test_tick():
-    """A datagram whose last fragment is lost goes after 60 ticks of the wire, and not before."""
+    """A datagram whose last fragment is lost is dropped after 60 ticks of the wire, and not before."""
     with bsdudp.Stack("10.0.0.1") as one, bsdudp.Stack("10.0.0.2") as other:
         one.socket().sendto(bytes(3000), ("10.0.0.2", 7))
         first, second, _ = one.packets()

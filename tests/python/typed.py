@@ -1,5 +1,5 @@
-"""What a type checker sees of the package, for `mypy --strict`: the calls of the first function are right. Each of the
-others is wrong in the way that its comment names; a comment without a fault is one itself. It isn't run."""
+"""Calls of the package for `mypy --strict`. The calls in the first functions are right. Each of the others has the
+error that its comment names; a comment without an error is an error too. This file isn't run."""
 import array
 import ipaddress
 import socket
