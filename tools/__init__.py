@@ -1,4 +1,4 @@
-"""What the scripts of this repository share. A script takes a module of it so:
+"""Modules that the scripts of this repository share. A script imports one in this way:
 
 sys.dont_write_bytecode = True
 sys.path.insert(0, str(TOP))

@@ -1,5 +1,5 @@
-"""What the gate has built, as files of an installation: each by its place below a prefix, with its bytes and whether it
-can be run."""
+"""The files that the gate has built, as files of an installation: each by its path below a prefix, with its bytes and
+whether it's executable."""
 from __future__ import annotations
 
 import os
@@ -18,32 +18,32 @@ PAGE = TOP / "page/out/bsdudp.html"
 PORTABLE = TOP / "portable/out/bsdudp_portable.c"
 TARGETS = TOP / "portable/out/core"
 DOCUMENTS = "share/doc/bsdudp"
-# Pages for who works on the sources, which the archive doesn't have.
+# Pages for developers, which the archive doesn't contain.
 OF_THE_SOURCES = "docs/maintain/"
 
-# The bytes of a file, and whether it can be run.
+# The bytes of a file, and whether it's executable.
 File = Tuple[bytes, bool]
 
 
 class Lacking(Exception):
-    """What lacks, as one line for the reader."""
+    """What is missing, as one line for the user."""
 
 
 def is_new(file: pathlib.Path, crate: str) -> bool:
-    """Whether a file is newer than each source of a crate and of those below it."""
+    """Returns whether a file is newer than each source of a crate and of the crates below it."""
     used = [crate, *crates.below(crate, crates.uses())]
     sources = (it for name in used for it in (TOP / "crates" / name).glob("s*/**/*") if it.is_file())
     return file.exists() and max(it.stat().st_mtime for it in sources) < file.stat().st_mtime
 
 
 def files_below(folder: str) -> list[str]:
-    """The files of a folder, without what was built there."""
+    """Yields the files in a folder, without those built there."""
     paths = (path.relative_to(TOP) for path in (TOP / folder).rglob("*") if path.is_file())
     return sorted(str(path) for path in paths if not {"out", "__pycache__"} & set(path.parts))
 
 
 def manual_pages() -> Iterator[tuple[str, File]]:
-    """The manual pages of the programs."""
+    """Yields the manual pages of the programs."""
     with tempfile.TemporaryDirectory() as room:
         subprocess.run([TOP / "dist/man", room], check=True)
         for path in sorted(pathlib.Path(room).iterdir()):
@@ -51,7 +51,7 @@ def manual_pages() -> Iterator[tuple[str, File]]:
 
 
 def programs() -> Iterator[tuple[str, File]]:
-    """bsdudp and bsdplay."""
+    """Yields bsdudp and bsdplay."""
     for name, program in PROGRAMS.items():
         if not program.is_file():
             raise Lacking(f"{program.relative_to(TOP)} isn't built: `rt run` in crates/{name} makes it")
@@ -59,7 +59,7 @@ def programs() -> Iterator[tuple[str, File]]:
 
 
 def judge() -> Iterator[tuple[str, File]]:
-    """The command bsdudp-conform with its package, and the adapters of other stacks."""
+    """Yields the command bsdudp-conform with its package, and the adapters of other stacks."""
     starter = (TOP / "conform/bsdudp-conform").read_bytes()
     yield "bin/bsdudp-conform", (starter, True)
     scripts = ("conform/stacks", "conform/adapters/build")
@@ -69,17 +69,17 @@ def judge() -> Iterator[tuple[str, File]]:
 
 
 def documents() -> Dict[str, File]:
-    """The documents for users, the examples, and what simulators take, below DOCUMENTS."""
+    """Yields the documents for users, the examples, and the files for simulators, below DOCUMENTS."""
     named = ["LICENSE", "CHANGELOG.md", "CITATION.cff", *(it for it in files_below("docs") if not it.startswith(OF_THE_SOURCES))]
     named += [*files_below("examples"), *files_below("simulators")]
     files: Dict[str, File] = {f"{DOCUMENTS}/{name}": ((TOP / name).read_bytes(), False) for name in named}
-    if PAGE.is_file():  # it's made where binaryen is installed
+    if PAGE.is_file():  # it's made only if binaryen is installed
         files[f"{DOCUMENTS}/bsdudp.html"] = (PAGE.read_bytes(), False)
     return files
 
 
 def portable_c() -> Dict[str, File]:
-    """The portable C with its header, if it's made: where wabt is installed."""
+    """Yields the portable C with its header, if it's made, which needs wabt."""
     if not PORTABLE.is_file():
         return {}
     files = {"bsdudp_portable.c": PORTABLE, "bsdudp.h": TOP / "capi/include/bsdudp.h"}
@@ -87,7 +87,7 @@ def portable_c() -> Dict[str, File]:
 
 
 def with_links_of(files: Dict[str, File], name: str, page: bytes) -> bytes:
-    """A page in which a link to what isn't among the files is its text alone."""
+    """Returns a page in which a link to a missing file is replaced by its text."""
 
     def link(found: re.Match[str]) -> str:
         there = os.path.normpath(os.path.join(os.path.dirname(name), found[2]))

@@ -1,5 +1,5 @@
-"""The words of a script, read by argparse: `--help` prints its docstring, and a wrong word ends it with a usage line
-and status 2. A script whose output nobody reads any more, as in `SCRIPT | head -1`, ends without a message."""
+"""The arguments of a script, read by argparse: `--help` prints its docstring, and a wrong argument ends it with a usage
+line and status 2. A script whose reader has ended, as in `SCRIPT | head -1`, ends without a message."""
 from __future__ import annotations
 
 import argparse
@@ -14,7 +14,7 @@ TOP = pathlib.Path(__file__).resolve().parent.parent
 
 
 def parser(about: str | None, epilog: str | None = None) -> argparse.ArgumentParser:
-    """A parser for the script that runs, which is named by its path in the repository. `about` is its docstring."""
+    """Returns a parser for the running script, named by its path in the repository. `about` is its docstring."""
     end_quietly()
     path = pathlib.Path(sys.argv[0]).resolve()
     name = str(path.relative_to(TOP)) if path.is_relative_to(TOP) else path.name
@@ -25,19 +25,19 @@ def parser(about: str | None, epilog: str | None = None) -> argparse.ArgumentPar
 
 
 def end_quietly() -> None:
-    """From now on a BrokenPipeError of standard output prints nothing. One of another pipe prints its traceback."""
+    """From now on, a BrokenPipeError of standard output prints nothing. One of another pipe prints its traceback."""
     sys.excepthook = report
     atexit.register(flush)
 
 
 def report(kind: type[BaseException], fault: BaseException, trace: TracebackType | None) -> None:
-    """Prints an exception that nothing caught, unless it's that nobody reads standard output."""
+    """Prints an uncaught exception, unless the reader of standard output has ended."""
     if not (issubclass(kind, BrokenPipeError) and is_unread()):
         sys.__excepthook__(kind, fault, trace)
 
 
 def flush() -> None:
-    """Writes what is left of standard output, or drops it if nobody reads it."""
+    """Writes the rest of standard output, or discards it if its reader has ended."""
     try:
         sys.stdout.flush()
     except BrokenPipeError:
@@ -45,19 +45,19 @@ def flush() -> None:
 
 
 def is_unread() -> bool:
-    """Whether standard output is a pipe that nobody reads."""
+    """Returns whether standard output is a pipe without a reader."""
     poll = select.poll()
     poll.register(sys.stdout.fileno(), 0)
     return any(event & select.POLLERR for _, event in poll.poll(0))
 
 
 def none(about: str | None) -> None:
-    """Reads the words of a script that takes none."""
+    """Parses the arguments of a script that takes none."""
     parser(about).parse_args()
 
 
 def with_command(read: argparse.ArgumentParser, name: str, about: str) -> argparse.Namespace:
-    """Reads words of which the last are `command`: what is to be run, with words and options of its own."""
+    """Parses arguments of which the last are `command`: a command with its own arguments and options."""
     read.add_argument("command", nargs=argparse.REMAINDER, metavar=name, help=about)
     said = read.parse_args()
     if not said.command:

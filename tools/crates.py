@@ -1,4 +1,4 @@
-"""crates.txt: which crates there are, and what each uses."""
+"""crates.txt: the crates, and the libraries that each uses."""
 from __future__ import annotations
 
 import pathlib
@@ -15,7 +15,7 @@ class Crate(NamedTuple):
 
 
 def read() -> dict[str, Crate]:
-    """Each crate of crates.txt, in its order."""
+    """Yields each crate in crates.txt, in order."""
     found = {}
     for line in (TOP / "crates.txt").read_text(encoding="utf-8").splitlines():
         head, colon, names = line.partition("#")[0].partition(":")
@@ -26,12 +26,12 @@ def read() -> dict[str, Crate]:
 
 
 def uses() -> dict[str, list[str]]:
-    """Each crate in the order of crates.txt, with the libraries that it uses."""
+    """Returns each crate in the order of crates.txt, with the libraries that it uses."""
     return {name: crate.uses for name, crate in read().items()}
 
 
 def below(name: str, used: dict[str, list[str]]) -> list[str]:
-    """The crates of the repository that a crate stands on, sorted. It's not among them itself."""
+    """Returns the repository's crates below a crate, sorted, without the crate itself."""
     found: set[str] = set()
     left = list(used[name])
     while left:

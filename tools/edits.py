@@ -1,6 +1,6 @@
-"""Wrong bodies: files NAME.edit in must-fail/, wrong-bodies/, wrong-texts/ and wrong-definitions/ of a crate. Each has
-lines `file: PATH`, and below it pairs of `old: TEXT` and `new: TEXT`. The old text stands in the file exactly once; later pairs apply to what
-earlier ones made."""
+"""Mutants: files NAME.edit in a crate's must-fail/, wrong-bodies/, wrong-texts/ and wrong-definitions/. Each has lines
+`file: PATH`, each followed by pairs of `old: TEXT` and `new: TEXT`. The old text must be in the file exactly once.
+Later pairs apply to the result of earlier ones."""
 from __future__ import annotations
 
 import pathlib
@@ -13,11 +13,11 @@ NAME = re.compile(r"[A-Za-z0-9_-][A-Za-z0-9_.-]*\.edit")
 
 
 class Refused(Exception):
-    """Why a text is no edit, or doesn't apply."""
+    """Why a text isn't an edit, or doesn't apply."""
 
 
 class Pair(NamedTuple):
-    """A text of a file of the crate, and what it's replaced by."""
+    """A text in a file of the crate, and its replacement."""
 
     file: str
     old: str
@@ -25,7 +25,7 @@ class Pair(NamedTuple):
 
 
 def pairs_of(edit: pathlib.Path) -> list[Pair]:
-    """The pairs of an edit in their order. Raises Refused with the reason if the file isn't one."""
+    """Returns the pairs of an edit, in order. Raises Refused with the reason if the file isn't an edit."""
     pairs: list[Pair] = []
     path = old = None
     for line in edit.read_text(encoding="utf-8").split("\n"):
@@ -48,8 +48,8 @@ def pairs_of(edit: pathlib.Path) -> list[Pair]:
 
 
 def applied(pairs: list[Pair], crate: pathlib.Path, texts: dict[str, str] | None = None) -> dict[str, str]:
-    """The texts with each pair replaced, beside those of the crate's folder that these don't have. Raises Refused if a
-    file isn't there, or if an old text doesn't stand in it exactly once."""
+    """Returns the texts with each pair replaced. A file that isn't in `texts` is read from the crate's folder. Raises
+    Refused if a file is missing, or if an old text isn't in it exactly once."""
     made = dict(texts or {})
     for path, old, new in pairs:
         if path not in made:
@@ -64,7 +64,7 @@ def applied(pairs: list[Pair], crate: pathlib.Path, texts: dict[str, str] | None
 
 
 def faults(crate: pathlib.Path) -> Iterator[tuple[pathlib.Path, str]]:
-    """The files in FOLDERS of a crate's folder that don't apply, each with the reason."""
+    """Yields the files in FOLDERS of a crate's folder that don't apply, each with the reason."""
     known: dict[str, pathlib.Path] = {}
     for path in (it for folder in FOLDERS for it in sorted(crate.glob(f"{folder}/**/*"))):
         if path.parent.parent != crate or not NAME.fullmatch(path.name):

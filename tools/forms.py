@@ -1,4 +1,4 @@
-"""The forms of the lines of scripts for people, as the table of play_forms has them."""
+"""The forms of the lines of play scripts, from the table in play_forms."""
 from __future__ import annotations
 
 import pathlib
@@ -8,13 +8,13 @@ FOLDER = pathlib.Path(__file__).resolve().parent.parent / "crates/play_forms/src
 
 
 def listed(file: str, function: str) -> list[str]:
-    """The commands of a list, by the names of their variants."""
+    """Returns the commands in a list, by the names of their variants."""
     body = (FOLDER / file).read_text(encoding="utf-8").partition(f"fn {function}(")[2].partition("\n}")[0]
     return re.findall(r"Command::(\w+),", body)
 
 
 def forms() -> dict[str, list[str]]:
-    """The forms of one machine's lines, of those that only a host on an Ethernet takes, and of the wire's."""
+    """Returns the forms of lines for one host, for hosts on an Ethernet only, and for the wire."""
     row = r'Command::(\w+) => (?:by_words|otherwise)\(\s*"[^"]+",\s*"([^"]+)"'
     form_of = dict(re.findall(row, (FOLDER / "command.rt").read_text(encoding="utf-8")))
     machine = listed("command.rt", "host_commands")
@@ -27,7 +27,7 @@ def forms() -> dict[str, list[str]]:
 
 
 def arguments() -> list[str]:
-    """What the words after a command may be: each argument's name, and its values in brackets."""
+    """Returns the arguments of a command: each argument's name, and its values in brackets."""
     label = r'Argument::\w+ => (?:\{\s*)?"((?:[^"\\]|\\.)*)"'
     found = re.findall(label, (FOLDER / "argument.rt").read_text(encoding="utf-8"))
     return [it.replace('\\"', '"') for it in found]

@@ -1,9 +1,9 @@
-"""flat_model and flat_wire as one crate, so that a wrong definition can be tried against the law of the wire.
+"""Joins flat_model and flat_wire in one crate, so that a wrong definition can be tried against the law of the wire.
 
-flat_wire proves its laws over the library flat_model, and that library isn't made if a definition is wrong: flat_model
-has laws of its own about keys and identifications (`whole_key`, `next_number`), which fail first. In one crate the
-prover can be asked for the law of the wire alone. There its lemmas don't cite those two laws: each one is proved from
-the definition itself, so it's the law of the wire that fails."""
+flat_wire's proofs use the library flat_model, which can't be made with a wrong definition: flat_model has its own laws
+about keys and identifications (`whole_key`, `next_number`), which fail first. In one crate, the prover can check only
+the law of the wire. There its lemmas don't cite those two laws: each is proved from the definition itself, so the law
+of the wire fails."""
 from __future__ import annotations
 
 import pathlib
@@ -14,20 +14,20 @@ NAME = "flat_model"
 LAW = f"{NAME}::wire_laws::wire_law"
 EDITS = "wrong-definitions"
 PARTS = ("src", "specs", "proofs")
-# The fields of a key that the law needs, each with its place among the parts of `is_key`. It doesn't need the
-# destination: fragments of UDP from one address with one identification are of one datagram.
+# The fields of a key that the law needs, each with its index in the parts of `is_key`. It doesn't need the destination:
+# UDP fragments from one address with one identification belong to one datagram.
 FIELDS = {
     "source": "(and_parts _ _ (and_parts _ _ (and_parts _ _ e).0).0).0",
     "id": "(and_parts _ _ (and_parts _ _ e).0).1",
     "protocol": "(and_parts _ _ e).1",
 }
-# What the law stands on with a wrong definition: what it says of a key's fields, or of a send.
+# What a wrong definition can break in the law: the fields of a key, or a send.
 LEMMAS = re.compile(rf"Rattle\.{NAME}\.proofs\.(Second\.key_\w+|Told\.\S+)")
 LAWS = f"Rattle.{NAME}.proofs.Laws"
 
 
 class Fault(Exception):
-    """What isn't as this module expects it."""
+    """What differs from this module's assumptions."""
 
 
 def replaced(text: str, old: str, new: str) -> str:
@@ -37,7 +37,7 @@ def replaced(text: str, old: str, new: str) -> str:
 
 
 def from_definitions(place: str, text: str) -> str:
-    """A file of proofs whose lemmas don't cite `whole_key` and `next_number`."""
+    """Returns a file of proofs whose lemmas don't cite `whole_key` and `next_number`."""
     if place == "proofs/Told.antt":
         text = replaced(text, "next_number fd out x named ∙ ap (λ n. (n + 1) % 65536) got.0.id;", "left_is.id;")
         return replaced(text, " next_number,", "")
@@ -50,13 +50,13 @@ def from_definitions(place: str, text: str) -> str:
 
 
 def cited(text: str) -> set[str]:
-    """The laws of flat_model that a file of proofs cites."""
+    """Returns the laws of flat_model that a file of proofs cites."""
     groups = re.findall(rf"use {re.escape(LAWS)}\.\{{([^}}]*)\}}", text)
     return {name.strip() for group in groups for name in group.split(",")}
 
 
 def laws_of(text: str, names: set[str]) -> str:
-    """Laws.antt with these names alone, so that no other lemma is read."""
+    """Returns Laws.antt with only these names, so that no other lemma is read."""
 
     def kept(group: re.Match[str]) -> str:
         those = [it for it in map(str.strip, group[2].split(",")) if it in names]
@@ -66,7 +66,7 @@ def laws_of(text: str, names: set[str]) -> str:
 
 
 def make(crates: pathlib.Path, room: pathlib.Path) -> None:
-    """Makes the crate in an empty folder, with the wrong definitions beside it."""
+    """Makes the crate in an empty folder, with the wrong definitions."""
     for part in (*PARTS, EDITS):
         shutil.copytree(crates / NAME / part, room / part)
     lib = room / "src/lib.rt"

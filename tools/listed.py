@@ -1,5 +1,5 @@
-"""The lists that libraries, pages and the web page share, as the sources have them: counters, causes, errors, settings.
-tools/lists writes them where nothing can ask a program for them, and page/build puts them into the page."""
+"""The lists that libraries, documents and the web page share, read from the sources: counters, causes, errors,
+settings. tools/lists writes them into files that can't query a program, and page/build writes them into the page."""
 from __future__ import annotations
 
 import functools
@@ -20,7 +20,7 @@ COMMAND_LINE = "crates/link_script/src/command_line.rt"
 CONFIG = "crates/flat_model/src/config.rt"
 PARAMS = "crates/params/src/lib.rt"
 
-# What is said of a drop that ends no packet, so that no `Why` has words for it.
+# The cause of a drop that doesn't end a packet, for which no `Why` has a text.
 OTHER_CAUSES = {
     "IpFragtimeout": "fragments missing for 60 ticks",
     "IpReclaimed": "unfinished datagram given up for its buffers",
@@ -29,7 +29,7 @@ OTHER_CAUSES = {
 
 
 class Unread(Exception):
-    """A source isn't as it's known here: if it has moved, change this module, too."""
+    """A source differs from this module's assumptions. If it has moved, change this module, too."""
 
 
 class Counter(NamedTuple):
@@ -52,12 +52,12 @@ class Error(NamedTuple):
 
     @property
     def text(self) -> str:
-        """How a reply names it."""
+        """Returns its name in a reply."""
         return f"{self.name} {self.lack}" if self.lack else self.name
 
 
 class Setting(NamedTuple):
-    """An option of `bsdudp run`: its name, its greatest number (0: it's an address), its values, its default."""
+    """An option of `bsdudp run`: its name, its largest value (0: it's an address), its values, its default."""
 
     name: str
     most: int
@@ -74,7 +74,7 @@ def read(path: str) -> str:
 
 
 def pieces(path: str, pattern: str, text: str | None = None) -> list[Any]:
-    """What the pattern finds in a file, or in a part of it: at least one piece."""
+    """Returns all that the pattern finds in a file, or in a part of it. Fails if it finds nothing."""
     found = re.findall(pattern, read(path) if text is None else text)
     if not found:
         raise Unread(f"{path}: nothing there fits {pattern}")
@@ -83,7 +83,7 @@ def pieces(path: str, pattern: str, text: str | None = None) -> list[Any]:
 
 @functools.lru_cache(maxsize=None)
 def definitions(path: pathlib.Path) -> dict[str, str]:
-    """The text of each definition of a file, by name and without comments."""
+    """Returns the text of each definition in a file, by name and without comments."""
     text = re.sub(r"(?m)(^|\s)--(\s.*)?$", r"\1", path.read_text(encoding="utf-8"))
     heads = list(re.finditer(r"(?m)^ *(?:(?:abbrev|unfoldable) pub|pub (?:record|data)) (\S+)", text))
     ends = [head.start() for head in heads[1:]] + [len(text)]
@@ -94,22 +94,22 @@ def definitions(path: pathlib.Path) -> dict[str, str]:
 
 
 def named_counters() -> list[tuple[str, str]]:
-    """Each counter's variant and its name, in the order of printing."""
+    """Returns each counter's variant and its name, in the order of printing."""
     return pieces(COUNTER, r'\(Counter::(\w+), "([^"]+)"\)')
 
 
 def causes_counted() -> list[tuple[str, str]]:
-    """Each cause that ends a packet, in the order of the tests, and the counter that counts it."""
+    """Returns each cause that ends a packet, in the order of the checks, and its counter."""
     return pieces(COUNTERS, r"Why::(\w+) => Counter::(\w+),")
 
 
 def texts_of_causes() -> dict[str, str]:
-    """How each cause is displayed."""
+    """Returns the text of each cause."""
     return {why: text for text, why in pieces(COUNTERS, r'#\[error\("([^"]+)"\)\]\s*(\w+),')}
 
 
 def rules() -> dict[str, str]:
-    """The rule that a packet broke, by its cause, as `bsdplay why` prints it."""
+    """Returns the rule that a packet broke, by its cause, as `bsdplay why` prints it."""
     arms = pieces(RULES, r'((?:Why::\w+[\s|]+)+)=>\s*(?:\{\s*)?"([^"]+)"')
     found = {why: rule for whys, rule in arms for why in re.findall(r"Why::(\w+)", whys)}
     for why, _ in causes_counted():
@@ -119,7 +119,7 @@ def rules() -> dict[str, str]:
 
 
 def counters() -> list[Counter]:
-    """All counters, in the order of printing."""
+    """Returns all counters, in the order of printing."""
     counts = dict(pieces(MEANINGS, r'Counter::(\w+) =>\s*(?:\{\s*)?"([^"]+)"'))
     texts = texts_of_causes()
     causes = {counter: texts[why] for why, counter in causes_counted()} | OTHER_CAUSES
@@ -131,7 +131,7 @@ def counters() -> list[Counter]:
 
 
 def variants(path: pathlib.Path, types: str) -> set[str]:
-    """The variants of these types that a file of definitions imports."""
+    """Returns the variants of these types that a file of definitions imports."""
     pattern = r"use Rattle\.flat_model\.specs\.declared\.(?:" + types + r")\.TheVariants\.\{([^}]*)\}"
     found = re.findall(pattern, path.read_text(encoding="utf-8"))
     return {name.strip() for names in found for name in names.split(",")}
@@ -139,7 +139,8 @@ def variants(path: pathlib.Path, types: str) -> set[str]:
 
 @functools.lru_cache(maxsize=None)
 def places_of_counts() -> dict[str, list[tuple[str, str]]]:
-    """For each counter, the definitions that count it or end a packet with a cause of it: their files and names."""
+    """Returns, for each counter, the definitions that increase it or end a packet with its cause: their files and
+    names."""
     counter_of = dict(causes_counted())
     places: dict[str, list[tuple[str, str]]] = {}
     for path in sorted(SPECS.rglob("*.antt")):
@@ -156,7 +157,7 @@ def places_of_counts() -> dict[str, list[tuple[str, str]]]:
 
 # ---- errors --------------------------------------------------------------------------------------------------------
 
-# The definitions whose text has the errors of a call in their order.
+# The definitions whose text has the errors of a call, in order.
 CALLS = {
     "socket": ["Opens"],
     "bind": ["Binds"],
@@ -166,12 +167,13 @@ CALLS = {
     "close": ["Closes"],
 }
 SENDS = ["Sends", "Leaves"]
-# The calls in the order of pages.
+# The calls in the order of the pages.
 ORDER = ["socket", "bind", "connect", "send", "sendto", "recvfrom", "setsockopt", "close"]
 
 
 def meanings(type_name: str) -> dict[str, str]:
-    """What each variant of a type of ERRNO means, by its comment: a sentence without its capital and its full stop."""
+    """Returns the meaning of each variant of a type in ERRNO, from its comment, without its capital and its full
+    stop."""
     body = read(ERRNO).partition(f"pub enum {type_name} {{")[2].partition("\n}")[0]
     found = pieces(ERRNO, r"((?:    /// .*\n)+)(?:    #\[.*\n)*    (\w+)", body)
     texts = {name: " ".join(re.findall(r"/// (.*)", said)) for said, name in found}
@@ -180,7 +182,7 @@ def meanings(type_name: str) -> dict[str, str]:
 
 @functools.lru_cache(maxsize=None)
 def errors() -> list[Error]:
-    """The errors of socket calls, by their numbers; one for each thing that may be lacking."""
+    """Returns the errors of socket calls, by number, with one error for each resource that may be lacking."""
     numbers = {variant: int(it) for variant, it in pieces(ERRNO, r"Errno::(\w+)(?:\(_\))? => (\d+),")}
     lacks = pieces(ERRNO, r'Lack::(\w+) => "(\w+)",')
     about, lacking = meanings("Errno"), meanings("Lack")
@@ -194,13 +196,13 @@ def errors() -> list[Error]:
 
 
 def codes() -> dict[str, int]:
-    """The number of each error in C, by how a reply names it: the output queue's has one of its own."""
+    """Returns the number of each error in C, by its name in a reply. The output queue's error has its own number."""
     own = {lack.lower(): int(it) for lack, it in pieces(CODES, r"const (\w+)_FULL: i32 = -(\d+);")}
     return {it.text: own.get(it.lack, it.number) for it in errors()}
 
 
 def errors_of(name: str, known: dict[str, str]) -> list[str]:
-    """The errors in the text of a definition, in their order, with those of the lists `.._faults` that it names."""
+    """Returns the errors in the text of a definition, in order, with those in the lists `.._faults` that it names."""
     if name not in known:
         raise Unread(f"crates/flat_model/specs/Machine: neither Calls.antt nor Send.antt has the definition {name}")
     found = []
@@ -212,14 +214,15 @@ def errors_of(name: str, known: dict[str, str]) -> list[str]:
 
 
 def errors_by_call() -> dict[str, list[str]]:
-    """The errors of each call on an open descriptor, in their order; those of both sends under `send`."""
+    """Returns the errors of each call on an open descriptor, in order. Those of both sends are under `send`."""
     known = definitions(SPECS / "Machine/Calls.antt") | definitions(SPECS / "Machine/Send.antt")
     calls = CALLS | {"send": SENDS}
     return {call: [it for root in roots for it in errors_of(root, known)] for call, roots in calls.items()}
 
 
 def calls_by_error() -> dict[str, list[str]]:
-    """The calls on an open descriptor that fail with each error, in the order of pages: `sendto` apart from `send`."""
+    """Returns the calls on an open descriptor that fail with each error, in the order of the pages. `sendto` and `send`
+    are separate."""
     named = errors_by_call()
     text = {it.variant: it.text for it in errors()}
     with_address = set(named["send"]) & set(named["connect"]) | {text["IsConnected"]}
@@ -240,7 +243,7 @@ def dotted(address: int) -> str:
 
 
 def values_of(field: str, most: str, params: dict[str, int]) -> str:
-    """The values that a field of the configuration may have: what its check compares the field with."""
+    """Returns the values that a field of the configuration may have, from its check."""
     check = read(CONFIG).partition("#[cfg(test)]")[0]
     if field == "bcast":
         pieces(CONFIG, r"self\.addr != self\.bcast", check)
@@ -256,13 +259,13 @@ def values_of(field: str, most: str, params: dict[str, int]) -> str:
 
 
 def options() -> dict[str, list[str]]:
-    """The options of `bsdudp run` and of `bsdudp chain`, in the order of the code."""
+    """Returns the options of `bsdudp run` and of `bsdudp chain`, in the order of the code."""
     run, _, chain = read(OPTIONS).partition("let run = ")[2].partition("let chain = ")
     return {name: pieces(OPTIONS, r'option\(alloc, "(\w+)"\)', it) for name, it in (("run", run), ("chain", chain))}
 
 
 def settings() -> list[Setting]:
-    """The options of `bsdudp run` with their values and defaults."""
+    """Returns the options of `bsdudp run` with their values and defaults."""
     named = pieces(PARAMS, r"pub const (\w+): \w+ = ([0-9a-fx_]+);")
     params = {name: number(value) for name, value in named} | {"U16_MAX": 65535, "u32::MAX": 4294967295}
     block = read(COMMAND_LINE).partition("DEFAULTS: Config")[2].partition("};")[0]

@@ -1,18 +1,17 @@
-"""Rewrites the text of the LLVM module of a static library for a processor whose pointers have 32 bits and whose
-numbers begin with the byte of least weight.
+"""Rewrites the text of a static library's LLVM module for a little-endian processor with 32-bit pointers.
 
-The module was made for x86-64. Sizes of types and places of members stand in it as numbers, so a pointer keeps its 8
-bytes in memory, of which the last 4 are 0:
+The module was made for x86-64. It contains sizes of types and offsets of members as numbers, so a pointer keeps its 8
+bytes in memory, and the last 4 of them are 0:
 
-  - A load or store of a pointer becomes one of a number of 64 bits. `alloca ptr` has 8 bytes.
-  - A pair is loaded and stored member by member, at the places that the members have on x86-64.
-  - In a constant 4 bytes of 0 stand after each address.
-  - `ptrtoaddr` becomes `ptrtoint`, since the former can't widen.
-  - rattle_alloc, which answers a pair of 64 bits, is defined here, and asks bsdudp_block of capi/src.
+  - A load or store of a pointer becomes one of a 64-bit number. `alloca ptr` has 8 bytes.
+  - A pair is loaded and stored member by member, at the offsets that the members have on x86-64.
+  - In a constant, 4 bytes of 0 follow each address.
+  - `ptrtoaddr` becomes `ptrtoint`, because the former can't widen.
+  - rattle_alloc, which returns a pair of 64-bit numbers, is defined here, and calls bsdudp_block of capi/src.
 
-All else means the same with pointers of 32 bits, as far as it's known here. A line of another form is refused, with
-its number: a cast between pointers and numbers, an aggregate in memory, a step in an address that isn't in bytes, a
-constant or an attribute that depends on a layout, an atomic access, a call through a pointer."""
+All other known forms mean the same with 32-bit pointers. A line of another form is refused, with its number: a cast
+between pointers and numbers, an aggregate in memory, an address step that isn't in bytes, a constant or an attribute
+that depends on a layout, an atomic access, a call through a pointer."""
 import re
 import sys
 
@@ -22,23 +21,23 @@ NAME = r'[%@](?:[\w.$-]+|"[^"]*")'
 ADDRESS = rf"(?:{NAME}|getelementptr (?:inbounds |nuw |nusw )*\(i8, ptr {NAME}, i64 -?\d+\))"
 MEMBER = r"(i8|i16|i32|i64|ptr)"
 NOTES = r"(?:, ![\w.]+ !(?:\d+|\{[^}]*\}))*"
-# Attributes of a target, and of tables for unwinding, which no one does.
+# Attributes of a target, and of unwind tables, which aren't used.
 OF_TARGET = r' "(?:probe-stack|stack-probe-size|target-cpu|target-features|tune-cpu)"="[^"]*"| uwtable(?:\(\w+\))?'
-# What memory has nothing to do with, and no pointer becomes a number by. After each the line goes on as it likes.
+# Beginnings of instructions that access no memory and convert no pointer to a number. The rest of the line is free.
 PLAIN = r"(?:add|sub|mul|udiv|urem|sdiv|srem|shl|lshr|ashr|and|or|xor|icmp|select|phi|zext|sext|trunc|freeze|bitcast"
 PLAIN += r"|extractvalue|insertvalue|extractelement|insertelement|shufflevector)\b"
 ENDS = r"(?:ret|br|switch|unreachable)\b"
 CALL = rf'(?:(?:tail|musttail|notail) )?call (?:[\w() ,]+ )?(?:\{{[^}}]*\}} |[\w<> ]+ )?@(?:[\w.$-]+|"[^"]*")\('
-# What of a call or a head says how a struct lies in memory.
+# Attributes of a call or a head that depend on a struct's layout in memory.
 OF_LAYOUT = r"\b(?:byval|sret|byref|inalloca|preallocated|elementtype)\b"
 
 
 class Stop(Exception):
-    """The first line that isn't known, with its number and why."""
+    """The first line of an unknown form, with its number and the reason."""
 
 
 class Body:
-    """The lines of functions, rewritten one by one."""
+    """Rewrites the lines of functions one by one."""
 
     def __init__(self):
         self.made = 0
@@ -48,7 +47,7 @@ class Body:
         return f"%narrow.{self.made}"
 
     def loaded(self, to, kind, address, align):
-        """The lines that load a number or a pointer."""
+        """Returns the lines that load a number or a pointer."""
         if kind != "ptr":
             return [f"  {to} = load {kind}, ptr {address}, align {align}"]
         wide = self.name()
@@ -61,7 +60,8 @@ class Body:
         return [f"  {wide} = ptrtoint ptr {value} to i64", f"  store i64 {wide}, ptr {address}, align {align}"]
 
     def second(self, first, second, address, align):
-        """The second member of a pair: the line that makes its address, that, and what it's aligned to."""
+        """Returns, for the second member of a pair, the line that computes its address, the address, and its
+        alignment."""
         place = -(-SIZES[first] // SIZES[second]) * SIZES[second]
         at = self.name()
         return f"  {at} = getelementptr i8, ptr {address}, i64 {place}", at, min(int(align), SIZES[second])
@@ -81,7 +81,7 @@ class Body:
         return lines + self.stored(first, one, address, align) + self.stored(second, two, at, there)
 
     def memory(self, line):
-        """What a load, a store or an alloca becomes, or None if it has another form."""
+        """Returns the lines that replace a load, a store or an alloca, or None if it has another form."""
         notes = rf", align (\d+){NOTES}$"
         if it := re.match(rf"  ({NAME}) = load ptr, ptr ({ADDRESS}){notes}", line):
             return self.loaded(it[1], "ptr", it[2], it[3])
@@ -99,7 +99,7 @@ class Body:
         return [line] if re.match(same, line) else None
 
     def rewritten(self, line):
-        """The lines that stand for one."""
+        """Returns the lines that replace a line."""
         if "%narrow." in line:
             raise Stop("a name that's given here")
         if lines := self.memory(line):
@@ -121,12 +121,12 @@ class Body:
 
 
 def members(kinds):
-    """The members of a packed struct."""
+    """Returns the members of a packed struct."""
     return re.findall(r"\[\d+ x i8\]|i\d+|ptr|(?:.+)", kinds.replace(", ", "\n"))
 
 
 def constant(line):
-    """A constant. After each address in it 4 bytes of 0 stand."""
+    """Returns a constant with 4 bytes of 0 after each address in it."""
     head = rf"{NAME} = (?:private |internal |local_)?(?:unnamed_addr )?constant "
     if re.match(rf'{head}\[\d+ x i8\] (?:c"[^"]*"|zeroinitializer)(?:, align \d+)?$', line):
         return line
@@ -158,7 +158,7 @@ define internal { i64, i64 } @rattle_alloc(i64 %size, i64 %alignment) {
 
 
 def outside(line):
-    """A line that isn't in a function."""
+    """Returns the replacement of a line outside functions."""
     if line.startswith("@") or line.startswith('@"'):
         return constant(line)
     if re.match(r"declare [^@]*@rattle_alloc\(", line):
@@ -168,7 +168,7 @@ def outside(line):
     if line.startswith("attributes "):
         return re.sub(OF_TARGET, "", line)
     if re.match(r"declare [^@]*@rattle_realloc\(", line):
-        return line  # nobody calls it, and nobody has it: if that changes, the linker says so
+        return line  # it's neither called nor defined: if that changes, the linker reports it
     if line.startswith("declare ") and re.search(rf"{OF_LAYOUT}|\{{.*@", line):
         raise Stop("a function of C that hands a struct over")
     if not re.match(r"declare |source_filename = |; |!|$", line):
@@ -177,7 +177,7 @@ def outside(line):
 
 
 def head(line):
-    """The head of a function. One that C calls answers a number."""
+    """Returns the head of a function. A function that C calls returns a number."""
     exported = not re.match(r"define (?:internal|private) ", line)
     if re.search(OF_LAYOUT, line) or exported and re.match(r"define [^@]*[{\[<][^@]*@", line):
         raise Stop("a function that hands a struct over in memory")
@@ -185,7 +185,7 @@ def head(line):
 
 
 def retargeted(text, triple, layout):
-    """The module's text for that target."""
+    """Returns the module's text for that target."""
     body, inside, made = Body(), False, []
     for number, line in enumerate(text.splitlines(), 1):
         try:

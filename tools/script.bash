@@ -1,25 +1,26 @@
 # shellcheck shell=bash
-# What the bash scripts of this repository share. One that's right below the top begins, after its comment, so:
+# Functions that the bash scripts of this repository share. A script in a folder at the top begins, after its comment,
+# in this way:
 #
 #     set -euo pipefail
 #     source "$(dirname "$0")/../tools/script.bash"
 #     words "FOLDER [MTU]" "$@"
 #
-# Then `--help` prints its usage and its comment, and other words than these end it with its usage and status 2.
+# Then `--help` prints its usage and its comment, and other arguments than these end it with its usage and status 2.
 
-# The script's path, as the repository has it, and its comment.
+# The script's path in the repository, and its comment.
 script_path=$(realpath --relative-to="$(dirname "${BASH_SOURCE[0]}")/.." "$0")
 script_comment=$(sed -n '1d; /^#/!q; s/^#\( \|$\)//p' "$0")
 
-# Ends the script for its words, and says why if a reason is given.
+# Ends the script for its arguments, and prints the reason if one is given.
 usage() {
     echo "usage: $script_path${script_form:+ $script_form}" >&2
     [ $# = 0 ] || echo "$script_path: $1" >&2
     exit 2
 }
 
-# words FORM WORD..: reads the script's words. FORM names them, with brackets around those that may be left out, and
-# with `..` at its end if there may be more of the last. No option is known but --help.
+# words FORM ARGUMENT..: parses the script's arguments. FORM names them, with brackets around optional ones, and with
+# `..` at its end if the last one can be repeated. The only option is --help.
 words() {
     script_form=$1
     shift

@@ -1,4 +1,4 @@
-"""The version of this repository, which is the newest of CHANGELOG.md, and the day of its release."""
+"""The version of this repository, which is the newest in CHANGELOG.md, and its release date."""
 from __future__ import annotations
 
 import datetime
@@ -7,16 +7,16 @@ import re
 from typing import Optional
 
 TOP = pathlib.Path(__file__).resolve().parent.parent
-# The heading of a version: its number, and the day of its release or that it has none yet.
+# The heading of a version: its number, and its release date or that it isn't released.
 HEADING = re.compile(r"## (\d+\.\d+\.\d+), (?:(\d{4}-\d\d-\d\d)|unreleased)")
 
 
 class NoVersion(Exception):
-    """CHANGELOG.md names none."""
+    """CHANGELOG.md names no version."""
 
 
 def heading() -> re.Match[str]:
-    """The heading of the newest version, which is the first of its kind."""
+    """Returns the heading of the newest version, which is the first one."""
     lines = (TOP / "CHANGELOG.md").read_text(encoding="utf-8").split("\n")
     at, first = next(((at, it) for at, it in enumerate(lines, 1) if it.startswith("## ")), (1, ""))
     found = HEADING.fullmatch(first)
@@ -26,12 +26,12 @@ def heading() -> re.Match[str]:
 
 
 def newest() -> str:
-    """The newest version, as in `0.2.0`."""
+    """Returns the newest version, for example `0.2.0`."""
     return heading()[1]
 
 
 def released() -> Optional[datetime.date]:
-    """The day on which the newest version was released, if it was."""
+    """Returns the release date of the newest version, or None."""
     day = heading()[2]
     try:
         return day and datetime.date.fromisoformat(day) or None

@@ -1,8 +1,8 @@
-"""WebAssembly of the LLVM module of a proved static library.
+"""Makes WebAssembly from the LLVM module of a proved static library.
 
-The toolchain proves a crate for WebAssembly, but doesn't compile one that allocates. So the module that it makes for
-x86-64 gets another target, clang compiles it, ld.lld links it with a heap in C, and binaryen's wasm-opt makes its
-addresses 32 bits wide. None of this is proved."""
+The toolchain proves a crate for WebAssembly, but can't compile one that allocates. So this gives another target to the
+module for x86-64. clang compiles it, ld.lld links it with a heap in C, and binaryen's wasm-opt narrows its addresses to
+32 bits. None of this is proved."""
 import re
 import shutil
 
@@ -10,18 +10,18 @@ from tools.llvm import TOP, Stop, readable, run
 
 LAYOUT = "e-m:e-p:64:64-p10:8:8-p20:8:8-i64:64-i128:128-n32:64-S128"
 TARGET = "wasm64-unknown-unknown"
-# What heap.c has. A module that calls anything else of C isn't taken.
+# The functions in heap.c. A module that calls another C function is rejected.
 OF_HEAP = {"rattle_alloc", "rattle_realloc", "rattle_dealloc"}
 FEATURES = ["memory64", "bulk-memory", "sign-ext", "mutable-globals", "nontrapping-float-to-int"]
-# How a module is made of the LLVM module: whose memory it gets, what clang hears, what ld.lld and wasm-opt hear. The
-# page has a stack of 1 MB below its heap. For bsdudp_portable.c constants begin at address 16, and the stack is where
-# each call puts it.
+# How a module is made from the LLVM module: whose memory it uses, and the arguments of clang, ld.lld and wasm-opt. The
+# page has a stack of 1 MB below its heap. In bsdudp_portable.c, constants begin at address 16, and each call sets the
+# place of the stack.
 PAGE = ("heap.c", ["-O3"], ["--stack-first", "-z", f"stack-size={1 << 20}"], ["-O2"])
 PORTABLE = ("c/arena.c", ["-O2"], ["--no-stack-first", "--global-base=16"], ["-O2", "-ocimfs", "0"])
 
 
 def retargeted(text):
-    """The module's text with another target, and the functions that it exports."""
+    """Returns the module's text with another target, and the functions that it exports."""
     text, layouts = re.subn(r'(?m)^target datalayout = ".*"$', f'target datalayout = "{LAYOUT}"', text)
     text, triples = re.subn(r'(?m)^target triple = ".*"$', f'target triple = "{TARGET}"', text)
     if layouts != 1 or triples != 1:
@@ -39,7 +39,7 @@ def retargeted(text):
 
 
 def compiled(module, kit, room, made):
-    """The module for WebAssembly with a 64-bit memory, linked with its heap."""
+    """Returns the module for WebAssembly with a 64-bit memory, linked with its heap."""
     heap, level, layout, _ = made
     clang = kit / "toolchain/bin/clang"
     text = readable(module, kit, room)
@@ -58,7 +58,7 @@ def compiled(module, kit, room, made):
 
 
 def number_at(data, at):
-    """A number in LEB128, and where it ends."""
+    """Returns a number in LEB128, and its end."""
     number = shift = 0
     while True:
         byte = data[at]
@@ -69,8 +69,8 @@ def number_at(data, at):
 
 
 def without_table(data):
-    """The module without its function table, which ld.lld always writes, and without the sections that only name
-    things. binaryen reads no 64-bit table. Nothing may fill the table: a call through an empty one could only trap."""
+    """Returns the module without its function table, which ld.lld always writes, and without sections of names.
+    binaryen can't read a 64-bit table. The table must be empty: then a call through it could only trap."""
     out, at = bytearray(data[:8]), 8
     while at < len(data):
         start, kind = at, data[at]
@@ -86,7 +86,7 @@ def without_table(data):
 
 
 def lowered(module, kit, room, made):
-    """The module whose addresses are 32 bits wide."""
+    """Returns the module with 32-bit addresses."""
     if not shutil.which("wasm-opt"):
         raise Stop("there is no wasm-opt: apt-get install binaryen")
     (room / "plain.wasm").write_bytes(without_table(compiled(module, kit, room, made).read_bytes()))
