@@ -31,7 +31,7 @@ static err_t up(struct netif *n)
     return ERR_OK;
 }
 
-/* What the chain holds, and no more: tot_len isn't trusted. */
+/* Copies the bytes that are in the chain: tot_len isn't trusted. */
 static void receive(void *number, struct udp_pcb *pcb, struct pbuf *p, const ip_addr_t *from, u16_t port)
 {
     int length = 0;

@@ -1,7 +1,7 @@
 /*
- * libslirp, whole and by its public calls: the guest's packets go in, and a datagram for 10.0.0.1:7 comes out at a
- * socket on 127.0.0.1:7 of this process, in a network namespace of its own. libslirp is a gateway that translates
- * addresses, so who sent a datagram can't be told.
+ * The whole of libslirp, by its public calls: the guest's packets go in, and a datagram for 10.0.0.1:7 arrives at a
+ * socket on 127.0.0.1:7 of this process, in its own network namespace. libslirp is a gateway that translates addresses,
+ * so the sender of a datagram isn't known.
  */
 #define _GNU_SOURCE
 #include "kit.h"

@@ -15,7 +15,7 @@ from ._case import ABILITIES, Answer, Case, Event, Got, Out, Refused, Wait
 TIMEOUT_S = 30.0
 MOST_BYTES = 64 << 20
 READ = 1 << 16
-# After this many consecutive cases with a fault the other cases aren't run any more.
+# After this many consecutive cases with a fault, the remaining cases aren't run.
 MOST_FAULTS = 20
 NOT_ASKED = f"it isn't asked any more, after a fault in {MOST_FAULTS} cases one after the other"
 
@@ -45,7 +45,7 @@ class Adapter:
         self.stop()
 
     def start(self) -> None:
-        """Begins the program, and asks what it is. Fault if it can't be begun or doesn't say."""
+        """Starts the program, and reads its name. Raises Fault if it can't be started or prints no name."""
         try:
             self.running = subprocess.Popen(
                 self.command, stdin=subprocess.PIPE, stdout=subprocess.PIPE, start_new_session=True
@@ -70,7 +70,7 @@ class Adapter:
             raise Fault(f"it has {quoted(sorted(unknown)[0])}, but what there is to have is: {' '.join(ABILITIES)}")
 
     def stop(self) -> None:
-        """Ends the program and what it began."""
+        """Ends the program and the processes that it started."""
         if self.running is not None:
             try:
                 os.killpg(self.running.pid, signal.SIGKILL)
@@ -158,7 +158,7 @@ def quoted(text: str) -> str:
 
 
 def read_answer(case: Case, lines: List[str]) -> Answer:
-    """The events of a case's lines. Fault if one isn't a line of an adapter."""
+    """The events of a case's lines. Raises Fault if one isn't a valid line."""
     if lines[:1] != [f"case {case.name}"]:
         raise Fault(f"it answers `case {case.name}` with {quoted(lines[0]) if lines else 'nothing'}")
     events: List[Event] = []

@@ -1,4 +1,4 @@
-"""Addresses as numbers, and who is on the wire of a case."""
+"""Addresses as numbers, and the hosts on the wire of a case."""
 from __future__ import annotations
 
 import ipaddress
@@ -17,8 +17,8 @@ def text_of(number: int) -> str:
     return str(ipaddress.IPv4Address(number))
 
 
-# Who is on the wire of a case: the stack is HOST, on a network of 24 bits. A device on a wire may have another address
-# than 10.0.0.1: `bsdudp-conform wire` names it in the environment.
+# The hosts on the wire of a case: the stack is HOST, on a /24 network. A device on a wire may have another address than
+# 10.0.0.1: `bsdudp-conform wire` sets it in the environment.
 HOST = address(os.environ.get(TARGET, "10.0.0.1"))
 ZERO_BROADCAST = HOST & 0xFFFFFF00
 BROADCAST = ZERO_BROADCAST | 0xFF

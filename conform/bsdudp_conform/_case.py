@@ -19,7 +19,7 @@ def hex_of(data: bytes) -> str:
 
 @dataclass(frozen=True)
 class Receive:
-    """A packet comes from the wire."""
+    """A packet arrives from the wire."""
 
     packet: bytes
 
@@ -114,7 +114,7 @@ class Case:
 
     @cached_property
     def needs(self) -> FrozenSet[str]:
-        """What an adapter has to have for it."""
+        """The abilities that an adapter needs for it."""
         kinds = {Open: "sockets", Connect: "connect", Send: "send"}
         found = {kinds[type(step)] for step in self.steps if type(step) in kinds}
         if self.mtu != 1500:
@@ -187,7 +187,7 @@ class Out:
 
 @dataclass(frozen=True)
 class Refused:
-    """A step was refused by the stack: a send that's too long for it, say."""
+    """The stack refused a step, for example a send that is too long for it."""
 
     step: int
 
@@ -201,8 +201,8 @@ Event = Union[Got, Out, Refused]
 
 @dataclass(frozen=True)
 class Answer:
-    """What an adapter reported for a case. `fault` says why it has no end: it died, hung, flooded, or printed an
-    invalid line; `notes` are only for a reader."""
+    """An adapter's report for a case. `fault` says why the report is incomplete: the adapter died, hung, flooded, or
+    printed an invalid line. `notes` are only for a reader."""
 
     events: Tuple[Event, ...] = ()
     notes: Tuple[str, ...] = ()

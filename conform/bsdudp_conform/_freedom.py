@@ -220,7 +220,7 @@ BSD: Settings = {
 }
 
 Play = Callable[[Path], object]
-# One case gets at most this many runs: its results then count as many.
+# The most runs of one case. After this many equal results, all machines count as alike.
 MOST_RUNS = 600
 
 

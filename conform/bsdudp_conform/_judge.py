@@ -25,7 +25,7 @@ class Deviation:
 
     @property
     def kind(self) -> Tuple[int, str, str]:
-        """What deviations are put together by: level, rule, and the words without their numbers."""
+        """The key by which deviations are grouped: level, rule, and the text without its numbers."""
         words = " ".join("N" if any(it.isdigit() for it in word) else word for word in self.breach.what.split())
         return LEVELS.index(self.breach.level), self.breach.rule, words
 
@@ -52,7 +52,7 @@ class Judged:
         return found
 
     def kinds(self) -> List[List[Deviation]]:
-        """The deviations by kind, the gravest first, each with its shortest case in front."""
+        """The deviations by kind, the most serious first, each with its shortest case first."""
         groups: Dict[Tuple[int, str, str], List[Deviation]] = {}
         for it in self.deviations:
             groups.setdefault(it.kind, []).append(it)
@@ -62,7 +62,7 @@ class Judged:
 
 
 def cases_of(kind: Iterable[Deviation]) -> List[str]:
-    """The names of the cases in which a thing is broken, each once, in their order."""
+    """The names of the cases with a deviation, each once, in order."""
     return list(dict.fromkeys(it.case.name for it in kind))
 
 
@@ -93,7 +93,7 @@ def judge(
     name: Optional[str] = None,
     progress: Optional[bool] = None,
 ) -> Judged:
-    """Asks a stack's adapter all cases that apply to it. Fault if the adapter can't be begun."""
+    """Runs all cases that apply to a stack through its adapter. Raises Fault if the adapter can't be started."""
     with Adapter(command, timeout) as first:
         judged = Judged(name or first.name or command[0], first.abilities)
         for case in cases:

@@ -1,12 +1,12 @@
-"""The two laws of what reaches users, which hold in every case and read only the packets.
+"""The two laws of delivery, which hold in every case and depend only on the packets.
 
 never     A datagram that reaches a socket is one that the packets carry: the data of one whole packet with right
           lengths and checksums, or, byte for byte, of fragments of one key (source, destination, identification,
-          protocol 17) that leave no hole up to a last one, by any choice where they overlap. It's for the socket's
-          port, and of its peer if it's connected. The sender that the user is told is the one who sent it.
-always    A datagram of at most 576 bytes with a UDP checksum that came whole, or in fragments once each, without
-          overlap, within 2 seconds, with nothing else of its key, reaches the user. Above 576 bytes, and where more
-          than ten fragments or fragments of more than three datagrams came, it should."""
+          protocol 17) that leave no hole up to a last one. If they overlap, any choice is allowed. It's for the
+          socket's port, and from its peer if it's connected. The sender reported to the user is the real one.
+always    A datagram of at most 576 bytes with a UDP checksum reaches the user if it arrived whole, or in fragments
+          once each, without overlap, within 2 seconds, and without other fragments of its key. It should reach the
+          user above 576 bytes, and if more than ten fragments or fragments of more than three datagrams arrived."""
 from __future__ import annotations
 
 import itertools
@@ -45,7 +45,7 @@ class Arrival(NamedTuple):
 
 
 class Promise(NamedTuple):
-    """A datagram that has to come: since when, and how surely."""
+    """A datagram that must arrive: its time, and the level of the rule."""
 
     step: int
     level: str
@@ -58,8 +58,8 @@ Sender = Tuple[int, int]
 
 
 class Wrong(NamedTuple):
-    """What is wrong with a datagram that reached a user. rule: the one that it breaks, None for its case's own. sender:
-    who sent it, if the user is told another."""
+    """What is wrong with a datagram that reached a user. rule: the rule that it breaks, None for the case's rule.
+    sender: its sender, if another one was reported to the user."""
 
     rule: Optional[str]
     words: str
@@ -69,7 +69,7 @@ class Wrong(NamedTuple):
 
 @dataclass
 class Seen:
-    """What came in a case: its packets, and its sockets at each step."""
+    """The packets that arrived in a case, and its sockets at each step."""
 
     case: Case
     arrivals: List[Arrival] = field(default_factory=list)
@@ -89,12 +89,12 @@ class Seen:
                 self.peers.append((number, step.socket, (step.address, step.port)))
 
     def peer(self, socket: int, step: int) -> Optional[Tuple[int, int]]:
-        """Whom a socket is connected to at a step."""
+        """A socket's peer at a step."""
         found = [peer for since, who, peer in self.peers if who == socket and since <= step]
         return found[-1] if found else None
 
     def fault(self, got: Got) -> Optional[Wrong]:
-        """The law `never`: what is wrong with a datagram; None if it may come."""
+        """The law `never`: what is wrong with a datagram, or None if it may arrive."""
         peer = self.peer(got.socket, got.step)
         stranger = peer is not None and got.source is not None and peer != (got.source, got.port)
         if not stranger and self.carries(got, NO_CHECK_OMITTED):
@@ -114,7 +114,7 @@ class Seen:
         return Wrong(None, f"{size} bytes reach the user that nobody sent", NOTHING_ELSE)
 
     def unchecked(self, got: Got) -> Optional[str]:
-        """The fewest of a receiver's checks without which a datagram could come; None if there are none."""
+        """The smallest set of a receiver's checks without which the datagram could arrive, or None."""
         for count in (1, 2, 3):
             for omitted in itertools.combinations(CHECKS, count):
                 if self.carries(got, frozenset(omitted)):
@@ -122,7 +122,7 @@ class Seen:
         return None
 
     def senders(self, step: int) -> Set[Sender]:
-        """Address and port that the packets up to a step name as theirs, right or wrong."""
+        """The source addresses and ports in the packets up to a step, right or wrong."""
         found = set()
         for it in self.arrivals:
             header = it.header or read(mended(it.packet, ANY_HEADER))
@@ -131,14 +131,14 @@ class Seen:
         return found
 
     def sender(self, got: Got, claimed: Set[Sender]) -> Optional[Sender]:
-        """Who of these sent a datagram, whatever its user is told; None if nobody did."""
+        """The one of these that sent a datagram, whichever sender was reported, or None."""
         if got.source is None:
             return None
         sent = (it for it in sorted(claimed) if self.carries(replace(got, source=it[0], port=it[1]), NO_CHECK_OMITTED))
         return next(sent, None)
 
     def carries(self, got: Got, omitted: FrozenSet[str]) -> bool:
-        """Whether the packets up to a step carry the datagram, if these checks are omitted."""
+        """Whether the packets up to a step carry the datagram if these checks are omitted."""
         keys: Dict[Tuple[int, int, int, int], List[Arrival]] = {}
         for it in self.believed(got, omitted):
             header = it.header
@@ -153,7 +153,7 @@ class Seen:
         return any(key[3] == UDP and self.made_of(parts, got, omitted) for key, parts in keys.items())
 
     def believed(self, got: Got, omitted: FrozenSet[str]) -> Iterator[Arrival]:
-        """The packets of the sender whose header holds, with these checks omitted."""
+        """The sender's packets with a valid header, with these checks omitted."""
         for it in self.arrivals:
             if it.step > got.step:
                 return
@@ -163,7 +163,7 @@ class Seen:
                 yield it
 
     def made_of(self, parts: List[Arrival], got: Got, omitted: FrozenSet[str]) -> bool:
-        """Whether fragments of one key make the datagram, by any choice where they overlap."""
+        """Whether fragments of one key make the datagram, for any choice of overlapping bytes."""
         last = max(it.ms for it in parts)
         headers = [it.header for it in parts if it.header and last - it.ms < LONGEST_LIFE_MS]
         length = 8 + len(got.data)
@@ -184,7 +184,7 @@ class Seen:
         return any(self.fits(head + got.data, headers[0], got, omitted, True) for head in heads(there))
 
     def fits(self, data: bytes, header: Header, got: Got, omitted: FrozenSet[str], exact: bool = False) -> bool:
-        """Whether this UDP datagram, as IP carries it, is the one that came."""
+        """Whether this UDP datagram, as IP carries it, is the one that arrived."""
         if len(data) < 8:
             return False
         source_port, port, length, check = struct.unpack(">HHHH", data[:8])
@@ -201,7 +201,7 @@ class Seen:
         )
 
     def promises(self) -> List[Promise]:
-        """The law `always`: what has to come to the only socket of a case."""
+        """The law `always`: the datagrams that must arrive at the only socket of a case."""
         if self.peers or len(self.ports) > 1:
             return []
         found = []
@@ -219,7 +219,7 @@ class Seen:
 
 
 def wrong_sender(got: Got, sender: Sender) -> Wrong:
-    """A datagram whose user is told another sender than its own."""
+    """A datagram for which a wrong sender was reported."""
     told, size = (got.source or 0, got.port), f"{len(got.data)} bytes"
     wrong = " and ".join(name for name, one, other in zip(("address", "port"), told, sender) if one != other)
     words = f"{size} with a wrong source {wrong}: {text_of(told[0])} port {told[1]}"
@@ -227,7 +227,7 @@ def wrong_sender(got: Got, sender: Sender) -> Wrong:
 
 
 def mended(packet: bytes, omitted: FrozenSet[str]) -> bytes:
-    """A packet as one reads it who doesn't look at its total length, or its header checksum."""
+    """A packet read without its total length, or without its header checksum."""
     if len(packet) < 20 or packet[0] != 0x45:
         return packet
     if HEADER_SUM not in omitted and fold(packet[:20]) != 0xFFFF:
@@ -238,7 +238,7 @@ def mended(packet: bytes, omitted: FrozenSet[str]) -> bytes:
 
 
 def in_sequence(headers: Sequence[Header]) -> Optional[bytes]:
-    """The data of fragments that follow one another once each, without a hole, up to a last one."""
+    """The data of fragments that follow one another without a hole, once each, up to a last one."""
     data, ordered = b"", sorted(headers, key=lambda it: it.offset)
     for it in ordered:
         if it.offset != len(data) or not it.data or it.more == (it is ordered[-1]):
@@ -253,7 +253,7 @@ def heads(there: List[Set[int]]) -> Iterator[bytes]:
 
 
 def plain(header: Header) -> bool:
-    """Whether nothing about a header leaves a choice."""
+    """Whether a header leaves no choice."""
     return not header.reserved and not header.options and header.tos & 3 == 0
 
 
@@ -283,7 +283,7 @@ def fragment_promises(parts: List[Arrival], few: bool) -> List[Promise]:
 
 
 def promise(step: int, header: Header, data: bytes, few: bool) -> Optional[Promise]:
-    """What's promised of a datagram's data, if it's one for the socket with a checksum and nothing after its end."""
+    """The guarantee for a datagram's data, if it's for the socket, with a checksum and without bytes after its end."""
     it = read_udp(data, header.source, header.destination)
     if it is None or it.destination_port != 7 or it.checksum == 0 or 8 + len(it.payload) != len(data):
         return None

@@ -107,7 +107,7 @@ def add_reports(it: argparse.ArgumentParser) -> None:
 
 
 def span(text: str) -> range:
-    """The seeds of A-B. ValueError if it's of another form."""
+    """The seeds of A-B. Raises ValueError for another form."""
     found = re.fullmatch(r"(\d+)-(\d+)", text)
     if not found or int(found[1]) > int(found[2]):
         raise ValueError(f"--seeds is A-B, and not {text}")
@@ -214,8 +214,8 @@ def run(words: argparse.Namespace) -> int:
 
 
 def for_one_device(chosen: "List[Case]") -> "List[Case]":
-    """The cases that one device can be asked one after the other: none meets fragments that another left, and no flood
-    fills it for those after it. Runs are left out, since all of it is one."""
+    """The cases that can be played one after the other on one device: none receives fragments of an earlier case, and
+    none is a flood that affects later cases. Runs are excluded, because all of these are one run."""
     found: "List[Case]" = []
     used: Set[Tuple[int, int, int]] = set()
     for case in sorted(chosen, key=lambda it: (it.slow, it.rule == "frag.many")):

@@ -1,4 +1,4 @@
-"""Packets with any field wrong, and capture files, by scapy: a field that is given stays as it is."""
+"""Packets with any field wrong, and capture files, by scapy. A field that is given isn't changed."""
 from __future__ import annotations
 
 import functools
@@ -23,7 +23,7 @@ class MissingScapy(Exception):
 
 
 def _scapy(name: str) -> Any:
-    logging.getLogger("scapy.runtime").setLevel(logging.ERROR)  # it warns of interfaces that aren't asked for here
+    logging.getLogger("scapy.runtime").setLevel(logging.ERROR)  # it warns of interfaces that aren't used here
     try:
         return importlib.import_module(f"scapy.{name}")
     except ImportError:
@@ -32,7 +32,7 @@ def _scapy(name: str) -> Any:
 
 @functools.lru_cache(maxsize=None)
 def _udp_header(**fields: int) -> bytes:
-    """A UDP header by scapy. Few of them differ, and scapy takes 0.2 ms for each."""
+    """A UDP header by scapy, cached: few of them differ, and scapy takes 0.2 ms for each."""
     return bytes(_scapy("layers.inet").UDP(**fields))
 
 
@@ -44,7 +44,7 @@ def _ip_header(options: bytes, **fields: Union[int, str]) -> bytes:
 
 
 def _with_identification(header: bytes, id: int, is_sum_given: bool) -> bytes:
-    """The same header with this identification. Its checksum is scapy's, unless one was given."""
+    """The same header with this identification. scapy computes its checksum, unless one was given."""
     made = header[:4] + struct.pack(">H", id) + header[6:]
     if is_sum_given:
         return made
@@ -67,7 +67,7 @@ def udp(
     summed: Optional[int] = None,
     check: Optional[int] = None,
 ) -> bytes:
-    """A UDP datagram. length: the field. summed: the length that the checksum is taken over. check: the field."""
+    """A UDP datagram. length: the field. summed: the length that the checksum covers. check: the field."""
     size = 8 + len(payload)
     field = size if length is None else length
     bare = _udp_header(sport=sport, dport=dport, len=field, chksum=0) + payload
@@ -91,8 +91,8 @@ def packet(
     proto: int = UDP,
     **fields: int,
 ) -> bytes:
-    """An IPv4 packet: `fields` are scapy's (version, ihl, len, tos, ttl, chksum). offset is in bytes; pad comes after
-    the total length; the header checksum is taken over the first sum_over bytes where that is given."""
+    """An IPv4 packet: `fields` are scapy's (version, ihl, len, tos, ttl, chksum). offset is in bytes. pad follows the
+    total length. If sum_over is given, the header checksum covers that many bytes."""
     fields.setdefault("len", 20 + len(options) + len(data))
     fields.setdefault("ihl", 5 + len(options) // 4)
     ends = {"src": text_of(source), "dst": text_of(destination)}
@@ -120,7 +120,7 @@ def pieces(data: bytes, cuts: Sequence[int], **fields: Any) -> List[bytes]:
 
 
 def even_cuts(length: int, size: int) -> List[int]:
-    """Where a datagram is cut into fragments of one size, a multiple of 8."""
+    """The offsets at which a datagram is cut into fragments of one size, a multiple of 8."""
     return list(range(size, length, size))
 
 
@@ -134,5 +134,5 @@ def write_capture(path: pathlib.Path, packets: Iterable[Tuple[float, bytes]]) ->
 
 
 def show(made: bytes) -> str:
-    """A packet in a line, as scapy says it."""
+    """A packet as one line, by scapy."""
     return str(_scapy("layers.inet").IP(made).summary())

@@ -65,7 +65,7 @@ class Noting(Path):
 
 
 def chosen(cases: List[Case], name: str) -> List[Case]:
-    """Enough cases for a setting: those that depend on few others come first, and floods are few."""
+    """Enough cases for a setting: those that depend on few others first, with few floods."""
     fit = [case for case in cases if case.size[1] < MOST_BYTES or name in ("kept", "largest", "expire")]
     own = sorted((case for case in fit if case.rule not in ("run", "mix")), key=lambda case: case.size)
     mixed = [case for case in fit if case.rule == "mix"]
@@ -73,7 +73,7 @@ def chosen(cases: List[Case], name: str) -> List[Case]:
 
 
 def settings_of(judged: Judged) -> Tuple[Settings, List[Explained]]:
-    """The settings that explain a stack, and how well each does: first by itself, then with the others found in this
+    """The settings that explain a stack, and how well each does: first alone, then with the others found in this
     way."""
     settings: Settings = {name: setting.default for name, setting in SETTINGS.items()}
     found: List[Explained] = []

@@ -1,4 +1,4 @@
-"""How the judge reads a packet: as a careful receiver does, in as few lines as that takes (RFC 791 3.1, RFC 768)."""
+"""Reads a packet as a careful receiver does (RFC 791 3.1, RFC 768)."""
 from __future__ import annotations
 
 import struct
@@ -17,7 +17,7 @@ def fold(data: bytes) -> int:
 
 @dataclass(frozen=True)
 class Header:
-    """A packet whose header holds: its fields, its options, and what it carries."""
+    """A packet with a valid header: its fields, its options, and its data."""
 
     source: int
     destination: int
@@ -35,7 +35,7 @@ class Header:
 
     @property
     def whole(self) -> bool:
-        """Whether it's no fragment."""
+        """Whether it isn't a fragment."""
         return self.offset == 0 and not self.more
 
     @property
@@ -50,7 +50,7 @@ class Header:
 
 
 def read(packet: bytes) -> Optional[Header]:
-    """The packet's header and data; None where version, lengths or header checksum don't hold."""
+    """The packet's header and data, or None if its version, its lengths or its header checksum is wrong."""
     if len(packet) < 20 or packet[0] >> 4 != 4 or packet[0] & 15 < 5:
         return None
     header = (packet[0] & 15) * 4
@@ -71,7 +71,7 @@ def sum_with_pseudo_header(data: bytes, source: int, destination: int, length: i
 
 @dataclass(frozen=True)
 class Udp:
-    """A UDP datagram whose length and checksum hold."""
+    """A UDP datagram with a right length and a right checksum."""
 
     source_port: int
     destination_port: int
@@ -80,7 +80,7 @@ class Udp:
 
 
 def read_udp(data: bytes, source: int, destination: int) -> Optional[Udp]:
-    """The datagram that IP carries; None where its length or its checksum doesn't hold."""
+    """The datagram that IP carries, or None if its length or its checksum is wrong."""
     if len(data) < 8:
         return None
     source_port, destination_port, length, checksum = struct.unpack(">HHHH", data[:8])

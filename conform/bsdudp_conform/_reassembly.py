@@ -30,7 +30,7 @@ class Unfinished:
         self.end: Optional[int] = None
         self.marks: Set[int] = set()
         self.empty: List[Piece] = []
-        self.runs: List[Tuple[int, int]] = []  # what came in order, one after the other, as Linux keeps it
+        self.runs: List[Tuple[int, int]] = []  # ranges that arrived in order, as Linux keeps them
 
     @property
     def top(self) -> int:
@@ -48,8 +48,8 @@ class Unfinished:
             self.owner.extend([NOBODY] * (end - self.top))
 
     def lay(self, begin: int, data: bytes, wins: Optional[List[int]]) -> bool:
-        """Stores a piece's bytes at the offsets that it wins; None: at all that are free. Returns whether a byte of it
-        stayed."""
+        """Stores a piece's bytes at the offsets `wins`, or at all free ones if it's None. Returns whether a byte was
+        stored."""
         me = len(self.pieces) - 1
         if wins is None and not data:
             return False
@@ -75,7 +75,7 @@ class Unfinished:
         return found
 
     def follows(self, piece: Piece) -> None:
-        """Notes a piece in the runs."""
+        """Adds a piece to the runs."""
         if self.runs and piece.begin == self.runs[-1][1]:
             self.runs[-1] = (self.runs[-1][0], piece.end)
         else:
@@ -91,7 +91,7 @@ class Unfinished:
         return None if more else length
 
     def whole_by_latest(self) -> Optional[int]:
-        """The length if the last fragment that came says so."""
+        """The length according to the last fragment that arrived."""
         end = self.end
         if end is None or end > self.top or NOBODY in self.owner[:end]:
             return None
@@ -120,7 +120,7 @@ class Reassembly:
         return gone
 
     def arrive(self, header: Header, now: int) -> Optional[bytes]:
-        """A fragment comes. The datagram's data if it's whole now."""
+        """Processes a fragment. Returns the datagram's data if it's whole now."""
         begin, data = header.offset, header.data
         if data and begin + len(data) > MOST_DATA:
             return None
@@ -151,7 +151,7 @@ class Reassembly:
         return empty in ("take", "hold the place")
 
     def has_room(self, key: Key) -> bool:
-        """Whether one more may begin, after others were dropped for it."""
+        """Whether another one may begin, after others were dropped for it."""
         if key in self.open or len(self.open) < 3:
             return True
         what, most = self.choose("kept")  # type: ignore[misc]
@@ -171,7 +171,7 @@ class Reassembly:
         return piece.end < it.top or it.end not in (None, piece.end)
 
     def keep(self, key: Key, it: Unfinished, piece: Piece, data: bytes) -> bool:
-        """Lays a piece over those that are there. False: it's dropped, or all of them are."""
+        """Inserts a piece over the present ones. Returns False if it's dropped, or if all of them are."""
         if self.place_is_held(it, piece):
             return False
         wins: Optional[List[int]] = None
@@ -216,7 +216,7 @@ class Reassembly:
         return [place for place, nobody in zip(places, free) if nobody or lows[it.owner[place]] > piece.begin]
 
     def whole(self, key: Key, it: Unfinished) -> Optional[bytes]:
-        """The data if all of it is there."""
+        """The data if it's complete."""
         by_highest, by_latest = it.whole_by_highest(), it.whole_by_latest()
         length = by_highest
         if by_highest != by_latest and self.choose("ends") != "highest":

@@ -1,5 +1,5 @@
-"""A case made shorter by delta debugging (Zeller and Hildebrandt 2002): steps are left out for as long as the same law
-is broken in the same way."""
+"""Shortens a case by delta debugging (Zeller and Hildebrandt 2002): it removes steps while the same law is broken in
+the same way."""
 from __future__ import annotations
 
 from dataclasses import replace
@@ -12,13 +12,13 @@ from ._verdict import verdict
 
 
 def deviations(adapter: Adapter, case: Case) -> List[Deviation]:
-    """What a stack breaks in a case."""
+    """A stack's deviations in a case."""
     answer = adapter.ask(case)
     return [Deviation(case, breach, answer) for breach in verdict(case, answer, adapter.abilities)]
 
 
 def shortest(steps: Tuple[Step, ...], fails: Callable[[Tuple[Step, ...]], bool]) -> Tuple[Step, ...]:
-    """Steps of which none can be left out."""
+    """Steps of which none can be removed."""
     parts = 2
     while len(steps) >= 2:
         size = -(-len(steps) // parts)
@@ -34,7 +34,7 @@ def shortest(steps: Tuple[Step, ...], fails: Callable[[Tuple[Step, ...]], bool])
 
 
 def reduce_case(adapter: Adapter, case: Case) -> Optional[Deviation]:
-    """The gravest of what a stack breaks in a case, with as few steps as still break it; None if it breaks nothing."""
+    """The most serious deviation of a stack in a case, with as few steps as possible, or None."""
     found = deviations(adapter, case)
     if not found:
         return None

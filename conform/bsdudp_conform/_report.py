@@ -34,7 +34,7 @@ def cell(count: "Counter[str]") -> str:
 
 
 def rules_of(stacks: Sequence[Judged]) -> List[str]:
-    """The rules of which there are cases or deviations."""
+    """The rules that have cases or deviations."""
     there = {case.rule for it in stacks for case in it.cases} | {
         it.breach.rule for one in stacks for it in one.deviations
     }
@@ -59,7 +59,7 @@ def total(judged: Judged) -> str:
 
 
 def steps_of(case: Case) -> List[str]:
-    """The steps of a case in words; of many the first and the last."""
+    """The steps of a case in words. If there are many, only the first and the last ones."""
     told = [show(it.packet) if isinstance(it, Receive) and len(it.packet) >= 20 else it.line[:80] for it in case.steps]
     lines = [f"{number}. {words}" for number, words in enumerate(told)]
     if len(lines) > SHOWN:
@@ -85,7 +85,7 @@ def kind_text(kind: List[Deviation], known: Known) -> str:
 
 
 def policy_text(explained: Sequence[Explained]) -> List[str]:
-    """A stack's policy in words: what explains nine cases of ten, and at the end what nothing explains so well."""
+    """A stack's policy in words: the settings that explain nine of ten cases, and then what they don't explain."""
     well = [it for it in explained if it.explained * 10 >= it.cases * 9]
     lines = [it.words for it in well if it.told_apart]
     others = "; ".join(f"{it.title} ({it.explained} of {it.cases} cases at best)" for it in explained if it not in well)

@@ -14,14 +14,14 @@ MIXES_A_SEED = 20
 
 
 class NoSweep(Exception):
-    """The package bsdudp isn't there."""
+    """The package bsdudp isn't installed."""
 
     def __str__(self) -> str:
         return "--seeds needs the Python package bsdudp, which has the sweep: install the wheel, or run from a checkout"
 
 
 def package_sweep() -> Callable[..., List[List[Found]]]:
-    """`bsdudp.sweep`, loaded by itself: the package wants its C library, and a sweep needs none."""
+    """`bsdudp.sweep`, loaded without the package, which needs its C library. A sweep doesn't."""
     package = importlib.util.find_spec("bsdudp")
     places = list(package.submodule_search_locations or []) if package else []
     if not places:
@@ -44,7 +44,7 @@ class Found(NamedTuple):
 
 
 def seed_found(command: Sequence[str], timeout: float, seed: int) -> List[Found]:
-    """What a stack breaks in the mixes of a seed."""
+    """A stack's deviations in the mixes of a seed."""
     judged = judge(command, make_mixes(seed, MIXES_A_SEED), timeout=timeout, progress=False)
     return [Found(seed, it.case.name, it.breach.level, it.breach.what) for it in judged.deviations]
 
@@ -52,7 +52,7 @@ def seed_found(command: Sequence[str], timeout: float, seed: int) -> List[Found]
 def sweep_seeds(
     command: Sequence[str], seeds: Sequence[int], client: Optional[Any] = CORES, timeout: float = TIMEOUT_S
 ) -> List[Found]:
-    """What a stack breaks in the mixes of many seeds. client: as `bsdudp.sweep` takes it. The workers need the adapter
-    and this package."""
+    """A stack's deviations in the mixes of many seeds. client: as for `bsdudp.sweep`. The workers need the adapter and
+    this package."""
     scenario = functools.partial(seed_found, list(command), timeout)
     return [found for one in package_sweep()(scenario, seeds, client) for found in one]

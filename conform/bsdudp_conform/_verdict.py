@@ -21,8 +21,8 @@ LEVELS = (FAULT, NEVER, MUST, SHOULD)
 
 @dataclass(frozen=True)
 class Expected:
-    """What the reference machines say of a case: the level at which they agree, what they deliver, and the ICMP errors
-    that a host sends."""
+    """The result of the reference machines for a case: the level at which they agree, their deliveries, and the ICMP
+    errors that a host sends."""
 
     level: str
     answer: Delivered
@@ -53,7 +53,7 @@ def alike(case: Case, strict: bool) -> bool:
 
 
 def same(wanted: Tuple[int, int, int, bytes], got: Got) -> bool:
-    """Whether a datagram is the one that's wanted; a sender that the adapter can't know isn't compared."""
+    """Whether a datagram is the expected one. A sender that the adapter can't know isn't compared."""
     sender = got.source is None or (wanted[1], wanted[2]) == (got.source, got.port)
     return sender and wanted[0] == got.socket and wanted[3] == got.data
 
@@ -61,7 +61,7 @@ def same(wanted: Tuple[int, int, int, bytes], got: Got) -> bool:
 def matched(
     wanted: Iterable[Tuple[int, int, int, bytes]], got: List[Got]
 ) -> Tuple[List[Tuple[int, int, int, bytes]], List[Got]]:
-    """What is missing, and what comes beyond what's wanted."""
+    """The deliveries that are missing, and those that aren't expected."""
     left, missing = list(got), []
     for it in wanted:
         hit = next((one for one in left if same(it, one)), None)
@@ -96,7 +96,7 @@ def by_laws(case: Case, seen: Seen, answer: Answer) -> List[Breach]:
         if wrong:
             level = MUST if wrong.rule == STRANGER else NEVER
             found.append(Breach(level, wrong.rule or case.rule, wrong.words, got.step, wrong.expected))
-        if wrong and wrong.sender:  # it came, and what is wrong with it has been said
+        if wrong and wrong.sender:  # it arrived, and its fault is already reported
             got = replace(got, source=wrong.sender[0], port=wrong.sender[1])
         left.append(got)
     for promise in seen.promises():
@@ -149,7 +149,7 @@ ERROR_RULES = {
 
 
 def missing_errors(case: Case, answer: Answer) -> List[Breach]:
-    """ICMP errors that a host sends, and that didn't come. Errors may be limited, so floods and runs are left out."""
+    """The ICMP errors of a host that are missing. Errors may be rate-limited, so floods and runs are excluded."""
     if case.rule in ("frag.many", "run", "mix"):
         return []
     sent: "Counter[Tuple[int, int]]" = Counter()
@@ -168,7 +168,8 @@ def missing_errors(case: Case, answer: Answer) -> List[Breach]:
 
 
 def applies(case: Case, abilities: FrozenSet[str]) -> bool:
-    """Whether a stack can be held to a case. A gateway that translates addresses isn't held to those about a host's."""
+    """Whether a case applies to a stack. Cases about a host's addresses don't apply to a gateway that translates
+    them."""
     if not case.needs <= abilities:
         return False
     if "echo" in abilities:

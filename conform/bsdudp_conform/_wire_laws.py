@@ -1,4 +1,4 @@
-"""The laws of what leaves on the wire: RFC 1122's rules for ICMP errors, and the law of sends."""
+"""The laws of packets sent: RFC 1122's rules for ICMP errors, and the law of sends."""
 from __future__ import annotations
 
 from typing import Iterator, List, NamedTuple, Optional
@@ -17,7 +17,7 @@ MOST_PACKETS = 50
 
 
 class Breach(NamedTuple):
-    """What a stack breaks: how strong the rule is, which, and in words."""
+    """A deviation: the level of its rule, the rule, and a text."""
 
     level: str
     rule: str
@@ -27,7 +27,8 @@ class Breach(NamedTuple):
 
 
 def leaving(seen: Seen, answer: Answer, shared: bool) -> List[Breach]:
-    """All breaches of what left. shared: the stack isn't a fresh one, so errors may be about packets of other cases."""
+    """All deviations in the packets sent. shared: the stack isn't new, so errors may be about packets of other
+    cases."""
     found: List[Breach] = []
     for it in answer.out:
         header = read(it.packet)
@@ -60,7 +61,7 @@ def headers_that_leave(it: Out, header: Header) -> Iterator[Breach]:
 
 
 def about(seen: Seen, step: int, quote: bytes) -> Optional[Arrival]:
-    """The packet that an error quotes: of several with its addresses and identification the one of its bytes."""
+    """The packet that an error quotes. If several have its addresses and identification, the one with its bytes."""
     same = [
         it
         for it in seen.arrivals
@@ -74,7 +75,7 @@ def about(seen: Seen, step: int, quote: bytes) -> Optional[Arrival]:
 
 
 def errors(packet: Optional[Arrival], it: Out, header: Header) -> Iterator[Breach]:
-    """What RFC 1122 3.2.2 says of one ICMP error about a packet."""
+    """The deviations from RFC 1122 3.2.2 of one ICMP error about a packet."""
     quote = header.data[8:]
     if fold(header.data) != 0xFFFF:
         yield Breach(MUST, "icmp.quote", "the ICMP checksum is wrong", it.step, "a right checksum")
@@ -128,7 +129,7 @@ def sum_is_wrong(header: Header) -> bool:
 
 
 def quoted(it: Out, packet: Arrival, cause: Header, quote: bytes) -> Iterator[Breach]:
-    """Whether an error quotes its packet as it came."""
+    """Whether an error quotes its packet unchanged."""
     length = min(cause.length, 20 + len(cause.options) + 8)
     if quote[:length] != packet.packet[:length]:
         first = next(at for at in range(length) if quote[at : at + 1] != packet.packet[at : at + 1])
@@ -138,7 +139,7 @@ def quoted(it: Out, packet: Arrival, cause: Header, quote: bytes) -> Iterator[Br
 
 
 def sends(seen: Seen, answer: Answer) -> List[Breach]:
-    """The law of sends: of each send that isn't refused exactly the datagram that was given leaves."""
+    """The law of sends: for each send that isn't refused, exactly its datagram is sent."""
     found: List[Breach] = []
     spent: List[int] = []
     for number, step in enumerate(seen.case.steps):

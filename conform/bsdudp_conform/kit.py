@@ -26,17 +26,17 @@ class Adapter:
     name = "a stack"
     # What it has in addition to `rx` and `wait`: out, ping, send, mtu, sockets, connect, gateway (docs/judge.md).
     has: Sequence[str] = ()
-    # Whether each case is played in a process of its own, so that a crash is one case's.
+    # Whether each case is played in its own process, so that a crash affects only one case.
     forks = True
 
     def __init__(self) -> None:
         self.step = 0
 
     def boot(self, mtu: int) -> None:
-        """A fresh stack: 10.0.0.1/24 on a link with this MTU, and socket 0 bound to port 7 of any address."""
+        """Boots a new stack: 10.0.0.1/24 on a link with this MTU, and socket 0 bound to port 7 of any address."""
 
     def rx(self, packet: bytes) -> None:
-        """A packet comes from the wire, from its IPv4 header on."""
+        """A packet arrives from the wire. It begins with its IPv4 header."""
         raise NotImplementedError
 
     def wait(self, ms: int) -> None:
@@ -56,11 +56,11 @@ class Adapter:
         """The case is over."""
 
     def got(self, address: str, port: int, data: bytes, socket: int = 0) -> None:
-        """Says that a socket got a datagram. The address may be "*" if it can't be known."""
+        """Reports that a socket received a datagram. The address may be "*" if it can't be known."""
         print(f"got {self.step} {address} {port} {data.hex() or '-'}" + (f" {socket}" if socket else ""))
 
     def out(self, packet: bytes) -> None:
-        """Says that a packet left."""
+        """Reports that the stack sent a packet."""
         print(f"out {self.step} {packet.hex() or '-'}")
 
     def play(self, lines: Iterable[str]) -> None:
@@ -88,7 +88,7 @@ def bytes_of(text: str) -> bytes:
 
 
 def forked(play: Callable[[], None]) -> None:
-    """Plays in a process of its own, and says if that crashed."""
+    """Plays in a new process, and reports if that crashed."""
     sys.stdout.flush()
     child = os.fork()
     if child == 0:

@@ -31,7 +31,7 @@ def quiet(interface):
 
 
 def echo(ready, go):
-    """The far end."""
+    """The other end."""
     unshare()
     os.write(ready, b"x")
     os.read(go, 1)

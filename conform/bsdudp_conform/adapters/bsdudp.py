@@ -1,7 +1,7 @@
 """bsdudp: `python3 -m bsdudp_conform.adapters.bsdudp [PROGRAM [WORD ..]]`, by default `bsdudp run`.
 
-One process of the program serves all cases of an MTU: after 60 ticks nothing of the last case is left but the
-identification of the next send. A wait is told in ticks of half a second; what is left of it goes to the next wait."""
+One process of the program serves all cases of an MTU: after 60 ticks, only the identification of the next send is left
+from the last case. A wait is passed on as ticks of half a second, and its remainder is added to the next wait."""
 from __future__ import annotations
 
 import argparse
@@ -20,7 +20,7 @@ Handler = Callable[[str], None]
 
 
 class Program:
-    """A running `bsdudp run`. Lines are gathered, and asked together: fewer bytes wait than a pipe holds."""
+    """A running `bsdudp run`. Lines are collected and sent together, with fewer bytes than a pipe holds."""
 
     def __init__(self, command: List[str], mtu: int) -> None:
         words = [*command, "--mtu", str(mtu)]
@@ -29,14 +29,14 @@ class Program:
         self.size = 0
 
     def later(self, line: str, handler: Optional[Handler] = None) -> None:
-        """Asks a line, with the others; its reply goes to the handler."""
+        """Sends a line, with the others. Its reply is passed to the handler."""
         if self.size + len(line) > MOST_WAITING:
             self.flush()
         self.waiting.append((line, handler))
         self.size += len(line) + 1
 
     def flush(self) -> None:
-        """Asks all that waits."""
+        """Sends all collected lines."""
         stdin, stdout = self.running.stdin, self.running.stdout
         assert stdin is not None and stdout is not None
         asked, self.waiting, self.size = self.waiting, [], 0
@@ -49,7 +49,7 @@ class Program:
 
 
 class Bsdudp(Adapter):
-    """4.4BSD's stack, by the lines of `bsdudp run`."""
+    """4.4BSD's stack, by lines of `bsdudp run`."""
 
     name = "bsdudp"
     has = ("out", "send", "mtu", "sockets", "connect")
@@ -74,7 +74,7 @@ class Bsdudp(Adapter):
             self.program.later(f"recvfrom {FIRST_DESCRIPTOR + socket} 65535", self.received(socket))
 
     def received(self, socket: int) -> Handler:
-        """What a reply to `recvfrom` says."""
+        """Reports the datagram in a reply to `recvfrom`."""
         step = self.step
 
         def handler(reply: str) -> None:
@@ -102,7 +102,7 @@ class Bsdudp(Adapter):
         self.expect(f"connect {FIRST_DESCRIPTOR + socket} {address} {port}", "ok")
 
     def expect(self, line: str, wanted: str) -> None:
-        """Asks a line that is answered so."""
+        """Sends a line that must have this reply."""
 
         def handler(reply: str) -> None:
             if reply != wanted:

@@ -1,9 +1,9 @@
 """bsdudp as a host on an Ethernet: `python3 -m bsdudp_conform.adapters.ethernet`, over the Python package and the C
 library, which BSDUDP_LIBRARY names.
 
-A case's packets go in as frames of a neighbour, and what the host sends comes out of its frames. This side answers ARP
-for each address but the host's own; the host has a gateway, so that other networks can be answered too. A wait is told
-in ticks of half a second; what is left of it goes to the next wait."""
+A case's packets are sent as frames of a neighbour, and the host's packets are taken from its frames. This side replies
+to ARP for each address except the host's. The host has a gateway, so that it can reply to other networks. A wait is
+passed on as ticks of half a second, and its remainder is added to the next wait."""
 from __future__ import annotations
 
 import argparse
@@ -35,7 +35,7 @@ def raw(address: str) -> bytes:
 
 
 def arp(operation: int, sender: bytes, target_mac: bytes, target: bytes) -> bytes:
-    """A frame of this side's, which has all addresses but the host's."""
+    """A frame from this side, which has all addresses except the host's."""
     body = struct.pack(ARP_FORM, 1, 0x0800, 6, 4, operation, PEER_MAC, sender, target_mac, target)
     return (ALL if operation == REQUEST else OWN_MAC) + PEER_MAC + ARP + body
 
@@ -56,12 +56,12 @@ class Ethernet(Adapter):
         self.owed = 0
         self.open(0, 7)
         self.host.tick(ANNOUNCED_TICKS)
-        for peer in (GATEWAY, *PEERS):  # who asks for the host is known to it
+        for peer in (GATEWAY, *PEERS):  # the host learns the address of each sender of an ARP request for it
             self.host.receive(arp(REQUEST, raw(peer), bytes(6), raw(HOST)))
         self.packets()
 
     def packets(self) -> List[bytes]:
-        """The packets that leave. ARP requests are answered, so that what waits for an answer leaves too."""
+        """The packets that the host sends. ARP requests get a reply, so that packets that wait for one are sent too."""
         found: List[bytes] = []
         for frame in map(bytes, self.host.frames()):
             if frame[12:14] == IPV4:
@@ -73,7 +73,7 @@ class Ethernet(Adapter):
         return found
 
     def drain(self) -> None:
-        """What sockets got, and what left."""
+        """Reports the datagrams of the sockets, and the packets sent."""
         for number in reversed(range(len(self.sockets))):
             while self.sockets[number].waiting is not None:
                 data, (address, port) = self.sockets[number].recvfrom()

@@ -1,7 +1,7 @@
 """The Linux kernel, judged by `bsdudp-conform run -- python3 -m bsdudp_conform.adapters.linux`.
 
-Each case has a network namespace of its own, whose packets come and go by a TUN device, and its waits take real time.
-It needs root, unshare and /dev/net/tun."""
+Each case has its own network namespace, with packets over a TUN device, and its waits take real time. It needs root,
+unshare and /dev/net/tun."""
 from __future__ import annotations
 
 import argparse
@@ -22,7 +22,7 @@ from ..kit import Adapter, serve
 CLONE_NEWNET, TUNSETIFF, TUN = 0x40000000, 0x400454CA, 0x0001
 SO_RCVBUFFORCE, IP_MTU_DISCOVER, DONT = 33, 10, 0
 IPV4_FRAME = b"\0\0\x08\0"
-# A packet to this port of the adapter's own comes last: once it's there, the kernel has done with those before it.
+# A packet to this port of the adapter is sent last: when it arrives, the kernel has processed those before it.
 PROBE_PORT, PROBE_S = 65000, 10.0
 SETUP = """addr add 10.0.0.1/24 broadcast + dev t0
 link set lo up
@@ -37,7 +37,7 @@ def sysctl(name: str, value: object) -> None:
 
 
 class Linux(Adapter):
-    """The kernel's own UDP."""
+    """The kernel's UDP."""
 
     name = f"Linux {platform.release()}"
     has = ("out", "ping", "send", "mtu", "sockets", "connect")
@@ -124,7 +124,7 @@ class Linux(Adapter):
 
 
 def bound(port: int) -> socket.socket:
-    """A socket on a port of any address, with room for all that a case brings."""
+    """A socket on a port of any address, with space for all datagrams of a case."""
     it = socket.socket(socket.AF_INET, socket.SOCK_DGRAM)
     it.setsockopt(socket.SOL_SOCKET, SO_RCVBUFFORCE, 1 << 23)
     it.setsockopt(socket.SOL_SOCKET, socket.SO_REUSEADDR, 1)

@@ -1,9 +1,9 @@
 """A device on a wire, for `bsdudp-conform wire`.
 
-The device has the address on a network of 24 bits, by default 10.0.0.1, and a UDP echo service on port 7 (RFC 862), so
-that each delivery comes back and shows. Frames go out by a packet socket (CAP_NET_RAW), and ARP is answered for each
-other address of the network. After each packet a probe follows, whose echo says that the device has done with what came
-before."""
+The device has the address on a /24 network, by default 10.0.0.1, and a UDP echo service on port 7 (RFC 862), so that
+each delivery is visible. Frames are sent through a packet socket (CAP_NET_RAW), with replies to ARP for each other
+address of the network. A probe follows each packet: its echo shows that the device has processed the packets before
+it."""
 from __future__ import annotations
 
 import argparse
@@ -55,12 +55,12 @@ class Wire:
                 break
         else:
             sys.exit(f"nobody on {interface} answers ARP for {text_of(HOST)}")
-        for peer in (PEER, PEER2):  # so that the device has asked for both
+        for peer in (PEER, PEER2):  # so that the device has resolved both
             self.put(made_packet(udp(b"first", source=peer), source=peer, id=0xFFF1))
         self.frames(0.3)
 
     def frames(self, seconds: float, until: bytes = b"") -> List[bytes]:
-        """The IPv4 packets that come within this time, or before one with `until` in it; ARP is answered."""
+        """The IPv4 packets that arrive within this time, or before one that contains `until`. Replies to ARP."""
         found: List[bytes] = []
         end = time.monotonic() + seconds
         while select.select([self.socket], [], [], max(0.0, end - time.monotonic()))[0]:
@@ -90,7 +90,7 @@ class Wire:
         self.socket.send((ALL if everyone else self.device or ALL) + MINE + IPV4 + packet)
 
     def settled(self) -> List[bytes]:
-        """What came back before the echo of a probe."""
+        """The packets that arrived before the echo of a probe."""
         self.probes += 1
         mark = b"probe of the judge %d." % self.probes
         self.put(made_packet(udp(mark, sport=PROBE_PORT), id=0xFFF0))
@@ -98,7 +98,7 @@ class Wire:
 
 
 class Device(Adapter):
-    """A device by its echoes."""
+    """A device, observed by its echoes."""
 
     name = "a device"
     has = ("out", "ping", "echo")
@@ -128,7 +128,7 @@ class Device(Adapter):
             self.look()
 
     def look(self) -> None:
-        """What came back: echoes are what the user got, and the rest is what left."""
+        """Reports the packets that arrived: echoes are the user's datagrams, the others are packets sent."""
         self.unasked = 0
         for packet in self.wire.settled():
             header = read(packet)

@@ -1,7 +1,7 @@
 """The cases: more than 5,000 by rule, and random mixes, whose number can be set.
 
-Teams keep baselines of their stacks, which name cases by number. So a new case comes after the others of its rule, and
-draws its random bytes apart from theirs: all others stay as they are."""
+Teams keep baselines of their stacks, which name cases by number. So a new case is added after the others of its rule,
+and draws its random bytes separately: all other cases stay unchanged."""
 from __future__ import annotations
 
 from typing import List

@@ -1,4 +1,4 @@
-"""Single packets: who they are for and from, and what ICMP says of them."""
+"""Single packets: their destinations and sources, and ICMP errors about them."""
 from __future__ import annotations
 
 from .._addresses import BROADCAST, HOST, LOOPBACK, ONES, OTHER, PEER, ZERO_BROADCAST, address, text_of

@@ -1,4 +1,4 @@
-"""How cases are put together."""
+"""Builds cases."""
 from __future__ import annotations
 
 import contextlib
@@ -15,7 +15,7 @@ Given = Union[bytes, int, Step]
 
 
 class Builder:
-    """Makes cases by rule and random bytes by a seed: the same seed has the same cases."""
+    """Makes cases by rule, with random bytes from a seed: the same seed gives the same cases."""
 
     def __init__(self, seed: int) -> None:
         self.seed = seed
@@ -25,7 +25,7 @@ class Builder:
         self._identifications: Iterator[int] = itertools.cycle(range(0x100, 0xF000))
 
     def data(self, length: int) -> bytes:
-        """Random bytes: many of them at once, since that's faster."""
+        """Random bytes, drawn in large blocks, which is faster."""
         if length < 64:
             return bytes(self.random.randrange(256) for _ in range(length))
         return self.random.getrandbits(8 * length).to_bytes(length, "little")
@@ -37,7 +37,7 @@ class Builder:
 
     @contextlib.contextmanager
     def apart(self) -> Iterator[None]:
-        """What is made within has random bytes of its own: all that is made later is as it was without it."""
+        """Cases made within it have separate random bytes: cases made later are the same as without it."""
         kept, self.random = self.random, random.Random(f"apart {self.seed}")
         yield
         self.random = kept

@@ -1,4 +1,4 @@
-"""Single packets: the UDP header and its checksum, each length, each bit turned over."""
+"""Single packets: the UDP header and its checksum, each length, each bit inverted."""
 from __future__ import annotations
 
 import struct
@@ -118,7 +118,7 @@ def add_flips(to: Builder) -> None:
 
 
 def add_fragment_flips(to: Builder) -> None:
-    """Each bit of a first, a last and a middle fragment's header: with the others before it or after it."""
+    """Each bit of the header of a first, a last and a middle fragment, with the others before it or after it."""
     for which, name in enumerate(("first", "last")):
         for bit in range(160):
             for kind, order in (
@@ -156,7 +156,7 @@ def turned(data: bytes, bit: int) -> bytes:
 
 
 def flipped(made: bytes, bit: int) -> List[Tuple[str, bytes]]:
-    """A packet with a bit of its header turned over: as it is, and with the checksum made right."""
+    """A packet with a bit of its header inverted, without and with a corrected checksum."""
     wrong = turned(made, bit)
     if is_checksum(bit):
         return [("checksum wrong", wrong)]

@@ -143,7 +143,7 @@ def add_keys(to: Builder) -> None:
 
 
 def add_split_keys(to: Builder) -> None:
-    """Halves that don't belong together: nothing may come."""
+    """Halves that don't belong together: nothing may be delivered."""
     for protocol in (6, 253):
         for how in (0, 1):
             for which in (0, 1):

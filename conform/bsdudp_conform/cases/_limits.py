@@ -1,4 +1,4 @@
-"""What takes time, and floods."""
+"""Timeouts and floods."""
 from __future__ import annotations
 
 from typing import List
@@ -27,8 +27,8 @@ def add_ages(to: Builder) -> None:
 
 
 def add_ends_of_another(to: Builder) -> None:
-    """A datagram whose two fragments come while another one's time ends, at each time that stacks are known to take. Of
-    the other the first fragment lacks, so that no ICMP error is due."""
+    """A datagram whose two fragments arrive when another one expires, at each known timeout of stacks. The other one's
+    first fragment is missing, so that no ICMP error is due."""
     for seconds in (15, 30, 60, 120):
         for how in (0, 1):
             _, stale = to.halves()
@@ -38,7 +38,7 @@ def add_ends_of_another(to: Builder) -> None:
 
 
 def add_ends_of_several(to: Builder) -> None:
-    """Several unfinished datagrams expire at once. Their first fragments lack, so that no ICMP error is due."""
+    """Several unfinished datagrams expire at once. Their first fragments are missing, so that no ICMP error is due."""
     for count in (2, 3, 5):
         for seconds in (125, 300):
             begun_ones = [to.halves() for _ in range(count)]
@@ -65,7 +65,7 @@ def add_ends_of_time(to: Builder) -> None:
 
 
 def begun(to: Builder, count: int, spread: bool = False) -> List[bytes]:
-    """First fragments of this many datagrams of another sender, or of one each of this many senders."""
+    """First fragments of this many datagrams from another sender, or of one datagram from each of this many senders."""
     one = packet(udp(to.data(40))[:24], flags=MORE, source=PEER2)
     found = []
     for number in range(count):

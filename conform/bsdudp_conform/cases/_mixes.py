@@ -1,4 +1,4 @@
-"""Many cases on one machine, and random mixes: what must come of them is left to laws and machines."""
+"""Many cases on one stack, and random mixes. The laws and the reference machines decide what must be delivered."""
 from __future__ import annotations
 
 from typing import Any, Dict, List
@@ -9,12 +9,12 @@ from .._packets import MORE, packet, pieces, udp, with_checksum
 from ._builder import Builder, Given
 
 MANY_STEPS = 40
-# Rules by which many stacks deviate in a single packet: in a run they would hide what it's for, the state that stays.
+# Rules that many stacks break in a single packet: in a run they would hide its purpose, the state that is left over.
 BY_THEMSELVES = ("ip.options", "ip.src.", "ip.dst.", "icmp.", "udp.len.", "frag.options")
 
 
 def add_runs(to: Builder, count: int) -> None:
-    """Random cases of other rules, one after the other on one machine: what stays of one may show in the next."""
+    """Random cases of other rules, one after the other on one stack: the state left by one may affect the next."""
     fit: List[Case] = [
         it
         for it in to.cases
@@ -47,7 +47,7 @@ def add_mixes(to: Builder, count: int) -> None:
 
 
 def mixed(to: Builder, base: int) -> List[Given]:
-    """The fragments of one datagram in some order, and perhaps one thing that is wrong with them."""
+    """The fragments of one datagram in some order, possibly with one fault."""
     random = to.random
     ends: Dict[str, Any] = {
         "source": random.choice([PEER, PEER, PEER2]),
@@ -82,7 +82,7 @@ def mixed(to: Builder, base: int) -> List[Given]:
 
 
 def damaged(to: Builder, made: Given) -> bytes:
-    """A bit of the header turned over, half of the time with the checksum made right."""
+    """A bit of the header inverted, half of the time with a corrected checksum."""
     assert isinstance(made, bytes)
     place = to.random.randrange(20)
     wrong = made[:place] + bytes([made[place] ^ 1 << to.random.randrange(8)]) + made[place + 1 :]

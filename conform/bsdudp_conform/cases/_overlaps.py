@@ -1,4 +1,4 @@
-"""Fragments that don't fit one another: overlaps, odd and empty ones, ends that disagree, bytes beyond 65,535."""
+"""Fragments that don't fit together: overlaps, odd and empty ones, ends that disagree, bytes beyond 65,535."""
 from __future__ import annotations
 
 import itertools
@@ -36,8 +36,8 @@ def add_overlaps(to: Builder) -> None:
 
 
 def add_overlaps_without_checksum(to: Builder) -> None:
-    """A checksum hides what became of the bytes: a datagram that was put together wrongly is dropped, as a stack may do
-    with all overlaps."""
+    """A checksum hides what happened to the bytes: a wrongly reassembled datagram is dropped, and a stack may drop all
+    overlaps."""
     add_fits(to, 0)
     add_as_long_as_the_hole(to)
 
@@ -62,14 +62,14 @@ def spans() -> List[Span]:
 
 
 def swapped(data: bytes) -> bytes:
-    """Other bytes of the same sum: whichever of them win, by multiples of 4, the UDP checksum is right."""
+    """Other bytes with the same sum: whichever bytes are kept, in multiples of 4, the UDP checksum is right."""
     whole = len(data) // 4 * 4
     return b"".join(data[at + 2 : at + 4] + data[at : at + 2] for at in range(0, whole, 4)) + data[whole:]
 
 
 def rivals(to: Builder, check: Optional[int]) -> Tuple[bytes, bytes]:
-    """A datagram of 64 bytes, and other bytes for its place. Without a checksum each byte of the data differs, and the
-    UDP header is the same."""
+    """A datagram of 64 bytes, and other bytes at the same offsets. Without a checksum, each byte of the data differs,
+    and the UDP header is the same."""
     base = udp(to.data(56), check=check)
     if check is None:
         return base, swapped(base)
@@ -101,7 +101,7 @@ def add_relation(to: Builder, old: Span, new: Span, differ: bool, ends_first: bo
 
 
 def add_three(to: Builder, number: int, check: Optional[int]) -> None:
-    """Three random spans over one another, then the ends, all of one datagram or with other bytes."""
+    """Three random overlapping spans, then the ends, all from one datagram or with other bytes."""
     base, rival = rivals(to, check)
     variants = [base, rival] if number % 2 else [base]
     id, picked = to.id, [to.random.choice(spans()) for _ in range(3)]

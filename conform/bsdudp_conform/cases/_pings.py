@@ -1,5 +1,5 @@
-"""Echo Requests, and ICMP messages that get no reply. Their bytes count up, as ping's own do, so that they take none of
-the seed's."""
+"""Echo Requests, and ICMP messages that get no reply. Their bytes count up, as ping's do, so that they use none of the
+seed's."""
 from __future__ import annotations
 
 import itertools
@@ -67,7 +67,7 @@ def add_requests(to: Builder) -> None:
 
 
 def add_sums(to: Builder) -> None:
-    """Requests whose own checksum comes out as 0, or the reply's."""
+    """Requests whose checksum is computed as 0, or whose reply's is."""
     for words, kind in (("the request's", REQUEST), ("the reply's", 0)):
         for size in (0, 3, 20):
             bare = struct.pack(">BBHHH", kind, 0, 0, 0, 1) + data(size)
@@ -78,8 +78,8 @@ def add_sums(to: Builder) -> None:
 
 
 def add_cut_requests(to: Builder) -> None:
-    """Reassembly is of the internet layer, so a request may come in fragments too (RFC 1122 3.3.2). Identifications
-    differ, since a device on a wire is asked all of them."""
+    """Reassembly belongs to the internet layer, so a request may arrive in fragments too (RFC 1122 3.3.2).
+    Identifications differ, because one device on a wire gets all requests."""
     numbers = itertools.count(FIRST_ID)
     for size, step in ((1, 8), (40, 24), (56, 8), (500, 256), (548, 64)):
         cuts = even_cuts(8 + size, step)

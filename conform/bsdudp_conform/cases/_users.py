@@ -1,4 +1,4 @@
-"""What users do: further sockets, connected ones, and sends."""
+"""Calls of users: further sockets, connected ones, and sends."""
 from __future__ import annotations
 
 from typing import Any, Dict, List
@@ -106,12 +106,12 @@ def add_ports_of_fragments(to: Builder) -> None:
 
 
 def add_strangers(to: Builder) -> None:
-    """Who is nearly the peer."""
+    """Senders that differ from the peer in one field."""
     joined = Connect(0, PEER, 5000)
     for name, sender in {"another port": {"sport": 5001}, "both": {"source": PEER2, "sport": 5001}}.items():
         for way, made in both_ways(cut(to, **sender)):
             to.add("socket.connected", f"a stranger's datagram in fragments: {name}, {way}", [joined, *made])
-    # four at a time, since a host may limit how many errors it sends
+    # four at a time, because a host may limit its errors
     for first in range(0, 16, 4):
         near = [at(to, sport=5000 ^ 1 << bit) for bit in range(first, first + 4)]
         to.add("socket.connected", f"strangers' ports differ in bits {first} to {first + 3}", [joined, *near, at(to)])
@@ -123,7 +123,7 @@ def add_strangers(to: Builder) -> None:
 
 
 def add_connected_anew(to: Builder) -> None:
-    """Who was heard, or wasn't, before the socket was connected to another peer."""
+    """Senders whose datagrams did or didn't arrive before the socket was connected to another peer."""
     joined, anew = Connect(0, PEER, 5000), Connect(0, PEER2, 6)
     name = "connected anew: the old peer, heard before, isn't"
     to.add("socket.connected", name, [joined, at(to), anew, at(to)])
@@ -136,7 +136,7 @@ def add_connected_anew(to: Builder) -> None:
 
 
 def add_sockets_between_fragments(to: Builder) -> None:
-    """A datagram's socket is looked up once the datagram is whole."""
+    """A datagram's socket is looked up when the datagram is whole."""
     for way, (one, other) in both_ways(cut(to, dport=OTHER_PORT)):
         name = f"a socket is bound between two fragments for its port, {way}"
         to.add("socket.ports", name, [one, Open(1, OTHER_PORT), other])
@@ -146,7 +146,8 @@ def add_sockets_between_fragments(to: Builder) -> None:
 
 
 def add_broadcasts(to: Builder) -> None:
-    """A broadcast of a stranger, and broadcasts of more bytes than one buffer may hold for several sockets."""
+    """A broadcast from a sender that isn't the peer, and broadcasts that may be too long for one buffer of several
+    sockets."""
     joined, second = Connect(0, PEER, 5000), Open(1, 7)
     for name, sender in {"another address": {"source": PEER2}, "another port": {"sport": 5001}}.items():
         stranger = at(to, destination=BROADCAST, **sender)
@@ -199,7 +200,7 @@ def sent(to: Builder, length: int, address: int = PEER, port: int = 5000) -> Sen
 
 
 def add_peers(to: Builder) -> None:
-    """Who sent a datagram, and to whom a socket listens."""
+    """The sender of a datagram, and the peer of a socket."""
     add_senders(to)
     add_ports_of_fragments(to)
     add_strangers(to)

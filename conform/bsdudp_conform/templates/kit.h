@@ -1,9 +1,9 @@
 /*
  * kit.h: for an adapter in C or C++ between a UDP/IPv4 stack and the judge, bsdudp-conform.
  *
- * Give the calls of your stack in a struct kit_stack, and let main return kit_serve(&it). template.c is one to fill in.
- * Cases come by standard input, and answers go to standard output, so print nothing else there. Each case is played in
- * a process of its own: the stack is fresh, and a crash is one case's.
+ * Put the calls of your stack into a struct kit_stack, and let main return kit_serve(&it). template.c is a template.
+ * Cases are read from standard input, and results are written to standard output, so don't print there. Each case is
+ * played in its own process: the stack is new, and a crash affects only one case.
  */
 #ifndef BSDUDP_CONFORM_KIT_H
 #define BSDUDP_CONFORM_KIT_H
@@ -39,7 +39,7 @@ static void kit_hex(const uint8_t *bytes, int length)
     }
 }
 
-/* Says that a socket got a datagram from addr (in the host's order) and port. */
+/* Reports that a socket received a datagram from addr (in the host's byte order) and port. */
 static inline void kit_got_at(int number, uint32_t addr, int port, const uint8_t *bytes, int length)
 {
     printf("got %d %u.%u.%u.%u %d ", kit_step, addr >> 24, addr >> 16 & 255, addr >> 8 & 255, addr & 255, port);
@@ -47,13 +47,13 @@ static inline void kit_got_at(int number, uint32_t addr, int port, const uint8_t
     printf(number ? " %d\n" : "\n", number);
 }
 
-/* Says that socket 0 got a datagram. */
+/* Reports that socket 0 received a datagram. */
 static inline void kit_got(uint32_t addr, int port, const uint8_t *bytes, int length)
 {
     kit_got_at(0, addr, port, bytes, length);
 }
 
-/* Says that socket 0 got a datagram whose sender can't be known. */
+/* Reports that socket 0 received a datagram whose sender can't be known. */
 static inline void kit_got_unknown(const uint8_t *bytes, int length)
 {
     printf("got %d * 0 ", kit_step);
@@ -61,7 +61,7 @@ static inline void kit_got_unknown(const uint8_t *bytes, int length)
     putchar('\n');
 }
 
-/* Says that a packet left. */
+/* Reports that the stack sent a packet. */
 static inline void kit_out(const uint8_t *packet, int length)
 {
     printf("out %d ", kit_step);
@@ -69,7 +69,7 @@ static inline void kit_out(const uint8_t *packet, int length)
     putchar('\n');
 }
 
-/* Reads hexadecimal bytes into a block of just their length, so that a tool sees what is read beyond it. */
+/* Reads hexadecimal bytes into a block of exactly their length, so that a tool detects reads beyond it. */
 static uint8_t *kit_bytes(const char *text, int *length)
 {
     size_t room = strlen(text) / 2;
@@ -126,7 +126,7 @@ static void kit_play(const struct kit_stack *it, char **lines, int count)
     _exit(0);
 }
 
-/* Plays a case in a process of its own. */
+/* Plays a case in a new process. */
 static void kit_case(const struct kit_stack *it, char **lines, int count)
 {
     int status = 0;

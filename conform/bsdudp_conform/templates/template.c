@@ -2,22 +2,22 @@
 #define _POSIX_C_SOURCE 200809L
 #include "kit.h"
 
-/* Your stack is made anew: address 10.0.0.1, netmask 255.255.255.0, broadcast 10.0.0.255, each other address reached by
- * the link directly, a UDP socket bound to port 7. */
+/* Boot a new stack: address 10.0.0.1, netmask 255.255.255.0, broadcast 10.0.0.255, all other addresses reached directly
+* on the link, a UDP socket bound to port 7. */
 static void boot(int mtu)
 {
     (void)mtu;
 }
 
-/* A packet comes from the wire. For each datagram that the socket then gets, call kit_got; for each IPv4 packet that
- * the stack sends meanwhile, kit_out. */
+/* A packet arrives from the wire. For each datagram that the socket then receives, call kit_got. For each IPv4 packet
+* that the stack sends meanwhile, call kit_out. */
 static void rx(const uint8_t *packet, int length)
 {
     (void)packet;
     (void)length;
 }
 
-/* Time passes: turn your stack's clock on, and let its timers run. */
+/* Time passes: advance your stack's clock, and run its timers. */
 static void wait_ms(int ms)
 {
     (void)ms;
@@ -27,7 +27,7 @@ int main(void)
 {
     struct kit_stack it = {0};
     it.name = "my stack 1.0";
-    it.has = ""; /* "out" once kit_out is called; then the judge looks at what your stack sends */
+    it.has = ""; /* "out" if you call kit_out: then the judge checks the packets that your stack sends */
     it.boot = boot;
     it.rx = rx;
     it.wait = wait_ms;
