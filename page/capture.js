@@ -1,31 +1,30 @@
 "use strict";
-// Captures. The program reads the records of a capture file (crates/page), and this file makes a script of them. The
-// script does what `bsdplay why` does: it has the host that `why` chooses, with the same pool and ports, and the clock
-// ticks by the capture's times (docs/captures.md).
+// Captures. The program reads the records of a capture file (crates/page), and this file makes a script from them. The
+// script does what `bsdplay why` does: it has the host that `why` chooses, with the same pool and ports, and ticks at
+// the capture's times (docs/captures.md).
 
 // A script has at most this many packets. As in `why`, a host has 60 ports at once, and is one of the first 256
 // addresses.
 const MOST_RECORDS = 300, MOST_PORTS = 60, MOST_ADDRESSES = 256;
 const LONGEST_PACKET = 65535, FIRST_MULTICAST = 0xe0000000, LIMITED_BROADCAST = 0xffffffff, LOOPBACK = 0x7f000001;
-// Nanoseconds in a tick, and how many ticks are played at once: by then every unfinished datagram has expired.
+// Nanoseconds in a tick, and the most ticks that are played at once: then every unfinished datagram has expired.
 const TICK = 500000000n, MOST_TICKS = 61n;
 
-// The records that the program returns: each is a line and then its packet. `told` bytes are records; after them comes
-// what is wrong with the file.
-function recordsIn(bytes, told) {
+// The records that the program returns: each is a line and then its packet. The first `length` bytes are records. The
+// rest says what is wrong with the file.
+function recordsIn(bytes, length) {
   const records = [];
-  for (let at = 0; at < told;) {
+  for (let at = 0; at < length;) {
     const end = bytes.indexOf(10, at), line = textOf(bytes.subarray(at, end)).split(" ");
     const [number, whole, captured, size] = [0, 2, 3, 4].map(i => Number(line[i]));
     at = end + 1 + size;
     records.push({ number, time: line[1] === "-" ? null : BigInt(line[1]), whole, captured,
       packet: size ? bytes.subarray(end + 1, at) : null });
   }
-  return { records, fault: textOf(bytes.subarray(told)) };
+  return { records, fault: textOf(bytes.subarray(length)) };
 }
 
-// The bytes of a file. If gzip compressed it, the browser unpacks it; what the browser can't unpack is returned as it
-// is.
+// The bytes of a file. The browser decompresses a gzip file. If it can't, the file is returned unchanged.
 async function unpacked(file) {
   const bytes = new Uint8Array(await file.arrayBuffer());
   if (bytes[0] !== 0x1f || bytes[1] !== 0x8b || !globalThis.DecompressionStream) return bytes;
@@ -38,7 +37,7 @@ async function unpacked(file) {
 
 // ---- the host
 
-// The address below 224.0.0.0 that most datagrams go to, the first one of several; or null.
+// The address below 224.0.0.0 to which most datagrams are sent, the first one of several; or null.
 function busiestAddress(packets) {
   const counts = new Map();
   for (const { isShort, protocol, destination } of packets) {
@@ -54,7 +53,7 @@ function busiestAddress(packets) {
 // The broadcast address of a network of 256 addresses.
 const broadcastOf = address => (((address | 255) >>> 0) === address ? address - 1 : (address | 255) >>> 0);
 
-// The settings of a host to which packets for this address go. Every host also has 127.0.0.1, so a capture of a
+// The settings of a host that receives packets for this address. Every host also has 127.0.0.1, so a capture of a
 // loopback interface gets a host with another address.
 function hostFor(address) {
   const addr = address === LOOPBACK ? undotted(DEFAULTS.addr) : address;
@@ -67,7 +66,7 @@ const isFor = (address, { isShort, destination }) =>
 
 // ---- time
 
-// Sets the time of each record: nanoseconds since the first one. A record without a time came with the one before it.
+// Sets the time of each record: nanoseconds since the first one. A record without a time has that of the one before it.
 function withTimes(records) {
   let last = 0n, first = null;
   return records.map(it => {
@@ -77,7 +76,7 @@ function withTimes(records) {
   });
 }
 
-// Sets how many ticks pass before each record, and how many of them are played.
+// Sets the ticks before each record, and how many of them are played.
 function withTicks(records) {
   let passed = 0n;
   return records.map(it => {
@@ -92,12 +91,12 @@ const secondsOf = nanoseconds =>
 
 // ---- ports
 
-// The destination port of a packet that has the front of a datagram; or null.
+// The destination port of a packet that contains the beginning of a datagram; or null.
 const frontPort = ({ bytes, isShort, says, protocol, offset }) =>
   (!isShort && says.parts === 2 && bytes[0] === 0x45 && protocol === 17 && offset === 0 ? says.destinationPort : null);
 
 // The first ports of the records are bound before any packet arrives. When 60 are bound and another one is needed, the
-// one that was bound first is closed for it. The socket at place i has the descriptor i + 3: descriptors are reused.
+// oldest is closed. The socket at place i has the descriptor i + 3: descriptors are reused.
 class BoundPorts {
   constructor(records) {
     const all = records.map(it => frontPort(it.packet)).filter(port => port);
@@ -119,9 +118,9 @@ class BoundPorts {
 
 // ---- the script
 
-// A script in which the packets of a capture arrive at the host that most datagrams are for. Its ports are bound, and
-// it reads what is delivered at once. `counts` says how many records there are, how many have IPv4, how many of those
-// are for the host, and how many the script has. If there's no script, `fault` says why.
+// A script in which the packets of a capture arrive at the host that receives most datagrams. Its ports are bound, and
+// it reads each delivered datagram at once. `counts` has the number of records, of IPv4 packets, of those for the host,
+// and of those in the script. If there's no script, `fault` says why.
 function captureScript(engine, all) {
   const packets = withTimes(all).filter(it => it.packet && it.packet.length <= LONGEST_PACKET)
     .map(it => ({ ...it, packet: new Packet(it.packet) }));
@@ -149,8 +148,8 @@ const noteOfHost = (address, { addr }) => (address === LOOPBACK
 const linesOfPorts = (ports, lines) =>
   ports.flatMap((port, i) => [`# A socket for port ${port}.`, ...lines.slice(2 * i, 2 * i + 2)]);
 
-// What the packets of a capture do at the host, found out by playing them once: how many unfinished datagrams expired
-// before each record, which sockets then had a datagram to read, and whether an unfinished datagram is left at the end.
+// Plays the packets of a capture once, and returns how many unfinished datagrams expired before each record, which
+// sockets then had a datagram to read, and whether an unfinished datagram is left at the end.
 function playRecords(engine, config, planned, { first, reads }) {
   const asked = planned.flatMap(({ played, binds, packet }) =>
     [...Array(played).fill("tick"), "stat", ...binds, `rx ${hexOf(packet.bytes)}`, ...reads]);
@@ -167,8 +166,8 @@ function playRecords(engine, config, planned, { first, reads }) {
   return { records, isUnfinished: usageIn(replies[at]).used > 0 };
 }
 
-// The lines of each record: ticks, sockets, its packet, and a read of what is delivered. Ticks precede the packet, or
-// have a line of their own if an unfinished datagram expires.
+// The lines of each record: ticks, sockets, its packet, and a read of the delivered datagram. Ticks are before the
+// packet, or on a line of their own if an unfinished datagram expires.
 function linesOfRecord(it) {
   const { packet, played, binds, expired, delivered } = it;
   const waits = expired ? [noteOfExpired(it), `tick ${played}`] : [];
@@ -190,6 +189,6 @@ function noteOfRecord({ packet, captured, whole, number, since, expired, ...it }
   const pause = cutPause(it) && !expired ? ` ${pauseOf(it)} have passed${cutPause(it)}.` : "";
   const cut = whole > captured ? ` The capture kept ${captured} of its ${whole} bytes (snap length).` : "";
   const left = packet.isLeftToCard
-    ? " Its UDP checksum covers the pseudo header alone; the sender's card adds the rest (checksum offload)." : "";
+    ? " Its UDP checksum covers only the pseudo header; the sender's card adds the rest (checksum offload)." : "";
   return `# Record ${number}, ${secondsOf(since)} s.${pause}${cut}${left}`;
 }

@@ -1,5 +1,5 @@
 "use strict";
-// What the page asks the machine of a script of calls on chains.
+// Scripts of calls on chains: what the page queries from the machine.
 
 const bytesIn = word => plural(bytesOf(word || "-").length, "byte");
 const partOf = w => (w[3] === "all" ? "all" : `${w[4]} bytes from ${w[3]} on`);
@@ -7,7 +7,7 @@ const CHAIN_TELLS = {
   user: w => `stores ${bytesIn(w[2])} to send as chain ${w[1]}`,
   wire: w => `stores a packet of ${bytesIn(w[2])} that arrived as chain ${w[1]}`,
   copym: w => `chain ${w[1]} becomes a copy of ${partOf(w)} of chain ${w[2]}`,
-  prepend: w => `${bytesIn(w[2])} in front of chain ${w[1]}`,
+  prepend: w => `${bytesIn(w[2])} before those of chain ${w[1]}`,
   pullup: w => `the first ${w[2]} bytes of chain ${w[1]} into one mbuf`,
   adj: w => `${w[2].replace("-", "")} bytes off the ${w[2].startsWith("-") ? "back" : "front"} of chain ${w[1]}`,
   split: w => `the first ${w[3]} bytes stay in chain ${w[2]}, the others become chain ${w[1]}`,
@@ -22,14 +22,14 @@ const CHAIN_ASKS = ["show", "mbstat", "copydata"];
 const CHAIN_FAULTS = {
   "? line": "not a line of the script",
   "? chain": "a slot that must have a chain is empty, or one that must be empty isn't",
-  "? range": "the bytes that are named don't lie in the chain, or it would be longer than 65,535 bytes",
-  shared: "a byte of the range lies in a cluster that another mbuf refers to: a write would change that chain too",
+  "? range": "the bytes that are named aren't in the chain, or it would be longer than 65,535 bytes",
+  shared: "a byte of the range is in a cluster that another mbuf refers to: a write would change that chain too",
   toolong: "one mbuf of a packet holds 100 bytes at most",
   tooshort: "the chain has fewer bytes",
   nobufs: "fewer mbufs or clusters are free than this takes",
 };
 
-// The mbufs of a chain, by what `show` replies; or nothing.
+// The mbufs of a chain, from the reply to `show`; or nothing.
 function chainIn(reply) {
   const [word, length, ...mbufs] = reply.split(" ");
   if (word !== "len") return null;
@@ -82,9 +82,9 @@ function tellChainStep(line, reply) {
 const MBUF = { size: 128, header: 20, packet: 8 };
 const CLUSTER = 2048;
 
-// An mbuf by its line of a drawing: whether it has a packet header, the number of its cluster, the place at which its
-// bytes begin in the mbuf or in the cluster, the bytes, and the space before and after them. `text` is all of that
-// except the cluster's number; it's used to compare an mbuf with the one before.
+// An mbuf, from its line of a drawing: whether it has a packet header, the number of its cluster, the offset of its
+// bytes in the mbuf or in the cluster, the bytes, and the space before and after them. `text` is all of that except the
+// cluster's number, to compare an mbuf with the one before.
 function mbufIn(line) {
   const [, packet, cluster, start, hex] = /^(pkthdr )?(?:cluster (\d+) )?(\d+) (\S+)$/.exec(line);
   const isCluster = cluster !== undefined, bytes = bytesOf(hex);
@@ -114,7 +114,7 @@ function clustersIn(chains) {
   return clusters;
 }
 
-// The clusters for whose sake a write was refused: those that are shared, and have a byte of the range.
+// The clusters because of which a write was refused: those that are shared, and have a byte of the range.
 function refusedIn(step, chains, clusters) {
   const [, slot, off, hex] = step.line.split(" "), refused = new Set();
   if (step.reply !== "shared") return refused;
@@ -128,16 +128,16 @@ function refusedIn(step, chains, clusters) {
   return refused;
 }
 
-// ---- as a figure has them
+// ---- in the form of a figure
 
 // The most lines of a script whose mbufs keep their numbers from line to line.
 const MOST_LINES = 600;
-// The number of an mbuf's bytes that are kept, to show what they are.
+// The number of an mbuf's first bytes that are kept for display.
 const SHOWN_BYTES = 32;
 
 const lengthOf = mbufs => mbufs.reduce((n, it) => n + it.bytes.length, 0);
 
-// The lowest numbers that none of these has, and none of those before, one for each that has none.
+// The lowest numbers that aren't used by these or by those before, one for each without a number.
 function number(all, before = []) {
   const used = new Set([...before, ...all.map(it => it.n)]);
   let next = 0;
@@ -149,7 +149,7 @@ function number(all, before = []) {
   }
 }
 
-// The head of an mbuf, of which a chain's first one says how long the chain is.
+// The head of an mbuf. The first one of a chain has the chain's length.
 function headOf(it, next, pkthdr, clusters) {
   const isFirst = pkthdr !== null && it.hasPacket;
   return {
@@ -159,8 +159,8 @@ function headOf(it, next, pkthdr, clusters) {
   };
 }
 
-// The chains as a figure has them. Numbers are kept from the state before: an mbuf's by what it holds, a cluster's by an
-// mbuf that had it.
+// The chains in the form of a figure. Numbers are kept from the state before: an mbuf's by its bytes, a cluster's by an
+// mbuf that referred to it.
 function chainState(chains, before) {
   const olds = before ? before.mine : new Map(), was = before ? [...olds.values()].flat() : [];
   const own = ({ hasPacket, cluster, start, bytes }) => ({ hasPacket, start, bytes, cluster });
@@ -187,7 +187,7 @@ function chainState(chains, before) {
   return { chains: slots, mbufs, clusters, mine, named };
 }
 
-// Those mbufs keep their numbers that have a byte in common with an old one at the same place.
+// An mbuf keeps its number if it has a byte in common with an old one at the same place.
 function keepChain(olds, news, taken) {
   const last = ({ bytes }) => bytes[bytes.length - 1], end = it => it.start + it.bytes.length;
   const isSame = (a, b) => (a.cluster === null) === (b.cluster === null) && a.bytes.length > 0 && b.bytes.length > 0

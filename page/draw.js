@@ -1,7 +1,7 @@
 "use strict";
 // Drawings: the elements of a page, packets as RFC 791 draws them, the pool, and chains as volume 2 draws them.
 
-// An element with attributes and children. A child that is nothing is left out.
+// An element with attributes and children. Empty children are skipped.
 function h(tag, attributes = {}, ...children) {
   const it = document.createElement(tag);
   for (const [name, value] of Object.entries(attributes)) {
@@ -13,7 +13,7 @@ function h(tag, attributes = {}, ...children) {
   return it;
 }
 
-// The same of a drawing.
+// The same for a drawing.
 function svg(tag, attributes = {}, ...children) {
   const it = document.createElementNS("http://www.w3.org/2000/svg", tag);
   for (const [name, value] of Object.entries(attributes)) it.setAttribute(name, value);
@@ -32,7 +32,7 @@ function cellOf(field) {
     h("span", { class: "cell-name" }, field.name), h("span", { class: "cell-value" }, field.value, marks));
 }
 
-// The bytes, 16 in a row, each with the field that it's of.
+// The bytes, 16 in a row, each with its field.
 function dumpOf(packet) {
   const most = packet.length <= 128 ? 128 : 96, cells = [];
   packet.bytes.subarray(0, most).forEach((byte, at) => {
@@ -47,7 +47,8 @@ function dumpOf(packet) {
     rest);
 }
 
-// The header as RFC 791 draws it, 32 bits in a row, and the bytes below it. What the pointer is on is lit in both.
+// The header as RFC 791 draws it, 32 bits in a row, and the bytes below it. The field under the pointer is highlighted
+// in both.
 function packetView(packet, title) {
   const header = packet.isShort
     || scroller("the header, 32 bits in a row", h("ul", { class: "rfc" }, packet.fields.map(cellOf)));
@@ -64,7 +65,7 @@ function packetView(packet, title) {
   return it;
 }
 
-// What may be wider than the window is scrolled by itself, also by keyboard.
+// An element that may be wider than the window has its own scroll bar, which the keyboard can use too.
 const scroller = (name, ...children) =>
   h("div", { class: "scroller", tabindex: 0, role: "group", "aria-label": name }, children);
 
@@ -86,7 +87,7 @@ function poolBar(name, total, owners) {
     h("div", { class: isCells ? "bar cells" : "bar", role: "img", "aria-label": label }, parts));
 }
 
-// The curve of mbufs in use, line by line, with the line that is looked at.
+// The curve of mbufs in use, line by line, with the selected line.
 function curve(steps, here, choose, known) {
   const seen = steps.slice(0, known), width = 300, height = 34;
   const most = Math.max(1, ...seen.map(step => step.pool.used));

@@ -1,8 +1,8 @@
 "use strict";
-// The proved program as a WebAssembly module. A run is a function of the whole script, and the module keeps nothing
-// between two.
+// The proved program as a WebAssembly module. A run is a function of the whole script, and the module keeps no state
+// between runs.
 
-// What the outcomes mean, by their numbers (crates/page).
+// The meanings of the outcomes, by number (crates/page).
 const FAULTS = [
   "",
   "bad sizes: a pool has 1 to 65,535 mbufs and 0 to 4,096 clusters",
@@ -46,7 +46,7 @@ class Engine {
     return new Uint8Array(this.calls.memory.buffer, Number(at), size);
   }
 
-  // Puts bytes into the module's memory for as long as `use` works with them.
+  // Puts bytes into the module's memory while `use` runs.
   lend(bytes, use) {
     const at = this.take(bytes.length);
     this.bytes(at, bytes.length).set(bytes);
@@ -55,8 +55,7 @@ class Engine {
     return answer;
   }
 
-  // Calls the export with a script, or with a file, and a second time with more room where what it hands over didn't
-  // fit.
+  // Calls the export with a script, or with a file, and a second time with a larger buffer if its output didn't fit.
   serve(call, settings, script) {
     const text = typeof script === "string" ? new TextEncoder().encode(script) : script;
     try {
@@ -66,7 +65,7 @@ class Engine {
         this.room = answer.length;
       }
     } catch (fault) {
-      // after a trap nothing is known of the memory
+      // after a trap the memory is in an unknown state
       this.start();
       throw fault;
     }
@@ -90,25 +89,25 @@ class Engine {
     return withReplies(this.serve(this.calls.bsdudp_page_run, machineOf(config), script));
   }
 
-  // The mbufs that a machine holds after a script of `bsdudp run`, as figure.js has them.
+  // The mbufs that a machine holds after a script of `bsdudp run`, in the form of figure.js.
   state(config, script) {
     const { code, bytes } = this.serve(this.calls.bsdudp_page_state, machineOf(config), script);
     if (code) throw new Error(FAULTS[code]);
     return stateIn(linesOf(textOf(bytes)).map(line => JSON.parse(line)));
   }
 
-  // The outcome and the objects of a script of `bsdplay --json`, on one machine.
+  // The outcome and the objects of a script of `bsdplay --json`, for one host.
   play(config, script) {
     return withObjects(this.serve(this.calls.bsdudp_page_play, machineOf(config), script));
   }
 
-  // The same of many machines, which the script says by itself.
+  // The same for several hosts, which the script sets up.
   hosts(script) {
     const call = (_, ...more) => this.calls.bsdudp_page_hosts(...more);
     return withObjects(this.serve(call, new Uint8Array(0), script));
   }
 
-  // The capture of the packets that arrive and leave in a script of one machine, as `bytes`.
+  // The capture of the packets that arrive and leave in a script of one host, as `bytes`.
   capture(config, script) {
     return this.serve(this.calls.bsdudp_page_capture, machineOf(config), script);
   }
@@ -127,7 +126,7 @@ class Engine {
         })));
   }
 
-  // The records of a capture, and what is wrong with the file: no text if nothing is.
+  // The records of a capture, and what is wrong with the file, or an empty text.
   records(file) {
     const call = (about, ...more) => this.calls.bsdudp_page_records(...more, about);
     const { code, bytes, about } = this.serve(call, new Uint8Array(16), file);
@@ -135,7 +134,7 @@ class Engine {
     return recordsIn(bytes, Number(new DataView(about.buffer).getBigUint64(8, true)));
   }
 
-  // What the headers of a packet say, by the names of HEADER.
+  // The values in the headers of a packet, by the names in HEADER.
   header(packet) {
     return this.lend(packet, from =>
       this.lend(new Uint8Array(4 * HEADER.length), to => {
@@ -161,14 +160,14 @@ class Engine {
 const textOf = bytes => new TextDecoder().decode(bytes);
 const withReplies = ({ code, bytes }) => ({ code, replies: linesOf(textOf(bytes)) });
 
-// The objects of JSON, one in a line. Their texts hold a byte in each character (docs/scripts.md).
+// The objects of JSON, one on each line. Each character of their texts is a byte (docs/scripts.md).
 function withObjects({ code, bytes }) {
   const decoded = value => (typeof value === "string"
     ? textOf(Uint8Array.from(value, letter => letter.charCodeAt(0))) : value);
   return { code, objects: linesOf(textOf(bytes)).map(line => JSON.parse(line, (_, value) => decoded(value))) };
 }
 
-// A state by its objects: each holder of mbufs, followed by its mbufs, and then the clusters. All mbufs are of one
+// A state from its objects: each holder of mbufs, followed by its mbufs, and then the clusters. All mbufs have one
 // type.
 function stateIn(objects) {
   const state = { sockets: [], output: null, unfinished: [], clusters: {}, mbufs: [] };
@@ -185,7 +184,7 @@ function stateIn(objects) {
 // The type of an mbuf that holds data (volume 2, figure 2.10).
 const MT_DATA = 1;
 
-// A machine as the module reads it.
+// The settings of a machine in the module's form.
 function machineOf({ addr, bcast, mbufs, clusters, mtu, id }) {
   const settings = new DataView(new ArrayBuffer(20));
   [addr, bcast, mbufs, clusters].forEach((n, i) => settings.setUint32(4 * i, n, true));
@@ -194,7 +193,7 @@ function machineOf({ addr, bcast, mbufs, clusters, mtu, id }) {
   return new Uint8Array(settings.buffer);
 }
 
-// The sizes of a pool as the module reads them.
+// The sizes of a pool in the module's form.
 function poolOf({ mbufs, clusters }) {
   const sizes = new DataView(new ArrayBuffer(8));
   [mbufs, clusters].forEach((n, i) => sizes.setUint32(4 * i, n, true));
@@ -220,7 +219,7 @@ function configOf(options) {
   return wrong ? { wrong } : config;
 }
 
-// What words as --mtu 68 or --mtu=68 set, and all options with that.
+// The options with the value that words such as --mtu 68 or --mtu=68 set.
 function settingsIn(words) {
   const options = {}, all = words.flatMap(word => word.split("="));
   for (let i = 0; i + 1 < all.length; i += 2) options[all[i].replace(/^--/, "")] = all[i + 1];

@@ -1,7 +1,7 @@
 "use strict";
-// What is shown only for hosts on an Ethernet: their neighbours, and frames.
+// The parts that are shown only for hosts on an Ethernet: their neighbours, and frames.
 
-// What a link made of a frame that has no packet: of one of ARP, whether it knows the sender now (RFC 826, "Packet
+// What a link did with a frame that has no packet. For an ARP packet, whether it knows the sender now (RFC 826, "Packet
 // Reception").
 function heardOf({ arp }, to, hosts, { states, statesBefore }) {
   if (!arp) return ["wait", `${to} receives it.`];
@@ -15,8 +15,8 @@ function heardOf({ arp }, to, hosts, { states, statesBefore }) {
 
 const waitSaid = ({ waiting }) => `${plural(waiting, "packet")} ${waiting === 1 ? "waits" : "wait"}`;
 
-// The neighbours of a host on an Ethernet that are known or requested, and how many packets wait for each. What the
-// line changed is marked.
+// The neighbours of a host on an Ethernet that are known or requested, and how many packets wait for each. Changes by
+// the line are marked.
 function neighboursView(step, { name }) {
   const { neighbours, address } = step.states.get(name) || {}, before = step.statesBefore.get(name) || {};
   if (!neighbours) return null;
@@ -33,11 +33,11 @@ function neighboursView(step, { name }) {
       : h("p", { class: "faint" }, "None."));
 }
 
-// A frame that comes by hand, with the checks of the packet that the stack got of it.
+// A frame that a line contains, with the checks of the packet that the stack received.
 const frameOfLine = ({ frame, of }) => [of && panel("The checks, in order", checksOf(of)),
   panel(null, packetView(frame, "The frame that comes"))].filter(Boolean);
 
-// The frames that passed, or otherwise those that are under way; at most two. One that arrived at several hosts is
+// The frames that were delivered, or otherwise those under way, at most two. A frame that arrived at several hosts is
 // drawn once.
 function framesOf(step, hosts) {
   const isWatched = ["carry", "collect", "show"].includes(step.verb);
@@ -49,7 +49,7 @@ function framesOf(step, hosts) {
     panel(null, packetView(it.packet, `A frame of ${it.from}`))));
 }
 
-// The packets that wait at a host for a hardware address, if they're others than before the line.
+// The packets that wait at a host for a hardware address, if they changed by the line.
 function waitsOf({ states, statesBefore }) {
   const waiting = (all, name) => ((all.get(name) || {}).neighbours || []).filter(it => it.waiting);
   return [...states.keys()].flatMap(name => waiting(states, name)

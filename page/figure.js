@@ -9,12 +9,12 @@
 const MbufFigure = (() => {
   const MSIZE = 128, HEADER = 20, PKTHDR = 28, EXT = 32, MCLBYTES = 2048;
   const TYPES = { 1: "MT_DATA" };
-  // Of more packets than these the first two and the last two are drawn.
+  // If there are more packets than these, the first two and the last two are drawn.
   const SHOWN = 4;
   // At most this many sockets and queues that a line changed are drawn; others are named.
   const HOLDERS = 6;
-  // Lengths in the drawing's own unit: a pixel if the page's letters have 16. Chains are in rows, or upright if it's
-  // narrow.
+  // Lengths in the drawing's unit, which is a pixel if the page's font size is 16. Chains are drawn in rows, or upright
+  // if the page is narrow.
   const ROW = 17, TITLE = 18, LABEL = 20, BETWEEN = 26, OWNER = 160, BYTES = 122;
   const LYING = { mbuf: 198, off: 27, room: 104, gap: 44, gutter: 50, cluster: 154, left: 16, lane: 13, elbow: 12 };
   const UPRIGHT = { mbuf: 190, off: 24, room: 88, gap: 14, gutter: 36, cluster: 114, left: 28, lane: 16, elbow: 8 };
@@ -36,16 +36,16 @@ const MbufFigure = (() => {
   const text = (x, y, kind, said, anchor = "start") => svg("text", { x, y, class: kind, "text-anchor": anchor }, said);
   const rect = (x, y, width, height, kind, more) => svg("rect", { x, y, width, height, class: kind, ...more });
 
-  // ---- what a state says
+  // ---- the parts of a state
 
-  // The mbufs from a first one on by their links.
+  // The mbufs from a first one on, following their links.
   function walk(at, first, link) {
     const all = new Set();
     for (let n = first; at.has(n) && !all.has(at.get(n)); n = at.get(n)[link]) all.add(at.get(n));
     return [...all];
   }
 
-  // The fields of an mbuf: the byte at which each begins, its name, and its value.
+  // The fields of an mbuf: the offset, the name and the value of each.
   function rowsOf(it) {
     const flags = [it.cluster !== null && "M_EXT", it.pkthdr !== null && "M_PKTHDR"].filter(Boolean).join("|") || "0";
     return [[0, "m_next", name(it.next)], [4, "m_nextpkt", name(it.nextpkt)], [8, "m_len", count(it.len)],
@@ -54,14 +54,14 @@ const MbufFigure = (() => {
       ...(it.cluster === null ? [] : [[28, "m_ext.ext_buf", `cluster ${it.cluster}`]])];
   }
 
-  // What some bytes are: as a text, or the first ones as digits.
+  // Some bytes as a text, or the first ones as digits.
   function readable(bytes, all) {
     const some = bytes.slice(0, 7), more = all > some.length ? " …" : "";
     if (some.every(byte => byte >= 32 && byte < 127)) return `“${String.fromCharCode(...some)}”${more}`;
     return some.map(byte => byte.toString(16).padStart(2, "0")).join(" ") + more;
   }
 
-  // The parts of an mbuf's bytes in this kind of train: what the stack put there ("mine"), and data.
+  // The parts of an mbuf's bytes in this kind of train: bytes of the stack ("mine"), and data.
   function partsOf(it, kind, isFirst) {
     const b = bytesIn(it.bytes), parts = [], offset = kind === "if_snd" ? 8 * (u16(b, 6) & 8191) : it.rcvif >> 1;
     let used = 0;
@@ -82,14 +82,14 @@ const MbufFigure = (() => {
   const free = (len, at, is = "free") => ({ len, at, is, said: `${count(len)} ${is}` });
   const isFree = part => part.is === "free" || part.is === "unused";
 
-  // Each part has a line, or two if it says more; what is left of the height is shared by their bytes.
+  // Each part has one line, or two if its text is longer. The rest of the height is shared by their bytes.
   function heights(parts, high) {
     const two = parts.map(part => (part.says ? 31 : ROW)), low = sum(two) <= high ? two : parts.map(() => ROW);
     const left = Math.max(0, high - sum(low)), bytes = sum(parts.map(part => part.len));
     return parts.map((part, i) => low[i] * Math.min(1, high / sum(low)) + (left * part.len) / bytes);
   }
 
-  // Who holds a train: the rows of its box, of which the last is the link.
+  // The holder of a train: the rows of its box, of which the last is the link.
   function holdersOf({ chains, sockets, output, unfinished }) {
     const holder = (title, kind, first, ...rows) => ({ title, kind, first, rows: rows.map(row => [0, ...row]) });
     if (chains) {
@@ -104,7 +104,7 @@ const MbufFigure = (() => {
         ["ipq_ttl", plural(it.ticks, "tick")], ["its own", name(it.mbuf)], ["ipq_next", name(it.first)]))];
   }
 
-  // All that a holder holds, as one text: another one if the line changed something in it.
+  // All that a holder holds, as one text, which differs if the line changed something in it.
   function contentsOf(state, holder) {
     const at = new Map(state.mbufs.map(it => [it.n, it]));
     const chains = first => walk(at, first, "nextpkt").map(it => walk(at, it.n, "next"));
@@ -112,8 +112,8 @@ const MbufFigure = (() => {
     return JSON.stringify([holder, all, all.flat(4).map(it => it && state.clusters[it.cluster])]);
   }
 
-  // The titles of the holders that are drawn: those that the line changed, otherwise those that hold something; and
-  // which others there are, in words.
+  // The titles of the holders that are drawn: those that the line changed, otherwise those that hold something. And the
+  // others, in words.
   function chosen(after, before, all) {
     const now = holdersOf(after), earlier = before ? holdersOf(before) : [];
     const old = new Map(earlier.map(it => [it.title, contentsOf(before, it)]));
@@ -153,7 +153,7 @@ const MbufFigure = (() => {
       this.height = y - BETWEEN;
     }
 
-    // Rows of fields, with their old values if they had others: what is drawn, the same in words, and what changed.
+    // Rows of fields, with their old values if these differ: the drawing, the same in words, and the changed fields.
     rows(x, y, wide, off, rows, old) {
       const before = old && new Map(old.map(([, field, value]) => [field, value])), isAfter = this.side === "after";
       const changed = new Set(), told = [];
@@ -185,7 +185,7 @@ const MbufFigure = (() => {
       });
     }
 
-    // A box with its title over it, and a name for screen readers. `isOld`: it's on the other side of the line too.
+    // A box with its title above it, and a name for screen readers. `isOld`: it's in the state on the other side too.
     frame(x, y, wide, high, title, isOld, told, inside) {
       const isMarked = this.marked.some(n => title === `cluster ${n}`);
       const news = isMarked ? "shared" : !this.other || isOld ? "" : this.side === "after" ? "new" : "freed";
@@ -205,7 +205,7 @@ const MbufFigure = (() => {
       this.links.push(svg("path", { d, class: `link ${kind}`, "marker-end": `url(#${this.id}-${kind})` }));
     }
 
-    // A line that leaves to the left, and goes up or down there.
+    // A line that leaves to the left, and then goes up or down.
     byLeft(x, from, to, lane, kind) {
       this.link([[x, from], [x - lane, from], [x - lane, to.into], [to.x - 1, to.into]], kind);
     }
@@ -298,7 +298,7 @@ const MbufFigure = (() => {
       return Math.max(end, this.train(it.first, it.kind, at, isBeside ? y : end + 12, lane, this.most, come));
     }
 
-    // A place for a line to go up or down next to the clusters, with no other one.
+    // A place for a line to go up or down next to the clusters, not used by another line.
     laneFor(x, a, b) {
       const low = Math.min(a, b), high = Math.max(a, b), most = Math.floor((this.size.gutter - 18) / 6);
       let i = 0;
@@ -307,7 +307,7 @@ const MbufFigure = (() => {
       return x - 12 - 6 * i;
     }
 
-    // A line from a row of an mbuf to a cluster: straight on, or below the row of mbufs if others follow.
+    // A line from a row of an mbuf to a cluster: straight, or below the row of mbufs if others follow.
     toCluster({ right, line, isLast }, from, step, x, to, kind, lane) {
       const below = line.bottom + 6 + 6 * line.used, y = isLast ? from : below;
       if (!isLast) line.used++;
@@ -365,7 +365,7 @@ const MbufFigure = (() => {
 
   const scaleOf = () => parseFloat(getComputedStyle(document.documentElement).fontSize) / 16;
 
-  // The widest form for which there is room; long chains are broken into rows before they're set upright.
+  // The widest form that fits. Long chains are broken into rows before they're drawn upright.
   function fitting(what, room) {
     const { mbuf, gap, gutter, cluster, left } = LYING;
     const most = Math.floor((room - left - gutter - cluster + gap - 8) / (mbuf + gap));

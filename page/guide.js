@@ -1,8 +1,8 @@
 "use strict";
-// What leads through the page: the lessons in their order, the questions that come before a reply, the exercises, and
-// what is kept in the browser.
+// The guide through the page: the lessons in order, the questions before a reply, the exercises, and the data that is
+// kept in the browser.
 
-// ---- what is kept in this browser
+// ---- data kept in this browser
 
 const KEPT = "bsdudp.";
 const keep = (name, value) => {
@@ -10,7 +10,7 @@ const keep = (name, value) => {
     if (value === null) localStorage.removeItem(KEPT + name);
     else localStorage.setItem(KEPT + name, JSON.stringify(value));
   } catch (fault) {
-    // a browser that keeps nothing
+    // this browser stores nothing
   }
 };
 const kept = name => {
@@ -25,7 +25,7 @@ const kept = name => {
 
 const MODES = ["run", "chain", "wire"];
 const allOf = kind => MODES.flatMap(mode => SCRIPTS[mode][kind].map(it => ({ ...it, mode, kind })));
-// The lessons of all tabs, in their order; the exercises; and the examples.
+// The lessons of all tabs, in order; the exercises; and the examples.
 const LISTS = { lessons: allOf("lessons").sort((a, b) => (a.name < b.name ? -1 : 1)), exercises: allOf("exercises"),
   examples: allOf("examples") };
 const scriptNamed = (mode, name) =>
@@ -66,20 +66,20 @@ function openNext() {
 
 // ---- predict, then reveal
 
-// Whether it's said that what was expected came: in a lesson it always does.
+// Whether the page says that the expected reply came: in a lesson it always does.
 const isToldMet = step => Boolean(step.expected) && !(step.isMet && page.known && !isExercise());
 const isUnsolved = ({ expected, line }) => expected === null && !line.startsWith("--");
 const isExercise = () => Boolean(page.known) && page.known.kind === "exercises";
 
-// What is asked of a line before its reply is shown: a question of a lesson, or of an exercise each reply.
+// The question about a line before its reply is shown: a question of a lesson, or each reply of an exercise.
 function questionOf(i) {
   if (page.guesses.has(i)) return null;
   if (isExercise()) return isUnsolved(page.steps[i]) ? { text: "What is the reply?", answers: null } : null;
   return page.notes.questions[i];
 }
 
-// Whether a row is after an unanswered question, so that its reply could give the answer away. In an exercise each row
-// is a question of its own.
+// Whether a row is after an unanswered question, so that its reply could reveal the answer. In an exercise each row is
+// a separate question.
 const isBehindQuestion = i => page.firstQuestion !== null && i > page.firstQuestion && !isExercise();
 
 function findQuestion() {
@@ -118,7 +118,7 @@ function questionView(step, i, question) {
     isExercise() && page.noteOf(step) && h("p", { class: "note" }, page.noteOf(step)), form);
 }
 
-// A line after an unanswered question. Its effects could give the answer away, so they aren't shown.
+// A line after an unanswered question. Its effects could reveal the answer, so they aren't shown.
 function hiddenView(step) {
   const asking = page.firstQuestion, place = page.notes.places[asking] + 1;
   const answer = () => {
@@ -132,7 +132,7 @@ function hiddenView(step) {
       h("button", { type: "button", onclick: () => skipQuestions(page.at) }, "Show this line")));
 }
 
-// Shows a line, and gives up the questions before it.
+// Shows a line, and skips the questions before it.
 function skipQuestions(last) {
   for (let i = 0; i < last; i++) if (questionOf(i)) page.guesses.set(i, null);
   refreshRows();
@@ -140,7 +140,7 @@ function skipQuestions(last) {
   byId("forth").focus();
 }
 
-// What was guessed, and whether it was right.
+// The guess, and whether it was right.
 function guessView(i) {
   const guess = page.guesses.get(i), question = page.notes.questions[i];
   if (!guess || !question) return null;
@@ -151,7 +151,7 @@ function guessView(i) {
 
 // ---- exercises
 
-// The script of an exercise without what is expected: that is to be found.
+// The script of an exercise without the expected replies, which the student has to find.
 const unsolved = text => linesOf(text).filter(line => !line.startsWith("##"))
   .map(line => (line.startsWith("#?") ? line.replace(/ *=>.*$/, "") : line.startsWith("#") ? line : withoutReply(line)))
   .join("\n") + "\n";
@@ -161,7 +161,7 @@ function withoutReply(text) {
   return wanted === null ? text : asked;
 }
 
-// Writes what is expected after a line, so that it's in the file that is handed in.
+// Writes the expected reply after a line, so that it's in the file that is handed in.
 function expectHere(i, guess) {
   const all = page.notes.all, place = page.notes.places[i];
   const lines = all.map((line, k) => (k === place ? `${partsOf(line).asked} => ${guess.trim()}` : line));
@@ -173,7 +173,7 @@ function expectHere(i, guess) {
 
 // ---- the questions of an exercise
 
-// What is asked at its end, and the key's line of the same question.
+// The questions at its end, and the key's line for the same question.
 function asksOf() {
   if (!isExercise()) return [];
   const wanted = new Map(readNotes(page.known.text).asks.map(it => [it.text, it.line]));
@@ -196,7 +196,8 @@ function askView({ place, line, key, text, answer }, k) {
   return h("li", { class: "ask" }, head, form, said);
 }
 
-// Writes an answer after its question, so that it's in the file that is handed in. The keyboard goes to the next one.
+// Writes an answer after its question, so that it's in the file that is handed in. The focus moves to the next
+// question.
 function answerAsk(place, text, answer, k) {
   const line = `#? ${text} => ${answer.trim() || "?"}`;
   byId("script").value = page.notes.all.map((it, i) => (i === place ? line : it)).join("\n") + "\n";
@@ -207,7 +208,7 @@ function answerAsk(place, text, answer, k) {
   (mark && mark.matches(".yes") && next ? next : byId(`ask-${k}`)).focus();
 }
 
-// What `bsdplay --grade` says of an exercise compared with its key.
+// The result of `bsdplay --grade` for an exercise with its key.
 function gradeOf() {
   const { right, wrong, missing } = page.engine.marks(page.known.text, page.text);
   const isSound = page.steps.every(step => step.kind !== "bad" && (step.expected === null || step.isMet));
@@ -217,11 +218,11 @@ function gradeOf() {
 
 // ---- the forms of lines
 
-// How all lines are written, as `bsdplay --help` prints it, and what to write for each word.
+// The forms of all lines, as `bsdplay --help` prints them, and the values for each word.
 function showForms() {
   const list = all => h("ul", {}, all.map(it => h("li", {}, h("code", {}, it))));
   byId("forms-of").replaceChildren(h("h3", {}, "One host"), list(FORMS.machine),
-    h("h3", {}, "Many hosts: write ", h("code", {}, "NAME:"), " in front of the lines above"), list(FORMS.wire),
+    h("h3", {}, "Many hosts: write ", h("code", {}, "NAME:"), " before the lines above"), list(FORMS.wire),
     h("h3", {}, "A host on an Ethernet, after its ", h("code", {}, "NAME:")), list(FORMS.ethernet),
     h("h3", {}, "Words"), list(FORMS.words));
 }
@@ -233,7 +234,7 @@ function seeForms() {
   byId("forms").querySelector("summary").focus();
 }
 
-// Of a line that did nothing: the command that the program takes it for, and the forms of all lines.
+// For a line that did nothing: the command that was probably meant, and the forms of all lines.
 function mendView({ number, why }) {
   if (page.mode === "chain") return null;
   const [, word, meant] = /^`([^`]+)` is no command \(`(\w+)`\?\)$/.exec(why) || [];
@@ -252,7 +253,7 @@ function mendView({ number, why }) {
     h("button", { type: "button", onclick: seeForms }, "How lines are written"));
 }
 
-// How many replies were predicted, and how many of them came.
+// How many replies were predicted, and how many of the predictions were right.
 function showScore() {
   const all = page.steps.filter(step => step.expected);
   const right = all.filter(step => step.isMet);
@@ -295,7 +296,7 @@ async function openFile(file) {
   if (fault) byId("trouble").textContent = `${told}. The records before it are shown.`;
 }
 
-// A script; an exercise that was saved is opened as that exercise.
+// Opens a script. A saved exercise is opened as that exercise.
 function openText(name, text) {
   const exercise = LISTS.exercises.find(it => it.name === name);
   if (!exercise) return open(page.mode, { text, options: page.options });

@@ -1,5 +1,5 @@
 "use strict";
-// The right column: the line that is looked at, and the machine after it.
+// The right column: the selected line, and the machine after it.
 
 const SIGNS = { in: "⇢", out: "⇠", send: "↗", read: "↙", call: "•", tick: "◔", ask: "?", wire: "⇄", bad: "✗" };
 const signOf = step => {
@@ -29,14 +29,14 @@ const belowView = lines => h("ul", { class: "below", "aria-label": "below it" },
   lines.length > MOST_BELOW && h("li", { class: "faint" }, `and ${lines.length - MOST_BELOW} more`));
 const MOST_BELOW = 30;
 
-// What was expected of a line, and whether it came.
+// The expected reply of a line, and whether it was met.
 const expectedView = step => (step.isMet
   ? verdict("yes", "As expected.")
   : verdict("no", "Expected: ", h("code", {}, step.expected), "."));
 
 // ---- the mbufs with the bytes
 
-// The figure is drawn once its place is in the page, since it depends on the width (main.js).
+// The figure is drawn when its place is in the page, because it depends on the width (main.js).
 function figurePanel(title, figure, ...more) {
   const host = h("div", { class: "figure-host" });
   host.figure = figure;
@@ -54,7 +54,7 @@ const allButton = () => h("button", { type: "button", class: "all", "aria-presse
 const STACK_CAPTION = "An mbuf has 128 bytes, and is one of the four kinds of volume 2, figure 2.1. m_next leads to "
   + "the next mbuf of a packet, m_nextpkt to the next packet of a queue (figure 2.2).";
 const CAPTIONS = {
-  so_rcv: "so_rcv is a socket's receive queue (chapter 16). An mbuf in front of each datagram holds the sender's "
+  so_rcv: "so_rcv is a socket's receive queue (chapter 16). An mbuf before each datagram holds the sender's "
     + "address. In 4.4BSD it has type MT_SONAME and no packet header; here it has the datagram's packet header.",
   if_snd: "if_snd is the interface's output queue (chapter 3).",
   ipq: "An ipq is a datagram of which fragments are missing (chapter 10). In 4.4BSD a struct ipq fills an mbuf; here "
@@ -62,7 +62,7 @@ const CAPTIONS = {
     + "follow; its IP header is removed.",
 };
 
-// The captions of what a state holds.
+// The captions of the parts of a state.
 function captionOf({ sockets, output, unfinished }) {
   const held = { so_rcv: sockets.some(it => it.first !== null), if_snd: output.len > 0, ipq: unfinished.length > 0 };
   return [STACK_CAPTION, ...Object.keys(CAPTIONS).filter(name => held[name]).map(name => CAPTIONS[name])].join(" ");
@@ -100,24 +100,24 @@ function verdictsOf(step, before, now) {
 // Counters of unfinished datagrams that were dropped.
 const GIVES_UP = new Set(["ip.fragtimeout", "ip.reclaimed"]);
 
-// Those that a line dropped: they were unfinished before it, and it made no datagram whole.
+// Datagrams that a line dropped: they were unfinished before it, and it completed no datagram.
 function givenUp(step, before, now) {
   const left = now.pieces.map(it => it.key), gone = before.pieces.filter(it => !left.includes(it.key));
   const told = it => h("span", { class: "rule" }, `${it.key}: bytes ${bytesTold(it)} came.`);
   return has(step, "ip.reassembled") ? [] : gone.map(told);
 }
 
-// Why something was dropped: the program's cause, or otherwise what the counter counts.
+// The cause of a drop: the program's cause, or otherwise the meaning of the counter.
 const causeIn = ({ causes }, name) => (causes && causes.get(name)) || COUNTERS[name];
 
 // What is wrong with a line that did nothing, and the command that was meant.
 const faultVerdict = step => [verdict("no", h("b", {}, "The line does nothing: "),
   step.column ? `column ${step.column}, ` : "", worded(step.why), "."), mendView(step)];
 
-// The program's words, with what stands between backticks as it's written in a script.
+// The program's text, with the parts between backticks shown as script text.
 const worded = text => text.split("`").map((part, i) => (i % 2 ? h("code", {}, part) : part));
 
-// Of a wrong checksum: what came, and what would be right.
+// For a wrong checksum: the value in the packet, and the right value.
 function bothSums({ packet, wrongSum }, name) {
   const said = name.endsWith(".badsum") && packet && (wrongSum || packet.wrongSum);
   return said ? `: ${said}` : "";
@@ -125,7 +125,7 @@ function bothSums({ packet, wrongSum }, name) {
 
 const IP_HEADER = 20;
 
-// The same of a datagram that the last of these lines made whole, by its fragments; null if they overlap.
+// The same for a datagram that the last of these lines completed, from its fragments; null if they overlap.
 function wrongSumOf(steps) {
   const { packet, changed } = steps[steps.length - 1], fragments = new Map();
   if (!packet || !packet.isFragment || !has({ changed }, "udp.badsum")) return null;
@@ -144,10 +144,10 @@ function wrongSumOf(steps) {
   return sumsSaid(hex16(udpSum), hex16(rightUdpSum));
 }
 
-// The checks of a packet in their order, up to the one that failed.
+// The checks of a packet in order, up to the one that failed.
 function checksOf(step) {
   const end = step.drops.find(it => ENDS.has(it.name));
-  // a packet that was counted had its own buffers: what was lacking came later
+  // a counted packet had its own buffers, so a later buffer was lacking
   const failed = end && end.name === "nobufs" && has(step, "ip.total") ? "nobufs later" : end && end.name;
   const isOfFragments = name => name === "ip.badfrag" || name === "ip.fragdropped";
   const isReached = name => failed || !step.packet.isFragment || !name.startsWith("udp.")
@@ -201,7 +201,7 @@ function outputView(output, before) {
 const sortedPieces = ({ pieces }) => [...pieces].sort((a, b) => a.from - b.from);
 const bytesTold = it => sortedPieces(it).map(({ from, to }) => `${from} to ${to - 1}`).join(", ");
 
-// The pieces of an unfinished datagram in their order, on a scale that all of them share.
+// The pieces of an unfinished datagram in order, on one scale.
 function piecesView(datagram, most) {
   const { key, pieces, end } = datagram, whole = end || Math.max(...pieces.map(it => it.to));
   const bars = sortedPieces(datagram).map(it =>
@@ -276,7 +276,7 @@ function stackView(page, step) {
   const lead = leadOf(step, page.noteOf(step), verdictsOf(step, before, now));
   const packets = about.length > 0 && h("div", { class: "column" }, about);
   const machine = h("div", { class: "column" }, state);
-  // of a packet that was dropped the checks say most
+  // for a dropped packet, the checks are most useful
   const isDropped = step.packet && step.kind === "in" && step.drops.length > 0;
   return isDropped ? [lead, packets, machine, memory] : [lead, memory, packets, machine];
 }

@@ -1,5 +1,5 @@
 "use strict";
-// The page itself: its state, what is chosen, and what is shown.
+// The page: its state, what is selected, and what is shown.
 
 const byId = id => document.getElementById(id);
 
@@ -20,13 +20,13 @@ const page = {
   ranAfter(n) {
     return n ? this.ends[n - 1] : 0;
   },
-  // what is held after this many lines
+  // the state after this many lines
   heldAfter(n) {
     const own = this.own.slice(0, this.ranAfter(n));
     if (!this.held.has(n)) this.held.set(n, new Held(this.engine, this.config, own.map(it => it.line)));
     return this.held.get(n);
   },
-  // what is held by one of several machines after this many lines of its own
+  // the state of one of several hosts after this many of its own lines
   heldOf(host, n) {
     const key = `${host.name} ${n}`;
     if (!this.held.has(key)) this.held.set(key, new Held(this.engine, host.config, host.lines.slice(0, n)));
@@ -42,7 +42,7 @@ const page = {
     }
     return this.drawn.get(n);
   },
-  // the same as a figure has it. Of a long script numbers aren't the same ones from line to line.
+  // the same in the form of a figure. In a long script, numbers change from line to line.
   chainsAfter(n) {
     if (n > MOST_LINES) return chainState(this.drawnAfter(n), null);
     while (this.chains.length <= n) {
@@ -55,25 +55,25 @@ const page = {
   },
 };
 
-// What a script of each kind is played by, and what shows a line of it.
+// The functions that play a script of each kind, and show a line of it.
 const PLAYS = {
   run: { trace: ({ engine, text }) => tracePlay(engine, text), view: stackView },
   chain: { trace: ({ engine, config, notes }) => playChains(engine, config, notes.lines), view: chainView },
   wire: { trace: ({ engine, text }) => traceHosts(engine, text), view: wireView },
 };
 
-// ---- what is shown
+// ---- display
 
 const badgesOf = step => step.changed.map(({ host, name, by, isLost }) =>
   h("span", { class: DROPS.has(name) || isLost ? "badge drop" : "badge" }, `${host ? `${host} ` : ""}+${by} ${name}`));
 
-// Whether what was expected of a line came.
+// Whether the expected reply of a line was met.
 const markOf = step => isToldMet(step) && (step.isMet
   ? h("span", { class: "badge came" }, "✓ expected")
   : h("span", { class: "badge drop" }, "✗ expected ", step.expected));
 
-// A line of the script: its note, what it says, its reply and what was counted; or only the line, if a question about
-// it comes first.
+// A line of the script: its note, its meaning, its reply and its counters; or only the line, if a question about it
+// comes first.
 function rowOf(step, i) {
   const isAsked = Boolean(questionOf(i)), isHidden = isAsked || isBehindQuestion(i), note = page.noteOf(step);
   const change = step.pool.used - step.before.used;
@@ -92,7 +92,7 @@ function rowOf(step, i) {
     h("span", { class: "what" }, isHidden ? alone : told)));
 }
 
-// A line as it's asked about: a packet of many digits in words.
+// A line in a question: a packet of many digits is shown in words.
 const askedLine = step => (step.kind === "in" && step.packet && step.line.length > 60
   ? [h("code", {}, step.verb), " ", step.packet.tells] : h("code", {}, cut(step.line, 160)));
 
@@ -101,7 +101,7 @@ function refreshRows() {
   byId("rows").replaceChildren(...page.steps.map(rowOf), ...asksOf().map(askView));
 }
 
-// What a screen reader says of a line: its place in the script, what happened, and its note.
+// The text of a line for screen readers: its place in the script, what happened, and its note.
 function spoken(step) {
   const refusal = step.isOk ? "" : ` Refused: ${step.error || step.why || step.reply}.`;
   const drops = step.drops.map(it => ` Dropped: ${causeIn(step, it.name)}${bothSums(step, it.name)}.`).join("");
@@ -109,7 +109,7 @@ function spoken(step) {
     + `${page.noteOf(step) || ""}`;
 }
 
-// The same of a line whose reply is hidden, too.
+// The same for a line whose reply is hidden.
 function spokenOf(step, question) {
   const line = `line ${page.notes.places[page.at] + 1}: ${cut(step.line, 80)}.`;
   if (question) return `${line} A question: ${question.text}`;
@@ -117,7 +117,7 @@ function spokenOf(step, question) {
   return `${line} It is hidden until you answer the question of line ${page.notes.places[page.firstQuestion] + 1}.`;
 }
 
-// What is shown at the right.
+// The right column.
 function viewsOf(step, question) {
   if (question) return [questionView(step, page.at, question)];
   return isBehindQuestion(page.at) ? [hiddenView(step)] : PLAYS[page.mode].view(page, step).filter(Boolean);
@@ -125,7 +125,7 @@ function viewsOf(step, question) {
 
 let stopFigures = [];
 
-// Selects a line. All that is shown of it is made again.
+// Selects a line, and shows it.
 function select(i) {
   if (!page.steps.length) return;
   page.at = Math.max(0, Math.min(page.steps.length - 1, i));
@@ -143,7 +143,7 @@ function select(i) {
   byId("gutter").children[page.notes.places[page.at]].classList.add("here");
 }
 
-// Selects the next line. After the last one of an exercise are its questions: returns whether the keyboard went there.
+// Selects the next line. After the last line of an exercise are its questions: returns whether the focus moved there.
 function goOn() {
   const fields = page.at === page.steps.length - 1 ? [...byId("rows").querySelectorAll(".ask input")] : [];
   if (!fields.length) return select(page.at + 1);
@@ -151,7 +151,7 @@ function goOn() {
   return true;
 }
 
-// Marks the row of the line that is looked at, and brings it into view.
+// Marks the row of the selected line, and scrolls it into view.
 function showRow() {
   const list = byId("rows");
   list.querySelectorAll("[aria-current]").forEach(row => row.removeAttribute("aria-current"));
@@ -160,7 +160,7 @@ function showRow() {
   if (top < list.scrollTop || top + row.offsetHeight > list.scrollTop + list.clientHeight) list.scrollTop = top - 60;
 }
 
-// The tab of a script: one of many machines begins with a line `host`.
+// The tab of a script: one for several hosts begins with a line `host`.
 function showTab() {
   const isEmpty = !readNotes(page.text).lines.length;
   if (page.mode !== "chain" && !isEmpty) page.mode = hasHosts(page.text) ? "wire" : "run";
@@ -192,7 +192,7 @@ function replay(place) {
   select(place);
 }
 
-// The options next to the script; machines have theirs in it.
+// The options next to the script. Those of hosts are in the script.
 const usedOptions = () => (page.mode === "chain" ? ["mbufs", "clusters"] : []);
 const optionWords = options => Object.keys(DEFAULTS).filter(name => options[name] !== DEFAULTS[name])
   .map(name => ` --${name} ${options[name]}`).join("");
@@ -213,9 +213,9 @@ function showMachine() {
   byId("machine-says").textContent = `The pool: ${mbufs} mbufs, ${clusters} clusters`;
 }
 
-// ---- what is chosen
+// ---- selection
 
-// Opens a script: one of the page's own by its name, or a text.
+// Opens a script: one of the page's scripts by its name, or a text.
 function open(mode, { name = "", text = "", options = DEFAULTS, place = 0 }) {
   const known = scriptNamed(mode, name) || null;
   Object.assign(page, { mode, known, guesses: new Map(), drawsAll: false,
@@ -238,7 +238,7 @@ function showLeft(how) {
   for (const name of ["read", "edit"]) byId(name).setAttribute("aria-pressed", String(name === how));
 }
 
-// Your own text stays in this browser; so does an exercise that was begun, and which script was open last.
+// This browser keeps your own text, an exercise that was begun, and the name of the last open script.
 function keepText() {
   const { mode, known, options } = page, text = byId("script").value;
   keep("last", { mode, name: known ? known.name : "" });
@@ -268,7 +268,7 @@ function later() {
   }, 150);
 }
 
-// The line of the script in which the cursor stands is looked at.
+// The line of the script with the cursor is selected.
 function follow() {
   const script = byId("script"), line = script.value.slice(0, script.selectionStart).split("\n").length - 1;
   const i = page.notes.places.findIndex(place => place >= line);
@@ -277,7 +277,7 @@ function follow() {
 
 // ---- a packet made by hand
 
-// What is wrong with a field of the form, or nothing.
+// What is wrong with a field of the form, or an empty text.
 function packetFault(value) {
   const numbers = { "source-port": "the first port", "destination-port": "the second port", id: "the identification" };
   for (const [name, what] of [["source", "from"], ["destination", "to"]]) {
@@ -308,7 +308,7 @@ function putPacket() {
   putLine(line);
 }
 
-// Inserts a line after the selected one. The keyboard goes to an element of the new view, if one is named.
+// Inserts a line after the selected one. The focus moves to an element of the new view, if one is named.
 function putLine(line, focus) {
   const all = page.notes.all, isEmpty = !page.steps.length;
   const place = isEmpty ? all.length : page.notes.places[page.at] + 1;
@@ -323,7 +323,7 @@ function putLine(line, focus) {
 
 // ---- links and files
 
-// A link holds the script, what machine it is for, and the line that is looked at.
+// A link contains the script, its machine, and the selected line.
 function link() {
   const changed = usedOptions().filter(name => page.options[name] !== DEFAULTS[name])
     .map(name => [name, page.options[name]]);
@@ -347,7 +347,7 @@ function openLink() {
   else openLast();
 }
 
-// Without a link: what was open last, or the first lesson with a card that says what this is.
+// Without a link: the script that was open last, or the first lesson with a card that introduces the page.
 function openLast() {
   const last = kept("last") || {}, own = kept("own");
   showStart(!kept("last"));
@@ -382,7 +382,7 @@ function setTheme(theme) {
   byId("theme").textContent = theme === "dark" ? "Light" : "Dark";
 }
 
-// ---- the beginning
+// ---- start
 
 function listen() {
   const on = (id, event, act) => byId(id).addEventListener(event, act);
@@ -434,7 +434,7 @@ function listen() {
   addEventListener("keydown", stepByKey);
 }
 
-// Arrow keys step, but in fields, in what is scrolled by them, and in dialogs.
+// Arrow keys step, except in fields, in elements that they scroll, and in dialogs.
 function stepByKey(event) {
   if (event.altKey || event.ctrlKey || event.metaKey) return;
   if (event.target.closest("textarea, input, select, .scroller, dialog")) return;

@@ -1,7 +1,7 @@
 "use strict";
-// Packets as people read them: IP (RFC 791) and UDP (RFC 768), in frames of an Ethernet also ARP (RFC 826). What the
-// headers of a packet say, and which checksums would be right, the program reads (crates/page); here is how the fields
-// are drawn, and the headers of frames are read.
+// Displays packets: IP (RFC 791) and UDP (RFC 768), in Ethernet frames also ARP (RFC 826). The program reads the
+// headers of a packet and computes the right checksums (crates/page). This file draws the fields, and reads the headers
+// of frames.
 
 const hexOf = bytes => Array.from(bytes, byte => byte.toString(16).padStart(2, "0")).join("");
 const bytesOf = hex => new Uint8Array((hex === "-" ? [] : hex.match(/../g) || []).map(digits => parseInt(digits, 16)));
@@ -16,24 +16,24 @@ function addressIn(text) {
   return isOne ? parts.reduce((ip, part) => (ip * 256 + +part) >>> 0, 0) : null;
 }
 
-// The same, but an invalid text counts as 0.0.0.0, as for the program.
+// The same, but an invalid text counts as 0.0.0.0, as in the program.
 const undotted = text => addressIn(text) || 0;
 
-// What the headers of a packet say, by the program; its module is there once the page has begun.
+// The program's values for the headers of a packet. Its module is loaded when the page starts.
 const PROGRAM = {};
 const headerOf = bytes => PROGRAM.engine.header(bytes);
 
-// What is said of a wrong checksum.
+// The text for a wrong checksum.
 const sumsSaid = (came, right) => `${came} came, and ${right} would be right`;
 
-// Bytes as ASCII, with a dot for what can't be read.
+// Bytes as ASCII, with a dot for unprintable ones.
 function readable(bytes, most = 24) {
   const text = Array.from(bytes.subarray(0, most),
     byte => (byte >= 32 && byte < 127 ? String.fromCharCode(byte) : "·"));
   return text.join("") + (bytes.length > most ? "…" : "");
 }
 
-// The fields of a packet in their order. `kind` is for the colour, `bits` for the width in the drawing.
+// The fields of a packet in order. `kind` sets the colour, `bits` the width in the drawing.
 class Packet {
   constructor(bytes) {
     this.bytes = bytes;
@@ -69,7 +69,7 @@ class Packet {
     this.isFragment = this.hasMore || offset > 0;
   }
 
-  // A header of more than 5 words is refused before its checksum is looked at.
+  // A header of more than 5 words is refused before its checksum is checked.
   addHead() {
     const { version, words, service, ttl, sum, rightSum } = this.says, isTested = words === 5;
     const isRight = isTested && (sum === rightSum || (sum === 65535 && rightSum === 0));
@@ -101,7 +101,7 @@ class Packet {
     if (isUdp) at += 8;
     if (this.data.length) this.add(this.dataName(isUdp), at, this.data.length, "data", readable(this.data, 56), 32);
     const behind = at + this.data.length;
-    if (behind < this.length) this.add("behind the datagram", behind, this.length - behind, "behind", "", 32);
+    if (behind < this.length) this.add("after the datagram", behind, this.length - behind, "behind", "", 32);
   }
 
   // Adds the UDP header, and returns the end of the data.
@@ -123,7 +123,7 @@ class Packet {
     return `bytes ${this.offset} to ${this.offset + this.data.length - 1} of the datagram`;
   }
 
-  // In one line: who to whom, and what.
+  // A summary in one line: source, destination and contents.
   get tells() {
     if (this.isShort) return `${plural(this.length, "byte")}, no whole IP header`;
     const end = (ip, port) => dotted(ip) + (port === undefined ? "" : ":" + port);
@@ -146,8 +146,8 @@ const word32 = (bytes, at) => 65536 * word16(bytes, at) + word16(bytes, at + 2);
 const macAt = (bytes, at) => Array.from(bytes.subarray(at, at + 6), byte => hexOf([byte])).join(":");
 const macTold = mac => (mac === MAC_BROADCAST ? "all" : mac);
 
-// The fields of a frame (RFC 894) in order, and after them those of its packet or of its ARP packet (RFC 826). `arp` or
-// `packet` is what follows its header, if it's one of these.
+// The fields of a frame (RFC 894) in order, then those of its IP packet or ARP packet (RFC 826). `arp` or `packet` has
+// the bytes after its header, if it's one of these.
 class Frame {
   constructor(bytes) {
     Object.assign(this, { bytes, length: bytes.length, fields: [], isShort: bytes.length < ETHER_HEADER });
@@ -199,7 +199,7 @@ class Frame {
     }
   }
 
-  // In one line: who to whom, and what.
+  // A summary in one line: source, destination and contents.
   get tells() {
     if (this.isShort) return `${plural(this.length, "byte")}, no whole Ethernet header`;
     const who = `${this.source} → ${macTold(this.destination)}`;
@@ -215,8 +215,7 @@ class Frame {
 
 const put16 = (to, at, n) => to.set([(n >> 8) & 255, n & 255], at);
 
-// The line by which a packet arrives that is right except for a fault: by name, or by its bytes, if its fault has no
-// name.
+// The line with which a packet with one fault arrives: by name, or by its bytes if the fault has no name.
 function packetLine(engine, { source, sourcePort, destination, destinationPort, id, text, fault }) {
   const data = text ? `"${text.replace(/["\\]/g, "\\$&")}"` : "-", ends = [`${source}:${sourcePort}`];
   const names = { "ip sum": " badsum", "udp sum": " badudp" };

@@ -1,15 +1,14 @@
 "use strict";
-// Scripts of bsdplay's language (docs/scripts.md). The program plays them, and gives the reply to each line. Everything
-// else that is shown of a line is queried from it: each line becomes lines of `bsdudp run`, which are played on
-// machines of their own.
+// Scripts in bsdplay's language (docs/scripts.md). The program plays them, and returns the reply to each line. To show
+// more about a line, the page converts it to lines of `bsdudp run`, and plays these on separate machines.
 
 const DEFAULT_CONFIG = configOf(DEFAULTS);
 
 // ---- what a script has besides its lines
 
-// A comment before a line is a note on it, or otherwise the one after it. "#?" begins a question on the next line, to
-// be answered before its reply is shown; "#-" a wrong answer, and "#+" the right one. `asks` are the questions without
-// such answers, as in exercises: theirs follows "=>".
+// A comment before a line, or otherwise after it, is a note on it. "#?" begins a question about the next line, which is
+// asked before its reply is shown; "#-" is a wrong choice, and "#+" the right one. `asks` are the questions without
+// choices, in exercises: their answers follow "=>".
 function readNotes(text) {
   const all = linesOf(text), lines = [], places = [], notes = [], questions = [], asked = [];
   let note = [], question = null;
@@ -36,21 +35,21 @@ function askIn({ place, line }) {
   return { place, line, text: asked, answer: wanted };
 }
 
-// What stands outside texts, up to one of these characters.
+// The text outside quotes, up to one of these characters.
 const UP_TO = last => new RegExp(String.raw`^((?:"(?:[^"\\]|\\.)*"|[^"${last}])*)`);
 const commentOf = line => line.slice(UP_TO("#").exec(line)[1].length + 1).trim();
 
-// A line without what is expected of it and without a comment, and what is expected, as it's written there.
+// A line without its expectation and its comment, and the expectation as it's written.
 function partsOf(line) {
   const bare = UP_TO("#").exec(line)[1], asked = UP_TO("=").exec(bare)[1], wanted = bare.slice(asked.length);
   return wanted.startsWith("=>") ? { asked: asked.trim(), wanted: wanted.slice(2).trim() }
     : { asked: bare.trim(), wanted: null };
 }
 
-// Whether it's a script of many machines: its first line that isn't a comment begins with `host`.
+// Whether a script is for several hosts: its first line that isn't a comment begins with `host`.
 const hasHosts = text => /^host(\s|$)/.test(readNotes(text).lines[0] || "");
 
-// ---- bytes, by the program
+// ---- bytes, from the program
 
 // The packet that each line of a script moves, by the number of the line: the records of its capture.
 function packetsIn(engine, config, script) {
@@ -64,7 +63,7 @@ function packetsIn(engine, config, script) {
   return packets;
 }
 
-// The digits of what is to be sent: texts in an expectation are compared as digits.
+// The digits of bytes to send: texts in an expectation are compared as digits.
 function digitsOf(engine, texts) {
   const script = texts.map(text => `stat => ${text}\n`).join("");
   return engine.play(DEFAULT_CONFIG, script).objects.map(it => it.expected);
@@ -80,7 +79,7 @@ const whenOf = ticks => (ticks ? `, after ${ticks / 2} s` : "");
 
 const SEND = /^(sendto \S+ \S+ \S+|send \S+) (.+)$/;
 
-// The lines of `bsdudp run` that each line of a machine stands for: none of one that is shown, or that isn't played.
+// The lines of `bsdudp run` for each line of a host: none for a line that only shows something or isn't played.
 function runLines(engine, config, script, objects) {
   const packets = packetsIn(engine, config, script), all = objects.map(it => timedOf(it.fault ? "" : it.line));
   const sends = all.map(it => SEND.exec(it.plain)).filter(Boolean);
@@ -95,9 +94,9 @@ function runLines(engine, config, script, objects) {
   return objects.map((it, i) => [...Array(all[i].ticks).fill("tick"), ...own(it, all[i].plain)]);
 }
 
-// ---- the steps of a script of one machine
+// ---- the steps of a script for one host
 
-// The configuration after the settings in a script's head.
+// The configuration after the settings at the beginning of a script.
 function configAfter(objects) {
   const options = { ...DEFAULTS };
   for (const it of objects) {
@@ -121,7 +120,7 @@ function tracePlay(engine, text) {
   return { code, steps, own, ends, options, config };
 }
 
-// What is shown of a line: the program's reply, and what its lines of `bsdudp run` did.
+// The data shown for a line: the program's reply, and the effects of its lines of `bsdudp run`.
 function stepOf(it, text, ran, last, config) {
   const said = { line: it.line || partsOf(text).asked, ...answerOf(it), ...wantedOf(it, text) };
   const { ticks, plain } = timedOf(said.line);
@@ -138,7 +137,7 @@ function stepOf(it, text, ran, last, config) {
   return { ...own, ...said, ...all, tells: own.tells + whenOf(ticks) };
 }
 
-// The program's words for what was dropped, each with its counter.
+// The program's causes of drops, each with its counter.
 function causesOf(says, drops) {
   const told = says.split(/(?:^| )dropped /).slice(1), names = drops.filter(({ name }) => ENDS.has(name));
   return new Map(told.length === names.length ? names.map(({ name }, i) => [name, told[i]]) : []);
@@ -146,12 +145,12 @@ function causesOf(says, drops) {
 
 const counterNames = steps => [...new Set(steps.flatMap(it => it.changed).map(it => it.name))];
 
-// What the program says of a line: its reply with the lines below it, or what is wrong with it.
+// The program's output for a line: its reply with the lines below it, or its error.
 const answerOf = it => (it.fault ? { says: it.fault, reply: it.fault, below: [], column: it.column, isOk: false }
   : { says: it.reply, below: linesOf(it.below).map(lineBelow), isOk: !it.reply.startsWith("error ") });
-// What a packet became stands indented below the packet, as in what bsdplay prints.
+// The fate of a packet is indented below the packet, as in bsdplay's output.
 const lineBelow = line => line.replace(/^ {4}/, "");
-// Of a hand-in a line that is still open expects `?`.
+// In a hand-in, an open line expects `?`.
 function wantedOf(it, text) {
   const { wanted } = partsOf(text);
   return { expected: wanted === "?" ? null : wanted, isMet: it.met };

@@ -1,8 +1,8 @@
 "use strict";
-// What the page asks a machine. All that it shows of a state it has from the program: the machine is asked again with
-// more lines, on a run that is thrown away.
+// Queries to a machine. All that the page shows about a state comes from the program: the page plays the script again
+// with more lines, and discards that run.
 
-// What each counter counts, in the order of `stat`: the program's own words for it.
+// The program's description of each counter, in the order of `stat`.
 const COUNTERS = {};
 
 function askMeanings(engine) {
@@ -13,8 +13,8 @@ function askMeanings(engine) {
   }
 }
 
-// The checks of a packet that arrives, in their order, each with the counter that counts its failure: the rules of
-// `bsdplay why`, without their sources. What has buffers at first may lack them later.
+// The checks of a packet that arrives, in order, each with the counter of its failure: the rules of `bsdplay why`,
+// without their sources. A packet that gets buffers may lack more of them later.
 const CHECKS = [...CAUSES.filter(it => it.counter === "nobufs"), ...CAUSES.filter(it => it.counter !== "nobufs")]
   .map(({ counter, rule }) => [counter, rule.replace(/ \([^()]*\)$/, "")])
   .concat([["nobufs later", "the pool has buffers for its delivery"]]);
@@ -25,7 +25,7 @@ const ENDS = new Set(CHECKS.map(([name]) => name)), DROPS = new Set(DROPPED);
 const countersIn = reply =>
   Object.fromEntries(reply.split(" ").slice(1).map(word => word.split("=")).map(([k, n]) => [k, +n]));
 
-// What `mbstat` replies.
+// The reply to `mbstat`.
 function usageIn(reply) {
   const [free, mbufs, freeClusters, clusters, refs, most] = reply.match(/\d+/g).map(Number);
   return { free, mbufs, freeClusters, clusters, refs, most, used: mbufs - free, usedClusters: clusters - freeClusters };
@@ -34,7 +34,7 @@ function usageIn(reply) {
 const emptyPool = ({ mbufs, clusters }) =>
   usageIn(`mbufs ${mbufs}/${mbufs} clusters ${clusters}/${clusters} refs 0 most 0`);
 
-// The oldest datagram of a queue, by what `recvfrom` replies; or nothing.
+// The oldest datagram in a queue, from the reply to `recvfrom`; or nothing.
 function datagramIn(reply) {
   const [word, ip, port, hex] = reply.split(" ");
   return word === "from" ? { from: `${ip}:${port}`, data: bytesOf(hex) } : null;
@@ -63,12 +63,12 @@ function traceStack(engine, config, lines) {
 
 const has = (step, name) => step.changed.some(it => it.name === name);
 
-// What each kind of line says in words. `w` are its words.
+// Each kind of line in words. `w` are its words.
 const at = (ip, port) => `${ip}:${port}`;
 const portName = port => (port === "0" ? "a port that the host chooses" : `port ${port}`);
 const STACK_TELLS = {
   socket: (w, step) => ["call", step.reply.startsWith("ok") ? `descriptor ${step.reply.slice(3)}` : "a socket"],
-  bind: (w, step) => ["call", `socket ${w[1]} ${step.reply === "ok" ? "is bound to" : "asks for"} `
+  bind: (w, step) => ["call", `socket ${w[1]} ${step.reply === "ok" ? "is bound to" : "requests"} `
     + `${w[2] === "0.0.0.0" ? "any address" : w[2]}, ${portName(w[3])}`],
   connect: w => ["call", `socket ${w[1]} with ${at(w[2], w[3])}`],
   sendto: w => ["send", `socket ${w[1]} sends ${plural(bytesOf(w[4]).length, "byte")} to ${at(w[2], w[3])}`],
@@ -101,7 +101,7 @@ function tellStep(step) {
 
 function tellRead(words, reply) {
   const got = datagramIn(reply);
-  if (!got) return { kind: "read", tells: `socket ${words[1]} asks for a datagram`, ...refusalIn(reply) };
+  if (!got) return { kind: "read", tells: `socket ${words[1]} reads a datagram`, ...refusalIn(reply) };
   const tells = `socket ${words[1]} reads ${plural(got.data.length, "byte")} from ${got.from}`;
   return { kind: "read", tells, data: got.data };
 }
@@ -111,10 +111,10 @@ function refusalIn(reply) {
   return found ? { isOk: false, error: found[1], why: ERRORS[found[1]] } : {};
 }
 
-// ---- what is held
+// ---- the state
 
-// What is held after this many lines: the mbufs, by the program's state, and the bytes of what waits. The program
-// prints them on a machine that is then discarded.
+// The state after this many lines: the mbufs, from the program, and the bytes of queued packets and datagrams. The
+// program prints them in a run that is then discarded.
 class Held {
   constructor(engine, config, lines) {
     this.state = engine.state(config, lines.map(line => line + "\n").join(""));
@@ -134,7 +134,7 @@ class Held {
   }
 }
 
-// The mbufs from a first one on by their links, chain by chain.
+// The mbufs from a first one on, following their links, chain by chain.
 function chainsIn({ mbufs }) {
   const at = new Map(mbufs.map(it => [it.n, it]));
   const walk = (n, link) => {
@@ -162,7 +162,7 @@ function shownAfter(engine, config, lines, topics) {
   return objects.slice(-topics.length).map(it => linesOf(it.below).map(line => line.trim()));
 }
 
-// A socket, by the program's line of it.
+// A socket, from the program's line.
 function socketIn(text) {
   const [, fd, about] = /^socket (\d+): ([^;]*);/.exec(text), [local, ...others] = about.split(", ");
   const name = local.replace("local ", ""), peer = others.find(it => it.startsWith("peer "));
@@ -170,7 +170,7 @@ function socketIn(text) {
     options: others.filter(it => it !== peer) };
 }
 
-// The pieces that came of an unfinished datagram, by the program's line of it.
+// The pieces of an unfinished datagram that arrived, from the program's line.
 function piecesIn(text) {
   const [, id, source, destination, ticks, rest]
     = /^datagram (\d+) of udp (\S+) > (\S+): (\d+) ticks? left, \d+ bytes? held; (.*)$/.exec(text) || [];
@@ -183,7 +183,7 @@ function piecesIn(text) {
 const packetIn = reply => ({ packet: new Packet(bytesOf(reply.slice("packet ".length))) });
 const sumOf = (queue, name) => queue.reduce((n, it) => n + it[name], 0);
 
-// Sockets in whose queue more waits than before.
+// Sockets whose queue has more datagrams than before.
 function grownIn(before, now) {
   const was = fd => before.sockets.find(socket => socket.fd === fd);
   return now.sockets.filter(socket => socket.queue.length > (was(socket.fd) ? was(socket.fd).queue.length : 0));

@@ -1,16 +1,16 @@
 "use strict";
-// Scripts of many machines on one wire. The program plays them. The page finds out which mbufs of each machine have the
-// bytes by a script of its own for each: its lines, with a line `tx` for each packet that it gave to the wire, and a
-// line `rx` for each that arrived, as the program says. It's compared with the machine's counters after each line, and
-// shown if it agrees. A host on an Ethernet gives frames: what its own script gives goes to its link, where a packet
+// Scripts for several hosts on one wire. The program plays them. To show the mbufs of each host, the page plays a
+// separate script for it: the host's lines, with a line `tx` for each packet that it sent, and a line `rx` for each
+// packet that arrived according to the program. The result is compared with the host's counters after each line, and
+// shown if it agrees. A host on an Ethernet sends frames: the packets of its script go to its link, in which a packet
 // may wait for a hardware address.
 
 // The most packets of an output queue.
 const QUEUE_MOST = 50;
-// What `show link` says of a host on an Ethernet that sends.
+// The text of `show link` for a host on an Ethernet that sends.
 const CLAIMED = "uses its address";
 
-// A machine on the wire: its settings, and the lines of its own script so far.
+// A host on the wire: its settings, and the lines of its separate script so far.
 class WireHost {
   constructor(name, words) {
     const at = words.findIndex(it => it.startsWith("--"));
@@ -19,14 +19,14 @@ class WireHost {
     Object.assign(this, { name, options, config: configOf(options), lines: [], isEther });
   }
 
-  // A packet or a frame arrives. Returns the place of its line, or nothing if the stack gets none.
+  // A packet or a frame arrives. Returns the place of its line, or nothing if the stack receives no packet.
   hear(packet) {
     const own = packet instanceof Frame ? packet.packet : packet;
     return own ? this.lines.push(`rx ${hexOf(own.bytes) || "-"}`) - 1 : null;
   }
 }
 
-// ---- what is queried from the program
+// ---- queries to the program
 
 const CHANCE = /^(loss|reorder|delay) |^repeat .*[%./]/;
 const HOST_LINE = /^([A-Za-z]\w*): ?(.*)$/;
@@ -38,11 +38,11 @@ function partMoves(objects) {
   return { lines: objects.filter(({ fate }) => !fate), moves };
 }
 
-// What a machine is asked after each line; on an Ethernet two things more.
+// The queries to a host after each line, with two more for a host on an Ethernet.
 const ASKED = ["stat", "mbstat", "show neighbours", "show link"];
 const askedOf = ({ isEther }) => ASKED.slice(0, isEther ? 4 : 2);
 
-// The counters of the machines after each line: the script is played again, with lines that query them.
+// The counters of the hosts after each line: the script is played again, with lines that query them.
 function statesAfter(engine, objects) {
   const lines = [], places = [], hosts = [];
   for (const it of objects) {
@@ -61,8 +61,8 @@ function statesAfter(engine, objects) {
   return places.map(all => new Map(all.map(stateIn)));
 }
 
-// What a machine replied: its counters and its pool; on an Ethernet also its neighbours, the state of its claim to its
-// own address, and its hardware address.
+// A host's replies: its counters and its pool; on an Ethernet also its neighbours, the state of its claim to its own
+// address, and its hardware address.
 function stateOfAnswers(stat, usage, neighbours, link) {
   const state = { counters: countersIn(stat.reply), pool: usageIn(usage.reply) };
   if (!link) return state;
@@ -70,7 +70,7 @@ function stateOfAnswers(stat, usage, neighbours, link) {
   return { ...state, neighbours: linesOf(neighbours.below).map(neighbourIn), address: link.reply, mac };
 }
 
-// A neighbour, by the program's line of it: its hardware address, or the requests for it.
+// A neighbour, from the program's line: its hardware address, or the requests for it.
 function neighbourIn(text) {
   const [, ip, mac, ticks] = /^ *(\S+) is at (\S+), (\d+) ticks? left/.exec(text) || [];
   if (mac) return { ip, mac, ticks: +ticks };
@@ -86,8 +86,8 @@ class WirePlay {
     Object.assign(this, { engine, runs, frames, hosts: new Map(), joined: [], flight: [], chances: [], isWhole: true });
   }
 
-  // Plays a line, with what happened to packets by it. The step says how many lines of each machine's script came
-  // before it and after it.
+  // Plays a line, with the fates of its packets. The step has the number of lines in each host's script before it and
+  // after it.
   play(it, i, moves, states) {
     const was = this.counts();
     this.moved = [];
@@ -107,7 +107,7 @@ class WirePlay {
     return new Map([...this.hosts].map(([name, host]) => [name, host.lines.length]));
   }
 
-  // A line of the wire itself, which the program could do.
+  // A line of the wire itself that succeeded.
   act(line, moves = []) {
     const [verb, ...words] = line.split(" "), at = words.map(Number);
     if (verb === "host") this.hosts.set(words[0], new WireHost(words[0], words.slice(1)));
@@ -119,14 +119,14 @@ class WirePlay {
     else if (["drop", "repeat", "swap"].includes(verb)) this.byHand(verb, ...at);
   }
 
-  // A chance that is set takes the place of the one before. A chance of 0 removes it.
+  // A new chance replaces the one before. A chance of 0 removes it.
   chance(line) {
     const [verb, much, ...whom] = line.split(" "), what = `${verb} ${whom.join(" ")}`.trim();
     const others = this.chances.filter(it => `${it.split(" ")[0]} ${it.split(" ").slice(2).join(" ")}`.trim() !== what);
     this.chances = /^0*[.]?0*%?$|^0\/|^0-0$/.test(much) ? others : [...others, line];
   }
 
-  // All that waits in the output queue of a host on an Ethernet goes to its link, once the host uses its address.
+  // All packets in the output queue of a host on an Ethernet go to its link, when the host uses its address.
   giveToLinks() {
     const isReady = host => host.isEther && this.states.get(host.name).address === CLAIMED;
     for (const host of [...this.hosts.values()].filter(isReady)) {
@@ -136,8 +136,7 @@ class WirePlay {
     }
   }
 
-  // What the program says of packets: this many left, one was lost, arrived at a machine, or is under way after the
-  // line.
+  // The program's objects for packets: this many left, one was lost, arrived at a host, or is under way after the line.
   carry(moves) {
     const packetOf = ({ from, packet }) => {
       const bytes = bytesOf(packet);
@@ -156,7 +155,7 @@ class WirePlay {
     else if (LEFT.includes(fate)) this.moved.push({ from, packet, fate });
   }
 
-  // A packet is lost or goes twice by hand, or two change places.
+  // A line loses or repeats a packet, or exchanges two.
   byHand(verb, at, other) {
     const it = this.flight[at], flight = [...this.flight];
     if (!it) return;
@@ -167,24 +166,24 @@ class WirePlay {
   }
 }
 
-// The fates of packets that a machine gave, and of those that left the wire and came to none.
+// The fates of packets that a host sent, and of those that left the wire and reached no host.
 const GIVEN = ["sent", "sent twice", "lost", "no room"], LEFT = ["lost", "no room", "unheard"];
 
 // ---- the steps
 
-// The objects as if each line of a host were by itself.
+// The objects, as if each line of a host were separate.
 function aloneOf(objects) {
   const plainOf = it => (HOST_LINE.exec(timedOf(it.line).plain) || ["", "", "show "])[2];
   return objects.map(it => ({ ...it, line: it.fault ? "" : plainOf(it) }));
 }
 
-// The lines of the machines in a script without names in front, for the packets in it.
+// The lines of the hosts in a script without their names, for the packets in it.
 const aloneText = text => linesOf(text).map(line => {
   const [, plain] = /^\s*(?:\+\S+\s+)?\w+:\s*(rx .*)$/.exec(line) || [];
   return (plain || "") + "\n";
 }).join("");
 
-// The frames that come by hand, by the numbers of their lines.
+// The frames that lines contain, by the numbers of their lines.
 function framesIn(engine, alone) {
   const all = alone.filter(it => it.line.startsWith("frame "));
   const digits = digitsOf(engine, all.map(it => it.line.slice("frame ".length)));
@@ -202,11 +201,11 @@ function traceHosts(engine, text) {
   return { code, steps, hosts: wire.hosts };
 }
 
-// A machine as the program says that it is after a step.
+// A host's state after a step, according to the program.
 const stateOf = (step, name, hosts) =>
   (step && step.states.get(name)) || { pool: emptyPool(hosts.get(name).config), counters: {} };
 
-// Whether a machine's own script says the same as the program, so that its bytes are known.
+// Whether a host's separate script agrees with the program, so that its bytes are known.
 function isFollowed(step, host) {
   if (!step.isWhole) return false;
   const n = step.now.get(host.name), own = n ? host.steps[n - 1] : { counters: {}, pool: emptyPool(host.config) };
@@ -240,7 +239,7 @@ function hostStep(it, i, text, played, hosts) {
     tells: alone.tells + whenOf(ticks) };
 }
 
-// What changed at the machines by a step, each counter with its machine.
+// The counters that a step changed, each with its host.
 function changesOf(step, before, hosts) {
   return [...step.states.keys()].flatMap(name => {
     const { counters } = stateOf(step, name, hosts), old = stateOf(before, name, hosts).counters;

@@ -1,7 +1,7 @@
 "use strict";
-// The right column of a script of several machines: the wire, the machines side by side, and the packets.
+// The right column for a script of several hosts: the wire, the hosts side by side, and the packets.
 
-// What happened to a packet that left the wire: how it's marked, and in words.
+// The fate of a packet that left the wire: its mark, and its text.
 function fateOf({ fate, to, place, cause, packet }, hosts, step) {
   if (fate === "dropped") return ["no", "This line drops it."];
   if (fate === "unheard") return ["no", "No other host on the wire has this address."];
@@ -15,7 +15,7 @@ function fateOf({ fate, to, place, cause, packet }, hosts, step) {
   return ["yes", `${to} accepts it.`];
 }
 
-// How many packets of a step are shown in words, and how many as they're drawn.
+// How many packets of a step are shown in words, and how many are drawn.
 const SHOWN = { told: 12, drawn: 2 };
 
 function movedView(step, hosts) {
@@ -39,7 +39,7 @@ function flightView({ flight }) {
       flight.slice(0, SHOWN.told).map(tell), more > 0 && h("li", { class: "faint" }, `and ${more} more`))];
 }
 
-// The wire with a box for each machine on it, and what it does by chance.
+// The wire with a box for each host, and its random faults.
 function segmentView({ joined, chances }) {
   if (!joined.length) return h("p", { class: "faint" }, "No wire joins the hosts yet.");
   const box = host => h("li", {}, h("b", {}, host.name), h("small", {}, host.options.addr));
@@ -62,7 +62,7 @@ const wireOf = (step, hosts) => h("section", { class: "panel wire" },
   h("div", { class: "head-of" }, h("h3", {}, "The wire after this line"), putButtons(step.wire)),
   segmentView(step.wire), step.moved.length > 0 && movedView(step, hosts), flightView(step.wire));
 
-// What is held by a machine before the step and after it.
+// The state of a host before the step and after it.
 const heldAround = (page, step, host) =>
   [step.was.get(host.name) || 0, step.now.get(host.name)].map(n => page.heldOf(host, n));
 
@@ -83,7 +83,7 @@ function hostView(page, step, host) {
     countersView({ counters, changed }, `Counters of ${host.name}`));
 }
 
-// The packets of a step as RFC 791 draws them: what came, was sent or passed the wire; at most two.
+// The packets of a step as RFC 791 draws them: those that arrived, were sent or passed the wire, at most two.
 function packetsOf(page, step, hosts) {
   if (step.host) {
     if (step.frame) return frameOfLine(step);

@@ -1,10 +1,9 @@
 #!/usr/bin/env python3
-"""Plays each example and each lesson in the page itself, in headless
-Chromium, and looks at its lines. The page's replies have to be those that are wanted. Its console has to be silent, and
-it may ask the network for nothing. What takes input has to be reached by the keyboard alone. Nothing may overlap or be
-cut off at widths of 360, 640, 768 and 1,600 pixels, and each text has to have a contrast of 4.5 at least, in light and
-in dark. All that takes input has a name in the accessibility tree. Screenshots are kept in the folder SHOTS. It's
-silent where all is well."""
+"""Plays each example and each lesson in the page, in headless Chromium, and tests its lines. The page's replies must be
+the expected ones. Its console must stay empty, and it may not use the network. The keyboard must reach all elements
+that take input. Nothing may overlap or be cut off at widths of 360, 640, 768 and 1,600 pixels, and each text must have
+a contrast of at least 4.5, in light and in dark. All elements that take input have a name in the accessibility tree.
+Screenshots are kept in the folder SHOTS. If all tests pass, it prints nothing."""
 import base64
 import json
 import os
@@ -25,14 +24,14 @@ UNTIL_READY = """new Promise(done => {
     look();
 })"""
 WIDTHS = {360: 800, 640: 450, 768: 1024, 1600: 1000}
-# Colours don't depend on the width, so the dark ones are looked at in these.
+# Colours don't depend on the width, so the dark ones are tested only at these widths.
 DARK = [360, 1600]
-# The width that a window of 1,280 pixels has at 200 %.
+# The width of a window of 1,280 pixels at a zoom of 200 %.
 DOUBLE = 640
-# the pictures that are kept; the others are only looked at
+# The screenshots that are kept.
 SHOT = [("light", 1600), ("dark", 1600), ("light", 360)]
 NAMES = ["chromium", "chromium-browser", "google-chrome"]
-# Seconds after which Chromium is taken for one that doesn't start, and after which it hangs.
+# The time limits in seconds for the start of Chromium, and for its replies.
 START, END = 120, 1200
 
 
@@ -41,7 +40,7 @@ def give_up(_number, _frame):
 
 
 class Browser:
-    """Chromium, asked through two pipes: a message is JSON and ends in a zero byte."""
+    """Chromium, controlled through two pipes. A message is JSON and ends with a zero byte."""
 
     def __init__(self, home):
         program = next(filter(None, map(shutil.which, NAMES)))
@@ -54,7 +53,7 @@ class Browser:
             os.dup2(read, 3)
             os.dup2(write, 4)
 
-        # the numbers 3 and 4 are Chromium's own
+        # Chromium reserves the descriptors 3 and 4
         high = [os.dup(it) for it in (read, write)] if min(read, write) < 5 else [read, write]
         read, write = high
         quiet = {"stdout": subprocess.DEVNULL, "stderr": subprocess.DEVNULL}
@@ -94,7 +93,7 @@ class Browser:
         return json.loads(message)
 
     def run(self, code):
-        """What a piece of JavaScript answers in the page."""
+        """Returns the result of a piece of JavaScript in the page."""
         got = self.ask("Runtime.evaluate", expression=code, awaitPromise=True, returnByValue=True)
         if "exceptionDetails" in got:
             fault = got["exceptionDetails"]
@@ -110,7 +109,7 @@ class Browser:
         file.write_bytes(base64.b64decode(self.ask("Page.captureScreenshot", format="png")["data"]))
 
     def complaints(self):
-        """What came to the console, what was thrown, and what was asked of the network."""
+        """Returns the console's messages, the exceptions, and the network requests."""
         for event in self.events:
             what, about = event.get("method"), event.get("params", {})
             if what == "Runtime.exceptionThrown":
@@ -132,7 +131,7 @@ OTHERS = ["borders.txt", "bytes.txt", "other_line_ends.txt", "played_in.txt"]
 
 
 def scripts(examples, lessons):
-    """Each script with its tab, and the replies that are wanted if they stand beside it; else it says them itself."""
+    """Yields each script with its tab, and its replies if a file has them. Otherwise the script has expectations."""
     for it in sorted((examples / "chain").glob("*.txt")):
         yield "chain", it, pathlib.Path(f"{it}.stdout").read_text()
     play = examples / "play"
@@ -150,14 +149,14 @@ def words_of(script):
 
 
 def play_all(browser, examples, lessons):
-    """Plays all scripts in the page, and looks at their lines."""
+    """Plays all scripts in the page, and tests their lines."""
     for command, script, wanted in scripts(examples, lessons):
         asked = [command, script.read_text(), words_of(script), wanted, lessons in script.parents]
         for fault in browser.run(f"playInPage(...{json.dumps(asked)})"):
             yield f"{script}: {fault}"
 
 
-# What stands in the pictures: a lesson, and the line that is looked at.
+# The contents of the screenshots: a lesson, and the selected line.
 VIEWS = [
     ("run", "05_fragments_and_a_hole", 8),
     ("chain", "03_sharing_without_copying", 6),
@@ -181,7 +180,7 @@ NAMED = {"button", "checkbox", "combobox", "image", "link", "radio", "searchbox"
 
 
 def unnamed(browser, what):
-    """Whatever in the accessibility tree is to be named has a name there."""
+    """Each element in the accessibility tree that needs a name has one."""
     for node in browser.ask("Accessibility.getFullAXTree")["nodes"]:
         role, name = (node.get(it, {}).get("value", "") for it in ("role", "name"))
         if not node.get("ignored") and role in NAMED and not name.strip():
@@ -189,14 +188,14 @@ def unnamed(browser, what):
 
 
 def printed(browser, what):
-    """What is printed of a line."""
+    """Returns the text in print of a line."""
     browser.ask("Emulation.setEmulatedMedia", media="print")
     for fault in browser.run("faultsOfPrint()"):
         yield f"{what}: {fault}"
     browser.ask("Emulation.setEmulatedMedia", media="")
 
 
-# Other views: what brings them about.
+# Other views, and the code that opens them.
 BESIDE = {
     "start": "open('run', { name: '01_a_datagram' }); showStart(true)",
     "question": "showStart(false); open('run', { name: '01_a_datagram', place: 2 })",
@@ -210,8 +209,8 @@ BESIDE = {
 
 
 def look(browser, shots, name, picture=None):
-    """The faults of what the page shows, in both themes and at each width. `picture` selects what is below on a narrow
-    one."""
+    """Returns the faults of the present view, in both themes and at each width. `picture` selects the part that is
+    below the others on a narrow page."""
     yield from unnamed(browser, name)
     for theme in ("light", "dark"):
         browser.run(f"setTheme('{theme}')")
@@ -227,7 +226,8 @@ def look(browser, shots, name, picture=None):
 
 
 def look_beside(browser, shots):
-    """The card at the beginning, a question, the editor, an exercise with its questions, the forms, and all queues."""
+    """Tests the card at the beginning, a question, the editor, an exercise with its questions, the forms, and all
+    queues."""
     for name, code in BESIDE.items():
         browser.run(code)
         yield from look(browser, shots, name)
@@ -235,7 +235,7 @@ def look_beside(browser, shots):
 
 
 def look_all(browser, shots):
-    """Looks at the page's layout and colours at each width."""
+    """Tests the page's layout and colours at each width."""
     for command, name, line in VIEWS:
         browser.run(f"open({json.dumps(command)}, {{ name: {json.dumps(name)}, place: {line} }}); revealAll()")
         yield from printed(browser, name)
@@ -260,7 +260,7 @@ KEYS = {"Tab": 9, "Enter": 13, "Escape": 27}
 
 
 def press(browser, key):
-    """Presses a key as a hand does."""
+    """Presses a key as a user does."""
     about = {"key": key, "code": key, "windowsVirtualKeyCode": KEYS[key]}
     text = {"text": "\r"} if key == "Enter" else {}
     browser.ask("Input.dispatchKeyEvent", type="keyDown", **about, **text)
@@ -268,7 +268,7 @@ def press(browser, key):
 
 
 def tab_through(browser, what):
-    """By Tab alone all that takes input is reached, and each is marked when it is."""
+    """The Tab key reaches all elements that take input, and the one with the focus is marked."""
     for _ in range(browser.run("startTabs()") + 3):
         press(browser, "Tab")
         for fault in browser.run("noteFocus()"):
@@ -278,7 +278,7 @@ def tab_through(browser, what):
 
 
 def try_keys(browser):
-    """Everything by keyboard alone; dialogs are opened by Enter and closed by Escape."""
+    """Tests the page with only the keyboard. Enter opens dialogs, and Escape closes them."""
     browser.resize(1600)
     on_wire = ("wire", "13_a_request_and_its_answer", 9)
     for command, name, line in (("run", "01_a_datagram", 0), ("chain", "04_headers_in_front", 0), on_wire):

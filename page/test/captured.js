@@ -1,6 +1,6 @@
-// node page/test/captured.js MODULE.wasm CAPTURE..: prints what the page makes of each capture, a JSON object in a
-// line: `fault`, or the script's `text` and its `steps`, each with its line, its reply, the lines below that, the
-// counters that rose, and the cause of a drop.
+// node page/test/captured.js MODULE.wasm CAPTURE..: prints the page's result for each capture, one JSON object on each
+// line: `fault`, or the script's `text` and its `steps`, each with its line, its reply, the lines below it, the
+// counters that increased, and the cause of a drop.
 "use strict";
 const fs = require("fs");
 const { load } = require("./sources.js");

@@ -1,10 +1,10 @@
-// What browser.py calls in the page.
+// The functions that browser.py calls in the page.
 "use strict";
 
-// How many lines of an example are looked at, if it has more: the last one, and others at equal distances.
+// The most lines of an example that are tested: the last one, and others at equal distances.
 const LOOKS = 12;
 
-// Plays a script in the page and looks at its lines: at each of a lesson, and of an example that isn't too long.
+// Plays a script in the page and tests its lines: all lines of a lesson, and of an example that isn't too long.
 function playInPage(mode, text, words, wanted, isLesson) {
   const faults = [];
   open(mode, { text, options: optionsOf(words) });
@@ -35,8 +35,8 @@ function revealAll() {
 
 const mbufsOwned = ({ owned }) => Object.values(owned).reduce((n, it) => n + it.mbufs, 0);
 
-// The buffers of all owners are those that aren't free, where the bytes lie is drawn, and of each datagram and packet that
-// waits they are as many as the program says.
+// The owners' buffers are those that aren't free, the places of the bytes are drawn, and each datagram and packet has
+// the number of buffers that the program says.
 function faultsOfOwners(i) {
   const step = page.steps[i], held = page.heldAfter(step.number), { state } = held, faults = [];
   if (mbufsOwned(held) !== step.pool.used) {
@@ -49,7 +49,7 @@ function faultsOfOwners(i) {
   return isSame ? faults : [...faults, `line ${i + 1}: ${drawn} bytes are drawn in sockets, and ${waits} wait; or packets`];
 }
 
-// The same of each machine on a wire; and each has a place in the view.
+// The same for each host on a wire, and each has a place in the view.
 function faultsOfHosts(i) {
   const step = page.steps[i], names = [...step.now.keys()];
   const shown = document.querySelectorAll(".hosts > .column").length;
@@ -62,7 +62,7 @@ function faultsOfHosts(i) {
   return faults;
 }
 
-// What is drawn of each chain are the mbufs that it shows, with the counts of their clusters.
+// The drawing of each chain has the mbufs that it shows, with the reference counts of their clusters.
 function faultsOfDrawing(i) {
   const step = page.steps[i], chains = page.drawnAfter(step.number), clusters = clustersIn(chains);
   const shapeOf = it => [it.isCluster, it.bytes.length, it.isCluster ? clusters.get(it.cluster).length : undefined];
@@ -88,8 +88,7 @@ const isSeen = it => {
 const nameOf = it =>
   `${it.tagName.toLowerCase()}${it.id ? "#" + it.id : it.classList.length ? "." + it.classList[0] : ""}`;
 
-// The boxes of an element, of each of its lines if it flows in a text, without what is cut off by what it's scrolled
-// in.
+// The boxes of an element, of each of its lines if it's inline, without the parts that a scrolled parent cuts off.
 function seenBoxes(it) {
   const cuts = [];
   for (let box = it.parentElement; box; box = box.parentElement) {
@@ -106,7 +105,7 @@ function seenBoxes(it) {
 const doOverlap = (a, b) => Math.min(a.right, b.right) - Math.max(a.left, b.left) > 1
   && Math.min(a.bottom, b.bottom) - Math.max(a.top, b.top) > 1;
 
-// Elements with text of their own or that take input, of which none may lie over another.
+// Elements with text of their own, or that take input. None may cover another.
 function solid() {
   const within = document.querySelector("dialog[open]") || document.body;
   const hasText = it => [...it.childNodes].some(node => node.nodeType === 3 && node.data.trim());
@@ -131,7 +130,7 @@ function faultsOfOverlap() {
   return [...faults].slice(0, 8);
 }
 
-// The texts of a drawn mbuf or cluster stand in its box, and none lies over another.
+// The texts of a drawn mbuf or cluster are inside its box, and none covers another.
 function faultsOfPicture() {
   const faults = new Set();
   for (const group of document.querySelectorAll(".mbuf-figure g[role=img]")) {
@@ -150,7 +149,7 @@ function faultsOfPicture() {
   return [...faults].slice(0, 8);
 }
 
-// No text is cut off at its side, but where it's marked by dots or can be scrolled to.
+// No text is cut off at its side, unless dots mark that or it can be scrolled.
 function faultsOfWidth() {
   const faults = [], wide = document.documentElement.scrollWidth;
   if (wide > innerWidth + 1) faults.push(`the page is ${wide} pixels wide`);
@@ -169,7 +168,7 @@ const light = ([r, g, b]) => [r, g, b].map(it => it / 255)
   .map(it => (it <= 0.03928 ? it / 12.92 : ((it + 0.055) / 1.055) ** 2.4))
   .reduce((sum, it, i) => sum + it * [0.2126, 0.7152, 0.0722][i], 0);
 
-// What is behind an element: the first colour that isn't clear.
+// The background of an element: the first colour that isn't transparent.
 function behind(it) {
   for (let box = it; box; box = box.parentElement) {
     const [r, g, b, alpha = 1] = channels(getComputedStyle(box).backgroundColor);
@@ -178,8 +177,7 @@ function behind(it) {
   return [255, 255, 255];
 }
 
-// WCAG 2.1, 1.4.3. In drawings the text stands on the paper's colour or a shape's; those of shapes are named in
-// style.css.
+// WCAG 2.1, 1.4.3. In drawings the text is on the paper's colour or on a shape's. style.css names those of shapes.
 function faultsOfContrast() {
   const faults = [];
   for (const it of solid().filter(it => !it.matches("svg, .bar"))) {
@@ -196,7 +194,7 @@ function faultsOfContrast() {
   return [...new Set(faults), ...faultsOfBorders()].slice(0, 8);
 }
 
-// What is behind a text of a figure: the last shape drawn there before it. A text on a pattern has an edge of its own.
+// The background of a text in a figure: the last shape drawn there before it. A text on a pattern has its own outline.
 function underText(text) {
   const box = text.getBoundingClientRect(), x = box.left + box.width / 2, y = box.top + box.height / 2;
   if (text.matches(".free, .unused")) return channels(getComputedStyle(text).stroke);
@@ -207,7 +205,7 @@ function underText(text) {
   return shapes.length ? shapes[shapes.length - 1] : behind(text.ownerSVGElement.parentElement);
 }
 
-// WCAG 2.1, 1.4.11: where a field is, is seen by its border.
+// WCAG 2.1, 1.4.11: the border of a field is visible.
 function faultsOfBorders() {
   const contrastOf = it => {
     const [a, b] = [light(channels(getComputedStyle(it).borderTopColor)), light(behind(it.parentElement))];
@@ -217,7 +215,7 @@ function faultsOfBorders() {
     .map(it => `the border of ${nameOf(it)} has a contrast of ${contrastOf(it).toFixed(1)}`);
 }
 
-// In print the line that was looked at stands alone, and keeps the colours of its legends.
+// In print only the selected line is shown, with the colours of its legends.
 function faultsOfPrint() {
   const isShown = it => it !== null && getComputedStyle(it).display !== "none";
   const left = ["header", "#left", ".bar-of", "button.all"].filter(name => isShown(document.querySelector(name)));
@@ -228,7 +226,7 @@ function faultsOfPrint() {
     ...(marks.some(isLost) ? ["a legend loses its colours in print"] : [])];
 }
 
-// Whatever takes input has a name that a screen reader tells.
+// Each element that takes input has a name for screen readers.
 function faultsOfNames() {
   const within = document.querySelector("dialog[open]") || document.body;
   const isNamed = it => it.getAttribute("aria-label") || it.textContent.trim() || it.closest("label")
@@ -241,11 +239,11 @@ const faultsOfLayout = () =>
   [faultsOfOverlap, faultsOfPicture, faultsOfWidth, faultsOfContrast, faultsOfNames, faultsOfHidden]
     .flatMap(look => look());
 
-// What is hidden isn't seen, whatever the style says of its kind.
+// Hidden elements are invisible, whatever their style.
 const faultsOfHidden = () => [...document.querySelectorAll("[hidden]")].filter(it => it.getClientRects().length)
   .map(it => `${nameOf(it)} is hidden, and seen`);
 
-// Arrow keys step, but in the script's own field; a link brings a script back; a packet that is made is put in.
+// Arrow keys step, except in the script's field. A link restores a script. A packet made in the form is inserted.
 function faultsOfKeys() {
   const faults = [],
     press = (it, key) => it.dispatchEvent(new KeyboardEvent("keydown", { key, bubbles: true, cancelable: true }));
@@ -268,7 +266,7 @@ function faultsOfKeys() {
     ...faultsOfExercises()];
 }
 
-// What is no address or no port is refused with the reason, and nothing is put in.
+// An invalid address or port is refused with the reason, and nothing is inserted.
 function faultsOfMaking() {
   const faults = [];
   for (const [field, value, right] of [["source", "300.1.1.1", "10.0.0.2"], ["destination-port", "99999", "7"],
@@ -286,7 +284,7 @@ function faultsOfMaking() {
   return faults;
 }
 
-// The lessons follow one another over all tabs; a question hides the reply; your own text comes back.
+// The lessons follow one another across all tabs. A question hides the reply. Your own text is restored.
 function faultsOfGuide() {
   const faults = [], names = [];
   openNamed(LISTS.lessons[0]);
@@ -321,7 +319,7 @@ function faultsOfGuide() {
   return faults;
 }
 
-// Until it's answered, a question's reply, note and state can't be seen; a wrong guess is told with the right one.
+// Before a guess, a question's reply, note and state are hidden. After a wrong guess, the right one is shown.
 function faultsOfQuestions({ mode, name, title }) {
   open(mode, { name });
   const i = page.firstQuestion;
@@ -338,7 +336,7 @@ function faultsOfQuestions({ mode, name, title }) {
     ...(isTold ? [] : [`${title}: a wrong guess isn't told`])];
 }
 
-// Writes an answer into the field of a question, and presses its button. Answers what is said of it.
+// Writes an answer into the field of a question, and presses its button. Returns the page's message.
 function askedFor(k, answer) {
   const form = byId(`ask-${k}`).form;
   byId(`ask-${k}`).value = answer;
@@ -347,8 +345,8 @@ function askedFor(k, answer) {
   return said ? said.textContent : "";
 }
 
-// Each question of an exercise is asked once, a wrong answer is told, and the right one taken, to be handed in. With
-// all of them the exercise passes.
+// Each question of an exercise is asked once, a wrong guess is rejected, and the right one is accepted and written to
+// the hand-in. With all of them the exercise passes.
 function faultsOfAsks({ title, text }) {
   const wanted = readNotes(text).asks, faults = [], say = what => faults.push(`exercise ${title}: ${what}`);
   const fields = byId("rows").querySelectorAll(".ask input");
@@ -368,7 +366,7 @@ function faultsOfAsks({ title, text }) {
   return faults;
 }
 
-// An exercise has no reply until it's predicted; the right ones are found right, and a wrong one is told.
+// An exercise shows no reply before it's predicted. Right predictions are accepted, and a wrong one is rejected.
 function faultsOfExercises() {
   const faults = [];
   for (const { mode, name, title, text } of LISTS.exercises) {
@@ -395,8 +393,8 @@ function faultsOfExercises() {
   return faults;
 }
 
-// The forms are those of the help, and can be reached from the card and from a wrong line; of that it's said what was
-// meant, and a press of a button mends it.
+// The forms are those of the help, and are linked from the card and from a wrong line. For a wrong line the page
+// suggests a command, and a button corrects it.
 function faultsOfForms() {
   const faults = [], forms = [...byId("forms-of").querySelectorAll("li")].map(it => it.textContent);
   if (!forms.includes("bind FD ADDR PORT") || !forms.includes("carry [all] [N]") || forms.length < 35) {
@@ -419,7 +417,7 @@ function faultsOfForms() {
   return faults;
 }
 
-// A capture that's dropped on the page is played; what is none is refused.
+// A capture that's dropped on the page is played. Another file is refused.
 async function faultsOfCapture(hex) {
   const file = (bytes, name) => new File([bytes], name), faults = [];
   await openFile(file(bytesOf(hex), "a.pcap"));
@@ -454,7 +452,7 @@ async function faultsOfCapture(hex) {
   return faults;
 }
 
-// The buttons of a wire put a line behind the one that is looked at, and the keyboard stays at them.
+// The buttons of a wire insert a line after the selected one, and keep the focus.
 function faultsOfWire() {
   const faults = [];
   open("wire", { name: "13_a_request_and_its_answer", place: 6 });
@@ -476,7 +474,7 @@ function faultsOfWire() {
   return faults;
 }
 
-// What is saved is the script, under its name, and opened again it's the same script. No file is written.
+// The script is saved under its name, and opening it again gives the same script. No file is written.
 async function faultsOfSaving() {
   const { createObjectURL } = URL, { click } = HTMLAnchorElement.prototype, saved = {};
   URL.createObjectURL = it => createObjectURL.call(URL, (saved.file = it));
@@ -493,9 +491,9 @@ async function faultsOfSaving() {
   return isSame && isNamed ? [] : ["a script that was saved isn't opened again"];
 }
 
-// ---- by keyboard alone
+// ---- by keyboard only
 
-// What takes input in what is open, and what of it the Tab key has reached.
+// The elements that take input, and those that the Tab key has reached.
 const takers = () => [...(document.querySelector("dialog[open]") || document.body)
   .querySelectorAll("button, input, select, textarea, [tabindex]")]
   .filter(it => isSeen(it) || (it.matches("#load") && !document.querySelector("dialog[open]")));
@@ -507,7 +505,7 @@ function startTabs() {
   return takers().length;
 }
 
-// Whoever has the keyboard is marked by an outline.
+// The element with the focus has an outline.
 function noteFocus() {
   const it = document.activeElement, marked = it.matches("#load") ? it.parentElement : it;
   reached.add(it);

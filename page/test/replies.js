@@ -1,9 +1,9 @@
-// node page/test/replies.js MODULE.wasm EXAMPLES LESSONS [PROGRAM [PLAYER]]: plays each example and each lesson by the
-// module. The replies of an example have to be those beside it, byte for byte; of a script for people all that it
-// expects has to come, and what bsdplay prints of it has to be the same, if it's named as PLAYER. If the native program
-// is named, random scripts are played by both, and have to be answered alike. Drawings of chains are compared with those
-// worked by hand, and with the module's own replies. What a machine on a wire is said to have in hand has to agree with
-// the program after each line. It's silent where all is well.
+// node page/test/replies.js MODULE.wasm EXAMPLES LESSONS [PROGRAM [PLAYER]]: plays each example and each lesson with
+// the module. The replies of an example must equal its golden file, byte for byte. A play script must meet all its
+// expectations, and bsdplay, if it's named as PLAYER, must print the same. If the native program is named, both play
+// random scripts, and their replies must be equal. Drawings of chains are compared with those worked out by hand, and
+// with the module's replies. The state that the page shows for a host on a wire must agree with the program after each
+// line. It prints nothing if all tests pass.
 "use strict";
 const child = require("child_process"), fs = require("fs"), os = require("os"), path = require("path");
 const { load } = require("./sources.js");
@@ -36,13 +36,13 @@ function tryExample(engine, command, script) {
     `the page's module has other replies than ${script}.stdout`);
 }
 
-// The steps of a script, as its tab plays it.
+// The steps of a script, played as in its tab.
 function stepsOf(engine, command, script, text) {
   if (command === "chain") return page.playChains(engine, configOf(script), page.readNotes(text).lines);
   return page.hasHosts(text) ? page.traceHosts(engine, text) : page.tracePlay(engine, text);
 }
 
-// Plays a script for people: all that it expects comes, and each of its lines does something.
+// Plays a play script: all expectations are met, and each line does something.
 function tryScript(engine, command, script) {
   const text = fs.readFileSync(script, "utf8"), notes = page.readNotes(text);
   const played = stepsOf(engine, command, script, text), { code, steps } = played;
@@ -74,7 +74,7 @@ function tryLesson(engine, command, script) {
   }
 }
 
-// bsdplay prints the same objects of a script.
+// bsdplay prints the same objects for a script.
 function tryPlayer(engine, script, text) {
   if (!player) return;
   const { stdout } = child.spawnSync(player, ["--json"], { input: text, maxBuffer: 1 << 28 });
@@ -84,15 +84,15 @@ function tryPlayer(engine, script, text) {
   if (own(latin(call.objects)) !== own(printed)) fault(script, "bsdplay prints other objects of it");
 }
 
-// Objects whose texts have a byte in each character, as bsdplay prints them.
+// Objects whose texts have one byte in each character, as bsdplay prints them.
 const latin = all => all.map(it => Object.fromEntries(Object.entries(it).map(([name, value]) =>
   [name, typeof value === "string" ? Buffer.from(value).toString("latin1") : value])));
 
-// What a line is answered is what its line of `bsdudp run` is answered, but for the cause of a drop.
+// The reply to a line is that to its line of `bsdudp run`, except for the cause of a drop.
 function tryOwn(script, { steps, own, ends }) {
   steps.forEach((step, i) => {
     const ran = own.slice(i ? ends[i - 1] : 0, ends[i]);
-    if (ran.length !== 1 || step.line.startsWith("+")) return; // behind a time, one line alone is its tick
+    if (ran.length !== 1 || step.line.startsWith("+")) return; // after a time, one line alone is its tick
     const [{ reply }] = ran, drops = step.says.indexOf("dropped ");
     const said = drops < 0 ? step.says : step.says.slice(0, drops).trim() || "ok";
     if (said !== reply) fault(`${script}, line ${i + 1}`, `it's answered ${step.says}, and alone ${reply}`);
@@ -104,8 +104,8 @@ function tryOwn(script, { steps, own, ends }) {
 // Scripts that name a file, and those that have wrong lines.
 const OTHERS = ["played_in.txt", "borders.txt", "bytes.txt", "other_line_ends.txt"];
 
-// The marks of a key beside itself, and of the exercise that is handed out: counted by hand in their texts. Those of
-// hand-ins in which lines are changed, lost and added are those of `bsdplay --grade`.
+// The marks of a key compared with itself, and of the exercise that is handed out: counted by hand in their texts.
+// Those of hand-ins with changed, missing and added lines are those of `bsdplay --grade`.
 function tryMarks(engine, script) {
   const key = fs.readFileSync(script, "utf8"), all = page.linesOf(key);
   const isAnswered = line => /^[^#].*=>|^#\?.*=>/.test(line);
@@ -139,14 +139,14 @@ function tryGraded(script, hand, said) {
 
 // ---- headers
 
-// The checksum of words (RFC 1071) as what is missing to a multiple of 65,535. A sum of nothing is 0.
+// The checksum of words (RFC 1071), computed as the difference to a multiple of 65,535. An empty sum is 0.
 function sumOver(bytes) {
   const all = bytes.length % 2 ? [...bytes, 0] : [...bytes];
   const total = all.reduce((n, byte, i) => n + (i % 2 ? byte : 256 * byte), 0);
   return total ? (65535 - (total % 65535)) % 65535 : 65535;
 }
 
-// What the headers of a packet say, worked out anew.
+// The values in the headers of a packet, computed independently.
 function headerBy(bytes) {
   const at = i => bytes[i], word = i => 256 * at(i) + at(i + 1), long = i => 65536 * word(i) + word(i + 2);
   const names = ["parts", "version", "words", "service", "total", "id", "flags", "offset", "ttl", "protocol", "sum",
@@ -185,8 +185,8 @@ function tryHeaders(engine) {
 
 // ---- frames
 
-// Frames, with their fields as RFC 826 and RFC 894 lay them out: the place, the name, and the value; a cross is for one
-// that no Ethernet has.
+// Frames, with their fields in the layout of RFC 826 and RFC 894: the offset, the name, and the value; a cross marks
+// one that no Ethernet has.
 const ETHER = ["0 Ethernet destination: all", "6 Ethernet source: 02:00:00:00:00:01", "12 type: 0x0806 ARP"];
 const ARP = ["14 hardware type: 1 Ethernet", "16 protocol type: 0x0800", "18 hardware length: 6",
   "19 protocol length: 4"];
@@ -229,7 +229,7 @@ function tryFrames() {
   }
 }
 
-// Each byte of a frame is of a field, and each field has its bytes.
+// Each byte of a frame belongs to a field, and each field has its bytes.
 function tryWhole(bytes) {
   const { fields } = new page.Frame(bytes);
   const isOfNone = at => !fields.some(it => at >= it.at && at < it.at + it.size);
@@ -237,7 +237,7 @@ function tryWhole(bytes) {
   if (fields.some(it => it.at + it.size > bytes.length)) fault(`the frame ${page.hexOf(bytes)}`, "a field isn't there");
 }
 
-// Each exercise, with all that is expected in it, comes as it's expected; and each other reply is found out.
+// In each exercise with all expectations filled in, all are met, and each other reply is detected.
 function tryExercise(engine, script) {
   const { steps } = tryScript(engine, "run", script), all = page.linesOf(fs.readFileSync(script, "utf8"));
   const isOpen = step => step.expected === null && !step.line.startsWith("--");
@@ -249,11 +249,11 @@ function tryExercise(engine, script) {
   }
 }
 
-// ---- where the bytes lie
+// ---- the places of the bytes
 
-// The mbufs after a script, as they were read out of the native program's memory by a build of it that prints them: packet header,
-// place, length, and the cluster by its count; a "/" stands between the chains of a queue, and the queues are the
-// sockets', the output queue, and those of unfinished datagrams.
+// The mbufs after a script, printed from memory by a special build of the native program: packet header, offset,
+// length, and the reference count of the cluster. A "/" separates the chains of a queue. The queues are those of the
+// sockets, the output queue, and those of unfinished datagrams.
 const SENT = n => Array.from({ length: n }, (_, i) => (i & 255).toString(16).padStart(2, "0")).join("");
 const RX = (bytes, more = "", to = "10.0.0.1:7") => `rx udp 10.0.0.2:5000 > ${to} ${bytes} ${more}`.trim();
 const TWO = ["socket", "setsockopt 3 reuseport 1", "bind 3 0.0.0.0 7", "socket", "setsockopt 4 reuseport 1",
@@ -273,7 +273,7 @@ const LAID = [
     "; ; H28+0 ; H48+20 40+220x1 / H48+80 20+8"],
 ];
 
-// A state in the words of LAID.
+// A state in the form of LAID.
 function wordsOf(state) {
   const at = new Map(state.mbufs.map(it => [it.n, it]));
   const wordOf = it => `${it.pkthdr === null ? "" : "H"}${it.data}+${it.len}`
@@ -295,11 +295,11 @@ function tryLaid(engine) {
   }
 }
 
-// After so many lines of a script the states are looked at, and after so many each what waits is read.
+// The states are tested after each this number of lines, and queued data is read after each that number.
 const MOST_STATES = 600, READ_EACH = 20;
 
-// After each line of a script the state has the mbufs, the clusters and the references that the program counts; of what
-// waits, and of what is unfinished, it has the bytes, as the program's other answers have them.
+// After each line of a script the state has the mbufs, the clusters and the references that the program counts. Queued
+// packets and unfinished datagrams have the bytes that the program's other replies have.
 function tryStates(engine, name, config, lines) {
   const { steps } = page.traceStack(engine, config, lines.slice(0, MOST_STATES));
   for (let n = 1; n <= steps.length; n++) {
@@ -332,7 +332,7 @@ function tryState(name, state, pool, held) {
 
 const lastOf = chains => (chains.length ? chains[chains.length - 1][0].n : null);
 
-// The first bytes of each mbuf of a chain, where its bytes stand in `whole`.
+// The first bytes of each mbuf of a chain whose bytes are in `whole`.
 function isBytesOf(whole, chain) {
   let at = 0;
   for (const it of chain) {
@@ -368,7 +368,7 @@ function tryWaiting(say, { state, sockets, output, pieces }, chainsOf) {
 
 // ---- captures
 
-// Records in a classic file, and the same ones in one of pcapng, of either byte order, by hand.
+// Records in a classic file, and the same ones in pcapng files of either byte order, made by hand.
 function tryCaptures(engine, folder) {
   const ip = "4500001e00010000401166cc0a0000020a00000113880007000a6fdf6869", frame = `${"02".repeat(12)}0800${ip}`;
   const word = isLittle => (n, size = 4) => {
@@ -410,7 +410,7 @@ function tryRecords(engine, name, digits, wanted, wrong) {
   }
 }
 
-// A capture of tcpdump's, in three forms that Wireshark's editcap writes, is read as tshark reads it.
+// A capture by tcpdump, in three forms that Wireshark's editcap writes, is read as tshark reads it.
 function tryTshark(engine, real) {
   const run = (tool, ...words) => child.spawnSync(tool, words, { encoding: "utf8" });
   if (run("tshark", "-v").status !== 0 || run("editcap", "-v").status !== 0) {
@@ -435,9 +435,10 @@ function tryTshark(engine, real) {
   }
 }
 
-// ---- machines on a wire
+// ---- hosts on a wire
 
-// Each machine's own script is what the program did with it, after each line, by the module and by the native program.
+// Each host's separate script has the same results as the program after each line, with the module and with the native
+// program.
 function tryHosts(engine, name, { steps, hosts }, isWhole = true) {
   for (const host of hosts.values()) {
     tryHost(engine, name, host);
@@ -456,7 +457,7 @@ function tryHost(engine, name, host) {
   if (!isSame) fault(name, `${host.name} has other replies by ${program}`);
 }
 
-// A packet that came is one that another machine gave, byte for byte, and it's for the machine that got it.
+// A packet that arrived is one that another host sent, byte for byte, and it's for the host that received it.
 function tryMoved(name, moved, hosts) {
   const { from, to, packet, fate, place } = moved;
   if (packet instanceof page.Frame) return tryFrame(name, moved, hosts);
@@ -467,7 +468,7 @@ function tryMoved(name, moved, hosts) {
   if (to === from || !isFor || lines[place] !== `rx ${hex}`) fault(name, `${to} got a packet that isn't for it`);
 }
 
-// Of a frame the packet is one that the machine gave, byte for byte, unless the link made it: of ICMP, or ARP.
+// The packet in a frame is one that the host sent, byte for byte, unless the link made it: ICMP, or ARP.
 function tryFrame(name, { from, to, packet: { packet }, place }, hosts) {
   if (!packet) return;
   const hex = page.hexOf(packet.bytes), isGiven = hosts.get(from).steps.some(step => step.reply === `packet ${hex}`);
@@ -475,7 +476,7 @@ function tryFrame(name, { from, to, packet: { packet }, place }, hosts) {
   if (to && hosts.get(to).lines[place] !== `rx ${hex}`) fault(name, `${to} got another packet than its frame has`);
 }
 
-// What the page says of frames under way is what the program says.
+// The page and the program report the same frames under way.
 function tryShown(name, { steps }) {
   const wordsOf = ({ source, destination, arp, packet }) => {
     const { operation, mac, ip, target } = arp || {};
@@ -493,7 +494,7 @@ function tryShown(name, { steps }) {
 
 const dotted = ip => [24, 16, 8, 0].map(shift => (ip >>> shift) & 255).join(".");
 
-// Random lines of three machines with different MTUs, on a wire that loses, repeats and delays.
+// Random lines of three hosts with different MTUs, on a wire that loses, repeats and delays packets.
 function randomWire(below) {
   const any = list => list[below(list.length)], name = () => any(["a", "b", "c"]), port = () => any([0, 7, 520]);
   const ip = () => `10.0.0.${any([1, 2, 3, 3, 9, 255])}`, fd = () => 3 + below(3);
@@ -523,9 +524,9 @@ function tryRandomWires(engine) {
 
 // ---- drawings of chains
 
-// Scripts with a slot and its drawing, worked by hand after volume 2, chapter 2: bytes to send stand at the end of a
-// first mbuf, at a multiple of 4 (MH_ALIGN), those of a packet that arrived at its front, behind the 28 bytes of both
-// headers; a cluster of bytes to send has 56 bytes free in front; a copy refers to the same cluster.
+// Scripts with a slot and its drawing, worked out by hand from volume 2, chapter 2: bytes to send are at the end of the
+// first mbuf, at a multiple of 4 (MH_ALIGN). Those of a packet that arrived are at its beginning, after 28 bytes for
+// both headers. A cluster of bytes to send begins with 56 free bytes. A copy refers to the same cluster.
 const LARGE = "61".repeat(300), OTHER = "62".repeat(300);
 const DRAWN = [
   ["user 0 6869", 0, ["pkthdr 124 6869"]],
@@ -578,14 +579,14 @@ function tryDrawings(engine, name, config, text) {
     const shows = mbufs.length ? ["len", lengths[k], ...mbufs.map(shapeOf)].join(" ") : "? chain";
     if (shows !== shown[k]) say(`slot ${slot} has other mbufs than it shows`);
     if (read[k] !== (mbufs.length ? `data ${data}` : "? chain")) say(`slot ${slot} has other bytes`);
-    if (mbufs.slice(1).some(it => it.hasPacket)) say(`slot ${slot} has a packet header behind its first mbuf`);
+    if (mbufs.slice(1).some(it => it.hasPacket)) say(`slot ${slot} has a packet header after its first mbuf`);
   });
 }
 
 // ---- random scripts
 
-// How many random scripts of each command are played, how many lines each has, how many are drawn, and
-// how many scripts of machines on a wire are played.
+// The random scripts of each command, the lines of each, the scripts that are drawn, and the scripts with hosts on a
+// wire.
 const RANDOM = 100, LINES = 1000, DRAWINGS = 20, WIRES = 20;
 
 // Numbers below a limit, the same ones each time (the generator is mulberry32).
@@ -613,7 +614,7 @@ function randomScript(lines, below) {
 function tryRandom(engine, command, folder) {
   const below = numbers(1);
   const all = scriptsOf(folder).flatMap(script => fs.readFileSync(script, "utf8").split("\n"));
-  // a line of thousands of digits in every script would only take time
+  // a line of thousands of digits in every script takes too much time
   const lines = all.filter(line => line && line.length < 4000);
   for (let i = 0; i < RANDOM; i++) {
     const script = randomScript(lines, below);

@@ -4,7 +4,7 @@ const fs = require("fs"), path = require("path"), vm = require("vm");
 
 const SCRIPTS = ["engine", "packet", "play", "stack", "chains", "wire", "capture"];
 
-// The values of these names in the scripts. page/build puts lists.js beside the module.
+// The values of these names in the scripts. page/build writes lists.js next to the module.
 function load(names, module) {
   const files = SCRIPTS.map(name => path.join(__dirname, "..", `${name}.js`));
   const texts = [path.join(path.dirname(module), "lists.js"), ...files].map(file => fs.readFileSync(file, "utf8"));
