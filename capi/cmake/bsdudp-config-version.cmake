@@ -1,5 +1,5 @@
-# Whether the installed version does for the one that find_package asks for: if it's that or a later one, and the first
-# two numbers are the same. The library is for 64 bits.
+# Whether the installed version matches the one that find_package requests: it's that or a later one, and the first two
+# numbers are the same. The library is for 64 bits.
 set(PACKAGE_VERSION "@VERSION@")
 set(_bsdudp_series "${PACKAGE_FIND_VERSION_MAJOR}.${PACKAGE_FIND_VERSION_MINOR}.")
 if(PACKAGE_FIND_VERSION_COUNT EQUAL 1)

@@ -1,8 +1,8 @@
 # find_package(bsdudp) defines these targets:
 #   bsdudp::static  libbsdudp.a
 #   bsdudp::shared  libbsdudp.so, if it's installed
-#   bsdudp::bsdudp  the shared one if BUILD_SHARED_LIBS is on and it's there, else the static one
-# The components are static and shared. The files are found from where this one lies, so the prefix may be moved.
+#   bsdudp::bsdudp  the shared one if BUILD_SHARED_LIBS is on and it's installed, otherwise the static one
+# The components are static and shared. The files are found relative to this one, so the prefix may be moved.
 get_filename_component(_bsdudp_prefix "${CMAKE_CURRENT_LIST_DIR}/../../.." ABSOLUTE)
 set(_bsdudp_static_file "${_bsdudp_prefix}/lib/libbsdudp.a")
 set(_bsdudp_shared_file "${_bsdudp_prefix}/lib/libbsdudp.so.0")

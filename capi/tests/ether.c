@@ -1,6 +1,6 @@
-/* A host on an Ethernet: every call on its plain path, and every refusal that it can have; its memory, refused in
-   turn; each tally with a value of its own. It compiles as C99 and as C++, prints the line of the first wrong result,
-   and then exits with 1. */
+/* A host on an Ethernet: every call on its normal path, and every error that it can return; its memory, with each
+   allocation failing in turn; each tally with a different value. It compiles as C99 and as C++, prints the line of the
+   first wrong result, and then exits with 1. */
 #include "bsdudp.h"
 
 #include <stdio.h>
@@ -61,7 +61,7 @@ static void put_arp(uint8_t *to, const uint8_t *mac, int op, const uint8_t *from
     put32(to + 38, target);
 }
 
-/* An ARP request comes for the host, or for another. */
+/* An ARP request arrives, for the host or for another one. */
 static int asked(uint32_t ip, uint32_t target)
 {
     static const uint8_t nobody[6] = {0, 0, 0, 0, 0, 0};
@@ -69,7 +69,7 @@ static int asked(uint32_t ip, uint32_t target)
     return bsdudp_ether_receive(&host, frame, ARP_FRAME);
 }
 
-/* A packet of the peer comes: its protocol, and what it carries, of which the first bytes are `bytes`. */
+/* A packet from the peer arrives: its protocol and its data, which begins with `bytes`. */
 static int came(int protocol, size_t len)
 {
     static const uint8_t head[20] = {0x45, 0, 0, 0, 0, 9, 0, 0, 64, 0, 0, 0, 10, 0, 0, 2, 10, 0, 0, 1};
@@ -125,7 +125,7 @@ static int reported(int code, unsigned from, unsigned to)
     return came(1, sizeof message);
 }
 
-/* Takes all frames that wait; how many they were. */
+/* Takes all queued frames, and returns their number. */
 static int drained(void)
 {
     int count = 0;
@@ -184,7 +184,7 @@ static int refusals(void)
     return answers(&host, -BSDUDP_ENXIO);
 }
 
-/* Boot with ever more memory: each of its blocks is refused in turn, until all fit. Not a byte around it is touched. */
+/* Boot with more and more memory: each of its allocations fails in turn, until all fit. No byte outside is changed. */
 static int grows(void)
 {
     const size_t most = BSDUDP_ETHER_MEMORY(64, 16);
@@ -207,7 +207,7 @@ static int grows(void)
     return 0;
 }
 
-/* A stack that is no host has no link; a host takes no packet past its own. */
+/* A stack that isn't a host has no link. A host receives packets only through its link. */
 static int one_or_the_other(void)
 {
     static unsigned char other[BSDUDP_MEMORY(64, 16)] ALIGNED;
@@ -266,7 +266,7 @@ static int frames(void)
     return 0;
 }
 
-/* Each tally gets a value of its own. */
+/* Each tally gets a different value. */
 static int tallied(void)
 {
     struct bsdudp_tallies it;
@@ -327,7 +327,7 @@ static int tallied(void)
     return 0;
 }
 
-/* What others report of a connected socket's datagrams is returned once, to the socket that sent them. */
+/* An error about a connected socket's datagram is returned once, for the socket that sent it. */
 static int reports(void)
 {
     const struct bsdudp_addr peer = {PEER, 9}, local = {0, 2000};
@@ -364,7 +364,7 @@ static int reports(void)
     return 0;
 }
 
-/* A host that asks first: it uses its address after some seconds, or another host has it. */
+/* A host that probes first: it uses its address after some seconds, unless another host has it. */
 static int probes(void)
 {
     struct bsdudp_config c = config();

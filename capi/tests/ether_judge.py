@@ -1,6 +1,6 @@
-"""Scapy's own frames as judges of a host on an Ethernet (bsdudp.Host over libbsdudp), with no
-network: each frame that it gives is compared with the one that scapy makes. Time passes by its ticks, so nothing here
-waits. It says the first thing that is wrong and exits with 1, and writes all frames of the host to CAPTURE."""
+"""Compares the frames of a host on an Ethernet (bsdudp.Host with libbsdudp) with scapy's, without a network. Time is
+the host's ticks, so the test doesn't wait. It prints the first fault and exits with 1, and writes all frames of the
+host to CAPTURE."""
 import argparse
 import errno
 import random
@@ -75,7 +75,7 @@ def own_request(n):
 
 
 def knows(it, *who):
-    """Neighbours tell the host their hardware addresses."""
+    """Neighbours send the host their hardware addresses."""
     for n in who:
         it.receive(asks(n))
         check(given(it) == [own_reply(n)], f"the reply to neighbour {n} isn't scapy's")
@@ -86,7 +86,7 @@ def from_near(n, body, **words):
 
 
 def echoed(it, socket, n, data, port=1234):
-    """What the host gives after a datagram of a neighbour came and was sent back."""
+    """The host's frames after a neighbour's datagram arrived and was echoed."""
     it.receive(from_near(n, UDP(sport=port, dport=ECHO) / data))
     got, sender = socket.recvfrom()
     check((got, sender) == (data, (ip_of(n), port)), f"neighbour {n}'s datagram came as another")
@@ -95,29 +95,29 @@ def echoed(it, socket, n, data, port=1234):
 
 
 def carries(frame, n, data, port=1234):
-    """Whether a frame is the echo to a neighbour, as scapy reads it."""
+    """Whether a frame is the echo to a neighbour, read by scapy."""
     it = Ether(frame)
     told = (it.dst, it.src, it[IP].dst, it[UDP].dport, bytes(it[UDP].payload))
     return told == (mac_of(n), OWN_MAC, ip_of(n), port, data)
 
 
-# ---- what is tried
+# ---- tests
 
 
 def arp():
     it, socket = host()
     knows(it, 2)
     check(it.neighbours == [bsdudp.Neighbour(ip_of(2), mac_of(2), KEPT, 0)], f"neighbours: {it.neighbours}")
-    # one that asks for another is neither answered nor learnt
+    # a request for another address gets no reply, and its sender isn't learnt
     it.receive(asks(3, ip_of(2)))
     check(given(it) == [] and len(it.neighbours) == 1, "a request for another host was answered, or taught something")
-    # what is for another teaches nothing, but of one that is known (RFC 826, "Packet Reception")
+    # an ARP packet for another host changes only known entries (RFC 826, "Packet Reception")
     other = ARP(op=2, hwsrc=mac_of(4), psrc=ip_of(4), hwdst=mac_of(9), pdst=ip_of(9))
     it.receive(Ether(dst=ALL, src=mac_of(4)) / other)
     check(len(it.neighbours) == 1, "a reply for another host was learnt")
     it.receive(Ether(dst=ALL, src=mac_of(9)) / ARP(op=1, hwsrc=mac_of(9), psrc=ip_of(2), hwdst=NOBODY, pdst=ip_of(2)))
     check(it.neighbours[0].mac == mac_of(9), "a neighbour's new hardware address wasn't learnt")
-    # a probe (RFC 5227) has no address, and is answered
+    # a probe (RFC 5227) has no sender address, and gets a reply
     it.receive(Ether(dst=ALL, src=mac_of(5)) / ARP(op=1, hwsrc=mac_of(5), psrc="0.0.0.0", hwdst=NOBODY, pdst=OWN_IP))
     check([Ether(frame)[ARP].op for frame in given(it)] == [2], "a probe isn't answered")
     check(len(it.neighbours) == 1, "a probe was learnt")
@@ -129,7 +129,7 @@ def arp():
 
 
 def claims():
-    """A host that asks first whether another host has its address (RFC 5227)."""
+    """A host that probes first whether another host has its address (RFC 5227)."""
     it = bsdudp.Host(OWN_IP, OWN_MAC, probe=True)
     it.receive(asks(2))
     for _ in range(PROBES):
@@ -162,7 +162,7 @@ def martians():
 
 
 def held():
-    """Packets wait for a hardware address, and go in order; the request is repeated, and then given up."""
+    """Packets wait for a hardware address, and are sent in order. The request is repeated, and then given up."""
     it, socket = host()
     data = random.Random(1).randbytes(9216)
     socket.sendto(data, (ip_of(2), 99))
@@ -219,7 +219,7 @@ def ping():
         answer = IP(src=OWN_IP, dst=ip_of(2), id=length, ttl=64) / ICMP(type=0, id=request.id, seq=request.seq)
         wanted = bytes(Ether(dst=mac_of(2), src=OWN_MAC) / answer / bytes(request.payload))
         check(given(it) == [wanted], f"the echo reply of {length} bytes isn't scapy's")
-    # not answered: to everyone, of another type, with a wrong checksum, to a broadcast address
+    # no reply: to everyone, of another type, with a wrong checksum, to a broadcast address
     silent = [
         Ether(dst=ALL, src=mac_of(2)) / IP(src=ip_of(2), dst=OWN_IP) / ICMP() / b"all",
         from_near(2, ICMP(type=0) / b"a reply"),
@@ -254,7 +254,7 @@ def unreachable():
 
 
 def reported():
-    """ICMP errors about a datagram that a connected socket sent: what each code means is volume 2's, chapter 11
+    """ICMP errors about a datagram that a connected socket sent. The meaning of each code is in volume 2, chapter 11
     (`icmp_input`, `inetctlerrmap`)."""
     it, _ = host()
     knows(it, 2)
@@ -297,7 +297,7 @@ def truncations():
         message = bytes(ICMP(type=8, id=1, seq=2) / bytes(range(20)))[:cut]
         it.receive(from_near(2, message, proto=1))
         check(given(it) == [], f"an ICMP message cut to {cut} bytes was answered")
-        # with a checksum that is right again, what has a whole head is a shorter request
+        # with a corrected checksum, a message with a whole head is a shorter request
         it.receive(from_near(2, ICMP(type=8, id=1, seq=2) / bytes(range(cut))))
         check(len(given(it)) == 1, f"an echo request of {cut} bytes wasn't answered")
     for at in range(14, 22):
@@ -308,7 +308,7 @@ def truncations():
 
 
 def hundred():
-    """A hundred neighbours on a table of 32: the 32 that were heard last stand in it, and each is answered."""
+    """A hundred neighbours and a table of 32: it contains the 32 most recent ones, and each gets a reply."""
     it, socket = host()
     everyone = range(2, 102)
     knows(it, *everyone)
@@ -329,7 +329,8 @@ def hundred():
 
 
 def flood():
-    """ARP packets at random. Those for others change nothing of the table. Those for the host may, and it goes on."""
+    """Random ARP packets. Those for others don't change the table. Those for the host may, and the host keeps
+    working."""
     it, socket = host()
     knows(it, 2)
     rng = random.Random(4)
@@ -360,8 +361,8 @@ def flood():
 
 
 def lossy():
-    """2,000 datagrams at random between two hosts over a bridge that loses frames, of ARP too: none comes as
-    another."""
+    """2,000 random datagrams between two hosts over a bridge that loses frames, also those of ARP: none arrives
+    changed."""
     rng = random.Random(5)
     near = bsdudp.Host("10.0.0.1", mac_of(1), mbufs=2000, clusters=400)
     far = bsdudp.Host("10.0.0.2", mac_of(2), mbufs=2000, clusters=400)

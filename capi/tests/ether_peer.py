@@ -1,7 +1,7 @@
 """Linux as the peer of capi/examples/tap_host.c, and of a host of the Python package, in a network namespace of its own
 (unshare -n). Frames pass through this program, which can lose them, from the TAP device of Linux to that of the host,
-and are written to CAPTURE. At last two hosts stand on one bridge with Linux. It says the first thing that is wrong
-and exits with 1; what lacks a tool is left out, and said in one line."""
+and are written to CAPTURE. At the end two hosts are on one bridge with Linux. It prints the first fault and exits with
+1. A test that lacks a tool is skipped, with one line."""
 import argparse
 import contextlib
 import errno
@@ -24,7 +24,7 @@ from relay import IFF_NO_PI, IFF_TAP, LINUX_MAC, TUNSETIFF, Capture, Fault, Rela
 HOST, HOST_MAC = "10.0.0.1", "02:00:00:00:00:01"
 ARP, IPV4 = b"\x08\x06", b"\x08\x00"
 ECHO, CLOSED = 7, 9
-WAIT, TRIES = 20, 3  # seconds: much more than any needs, for a busy machine
+WAIT, TRIES = 20, 3  # seconds: much more than any test needs, for a busy computer
 IP_MTU_DISCOVER = 10
 
 
@@ -49,7 +49,7 @@ def tap_host(program, *words):
 
 
 def is_announcement(frame):
-    """An ARP packet that tells and asks the same (RFC 5227)."""
+    """An ARP packet with the same sender and target address (RFC 5227)."""
     return frame[12:14] == ARP and frame[28:32] == frame[38:42]
 
 
@@ -64,7 +64,7 @@ def client(source=""):
 
 
 def echoed(it, data, to=HOST):
-    """Sends a datagram until it comes back; nothing else comes."""
+    """Sends a datagram until it comes back. No other datagram may arrive."""
     for _ in range(TRIES):
         it.sendto(data, (to, ECHO))
         with contextlib.suppress(TimeoutError):
@@ -75,7 +75,7 @@ def echoed(it, data, to=HOST):
 
 
 def pings(wanted, *words):
-    """Pings until so many replies have come; a reply that a busy machine gives late is worth another try."""
+    """Pings until `wanted` replies have arrived. If a reply is late on a busy computer, it tries again."""
     for _ in range(TRIES):
         said = run("ping", "-q", *words)
         if f" {wanted} received" in said:
@@ -83,7 +83,7 @@ def pings(wanted, *words):
     raise Fault(f"ping {' '.join(words)}: {said.strip().splitlines()[-1] if said.strip() else 'nothing'}")
 
 
-# ---- what is tried
+# ---- tests
 
 
 def known(relay):
@@ -103,7 +103,7 @@ def known(relay):
 
 
 def datagrams(relay):
-    """Datagrams of all lengths, by all ways."""
+    """Datagrams of all lengths, with all kinds of addresses."""
     it = client()
     for length in [*range(0, 9217, 16), 1471, 1472, 1473, 9215, 9216]:
         echoed(it, os.urandom(length))
@@ -126,7 +126,7 @@ def datagrams(relay):
 
 
 def moved(relay):
-    """Linux gets another hardware address, and the host hears of it."""
+    """Linux gets another hardware address, and the host learns it."""
     must("ip link set lin0 down")
     must("ip link set lin0 address 02:00:00:00:00:99")
     must("ip link set lin0 up")
@@ -150,7 +150,7 @@ def moved(relay):
 
 
 def lossy(relay):
-    """2,000 datagrams while frames are lost, those of ARP too, and Linux forgets the host now and then: none wrong."""
+    """2,000 datagrams while frames are lost, also those of ARP, and Linux sometimes forgets the host: none is wrong."""
     rng = random.Random(7)
     relay.loses = lambda frame: rng.random() < 0.1
     it, back = client(), 0
@@ -160,7 +160,7 @@ def lossy(relay):
         sent[data[:4]] = data
         if k % 200 == 0:
             run("ip", "neigh", "flush", "dev", "lin0")
-        with contextlib.suppress(TimeoutError):  # too many wait for an ARP reply that was lost
+        with contextlib.suppress(TimeoutError):  # too many datagrams wait for a lost ARP reply
             it.sendto(data, (HOST, ECHO))
         if k % 10 == 9:
             back += drained(it, sent, 0.02)
@@ -170,7 +170,7 @@ def lossy(relay):
 
 
 def drained(it, sent, wait):
-    """How many datagrams come until nothing does for a while: each is one that was sent."""
+    """Returns how many datagrams arrive until none does for a while. Each is one that was sent."""
     came = 0
     it.settimeout(wait)
     with contextlib.suppress(TimeoutError):
@@ -182,7 +182,7 @@ def drained(it, sent, wait):
 
 
 def asked(relay):
-    """A host that knows nobody holds seven fragments for one request."""
+    """A host without neighbours keeps seven fragments for one request."""
     relay.gave.clear()
     must(f"ip neigh replace {HOST} lladdr {HOST_MAC} dev lin0 nud permanent")
     echoed(client(), os.urandom(9216))
@@ -191,7 +191,7 @@ def asked(relay):
 
 
 def until_reported(device, host, sock, capture):
-    """What others reported of a socket's datagrams, which it sends until they do."""
+    """Returns the error reported about a socket's datagrams. It sends until there is one."""
     for _ in range(WAIT):
         sock.send(b"x")
         until = time.monotonic() + 1.1  # Linux sends an error for one peer once in a second
@@ -212,7 +212,8 @@ def until_reported(device, host, sock, capture):
 
 
 def reported(capture):
-    """Linux reports that no socket has a port, and that no way leads to an address: the host's caller sees both."""
+    """Linux reports that no socket has a port, and that there is no route to an address: the host's caller gets both
+    errors."""
     device = os.open("/dev/net/tun", os.O_RDWR)
     fcntl.ioctl(device, TUNSETIFF, struct.pack("16sH", b"rep0", IFF_TAP | IFF_NO_PI))
     device_up("rep0")
@@ -250,7 +251,7 @@ def bridged(program):
         for addr in words:
             if shutil.which("ping"):
                 pings(3, "-c", "3", "-i", "0.2", addr)
-        # a broadcast reaches both, and each answers it
+        # a broadcast reaches both, and each echoes it
         it.sendto(b"both", ("10.0.0.255", ECHO))
         came = {it.recvfrom(100)[1][0] for _ in words}
         check(came == set(words), f"a broadcast was answered by {sorted(came)}")

@@ -1,10 +1,10 @@
 #!/usr/bin/env python3
-"""Linux as the peer of capi/examples/tun_echo.c. It takes a network namespace (unshare -n).
+"""Linux as the peer of capi/examples/tun_echo.c. It needs a network namespace (unshare -n).
 
-Datagrams of many lengths go to the echo at 10.0.0.1 port 7 and come back, with and without a checksum, to the broadcast
-address, and of random lengths. With the word `lossy` the program is that host behind a wire that loses, repeats and
-reorders (lossy.c): what comes back of 2,000 datagrams was sent so. Then the kernel's own counters have no error, and
-the pool is full again. It says the first thing that is wrong, and then exits with 1."""
+Datagrams of many and of random lengths are sent to the echo at 10.0.0.1 port 7 and come back, with and without a
+checksum, and from the broadcast address. With the argument `lossy` the program is the host with a wire that loses,
+repeats and reorders packets (lossy.c): of 2,000 datagrams, those that come back are unchanged. Then the kernel's
+counters show no error, and all buffers of the pool are free. It prints the first fault, and then exits with 1."""
 import os
 import pathlib
 import random
@@ -26,7 +26,7 @@ IP_MTU_DISCOVER, SO_NO_CHECK, SO_RCVBUFFORCE = 10, 11, 33
 
 
 class Wrong(Exception):
-    """What is to be said."""
+    """What is wrong."""
 
 
 def client(without_checksum):
@@ -53,7 +53,7 @@ def echo(it, to, data, what):
 
 
 def datagrams(mtu):
-    """What is tried at this MTU: the output queue holds 50 packets."""
+    """Returns the lengths for this MTU: the output queue holds 50 packets."""
     rng = random.Random(mtu)
     most = min(9216, 50 * ((mtu - 20) // 8 * 8) - 8)
     lengths = [n for n in LENGTHS if n <= most]
@@ -68,13 +68,13 @@ def datagrams(mtu):
 
 
 def by_number(number, most):
-    """The datagram of this number: its own bytes tell which it is."""
+    """Returns the datagram of this number, which its bytes contain."""
     rng = random.Random(number)
     return number.to_bytes(4, "big") + rng.randbytes(rng.randint(0, most - 4))
 
 
 def come_back(it, most, seconds):
-    """The numbers of the datagrams that come until none does for so long. Each is as it was sent."""
+    """Returns the numbers of the datagrams that arrive until none does for `seconds`. Each must be unchanged."""
     it.settimeout(seconds)
     numbers = []
     try:
@@ -88,7 +88,7 @@ def come_back(it, most, seconds):
 
 
 def lossy_datagrams(mtu):
-    """What is tried behind the wire, eight datagrams at a time: some are lost, some come twice, and none is another."""
+    """Tests the wire with eight datagrams at a time: some are lost, some arrive twice, and none is changed."""
     most = min(9216, 16 * ((mtu - 20) // 8 * 8) - 8)
     it = client(False)
     came = []
@@ -96,7 +96,7 @@ def lossy_datagrams(mtu):
         for number in range(first, first + 8):
             it.sendto(by_number(number, most), NEAR)
         came += come_back(it, most, 0.004)
-    came += come_back(it, most, 1.2)  # meanwhile the host drops what lacks fragments
+    came += come_back(it, most, 1.2)  # meanwhile the host drops incomplete datagrams
     if not DATAGRAMS // 20 < len(set(came)) < DATAGRAMS or len(came) == len(set(came)):
         raise Wrong(f"MTU {mtu}: of {DATAGRAMS} datagrams {len(set(came))} came over the lossy wire, in {len(came)}")
 

@@ -1,6 +1,6 @@
-/* capi/examples/tun_echo.c over a wire that loses one packet in twenty, repeats one in twenty, and exchanges packets
-   that wait. It's that very program: its reads and writes of the device go through the wire, and its clock runs a
-   hundred times as fast, so that what lacks a fragment is dropped after a third of a second. */
+/* capi/examples/tun_echo.c with a wire that loses one packet in twenty, repeats one in twenty, and reorders waiting
+   packets. It's the same program: its reads and writes of the device go through the wire, and its clock runs a hundred
+   times as fast, so that incomplete datagrams are dropped after a third of a second. */
 #include <stdint.h>
 #include <string.h>
 #include <time.h>
@@ -55,7 +55,7 @@ static void deliver(int device, int leave)
     }
 }
 
-/* What the device has goes onto the wire while there is room. If it has nothing more, what the stack sent is
+/* The device's packets go onto the wire while there is space. If the device has no more, the packets of the stack are
    delivered. */
 static ssize_t lossy_read(int device, void *packet, size_t room)
 {

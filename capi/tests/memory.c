@@ -1,6 +1,6 @@
-/* The memory of a stack: each allocation refused in turn, memory that just suffices, handles booted twice, dead or
-   zeroed. The linker sends malloc and free of the library here (--wrap), so that they can be refused and counted. It
-   compiles as C99 and as C++, prints the line of the first wrong result, and then exits with 1. */
+/* The memory of a stack: each allocation failing in turn, memory that is just enough, handles booted twice, ended or
+   zeroed. The linker redirects the library's malloc and free to this file (--wrap), which can count them and let them
+   fail. It compiles as C99 and as C++, prints the line of the first wrong result, and then exits with 1. */
 #include "bsdudp.h"
 
 #include <stdio.h>
@@ -51,7 +51,7 @@ static struct bsdudp_config config_of(uint32_t mbufs, uint32_t clusters)
     return it;
 }
 
-/* A stack that works: a datagram comes back to it by loopback. Its only socket is open afterwards. */
+/* A stack that works: it receives its own datagram by loopback. Its only socket is open afterwards. */
 static int works(struct bsdudp *s)
 {
     struct bsdudp_addr self = {0x7f000001, 7}, from;
@@ -73,8 +73,8 @@ static int is_untouched(const unsigned char *at)
     return 1;
 }
 
-/* Boot with ever more memory: each of its blocks is refused in turn, until all of them fit. Not a byte around it is
-   touched. BSDUDP_MEMORY covers the least that does, and isn't far above it. */
+/* Boot with more and more memory: each of its allocations fails in turn, until all fit. No byte outside is changed.
+   BSDUDP_MEMORY is at least the smallest size that is enough, and not much larger. */
 static int grows(uint32_t mbufs, uint32_t clusters, size_t step)
 {
     struct bsdudp s = BSDUDP_NONE;
@@ -109,7 +109,7 @@ static int grows(uint32_t mbufs, uint32_t clusters, size_t step)
     return 0;
 }
 
-/* malloc is asked once, by boot, and its block comes back once, by end. A boot that is refused keeps none. */
+/* Boot calls malloc once, and end frees the block once. A boot that fails keeps no block. */
 static int from_malloc(void)
 {
     struct bsdudp s = BSDUDP_NONE;
@@ -144,7 +144,7 @@ static int from_malloc(void)
     return 0;
 }
 
-/* The same of a host: one that is refused for its link, or for its stack, keeps none. */
+/* The same for a host: a boot that fails because of its link, or of its stack, keeps no block. */
 static int host_from_malloc(void)
 {
     struct bsdudp s = BSDUDP_NONE;
@@ -182,7 +182,7 @@ static int host_from_malloc(void)
     return 0;
 }
 
-/* A handle that has a stack keeps it, whichever boot comes next, and whatever its arguments are. */
+/* A handle that has a stack keeps it, whichever boot is called next, with any arguments. */
 static int booted_twice(void)
 {
     static unsigned char memory[2][BSDUDP_MEMORY(64, 16)] __attribute__((aligned(BSDUDP_ALIGNMENT)));
@@ -201,7 +201,7 @@ static int booted_twice(void)
         WANT(bsdudp_socket(&s), 4);
         WANT(bsdudp_end(&s), 0);
         WANT(taken == first && given_back == first, 1);
-        WANT(bsdudp_boot_in(&s, &config, memory[1], sizeof memory[1]), 0); /* dead, it's free for another */
+        WANT(bsdudp_boot_in(&s, &config, memory[1], sizeof memory[1]), 0); /* ended, it's free for another stack */
         WANT(works(&s), 0);
         WANT(bsdudp_end(&s), 0);
         memset(&s, 0, sizeof s); /* and so it is zeroed */

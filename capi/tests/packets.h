@@ -1,4 +1,4 @@
-/* What tests/random.c lets arrive: packets as RFC 791 and RFC 768 draw them, whole, as fragments, and damaged. */
+/* The packets of tests/random.c, in the formats of RFC 791 and RFC 768: whole, as fragments, and damaged. */
 #ifndef PACKETS_H
 #define PACKETS_H
 
@@ -95,7 +95,7 @@ static size_t keep_fragment(uint8_t *packet, size_t len)
     return 20 + last - first * 8;
 }
 
-/* Turns a bit round; does so in the header, or changes its total length, and makes its sum right again; or cuts or
+/* Inverts a bit; or inverts a bit of the header, or changes its total length, and corrects its checksum; or cuts or
    lengthens the packet. Returns its length. */
 static size_t damage(uint8_t *packet, size_t len)
 {

@@ -1,7 +1,7 @@
 /* Random calls on a stack, and the same calls as lines of `bsdudp run`, which runs at the same time: random PROGRAM
    SEED.. Each reply must be the same, byte for byte. For each seed there are five machines, with 10,000 calls each:
-   datagrams, fragments, damaged packets, and pools that run dry. The queries must agree with what the calls then find.
-   In the end each call must have failed with each of its errors, and each counter must have counted. It prints the
+   datagrams, fragments, damaged packets, and pools that run empty. The queries must agree with the results of the next
+   calls. At the end each call must have failed with each of its errors, and each counter must be above 0. It prints the
    first fault, and then exits with 1. */
 #define _POSIX_C_SOURCE 200809L
 #include "bsdudp.h"
@@ -23,7 +23,7 @@ enum kind { SOCKET, BIND, CONNECT, SENDTO, SEND, RECVFROM, CLOSE, SETSOCKOPT, RX
 /* How often each is drawn; in each phase one of them is drawn forty times as often. */
 static const unsigned weights[KINDS] = {6, 10, 8, 12, 8, 12, 5, 10, 25, 8, 3, 1, 2};
 
-/* What each call is refused, by docs/scripts.md. */
+/* The errors of each call, from docs/scripts.md. */
 static const struct {
     enum kind kind;
     int errors[10];
@@ -40,7 +40,7 @@ static const struct {
     {SETSOCKOPT, {BSDUDP_EBADF}},
 };
 
-/* The machines. With 300 mbufs and MTU 68 the output queue is full before the pool is dry. */
+/* The machines. With 300 mbufs and MTU 68 the output queue is full before the pool is empty. */
 static const struct bsdudp_config machines[] = {
     {HOST, BROADCAST, 512, 64, 1500, 1}, {HOST, BROADCAST, 40, 6, 576, 65530}, {HOST, BROADCAST, 300, 8, 68, 7},
     {HOST, BROADCAST, 12, 0, 1500, 0},   {HOST, BROADCAST, 64, 16, 4352, 1},
@@ -117,9 +117,9 @@ static void answer_number(int number, bool told)
            number == -BSDUDP_EQUEUE ? " queue" : number == -BSDUDP_ENOBUFS ? " pool" : "");
 }
 
-/* ---- what is drawn */
+/* ---- random choices */
 
-/* A descriptor: mostly of the first six, so that these have much to do. */
+/* A descriptor, mostly one of the first six, so that these are used often. */
 static uint32_t some_fd(void)
 {
     switch (dice(40)) {
@@ -301,7 +301,7 @@ static struct bsdudp_addr some_name(uint16_t *peer_port)
     return it;
 }
 
-/* What is unfinished: each has ranges in order and apart, and their number of bytes. */
+/* Each unfinished datagram has separate ranges in order, and the sum of their lengths. */
 static void look_at_unfinished(void)
 {
     struct bsdudp_unfinished datagram;
@@ -326,7 +326,7 @@ static void look_at_unfinished(void)
         wrong("there is an unfinished datagram more");
 }
 
-/* A packet of a peer, or one that this stack sent; whole, as a fragment, or damaged. */
+/* A packet from a peer, or one that this stack sent: whole, as a fragment, or damaged. */
 static void call_rx(void)
 {
     uint16_t peer_port;
@@ -373,7 +373,7 @@ static void call_tx(void)
     kept_count += kept_count < KEPT;
     kept_len[kept_count - 1] = (size_t)len;
     memcpy(kept[kept_count - 1], room, (size_t)len);
-    if (dice(2) == 0) /* as the peer's answer */
+    if (dice(2) == 0) /* as the peer's reply */
         turn_round(kept[kept_count - 1]);
 }
 
@@ -441,7 +441,7 @@ static void stop(pid_t child)
     fclose(from);
 }
 
-/* What the program replies to the line. */
+/* The program's reply to the line. */
 static void compare(void)
 {
     static char theirs[TEXT];
@@ -501,7 +501,7 @@ static void run(const char *program, const struct bsdudp_config *config)
         wrong("the stack doesn't end");
 }
 
-/* Each refusal that a call has, and each counter. */
+/* Each error of each call, and each counter. */
 static int all_came(void)
 {
     size_t k, e;

@@ -26,7 +26,7 @@ def check(holds, what):
 
 
 def run(*words):
-    """What a command printed."""
+    """Returns the output of a command."""
     return subprocess.run(words, text=True, stdout=subprocess.PIPE, stderr=subprocess.STDOUT, check=False).stdout
 
 
@@ -36,7 +36,7 @@ def must(line):
 
 
 def device_up(name):
-    """Waits until a device is there, and sets it up, without addresses of IPv6."""
+    """Waits until a device exists, and sets it up without IPv6 addresses."""
     for _ in range(1200):
         with contextlib.suppress(OSError):
             socket.if_nametoindex(name)
@@ -62,7 +62,7 @@ class Capture:
 
 
 class Relay(threading.Thread):
-    """Carries frames between Linux's device and the host's, but those that `loses` names."""
+    """Carries frames between Linux's device and the host's, except those for which `loses` returns True."""
 
     def __init__(self, capture):
         super().__init__(daemon=True)

@@ -1,11 +1,11 @@
 #!/usr/bin/env python3
 """The captures of tests/captures, played.
 
-PCAP is the built capi/examples/pcap.c. What it counts stands in NAME.stdout; what it writes has the echo of each
-datagram to port 7, with right checksums; and tshark, if it's there, finds nothing to say of it. The same packets behind
-the headers of other links get the same answers, and so does a jump of time, in seconds. TUN_ECHO is the built
-tun_echo.c: the packets of ethernet.pcap go to it by its device, and it has to send the same packets back, byte for
-byte. That takes a network namespace (unshare -n). It says the first thing that is wrong, and then exits with 1."""
+PCAP is the built capi/examples/pcap.c. Its counters are in NAME.stdout. The capture that it writes has the echo of each
+datagram to port 7, with right checksums, and tshark, if it's installed, reports nothing about it. The same packets with
+the headers of other link types get the same replies, also after a jump in time. TUN_ECHO is the built tun_echo.c: the
+packets of ethernet.pcap are sent to it through its device, and it must send the same packets back, byte for byte. That
+needs a network namespace (unshare -n). It prints the first fault, and then exits with 1."""
 import pathlib
 import resource
 import shutil
@@ -24,9 +24,9 @@ from tools import command_line  # noqa: E402
 CAPTURES = pathlib.Path(__file__).resolve().parent / "captures"
 HOST, BROADCAST, ECHO = socket.inet_aton("10.0.0.1"), socket.inet_aton("10.0.0.255"), 7
 ETHERNET, MORE, OFFSET, ETH_P_IP = 1, 0x2000, 0x1FFF, 0x0800
-# The links that pcap.c reads beside Ethernet, by https://www.tcpdump.org/linktypes.html: the number, and the headers of
-# an IPv4 packet and of an IPv6 one. Linux cooked: the kind of packet, of device, the length of its address, that, and
-# the EtherType; in version 2 with the number of the interface, in another order.
+# The link types that pcap.c reads besides Ethernet, from https://www.tcpdump.org/linktypes.html: the number, and the
+# headers of an IPv4 packet and of an IPv6 one. Linux cooked: the kind of packet, the kind of device, the length of its
+# address, the address, and the EtherType. Version 2 has the number of the interface too, in another order.
 COOKED, COOKED2 = "!HHH8sH", "!HHIHBB8s"
 ADDRESS = bytes(range(2, 10))
 LINKS = {
@@ -38,16 +38,16 @@ LINKS = {
     "cooked": (113, *(struct.pack(COOKED, 0, 1, 6, ADDRESS, it) for it in (ETH_P_IP, 0x86DD))),
     "cooked2": (276, *(struct.pack(COOKED2, it, 0, 3, 1, 0, 6, ADDRESS) for it in (ETH_P_IP, 0x86DD))),
 }
-SECONDS = 20  # of the processor, where pcap.c takes a hundredth of one
+SECONDS = 20  # of processor time; pcap.c takes a hundredth of a second
 LATEST = 0x7FFF_FFFF
 
 
 class Wrong(Exception):
-    """What is to be said."""
+    """What is wrong."""
 
 
 def packets(path):
-    """The IPv4 packets of a capture with their times, as far as their total lengths go."""
+    """Returns the IPv4 packets in a capture with their times, cut at their total lengths."""
     data = path.read_bytes()
     link, at = struct.unpack_from("<I", data, 20)[0], 24
     while at < len(data):
@@ -70,7 +70,8 @@ def total(data):
 
 
 def datagrams(timed):
-    """The UDP datagrams of packets: addresses, ports and bytes. What isn't whole after 30 seconds is dropped."""
+    """Returns the UDP datagrams in packets: addresses, ports and bytes. Incomplete ones are dropped after 30
+    seconds."""
     pieces, begun = {}, {}
     for now, packet in timed:
         if total(packet[:20]) != 0xFFFF:
@@ -92,13 +93,13 @@ def datagrams(timed):
 
 
 def echoes(path):
-    """What the host has to send when it hears a capture."""
+    """Returns the datagrams that the host must send for a capture."""
     heard = [it for it in datagrams(packets(path)) if it[1] in (HOST, BROADCAST) and it[3] == ECHO]
     return [(HOST, sender, ECHO, port, data) for sender, _, port, _, data in heard]
 
 
 def read_by_tshark(path, count):
-    """tshark finds right checksums, nothing malformed, and nothing to note."""
+    """Fails unless tshark finds right checksums, no malformed packet, and nothing to report."""
     if not shutil.which("tshark"):
         return
     words = ["tshark", "-r", path, "-o", "ip.check_checksum:TRUE", "-o", "udp.check_checksum:TRUE", "-T", "fields"]
@@ -112,7 +113,7 @@ def read_by_tshark(path, count):
 
 
 def played(program, source, room, counted):
-    """Plays a capture by pcap.c, which has to say what it counted. The answer is the file that it wrote."""
+    """Plays a capture with pcap.c, which must print its counters. Returns the file that it wrote."""
     written = pathlib.Path(room, "written.pcap")
     words = [program, source, written, "10.0.0.1", "10.0.0.255"]
     limit = (SECONDS, SECONDS)
@@ -124,7 +125,7 @@ def played(program, source, room, counted):
 
 
 def by_pcap(program, name, room):
-    """Plays a stored capture by pcap.c. The answer is what it wrote."""
+    """Plays a stored capture with pcap.c. Returns the packets that it wrote."""
     source = CAPTURES / f"{name}.pcap"
     written = played(program, source, room, source.with_suffix(".stdout").read_text(encoding="ascii"))
     wanted = echoes(source)
@@ -135,14 +136,14 @@ def by_pcap(program, name, room):
 
 
 def write(path, link, records):
-    """A capture of these records: the seconds of each, and its bytes."""
+    """Writes a capture of these records: the seconds of each, and its bytes."""
     head = struct.pack("<IHHiIII", 0xA1B2C3D4, 2, 4, 0, 0, 65_536, link)
     rows = [struct.pack("<IIII", seconds, 0, len(frame), len(frame)) + frame for seconds, frame in records]
     path.write_bytes(head + b"".join(rows))
 
 
 def read_by_link(path, count):
-    """tshark finds so many IPv4 packets behind the headers of a link."""
+    """Fails unless tshark finds this number of IPv4 packets after the headers of a link type."""
     if not shutil.which("tshark"):
         return
     words = ["tshark", "-r", path, "-Y", "ip.dst && !_ws.malformed", "-T", "fields", "-e", "ip.dst"]
@@ -152,8 +153,8 @@ def read_by_link(path, count):
 
 
 def by_links(program, room, wanted):
-    """The packets of ethernet.pcap behind the headers of the other links get the same answers. What another protocol is
-    said of is no packet, nor is a frame that ends in its header."""
+    """The packets of ethernet.pcap with the headers of the other link types get the same replies. Frames of another
+    protocol, and those that end in their header, have no packet."""
     heard = [packet for _, packet in packets(CAPTURES / "ethernet.pcap")]
     counted = (CAPTURES / "ethernet.stdout").read_text(encoding="ascii")
     for name, (link, header, other) in LINKS.items():
@@ -173,8 +174,8 @@ def by_links(program, room, wanted):
 
 
 def by_jumps(program, room):
-    """Two fragments of a datagram with all the time between them that a capture can tell: the first one is dropped. If
-    time goes back, no tick is made."""
+    """Two fragments of a datagram with the longest time between them that a capture can have: the first one is dropped.
+    If the time goes back, there is no tick."""
     both = [packet for _, packet in packets(CAPTURES / "late.pcap")][:2]
     source = pathlib.Path(room, "jump.pcap")
     for times, told in (((0, LATEST), "ip.fragtimeout 1\n"), ((LATEST, 0), "ip.reassembled 1\nip.localout 1\n")):
@@ -183,7 +184,7 @@ def by_jumps(program, room):
 
 
 def device():
-    """A socket by which packets go into the device of tun_echo, and come out of it, once it's there."""
+    """Waits for the device of tun_echo, and returns a socket that sends packets to it and receives from it."""
     for _ in range(1200):
         shown = subprocess.run(["ip", "addr", "show", "bsdudp0"], capture_output=True, text=True, check=False).stdout
         if "10.0.0.2" in shown and "UP" in shown:
@@ -196,7 +197,7 @@ def device():
 
 
 def by_tun_echo(program, name, wanted):
-    """Plays a capture into the device of tun_echo.c, which has to send these packets."""
+    """Plays a capture into the device of tun_echo.c, which must send these packets."""
     with subprocess.Popen([program, "1500"], stdout=subprocess.PIPE) as host:
         try:
             link = device()

@@ -1,6 +1,6 @@
-/* Four threads boot, use and end stacks of their own, all at once and without a lock: in memory that they give, and in
-   that of malloc. At the same time two share a stack under a lock, and each ends what it finds there and boots another.
-   It says what is wrong, and then exits with 1; a thread sanitizer sees what two of them touch at once. */
+/* Four threads boot, use and end their own stacks at the same time, without a lock: in their own memory, and in memory
+   from malloc. At the same time two threads share a stack with a lock, and each ends the present one and boots another.
+   It prints what is wrong, and then exits with 1. A thread sanitizer finds data races. */
 #include "bsdudp.h"
 
 #include <pthread.h>
@@ -9,7 +9,7 @@
 
 enum { THREADS = 4, TURNS = 100, GUARD = 64, MARK = 0xa5 };
 
-/* What a thread works with. No two stacks have the same sizes, so a block of another's memory shows. */
+/* A thread's data. No two stacks have the same sizes, so a block of another stack is detected. */
 struct place {
     uint32_t mbufs, clusters;
     unsigned char memory[BSDUDP_MEMORY(64, 16) + GUARD] __attribute__((aligned(BSDUDP_ALIGNMENT)));
@@ -40,7 +40,7 @@ static const char *works(struct bsdudp *stack, const struct place *here)
     return NULL;
 }
 
-/* A stack that is booted, used and ended: of malloc at every other turn. */
+/* Boots, uses and ends a stack, every second time in memory from malloc. */
 static const char *lives(struct place *here, int number)
 {
     const struct bsdudp_config config = {0x0a000001, 0x0a0000ff, here->mbufs, here->clusters, 1500, 1};
@@ -59,7 +59,7 @@ static const char *lives(struct place *here, int number)
     return bsdudp_end(&stack) == 0 ? NULL : "end is refused";
 }
 
-/* The stack that two threads share, which the first of them boots: each call of it stands under the lock. */
+/* The stack that two threads share. The first one boots it. Each call holds the lock. */
 static const char *shares(int number)
 {
     const struct bsdudp_config config = {0x0a000001, 0x0a0000ff, 8, 0, 1500, 1};
