@@ -1,10 +1,10 @@
-# What bench/run.sh does for a subject. CC and CFLAGS name another compiler and its flags, RT another `rt`.
+# The functions of bench/run.sh for a subject. CC and CFLAGS name another compiler and its flags, RT another `rt`.
 
 bench="$(cd "$(dirname "${BASH_SOURCE[0]}")" && pwd)"
 crates="$bench/../crates"
-kit="$(dirname "$("${RT:-rt}" doc)")" # its C archive has the functions that ask malloc and free
+kit="$(dirname "$("${RT:-rt}" doc)")" # its C archive has the functions that call malloc and free
 
-# The crate whose static library has a subject: its own if there is one.
+# The crate whose static library has a subject: the subject's own crate if there is one.
 crate_of() { # SUBJECT
     if [ -d "$crates/bench_$1" ]; then echo "bench_$1"; else echo bench_c; fi
 }
@@ -26,7 +26,7 @@ build_bench() { # WORK SUBJECT CRATES [LIBRARY..]
         "${archives[@]}" "$kit/c/liblibc_c.a" "$@" "-Wl,-rpath,$work"
 }
 
-# The instructions of a program. memcpy is told to copy without `rep movsb`, which would be counted once a byte.
+# The instructions of a program. memcpy copies without `rep movsb`, which counts as one instruction for each byte.
 counted() { # PROGRAM ARGUMENT..
     GLIBC_TUNABLES=glibc.cpu.x86_rep_movsb_threshold=2000000000 \
         valgrind --tool=callgrind --callgrind-out-file=/dev/null "$@" 2>&1 | sed -n 's/.*Collected : //p'
@@ -34,10 +34,10 @@ counted() { # PROGRAM ARGUMENT..
 
 # The instructions of each row and column that were counted last, as counts["ROW|COLUMN"].
 declare -A counts
-# Set once a row takes more instructions than it may: run.sh ends with 1 then.
+# Set when a row exceeds its limit: run.sh then ends with status 1.
 over_limit=
 
-# Says which rows take more instructions than bench/limits allows.
+# Prints the rows that take more instructions than bench/limits allows.
 check_limits() { # SUBJECT
     local subject row column most
     while IFS='|' read -r subject row column most; do
@@ -52,7 +52,7 @@ check_limits() { # SUBJECT
     done < <(grep -v '^#' "$bench/limits")
 }
 
-# The instructions of each turn, as the difference of 101 turns and one; `-` if the row doesn't have the column.
+# The instructions of each turn, from the difference of 101 turns and one, or `-` if the row doesn't have the column.
 print_instructions() { # WORK
     local each column columns row rows once more status
     counts=()
@@ -81,7 +81,7 @@ print_instructions() { # WORK
     done
 }
 
-# Both tables of a subject whose program is built. Its instructions are held against bench/limits.
+# Both tables of a subject whose program is built. Its instructions are compared with bench/limits.
 print_tables() { # WORK SUBJECT
     if command -v valgrind > /dev/null; then
         print_instructions "$1"
@@ -90,7 +90,7 @@ print_tables() { # WORK SUBJECT
     "$1/bench"
 }
 
-# Measures a subject that has no measure.sh of its own.
+# Measures a subject that has no measure.sh.
 measure() { # WORK SUBJECT
     build_bench "$1" "$2" "$(crate_of "$2")"
     print_tables "$1" "$2"

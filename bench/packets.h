@@ -1,4 +1,4 @@
-/* Packets for the subjects that let some arrive. */
+/* Packets for the subjects that receive some. */
 #ifndef BSDUDP_PACKETS_H
 #define BSDUDP_PACKETS_H
 
@@ -6,7 +6,7 @@
 #include <stdint.h>
 #include <string.h>
 
-/* Packets that are handed over together lie so far apart. */
+/* The distance between packets that are passed together. */
 enum { PACKETS_APART = 1500, PACKET_HEADER = 20, DATAGRAM_HEADER = 8, RECEIVER_HOST = 2, BROADCAST_HOST = 255 };
 
 static inline void put_two(uint8_t *to, uint32_t value)

@@ -1,7 +1,7 @@
 #!/usr/bin/env bash
-# Counts the instructions that `bsdplay` takes for a line of a mixed script: packets by name and in digits, texts,
-# fragments, drops and ticks, each with what is expected of it. What the start takes is left out. It needs valgrind.
-# Build the program first: `rt run` in crates/bsdplay leaves it in out/.
+# Counts the instructions of `bsdplay` for a line of a mixed script: packets by name and in digits, texts, fragments,
+# drops and ticks, each with an expectation. The start isn't counted. It needs valgrind. Build the program first: `rt
+# run` in crates/bsdplay writes it to out/.
 set -euo pipefail
 source "$(dirname "$0")/../tools/script.bash"
 words "[PROGRAM]" "$@"
@@ -15,7 +15,7 @@ socket => ok 3
 bind 3 0.0.0.0 7 => ok
 END
 cat > "$room/lines" << 'END'
-# a packet by name, a packet in digits, and what is read of them
+# a packet by name, a packet in digits, and the reads of both
 rx udp 10.0.0.2:5000 > 10.0.0.1:7 "hi" => ok
 recvfrom 3 100 => from 10.0.0.2 5000 "hi"
 rx 4500001e00010000401166cc0a0000020a00000113880007000a6fdf6869 => ok
@@ -37,7 +37,7 @@ bind 4 10.0.0.1 9 => ok
 close 4 => ok
 END
 
-# the instructions of so many times these lines, with these options
+# the instructions for these lines, repeated this number of times, with these options
 count() {
   local times=$1
   shift

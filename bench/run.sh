@@ -1,6 +1,6 @@
 #!/usr/bin/env bash
-# Measures the subject that is named, or each of them. Ends with 1 if a row takes more instructions than it may. A
-# subject is a folder next to this file; its measure.sh says how, or otherwise lib.sh.
+# Measures the named subject, or all subjects. Ends with status 1 if a row takes more instructions than its limit. A
+# subject is a folder next to this file. Its measure.sh, or otherwise lib.sh, measures it.
 set -euo pipefail
 source "$(dirname "$0")/../tools/script.bash"
 words "[SUBJECT ..]" "$@"

@@ -1,7 +1,7 @@
 #!/usr/bin/env bash
-# Feeds scripts of two lines in turn to the built program, and prints lines per second, the best of three runs: packets
-# from the wire that are received, and datagrams of 2, 1,472 and 9,000 bytes that are sent by loopback and received.
-# Build it first: `rt run` in crates/bsdudp leaves the program in out/.
+# Runs scripts of two alternating lines with the built program, and prints lines per second, the best of three runs:
+# packets from the wire that are received, and datagrams of 2, 1,472 and 9,000 bytes that are sent by loopback and
+# received. Build it first: `rt run` in crates/bsdudp writes the program to out/.
 set -euo pipefail
 source "$(dirname "$0")/../tools/script.bash"
 words "[PROGRAM]" "$@"
@@ -28,7 +28,7 @@ measure() {
   echo "$name: $((2 * pairs * 1000000000 / best)) lines per second"
 }
 
-# so many bytes, as a line writes them
+# this number of bytes, in the form of a line
 bytes() {
   printf '%*s' "$1" '' | sed 's/ /61/g'
 }

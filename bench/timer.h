@@ -1,10 +1,10 @@
 /*
- * What the benchmarks share: a table of rows and columns, its times, and the words that bench/lib.sh asks for.
+ * Shared by the benchmarks: a table of rows and columns, its times, and the commands that bench/lib.sh uses.
  *
- *   bench                     checks what there is to check, and prints nanoseconds. ROUNDS names more rounds than 100
- *   bench rows                prints the rows' names, one a line
- *   bench columns             prints the columns' names, one a line
- *   bench each                prints how often a turn does what is counted
+ *   bench                     checks the results, and prints nanoseconds. ROUNDS sets another number of rounds than 100
+ *   bench rows                prints the rows' names, one on each line
+ *   bench columns             prints the columns' names, one on each line
+ *   bench each                prints how often a turn does the counted work
  *   bench turns ROW COLUMN N  works N turns of a row and column, for a counter of instructions
  */
 #ifndef BSDUDP_TIMER_H
@@ -19,12 +19,12 @@
 
 enum { TIMER_MOST_COLUMNS = 8, TIMER_MOST_ROWS = 24 };
 
-/* Fewer turns than take that many nanoseconds aren't timed. */
+/* The least time of a measurement, in nanoseconds. */
 #define TIMER_SHORTEST 100000.0
 
 typedef struct {
     const char *name;
-    /* This many turns at this column; false if something went wrong. What is made once is made in each call. */
+    /* Works this many turns in this column. Returns false if something went wrong. Each call repeats one-time work. */
     bool (*run)(int column, uint64_t turns);
     /* The first column that the row has. */
     int from;
@@ -39,7 +39,7 @@ typedef struct {
     int row_count;
 } Table;
 
-/* What the compiler must take for used. */
+/* A value that the compiler must not remove. */
 static inline void seen(const void *p)
 {
     __asm__ volatile("" : : "r"(p) : "memory");
@@ -67,7 +67,7 @@ static inline double lesser(double a, double b)
     return a < b ? a : b;
 }
 
-/* The least time of a few runs, since a busy machine makes single ones long. */
+/* The least time of a few runs, because a busy computer slows some. */
 static inline double least_time(const Row *row, int column, uint64_t turns)
 {
     double least = 1e18;
@@ -76,7 +76,7 @@ static inline double least_time(const Row *row, int column, uint64_t turns)
     return least;
 }
 
-/* Enough turns that they can be timed, and that what is made once takes little time compared with them. */
+/* Enough turns that they can be timed, and that one-time work takes little of the time. */
 static inline uint64_t turns_of(const Row *row, int column)
 {
     double once = least_time(row, column, 1);
@@ -86,7 +86,7 @@ static inline uint64_t turns_of(const Row *row, int column)
     return turns;
 }
 
-/* The times of all rows, or their ratios to those of the first: these say more, on a busy machine and on another. */
+/* The times of all rows, or their ratios to the first row, which depend less on the load and on the computer. */
 static inline void print_rows(const Table *table, double taken[][TIMER_MOST_COLUMNS], bool ratios)
 {
     printf("%-40s", ratios ? "times to those of the first row" : table->what);
@@ -107,8 +107,8 @@ static inline void print_rows(const Table *table, double taken[][TIMER_MOST_COLU
 }
 
 /*
- * The rounds go over all rows in turn, so that a busy machine slows all alike. Of each row and column, the best run of
- * N turns is taken from the best of 3 N, so that what is made once falls out.
+ * The rounds go over all rows in turn, so that load slows all equally. For each row and column, the best run of N turns
+ * is subtracted from the best of 3 N, which removes one-time work.
  */
 static inline void print_times(const Table *table)
 {
@@ -148,7 +148,7 @@ static inline int work_turns(const Table *table, const char *row, const char *co
     return 2;
 }
 
-/* The program, once it has checked what there is to check. Status 3 says that the row doesn't have the column. */
+/* The program, after its checks. Status 3: the row doesn't have the column. */
 static inline int bench_main(int argc, char **argv, const Table *table)
 {
     if (argc == 1)

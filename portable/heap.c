@@ -1,10 +1,10 @@
-// The heap of a module that has no C library: rattle_alloc, rattle_realloc and rattle_dealloc, which the proved code
-// calls, and `room` and `give_back`, by which a page gets memory for its arguments. At the end are the three functions
-// on numbers of 128 bits that clang calls if a processor has no instruction for them: times of captures are computed in
-// such numbers. Like malloc, it isn't proved.
+// The heap of a module without a C library: rattle_alloc, rattle_realloc and rattle_dealloc, which the proved code
+// calls, and `room` and `give_back`, with which a page allocates and frees memory for its arguments. At the end are the
+// three functions on 128-bit numbers that clang calls if a processor has no instruction for them: capture times are
+// computed with such numbers. Like malloc, it isn't proved.
 //
 // The free blocks are a list in the order of their addresses. The first one that is large enough is taken, and split if
-// it's much larger; what is freed is merged with its neighbours. Memory grows by pages of 65,536 bytes, and never
+// it's much larger. A freed block is merged with its neighbours. Memory grows by pages of 65,536 bytes, and never
 // shrinks.
 typedef unsigned long long u64;
 typedef unsigned char u8;
@@ -24,13 +24,13 @@ enum { HEAD = sizeof(Block), ALIGNED = 16, PAGE = 65536 };
 
 extern u8 __heap_base;
 static Block *first_free;
-static u64 top; // the end of all that was handed out, 0 before the first call
+static u64 top; // the end of all allocated blocks, 0 before the first call
 
 static u64 rounded(u64 n) {
     return (n + (ALIGNED - 1)) & ~(u64)(ALIGNED - 1);
 }
 
-// Whether the memory reaches this far, after it has grown if need be.
+// Whether the memory reaches this far, after growing it if necessary.
 static int reaches(u64 end) {
     u64 have = (u64)__builtin_wasm_memory_size(0) * PAGE;
     if (end <= have) return 1;
@@ -86,7 +86,7 @@ static void merge(Block *block) {
     }
 }
 
-// Gives memory back.
+// Frees memory.
 void rattle_dealloc(u8 *at) {
     if (!at) return;
     Block *block = (Block *)(at - HEAD), *before = 0, **link = &first_free;
@@ -111,12 +111,12 @@ Tried rattle_realloc(u8 *at, u64 kept, u64 n, u64 alignment) {
     return got;
 }
 
-// Memory of n bytes for what a page hands over, or 0.
+// Memory of n bytes for a page's argument, or 0.
 __attribute__((export_name("room"))) u64 room(u64 n) {
     return rattle_alloc(n, ALIGNED).at;
 }
 
-// Gives it back.
+// Frees it.
 __attribute__((export_name("give_back"))) void give_back(u8 *at) {
     rattle_dealloc(at);
 }

@@ -1,4 +1,4 @@
-/* Our echo: rx, recvfrom, sendto, tx; with ETHER as a host on an Ethernet, which takes and gives frames. */
+/* Our echo: rx, recvfrom, sendto, tx; with ETHER as a host on an Ethernet, which receives and sends frames. */
 #include "bsdudp.h"
 
 #include "echo.h"

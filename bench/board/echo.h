@@ -1,5 +1,5 @@
-/* What the echoes of bench/board share: datagrams as packets of at most 1,500 bytes, and what one turn costs. With ETHER
-   they come in frames from 02:00:00:00:00:02 to 02:00:00:00:00:01, and an ARP request and a ping are measured, too. */
+/* Shared by the echoes of bench/board: datagrams as packets of at most 1,500 bytes, and the cost of one turn. With
+   ETHER they are in frames from 02:00:00:00:00:02 to 02:00:00:00:00:01, and an ARP request and a ping are measured. */
 #include "machine.h"
 
 #include <string.h>
@@ -17,7 +17,7 @@ static uint8_t rooms[PACKETS][PAD + FRAME_HEAD + MTU] __attribute__((aligned(4))
 static uint8_t *const packets[PACKETS] = {rooms[0] + PAD, rooms[1] + PAD, rooms[2] + PAD};
 static uint32_t lengths[PACKETS], packet_count;
 
-/* How many packets went out. */
+/* The number of packets sent. */
 static uint32_t gone;
 
 /* One turn: all packets arrive, and the replies are sent. */
@@ -101,7 +101,7 @@ static void say_number(uint32_t number)
 static void measure_turn(void)
 {
     uint32_t k, ticks;
-    for (k = 0; k < 2; k++) /* what is made once has been made then */
+    for (k = 0; k < 2; k++) /* then one-time work has been done */
         turn();
     gone = 0;
     machine_watch();

@@ -1,6 +1,6 @@
-/* lwIP's echo by its own interface: a callback sends what came, as its own echo does. With COPIES the bytes are copied
-   out of the packet and into another, as sockets copy them. A packet from the link is copied in, and one for it out, as
-   ours are. With ETHER packets come and go in frames, by its own etharp. */
+/* lwIP's echo by its raw interface: a callback sends what arrived, as lwIP's own echo does. With COPIES the bytes are
+   copied out of the packet and into another, as sockets copy them. A packet from the link is copied in, and one for it
+   is copied out, as in ours. With ETHER packets are in frames, with lwIP's etharp. */
 #include "lwip/etharp.h"
 #include "lwip/init.h"
 #include "lwip/netif.h"

@@ -1,5 +1,5 @@
-/* lwIP as bench/board builds it: IPv4, UDP, fragments, loopback, shared ports and counters without an operating system,
-   like ours, and no more. Pools are large enough for 16 packets, like ours. */
+/* lwIP as bench/board builds it: only IPv4, UDP, fragments, loopback, shared ports and counters without an operating
+   system, like ours. Pools are large enough for 16 packets, like ours. */
 #ifndef BSDUDP_BOARD_LWIPOPTS_H
 #define BSDUDP_BOARD_LWIPOPTS_H
 
@@ -7,7 +7,8 @@
 #define SYS_LIGHTWEIGHT_PROT 0
 #define LWIP_NOASSERT 1
 
-/* What our stack doesn't have, and a host on an Ethernet has: as many neighbours, and packets that wait for one. */
+/* Options that our bare stack lacks and our host on an Ethernet has: the same numbers of neighbours and of waiting
+   packets. */
 #ifdef ETHER
 #define LWIP_ICMP 1
 #define LWIP_ARP 1
@@ -22,7 +23,7 @@
 #define LWIP_ETHERNET 0
 #endif
 
-/* What neither has. */
+/* Options that neither has. */
 #define LWIP_IPV6 0
 #define LWIP_TCP 0
 #define LWIP_RAW 0
@@ -31,7 +32,7 @@
 #define LWIP_NETIF_API 0
 #define IP_FORWARD 0
 
-/* What it has. */
+/* Its options. */
 #define IP_REASSEMBLY 1
 #define IP_FRAG 1
 #define LWIP_NETIF_LOOPBACK 1
@@ -43,7 +44,7 @@
 #define LWIP_STATS 1
 #define LWIP_STATS_DISPLAY 0
 
-/* One interface, and memory of fixed sizes. A pool buffer takes a packet. */
+/* One interface, and memory of fixed sizes. A pool buffer holds a packet. */
 #define LWIP_SINGLE_NETIF 0
 #define MEM_ALIGNMENT 4
 #define MEM_SIZE 16384

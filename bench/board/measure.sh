@@ -44,7 +44,7 @@ table_row() { # CELL..
     echo "$row"
 }
 
-# What a library has with every call (or -), what its echo takes beside a program that measures nothing, and its costs.
+# The size of a library with every call (or -), the size of its echo without that of an empty program, and its costs.
 board_row() { # WORK NAME LIBRARY PROGRAM
     local work=$1 name=$2 library=$3 program=$4 text data bss text0 data0 bss0 said
     read -r text data bss < <(bytes_of "$program")
@@ -55,7 +55,7 @@ board_row() { # WORK NAME LIBRARY PROGRAM
         "${said[@]::${#said[@]}-1}"
 }
 
-# Our echo over a library or an object.
+# Our echo with a library or an object.
 board_ours() { # WORK NAME HEADERS LIBRARY FLAG..
     local work=$1 name=$2
     board_object "$bench/board/bench.c" "$work/bench.o" "-I$3" -Wall -Wextra "${@:5}"
@@ -134,7 +134,7 @@ board_processors() { # WORK
     done
 }
 
-# Where the bytes are, by crate: each function's, with what is inlined into it; what is left are constants.
+# The bytes by crate: each function's, with those inlined into it. The rest are constants.
 board_crates() { # WORK
     local name size made all
     echo

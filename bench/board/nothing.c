@@ -1,4 +1,4 @@
-/* What every program of bench/board takes: its size is taken off theirs. */
+/* An empty program: its size is subtracted from those of the other programs. */
 #include "echo.h"
 
 static void turn(void)

@@ -58,7 +58,7 @@ static inline uint64_t rest_words(const uint8_t *p, size_t len)
     return sum + word;
 }
 
-/* 32 bytes at a time, and the compiler makes of it what the target has. For MOST bytes no lane overflows. */
+/* 32 bytes at a time, vectorized by the compiler. Up to MOST bytes no lane overflows. */
 typedef uint32_t lanes32 __attribute__((vector_size(32)));
 
 static uint16_t c_lanes(const uint8_t *p, size_t len)
@@ -140,7 +140,7 @@ typedef uint16_t Body(const uint8_t *p, size_t len);
 
 static volatile uint16_t sink;
 
-/* The compiler mustn't see which body it is, or it would sum once for all turns. */
+/* The compiler mustn't know which body it is, otherwise it sums only once for all turns. */
 static bool call(Body *body, int column, uint64_t turns)
 {
     Body *volatile hidden = body;

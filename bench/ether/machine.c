@@ -5,7 +5,7 @@
 #include <stdio.h>
 #include <valgrind/callgrind.h>
 
-/* What it says of each: 1 if everything got its reply, otherwise 0; the number of instructions is callgrind's. */
+/* Prints 1 for each piece if everything got its reply, otherwise 0. callgrind counts the instructions. */
 void machine_say(const char *text) { fputs(text, stdout); }
 void machine_watch(void) { CALLGRIND_ZERO_STATS; }
 

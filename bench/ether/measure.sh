@@ -1,5 +1,5 @@
-# A host on an Ethernet beside the bare stack, and beside lwIP with its etharp and icmp, on x86-64 at -O3: instructions
-# of an echo by the programs of bench/board, as callgrind counts them. The table is that of docs/c.md.
+# A host on an Ethernet compared with the bare stack, and with lwIP with its etharp and icmp, on x86-64 at -O3:
+# instructions of an echo by the programs of bench/board, counted by callgrind. The table is that of docs/c.md.
 . "$bench/peers/measure.sh"
 
 # Builds a program for this host.

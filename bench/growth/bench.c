@@ -1,10 +1,10 @@
 /*
- * How the cost of one thing grows with the number of others: bench/lib.sh asks for the table's lines, and counts the
- * instructions of each size.
+ * How a cost grows with a number of things: bench/lib.sh reads the table's lines, and counts the instructions for each
+ * size.
  *
- *   bench lines              what grows, what is counted, how many turns to compare with one, and the sizes: a line
- *                            each, parted by tabs
- *   bench each LINE SIZE     how often a turn does what is counted
+ *   bench lines              what grows, what is counted, how many turns to compare with one, and the sizes: on one
+ *                            line each, separated by tabs
+ *   bench each LINE SIZE     how often a turn does the counted work
  *   bench turns LINE SIZE N  works N turns
  */
 #include "packets.h"
@@ -90,7 +90,7 @@ static uint32_t reversed(uint32_t count, uint32_t turns)
 typedef struct {
     const char *grows, *counted, *sizes;
     uint32_t turns; /* that are compared with one */
-    uint32_t each;  /* how often a turn does what is counted; 0 for as often as the size */
+    uint32_t each;  /* how often a turn does the counted work; 0 means the size */
     uint32_t (*run)(uint32_t size, uint32_t turns);
 } Line;
 

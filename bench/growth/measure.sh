@@ -1,6 +1,7 @@
-# How the cost of one thing grows with the number of others, by instructions. PROGRAM names another build of bsdudp.
+# How a cost in instructions grows with a number of things. PROGRAM names another build of bsdudp.
 
-# A line of the table: `flat` if the last is at most 1.2 times the first, and else what each more costs.
+# A line of the table: `flat` if the last cost is at most 1.2 times the first, otherwise the cost of each additional
+# one.
 print_line() { # COUNTED SIZES COSTS
     local costs
     read -r -a costs <<< "$3"
@@ -21,7 +22,7 @@ print_head() { # GROWS SIZES
     echo
 }
 
-# The instructions of a turn of bench, as the difference of so many turns and one.
+# The instructions of a turn of bench, from the difference of TURNS turns and one.
 cost_of() { # WORK LINE SIZE TURNS
     local once more each
     once="$(counted "$1/bench" turns "$2" "$3" 1)"
@@ -30,7 +31,7 @@ cost_of() { # WORK LINE SIZE TURNS
     echo $(((more - once) / (($4 - 1) * each)))
 }
 
-# The digits of so many bytes, and of a packet to 10.0.0.1 that carries them, with no UDP checksum.
+# The digits of SIZE bytes, and of a packet to 10.0.0.1 that carries them, without a UDP checksum.
 digits() { # SIZE
     printf '%*s' "$1" '' | sed 's/ /61/g'
 }
@@ -42,13 +43,13 @@ packet_digits() { # SIZE
     digits "$1"
 }
 
-# A script of two lines, so many times.
+# A script that repeats two lines.
 pairs() { # FIRST SECOND TIMES
     printf 'socket\nbind 3 0.0.0.0 7\n'
     for ((at = 0; at < $3; at++)); do printf '%s\n%s\n' "$1" "$2"; done
 }
 
-# The instructions of two lines, as the difference of 101 pairs and one.
+# The instructions of two lines, from the difference of 101 pairs and one.
 cost_of_pair() { # WORK FIRST SECOND
     local once more
     pairs "$2" "$3" 1 > "$1/once"

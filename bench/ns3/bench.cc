@@ -1,6 +1,6 @@
-// ns-3's applications over bsdudp and over ns-3's own stack, in one process: the processor time of echoes and of a
-// hundred nodes, in rounds that alternate, and how memory grows with the nodes, in a process for each row. ROUNDS names
-// more or fewer rounds than 5.
+// ns-3's applications with bsdudp and with ns-3's own stack, in one process: the processor time of echoes and of a
+// hundred nodes, in alternating rounds, and the growth of memory with the nodes, in a process for each row. ROUNDS sets
+// another number of rounds than 5.
 
 #include "ns3/applications-module.h"
 #include "ns3/bsdudp-module.h"
@@ -134,7 +134,7 @@ Compare(const char* name, uint64_t wanted, int rounds, const std::function<uint6
     std::fflush(stdout);
 }
 
-/// What the nodes of a row have.
+/// The stack of the nodes in a row.
 enum Kind
 {
     DEVICES,
@@ -198,7 +198,7 @@ main()
     const char* named = std::getenv("ROUNDS");
     const int rounds = named ? std::atoi(named) : 5;
     GlobalValue::Bind("ChecksumEnabled", BooleanValue(true));
-    // otherwise each node would forward what it receives on the one channel
+    // otherwise each node forwards what it receives on the one channel
     Config::SetDefault("ns3::Ipv4::IpForward", BooleanValue(false));
     Config::SetDefault("ns3::BsdudpStack::Mbufs", UintegerValue(512));
     Config::SetDefault("ns3::BsdudpStack::Clusters", UintegerValue(64));

@@ -1,4 +1,4 @@
-# ns-3's applications over bsdudp beside ns-3's own stack, as Debian compiles it.
+# ns-3's applications with bsdudp, compared with ns-3's own stack as Debian compiles it.
 
 measure_ns3() { # WORK
     local work="$1" top="$bench/.." flags

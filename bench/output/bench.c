@@ -1,10 +1,10 @@
 /*
- * Datagrams in clusters after a header, cut into packets whose headers have their checksums; and the checksum of these
- * bytes in their chain, beside that of the same bytes in one piece.
+ * Datagrams in clusters after a header, cut into packets with header checksums; and the checksum of these bytes in
+ * their chain, compared with that of the same bytes in one piece.
  *
  *   made alone    the chain is made and freed
- *   output        it's made, cut, its packets are queued, and freed
- *   cut           the same, and none is queued: an output queue takes 50 packets, and at MTU 68 there are more
+ *   output        the chain is made and cut, and its packets are queued and freed
+ *   cut           the same without queueing: an output queue holds 50 packets, and at MTU 68 there are more
  *   cksum_chain   each sum begins with the two bytes of the one before
  */
 #include "timer.h"

@@ -1,6 +1,6 @@
 /*
- * What one packet or one send costs, by its size and by what happens to it: a packet that is delivered, one that is
- * dropped for each cause, broadcasts, and sends. lwIP does the same work where it can.
+ * The cost of one packet or one send, by its size and its fate: a packet that is delivered, one that is dropped for
+ * each cause, broadcasts, and sends. lwIP does the same work if it can.
  */
 #include "packets.h"
 #include "timer.h"

@@ -1,4 +1,4 @@
-# Packets and sends, with lwIP's best build beside them. LWIP names a folder that has lwIP's sources already.
+# Packets and sends, compared with lwIP's best build. LWIP names a folder with lwIP's sources.
 
 . "$bench/peers/measure.sh"
 
@@ -15,7 +15,7 @@ measure_packets() { # WORK
     check_drops
 }
 
-# Says which drops cost as much as the delivery of a packet of that size.
+# Prints the drops that cost as much as the delivery of a packet of that size.
 check_drops() {
     local row column
     for row in "${!counts[@]}"; do

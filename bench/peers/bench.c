@@ -4,8 +4,9 @@
  *
  *   2, 1,472, 9,000 bytes   sendto, tx of each packet, rx into the other stack, recvfrom: the bytes are copied four times.
  *                           The 9,000 go in seven fragments
- *   seven fragments         those of a datagram of 9,216 bytes after 8 of UDP are stored, have their headers read and
- *                           tested, and make their datagram whole, which is freed. No UDP sum, no copy to the user
+ *   seven fragments         those of a datagram with 9,216 bytes after the UDP header are stored, their headers are
+ *                           read and checked, and they complete the datagram, which is freed. No UDP sum, no copy to
+ *                           the user
  */
 #include "packets.h"
 #include "timer.h"
@@ -58,7 +59,7 @@ static const Row ROWS[] = {
 
 static const Table TABLE = {"a datagram", 1, COLUMNS, COUNT_OF(COLUMNS), ROWS, COUNT_OF(ROWS)};
 
-/* What the port brings as lwIP's sum (sum.c), which lwIP holds against nothing but itself. */
+/* The port's sum for lwIP (sum.c), which lwIP doesn't check. */
 unsigned short peers_sum(const void *bytes, int len);
 
 /* Whether it's the sum of RFC 1071 for a length, in lwIP's form: words in the order of the machine, folded. */

@@ -23,13 +23,13 @@ static struct netif near, far;
 static struct udp_pcb *sender, *hearer;
 static ip_addr_t to_hearer;
 
-/* Packets that wait to go out. */
+/* Packets that wait for the link. */
 static struct {
     struct pbuf *packets[QUEUE];
     unsigned first, count;
 } out;
 
-/* Datagrams that wait in the hearer's socket, with their senders. */
+/* Datagrams that wait in the receiver's socket, with their senders. */
 static struct {
     struct {
         struct pbuf *bytes;
@@ -176,8 +176,8 @@ uint32_t EXPORT(send_and_receive)(const uint8_t *bytes, size_t len, uint32_t tim
 }
 
 /*
- * A packet comes so many times and is read if it's for the socket; `before` packets come first, and nobody reads these.
- * Returns how many were read, or how many came. What waits is freed at the end.
+ * A packet arrives `times` times, and is read if it's for the socket. `before` packets arrive first and aren't read.
+ * Returns how many were read, or how many arrived. Queued datagrams are freed at the end.
  */
 uint32_t EXPORT(receive)(const uint8_t *packet, size_t len, uint32_t before, bool is_read, uint32_t times)
 {
@@ -211,8 +211,8 @@ static unsigned free_buffers(void)
 }
 
 /*
- * Packets that lie 1,500 bytes apart arrive so many times. What they make whole is freed, since nobody takes its
- * protocol. Answers how often, or 0 if all but the last weren't held, or not all are free at the end.
+ * Packets, 1,500 bytes apart in memory, arrive `times` times. The datagram that they complete is freed, because no
+ * handler has its protocol. Returns how often, or 0 if a fragment before the last wasn't kept, or a buffer isn't free.
  */
 uint32_t EXPORT(reassemble)(const uint8_t *packets, size_t len, uint32_t times)
 {

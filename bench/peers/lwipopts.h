@@ -1,6 +1,6 @@
 /*
- * lwIP as bench/peers builds it: IPv4, UDP and fragments without an operating system, and room for what our stacks of
- * 512 mbufs hold. `LWIP_NOASSERT`, `PEERS_SUM` and `PEERS_POOLS` come from the compiler's command line.
+ * lwIP as bench/peers builds it: IPv4, UDP and fragments without an operating system, with the capacity of our stacks
+ * of 512 mbufs. `LWIP_NOASSERT`, `PEERS_SUM` and `PEERS_POOLS` come from the compiler's command line.
  */
 #ifndef BSDUDP_LWIPOPTS_H
 #define BSDUDP_LWIPOPTS_H
@@ -10,7 +10,7 @@
 #define SYS_LIGHTWEIGHT_PROT 0
 #define LWIP_TIMERS 0
 
-/* What our stack doesn't have. */
+/* Options that our stack lacks. */
 #define LWIP_TCP 0
 #define LWIP_RAW 0
 #define LWIP_ICMP 0
@@ -22,7 +22,7 @@
 /* It counts nothing, as in Debian's package. */
 #define LWIP_STATS 0
 
-/* Memory is its own, of fixed sizes; a pool buffer takes a packet. */
+/* lwIP's own memory, of fixed sizes. A pool buffer holds a packet. */
 #define MEM_ALIGNMENT 8
 #define MEM_SIZE 131072
 #define PBUF_POOL_SIZE 64
@@ -39,7 +39,7 @@
 #define MEMP_USE_CUSTOM_POOLS 1
 #endif
 
-/* A sum that the port brings; lwIP calls it by this name. */
+/* The port's sum, which lwIP calls by this name. */
 #ifdef PEERS_SUM
 unsigned short peers_sum(const void *bytes, int len);
 #define LWIP_CHKSUM peers_sum

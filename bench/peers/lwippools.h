@@ -1,5 +1,5 @@
 /*
- * What lwIP uses instead of its heap if PEERS_POOLS is set: blocks for the header of a fragment, for a send of one
+ * lwIP's pools, used instead of its heap if PEERS_POOLS is set: blocks for the header of a fragment, for a send of one
  * packet, and for one of 9,000 bytes. Together they are as large as MEM_SIZE.
  */
 LWIP_MALLOC_MEMPOOL_START

@@ -1,11 +1,11 @@
-# Our stack beside lwIP. LWIP names a folder that has its sources already.
+# Our stack compared with lwIP. LWIP names a folder with its sources.
 
 # The folder of lwIP's sources, those of Debian 12 if none is named.
 lwip_sources() { # WORK
     LWIP=${LWIP:-$("$bench/../tools/debian-source" "$1" lwip 2> "$1/lwip.log")} && [ -f "$LWIP/src/core/udp.c" ]
 }
 
-# One build of lwIP with lwip.c, as a shared library that shows nothing but what is named after it.
+# One build of lwIP with lwip.c, as a shared library that exports only names that begin with its own.
 build_lwip() { # WORK NAME FLAG..
     local core="$LWIP/src/core" name="$2" library="$1/lib$2.so" file
     local files=("$bench/peers/lwip.c" "$bench/peers/sum.c")
@@ -16,12 +16,12 @@ build_lwip() { # WORK NAME FLAG..
         -o "$library" "${files[@]}"
 }
 
-# The flags of its best build: for speed, with a sum of its user's, and with pools in the place of its heap.
+# The flags of its best build: for speed, with the port's sum, and with pools instead of its heap.
 lwip_fast=(-O3 -march=x86-64-v2 -flto -DLWIP_NOASSERT)
 lwip_best=("${lwip_fast[@]}" -DPEERS_SUM -DPEERS_POOLS)
 
-# lwIP as Debian compiles it, with the fastest of its own sums there, compiled for speed, with a sum of its user's, and
-# with pools in the place of its heap, which is its best.
+# lwIP as Debian compiles it, with its fastest sum; compiled for speed; with the port's sum; and with pools instead of
+# its heap, which is its best build.
 measure_peers() { # WORK
     if ! lwip_sources "$1"; then
         echo "skipped: lwIP's sources can't be had by apt-get"

@@ -7,7 +7,7 @@ static unsigned char memory[2][BSDUDP_MEMORY(512, 64)] __attribute__((aligned(BS
 static struct bsdudp near_ = BSDUDP_NONE, far_ = BSDUDP_NONE;
 static uint8_t bytes[BSDUDP_DATAGRAM], room[BSDUDP_DATAGRAM], packet[BSDUDP_TX_ROOM];
 
-/* Whether the datagram came. */
+/* Whether the datagram arrived. */
 static int travels(size_t len)
 {
     static const struct bsdudp_addr to = {0x0a000002, 7};

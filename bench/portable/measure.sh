@@ -1,5 +1,5 @@
-# The C library beside those of portable/core for size and the portable C: instructions of a datagram from one stack to another,
-# with send, tx, rx and recvfrom. As in lib.sh they're differences of 101 turns and one.
+# The C library compared with those of portable/core for size, and with the portable C: instructions of a datagram from
+# one stack to another, with send, tx, rx and recvfrom. As in lib.sh they're differences of 101 turns and one.
 
 # The instructions of one datagram of a length by a program.
 datagram() { # PROGRAM LENGTH

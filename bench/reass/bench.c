@@ -2,9 +2,9 @@
  * Fragments that arrive as packets: each is stored, its header is read and tested, and it joins the others of its
  * datagram.
  *
- *   seven fragments    those of a datagram of 9,216 bytes behind 8 of UDP, at MTU 1500, in three orders; the datagram is
- *                      freed when it's whole
- *   stored alone       the same packets stored, their headers read, and freed
+ *   seven fragments    those of a datagram with 9,216 bytes after the UDP header, at MTU 1500, in three orders; the
+ *                      datagram is freed when it's whole
+ *   stored alone       the same packets are only stored, their headers read, and freed
  */
 #include "packets.h"
 #include "timer.h"

@@ -1,13 +1,13 @@
 /*
- * Echoes by hosts on a link of Linux: bench NAME=PROGRAM.. starts each host in a network namespace of its own, and asks
- * it from there. A last host is Linux itself, behind a pair of virtual Ethernet devices. Rounds go over all hosts in
- * turn. Sixteen datagrams are under way at once, so that nobody waits for one alone.
+ * Echoes by hosts on a link of Linux: bench NAME=PROGRAM.. starts each host in its own network namespace, and sends to
+ * it from there. The last host is Linux itself, on a pair of virtual Ethernet devices. Rounds go over all hosts in
+ * turn. Sixteen datagrams are under way at once, so that neither side waits for a single one.
  *
  *   echoes a second
- *   processor time of the host    what the host's process takes for an echo
- *   of the host and its peer      with that of this process, since Linux works for a host on the time of who sends
+ *   processor time of the host    of the host's process, for an echo
+ *   of the host and its peer      with that of this process, because Linux charges work for a host to the sender
  *
- * Each is the median of all rounds. ROUNDS names more or fewer than 100.
+ * Each is the median of all rounds. ROUNDS sets another number than 100.
  */
 #define _GNU_SOURCE
 #include <arpa/inet.h>
@@ -62,7 +62,7 @@ static struct sockaddr_in address(const char *text)
     return it;
 }
 
-/* A socket with room for all datagrams that are under way, which cuts those that are long. */
+/* A socket with space for all datagrams under way, which truncates long ones. */
 static int new_socket(void)
 {
     int it = socket(AF_INET, SOCK_DGRAM, 0), never = 0, space = 1 << 22;
@@ -71,7 +71,7 @@ static int new_socket(void)
     return it;
 }
 
-/* A socket of this process's namespace that sends to 10.0.0.1, or -1 as long as no device leads there. */
+/* A socket in this process's namespace that sends to 10.0.0.1, or -1 while there is no route. */
 static int client(void)
 {
     struct timeval wait = {5, 0};
@@ -84,7 +84,7 @@ static int client(void)
     return -1;
 }
 
-/* Linux's own: a socket that echoes. It begins once its device is there. */
+/* Linux itself: a socket that echoes. It starts when its device exists. */
 static void echo_by_linux(int ready, int begin)
 {
     struct sockaddr_in any = address("0.0.0.0"), from;
@@ -185,7 +185,7 @@ static int compare(const void *a, const void *b)
     return (difference > 0) - (difference < 0);
 }
 
-/* Sorts what was measured. */
+/* Sorts the measurements. */
 static double median(double *values, int count)
 {
     qsort(values, (size_t)count, sizeof *values, compare);
@@ -200,7 +200,7 @@ static void print_head(const char *what)
     printf("\n");
 }
 
-/* A table, and the same as ratios to the first host's. */
+/* A table, and its ratios to the first host. */
 static void print(const char *what, int kind, int rounds)
 {
     for (int ratios = 0; ratios < 2; ratios++) {

@@ -1,6 +1,6 @@
-/* lwIP as a host 10.0.0.1 on a TUN device that echoes UDP on port 7: what capi/examples/tun_echo.c is for our stack. A
-   packet is copied to and from the device as lwIP's own port for Unix does it. An echo sends the buffers that came:
-   bytes aren't copied to a user and back. */
+/* lwIP as a host 10.0.0.1 on a TUN device that echoes UDP on port 7, like capi/examples/tun_echo.c for our stack. A
+   packet is copied to and from the device as in lwIP's port for Unix. An echo sends the buffers that arrived: bytes
+   aren't copied to a user and back. */
 #include "lwip/init.h"
 #include "lwip/ip4_frag.h"
 #include "lwip/netif.h"

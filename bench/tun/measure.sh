@@ -1,5 +1,5 @@
-# Echoes by tun_echo of capi/examples, by lwIP on a TUN device, and by Linux's own socket. LWIP names a folder that has
-# lwIP's sources already.
+# Echoes by tun_echo of capi/examples, by lwIP on a TUN device, and by a Linux socket. LWIP names a folder with lwIP's
+# sources.
 
 . "$bench/peers/measure.sh"
 

@@ -17,7 +17,7 @@ TUNSETIFF, IFF_TUN, IFF_NO_PI = 0x400454CA, 1, 0x1000
 DEVICE = "tun0"
 # The clock of 4.4BSD's IP ticks each half second.
 TICK = 0.5
-# A datagram of 9,216 bytes, the longest, takes a line of some 18,500: below the 64 KiB that a pipe holds.
+# The longest datagram, of 9,216 bytes, takes a line of about 18,500 bytes: below the 64 KiB that a pipe holds.
 LONGEST = 9216
 
 
@@ -86,7 +86,7 @@ def arrived(device):
 
 
 def serve(stack, device, command):
-    """Passes packets to and fro, and lets the clock tick, until the command has ended. Answers its status."""
+    """Passes packets in both directions, and ticks, until the command has ended. Returns its status."""
     echo = stack.open(7)
     running = subprocess.Popen(command)
     tick = time.monotonic() + TICK

@@ -1,6 +1,6 @@
 #!/usr/bin/env python3
-"""Joins a program that speaks SLIP (RFC 1055) on its standard input and output to the TUN device
-bsdudp0, which it makes, with the address 10.0.0.2. At SIGTERM the program gets a packet of one byte 4 and shall end."""
+"""Connects a program that uses SLIP (RFC 1055) on its standard input and output to the TUN device bsdudp0, which it
+makes, with the address 10.0.0.2. At SIGTERM it sends the program a packet of one byte 4, which ends it."""
 import fcntl
 import os
 import pathlib
@@ -31,7 +31,7 @@ def framed(packet):
 
 
 def packets(came):
-    """The whole packets of what has come, and what is left of the next one."""
+    """Returns the whole packets in the bytes that arrived, and the beginning of the next one."""
     *whole, rest = came.split(END)
     return [it.replace(ESCAPED_END, END).replace(ESCAPED_ESC, ESC) for it in whole if it], rest
 

@@ -1,12 +1,12 @@
-/* What capi/examples/device.c takes of the board: the card by lan9118.c, and the clock and the serial port by
-   machine.c. portable/board/build puts the file "flash" behind the program. */
+/* The functions of the board for capi/examples/device.c: the card by lan9118.c, and the clock and the serial port by
+   machine.c. portable/board/build puts the file "flash" after the program. */
 #include "../../capi/examples/device.h"
 
 #include "lan9118.h"
 #include "machine.h"
 
 /* With the servers these take less than 56 KB, which leaves 8 KB of 64 for the call stack. A datagram of 8,196 bytes
-   takes 6 clusters and 13 mbufs as it comes, and 5 and 20 as it goes out. */
+   takes 6 clusters and 13 mbufs when it arrives, and 5 and 20 when it's sent. */
 enum { MBUFS = 40, CLUSTERS = 7, RAM = 6144 };
 
 static unsigned char memory[BSDUDP_ETHER_MEMORY(MBUFS, CLUSTERS)] __attribute__((aligned(BSDUDP_ALIGNMENT)));

@@ -1,6 +1,6 @@
-/* A service on a board: it sends back what arrives at 10.0.0.1 port 7. Packets are sent and received by SLIP (RFC 1055)
-   over the serial port. All memory is static: 64 KB are enough, stack and all. A packet of one byte 4 ends it, which no
-   board needs. */
+/* A service on a board that echoes datagrams to 10.0.0.1 port 7. Packets are sent and received by SLIP (RFC 1055) over
+   the serial port. All memory is static: 64 KB are enough, with the stack. A packet of one byte 4 ends it, for the
+   tests only. */
 #include "bsdudp.h"
 #include "machine.h"
 #include "report.h"
@@ -16,10 +16,10 @@ enum { END = 0300, ESC = 0333, ESC_END = 0334, ESC_ESC = 0335, MTU = 1500, END_O
 
 static unsigned char memory[BSDUDP_MEMORY(MBUFS, CLUSTERS)] __attribute__((aligned(BSDUDP_ALIGNMENT)));
 static struct bsdudp stack;
-static uint8_t packet[MTU], room[BSDUDP_TX_ROOM]; /* a datagram of 4,096 bytes has room too */
-static uint32_t length; /* of what has come of a packet; more than the MTU of one that is too long */
+static uint8_t packet[MTU], room[BSDUDP_TX_ROOM]; /* a datagram of 4,096 bytes fits too */
+static uint32_t length; /* of the part of a packet that arrived; above the MTU if it's too long */
 
-/* A packet as SLIP writes it: an end before it, too, so that noise on the line is a packet of its own. */
+/* A packet in SLIP, with an end before it too, so that noise on the line is a separate packet. */
 static void transmit(const uint8_t *bytes, int len)
 {
     int i;
@@ -35,7 +35,7 @@ static void transmit(const uint8_t *bytes, int len)
     machine_put(END);
 }
 
-/* A byte has come; whether a packet is whole. */
+/* Adds a byte that arrived. Returns whether a packet is complete. */
 static int whole(uint8_t byte)
 {
     static uint8_t escaped;
@@ -54,7 +54,7 @@ static int whole(uint8_t byte)
     return 0;
 }
 
-/* What waits in the socket goes back, and what waits for the link goes out. */
+/* Echoes the socket's datagrams, and sends the packets for the link. */
 static void serve(uint32_t fd)
 {
     struct bsdudp_addr from = {0, 0};

@@ -1,5 +1,5 @@
-/* A host on an Ethernet on a board: it replies to ARP and ping, and sends back what arrives at 10.0.0.1 port 7. All
-   memory is static: 64 KB are enough, stack and all. A datagram of one byte 4 ends it, which no board needs. */
+/* A host on an Ethernet on a board: it replies to ARP and ping, and echoes datagrams to 10.0.0.1 port 7. All memory is
+   static: 64 KB are enough, with the stack. A datagram of one byte 4 ends it, for the tests only. */
 #include "bsdudp.h"
 #include "lan9118.h"
 #include "machine.h"
@@ -22,7 +22,7 @@ static uint8_t bytes[4096];
 static uint8_t room[2 + BSDUDP_ETHER_ROOM] __attribute__((aligned(4)));
 static uint8_t *const frame = room + 2;
 
-/* What waits in the socket goes back, and what waits for the link goes out. Whether it goes on. */
+/* Echoes the socket's datagrams, and sends the frames for the link. Returns whether to continue. */
 static int serve(uint32_t fd)
 {
     struct bsdudp_addr from = {0, 0};

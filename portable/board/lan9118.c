@@ -36,7 +36,7 @@ enum { MAC_CR = 1, MAC_ADDRH = 2, MAC_ADDRL = 3, MII_ACC = 6, MII_DATA = 7, MAC_
 enum { PHY_CONTROL = 0, PHY_ADVERTISE = 4, MII_PHY_1 = 1 << 11, MII_WRITE = 2, MII_BUSY = 1 };
 enum { NEGOTIATE = 0x1200, HALF_DUPLEX = 0x00a1, CHECK_SEQUENCE = 4, PATIENCE = 1000000 };
 
-/* Waits until these bits of a register are what they are to be; -1 if that takes too long. */
+/* Waits until these bits of a register have the wanted values. Returns -1 if that takes too long. */
 static int wait_for(volatile uint32_t *at, uint32_t bits, uint32_t value)
 {
     uint32_t tries;
@@ -53,7 +53,7 @@ static int mac_write(uint32_t which, uint32_t value)
     return wait_for(&MAC_CMD, BUSY, 0);
 }
 
-/* The PHY takes a thousandth of a second at most for a register. */
+/* The PHY takes at most a millisecond for a register. */
 static int phy_write(uint32_t which, uint32_t value)
 {
     uint32_t tries;

@@ -1,4 +1,4 @@
-/* A Cortex-M3 as QEMU's machine mps2-an385 has it: what runs first, the serial port, the clock, and the end. */
+/* The Cortex-M3 of QEMU's machine mps2-an385: the startup code, the serial port, the clock, and the end. */
 #include "machine.h"
 
 /* From ARM's descriptions: the CMSDK's serial port, and the processor's own clock. */
@@ -25,7 +25,7 @@ enum { PAINT = 0x5aa5c33c };
 int main(void);
 void start(void);
 
-/* Asks the debugger, which is QEMU, for something. */
+/* A semihosting call to the debugger, which is QEMU. */
 static void ask(uint32_t what, const void *argument)
 {
     register uint32_t r0 __asm__("r0") = what;
@@ -70,7 +70,7 @@ void start(void)
     machine_end();
 }
 
-/* The top of the stack, where to begin, and what to do at a fault. */
+/* The top of the stack, the first instruction, and the handler of faults. */
 __attribute__((section(".vectors"), used)) static void *const vectors[] = {
     &memory_end, (void *)start, (void *)fault, (void *)fault, (void *)fault, (void *)fault, (void *)fault,
 };
@@ -110,7 +110,7 @@ void machine_sleep(uint32_t interrupt, void (*heard)(void))
 void machine_watch(void)
 {
     CLOCK_RELOAD = LONGEST;
-    CLOCK_NOW = 0; /* any value begins anew */
+    CLOCK_NOW = 0; /* any value restarts it */
     while (CLOCK_NOW == 0)
         continue;
 }

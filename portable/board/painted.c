@@ -1,6 +1,6 @@
-/* How many bytes of the call stack each call of bsdudp.h uses, apart from its arguments: the memory below is painted
-   before it, and read after it. A program that's linked with --wrap of each call and of `main` prints the most of each
-   at its end. */
+/* Measures how many bytes of the call stack each call of bsdudp.h uses, without its arguments: the memory below is
+   painted before the call, and read after it. A program that's linked with --wrap of each call and of `main` prints the
+   maximum of each at its end. */
 #include "bsdudp.h"
 #include "machine.h"
 

@@ -1,9 +1,9 @@
 #!/usr/bin/env python3
 """Linux as the peer of the board, in a network namespace of its own (unshare -n). The command is bridge.py with the
 machine that runs echo.elf; with --tap it's the machine that runs host.elf, whose card is the TAP device bsdudp0.
-Datagrams of 0 to 4,096 bytes go to 10.0.0.1 port 7 and come back; a host is pinged, too. The kernel's counters have no
-error then, and the board's pool is full again. It prints the first fault and exits with 1, or otherwise prints the
-stack usage."""
+Datagrams of 0 to 4,096 bytes are sent to 10.0.0.1 port 7 and come back. A host is also pinged. Then the kernel's
+counters must show no error, and all buffers of the board's pool must be free. It prints the first fault and exits with
+1, or otherwise prints the stack usage."""
 import pathlib
 import random
 import re
@@ -21,7 +21,7 @@ from tools import command_line  # noqa: E402
 LENGTHS = [0, 1, 2, 72, 73, 100, 101, 207, 208, 1472, 1473, 2047, 2048, 2049, 2952, 2953, 4095, 4096]
 BOARD, MOST = ("10.0.0.1", 7), 4096
 IP_MTU_DISCOVER = 10
-WAIT, TRIES = 60, 3  # seconds: much more than any needs, for a busy machine
+WAIT, TRIES = 60, 3  # seconds: much more than any test needs, for a busy computer
 
 
 def make_device():
@@ -32,15 +32,15 @@ def make_device():
 def wait_for_device():
     for _ in range(1200):
         shown = subprocess.run(["ip", "addr", "show", "bsdudp0"], capture_output=True, text=True, check=False).stdout
-        if "10.0.0.2" in shown and "LOWER_UP" in shown:  # and whoever runs the other end has it
+        if "10.0.0.2" in shown and "LOWER_UP" in shown:  # and a program has opened the other end
             return
         time.sleep(0.05)
     sys.exit("peer.py: the device doesn't come up")
 
 
 def echoed(it, data, before):
-    """Sends a datagram until it comes back, and says what is wrong. Fragments that come half a minute apart, as on a
-    busy machine, are dropped here and there, so it may take a second try; then the first reply may arrive late."""
+    """Sends a datagram until it comes back, and returns what is wrong. On a busy computer, fragments that arrive half a
+    minute apart are dropped on either side, so it may take a second try. Then the first reply may arrive late."""
     for _ in range(TRIES):
         it.sendto(data, BOARD)
         try:
@@ -73,7 +73,7 @@ def echo(lengths):
 
 
 def pinged():
-    """Says what is wrong with the replies to pings of several lengths; ping itself compares their bytes."""
+    """Returns what is wrong with the replies to pings of several lengths. ping itself compares their bytes."""
     for length in (0, 56, 57, 1472) if shutil.which("ping") else ():
         words = ["ping", "-q", "-c", "3", "-i", "0.2", "-w", str(WAIT), "-s", str(length), BOARD[0]]
         said = subprocess.run(words, capture_output=True, text=True, check=False).stdout
@@ -83,7 +83,7 @@ def pinged():
 
 
 def end_host():
-    """A datagram of one byte 4 ends host.elf, and comes back before."""
+    """Ends host.elf with a datagram of one byte 4, which it echoes first."""
     with socket.socket(socket.AF_INET, socket.SOCK_DGRAM) as it:
         it.settimeout(WAIT)
         it.sendto(b"\x04", BOARD)

@@ -1,4 +1,4 @@
-/* portable/tests/run.c on the board: scripts and replies by the serial port, as they are. */
+/* portable/tests/run.c on the board, with scripts and replies over the serial port. */
 #include "bsdudp.h"
 #include "machine.h"
 #include "run.h"

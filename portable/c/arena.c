@@ -1,5 +1,5 @@
 // The memory of the module that becomes bsdudp_portable.c: rattle_alloc, rattle_realloc and rattle_dealloc, which the
-// proved code calls. Only boot allocates memory, and gets consecutive blocks of what bsdudp_boot_in was given. Like
+// proved code calls. Only boot allocates memory, in consecutive blocks of the memory passed to bsdudp_boot_in. Like
 // malloc, it isn't proved.
 //
 // The start of the memory for the module is agreed with calls.c: first the core's handle, of 16 bytes, then these two.
@@ -11,7 +11,7 @@ typedef struct {
     u64 ok, at;
 } Tried;
 
-// What is left: from `next` to `end`.
+// The free memory: from `next` to `end`.
 typedef struct {
     u64 next, end;
 } Arena;
@@ -28,7 +28,7 @@ Tried rattle_alloc(u64 n, u64 alignment) {
     return (Tried){1, at};
 }
 
-// Memory comes back: it's the caller's again once the stack has ended.
+// Memory is freed: it's the caller's again when the stack has ended.
 void rattle_dealloc(u8 *at) {
     (void)at;
 }

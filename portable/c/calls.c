@@ -4,8 +4,8 @@
 /* The end of the frames has a handle without a stack, and room for a struct that the compiled code reads or writes. */
 enum { HANDLE = 16, ARGUMENT = 32, LONG_ARGUMENT = 112 };
 
-/* The front of a stack's memory has its handle, and which part of the memory is left: arena.c reads it. A host's has
-   the handle of its link behind that. */
+/* A stack's memory begins with its handle, and the bounds of the free part, which arena.c reads. A host's memory then
+   has the handle of its link. */
 enum { ARENA_NEXT = HANDLE, ARENA_END = HANDLE + 8, ARENA_HEAD = HANDLE + 16, HOST_HEAD = ARENA_HEAD + HANDLE };
 
 /* A call of the compiled code begins: `it` gets a stack pointer and the windows on constants, on the frames and on the
@@ -45,7 +45,7 @@ static u32 handle_of(const struct core *it)
     return it->windows[WINDOW(MEMORY)].start != NULL ? MEMORY : (u32)it->top;
 }
 
-/* The greatest length that is passed to the compiled code: no call distinguishes lengths above it. */
+/* The largest length that is passed to the compiled code: no call distinguishes lengths above it. */
 static u32 heard(size_t len)
 {
     return len <= BSDUDP_ETHER_FRAME ? (u32)len : BSDUDP_ETHER_FRAME + 1;
@@ -59,7 +59,7 @@ static u32 lend(struct core *it, const u8 *bytes, size_t len)
     return BYTES;
 }
 
-/* A window on a room. */
+/* A window on a buffer that is written. */
 static u32 give(struct core *it, u8 *room, size_t len)
 {
     lend(it, room, len);
@@ -67,7 +67,7 @@ static u32 give(struct core *it, u8 *room, size_t len)
     return BYTES;
 }
 
-/* A result, whose bits are those of a number with a sign. */
+/* A result, whose bits are those of a signed number. */
 static int answer_of(u32 answer)
 {
     return answer <= 0x7fffffff ? (int)answer : -(int)(0xffffffff - answer) - 1;
@@ -85,8 +85,7 @@ size_t bsdudp_memory(const struct bsdudp_config *config)
     return BSDUDP_MEMORY(config->mbufs, config->clusters);
 }
 
-/* The memory of a stack that isn't booted yet, as the compiled code finds it: no stack, and all of it free after a head
-   of this many bytes. */
+/* The memory of a stack before boot: no stack, and all of it free after a head of this many bytes. */
 static void make_arena(struct bsdudp *fresh, u8 *memory, size_t len, u32 head)
 {
     const size_t most = 0x3ffffff0;
@@ -137,7 +136,7 @@ int bsdudp_boot_in(struct bsdudp *stack, const struct bsdudp_config *config, voi
 
 #define LINK (MEMORY + ARENA_HEAD)
 
-/* Boots the link in the memory of a stack that is booted, or returns why not; without a stack nothing is booted. */
+/* Boots the link in the memory of a booted stack, or returns the error. Without a stack nothing is booted. */
 static int boot_link(const struct bsdudp *stack, const struct bsdudp_config *config, const struct bsdudp_link *link)
 {
     enum { CONFIG = 20 };
@@ -174,7 +173,7 @@ static int boot_host_at(struct bsdudp *stack, const struct bsdudp_config *config
     int answer;
     if (stack->core.at != 0)
         return -BSDUDP_ENXIO;
-    answer = boot_link(stack, config, link); /* without memory a right one wants some */
+    answer = boot_link(stack, config, link); /* a valid one fails without memory */
     if (answer != -BSDUDP_ENOMEM)
         return answer;
     answer = boot_at(stack, config, memory, len, HOST_HEAD);
@@ -263,7 +262,7 @@ int bsdudp_ether_neighbour(struct bsdudp *stack, uint32_t i, struct bsdudp_neigh
         return answer;
     neighbour->ip = get_u32(plain);
     for (at = 0; at < 4; at++)
-        neighbour->mac[2 + at] = plain[7 - at]; /* numbers have the byte of least weight first */
+        neighbour->mac[2 + at] = plain[7 - at]; /* numbers are little endian */
     neighbour->mac[0] = plain[9];
     neighbour->mac[1] = plain[8];
     neighbour->ticks = get_u16(plain + 10);
@@ -273,7 +272,7 @@ int bsdudp_ether_neighbour(struct bsdudp *stack, uint32_t i, struct bsdudp_neigh
 }
 
 #if BSDUDP_MALLOC
-/* A block of `len` bytes, or NULL if boot fails without one: it then returns why. */
+/* A block of `len` bytes, or NULL if boot fails in any case: it then returns the error. */
 static u8 *block_of(const struct bsdudp *stack, const struct bsdudp_config *config, size_t len)
 {
     const int has_sizes = config->mbufs >= 1 && config->mbufs <= 65535 && config->clusters <= 4096;
@@ -340,7 +339,7 @@ int bsdudp_tx(struct bsdudp *stack, void *room, size_t len)
     return answer_of(core_tx(&it, handle_of(&it), give(&it, room, len), heard(len)));
 }
 
-/* The link's calls are reached by a pointer that its boot sets: so a program that boots none is linked without them. */
+/* The link's calls go through a pointer that its boot sets, so a program that boots no host is linked without them. */
 int bsdudp_tick(struct bsdudp *stack)
 {
     int answer;
@@ -422,7 +421,7 @@ int bsdudp_setsockopt(struct bsdudp *stack, uint32_t fd, int option, int on)
         return set_broadcast(stack, fd, on != 0);
     case BSDUDP_SO_REUSEPORT:
         return set_reuse_port(stack, fd, on != 0);
-    default: /* a handle without a stack and a wrong descriptor are told first */
+    default: /* a handle without a stack and a wrong descriptor are reported first */
         answer = bsdudp_getsockname(stack, fd, &name);
         return answer < 0 ? answer : -BSDUDP_ENOPROTOOPT;
     }

@@ -24,8 +24,8 @@ static uint32_t word_at(const uint8_t *at)
     return *(const word *)(const void *)at;
 }
 
-/* The sum of the words of 16 bits as they are in memory, an odd last byte being the low half of one: of each 32 bits
-   the high half counts 65,536 times, which a fold makes 1. */
+/* The sum of the 16-bit words in memory order, with an odd last byte as the low half of a word. The high half of each
+   32 bits counts 65,536 times, which a fold reduces to 1. */
 uint64_t bsdudp_plain_sum(const uint8_t *bytes, uint64_t len)
 {
     uint32_t n = (uint32_t)len;
@@ -50,7 +50,7 @@ uint16_t bsdudp_plain_fold(uint64_t sum)
     return (uint16_t)((low & 65535) + (low >> 16));
 }
 
-/* How many of the sixteen ports from a place on come before the first that is this one: 16 if none is. */
+/* The index of the first of sixteen ports that equals this one: 16 if none does. */
 uint64_t bsdudp_plain_before(const uint16_t *ports, uint64_t len, uint64_t at, uint16_t port)
 {
     uint32_t k;

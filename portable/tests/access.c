@@ -1,4 +1,4 @@
-/* The tests of accesses in bsdudp_portable.c: at the borders of each window, whose bytes are a block of malloc. */
+/* The checks of accesses in bsdudp_portable.c, at the limits of each window, whose bytes are a block from malloc. */
 #include <setjmp.h>
 #include <stdio.h>
 #include <stdlib.h>
@@ -9,7 +9,7 @@
 static jmp_buf failed;
 void stopped(void) { longjmp(failed, 1); }
 
-/* Whether `len` bytes at an address pass the test of reading. */
+/* Whether `len` bytes at an address pass the check for reading. */
 static int reads(const struct core *it, u32 address, u32 len)
 {
     if (setjmp(failed))
@@ -18,7 +18,7 @@ static int reads(const struct core *it, u32 address, u32 len)
     return 1;
 }
 
-/* The same of writing. */
+/* The same for writing. */
 static int writes(const struct core *it, u32 address, u32 len)
 {
     if (setjmp(failed))
@@ -27,7 +27,7 @@ static int writes(const struct core *it, u32 address, u32 len)
     return 1;
 }
 
-/* A window of 24 bytes that begins at an address; this many of them may be written. */
+/* A window of 24 bytes that begins at an address. This many of them may be written. */
 static int borders(struct core *it, u32 address, u32 size)
 {
     const u32 last = address + 23;

@@ -1,6 +1,6 @@
-/* portable/c/plain.c compared with plain definitions: sums of every length to 200 at each alignment, folds at their
-   borders and at random, ports in each place, and moves in each relation of two pieces. It prints the first that
-   differs. */
+/* portable/c/plain.c compared with plain definitions: sums of every length up to 200 at each alignment, folds at their
+   limits and at random, ports in each place, and moves in each relation of two pieces. It prints the first
+   difference. */
 #include <stdint.h>
 #include <stdio.h>
 #include <stdlib.h>

@@ -1,7 +1,7 @@
 #!/usr/bin/env python3
-"""Plays all scripts of examples/ by a driver of run.c, and compares its replies with those beside the scripts, byte for
-byte. Then it plays random scripts by the driver and by the program `bsdudp`, and compares these. Several drivers, with
-a word + between them, play the same scripts. It says what is answered otherwise, and then exits with 1."""
+"""Plays all scripts in examples/ with a driver of run.c, and compares its replies with their golden files, byte for
+byte. Then it plays random scripts with the driver and with the program `bsdudp`, and compares their replies. Several
+drivers, separated by +, play the same scripts. If a reply differs, it prints that and exits with 1."""
 import argparse
 import concurrent.futures
 import itertools
@@ -18,7 +18,7 @@ from tools import command_line  # noqa: E402
 
 
 def examples():
-    """Each script of examples/ with its name, the words of its options, and its replies."""
+    """Returns each script in examples/ with its name, its options, and its replies."""
     for path in sorted((TOP / "examples").glob("*.txt")):
         words = path.with_name(path.name + ".args")
         options = words.read_text().split() if words.exists() else []
@@ -26,7 +26,7 @@ def examples():
 
 
 def heard(driver, scripts):
-    """The driver's replies to scripts, one after another, and what else it says."""
+    """Returns the driver's replies to scripts, one after another, and its other output."""
     text = b"".join(" ".join(options).encode() + b"\n" + script + b"\0" for _, options, script in scripts)
     ran = subprocess.run(driver, input=text + b"\x04", capture_output=True, check=False)
     got, said = ran.stdout.split(b"\0")[:-1], ran.stderr.decode(errors="replace")
@@ -38,7 +38,7 @@ def heard(driver, scripts):
 
 
 def chosen(count, program):
-    """All scripts of examples/, and so many random ones, each with its name and options; and the replies to them."""
+    """Returns all scripts in examples/ and `count` random ones, each with its name and options, and their replies."""
     told = list(examples())
     scripts = [(f"examples/{name}", options, script) for name, options, script, _ in told]
     lines = lines_of(script for _, _, script, _ in told)
@@ -53,7 +53,7 @@ def chosen(count, program):
 
 
 def differences(scripts, got, wanted):
-    """Which line of which script is answered otherwise."""
+    """Returns the script and the line of each reply that differs."""
 
     def line_of(one, other):
         pairs = zip(one.splitlines() + [b""], other.splitlines() + [b""])
@@ -64,7 +64,7 @@ def differences(scripts, got, wanted):
 
 
 class Random(argparse.Action):
-    """A number and the path of a program."""
+    """Parses a number and the path of a program."""
 
     def __call__(self, parser, namespace, values, option=None):
         if not values[0].isdigit():
@@ -73,7 +73,7 @@ class Random(argparse.Action):
 
 
 def add_random(parser):
-    """The option --random, as a number of scripts and the program that answers them, or 0 and None."""
+    """Returns the option --random, as a number of scripts and the program that plays them, or 0 and None."""
     about = "also plays N random scripts, by this program bsdudp too"
     parser.add_argument(
         "--random", nargs=2, metavar=("N", "PROGRAM"), action=Random, default=(0, None), help=about

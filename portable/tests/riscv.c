@@ -1,5 +1,5 @@
-/* run.c as a program of Linux on RISC-V with 32 bits, for qemu-riscv32. It brings what a C library and a compiler's own
-   library would have, so that only the toolchain's clang and linker are needed. */
+/* run.c as a Linux program on 32-bit RISC-V, for qemu-riscv32. It contains the functions of a C library and of a
+   compiler's library, so that only the toolchain's clang and linker are needed. */
 #include "run.h"
 
 #include "bsdudp.h"

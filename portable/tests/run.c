@@ -1,6 +1,6 @@
-/* The language of `bsdudp run` (docs/scripts.md) over bsdudp.h. The input is one script after another: a line with
-   options, such as `--mtu 68`, the script's lines, and a byte 0; and then RUN_END. So are the replies: a line for each,
-   and a byte 0. It reads and writes by the functions of run.h, so that it runs on a board too. */
+/* The language of `bsdudp run` (docs/scripts.md) with bsdudp.h. The input is one script after another: a line with
+   options, such as `--mtu 68`, the script's lines, and a byte 0; and then RUN_END. The output has, for each script, a
+   line for each reply, and a byte 0. It uses the functions of run.h, so that it runs on a board too. */
 #include "run.h"
 
 #include "bsdudp.h"
@@ -116,7 +116,7 @@ static int is(struct word word, const char *text)
     return word.len == strlen(text) && memcmp(word.at, text, word.len) == 0;
 }
 
-/* A number of at most so much, without a zero in front. */
+/* A number of at most `most`, without leading zeros. */
 static int number_of(struct word word, uint32_t most, uint32_t *number)
 {
     uint64_t value = 0;
@@ -190,7 +190,7 @@ static int bytes_of(struct word word, size_t *len)
     return 1;
 }
 
-/* The words between single spaces; one more than any line has if there are more. */
+/* The words between single spaces, at most one more than any line has. */
 static int split(const char *text, size_t len, struct word *words)
 {
     size_t from = 0, i;
@@ -306,7 +306,7 @@ static void answer_line(size_t len)
 
 /* ---- scripts */
 
-/* The configuration that a line of options names, as docs/scripts.md has them. */
+/* The configuration from a line of options (docs/scripts.md). */
 static int config_of(size_t len, struct bsdudp_config *config)
 {
     static const struct bsdudp_config usual = {0x0a000001, 0x0a0000ff, 512, 64, 1500, 1};

@@ -1,17 +1,17 @@
-/* What run.c asks of the machine that it runs on. */
+/* The functions of the machine that run.c runs on. */
 #include <stddef.h>
 
-/* A byte that ends the input, if it has no other end. */
+/* A byte that ends the input, for an input without an end. */
 enum { RUN_END = 4 };
 
 /* The next byte of the input, or -1 at its end. */
 int run_get(void);
 
-/* Bytes of the replies. */
+/* Writes bytes of the replies. */
 void run_put(const char *bytes, size_t len);
 
-/* All replies of a script were put. */
+/* All replies to a script were written. */
 void run_flush(void);
 
-/* Plays scripts to the end of the input. `memory_of` gives the memory of the next stack; it's free at the next call. */
+/* Plays scripts to the end of the input. `memory_of` returns memory for the next stack, until its next call. */
 void run_scripts(void *(*memory_of)(size_t));

@@ -1,1 +1,1 @@
-/* What lwIP requires of a port: its own defaults are enough. */
+/* lwIP's port header: lwIP's defaults are enough. */

@@ -1,4 +1,4 @@
-/* What lwIP requires of a port and has no default for. */
+/* The definitions that lwIP requires from a port. */
 #ifndef BSDUDP_ARCH_CC_H
 #define BSDUDP_ARCH_CC_H
 

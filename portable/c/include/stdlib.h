@@ -1,4 +1,4 @@
-/* What capi/src asks of a C library's stdlib.h, for compilers that come without one. */
+/* The part of stdlib.h that capi/src needs, for compilers without a C library. */
 #include <stddef.h>
 
 void *malloc(size_t);

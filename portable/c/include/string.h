@@ -1,4 +1,4 @@
-/* What portable/tests asks of a C library's string.h, for compilers that come without one. */
+/* The part of string.h that portable/tests needs, for compilers without a C library. */
 #include <stddef.h>
 
 void *memchr(const void *, int, size_t);
