@@ -3,14 +3,14 @@
 #include "kit.h"
 
 /* Boot a new stack: address 10.0.0.1, netmask 255.255.255.0, broadcast 10.0.0.255, all other addresses reached directly
-* on the link, a UDP socket bound to port 7. */
+ * on the link, a UDP socket bound to port 7. */
 static void boot(int mtu)
 {
     (void)mtu;
 }
 
 /* A packet arrives from the wire. For each datagram that the socket then receives, call kit_got. For each IPv4 packet
-* that the stack sends meanwhile, call kit_out. */
+ * that the stack sends meanwhile, call kit_out. */
 static void rx(const uint8_t *packet, int length)
 {
     (void)packet;
