@@ -1,7 +1,8 @@
 # What people type first; `make help` lists it. No rule has logic of its own: each calls a script that works by itself.
-.PHONY: help run play test prove lib install packages page setup clean
+.PHONY: help run play why test prove lib install packages page setup clean
 .DEFAULT_GOAL := help
 SCRIPT ?= examples/first_datagram.txt
+CAPTURE ?= examples/play/faults.pcap
 PREFIX ?= $(HOME)/.local
 FOLDER ?= out
 # $(call need,COMMAND,WHERE IT COMES FROM) ends the rule with one line and status 2 if a command isn't there.
@@ -13,6 +14,7 @@ cc = $(call need,$(or $(CC),cc),apt-get install gcc)
 help:
 	@echo "make run [SCRIPT=FILE]       play a script by bsdudp and show each line with its reply: half a minute, no proof"
 	@echo "make play SCRIPT=FILE        play a script by bsdplay, which says what happens to each packet"
+	@echo "make why [CAPTURE=FILE]      read a capture by bsdplay why, which says why its packets were dropped"
 	@echo "make test [K=WORD]           run the tests that need no proof: 3 minutes; with K those with WORD in their name"
 	@echo "make prove                   run the gate: prove everything and run every test: about an hour on four idle cores"
 	@echo "make lib [FOLDER=out]        prove the C library and build it in FOLDER"
@@ -29,6 +31,10 @@ run:
 play:
 	@$(python)
 	@tools/play --people "$(SCRIPT)"
+
+why:
+	@$(python)
+	@tools/play --why "$(CAPTURE)"
 
 test:
 	@$(python)

@@ -6,6 +6,7 @@
 #include "bsdudp.h"
 
 #include <arpa/inet.h>
+#include <errno.h>
 #include <fcntl.h>
 #include <linux/if.h>
 #include <linux/if_tun.h>
@@ -55,7 +56,7 @@ static void serve(struct bsdudp *host, int device)
         if ((len = bsdudp_recvfrom(host, FD, bytes, sizeof bytes, &from)) >= 0)
             (void)bsdudp_sendto(host, FD, &from, bytes, (size_t)len); /* if it fails, this echo is lost */
         for (int sent; (sent = bsdudp_ether_transmit(host, room, sizeof room)) > 0;)
-            if (write(device, room, (size_t)sent) < 0)
+            if (write(device, room, (size_t)sent) < 0 && errno != EIO) /* the device is not up yet: no cable */
                 perror("write");
     } while (len >= 0);
 }

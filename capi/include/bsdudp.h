@@ -135,7 +135,7 @@ struct bsdudp_tallies {
     uint64_t too_long;        /* packets that are too long for a frame: always 0 for a host of this library */
     uint64_t echoes;          /* echo requests that got a reply */
     uint64_t unreachable;     /* datagrams for which the host sent "port unreachable" to the sender */
-    uint64_t limited;         /* datagrams for which it did not, because of the limit per second */
+    uint64_t limited;         /* datagrams for which it did not: it sends at most 10 between two ticks */
     uint64_t icmp_dropped;    /* ICMP replies dropped because another reply was still queued */
 };
 
@@ -194,7 +194,7 @@ enum {
     BSDUDP_COUNTERS = 26    /* the number of counters: bsdudp_counter */
 };
 
-/* ---- boot and end */
+/* ---- boot and end: this library's own */
 
 /* The size in bytes of the memory for a stack with these numbers of mbufs and clusters. It is a constant if they are,
    so `static unsigned char memory[BSDUDP_MEMORY(64, 16)]` works. */
@@ -397,7 +397,8 @@ int bsdudp_bind(struct bsdudp *stack, uint32_t fd, const struct bsdudp_addr *loc
 
 /* Connects a socket to a peer: bsdudp_send sends to the peer, and the socket receives only from it. A socket that is
    connected is first disconnected, and stays disconnected if the call fails. A missing local port or address is chosen.
-   Source: the book, chapter 22 (in_pcbconnect).
+   Address 0 means the host itself, and 255.255.255.255 its broadcast address. Source: the book, chapter 22
+   (in_pcbconnect).
 
    Returns 0.
 
@@ -405,13 +406,15 @@ int bsdudp_bind(struct bsdudp *stack, uint32_t fd, const struct bsdudp_addr *loc
    -BSDUDP_ENXIO if the handle holds no stack.
    -BSDUDP_EBADF if no open socket has the descriptor `fd`.
    -BSDUDP_EADDRNOTAVAIL if `to->port` is 0.
-   -BSDUDP_EHOSTUNREACH if no route leads to `to->ip`.
+   -BSDUDP_EHOSTUNREACH if no packet can be sent to `to->ip`: it is in 0/8, but not 0; in 127/8, but not 127.0.0.1; or
+   224.0.0.0 to 255.255.255.254.
    -BSDUDP_EADDRINUSE if another socket has the same local and foreign address and port. */
 int bsdudp_connect(struct bsdudp *stack, uint32_t fd, const struct bsdudp_addr *to);
 
 /* Sends `len` bytes as one datagram to an address. Its packets are queued for bsdudp_tx or bsdudp_ether_transmit. A
-   datagram to this host has arrived when the call returns. A missing local port is chosen. Source: the book, chapters
-   16 (sosend), 23 (udp_output), 8 and 10 (ip_output).
+   datagram to this host has arrived when the call returns. A missing local port is chosen. Address 0 means the host
+   itself, and 255.255.255.255 its broadcast address. Source: the book, chapters 16 (sosend), 23 (udp_output), 8 and 10
+   (ip_output).
 
    Returns `len`.
 
@@ -421,7 +424,7 @@ int bsdudp_connect(struct bsdudp *stack, uint32_t fd, const struct bsdudp_addr *
    -BSDUDP_EMSGSIZE if `len` is above BSDUDP_DATAGRAM.
    -BSDUDP_EISCONN if the socket is connected.
    -BSDUDP_EADDRNOTAVAIL if `to->port` is 0.
-   -BSDUDP_EHOSTUNREACH if no route leads to `to->ip`.
+   -BSDUDP_EHOSTUNREACH if no packet can be sent to `to->ip`, as for bsdudp_connect.
    -BSDUDP_EADDRINUSE if another socket has the same local and foreign address and port.
    -BSDUDP_EACCES if `to->ip` is the broadcast address and the socket does not have BSDUDP_SO_BROADCAST.
    -BSDUDP_EMSGSIZE if `to->ip` is the broadcast address and the packet would exceed the MTU.
@@ -485,7 +488,8 @@ int bsdudp_setsockopt(struct bsdudp *stack, uint32_t fd, int option, int on);
    -BSDUDP_EBADF if no open socket has the descriptor `fd`. */
 int bsdudp_getsockname(struct bsdudp *stack, uint32_t fd, struct bsdudp_name *name);
 
-/* Reads the sender and the length of the oldest datagram in a socket's receive queue into `*next`.
+/* Reads the sender and the length of the oldest datagram in a socket's receive queue into `*next`. Source: the book,
+   chapters 16 (soreceive with MSG_PEEK) and 17 (soo_ioctl with FIONREAD).
 
    Returns 0.
 
@@ -496,6 +500,7 @@ int bsdudp_getsockname(struct bsdudp *stack, uint32_t fd, struct bsdudp_name *na
 int bsdudp_next(struct bsdudp *stack, uint32_t fd, struct bsdudp_next *next);
 
 /* Reads which sockets have a datagram in their receive queue: bit k of `*set` is descriptor BSDUDP_FIRST_FD + k.
+   Source: the book, chapter 16 (soo_select).
 
    Returns 0.
 
@@ -503,26 +508,28 @@ int bsdudp_next(struct bsdudp *stack, uint32_t fd, struct bsdudp_next *next);
    -BSDUDP_ENXIO if the handle holds no stack. */
 int bsdudp_readable(struct bsdudp *stack, uint64_t *set);
 
-/* Returns the number of packets in the output queue, 0 to BSDUDP_QUEUE.
+/* Returns the number of packets in the output queue, 0 to BSDUDP_QUEUE. Source: the book, chapter 3 (struct ifqueue).
 
    Errors:
    -BSDUDP_ENXIO if the handle holds no stack. */
 int bsdudp_output_len(struct bsdudp *stack);
 
-/* Returns the length in bytes of the packet that bsdudp_tx removes next; 0 if the output queue is empty.
+/* Returns the length in bytes of the packet that bsdudp_tx removes next; 0 if the output queue is empty. Source: the
+   book, chapter 3 (struct ifqueue).
 
    Errors:
    -BSDUDP_ENXIO if the handle holds no stack. */
 int bsdudp_next_packet(struct bsdudp *stack);
 
-/* Returns the number of unfinished datagrams: some of their fragments have arrived, and others are missing.
+/* Returns the number of unfinished datagrams: some of their fragments have arrived, and others are missing. Source: the
+   book, chapter 10 (struct ipq).
 
    Errors:
    -BSDUDP_ENXIO if the handle holds no stack. */
 int bsdudp_unfinished_len(struct bsdudp *stack);
 
 /* Reads the unfinished datagram at index `i` into `*datagram`. Indices are 0 to bsdudp_unfinished_len - 1, in the order
-   in which the first fragments arrived.
+   in which the first fragments arrived. Source: the book, chapter 10 (struct ipq).
 
    Returns 0.
 
@@ -532,7 +539,7 @@ int bsdudp_unfinished_len(struct bsdudp *stack);
 int bsdudp_unfinished(struct bsdudp *stack, uint32_t i, struct bsdudp_unfinished *datagram);
 
 /* Reads the range at index `k` of the bytes of unfinished datagram `i` into `*range`. Indices are 0 to `ranges` - 1, in
-   order of offset. The call takes time in proportion to `k`.
+   order of offset. The call takes time in proportion to `k`. Source: the book, chapter 10 (struct ipq).
 
    Returns 0.
 

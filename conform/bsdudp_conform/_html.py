@@ -115,7 +115,7 @@ def html(
         "<!doctype html><html lang=en><meta charset=utf-8>"
         "<meta name=viewport content='width=device-width, initial-scale=1'>"
         f"<title>UDP/IPv4: {names}</title><style>{STYLE}</style><h1>UDP over IPv4: {names}</h1>"
-        "<p>Each case is a sequence of packets. Two laws hold of every case; beside them stands what all machines "
-        "answer that the RFCs permit. A cell counts the cases that deviate; a case may break another rule than its "
-        f"own.</p><ul>{legend}</ul>{table(stacks)}{parts}</html>\n"
+        "<p>Each case is a sequence of packets. Two laws hold in every case; beyond them, the stack is compared with "
+        "all machines that the RFCs permit. A cell counts the cases that deviate; a case may break another rule than "
+        f"its own.</p><ul>{legend}</ul>{table(stacks)}{parts}</html>\n"
     )

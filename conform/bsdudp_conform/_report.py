@@ -18,10 +18,10 @@ from ._wire_laws import MUST, SHOULD
 
 WORDS = {FAULT: "crash", NEVER: "never", MUST: "must", SHOULD: "should"}
 MEANING = {
-    FAULT: "the stack crashed, hung or gave no answer",
-    NEVER: "bytes reached a user that the packets don't carry",
-    MUST: "against a MUST: all that the RFCs permit answer alike, and not so",
-    SHOULD: "against a SHOULD: all that keep the SHOULDs answer alike, and not so",
+    FAULT: "the stack crashed, hung or sent no reply",
+    NEVER: "a user received bytes that the packets don't carry",
+    MUST: "against a MUST: all hosts that the RFCs permit reply alike, and this stack differently",
+    SHOULD: "against a SHOULD: all hosts that keep the SHOULDs reply alike, and this stack differently",
 }
 SHOWN = 8
 

@@ -1,9 +1,9 @@
 #!/usr/bin/env python3
 """A host at 10.0.0.1 on a TUN device, whose stack is `bsdudp run`.
 
-It sends each datagram that comes to its port 7 back to the sender. This machine's kernel is 10.0.0.2, and COMMAND runs
-beside it, so that it can send there. When COMMAND ends, the host ends with its status. It wants root, and a network
-namespace of its own: `unshare -n ./echo.py nc -u 10.0.0.1 7`."""
+It sends each datagram that arrives at its port 7 back to the sender. Linux itself is 10.0.0.2, and runs COMMAND, which
+can send to the host. When COMMAND ends, the host ends with its status. It needs root, and a network namespace of its
+own: `unshare -n ./echo.py nc -u 10.0.0.1 7`."""
 import argparse
 import fcntl
 import os
@@ -106,7 +106,7 @@ def main():
     words = argparse.ArgumentParser(description=__doc__, formatter_class=argparse.RawDescriptionHelpFormatter)
     words.add_argument("--program", default="bsdudp", metavar="FILE", help="the program, if it isn't on the path")
     words.add_argument("--mtu", type=int, default=1500, metavar="N", help="the device's MTU, 68 to 4352 (default 1500)")
-    words.add_argument("command", nargs=argparse.REMAINDER, metavar="COMMAND", help="what runs beside the host")
+    words.add_argument("command", nargs=argparse.REMAINDER, metavar="COMMAND", help="a program that sends to the host")
     said = words.parse_args()
     if not said.command:
         words.error("no COMMAND is given")

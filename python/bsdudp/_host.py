@@ -44,7 +44,7 @@ class Tallies(NamedTuple):
     unreachable: int
     """Datagrams for which the host sent "port unreachable" to the sender."""
     limited: int
-    """Datagrams for which it did not, because of the limit per second."""
+    """Datagrams for which it did not: it sends at most 10 between two ticks."""
     icmp_dropped: int
     """ICMP replies dropped because another reply was still queued."""
 

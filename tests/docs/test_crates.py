@@ -7,7 +7,7 @@ import sys
 
 import pytest
 
-from tests.docs.pages import TOP, Fault, in_code, lines, none_of, read, sources_of, table
+from tests.docs.pages import TOP, Fault, in_code, lines, none_of, part, read, sources_of, table
 from tools import crates, edits, joined
 
 ARCHITECTURE = "docs/maintain/architecture.md"
@@ -105,11 +105,14 @@ def test_calls_on_the_way_of_a_packet():
 
 
 def test_bodies_that_are_refused():
-    """Each mutant that docs/security.md names is in must-fail/."""
+    """Each mutant that an entry in docs/security.md names is in must-fail/."""
+    page = "docs/security.md"
+    entries = re.split(r"\n(?=- )", part(page, "## Class by class\n", "\n## "))
+    named = [name for it in entries for name in in_code(it.partition("Refused:")[2])]
+    assert named, f"{page}:1: no entry names a mutant after 'Refused:'"
     none_of(
-        Fault(place, f"no must-fail/ has {name}.edit")
-        for place, line in lines("docs/security.md")
-        for name in in_code(line.partition("Refused:")[2])
+        Fault(f"{page}:1", f"no must-fail/ has {name}.edit")
+        for name in named
         if not list(TOP.glob(f"crates/*/must-fail/{name}.edit"))
     )
 

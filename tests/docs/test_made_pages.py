@@ -1,11 +1,12 @@
 """The pages that programs write: manual pages, which groff formats without a warning, and the contract of `sendto` with
 all its definitions."""
+import re
 import subprocess
 import sys
 
 import pytest
 
-from tests.docs.pages import TOP
+from tests.docs.pages import TOP, part
 
 PAGES = ["bsdudp.1", "bsdplay.1", "bsdudp-conform.1", "bsdudp.3"]
 
@@ -27,6 +28,15 @@ def test_manual_page(page, manual):
     """It can be made, and has the sections of a manual page."""
     text = (manual / page).read_text(encoding="utf-8")
     assert text.startswith(".TH") and ".SH NAME" in text, f"{page}: {text[:200]}"
+
+
+@pytest.mark.parametrize("program", ["bsdudp", "bsdplay"])
+def test_synopsis(program, manual):
+    """It has each form of the command line that docs/scripts.md has, word for word."""
+    forms = re.findall(rf"(?m)^    {program} (.*)", part("docs/scripts.md", f"## The command line of {program}\n", "\n| "))
+    text = (manual / f"{program}.1").read_text(encoding="utf-8").replace("\\-", "-").replace("\\ ", " ")
+    came = re.findall(rf"(?m)^\.SY {program}\n(.*)\n\.YS$", text)
+    assert forms and came == forms
 
 
 @pytest.mark.needs("groff")
