@@ -19,11 +19,10 @@ if TYPE_CHECKING:
 MOST_FLOOD = 100
 OK, DEVIATES, USAGE, NO_ADAPTER = 0, 1, 2, 3
 TEMPLATES = pathlib.Path(__file__).resolve().parent / "templates"
-DESCRIPTION = """Judges a UDP/IPv4 stack: cases of packets go through it, and two laws and the machines that the RFCs
-permit say what may come of them. docs/judge.md says what an adapter is, and leads to a first verdict in five
-minutes."""
-STATUS = """Status: 0 if nothing deviates that the baseline doesn't know, 1 if something does, 2 for wrong words, 3 if a
-stack or a device can't be reached at all."""
+DESCRIPTION = """Judges a UDP/IPv4 stack: sends packets through it, and compares what comes with two laws and with all
+machines that the RFCs permit. docs/judge.md says what an adapter is, and leads to a first verdict in five minutes."""
+STATUS = """Status: 0 if there is no deviation that the baseline lacks, 1 if there is one, 2 if the command line is
+wrong, 3 if a stack or a device can't be reached."""
 
 
 def parser() -> argparse.ArgumentParser:
@@ -38,12 +37,12 @@ def parser() -> argparse.ArgumentParser:
     for it in (run, wire):
         add_choices(it)
         add_reports(it)
-    reduce = commands.add_parser("reduce", help="make a case shorter that a stack breaks")
-    reduce.add_argument("case", metavar="CASE", help="as frag.key:14")
+    reduce = commands.add_parser("reduce", help="shorten a case in which a stack deviates")
+    reduce.add_argument("case", metavar="CASE", help="such as frag.key:14")
     reduce.add_argument("--pcap", metavar="FILE", help="write its packets to a capture")
     reduce.add_argument("adapter", nargs="+", metavar="ADAPTER", help="the adapter and its words, after --")
     for it in (run, wire, reduce):
-        it.add_argument("--seed", type=int, default=1, metavar="N", help="of the random bytes and mixes (default: 1)")
+        it.add_argument("--seed", type=int, default=1, metavar="N", help="seed of random bytes and mixes (default: 1)")
         it.add_argument("--mixes", type=int, default=400, metavar="N", help="number of random mixes (default: 400)")
         it.add_argument("--timeout", type=float, default=30.0, metavar="S", help="seconds to wait (default: 30)")
     template = commands.add_parser("template", help="write kit.h and adapters to fill in, in C and in Python")
@@ -63,7 +62,7 @@ def run_parser(commands: Any) -> argparse.ArgumentParser:
         action="append",
         default=[],
         metavar="COMMAND",
-        help="a stack's adapter with its words; may come again",
+        help="a stack's adapter with its words; may be repeated",
     )
     run.add_argument(
         "--jobs",
@@ -76,7 +75,7 @@ def run_parser(commands: Any) -> argparse.ArgumentParser:
         "--seeds", metavar="A-B", help="only random mixes, of these seeds, on all cores or on a Dask cluster"
     )
     run.add_argument(
-        "--client", metavar="ADDRESS", help="with --seeds: the scheduler of a Dask cluster, as tcp://10.0.0.9:8786"
+        "--client", metavar="ADDRESS", help="with --seeds: the scheduler of a Dask cluster, such as tcp://10.0.0.9:8786"
     )
     run.add_argument("adapter", nargs="*", metavar="ADAPTER", help="the adapter and its words, after --")
     return run
@@ -88,7 +87,7 @@ def add_choices(it: argparse.ArgumentParser) -> None:
         action="append",
         default=[],
         metavar="RULE",
-        help="a rule, a case, or what they begin with; may come again",
+        help="a rule, a case, or the beginning of one; may be repeated",
     )
     it.add_argument("--no-waits", action="store_true", help="leave out cases that wait for a second or more")
     it.add_argument("--list", action="store_true", help="print the cases, and run no adapter")
@@ -101,9 +100,9 @@ def add_reports(it: argparse.ArgumentParser) -> None:
         help="write report.txt, report.html, junit.xml, and a pcap of each kind's shortest case",
     )
     it.add_argument("--baseline", metavar="FILE", help="known deviations")
-    it.add_argument("--write-baseline", metavar="FILE", help="write the file that knows all deviations of this run")
+    it.add_argument("--write-baseline", metavar="FILE", help="write all deviations of this run to this file")
     it.add_argument("--quiet", action="store_true", help="print the last line of each stack, and new deviations")
-    it.add_argument("--no-policy", action="store_true", help="don't look for each stack's policy")
+    it.add_argument("--no-policy", action="store_true", help="don't determine the choices of each stack")
 
 
 def span(text: str) -> range:
