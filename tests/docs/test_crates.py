@@ -105,7 +105,7 @@ def test_calls_on_the_way_of_a_packet():
 
 
 def test_bodies_that_are_refused():
-    """Each mutant that an entry of docs/security.md calls refused is in must-fail/."""
+    """Each mutant that an entry in docs/security.md names is in must-fail/."""
     page = "docs/security.md"
     entries = re.split(r"\n(?=- )", part(page, "## Class by class\n", "\n## "))
     named = [name for it in entries for name in in_code(it.partition("Refused:")[2])]

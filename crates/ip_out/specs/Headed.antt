@@ -3,7 +3,7 @@ use Rattle.std.specs.Prelude.{◌≡◌, ℕ, ◌≤◌, List, length, take, dro
 use Rattle.params.specs.declared.TheConstants.{IP_HEADER}
 use Rattle.flat_model.specs.Packets.Header.{head_fault, total_of}
 
--- Its header has no fault: the packet has a whole header, and at least as many bytes as its total length.
+-- Its header is valid: the packet has a whole header, and isn't shorter than its total length.
 pub record IsFaultless (packet : List ℕ) : Type 0 where
   pub faultless : head_fault packet ≡ None
   pub header : IP_HEADER ≤ length packet

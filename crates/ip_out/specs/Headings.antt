@@ -6,7 +6,7 @@ use Rattle.flat_model.specs.Packets.Checksum.{checksum}
 use Rattle.flat_model.specs.Packets.Header.{flag, two_bytes, address_bytes, u16_at, u32_at}
 use Rattle.ip_out.specs.declared.head.IpHead.{IpHead}
 
--- bytes written over others, from a place on
+-- bytes written over others, from an offset on
 abbrev pub header_written : List ℕ → ℕ → List ℕ → List ℕ
 header_written bytes at new = take at bytes ++ (new ++ drop (at + length new) bytes)
 
@@ -16,15 +16,15 @@ flags_of h =
     if h.dont then 16384 + (flag h.more 8192 + h.offset / FRAGMENT_UNIT)
     else flag h.more 8192 + h.offset / FRAGMENT_UNIT
 
--- the ten bytes in front of the checksum: version 4, 5 words of header, and what the header says
+-- the ten bytes before the checksum: version 4, 5 words of header, and the header's fields
 abbrev pub header_front : IpHead → List ℕ
 header_front h = 69 ∷ h.tos ∷ two_bytes h.total ++ two_bytes h.id ++ two_bytes (flags_of h) ++ h.ttl ∷ h.proto ∷ []
 
--- the 20 bytes of a header whose checksum says that number
+-- the 20 bytes of a header with this checksum
 abbrev pub bytes_with : IpHead → ℕ → List ℕ
 bytes_with h sum = header_front h ++ two_bytes sum ++ address_bytes h.src h.dst
 
--- the 20 bytes with 0 in place of the checksum
+-- the 20 bytes with 0 as the checksum
 abbrev pub blank_bytes : IpHead → List ℕ
 blank_bytes h = bytes_with h 0
 
@@ -32,7 +32,7 @@ blank_bytes h = bytes_with h 0
 unfoldable pub head_bytes : IpHead → List ℕ
 head_bytes h = bytes_with h (checksum (blank_bytes h))
 
--- what a packet's header says
+-- the fields of a packet's header
 abbrev pub head_in : List ℕ → IpHead
 head_in bytes = record {
   tos = slice_index bytes 1;

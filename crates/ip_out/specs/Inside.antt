@@ -15,7 +15,7 @@ use Rattle.ip_out.specs.Packets.{train_packets, part_bytes, BeginPlain}
 
 -- ---- how many mbufs of a send its later fragments meet
 
--- 1 where the bytes from `at` up to `end` share one with a part
+-- 1 if the bytes from `at` up to `end` share one with a part
 abbrev pub here : ℕ → ℕ → Part → ℕ
 here at end p = if nat_lt (max at (IP_HEADER + p.offset)) (min end (IP_HEADER + p.offset + p.size)) then 1 else 0
 
@@ -23,7 +23,7 @@ here at end p = if nat_lt (max at (IP_HEADER + p.offset)) (min end (IP_HEADER + 
 abbrev pub later_parts : ℕ → ℕ → List Part
 later_parts n mtu = drop 1 (cuts (n + UDP_HEADER) mtu)
 
--- m is the number of the later parts, and a stretch of the datagram meets so many of them: c is their length
+-- m is the number of the later parts, and c their length: how many of them share a byte with a range of the datagram
 pub record Counts (n mtu c m : ℕ) : Type 0 where
   pub parts : m ≡ length (later_parts n mtu)
   pub counts : (at end : ℕ) → at < end → end ≤ IP_UDP_HEADERS + n
@@ -31,7 +31,7 @@ pub record Counts (n mtu c m : ℕ) : Type 0 where
 
 -- ---- packets
 
--- an mbuf with a header at the front of its room
+-- an mbuf with a header at the front of its data space
 abbrev pub head_entry : IpHead → Entry
 head_entry h = record { bytes = head_bytes h; start = PACKET_START; cluster = None }
 
@@ -44,7 +44,7 @@ later_item v h p =
 abbrev pub parts_to : ℕ → ℕ → ℕ → List Part
 parts_to n c i = map (part n c) (range_with_len 1 (i - 1))
 
--- from p to q the packets of these later parts came
+-- from p to q the packets of these later parts were made
 pub record IsLater (p q : PoolView) (t : TrainView) (v : ChainView) (h : IpHead) (parts : List Part) : Type 0 where
   pub held : IsHeld q t
   pub moves : Moves p [] q (numbers q t)

@@ -14,7 +14,7 @@ use Rattle.ledger.specs.Accounts.{item_of}
 use Rattle.ip_out.specs.declared.head.IpHead.{IpHead}
 use Rattle.ip_out.specs.Headings.{head_bytes}
 
--- the chains of a train as packets, in order: their bytes and what they weigh
+-- the chains of a train as packets, in order: their bytes and their weights
 abbrev pub train_packets : PoolView → TrainView → List Item
 train_packets p t = map (λ (queued_packet : QueuedPacket). item_of queued_packet.entries) (queued_packets p t)
 
@@ -22,19 +22,19 @@ train_packets p t = map (λ (queued_packet : QueuedPacket). item_of queued_packe
 abbrev pub part_head : IpHead → Part → IpHead
 part_head h p = record h { total = IP_HEADER + p.size; more = p.more; offset = p.offset }
 
--- the packet of one part of what is carried
+-- the packet of one part of the data
 abbrev pub part_bytes : IpHead → List ℕ → Part → List ℕ
 part_bytes h carried p = head_bytes (part_head h p) ++ take p.size (drop p.offset carried)
 
--- the parts of a datagram that lies in a chain after 20 bytes for its header
+-- the parts of a datagram in a chain, after 20 bytes for its header
 abbrev pub chain_parts : ChainView → ℕ → List Part
 chain_parts v mtu = cuts (length (string v) - IP_HEADER) mtu
 
--- its packets: the first weighs what the chain weighs, each later one an mbuf and those in which its bytes lie
+-- its packets: the first has the weight of the chain, each later one that of an mbuf and of those with its bytes
 abbrev pub packets_of : ChainView → IpHead → ℕ → List Item
 packets_of v h mtu = items (layout_entries v.entries) (part_bytes h (drop IP_HEADER (string v))) (chain_parts v mtu)
 
--- how many mbufs a later packet takes: one for its header, and one for each mbuf in which its bytes lie
+-- how many mbufs a later packet takes: one for its header, and one for each mbuf with its bytes
 abbrev pub part_need : ChainView → Part → ℕ
 part_need v p =
     1 + length (entries_met (layout_entries v.entries) (IP_HEADER + p.offset) (IP_HEADER + p.offset + p.size))

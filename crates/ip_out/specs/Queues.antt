@@ -14,8 +14,8 @@ pub record IsOutputQueue (p : PoolView) (q : TrainView) : Type 0 where
   pub held : IsHeld p q
   pub room : q.len ≤ OUTPUT_QUEUE_PACKETS
 
--- Why an output of the chain c as these packets, the later of which take so many mbufs, was refused, and what it left:
--- the pool has too few, and the chain is gone; or the queue has no room for all, and those that fit are queued.
+-- Why an output of the chain c as these packets was refused, and the state then: the pool has too few mbufs for the
+-- later packets, and the chain is freed; or not all packets fit in the queue, and those that fit are queued.
 abbrev pub IsOutputRefused : Lack → PoolView → TrainView → ℕ → List Item → ℕ → PoolView → TrainView → Type 0
 IsOutputRefused Pool p t c all need q u = LacksMbufs p need × (q ≡ without p c) × (u ≡ t)
 IsOutputRefused Queue p t c all need q u =

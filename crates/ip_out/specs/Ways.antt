@@ -17,7 +17,7 @@ to_self_by Link items = []
 to_self_by Loopback items = items
 to_self_by Both items = items
 
--- how many mbufs they take beyond those of the chain; a copy of a chain takes as many as the chain has
+-- how many mbufs they take besides those of the chain; a copy of a chain takes the number of the chain's mbufs
 abbrev pub way_need : Way → ChainView → ℕ → ℕ
 way_need Link v mtu = later_need v mtu
 way_need Loopback v mtu = later_need v mtu

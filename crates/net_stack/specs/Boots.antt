@@ -6,7 +6,7 @@ use Rattle.mbuf_chain.specs.Chain.{PoolView}
 use Rattle.net_stack.specs.declared.stack.BootFault.{BootFault}
 use Rattle.net_stack.specs.declared.stack.BootFault.TheVariants.{Memory, BadSizes, BadConfig}
 
--- why there is no stack: the sizes are tested first, then all else of the configuration
+-- why boot fails: the sizes are tested first, then the rest of the configuration
 abbrev pub IsUnbooted : Config → BootFault → Type 0
 IsUnbooted c BadSizes = ¬ HasSizes c
 IsUnbooted c BadConfig = HasSizes c × ¬ IsConfig c

@@ -1,4 +1,4 @@
--- What a question about the mbufs of a stack answers (this project's own).
+-- The results of queries about the mbufs of a stack (this project's own).
 use Rattle.std.specs.Prelude.{ℕ, nat_lt, if◌then◌else◌, List, Option, None, Some}
 use Rattle.mbuf_chain.specs.Chain.{PoolView, references}
 use Rattle.mbuf_chain.specs.Train.{numbers}
@@ -15,6 +15,6 @@ chains_held s (Socket fd) = chains_of s.pool (queue_at s.socks.queues fd)
 chains_held s Output = numbers s.pool s.output
 chains_held s (Unfinished place) = nth_held s.pool s.reass.datagrams place
 
--- how many mbufs refer to a cluster, if the pool has such a one
+-- how many mbufs refer to a cluster, if the pool has this cluster
 abbrev pub nth_references : PoolView → ℕ → Option ℕ
 nth_references p cluster = if nat_lt cluster p.clusters then Some (references p cluster) else None

@@ -5,7 +5,7 @@ use Rattle.flat_model.specs.Runs.Run.{Turn}
 use Rattle.flat_model.specs.Machine.Step.{Step}
 use Rattle.net_stack.specs.Stack.{StackView, state_of}
 
--- what each call says of the stack before it and after it, where it stands for the turn's event and answers its reply
+-- the contract of each call for the stack before and after it, as a call with the turn's event and its reply
 abbrev pub IsTurnOf : StackView → Turn → StackView → Type 0
 IsTurnOf old turn new = Step (state_of old) turn.event turn.reply (state_of new)
 

@@ -1,4 +1,4 @@
--- What a stack shows, the state of the flat machine that it means, and when its parts fit together (this project's
+-- The view of a stack, the state of the flat machine that it means, and when its parts are consistent (this project's
 -- own).
 use Rattle.std.specs.Prelude.{◌≡◌, ℕ, List, ◌++◌}
 use Rattle.flat_model.specs.Machine.State.{State, boot}

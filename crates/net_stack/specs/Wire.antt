@@ -9,9 +9,9 @@ use Rattle.flat_wire.specs.Wire.{ComesFrom, packet_in, packet_out}
 use Rattle.net_stack.specs.Stack.{StackView, state_of}
 use Rattle.net_stack.specs.Runs.{AreCalls}
 
--- Two stacks as `boot` gives them, and the calls that were made of each. What came to the second from the first's
--- address is what `tx` of the first gave out, in any order and any number of times; the first sent fewer than 65,536
--- times; and the second doesn't have the first's address.
+-- Two stacks after `boot`, and the calls that were made on each. The packets that arrived at the second from the
+-- first's address are those that `tx` of the first returned, in any order and any number of times; the first sent fewer
+-- than 65,536 times; and the second doesn't have the first's address.
 pub record AreOnOneWire (first second : Config) (sent came : List Turn) (s t : StackView) : Type 0 where
   pub first_boots : IsConfig first
   pub second_boots : IsConfig second

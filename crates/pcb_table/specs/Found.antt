@@ -1,5 +1,5 @@
--- What look-ups answer, and calls on an open descriptor, as facts on each machine that has the blocks (this project's
--- own).
+-- The results of lookups, and of calls on an open descriptor, as facts on each machine that has the blocks (this
+-- project's own).
 use Rattle.std.specs.Prelude.{◌≡◌, ℕ, ◌≤◌, List, map, All, Option, Some, None, Result, MatchResult}
 use Rattle.flat_model.specs.Amounts.Weight.{times}
 use Rattle.flat_model.specs.Machine.State.{State, Socket, change_socket}
@@ -34,7 +34,7 @@ SendsFrom t fd ip source =
     (rest : State) (queues : Queues) (b : Block) → block_at fd t ≡ Some b
     → source ≡ source_for (machine rest queues t).config (socket_with queues b) ip
 
--- a destination is refused for the first of a send's faults of its address, or else it's the address as it's read
+-- a destination is refused for the first fault of a send's address, otherwise it's the translated address
 abbrev pub ChecksDestination : Table → ℕ → Addr → Result Addr Errno → Type 0
 ChecksDestination t fd a result =
     (rest : State) (queues : Queues) (b : Block) → block_at fd t ≡ Some b →
@@ -43,12 +43,12 @@ ChecksDestination t fd a result =
     × (to ≡ read_addr (machine rest queues t).config a))
     (λ errno. first_fault (address_faults (machine rest queues t) (socket_with queues b) (Some a)) ≡ Some errno)
 
--- the socket of the descriptor is changed, and nothing else
+-- only the socket of the descriptor is changed
 abbrev pub Changes : Table → ℕ → (Socket → Socket) → Table → Type 0
 Changes old fd change new =
     (rest : State) (queues : Queues) → machine rest queues new ≡ change_socket fd change (machine rest queues old)
 
--- The socket has this port now: the one that it had, or else the next free one, which is chosen then.
+-- The socket has this port now: the one that it had, or otherwise the next free one, which is then chosen.
 pub record EnsuresPort (old : Table) (fd port : ℕ) (new : Table) : Type 0 where
   pub last : Option ℕ
   pub gets : (rest : State) (queues : Queues) (b : Block) → block_at fd old ≡ Some b →

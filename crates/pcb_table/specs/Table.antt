@@ -8,7 +8,7 @@ use Rattle.flat_model.specs.Machine.Step.{Step}
 use Rattle.flat_model.specs.declared.address.Addr.{Addr}
 use Rattle.pcb_table.specs.declared.block.Block.{Block}
 
--- This project's own record of what volume 2 chapter 22 keeps in a list of control blocks and two variables.
+-- This project's record for the list of control blocks and the two variables of volume 2 chapter 22.
 pub record Table : Type 0 where
   pub addr : ℕ
   pub bcast : ℕ
@@ -41,7 +41,7 @@ pub record ClosesOnly (old : Table) (fd : ℕ) (new : Table) : Type 0 where
 
 -- ---- the machines that have these blocks
 
--- Receive queues by descriptor. The table knows nothing of them: what it says holds with any.
+-- Receive queues by descriptor. The table doesn't use them: its contracts hold with any.
 abbrev pub Queues : Type 0
 Queues = ℕ → List Datagram
 
@@ -59,7 +59,7 @@ socket_with queues b = record {
 abbrev pub sockets_with : Queues → Table → List Socket
 sockets_with queues t = map (socket_with queues) t.blocks
 
--- the machine with these blocks and queues, in all else the machine `rest`
+-- the machine with these blocks and queues, and otherwise the machine `rest`
 abbrev pub machine : State → Queues → Table → State
 machine rest queues t = record rest {
   config = record (rest.config) { addr = t.addr; bcast = t.bcast };
@@ -67,7 +67,7 @@ machine rest queues t = record rest {
   last_port = t.last_port;
 }
 
--- In each machine that has these blocks the event makes it one with those blocks, and is answered so.
+-- In each machine that has these blocks, the event leads to one with those blocks, with this reply.
 abbrev pub IsCall : Table → Event → Reply → Table → Type 0
 IsCall old event reply new =
     (rest : State) (queues : Queues) → Step (machine rest queues old) event reply (machine rest queues new)

@@ -1,5 +1,5 @@
--- Delivery of a datagram to those who hear it, for every rest of the machine (`udp_input` and `sbappendaddr` of volume
--- 2, chapters 23 and 16; to say it by what a pool shows is this project's own).
+-- Delivery of a datagram to the sockets that match it, for every rest of the machine (`udp_input` and `sbappendaddr` of
+-- volume 2, chapters 23 and 16; the form with a pool's view is this project's own).
 use Rattle.std.specs.Prelude.{◌≡◌, ℕ, List, [], ◌∷◌, ◌++◌, map, Some, None, unwrap_or, false}
 use Rattle.flat_model.specs.Amounts.Weight.{Weight, Item, ◌⊕◌}
 use Rattle.flat_model.specs.Machine.State.{State, Socket, Unfinished}
@@ -14,7 +14,8 @@ use Rattle.pcb_table.specs.Table.{Table, Queues, block_at, socket_with}
 use Rattle.ledger.specs.Accounts.{item_at, weight_at, IsAccounted}
 use Rattle.sock_calls.specs.Sockets.{SocksView, IsSocks, queues_of, queued_chains, with_net}
 
--- what a delivery sees and changes: the pool, the sockets, the unfinished datagrams with their chains, and the counters
+-- the parts that a delivery reads and changes: the pool, the sockets, the unfinished datagrams with their chains, and
+-- the counters
 pub record NetView : Type 0 where
   pub pool : PoolView
   pub socks : SocksView
@@ -25,7 +26,7 @@ pub record NetView : Type 0 where
 abbrev pub seen : PoolView → SocksView → List Unfinished → List ℕ → Counters → NetView
 seen p s us xs c = record { pool = p; socks = s; unfinished = us; waiting = xs; counters = c }
 
--- the machine that has all this, in all else `rest`
+-- the machine with these parts, and otherwise `rest`
 abbrev pub state_at : NetView → State → State
 state_at v rest = with_net v.pool v.socks v.unfinished v.counters rest
 
@@ -36,7 +37,7 @@ chains_at v = v.waiting ++ queued_chains v.pool v.socks.queues
 abbrev pub queues_at : NetView → Queues
 queues_at v = queues_of v.pool v.socks.queues
 
--- the pool accounts for the machine and for the weight held beside it
+-- the pool accounts for the machine and for the weight held in addition
 abbrev pub IsAccountedAt : NetView → State → Weight → Type 0
 IsAccountedAt v rest held = IsAccounted v.pool (state_at v rest) held
 
@@ -45,8 +46,8 @@ abbrev pub held_with : PoolView → Weight → List ℕ → Weight
 held_with p held [] = held
 held_with p held (c ∷ cs) = held_with p (held ⊕ weight_at p c) cs
 
--- From v to u: the chains in hand were `hand` and are `left`. The pool goes on to account for what is held, the sockets
--- fit it as before, their control blocks are the same, and every chain that belongs to nobody here is as it was.
+-- From v to u: the chains of the call were `hand` and are `left`. The pool still accounts for all chains, the sockets
+-- still fit it, their control blocks are the same, and every chain with another owner is unchanged.
 pub record KeepsParts (v : NetView) (hand : List ℕ) (u : NetView) (left : List ℕ) : Type 0 where
   pub accounts : (rest : State) (held : Weight) → IsAccountedAt v rest (held_with v.pool held hand)
       → IsAccountedAt u rest (held_with u.pool held left)
@@ -56,7 +57,7 @@ pub record KeepsParts (v : NetView) (hand : List ℕ) (u : NetView) (left : List
 
 -- ---- one receiver
 
--- Chain c was put into the queue of socket fd, or ended there.
+-- Chain c was put into the queue of socket fd, or dropped there.
 pub record IsAppended (v : NetView) (c : ℕ) (fd : ℕ) (sender : Addr) (u : NetView) : Type 0 where
   pub step : (rest : State) (held : Weight) (b : Block) → block_at fd v.socks.pcbs ≡ Some b
       → IsAccountedAt v rest (held ⊕ weight_at v.pool c)
@@ -73,7 +74,7 @@ Offers held sender item to old after =
     Tests exact_ledger old (held ⊕ item.weight) item.weight.mbufs after
     (λ mid. Appends exact_ledger (held ⊕ item.weight) sender item to mid after)
 
--- a copy of chain c was offered to socket fd, and c is as it was
+-- a copy of chain c was offered to socket fd, and c is unchanged
 pub record IsOffered (v : NetView) (c : ℕ) (fd : ℕ) (sender : Addr) (u : NetView) : Type 0 where
   pub step : (rest : State) (held : Weight) (b : Block) → block_at fd v.socks.pcbs ≡ Some b
       → IsAccountedAt v rest (held ⊕ weight_at v.pool c)
@@ -95,7 +96,7 @@ socket_named f t fd = socket_with f (unwrap_or (block_at fd t) no_block)
 abbrev pub sockets_named : Queues → Table → List ℕ → List Socket
 sockets_named f t fds = map (socket_named f t) fds
 
--- Chain c was delivered to all these sockets: a copy to each but the last, itself to that.
+-- Chain c was delivered to all these sockets: a copy to each except the last, which gets c itself.
 pub record IsDelivered (v : NetView) (c : ℕ) (fds : List ℕ) (sender : Addr) (u : NetView) : Type 0 where
   pub step : (rest : State) (held : Weight) → IsAccountedAt v rest (held ⊕ weight_at v.pool c)
       → Delivers exact_ledger held sender (item_at v.pool c) (sockets_named (queues_at v) v.socks.pcbs fds)

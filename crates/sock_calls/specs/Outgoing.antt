@@ -1,5 +1,5 @@
--- What a send asks for and leaves, for every rest of the machine (`sosend`, `udp_output` and `ip_output` of volume 2,
--- chapters 16, 23 and 8; to say it by what a pool shows is this project's own).
+-- What a send requires and leaves, for every rest of the machine (`sosend`, `udp_output` and `ip_output` of volume 2,
+-- chapters 16, 23 and 8; the form with a pool's view is this project's own).
 use Rattle.std.specs.Prelude.{◌≡◌, ◌≢◌, ◌⊎◌, ℕ, ◌≤◌, List, ◌++◌, Option, Result, IfErr}
 use Rattle.params.specs.declared.TheConstants.{MIN_MTU, LOOPBACK}
 use Rattle.flat_model.specs.Amounts.Weight.{Weight, Item, nothing, all_of}
@@ -20,7 +20,7 @@ use Rattle.sock_calls.specs.declared.net.Net.{Net}
 use Rattle.sock_calls.specs.Sockets.{SocksView, IsSocks, queued_chains, with_sockets}
 use Rattle.sock_calls.specs.Sends.{SendsOnce}
 
--- what a send sees and changes
+-- the parts that a send reads and changes
 pub record SendView : Type 0 where
   pub pool : PoolView
   pub socks : SocksView
@@ -29,20 +29,20 @@ pub record SendView : Type 0 where
 abbrev pub sending : PoolView → SocksView → Net → SendView
 sending p s n = record { pool = p; socks = s; net = n }
 
--- the machine that has this output queue, next identification and these counters, in all else `rest`
+-- the machine with this output queue, next identification and these counters, and otherwise `rest`
 abbrev pub with_output : PoolView → Net → State → State
 with_output p n rest = record rest { output = train_packets p n.out; next_id = n.next_id; counters = n.counters }
 
--- the machine that has all this, in all else `rest`
+-- the machine with these parts, and otherwise `rest`
 abbrev pub state_in : SendView → State → State
 state_in v rest = with_sockets v.pool v.socks (with_output v.pool v.net rest)
 
--- what packets weigh together
+-- the sum of the packets' weights
 abbrev pub weight_of_all : List Item → Weight
 weight_of_all items = all_of (λ item. item.weight) items
 
--- What a send asks for: its parts fit the pool, nothing is left that was to come back, and the machine's two addresses
--- differ, of which the broadcast address isn't 127.0.0.1.
+-- What a send requires: its parts fit the pool, no packet is left that was to come back, the machine's two addresses
+-- differ, and the broadcast address isn't 127.0.0.1.
 pub record CanSend (v : SendView) : Type 0 where
   pub socks : IsSocks v.pool v.socks
   pub out : IsOutputQueue v.pool v.net.out
@@ -54,7 +54,7 @@ pub record CanSend (v : SendView) : Type 0 where
   pub outside : v.socks.pcbs.bcast ≢ LOOPBACK
 
 -- A send of these bytes through a descriptor. `looped` has the packets that are to come back, which the step still
--- holds beside the state. A refusal leaves all as it was, but for that of the output queue.
+-- holds in addition to the state. A refusal changes nothing, except that by the output queue.
 pub record IsSent (fd : ℕ) (to : Option Addr) (bytes : List ℕ) (v : SendView) (result : Result ℕ Errno) (u : SendView)
     : Type 0 where
   pub step : (rest : State) → rest.config.mtu ≡ v.net.mtu → IsAccounted v.pool (state_in v rest) nothing

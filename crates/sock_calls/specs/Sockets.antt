@@ -12,12 +12,12 @@ use Rattle.pcb_table.specs.Table.{Table, Queues, block_at, machine}
 use Rattle.pcb_table.specs.Apart.{AreApart}
 use Rattle.sockbuf.specs.SockBuf.{SockBufView, IsSockBuf, datagrams, chains_of, no_datagrams}
 
--- what a contract sees of sockets; the queue of descriptor fd stands at fd
+-- the view of the sockets in contracts; the queue of descriptor fd is at index fd
 pub record SocksView : Type 0 where
   pub pcbs : Table
   pub queues : List SockBufView
 
--- queues by descriptor: those of 0, 1 and 2 aren't kept, and stay empty
+-- queues by descriptor: those of 0, 1 and 2 aren't stored, and stay empty
 abbrev pub from_three : List SockBufView → List SockBufView
 from_three bs = no_datagrams ∷ no_datagrams ∷ no_datagrams ∷ bs
 
@@ -33,8 +33,8 @@ abbrev pub queued_chains : PoolView → List SockBufView → List ℕ
 queued_chains p [] = []
 queued_chains p (b ∷ bs) = chains_of p b ++ queued_chains p bs
 
--- The sockets and the pool fit together: each queue does, no chain stands in two, and where no socket is open none
--- waits.
+-- The sockets and the pool fit together: each queue does, no chain is in two queues, and the queue of a closed
+-- descriptor is empty.
 pub record IsSocks (p : PoolView) (v : SocksView) : Type 0 where
   pub each : (fd : ℕ) → IsSockBuf p (queue_at v.queues fd)
   pub owned : IsOwned p (queued_chains p v.queues)
@@ -42,17 +42,17 @@ pub record IsSocks (p : PoolView) (v : SocksView) : Type 0 where
   pub apart : AreApart v.pcbs.blocks
   pub closed : (fd : ℕ) → block_at fd v.pcbs ≡ None → queues_of p v.queues fd ≡ []
 
--- the machine with these sockets, in all else `rest`
+-- the machine with these sockets, and otherwise `rest`
 abbrev pub with_sockets : PoolView → SocksView → State → State
 with_sockets p v rest = machine rest (queues_of p v.queues) v.pcbs
 
--- the machine with these sockets, unfinished datagrams and counters, in all else `rest`
+-- the machine with these sockets, unfinished datagrams and counters, and otherwise `rest`
 abbrev pub with_net : PoolView → SocksView → List Unfinished → Counters → State → State
 with_net p v us c rest = with_sockets p v (record rest { unfinished = us; counters = c })
 
--- ---- what the calls make of them
+-- ---- the effects of calls
 
--- A call on the control blocks alone: one step of the machine, whatever else it holds; the queues are as they were.
+-- A call on only the control blocks: one step of the machine, for every rest of it; the queues are unchanged.
 pub record IsCalled (p : PoolView) (v : SocksView) (event : Event) (reply : Reply) (w : SocksView) : Type 0 where
   pub step : (rest : State) → Step (with_sockets p v rest) event reply (with_sockets p w rest)
   pub ready : IsSocks p w
@@ -60,7 +60,7 @@ pub record IsCalled (p : PoolView) (v : SocksView) (event : Event) (reply : Repl
 
 -- ---- one queue of many
 
--- Queue fd took a step by which chains `ins` came to it and chains `outs` left it; all other queues are as they were.
+-- In a step, chains `ins` were added to queue fd and chains `outs` removed from it; all other queues are unchanged.
 pub record StepsAt (p : PoolView) (ins : List ℕ) (bs : List SockBufView) (fd : ℕ) (q : PoolView) (outs : List ℕ)
     (cs : List SockBufView) : Type 0 where
   pub len : length cs ≡ length bs
@@ -69,10 +69,10 @@ pub record StepsAt (p : PoolView) (ins : List ℕ) (bs : List SockBufView) (fd :
   pub owned : IsOwned q (queued_chains q cs)
   pub moves : Moves p (ins ++ queued_chains p bs) q (outs ++ queued_chains q cs)
 
--- the same where no chain came, and those that left are gone
+-- the same without added chains, and the removed ones are freed
 abbrev pub TakesAt : PoolView → List SockBufView → ℕ → PoolView → List SockBufView → Type 0
 TakesAt p bs fd q cs = StepsAt p [] bs fd q [] cs
 
--- nothing waits in any of the queues
+-- all queues are empty
 abbrev pub AreEmpty : List SockBufView → Type 0
 AreEmpty bs = AllByRecursion (λ (b : SockBufView). b.train.len ≡ 0) bs

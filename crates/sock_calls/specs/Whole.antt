@@ -57,7 +57,7 @@ ArrivesWhole packet item old new =
     item old new
 
 -- The packet was put into the queue of the socket that matches it, and only chains of receive queues changed. That is
--- one step of the machine, whatever else the machine holds, and the pool accounts for what the sockets hold.
+-- one step of the machine, for every rest of it, and the pool accounts for the sockets' chains.
 pub record StoresWhole (p : PoolView) (s : SocksView) (packet : List ℕ) (q : PoolView) (t : SocksView) : Type 0 where
   pub step : (rest : State) → IsAccounted p (with_sockets p s rest) nothing
       → (clusters : List ℕ)

@@ -1,5 +1,5 @@
--- Packets that arrive, for every rest of the machine (`ipintr` of volume 2, chapter 8; to say it by what a pool shows
--- is this project's own).
+-- Packets that arrive, for every rest of the machine (`ipintr` of volume 2, chapter 8; the form with a pool's view is
+-- this project's own).
 use Rattle.std.specs.Prelude.{◌≡◌, ℕ, List, [], ◌∷◌, length, count_by, Bool, true, false, ◌==◌, ◌||◌}
 use Rattle.flat_model.specs.Amounts.Weight.{Weight, ◌⊕◌, nothing}
 use Rattle.flat_model.specs.Machine.State.{State, ends, limited_broadcast, loopback}
@@ -25,11 +25,11 @@ use Rattle.ip_reass.specs.Arrivals.{CameBy, carried_at, flat_head}
 use Rattle.ip_reass.specs.Table.{TableView, held_all, unfinished}
 use Rattle.sock_calls.specs.Delivery.{NetView, IsAccountedAt, KeepsParts, state_at}
 
--- an address that a machine with these two addresses hears
+-- an address for which a machine with these two addresses accepts packets
 abbrev pub is_ours_or_all : ℕ → ℕ → ℕ → Bool
 is_ours_or_all addr bcast ip = (((ip == addr) || (ip == bcast)) || (ip == loopback)) || (ip == limited_broadcast)
 
--- chain c, a fragment whose header says `head` and whose bytes are as many as that says, arrived
+-- chain c arrived: a fragment with the header `head` and the length in that header
 pub record IsFragmentTaken (v : NetView) (c : ℕ) (head : IpHead) (u : NetView) : Type 0 where
   pub step : (rest : State) (held : Weight) (origin : Origin) → CameBy origin (chain_of v.pool c)
       → IsAccountedAt v rest (held ⊕ weight_at v.pool c)
@@ -50,7 +50,7 @@ pub record HaveArrived (v : NetView) (t : TrainView) (u : NetView) : Type 0 wher
       → AllArrive exact_ledger (train_packets v.pool t) (state_at v rest) (state_at u rest)
   pub parts : KeepsParts v (numbers v.pool t) u []
 
--- The front of a train arrived: whatever becomes of the packets of what is left makes an arrival of them all.
+-- The front of a train arrived: any arrival of the remaining packets completes an arrival of all.
 pub record AreArriving (v : NetView) (t : TrainView) (u : NetView) (left : TrainView) : Type 0 where
   pub goes : (rest new : State) → IsAccountedAt v rest (weight_owned v.pool (numbers v.pool t))
       → AllArrive exact_ledger (train_packets u.pool left) (state_at u rest) new
@@ -59,7 +59,7 @@ pub record AreArriving (v : NetView) (t : TrainView) (u : NetView) (left : Train
 
 -- ---- from the wire
 
--- chain c came with these bytes, laid as a packet from the wire is, on clusters that were free
+-- chain c was made with these bytes, in the layout of a packet from the wire, with clusters that were free
 pub record IsPacketStored (p : PoolView) (bytes : List ℕ) (q : PoolView) (c : ℕ) : Type 0 where
   pub clusters : List ℕ
   pub free : AreFree p clusters
@@ -69,7 +69,7 @@ pub record IsPacketStored (p : PoolView) (bytes : List ℕ) (q : PoolView) (c : 
       ≡ laid_on clusters (wire (length bytes))
   pub bytes_are : string (chain_of q c) ≡ bytes
 
--- these bytes came from the wire, into buffers of their own or, where the pool had too few, into none
+-- these bytes came from the wire, into new buffers, or into none if the pool had too few
 pub record HasCome (v : NetView) (packet : List ℕ) (u : NetView) : Type 0 where
   pub step : (rest : State) → IsAccountedAt v rest nothing
       → ComesIn exact_ledger packet (state_at v rest) (state_at u rest)
@@ -89,7 +89,7 @@ EndsFor v packet why =
     (rest : State) (w : Weight) → Arrives exact_ledger (By_wire (length packet)) nothing
     (record { bytes = packet; weight = w }) (state_at v rest) (ends why (counts_packet (state_at v rest)))
 
--- a packet for the machine with these control blocks, that is no fragment
+-- a packet for the machine with these control blocks that isn't a fragment
 pub record IsWholeForUs (t : Table) (packet : List ℕ) : Type 0 where
   pub ours : is_ours_or_all t.addr t.bcast (head_of packet).destination ≡ true
   pub whole : is_fragment (head_of packet) ≡ false

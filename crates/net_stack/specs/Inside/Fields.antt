@@ -1,4 +1,4 @@
--- How the fields of a stack mean what it shows, and when they do (this project's own).
+-- The view of the fields of a stack, and when they have one (this project's own).
 use Rattle.std.specs.Prelude.{◌≡◌, None}
 use Rattle.net_stack.specs.Stack.{StackView, IsStack}
 use Rattle.flat_model.specs.declared.config.Config.{Config}
@@ -24,7 +24,7 @@ stack_of s = record {
   counters = s.host.net.counters;
 }
 
--- what is shown fits together, the link is the configuration's, and no packet is left that was to come back
+-- the view is consistent, the link is the configuration's, and no packet is left that was to come back
 pub record IsStackInside (s : Fields) : Type 0 where
   pub stack : IsStack (stack_of s)
   pub mtu : s.host.net.mtu ≡ s.config.mtu

@@ -1,5 +1,5 @@
 -- A send with all that it may change, for every rest of the machine (`sosend` and `ip_output` of volume 2, chapters 16
--- and 8; to say it by what a pool shows is this project's own).
+-- and 8; the form with a pool's view is this project's own).
 use Rattle.std.specs.Prelude.{◌≡◌, ℕ, Bool, true, false, List, ◌++◌, Option, None, Result, Ok, Err}
 use Rattle.flat_model.specs.Amounts.Weight.{nothing}
 use Rattle.flat_model.specs.Machine.State.{State, Unfinished}
@@ -39,7 +39,7 @@ lacks_pool (Err errno) = is_pool_lack errno
 abbrev pub no_train : TrainView
 no_train = record { first = None; last = None; len = 0 }
 
--- the machine that has what a send sees, and these unfinished datagrams, in all else `rest`
+-- the machine with the parts of a send and these unfinished datagrams, and otherwise `rest`
 abbrev pub whole_in : SendView → List Unfinished → State → State
 whole_in v us rest = state_in v (record rest { unfinished = us })
 
@@ -62,8 +62,8 @@ pub record AreParts (v : SendView) (r : TableView) (u : SendView) (t : TableView
   pub moves : Moves v.pool (held_all v.pool r.datagrams ++ out_chains v) u.pool
       (numbers u.pool u.net.looped ++ (held_all u.pool t.datagrams ++ out_chains u))
 
--- A send was tried, and once more without the unfinished datagrams where the pool had too few buffers: whatever becomes
--- of the packets that come back, it's one step of the machine.
+-- A send was tried, and again without the unfinished datagrams if the pool had too few buffers: whatever happens to
+-- the packets that come back, it's one step of the machine.
 pub record IsTried (fd : ℕ) (to : Option Addr) (bytes : List ℕ) (v : SendView) (r : TableView) (result : Result ℕ Errno)
     (u : SendView) (t : TableView) : Type 0 where
   pub goes : (rest new : State) → rest.config.mtu ≡ v.net.mtu → IsAccounted v.pool (all_in v r rest) nothing

@@ -11,15 +11,15 @@ use Rattle.mbuf_chain.specs.Train.{TrainView, numbers}
 use Rattle.ip_out.specs.Packets.{train_packets}
 use Rattle.ip_out.specs.Queues.{IsOutputQueue}
 
--- each packet of the queue has at most so many bytes
+-- each packet of the queue has at most this number of bytes
 abbrev pub AreWithin : PoolView → TrainView → ℕ → Type 0
 AreWithin p t most = AllByRecursion (λ (item : Item). length item.bytes ≤ most) (train_packets p t)
 
--- the machine with this output, in all else `rest`
+-- the machine with this output, and otherwise `rest`
 abbrev pub with_packets : PoolView → TrainView → State → State
 with_packets p t rest = record rest { output = train_packets p t }
 
--- The link took the packet that waited longest, and its buffers are free.
+-- The link took the oldest packet, and its buffers are free.
 pub record IsGiven (p : PoolView) (t : TrainView) (reply : Reply) (q : PoolView) (u : TrainView) : Type 0 where
   pub step : (rest : State) → Transmits (train_packets p t) (with_packets p t rest) reply (with_packets q u rest)
   pub queue : IsOutputQueue q u

@@ -1,4 +1,4 @@
--- What the calls make of a block (volume 2 chapter 22), and what the cache holds of it.
+-- How the calls change a block (volume 2 chapter 22), and the cached connection.
 use Rattle.std.specs.Prelude.{ℕ, Bool, false, if◌then◌else◌, ◌==◌, Option, Some, None, is_some}
 use Rattle.flat_model.specs.declared.address.Addr.{Addr}
 use Rattle.flat_model.specs.declared.option.Opt.{Opt}
@@ -33,7 +33,7 @@ connection_by fd (Some ip) (Some port) (Some peer) =
     Some (record { fd = fd; local = record { ip = ip; port = port }; peer = peer })
 connection_by fd _ _ _ = None
 
--- where all four are set
+-- if all four are set
 abbrev pub connection_of : Block → Option Connection
 connection_of b = connection_by b.fd b.local b.port b.peer
 

@@ -1,4 +1,4 @@
--- What holds of the fields of a table, and where a block stands in it (this project's own).
+-- The invariants of the fields of a table, and the index of a block (this project's own).
 use Rattle.std.specs.Prelude.{◌≡◌, ℕ, ◌+◌, ◌<◌, ◌≤◌, Bool, true, false, is_some, ◌&&◌, ◌==◌, List, length, get_or, slice_index_or, count_by, find, Option, Some, None, IsSome, unwrap_or}
 use Rattle.params.specs.declared.TheConstants.{FIRST_DESCRIPTOR, FIRST_EPHEMERAL_PORT, LAST_EPHEMERAL_PORT}
 use Rattle.pcb_table.specs.Apart.{has_fd, has_four}
@@ -26,7 +26,7 @@ pub record IsLowestUnused (bs : List Block) (fd : ℕ) : Type 0 where
   pub free : find (has_fd fd) bs ≡ None
   pub passed : (k : ℕ) → FIRST_DESCRIPTOR ≤ k → k < fd → IsSome (find (has_fd k) bs)
 
--- the block stands at the index, and has the descriptor
+-- the block is at this index, and has the descriptor
 pub record IsLocated (fd : ℕ) (bs : List Block) (index : ℕ) (block : Block) : Type 0 where
   pub within : index < length bs
   pub is : (d : Block) → slice_index_or bs index d ≡ block
@@ -36,7 +36,7 @@ abbrev pub Locates : ℕ → List Block → Option Place → Type 0
 Locates fd bs None = find (has_fd fd) bs ≡ None
 Locates fd bs (Some place) = IsLocated fd bs place.index place.block
 
--- the port that is indexed of a block: 0 if it has none
+-- the port of a block in the index: 0 if it has none
 abbrev pub port_or_zero : Block → ℕ
 port_or_zero b = unwrap_or b.port 0
 
@@ -52,6 +52,6 @@ PassesLanes ports port at n = (k : ℕ) → at ≤ k → k < at + n → (get_or 
 abbrev pub is_connected : Block → Bool
 is_connected b = is_some b.peer
 
--- where it's indexed that none is connected, none is
+-- if the index says that none is connected, none is
 abbrev pub ImpliesNoneConnected : Bool → List Block → Type 0
 ImpliesNoneConnected none bs = none ≡ true → find is_connected bs ≡ None

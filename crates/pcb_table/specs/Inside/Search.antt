@@ -1,5 +1,5 @@
 -- The searches and refusals of flat_model on blocks, which have no queues (volume 2 sections 22.5 to 22.8). The private
--- functions' clauses name them; what callers see speaks of flat_model's own.
+-- functions' clauses name them; the public contracts name flat_model's.
 use Rattle.std.specs.Prelude.{◌≡◌, ℕ, ◌<◌, Bool, true, false, ◌==◌, ◌&&◌, ◌||◌, not, if◌then◌else◌, List, [], ◌∷◌, filter, find, Option, Some, None, is_some}
 use Rattle.std.specs.Option.{option_or}
 use Rattle.flat_model.specs.declared.lookup_key.LookupKey.{LookupKey}
@@ -50,7 +50,7 @@ pub record IsFreePort (bs : List Block) (last local : Option ℕ) (port : ℕ) :
   pub free : is_used bs local port ≡ false
   pub passed : (k : ℕ) → k < turns → is_used bs local (port_after last k) ≡ true
 
--- The port asked for, or else the next free one; and the last port chosen then.
+-- The requested port, or otherwise the next free one; and the last port chosen then.
 abbrev pub GivesPort : List Block → Option ℕ → Option ℕ → Option ℕ → ℕ → Option ℕ → Type 0
 GivesPort bs last local (Some asked) port later = (port ≡ asked) × (later ≡ last)
 GivesPort bs last local None port later = IsFreePort bs last local port × (later ≡ Some port)
@@ -65,7 +65,7 @@ abbrev pub lacks_option : Option Block → Bool
 lacks_option None = false
 lacks_option (Some b) = not b.reuse_port
 
--- whether a bind of the block to this address and port matches another one that stands in its way
+-- whether a bind of the block to this address and port matches another block that prevents it
 abbrev pub is_in_way : List Block → Block → Option ℕ → ℕ → Bool
 is_in_way bs me local port =
     if me.reuse_port then lacks_option (youngest_block 0 (key_port local port) bs) else is_used bs local port

@@ -1,4 +1,4 @@
--- What a question finds in the parts of the sockets.
+-- The results of queries, from the parts of the sockets.
 use Rattle.std.specs.Prelude.{ℕ, Bool, not, ◌==◌, List, length, Option, None, Some, Result, Ok, Err}
 use Rattle.flat_model.specs.declared.errno.Errno.{Errno}
 use Rattle.flat_model.specs.declared.errno.Errno.TheVariants.{BadDescriptor}
@@ -8,7 +8,7 @@ use Rattle.sockbuf.specs.SockBuf.{SockBufView}
 use Rattle.sock_calls.specs.declared.questions.SocketName.{SocketName}
 use Rattle.sock_calls.specs.Sockets.{queues_of}
 
--- the name that a control block tells
+-- the name in a control block
 abbrev pub name_of_block : Option Block → Result SocketName Errno
 name_of_block None = Err BadDescriptor
 name_of_block (Some b) = Ok (record {

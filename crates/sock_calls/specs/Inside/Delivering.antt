@@ -1,4 +1,4 @@
--- A delivery on its way through the receivers (this project's own).
+-- A delivery to some of the receivers (this project's own).
 use Rattle.std.specs.Prelude.{◌≡◌, ℕ, ◌<◌, List, [], ◌∷◌, drop}
 use Rattle.flat_model.specs.Amounts.Weight.{Weight, ◌⊕◌}
 use Rattle.flat_model.specs.Machine.State.{State}
@@ -10,7 +10,7 @@ use Rattle.mbuf_chain.specs.Owners.{times_among}
 use Rattle.ledger.specs.Accounts.{item_at, weight_at}
 use Rattle.sock_calls.specs.Delivery.{NetView, IsAccountedAt, KeepsParts, state_at, queues_at, sockets_named}
 
--- From v on, chain c was offered to the first i of the receivers: whatever becomes of the others makes a delivery to
+-- From v on, chain c was offered to the first i of the receivers: any delivery to the others completes a delivery to
 -- all.
 pub record IsUnderWay (v : NetView) (c : ℕ) (fds : List ℕ) (sender : Addr) (i : ℕ) (u : NetView) : Type 0 where
   pub goes : (rest : State) (held : Weight) (new : State) → IsAccountedAt v rest (held ⊕ weight_at v.pool c)

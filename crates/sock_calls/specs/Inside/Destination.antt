@@ -1,5 +1,5 @@
--- Where a send goes, and what it is refused for before its buffers are looked at (`sosend` and `udp_output` of volume
--- 2, chapters 16 and 23).
+-- The destination of a send, and the errors before its buffers are checked (`sosend` and `udp_output` of volume 2,
+-- chapters 16 and 23).
 use Rattle.std.specs.Prelude.{◌≡◌, ℕ, ◌+◌, Bool, nat_lt, ◌&&◌, not, is_none, List, [], ◌∷◌, Option, Some, None, Result, MatchResult}
 use Rattle.params.specs.declared.TheConstants.{IP_UDP_HEADERS, UDP_SEND_SPACE}
 use Rattle.flat_model.specs.Machine.State.{State}
@@ -11,16 +11,16 @@ use Rattle.flat_model.specs.declared.errno.Errno.TheVariants.{Access, Destinatio
 use Rattle.pcb_table.specs.declared.block.Block.{Block}
 use Rattle.pcb_table.specs.Table.{Table, Queues, block_at, machine, socket_with}
 
--- what is asked before the address is looked at: that there is one, and that the bytes aren't too many
+-- the checks before that of the address: that there is one, and that the datagram isn't too long
 abbrev pub early_faults : Option Addr → Option Addr → ℕ → List (Bool × Errno)
 early_faults to peer n = (is_none to && is_none peer, DestinationRequired) ∷ (nat_lt UDP_SEND_SPACE n, MessageSize) ∷ []
 
--- what is asked of a send to the broadcast address
+-- the checks of a send to the broadcast address
 abbrev pub broadcast_faults : Bool → Bool → ℕ → ℕ → List (Bool × Errno)
 broadcast_faults to_all allowed mtu n = (to_all && not allowed, Access)
     ∷ (to_all && nat_lt mtu (n + IP_UDP_HEADERS), MessageSize) ∷ []
 
--- the address of a send is refused for the first of its faults, or else it's the address as it's read, or the peer's
+-- the address of a send is refused for the first of its faults, otherwise it's the translated address, or the peer's
 abbrev pub FindsTarget : Table → ℕ → Option Addr → Result Addr Errno → Type 0
 FindsTarget t fd to result =
     (rest : State) (queues : Queues) (b : Block) → block_at fd t ≡ Some b →
@@ -29,7 +29,7 @@ FindsTarget t fd to result =
     × (a ≡ target (machine rest queues t) (socket_with queues b) to))
     (λ errno. first_fault (address_faults (machine rest queues t) (socket_with queues b) to) ≡ Some errno)
 
--- a send of n bytes is refused for the first of its faults, or else goes to this address
+-- a send of n bytes is refused for the first of its faults, otherwise it goes to this address
 abbrev pub ChecksSend : Table → ℕ → ℕ → Option Addr → ℕ → Result Addr Errno → Type 0
 ChecksSend t mtu fd to n result =
     (rest : State) (queues : Queues) (b : Block) → block_at fd t ≡ Some b → rest.config.mtu ≡ mtu →

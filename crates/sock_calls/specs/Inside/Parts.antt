@@ -1,4 +1,4 @@
--- What the parts of the sockets show (this project's own).
+-- The view of the parts of the sockets (this project's own).
 use Rattle.sock_calls.specs.declared.parts.Parts.{Parts}
 use Rattle.sock_calls.specs.Sockets.{SocksView, from_three}
 

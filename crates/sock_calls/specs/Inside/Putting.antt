@@ -1,4 +1,4 @@
--- A send step by step: its packets, and what is put where (this project's own).
+-- A send step by step: its packets, and where they are stored (this project's own).
 use Rattle.std.specs.Prelude.{◌≡◌, ◌≢◌, ℕ, ◌+◌, ◌≤◌, ◌%◌, ◌==◌, nat_lt, Bool, true, false, if◌then◌else◌, List, ◌++◌, length, take, drop, count_by}
 use Rattle.params.specs.declared.TheConstants.{MIN_MTU, LOOPBACK, IP_HEADER, IP_UDP_HEADERS, OUTPUT_QUEUE_PACKETS, IP_DEFAULT_TTL, PROTOCOL_UDP}
 use Rattle.flat_model.specs.Machine.Count.{counts_more}
@@ -26,11 +26,11 @@ use Rattle.ledger.specs.Reserve.{are_free}
 use Rattle.sock_calls.specs.declared.net.Net.{Net}
 use Rattle.sock_calls.specs.declared.packets.Heading.{Heading}
 
--- what a send reads of the configuration of a machine with these blocks and this link
+-- the part of a machine's configuration that a send reads, with these blocks and this link
 abbrev pub send_config : Table → ℕ → Config
 send_config t mtu = record { addr = t.addr; bcast = t.bcast; mtu = mtu; mbufs = 0; clusters = 0; first_id = 0 }
 
--- its two addresses differ, the broadcast address isn't 127.0.0.1, and the link takes packets of 68 bytes
+-- its two addresses differ, the broadcast address isn't 127.0.0.1, and the MTU is at least 68
 pub record IsRouted (c : Config) : Type 0 where
   pub mtu : MIN_MTU ≤ c.mtu
   pub apart : c.bcast ≢ c.addr
@@ -44,11 +44,11 @@ way_of c ip = if flat.is_looped c ip then Loopback else (if ip == c.bcast then B
 abbrev pub IsFreeFor : PoolView → Config → ℕ → ℕ → Type 0
 IsFreeFor p c ip n = are_free p (need_to c ip n).mbufs (need_to c ip n).clusters ≡ true
 
--- what is sent: the headers say `heading`
+-- the packets sent, with the header fields `heading`
 abbrev pub sent_as : Heading → List ℕ → flat.Sending
 sent_as h bytes = record { id = h.id; source = h.source; to = h.to; port = h.port; bytes = bytes }
 
--- the IP header of all its packets, but for their lengths and offsets
+-- the IP header of all its packets, except for their lengths and offsets
 abbrev pub head_as : Heading → IpHead
 head_as h = record {
   tos = 0;
@@ -63,8 +63,8 @@ head_as h = record {
   dst = h.to.ip;
 }
 
--- From p to q chain c came, of n bytes and 28 in front of them, laid out as a send of n bytes on clusters that were
--- free.
+-- From p to q chain c was made, of n bytes after 28 for the headers, in the layout of a send of n bytes, with clusters
+-- that were free.
 pub record IsSendLaidOut (p : PoolView) (n : ℕ) (clusters : List ℕ) (q : PoolView) (c : ℕ) : Type 0 where
   pub number : length clusters ≡ count_by is_cluster (sent n)
   pub free : AreFree p clusters
@@ -86,7 +86,7 @@ pub record IsBuilt (p : PoolView) (x : flat.Sending) (q : PoolView) (c : ℕ) : 
   pub lies : IsSendLaidOut p (length x.bytes) clusters q c
   pub datagram : drop IP_HEADER (string (chain_of q c)) ≡ flat.datagram x
 
--- From p and o to q and u the packets of a send came: what the output queue took, and what comes back.
+-- From p and o to q and u the packets of a send were made: those in the output queue, and those that come back.
 pub record AreMade (p : PoolView) (c : Config) (x : flat.Sending) (o : TrainView) (q : PoolView) (made : Sent)
     (u : TrainView) : Type 0 where
   pub clusters : List ℕ
@@ -103,7 +103,7 @@ pub record AreMade (p : PoolView) (c : Config) (x : flat.Sending) (o : TrainView
   pub plain : BeginPlain q made.looped
   pub moves : Moves p (numbers p o) q (numbers q made.looped ++ numbers q u)
 
--- the counters of a send: whether it was cut, and whether a packet of it was lost
+-- the counters of a send: whether it was fragmented, and whether a packet of it was lost
 abbrev pub counts_sent : Bool → Bool → Counters → Counters
 counts_sent cut lost c =
     let sent : Counters = counts_more IpLocalout 1 c in

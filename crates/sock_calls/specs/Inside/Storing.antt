@@ -1,4 +1,4 @@
--- The data of a packet from the wire in a chain of their own (this project's own).
+-- The data of a packet from the wire, in a new chain (this project's own).
 use Rattle.std.specs.Prelude.{◌≡◌, ℕ, Bool, true, false, List, [], ◌∷◌, ◌++◌, length, take, drop, count_by, Option, Result, Ok, Err}
 use Rattle.params.specs.declared.TheConstants.{IP_UDP_HEADERS}
 use Rattle.flat_model.specs.Amounts.Layout.{is_cluster, laid_on, weight_of, wire}
@@ -22,8 +22,8 @@ data_of packet end clusters = record {
   weight = weight_of (laid_on clusters (wire (length packet)));
 }
 
--- From p to q chain c came: it has the data of a packet, laid out as if the whole packet had been stored on clusters
--- that were free, and its headers and padding had been cut off.
+-- From p to q chain c was made: it has the data of a packet, laid out as if the whole packet had been stored in free
+-- clusters, and its headers and padding had been removed.
 pub record IsDataStored (p : PoolView) (packet : List ℕ) (end : ℕ) (q : PoolView) (c : ℕ) : Type 0 where
   pub clusters : List ℕ
   pub free : AreFree p clusters
@@ -40,7 +40,7 @@ pub record IsStoredAt (p : PoolView) (bs : List SockBufView) (fd : ℕ) (sender 
   pub taken : IsTaken p is_large cluster
   pub here : queues_of q cs fd ≡ queues_of p bs fd ++ stored_datagram sender bytes cluster ∷ []
 
--- Bytes don't fit into queue fd, and nothing has changed.
+-- The bytes don't fit into queue fd, and nothing has changed.
 pub record IsFullAt (p : PoolView) (bs : List SockBufView) (fd : ℕ) (bytes : List ℕ) (why : Why) (q : PoolView)
     (cs : List SockBufView) : Type 0 where
   pub over : fits (queues_of p bs fd) (length bytes) ≡ false
