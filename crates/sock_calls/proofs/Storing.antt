@@ -1,7 +1,8 @@
 -- The data of a packet from the wire in a chain of their own, and their delivery to all sockets that match.
-use Rattle.std.proofs.Common.{◌≡◌, ℕ, suc, ◌-◌, ◌<◌, List, [], ◌∷◌, ◌++◌, length, map, take, drop, true, false, Some, refl, sym, ap, ◌∙◌, subst, arith}
+use Rattle.std.proofs.Common.{◌≡◌, ℕ, suc, ◌-◌, ◌<◌, ◌≤◌, List, All, [], ◌∷◌, ◌++◌, length, map, get_or, slice_index_or, take, drop, true, false, Some, refl, sym, ap, ◌∙◌, subst, arith}
 use Rattle.std.specs.Prelude.{count_by}
 use Rattle.std.specs.List.{cons_option}
+use Rattle.std.proofs.lemmas.Bool.{true≢false}
 use Rattle.std.proofs.lemmas.List.{length-map}
 use Rattle.std.proofs.lemmas.List.Elements.{recursion_from_All, All-from_recursion}
 use Rattle.flat_model.specs.Amounts.Weight.{Weight, Item, nothing, ◌⊕◌}
@@ -13,7 +14,10 @@ use Rattle.flat_model.specs.Machine.Ledger.{AreTaken, IsFree, exact_ledger}
 use Rattle.flat_model.specs.Machine.Arrival.{Delivers, GoesTo, hearers}
 use Rattle.flat_model.specs.declared.address.Addr.{Addr}
 use Rattle.flat_model.specs.declared.counters.Counters.{Counters}
+use Rattle.flat_model.specs.declared.lookup_key.LookupKey.{LookupKey}
 use Rattle.flat_model.specs.declared.counters.Why.{Why}
+use Rattle.flat_model.specs.declared.counters.Why.TheVariants.{UdpFullSocket}
+use Rattle.flat_model.specs.Sockets.Fits.{fits}
 use Rattle.mbuf_chain.specs.Chain.{ChainView, Entry, PoolView, alone, chain_of, flat_bytes, string, with_chain}
 use Rattle.mbuf_chain.specs.Owners.{IsOwned, Moves}
 use Rattle.mbuf_chain.specs.Frames.{SameAt}
@@ -26,7 +30,7 @@ use Rattle.chain_ops.proofs.Laws.Strings.{only_first_bytes, without_first_bytes}
 use Rattle.ledger.specs.Accounts.{entries_weight, weight_at, IsAccounted}
 use Rattle.ledger.proofs.Laws.{some_free}
 use Rattle.pcb_table.specs.declared.block.Block.{Block}
-use Rattle.pcb_table.specs.Table.{Queues, Table, block_at, packet_key, socket_with}
+use Rattle.pcb_table.specs.Table.{IsDescriptor, IsOpen, Queues, Table, block_at, packet_key, socket_with}
 use Rattle.sockbuf.specs.SockBuf.{SockBufView}
 use Rattle.udp.specs.Checked.{IsChecked, unmatched}
 use Rattle.udp.specs.Datagrams.{AreMatching}
@@ -35,11 +39,11 @@ use Rattle.sock_calls.specs.Delivery.{IsDelivered, seen, sockets_named}
 use Rattle.ip_out.specs.Headed.{carried_of}
 use Rattle.sock_calls.specs.Whole.{ArrivesWhole, DeliversWhole}
 use Rattle.sock_calls.specs.Inside.Storing.{IsDataStored, data_of}
-use Rattle.sock_calls.proofs.Arriving.{laid_weight, sockets_are}
+use Rattle.sock_calls.proofs.Arriving.{all_open, laid_weight, sockets_are}
 use Rattle.sock_calls.proofs.Delivered.{ends_accounted, shows_same}
 use Rattle.sock_calls.proofs.Frames.{Kept, kept}
 use Rattle.sock_calls.proofs.Going.{bag_of_times, free_each}
-use Rattle.sock_calls.proofs.Copies.{copy_accounts}
+use Rattle.sock_calls.proofs.Copies.{copy_accounts, descriptor_of}
 use Rattle.sock_calls.proofs.Whole.{arrives_as}
 
 -- ---- trims leave weights
@@ -220,6 +224,38 @@ none_found : (f : Queues) (found : List Block) → length (map (λ (b : Block). 
 none_found f [] e = refl
 none_found f (b ∷ found) e = absurd (omega (arith, e))
 
+-- none of it is stored, and it ends for this cause
+ends_whole : {p : PoolView} {t : Table} {bs : List SockBufView} {us : List Unfinished} {xs : List ℕ} {c e : Counters}
+    {end : ℕ} {packet : List ℕ} {from to : Addr} (why : Why) → IsSocks p (record { pcbs = t; queues = bs })
+    → IsChecked packet end from to → Has p (wire (length packet)) → e ≡ counted why c
+    → ((rest : State) (w : Weight) → (let old : State = with_net p (record { pcbs = t; queues = bs }) us c rest in
+    GoesTo exact_ledger nothing from (record { bytes = drop 28 (take end packet); weight = w }) to.ip
+    (hearers old to.ip (packet_key to.ip to.port from)) old (ends why old)))
+    → DeliversWhole (seen p (record { pcbs = t; queues = bs }) us xs c) packet
+    (seen p (record { pcbs = t; queues = bs }) us xs e)
+ends_whole {p} {t} {bs} {us} {xs} {c} {e} {end} {packet} {from} {to} why socks checked has is_e goes =
+    let s : SocksView = record { pcbs = t; queues = bs } in
+    let now : (rest : State) → with_net p s us e rest ≡ ends why (with_net p s us c rest) =
+    λ rest i. with_net p s us (is_e i) rest in
+    record {
+      step = λ rest a.
+          let old : State = with_net p s us c rest in
+          let free = some_free p old (need_of (wire (length packet))).clusters a has.1 in
+          let w : Weight = flat.weight_of (laid_on free.0 (wire (length packet))) in (
+            free.0,
+            free.1,
+            subst (λ (new : State). ArrivesWhole packet (record { bytes = carried_of packet; weight = w }) old new)
+                (sym (now rest))
+                (arrives_as packet end from to w old (ends why old) checked (goes rest w)),
+          );
+      parts = record {
+        accounts = λ rest held a. subst (λ (m : State). IsAccounted p m held) (sym (now rest)) (ends_accounted why a);
+        ready = socks;
+        pcbs = refl;
+        moves = moves_none p (xs ++ queued_chains p bs);
+      };
+    }
+
 pub unmatched_ends : {p : PoolView} {t : Table} {bs : List SockBufView} {us : List Unfinished} {xs fds : List ℕ}
     {c e : Counters} {end : ℕ} {packet : List ℕ} {from to : Addr} (why : Why)
     → IsSocks p (record { pcbs = t; queues = bs }) → IsChecked packet end from to
@@ -229,32 +265,55 @@ pub unmatched_ends : {p : PoolView} {t : Table} {bs : List SockBufView} {us : Li
     (seen p (record { pcbs = t; queues = bs }) us xs e)
 unmatched_ends {p} {t} {bs} {us} {xs} {fds} {c} {e} {end} {packet} {from} {to} why socks checked matching none has is
     is_e =
-    let s : SocksView = record { pcbs = t; queues = bs } in
-    let now : (rest : State) → with_net p s us e rest ≡ ends why (with_net p s us c rest) =
-    λ rest i. with_net p s us (is_e i) rest in
-    record {
-      step = λ rest a.
-          let old : State = with_net p s us c rest in
-          let free = some_free p old (need_of (wire (length packet))).clusters a has.1 in
-          let w : Weight = flat.weight_of (laid_on free.0 (wire (length packet))) in
-          let item : Item = record { bytes = drop 28 (take end packet); weight = w } in
-          let nobody : hearers old to.ip (packet_key to.ip to.port from) ≡ [] =
-          matching.sockets (record rest { unfinished = us; counters = c }) (queues_of p bs)
-          ∙ none_found (queues_of p bs) matching.found
-          (omega (arith, none, ap (λ (l : List ℕ). length l) matching.named)) in
-          let goes : GoesTo exact_ledger nothing from item to.ip (hearers old to.ip (packet_key to.ip to.port from)) old
-          (ends why old) = subst (λ (l : List Socket). GoesTo exact_ledger nothing from item to.ip l old (ends why old))
-          (sym nobody) (ap (λ (y : Why). ends y old) is) in (
-            free.0,
-            free.1,
-            subst (λ (new : State). ArrivesWhole packet (record { bytes = carried_of packet; weight = w }) old new)
-                (sym (now rest))
-                (arrives_as packet end from to w old (ends why old) checked goes),
-          );
-      parts = record {
-        accounts = λ rest held a. subst (λ (m : State). IsAccounted p m held) (sym (now rest)) (ends_accounted why a);
-        ready = socks;
-        pcbs = refl;
-        moves = moves_none p (xs ++ queued_chains p bs);
-      };
-    }
+    ends_whole why socks checked has is_e (λ rest w.
+    let old : State = with_net p (record { pcbs = t; queues = bs }) us c rest in
+    let item : Item = record { bytes = drop 28 (take end packet); weight = w } in
+    let nobody : hearers old to.ip (packet_key to.ip to.port from) ≡ [] =
+    matching.sockets (record rest { unfinished = us; counters = c }) (queues_of p bs)
+    ∙ none_found (queues_of p bs) matching.found
+    (omega (arith, none, ap (λ (l : List ℕ). length l) matching.named)) in
+    subst (λ (l : List Socket). GoesTo exact_ledger nothing from item to.ip l old (ends why old)) (sym nobody)
+    (ap (λ (y : Why). ends y old) is))
+
+-- ---- the queue of the only socket that matches is full
+
+only_found : (f : Queues) (found : List Block) (fd : ℕ) → map (λ (b : Block). b.fd) found ≡ fd ∷ []
+    → (b : Block) × (b.fd ≡ fd) × (map (socket_with f) found ≡ socket_with f b ∷ [])
+only_found f [] fd e = absurd (omega (arith, ap (λ (l : List ℕ). length l) e))
+only_found f (b ∷ []) fd e = (b, ap (λ (l : List ℕ). get_or l 0 0) e, refl)
+only_found f (b ∷ a ∷ found) fd e = absurd (omega (arith, ap (λ (l : List ℕ). length l) e))
+
+-- a list of one, by its length
+pub lone_is : (l : List ℕ) → 1 ≤ length l → length l < 2 → l ≡ slice_index_or l 0 0 ∷ []
+lone_is [] least most = absurd (omega arith)
+lone_is (x ∷ []) least most = refl
+lone_is (x ∷ y ∷ l) least most = absurd (omega arith)
+
+pub lone_descriptor : {p : PoolView} {t : Table} {bs : List SockBufView} {fds : List ℕ} {destination fd : ℕ}
+    {q : LookupKey} → IsSocks p (record { pcbs = t; queues = bs }) → AreMatching t destination q fds → fds ≡ fd ∷ []
+    → IsDescriptor fd
+lone_descriptor {p} {t} {bs} {fds} {destination} {fd} {q} socks matching one =
+    descriptor_of t fd socks.apart (recursion_from_All (λ (k : ℕ). IsOpen k t) (fd ∷ [])
+    (subst (All (λ (k : ℕ). IsOpen k t)) one (all_open t destination q fds matching))).0
+
+pub full_ends : {p : PoolView} {t : Table} {bs : List SockBufView} {us : List Unfinished} {xs fds : List ℕ}
+    {c e : Counters} {end fd : ℕ} {packet : List ℕ} {from to : Addr} → IsSocks p (record { pcbs = t; queues = bs })
+    → IsChecked packet end from to → AreMatching t to.ip (packet_key to.ip to.port from) fds → fds ≡ fd ∷ []
+    → Has p (wire (length packet)) → fits (queues_of p bs fd) (length (drop 28 (take end packet))) ≡ false
+    → e ≡ counted UdpFullSocket c
+    → DeliversWhole (seen p (record { pcbs = t; queues = bs }) us xs c) packet
+    (seen p (record { pcbs = t; queues = bs }) us xs e)
+full_ends {p} {t} {bs} {us} {xs} {fds} {c} {e} {end} {fd} {packet} {from} {to} socks checked matching one has over is_e =
+    ends_whole UdpFullSocket socks checked has is_e (λ rest w.
+    let old : State = with_net p (record { pcbs = t; queues = bs }) us c rest in
+    let item : Item = record { bytes = drop 28 (take end packet); weight = w } in
+    let f : Queues = queues_of p bs in
+    let only = only_found f matching.found fd (sym matching.named ∙ one) in
+    let lone : hearers old to.ip (packet_key to.ip to.port from) ≡ socket_with f only.0 ∷ [] =
+    matching.sockets (record rest { unfinished = us; counters = c }) f ∙ only.2 in
+    subst (λ (l : List Socket). GoesTo exact_ledger nothing from item to.ip l old (ends UdpFullSocket old)) (sym lone)
+    (record {
+      yes = λ y. absurd (true≢false (sym y
+          ∙ ap (λ (k : ℕ). fits (f k) (length (drop 28 (take end packet)))) only.1 ∙ over));
+      no = λ _. refl;
+    }))

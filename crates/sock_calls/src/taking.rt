@@ -110,6 +110,13 @@ impl Parts {
             counters.count_ended(why);
             return;
         }
+        // A copy for a full queue would be freed at once.
+        if let [fd] = matching.as_slice() {
+            if !self.queues.fits_at(*fd, packet.data().len() as u32) {
+                counters.count_ended(Why::UdpFullSocket);
+                return;
+            }
+        }
         let chain = store_data(pool, packet);
         let datagram = Datagram {
             sender: packet.from,

@@ -1,15 +1,16 @@
-use Rattle.std.proofs.Common.{◌≤◌, ◌∷◌, ◌++◌, ℕ, List, All, sym, ap, subst, ◌∙◌, arith, rules}
+use Rattle.std.proofs.Common.{◌≤◌, ◌∷◌, ◌++◌, ℕ, List, All, length, slice_index_or, sym, ap, subst, ◌∙◌, arith, rules}
 use Rattle.std.proofs.lemmas.Grind.{common_steps}
 use Rattle.flat_model.specs.Amounts.Weight.{times}
+use Rattle.flat_model.specs.Sockets.Fits.{fits}
 use Rattle.mbuf_chain.specs.Owners.{IsOwned}
 use Rattle.pcb_table.specs.Table.{Table, IsOpen}
 use Rattle.udp.specs.Checked.{unmatched}
-use Rattle.sock_calls.specs.Sockets.{IsSocks, from_three, queued_chains}
+use Rattle.sock_calls.specs.Sockets.{IsSocks, from_three, queued_chains, queues_of}
 use Rattle.sock_calls.specs.Delivery.{seen}
 use Rattle.sock_calls.specs.Inside.Parts.{socks_of}
 use Rattle.sock_calls.specs.Whole.{DeliversWhole}
 use Rattle.sock_calls.proofs.Arriving.{all_open}
-use Rattle.sock_calls.proofs.Storing.{beside_data, delivers_to, unmatched_ends}
+use Rattle.sock_calls.proofs.Storing.{beside_data, delivers_to, full_ends, lone_descriptor, lone_is, unmatched_ends}
 use Rattle.sock_calls.proofs.parts.Parts.deliver_packet.Goals as goal
 
 pub deliver_all-requires-clause-socks : goal.deliver_all-requires-clause-socks
@@ -66,6 +67,30 @@ returns-then-is_empty-clause-delivered g c =
     (first_of (search rules, grind (arith, common_steps))) c.requires.free
     (c.no_port-why.ensures ∙ ap (λ (t : Table). unmatched t c.args.packet.now.to.ip) c.matching_sockets.ensures.blocks)
     c.count_ended.ensures)
+
+pub fits_at-requires : goal.fits_at-requires
+fits_at-requires g c =
+    lone_descriptor c.requires.socks c.matching_sockets.ensures.found
+    (sym c.as_slice.ensures.value ∙ lone_is c.as_slice.result.now c.in-len1.len_at_least c.in-len1.len_below)
+
+pub returns-then-not-fits_at-clause-delivered : goal.returns-then-not-fits_at-clause-delivered
+returns-then-not-fits_at-clause-delivered g c =
+    let p = c.args.pool.now in
+    let w = c.args.waiting.now in
+    let us = g.R.Waiting.unfinished p w in
+    let xs = g.R.Reclaim.owned p w in
+    let bs = from_three c.args.self.now.queues in
+    let fd = slice_index_or c.as_slice.result.now 0 0 in
+    subst (λ (t : Table). DeliversWhole (seen p (socks_of c.args.self.now) us xs c.args.counters.now)
+    c.args.packet.now.packet.now (seen p (record { pcbs = t; queues = bs }) us xs
+    c.count_ended-then-not-fits_at.new.self))
+    (sym c.matching_sockets.ensures.blocks)
+    (full_ends c.requires.socks c.args.packet.now.is_checked c.matching_sockets.ensures.found
+    (sym c.as_slice.ensures.value ∙ lone_is c.as_slice.result.now c.in-len1.len_at_least c.in-len1.len_below)
+    c.requires.free
+    (ap (λ (l : List ℕ). fits (queues_of p bs fd) (length l)) (sym c.data.ensures.value)
+    ∙ sym (c.if-not-fits_at.ensures p c.requires.socks.each))
+    c.count_ended-then-not-fits_at.ensures)
 
 pub returns-clause-delivered : goal.returns-clause-delivered
 returns-clause-delivered g c =
