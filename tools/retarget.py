@@ -14,7 +14,6 @@ All else means the same with pointers of 32 bits, as far as it's known here. A l
 its number: a cast between pointers and numbers, an aggregate in memory, a step in an address that isn't in bytes, a
 constant or an attribute that depends on a layout, an atomic access, a call through a pointer."""
 import re
-import sys
 
 SIZES = {"i8": 1, "i16": 2, "i32": 4, "i64": 8, "ptr": 8}
 NUMBER = r"(?:i\d+|<\d+ x i\d+>)"
