@@ -13,7 +13,6 @@ All other known forms mean the same with 32-bit pointers. A line of another form
 between pointers and numbers, an aggregate in memory, an address step that isn't in bytes, a constant or an attribute
 that depends on a layout, an atomic access, a call through a pointer."""
 import re
-import sys
 
 SIZES = {"i8": 1, "i16": 2, "i32": 4, "i64": 8, "ptr": 8}
 NUMBER = r"(?:i\d+|<\d+ x i\d+>)"

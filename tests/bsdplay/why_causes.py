@@ -5,7 +5,7 @@ from __future__ import annotations
 import pathlib
 import struct
 
-from tests.packets import ALL, HERE, MORE, PEER, checksum, datagram, fragment, ip, udp
+from tests.packets import ALL, MORE, PEER, checksum, datagram, fragment, ip, udp
 from tests.pcaps import header, record
 
 FILE = pathlib.Path(__file__).resolve().parent / "goldens/why_causes.pcap"
