@@ -1,7 +1,7 @@
 -- What is read into a room, one part after another.
 use Rattle.std.proofs.Common.{◌≡◌, ℕ, List, [], ◌++◌, Option, sym, ap, subst, ◌∙◌, append_assoc, append-nil}
-use Rattle.std.specs.Io.KnownBytes.{Consumes, Keeps}
-use Rattle.std.proofs.KnownBytes.{Consumes-nil, Consumes-trans, Consumes-kept}
+use Rattle.std.specs.Io.KnownBytes.{Consumes}
+use Rattle.std.proofs.KnownBytes.{Consumes-nil, Consumes-trans}
 use Rattle.capture.specs.Feeds.{Fills}
 
 pub fills_none : (a : Option (List ℕ)) (buffer : List ℕ) → Fills a buffer a buffer
@@ -22,11 +22,6 @@ fills_then a b c buffer mid new f g = fills_more a b c buffer mid new g.more f g
 -- into an empty room
 pub fills_all : (a b : Option (List ℕ)) (buffer new : List ℕ) → buffer ≡ [] → Fills a buffer b new → Consumes a b new
 fills_all a b buffer new e f = subst (Consumes a b) (sym (f.behind ∙ ap (λ (xs : List ℕ). xs ++ f.more) e)) f.read
-
-pub fills_kept : (a b c : Option (List ℕ)) (buffer new : List ℕ) → Fills a buffer b new → Keeps b c → Fills a buffer c
-    new
-fills_kept a b c buffer new f k =
-    record { more = f.more; behind = f.behind; read = Consumes-kept a b c f.more f.read k }
 
 -- into a room, behind what was passed
 pub fills_behind : (a b c : Option (List ℕ)) (held front buffer new : List ℕ) → Fills a held b (front ++ buffer)

@@ -59,16 +59,6 @@ held_remove (p ∷ ps) (suc i) = ap (λ xs. held_in p ∷ xs) (held_remove ps i)
 abbrev pub kept_from : List Neighbour → List PacketBuffer → ℕ → List PacketBuffer
 kept_from ns ps i = take i ps ++ filter (is_resolvable_in ns) (drop i ps)
 
-pub kept_on : (ns : List Neighbour) (ps : List PacketBuffer) (i : ℕ) (p : PacketBuffer) → i < length ps
-    → p ≡ get_or ps i p → is_resolvable_in ns p ≡ true → kept_from ns ps i ≡ kept_from ns ps (i + 1)
-kept_on ns [] i p h e t = absurd (omega arith)
-kept_on ns (q ∷ ps) zero p h e t =
-    ap (λ b. cond b (q ∷ filter (is_resolvable_in ns) ps) (filter (is_resolvable_in ns) ps))
-    (ap (is_resolvable_in ns) (sym e) ∙ t)
-kept_on ns (q ∷ ps) (suc i) p h e t =
-    let m : suc (i + 1) ≡ suc i + 1 = omega arith in
-    ap (λ xs. q ∷ xs) (kept_on ns ps i p (omega arith) e t) ∙ ap (kept_from ns (q ∷ ps)) m
-
 pub kept_off : (ns : List Neighbour) (ps : List PacketBuffer) (i : ℕ) (p : PacketBuffer) → i < length ps
     → p ≡ get_or ps i p → is_resolvable_in ns p ≡ false → kept_from ns ps i ≡ kept_from ns (remove ps i) i
 kept_off ns [] i p h e t = absurd (omega arith)

@@ -15,7 +15,7 @@ use Rattle.flat_model.specs.declared.counter.Counter.TheVariants.{IpLocalout}
 use Rattle.flat_model.specs.Machine.State.{IsConfig, State, Socket, Datagram, loopback, limited_broadcast, socket_at, change_socket}
 use Rattle.flat_model.specs.declared.config.Config.{Config}
 use Rattle.flat_model.specs.Machine.Calls as Calls
-use Rattle.flat_model.specs.Machine.Calls.{Refuses, OnSocket, GetsPort, port_after, unless_zero, is_ours, disconnected, set_option, source_for, new_socket, read_address, read_addr}
+use Rattle.flat_model.specs.Machine.Calls.{Refuses, GetsPort, port_after, unless_zero, disconnected, set_option, source_for, read_addr}
 use Rattle.flat_model.specs.Machine.Ledger.{Ledger}
 use Rattle.flat_model.specs.Machine.Arrival as Arrival
 use Rattle.flat_model.specs.Machine.Step.{ComesIn}

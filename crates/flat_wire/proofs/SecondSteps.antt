@@ -14,7 +14,7 @@ use Rattle.flat_model.specs.declared.option.Opt.TheVariants.{Broadcast, ReusePor
 use Rattle.flat_model.specs.Machine.State.{State, Socket, Datagram, loopback, socket_at, change_socket}
 use Rattle.flat_model.specs.declared.config.Config.{Config}
 use Rattle.flat_model.specs.Machine.Calls as Calls
-use Rattle.flat_model.specs.Machine.Calls.{Refuses, Unless, OnSocket, GetsPort, unless_zero, is_ours, disconnected, set_option, source_for, new_socket}
+use Rattle.flat_model.specs.Machine.Calls.{Refuses, OnSocket, GetsPort, unless_zero, is_ours, disconnected, set_option, source_for}
 use Rattle.flat_model.specs.Machine.Ledger.{Ledger}
 use Rattle.flat_model.specs.Machine.Send.{to_self}
 use Rattle.flat_model.specs.Machine.Sending.{items, is_looped, head_for, packet_for, datagram, later_weight, parts_of}

@@ -9,7 +9,8 @@ use std::marker::Model;
 use std::ptr::null_mut;
 
 /// The address of a boxed link, or none. Contracts see the value in the box. Its type doesn't name a type of the host,
-/// because an export may not take a type that does.
+/// because an export may not take a type that does. For the same reason this and `Held` aren't one generic type, whose
+/// parameter would name what is in the box.
 #[repr(C)]
 #[derive(Drop)]
 pub struct LinkHeld {

@@ -1,11 +1,11 @@
 -- The configurations with which a machine can be booted (this project's own).
-use Rattle.std.specs.Prelude.{Result, Ok, Err}
+use Rattle.std.specs.Prelude.{Result, Err}
 use Rattle.flat_model.specs.declared.config.Config.{Config}
 use Rattle.flat_model.specs.Machine.State.{IsConfig, HasSizes}
 use Rattle.net_stack.specs.declared.stack.BootFault.{BootFault}
 use Rattle.net_stack.specs.declared.stack.BootFault.TheVariants as boot
 use Rattle.script_loop.specs.declared.fault.RunFault.{RunFault}
-use Rattle.script_loop.specs.declared.fault.RunFault.TheVariants.{Read, Write, Memory, TooManyLines, BadSizes, BadConfig}
+use Rattle.script_loop.specs.declared.fault.RunFault.TheVariants.{Memory, BadSizes, BadConfig}
 
 -- the fault of a run whose stack didn't boot
 abbrev pub refused_as : BootFault → RunFault

@@ -5,7 +5,7 @@ use Rattle.flat_model.specs.Machine.Step.{Step}
 use Rattle.flat_model.specs.declared.config.Config.{Config}
 use Rattle.script_loop.specs.Serves.{Serves, ReadsAndWrites}
 use Rattle.script_loop.specs.declared.fault.RunFault.{RunFault}
-use Rattle.script_loop.specs.declared.fault.RunFault.TheVariants.{Read, Write, Memory, TooManyLines, BadSizes, BadConfig}
+use Rattle.script_loop.specs.declared.fault.RunFault.TheVariants.{Read, Write, Memory, TooManyLines}
 use Rattle.link_script.specs.Says.{SaysBy}
 use Rattle.link_script.specs.Boots.{BootsRun}
 use Rattle.link_script.specs.declared.command_line.Failure.{Failure}

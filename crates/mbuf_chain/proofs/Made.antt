@@ -15,9 +15,9 @@ use Rattle.mbuf_pool.proofs.Laws.{taken_back, counted_within}
 use Rattle.mbuf_chain.specs.Chain.{Entry, Front, ChainView, alone, Adds, held_mbufs, references, reference_counts, free_clusters, chain_of, entry_of}
 use Rattle.mbuf_chain.specs.declared.place.Place.{Place}
 use Rattle.mbuf_chain.specs.Chain.{IsLive, IsPlace}
-use Rattle.mbuf_chain.specs.Steps.{one_mbuf, empty_entry, narrowed}
+use Rattle.mbuf_chain.specs.Steps.{one_mbuf, narrowed}
 use Rattle.mbuf_chain.specs.Inside.Cells.{weigh, weigh_all, is_at, one, place_bytes, entry_from, entry_at, front_of, refers_at, read_chain, cells_from, is_pointed, view_of, AreSoundChains, IsFit, pool_of, IsPool, out_at, Taken, only_head, start_of, head_room_low}
-use Rattle.mbuf_chain.proofs.Lists.{is_at_same, is_at_other, on, off, bit, chains_of, out_below}
+use Rattle.mbuf_chain.proofs.Lists.{is_at_same, is_at_other, on, off}
 use Rattle.mbuf_chain.proofs.Changes.{SameCell, same_cell, step, view_is, get-view_of, held_is, references_is}
 use Rattle.mbuf_chain.proofs.Focused.{weigh_all_has, open_on, enter}
 use Rattle.mbuf_chain.proofs.Stores.{slot_here, mbuf_there, out_there, out_here, outs_total, cluster_here, cluster_there, refers_to, refers_not, refers_none}
@@ -413,21 +413,6 @@ new_clustered s t u i d h got_cluster got is store =
       ];
       store = store;
     }
-
-pub clustered_made : (s t u : StoreView) (i d : ℕ) (header : Bool) (start : ℕ) → IsPool s → TakesCluster s t d
-    → Taken t u i (only_head header start 0 (Some d)) → IsStore u → start ≤ 2048
-    → IsMade s u i (one_mbuf header (empty_entry start (Some d)) i)
-clustered_made s t u i d header start pool got_cluster got store high =
-    let h = only_head header start 0 (Some d) in
-    let n = new_clustered s t u i d h got_cluster got refl store in
-    subst (λ (f : Front). IsMade s u i
-    (record { front = f; entries = empty_entry start (Some d) ∷ []; cells = i ∷ [] })) (front_for header start 0
-    (Some d))
-    (subst (λ (e : Entry). IsMade s u i
-    (record { front = front_of (only_head header start 0 (Some d)); entries = e ∷ []; cells = i ∷ [] })) (ap
-    (entry_from u i) n.head)
-    (added s u i h pool n refl (record { low = omega arith; high = omega arith; kind = refl })
-    (total_for header start 0 (Some d))))
 
 pub one_free_beside : (s t u : StoreView) (i d : ℕ) (h : Head) → IsPool s → TakesCluster s t d → Taken t u i h
     → held_mbufs (pool_of s) < length s.mbufs

@@ -7,7 +7,7 @@ use Rattle.mbuf_pool.specs.Store.{StoreView, MbufView, ClusterView, no_mbuf, is_
 use Rattle.mbuf_chain.specs.declared.place.Place.{Place}
 use Rattle.mbuf_chain.specs.Chain.{Entry, PoolView, chain_of, IsLive, IsPlace, IsUnshared, with_chain, entry_of, room_end}
 use Rattle.mbuf_chain.specs.Steps.{with_entry, with_front, with_back, overwritten}
-use Rattle.mbuf_chain.specs.Inside.Cells.{weigh, weigh_all, is_at, one, len_at, buffer_of, place_bytes, entry_from, entry_at, entry_over, front_of, refers_at, first_of, IsFit, IsTotal, pool_of, IsPool, head_room_low, room_high, with_segment, WritesPlace}
+use Rattle.mbuf_chain.specs.Inside.Cells.{weigh, weigh_all, is_at, buffer_of, place_bytes, entry_from, entry_at, entry_over, front_of, refers_at, first_of, IsFit, pool_of, IsPool, head_room_low, room_high, with_segment, WritesPlace}
 use Rattle.mbuf_chain.proofs.Lists.{is_at_other, out_below}
 use Rattle.mbuf_chain.proofs.Changes.{SameCell, same_cell}
 use Rattle.mbuf_chain.proofs.Focused.{Focused, open_on, enter, weigh_has}

@@ -1,6 +1,6 @@
 -- How a store is booted: all of it is handed out, and then given back.
 use Rattle.std.proofs.Common.{◌≡◌, ℕ, ◌<◌, ◌≤◌, ◌==◌, IsTrue, cond, None, is_some, List, [], length, replicate, slice_index, slice_index_or, refl, sym, ap, ◌∙◌, subst, arith, ext_get_or}
-use Rattle.std.proofs.lemmas.List.{length-replicate, get_or-replicate, length-set, get_or-set_same, get_or-set_other}
+use Rattle.std.proofs.lemmas.List.{length-replicate, get_or-replicate}
 use Rattle.raw_cells.specs.Cells.{Cells, zero_cells, zero_head}
 use Rattle.raw_cells.proofs.Laws.{sized_zero}
 use Rattle.mbuf_pool.specs.declared.sizes.Sizes.{Sizes}

@@ -5,7 +5,7 @@ use Rattle.std.proofs.lemmas.Bool.{cases_eq, cases_lt, eq-eqb, ne_eqb, false≢t
 use Rattle.std.proofs.lemmas.List.{get_or_past, get_or-set_same, get_or-set_other, length-set}
 use Rattle.std.proofs.lemmas.List.FromFn.{length-map-range_with_len, get_or-map-range_with_len, fill_by_all}
 use Rattle.raw_cells.specs.Cells as cells
-use Rattle.raw_cells.specs.Cells.{Cells, IsSized}
+use Rattle.raw_cells.specs.Cells.{Cells}
 use Rattle.mbuf_pool.specs.Inside.FreeList.{times_listed}
 use Rattle.mbuf_pool.specs.Store.{MbufView, ClusterView, is_out, mbuf_of, cluster_of, cluster_count, free_cluster, no_mbuf, free_mbufs, free_clusters, IsStore}
 use Rattle.mbuf_pool.specs.Inside.Fields.{mbuf_bytes, cluster_bytes, next_mbuf, next_cluster, mbuf_seen, cluster_seen, store_with, seen_in, IsSound}

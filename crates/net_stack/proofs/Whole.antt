@@ -6,11 +6,11 @@ use Rattle.std.proofs.lemmas.Bool.{true≢false, false≢true, le-leb}
 use Rattle.std.proofs.lemmas.List.Elements.{All-from_recursion, recursion_from_All}
 use Rattle.flat_model.specs.Amounts.Weight.{Weight, nothing, ◌⊕◌}
 use Rattle.flat_model.specs.Amounts.Layout as flat
-use Rattle.flat_model.specs.Amounts.Layout.{Need, is_cluster, laid_on, need_of, wire}
+use Rattle.flat_model.specs.Amounts.Layout.{is_cluster, laid_on, need_of, wire}
 use Rattle.flat_model.specs.Packets.Header.{head_fault, head_of}
 use Rattle.flat_model.specs.Machine.Count.{counted, counts_more}
 use Rattle.flat_model.specs.Machine.Ledger as state
-use Rattle.flat_model.specs.Machine.Ledger.{AreTaken, HasBuffers, IsFree, exact_ledger, has_enough}
+use Rattle.flat_model.specs.Machine.Ledger.{AreTaken, IsFree, exact_ledger, has_enough}
 use Rattle.flat_model.specs.Machine.State.{State, Unfinished, ends}
 use Rattle.flat_model.specs.Machine.Step.{ComesIn}
 use Rattle.flat_model.specs.Machine.Arrival.{By_wire, Arrives, counts_packet, is_for_us, is_fragment}

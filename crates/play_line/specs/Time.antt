@@ -1,5 +1,5 @@
 -- The time that passes before a line, written at its beginning: `+0.5s`, like in packetdrill (this project's own).
-use Rattle.std.specs.Prelude.{ℕ, ◌+◌, ◌*◌, ◌==◌, ◌||◌, Bool, List, [], ◌∷◌, length, take, drop, position, codes, bytes_eq, nat_lt, if◌then◌else◌, Option, Some, None, Result, Ok, Err}
+use Rattle.std.specs.Prelude.{ℕ, ◌+◌, ◌*◌, ◌==◌, ◌||◌, List, length, take, drop, position, codes, bytes_eq, nat_lt, if◌then◌else◌, Option, Some, None, Result, Ok, Err}
 use Rattle.play_line.specs.Bytes.{digits_value, front, is_blank, is_next, place_or_end, skip}
 use Rattle.play_line.specs.Line.{column_at, is_end}
 use Rattle.play_line.specs.declared.bytes.Class.TheVariants.{Decimal}

@@ -19,13 +19,6 @@ and-and-false : (a b : Bool) → (a && (b && false)) ≡ false
 and-and-false true b = and-false b
 and-and-false false b = refl
 
--- `..` alone fits whatever is left
-pub rest-fits : (wanted reply_line : List (List ℕ)) → outcomes.is_rest wanted ≡ true → outcomes.fits_words wanted
-    reply_line ≡ true
-rest-fits [] reply_line e = absurd (Rattle.std.proofs.lemmas.Bool.false≢true e)
-rest-fits (word ∷ more) [] e = e
-rest-fits (word ∷ more) (got ∷ rest) e = rw e refl
-
 -- and it stands alone
 pub rest-longer : (wanted more : List (List ℕ)) (word : List ℕ) → wanted ≡ word ∷ more → (more ≡ [] → ⊥)
     → outcomes.is_rest wanted ≡ false

@@ -4,7 +4,6 @@ mod LineLemmas
 mod ActionLemmas
 mod CaptureLemmas
 mod FitLemmas
-mod RoomLemmas
 mod RunLemmas
 mod AnswerLemmas
 mod SettingLemmas

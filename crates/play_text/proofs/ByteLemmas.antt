@@ -1,30 +1,13 @@
 -- How many bytes in front of two lists are the same.
-use Rattle.std.proofs.Common.{◌≡◌, ℕ, suc, ◌+◌, ◌<◌, ◌≤◌, true, List, [], ◌∷◌, length, drop, get_or, inl, inr, refl, sym, ap, ap₂, ◌∙◌, arith}
+use Rattle.std.proofs.Common.{◌≡◌, ℕ, ◌+◌, ◌<◌, ◌≤◌, true, List, [], ◌∷◌, length, drop, get_or, inl, inr, refl, sym, ap, ap₂, ◌∙◌, arith}
 use Rattle.std.specs.Prelude.{◌/◌, ◌&&◌, ◌||◌, Bool, ◌++◌, codes, decimal, min, nat_lt}
-use Rattle.std.proofs.lemmas.Bool.{cases_lt, ne_eqb, eq-eqb}
+use Rattle.std.proofs.lemmas.Bool.{cases_lt}
 use Rattle.std.proofs.lemmas.List.{drop_all, drop_more}
 use Rattle.play_text.specs.Bytes.{alike, apart_text, is_long}
-
-same_front : (x y : ℕ) (xs ys : List ℕ) → x ≡ y → alike (x ∷ xs) (y ∷ ys) ≡ suc (alike xs ys)
-same_front x y xs ys e = rw (eq-eqb x y e) refl
-
-other_front : (x y : ℕ) (xs ys : List ℕ) → (x ≡ y → ⊥) → alike (x ∷ xs) (y ∷ ys) ≡ 0
-other_front x y xs ys e = rw (ne_eqb x y e) refl
 
 both : (a b : List ℕ) (at : ℕ) → at < length a → at < length b
     → alike (drop at a) (drop at b) ≡ alike (get_or a at 0 ∷ drop (at + 1) a) (get_or b at 0 ∷ drop (at + 1) b)
 both a b at h k = ap₂ alike (drop_more a at 0 h) (drop_more b at 0 k)
-
-pub alike_more : (a b : List ℕ) (at : ℕ) → at < length a → at < length b → get_or a at 0 ≡ get_or b at 0
-    → at + alike (drop at a) (drop at b) ≡ at + 1 + alike (drop (at + 1) a) (drop (at + 1) b)
-alike_more a b at h k e =
-    ap (λ (n : ℕ). at + n) (both a b at h k
-    ∙ same_front (get_or a at 0) (get_or b at 0) (drop (at + 1) a) (drop (at + 1) b) e) ∙ omega arith
-
-pub alike_stops : (a b : List ℕ) (at : ℕ) → at < length a → at < length b → (get_or a at 0 ≡ get_or b at 0 → ⊥)
-    → alike (drop at a) (drop at b) ≡ 0
-alike_stops a b at h k e =
-    both a b at h k ∙ other_front (get_or a at 0) (get_or b at 0) (drop (at + 1) a) (drop (at + 1) b) e
 
 none_left : (a : List ℕ) → alike a [] ≡ 0
 none_left [] = refl

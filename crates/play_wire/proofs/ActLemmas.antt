@@ -110,11 +110,6 @@ by_choice v w n later true e choice = moves_not v w (choice.yes e)
 by_choice v w n later false e choice = let more = choice.no e in
     moves_on v more.0 w (carried_moves v more.0 more.1) (later more.0 more.2)
 
-pub all_carried_move : (n : ℕ) (v w : SegmentView) → AreCarried n v w → AreLedTo v w
-all_carried_move zero v w same = moves_not v w same
-all_carried_move (suc n) v w choice =
-    by_choice v w n (λ mid rest. all_carried_move n mid w rest) (is_quiet_segment v) refl choice
-
 -- ---- what changes no stack
 
 pub one_act : (v w : SegmentView) (act : Act) → IsAct v act w → AreLedTo v w

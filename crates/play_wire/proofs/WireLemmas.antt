@@ -166,17 +166,6 @@ no_most args word more cut some none (Quiet n) (inr h) =
     let both : word ∷ more ≡ codes "all" ∷ h.0 ∷ [] = sym cut ∙ h.1 in
     let rest : more ≡ h.0 ∷ [] = cc both in none n (h.0, rest, h.2)
 
--- `carry all N`
-pub bound_all : (args : List (List ℕ)) (word : List ℕ) (more : List (List ℕ)) (n : ℕ) → args ≡ word ∷ more
-    → word ≡ codes "all" → IsOneNumber 1000000 more n → IsBound args (Quiet n)
-bound_all args word more n cut is h =
-    inr (h.0, cut ∙ ap₂ (λ (w : List ℕ) (ws : List (List ℕ)). w ∷ ws) is h.1, h.2)
-
-pub bound_all_alone : (args : List (List ℕ)) (word : List ℕ) (more : List (List ℕ)) → args ≡ word ∷ more
-    → word ≡ codes "all" → more ≡ [] → IsBound args (Quiet 1000)
-bound_all_alone args word more cut is none =
-    inl (cut ∙ ap₂ (λ (w : List ℕ) (ws : List (List ℕ)). w ∷ ws) is none, refl)
-
 -- ---- one thing
 
 one_after : (v : Command) (args : List (List ℕ)) (a b : WireAsk) → AsksAfter v args a → AsksAfter v args b → a ≡ b

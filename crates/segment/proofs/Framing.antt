@@ -70,24 +70,6 @@ sent_one sender given f = map-append _ given (f ∷ [])
 
 -- ---- hosts by their places
 
-pub hosts_at : (stacks : List StackView) (links : List LinkLayer) (k : ℕ) (s : StackView) (l : LinkLayer)
-    → slice_get stacks k ≡ Some s → slice_get links k ≡ Some l
-    → slice_get (hosts_of stacks (map link_seen links)) k ≡ Some (halves s (link_seen l))
-hosts_at [] links k s l e f = absurd (never e)
-  where
-    never : None ≡ Some s → ⊥
-    never x = cc
-hosts_at (x ∷ stacks) [] k s l e f = absurd (never f)
-  where
-    never : None ≡ Some l → ⊥
-    never y = cc
-hosts_at (x ∷ stacks) (y ∷ links) zero s l e f = both x y e f
-  where
-    both : (a : StackView) (b : LinkLayer) → Some a ≡ Some s → Some b ≡ Some l
-        → Some (halves a (link_seen b)) ≡ Some (halves s (link_seen l))
-    both a b g h = cc
-hosts_at (x ∷ stacks) (y ∷ links) (suc k) s l e f = hosts_at stacks links k s l e f
-
 pub hosts_set : (stacks : List StackView) (links : List LinkLayer) (k : ℕ) (s : StackView) (l : LinkLayer)
     → hosts_of (slice_set stacks k s) (map link_seen (slice_set links k l))
     ≡ slice_set (hosts_of stacks (map link_seen links)) k (halves s (link_seen l))

@@ -1,5 +1,5 @@
 -- Packets that wait, taken one by one.
-use Rattle.std.proofs.Common.{◌≡◌, ℕ, ◌+◌, ◌<◌, Bool, true, false, List, [], ◌∷◌, ◌++◌, length, map, take, drop, get_or, zero, suc, Option, None, Some, refl, sym, ap, ◌∙◌, subst, arith, cond}
+use Rattle.std.proofs.Common.{◌≡◌, ℕ, ◌+◌, ◌<◌, Bool, true, false, List, [], ◌∷◌, ◌++◌, length, map, take, drop, get_or, zero, suc, None, Some, refl, sym, ap, ◌∙◌, subst, arith, cond}
 use Rattle.std.specs.Prelude.{if◌then◌else◌}
 use Rattle.std.specs.List.{AllByRecursion as Each, cons_option}
 use Rattle.std.proofs.lemmas.List.{length-append, map-append, take_more}
@@ -9,9 +9,7 @@ use Rattle.segment.specs.Flying.{Flying, transmits_of, comes, received, sent_by,
 use Rattle.segment.specs.Inside.{flying}
 use Rattle.segment.specs.declared.frame.Frame.{Frame}
 use Rattle.flat_model.specs.Amounts.Weight.{Item}
-use Rattle.flat_model.specs.Machine.Event.{IsBytes, Given}
-use Rattle.flat_model.specs.Machine.State.{State}
-use Rattle.flat_model.specs.Machine.Step.{Transmits}
+use Rattle.flat_model.specs.Machine.Event.{IsBytes}
 use Rattle.flat_model.specs.Runs.Run.{Turn}
 use Rattle.net_stack.specs.Stack.{StackView}
 use Rattle.net_stack.specs.Runs.{AreCalls}
@@ -23,14 +21,6 @@ bytes_of items = map (λ (item : Item). item.bytes) items
 pub then_calls : (a b c : StackView) (xs ys : List Turn) → AreCalls a xs b → AreCalls b ys c → AreCalls a (xs ++ ys) c
 then_calls a b c [] ys same later = subst (λ (s : StackView). AreCalls s ys c) same later
 then_calls a b c (x ∷ xs) ys (is, mid, call, rest) later = (is, mid, call, then_calls mid b c xs ys rest later)
-
--- where a packet waits, the link takes the first
-pub first_given : (old new : State) (given : Option (List ℕ)) (items : List Item)
-    → Transmits items old (Given given) new → 0 < length items
-    → (packet : List ℕ) × (given ≡ Some packet) × (bytes_of items ≡ packet ∷ bytes_of new.output)
-first_given old new given [] step some = absurd (omega arith)
-first_given old new given (item ∷ later) step some =
-    (item.bytes, (cc step.0), ap (λ (s : State). item.bytes ∷ bytes_of s.output) (sym step.1))
 
 -- the bytes behind a reference are bytes
 pub are_bytes : (xs : List ℕ) → ((k : ℕ) → get_or xs k 0 < 256) → IsBytes xs

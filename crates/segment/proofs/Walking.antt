@@ -74,19 +74,6 @@ walk_on R old now place s t d w within is step =
     rest : (k : ℕ) → place + 1 ≤ k → slice_get (slice_set now place t) k ≡ slice_get old k
     rest k h = get_set_other now place k t (λ e. omega arith) ∙ w.rest k (omega arith)
 
--- a host that goes on though it is left out
-pub walk_past : {X : Type 0} (R : ℕ → X → X → Type 0) (old now : List X) (place : ℕ) (s : X) → IsWalked R old now place
-    → place < length now
-    → slice_get old place ≡ Some s → R place s s → IsWalked R old now (place + 1)
-walk_past R old now place s w within is step =
-    record { done = λ k h. by k h (below_or k place); rest = λ k h. w.rest k (omega arith); len = w.len }
-  where
-    by : (k : ℕ) → k < place + 1 → (k < place) ⊎ (place ≤ k) → AreBoth (R k) (slice_get old k) (slice_get now k)
-    by k within' (inl h) = w.done k h
-    by k within' (inr h) = let e : place ≡ k = omega arith in
-        subst (λ j. AreBoth (R j) (slice_get old j) (slice_get now j)) e
-        (both_are (R place) _ _ s s is (w.rest place (omega arith) ∙ is) step)
-
 pub walk_ends : {X : Type 0} (R : ℕ → X → X → Type 0) (old now : List X) (place : ℕ) → IsWalked R old now place
     → length old ≤ place → AtEach R old now
 walk_ends R old now place w all k = by (below_or k place)
@@ -96,16 +83,3 @@ walk_ends R old now place w all k = by (below_or k place)
     by (inr h) = let n : slice_get old k ≡ None = get_past old k (omega arith) in
         subst (λ x. AreBoth (R k) x (slice_get now k)) (sym n)
         (subst (λ y. AreBoth (R k) None y) (sym (w.rest k h ∙ n)) tt)
-
--- one walk after another
-pub walks_join : {X : Type 0} (R Q S : ℕ → X → X → Type 0) (a b c : List X)
-    → ((k : ℕ) (x y z : X) → R k x y → Q k y z → S k x z) → AtEach R a b → AtEach Q b c → AtEach S a c
-walks_join R Q S a b c join first second k = go (slice_get a k) (slice_get b k) (slice_get c k) (first k) (second k)
-  where
-    go : (x y z : Option _) → AreBoth (R k) x y → AreBoth (Q k) y z → AreBoth (S k) x z
-    go None None None r q = tt
-    go None None (Some z) r q = q
-    go None (Some y) z r q = absurd r
-    go (Some x) None z r q = absurd r
-    go (Some x) (Some y) None r q = q
-    go (Some x) (Some y) (Some z) r q = join k x y z r q

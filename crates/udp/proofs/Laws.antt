@@ -1,28 +1,25 @@
 -- For the layers above: what becomes of a datagram as the flat machine's arrival, and what the steps leave of a chain's
 -- weight.
-use Rattle.std.proofs.Common.{◌≡◌, ℕ, ◌+◌, ◌-◌, ◌<◌, ◌≤◌, true, false, ◌==◌, cond, List, [], ◌∷◌, ◌++◌, map, take, drop, length, filter_map, Option, Some, None, refl, sym, ap, ◌∙◌, subst, arith, inl, inr}
+use Rattle.std.proofs.Common.{◌≡◌, ℕ, ◌-◌, ◌<◌, true, false, ◌==◌, cond, List, [], ◌∷◌, map, length, filter_map, Option, Some, None, refl, sym, ap, ◌∙◌, subst, arith, inl, inr}
 use Rattle.std.specs.Prelude.{◌⊎◌}
-use Rattle.std.proofs.lemmas.List.{length-append, length-drop, length-map, length-take}
+use Rattle.std.proofs.lemmas.List.{length-map}
 use Rattle.std.proofs.lemmas.Option.{none-some, same_Some}
 use Rattle.flat_model.specs.Amounts.Weight.{Item, Weight}
 use Rattle.flat_model.specs.Amounts.Layout as flat
-use Rattle.flat_model.specs.Packets.Header.{udp, udp_bytes, udp_fault}
+use Rattle.flat_model.specs.Packets.Header.{udp_bytes, udp_fault}
 use Rattle.flat_model.specs.Machine.Ledger.{Ledger}
 use Rattle.flat_model.specs.Machine.State.{State, Socket, ends}
 use Rattle.flat_model.specs.Machine.Arrival.{Delivers, GoesTo, WholeArrives}
 use Rattle.flat_model.specs.declared.address.Addr.{Addr}
 use Rattle.flat_model.specs.declared.counters.Why.{Why}
 use Rattle.flat_model.specs.declared.counters.Why.TheVariants.{NoProtocol}
-use Rattle.mbuf_chain.specs.Chain.{ChainView, Entry, PoolView, chain_of, entry_of, no_entry, string}
-use Rattle.mbuf_chain.specs.Steps.{overwritten}
-use Rattle.std.specs.Prelude.{slice_index_or, slice_set}
+use Rattle.mbuf_chain.specs.Chain.{ChainView, Entry, PoolView, chain_of, string}
 use Rattle.chain_ops.specs.Trims.{only_first, without_first}
 use Rattle.chain_ops.specs.Weights.{layout_entries}
 use Rattle.ip_out.specs.declared.head.IpHead.{IpHead}
 use Rattle.pcb_table.specs.declared.block.Block.{Block}
 use Rattle.pcb_table.specs.Table.{Queues, Table, machine, socket_with}
-use Rattle.udp.specs.Datagrams.{IsForSockets, IsDropped, IsUnmatched, with_udp_header, fault_of, sender_of, without_header}
-use Rattle.udp.proofs.Building.{header_length}
+use Rattle.udp.specs.Datagrams.{IsForSockets, IsDropped, IsUnmatched, fault_of, sender_of, without_header}
 
 -- ---- the flat machine's arrival, for every rest of the machine
 
@@ -175,27 +172,3 @@ data_weight n v = λ j. record { mbufs = mbufs j; bag = bag j }
 
     bag : bag_of (without_first 8 cut) ≡ bag_of v.entries
     bag = without_first_bag 8 cut ∙ only_first_bag n v.entries
-
--- a packet whose UDP header was written has the layout that it had
-pub built_laid : (src dst sport dport : ℕ) (v : ChainView) → 28 ≤ length (entry_of v 0).bytes
-    → layout_entries (with_udp_header src dst sport dport v).entries ≡ layout_entries v.entries
-built_laid src dst sport dport v long = go v.entries long (header_length src dst sport dport (drop 28 (string v)))
-  where
-    head : List ℕ
-    head = take 8 (udp src dst sport dport (drop 28 (string v)))
-
-    same_size : (b : List ℕ) → 28 ≤ length b → length head ≡ 8
-        → length (take 20 b ++ (head ++ drop (20 + length head) b)) ≡ length b
-    same_size b long eight = omega (
-      arith,
-      length-append (take 20 b) (head ++ drop (20 + length head) b),
-      length-append head (drop (20 + length head) b),
-      length-take 20 b,
-      length-drop (20 + length head) b,
-    )
-
-    go : (es : List Entry) → 28 ≤ length (slice_index_or es 0 no_entry).bytes → length head ≡ 8
-        → layout_entries (slice_set es 0 (overwritten (slice_index_or es 0 no_entry) 20 head)) ≡ layout_entries es
-    go [] long eight = refl
-    go (e ∷ es) long eight =
-        λ j. record { size = same_size e.bytes long eight j; cluster = e.cluster } ∷ layout_entries es

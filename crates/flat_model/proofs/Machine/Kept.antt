@@ -30,7 +30,7 @@ use Rattle.flat_model.proofs.Machine.Sockets.{find-changed}
 use Rattle.flat_model.proofs.Lists.Each.{by_choice, by_case, each-map, each-map_to, each-both, each-append, each-filter, each-find}
 use Rattle.flat_model.proofs.Lists.Totals.{count_cons, each_sub_bag, count-append}
 use Rattle.flat_model.proofs.Fragments.Overlaid.{carries_less, pieces_bag, pieces_none, overlay_is, overlay_mbufs}
-use Rattle.flat_model.proofs.Machine.KeptLists.{count-map, count-same, count-filter, no, none_found, find_after, mbufs-append, mbufs-without, mbufs-changed, mbufs-replaced, AreIn, Apart, the_one, hearers_in}
+use Rattle.flat_model.proofs.Machine.KeptLists.{count-map, count-same, count-filter, none_found, find_after, mbufs-append, mbufs-without, mbufs-changed, mbufs-replaced, AreIn, Apart, the_one, hearers_in}
 
 -- ---- the state while a step holds h mbufs beside it
 

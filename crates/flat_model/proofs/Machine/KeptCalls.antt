@@ -13,7 +13,7 @@ use Rattle.flat_model.specs.declared.option.Opt.{Opt}
 use Rattle.flat_model.specs.declared.option.Opt.TheVariants.{Broadcast, ReusePort}
 use Rattle.flat_model.specs.Machine.State.{State, Socket, Datagram, loopback, change_socket, socket_at}
 use Rattle.flat_model.specs.Machine.Calls as Calls
-use Rattle.flat_model.specs.Machine.Calls.{Refuses, GetsPort, IsNextPort, IsLowestFree, port_after, unless_zero, is_ours, is_reached, disconnected, set_option, source_for, new_socket, read_addr}
+use Rattle.flat_model.specs.Machine.Calls.{Refuses, GetsPort, IsLowestFree, port_after, unless_zero, is_ours, disconnected, set_option, source_for, new_socket, read_addr}
 use Rattle.flat_model.specs.Sockets.Fits.{bytes_queued}
 use Rattle.flat_model.specs.Runs.Consistent.{IsQueued, IsSocket, IsPeer}
 use Rattle.flat_model.specs.declared.address.Addr.{Addr}

@@ -21,7 +21,7 @@ use Rattle.flat_model.specs.Machine.Calls.{Refuses, OnSocket, is_ours, source_fo
 use Rattle.flat_model.specs.Machine.Ledger.{AreTaken, HasBuffers, weight_of_state, exact_ledger}
 use Rattle.flat_model.specs.Machine.Sending.{Sending, datagram, packet_for, head_for, packets, items, parts_of, is_looped, mtu_to}
 use Rattle.flat_model.specs.Machine.Send as Send
-use Rattle.flat_model.specs.Machine.Send.{need_to, to_link, to_self, enqueued, overflows, counts_send, spent, send_faults, address_faults, target}
+use Rattle.flat_model.specs.Machine.Send.{need_to, to_link, to_self, enqueued, counts_send, spent, send_faults, address_faults, target}
 use Rattle.flat_model.specs.Machine.Arrival as Arrival
 use Rattle.flat_model.specs.Machine.Arrival.{By_wire, AllArrive}
 use Rattle.flat_model.specs.declared.counters.Why.TheVariants as Whys

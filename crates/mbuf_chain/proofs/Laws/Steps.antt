@@ -193,21 +193,6 @@ cut_left m c d v w ne = same _ _ (λ q. elim (cases_eq q c) [
   ]
 ])
 
--- the rest that is cut off has another number
-pub apart_cut : (p q : PoolView) (c d : ℕ) (v w : ChainView) → Adds (with_chain p c v) q d w → c ≢ d
-apart_cut p q c d v w a = apart (with_chain p c v) q d w a c (live_here p c v)
-
-pub cut_freed : (p q r : PoolView) (c d : ℕ) (v w : ChainView) → Adds (with_chain p c v) q d w → r ≡ without q c
-    → Adds (without p c) r d w
-cut_freed p q r c d v w a is =
-    let ne : d ≢ c = λ e. apart_cut p q c d v w a (sym e) in
-    record {
-      fresh = get_left p.chains c d ne ∙ sym (get_there p.chains c v d ne) ∙ a.fresh;
-      pool =
-          is ∙ ap (λ (s : PoolView). without s c) a.pool
-          ∙ (λ i. record { mbufs = p.mbufs; clusters = p.clusters; chains = cut_left p.chains c d v w ne i });
-    }
-
 -- what there is beside a chain and the rest that was cut off it, and beside a chain and a new one
 pub base_cut : (p q : PoolView) (c d : ℕ) (v w : ChainView) → Adds (with_chain p c v) q d w
     → without (without q d) c ≡ without p c

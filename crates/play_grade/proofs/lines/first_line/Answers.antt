@@ -1,12 +1,12 @@
-use Rattle.std.proofs.Common.{◌∙◌, sym, arith}
+use Rattle.std.proofs.Common.{◌==◌, ◌∙◌, sym, arith}
 use Rattle.std.proofs.lemmas.Grind.{common_steps}
-use Rattle.play_grade.proofs.LineLemmas.{lines-cut, lines-one}
+use Rattle.script_loop.proofs.Laws.{split-cut, split-one}
 use Rattle.play_grade.proofs.lines.first_line.Goals as goal
 
 pub returns-in-Some : goal.returns-in-Some
 returns-in-Some c =
-    let cut = lines-cut c.args.text.now c.in-Some.at (sym c.end_at.ensures ∙ c.in-Some.is) in
+    let cut = split-cut (λ b. b == 10) c.args.text.now c.in-Some.at (sym c.end_at.ensures ∙ c.in-Some.is) in
     grind (arith, common_steps, cut)
 
 pub returns-in-None : goal.returns-in-None
-returns-in-None c = lines-one c.args.text.now (sym c.end_at.ensures ∙ c.in-None.is)
+returns-in-None c = split-one (λ b. b == 10) c.args.text.now (sym c.end_at.ensures ∙ c.in-None.is)

@@ -1,4 +1,4 @@
-use Rattle.std.proofs.Common.{◌≡◌, ◌≤◌, false, [], drop, length}
+use Rattle.std.proofs.Common.{◌≡◌, false, [], drop}
 use Rattle.play_line.specs.Bytes.{text_after}
 use Rattle.play_line.proofs.bytes.read_text.Given as goal
 

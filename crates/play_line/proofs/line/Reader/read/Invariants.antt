@@ -1,4 +1,4 @@
-use Rattle.std.proofs.Common.{◌≡◌, ◌≤◌, length}
+use Rattle.std.proofs.Common.{◌≡◌}
 use Rattle.play_line.specs.Line.{line_after, reader_front, line_read}
 use Rattle.play_line.proofs.line.Reader.read.Given as goal
 
